@@ -1,0 +1,4 @@
+pub mod Chains
+pub mod LeastDivisions
+pub mod LoadSums
+pub mod NoFlaws

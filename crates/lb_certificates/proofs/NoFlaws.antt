@@ -1,0 +1,74 @@
+-- Flaws against certificates.
+use Rattle.std.proofs.Common.{◌≡◌, ◌≢◌, ℕ, ◌+◌, ◌-◌, ◌<◌, ◌≤◌, List, length, slice_index, arith, subst, sym}
+use Rattle.std.specs.List.Sorted.{IsNonDecreasing}
+use Rattle.lb_certificates.specs.declared.division.Division.{Division}
+use Rattle.lb_certificates.specs.declared.division.Floor.{Floor}
+use Rattle.lb_certificates.specs.declared.division.Floor.TheVariants.{Zero, Fence}
+use Rattle.lb_certificates.specs.declared.flaw.Flaw.{Flaw}
+use Rattle.lb_certificates.specs.declared.flaw.Flaw.TheVariants.{CutCount, CutStart, CutOrder, CutEnd, Heavy, FenceCount, FenceStart, FenceOrder, FenceEnd, FenceLight, ZeroFloor}
+use Rattle.lb_certificates.specs.Chain.{block_load, IsDivision}
+use Rattle.lb_certificates.specs.Certificate.{IsFence, MatchFloor, HoldsFor, IsCertified, NoneAbove, IsFirstLight, range_load}
+use Rattle.lb_certificates.specs.Flaws.{Falls, HasFlaw, IsFirst, number_of, place_of}
+
+-- two facts about a floor that exclude each other at either kind
+floors_apart : {A : Type 0} (floor : Floor A) (zero₁ zero₂ : Type 0) (fence₁ fence₂ : List ℕ → Type 0) → (zero₁ → zero₂ → ⊥) → ((s : List ℕ) → fence₁ s → fence₂ s → ⊥) → MatchFloor floor zero₁ fence₁ → MatchFloor floor zero₂ fence₂ → ⊥
+floors_apart Zero zero₁ zero₂ fence₁ fence₂ at_zero at_fence one other = at_zero one other
+floors_apart (Fence s) zero₁ zero₂ fence₁ fence₂ at_zero at_fence one other = at_fence s one other
+
+-- a certified division has no flaw
+pub flawless : {A : Type 0} (xs : List ℕ) (p : ℕ) (d : Division A) → IsCertified xs p d → (flaw : Flaw) → ¬ (HasFlaw xs p d flaw)
+flawless xs p d h CutCount flawed = flawed h.divides.counted
+flawless xs p d h CutStart flawed = flawed h.divides.starts
+flawless xs p d h CutOrder (i, inside, falls) = absurd (omega (arith, falls, h.divides.ordered i (i + 1) 0 (omega arith) inside))
+flawless xs p d h CutEnd flawed = flawed h.divides.ends
+flawless xs p d h (Heavy b) (inside, heavy) = absurd (omega (arith, heavy, h.within b inside))
+flawless xs p d h FenceCount flawed =
+    floors_apart d.floor _ _ _ _ (λ _ no. no) (λ s fence no. no fence.counted) h.floor_holds flawed
+flawless xs p d h FenceStart flawed =
+    floors_apart d.floor _ _ _ _ (λ _ no. no) (λ s fence no. no fence.starts) h.floor_holds flawed
+flawless xs p d h FenceOrder flawed =
+    floors_apart d.floor _ _ _ _ (λ _ no. no) (λ s fence (i, inside, falls). absurd (omega (arith, falls, fence.ordered i (i + 1) 0 (omega arith) inside))) h.floor_holds flawed
+flawless xs p d h FenceEnd flawed =
+    floors_apart d.floor _ _ _ _ (λ _ no. no) (λ s fence past. absurd (omega (arith, past, fence.ends))) h.floor_holds flawed
+flawless xs p d h (FenceLight i) flawed =
+    floors_apart d.floor _ _ _ _ (λ _ no. no) (λ s fence light. absurd (omega (arith, light.2, fence.heavy i light.0 light.1))) h.floor_holds flawed
+flawless xs p d h ZeroFloor flawed =
+    floors_apart d.floor _ _ _ _ (λ is_zero no. no is_zero) (λ s fence no. no) h.floor_holds flawed
+
+-- what holds of any floor whose kind is a fence, and the other way round
+to_fence : {A : Type 0} (floor : Floor A) (s : List ℕ) (at_zero : Type 0) (at_fence : List ℕ → Type 0) → floor ≡ Fence s → MatchFloor floor at_zero at_fence → at_fence s
+to_fence floor s at_zero at_fence e m = subst (λ f. MatchFloor f at_zero at_fence) e m
+
+of_fence : {A : Type 0} (floor : Floor A) (s : List ℕ) (at_zero : Type 0) (at_fence : List ℕ → Type 0) → floor ≡ Fence s → at_fence s → MatchFloor floor at_zero at_fence
+of_fence floor s at_zero at_fence e m = subst (λ f. MatchFloor f at_zero at_fence) (sym e) m
+
+-- a light range is the first flaw where all else is right
+pub light_is_first : {A : Type 0} (xs : List ℕ) (p : ℕ) (d : Division A) (s : List ℕ) (i : ℕ) → IsDivision 0 (length xs) p d.cuts → NoneAbove xs p d.bottleneck d.cuts → d.floor ≡ Fence s → length s ≡ p + 1 → slice_index s 0 ≡ 0 → IsNonDecreasing s → slice_index s p < length xs → IsFirstLight xs p d.bottleneck s i → IsFirst (HasFlaw xs p d) (FenceLight i)
+light_is_first {A} xs p d s i division within e counted starts ordered ends first =
+    record {
+      applies_itself = of_fence d.floor s ⊥ (λ s. (0 < i) × (i ≤ p) × (range_load xs s i < d.bottleneck)) e (first.positive, first.inside, first.light);
+      no_lower_number = lower;
+      no_lower_place = earlier
+    }
+  where
+    lower : (other : Flaw) → number_of other < 10 → ¬ (HasFlaw xs p d other)
+    lower CutCount h flawed = flawed division.counted
+    lower CutStart h flawed = flawed division.starts
+    lower CutOrder h (k, inside, falls) = absurd (omega (arith, falls, division.ordered k (k + 1) 0 (omega arith) inside))
+    lower CutEnd h flawed = flawed division.ends
+    lower (Heavy b) h (inside, heavy) = absurd (omega (arith, heavy, within b inside))
+    lower FenceCount h flawed = to_fence d.floor s ⊥ (λ s. length s ≢ p + 1) e flawed counted
+    lower FenceStart h flawed = to_fence d.floor s ⊥ (λ s. slice_index s 0 ≢ 0) e flawed starts
+    lower FenceOrder h flawed =
+        let (k, inside, falls) = to_fence d.floor s ⊥ Falls e flawed in
+        absurd (omega (arith, falls, ordered k (k + 1) 0 (omega arith) inside))
+    lower FenceEnd h flawed =
+        absurd (omega (arith, ends, to_fence d.floor s ⊥ (λ s. length xs ≤ slice_index s p) e flawed))
+    lower (FenceLight j) h flawed = absurd (omega arith)
+    lower ZeroFloor h flawed = absurd (omega arith)
+
+    earlier : (other : Flaw) → number_of other ≡ 10 → place_of other < i → ¬ (HasFlaw xs p d other)
+    earlier (FenceLight j) same lower flawed =
+        let light : (0 < j) × (j ≤ p) × (range_load xs s j < d.bottleneck) = to_fence d.floor s ⊥ (λ s. (0 < j) × (j ≤ p) × (range_load xs s j < d.bottleneck)) e flawed in
+        absurd (omega (arith, light.2, first.earlier j light.0 (omega arith)))
+    earlier _ same lower flawed = absurd (omega arith)

@@ -1,0 +1,40 @@
+-- A chain of tasks with loads, divided into consecutive blocks so that the heaviest block is as light as it
+-- can be: the chains-on-chains partitioning problem. Source: A. Pinar and C. Aykanat, "Fast optimal load
+-- balancing algorithms for 1D partitioning", Journal of Parallel and Distributed Computing 64(8), 2004.
+-- That a load may be 0 and a block may be empty is this project's choice.
+use Rattle.std.specs.Prelude.{◌≡◌, ℕ, ◌+◌, ◌≤◌, max, List, [], ◌∷◌, length, sum, slice_index, slice_range}
+use Rattle.std.specs.List.Sorted.{IsNonDecreasing}
+
+-- the load of tasks a to b - 1
+abbrev pub load : List ℕ → ℕ → ℕ → ℕ
+load loads a b = sum (slice_range loads a b)
+
+-- A division of the tasks from first to end - 1 into so many blocks is a list of cuts, one more than blocks,
+-- that do not fall, the first of them first and the last of them end. Block b is the tasks from cut b to
+-- cut b + 1, less one. It may be empty, so these are the divisions into at most so many blocks.
+pub record IsDivision (first end blocks : ℕ) (cuts : List ℕ) : Type 0 where
+  pub counted : length cuts ≡ blocks + 1
+  pub starts : slice_index cuts 0 ≡ first
+  pub ordered : IsNonDecreasing cuts
+  pub ends : slice_index cuts blocks ≡ end
+
+-- the load of block b
+abbrev pub block_load : List ℕ → List ℕ → ℕ → ℕ
+block_load loads cuts b = load loads (slice_index cuts b) (slice_index cuts (b + 1))
+
+-- the greatest load of a block, and 0 where there is no block
+abbrev pub peak : List ℕ → List ℕ → ℕ
+peak loads [] = 0
+peak loads (a ∷ []) = 0
+peak loads (a ∷ b ∷ cuts) = max (load loads a b) (peak loads (b ∷ cuts))
+
+-- the cuts divide all tasks into so many blocks, their peak is the bottleneck, and no division has a lower one
+pub record IsLeastDivision (loads : List ℕ) (blocks bottleneck : ℕ) (cuts : List ℕ) : Type 0 where
+  pub divides : IsDivision 0 (length loads) blocks cuts
+  pub peak_is : peak loads cuts ≡ bottleneck
+  pub least : (others : List ℕ) → IsDivision 0 (length loads) blocks others → peak loads cuts ≤ peak loads others
+
+-- the peak of some division of all tasks into so many blocks, and of every one at least that
+pub record IsLeastPeak (loads : List ℕ) (blocks peak_value : ℕ) : Type 0 where
+  pub reached : (cuts : List ℕ) × IsDivision 0 (length loads) blocks cuts × (peak loads cuts ≡ peak_value)
+  pub least : (cuts : List ℕ) → IsDivision 0 (length loads) blocks cuts → peak_value ≤ peak loads cuts

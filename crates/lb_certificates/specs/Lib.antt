@@ -1,0 +1,4 @@
+pub mod Chain
+pub mod Certificate
+pub mod Flaws
+pub mod Measured

@@ -1,0 +1,27 @@
+-- What is measured of the elements of a chare array in one round, and the limits that it keeps.
+use Rattle.std.specs.Prelude.{◌≡◌, ℕ, ◌<◌, ◌≤◌, List, length, All}
+use Rattle.chare_index.specs.declared.limits.TheConstants.Limits.{ELEMENTS, PES, LOAD, STATE_BYTES}
+
+-- one load for each element
+pub record IsLoads (loads : List ℕ) : Type 0 where
+  pub few : length loads ≤ ELEMENTS
+  pub small : All (λ units. units ≤ LOAD) loads
+
+-- a packed size in bytes, and the PE on which the element stands, for each element
+pub record IsSizes (sizes : List (ℕ × ℕ)) : Type 0 where
+  pub few : length sizes ≤ ELEMENTS
+  pub small : All (λ size. size.0 ≤ STATE_BYTES) sizes
+
+-- the loads, sizes and places of all elements, taken at one step of a run on procs PEs
+pub record Taken : Type 0 where
+  pub step : ℕ
+  pub procs : ℕ
+  pub loads : List ℕ
+  pub sizes : List (ℕ × ℕ)
+
+-- the elements stand on the PEs that there are
+pub record IsTaken (procs : ℕ) (loads : List ℕ) (sizes : List (ℕ × ℕ)) : Type 0 where
+  pub some_pe : 0 < procs
+  pub few_pes : procs ≤ PES
+  pub paired : length loads ≡ length sizes
+  pub placed : All (λ size. size.1 < procs) sizes

@@ -1,0 +1,28 @@
+/// What is wrong with a division, in the order in which it is told: of several flaws the first one, at its
+/// first block or stop.
+#[derive(Clone, Copy, Debug, PartialEq, Eq)]
+pub enum Flaw {
+    /// There is not one cut more than blocks.
+    CutCount,
+    /// The first cut is not 0.
+    CutStart,
+    /// A cut is greater than the next.
+    CutOrder,
+    /// The last cut is not the number of elements.
+    CutEnd,
+    /// The load of this block, numbered from 0, is above the bottleneck.
+    Heavy(u32),
+    /// There is not one stop more than blocks.
+    FenceCount,
+    /// The first stop is not 0.
+    FenceStart,
+    /// A stop is greater than the next.
+    FenceOrder,
+    /// The last stop is no element.
+    FenceEnd,
+    /// The elements from the stop before this one, numbered from 1, to this one, both included, weigh less
+    /// than the bottleneck.
+    FenceLight(u32),
+    /// The floor is [`Zero`](crate::Floor::Zero) and the bottleneck is not 0.
+    ZeroFloor,
+}

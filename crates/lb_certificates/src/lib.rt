@@ -1,0 +1,28 @@
+//! What a load balancer is given, what it answers, and a checker whose yes means that the answer is best.
+//!
+//! - [`Loads`], [`Sizes`] and [`Snapshot`]: the measured load, size and place of every element.
+//! - [`Division`], with [`Cuts`], [`Floor`] and [`Stops`]: the elements cut into consecutive blocks, and the
+//!   certificate that no other division has a lighter heaviest block.
+//! - [`check_division`]: accepts a division exactly where its certificate is right, and else names the first
+//!   [`Flaw`].
+//! - [`reference`]: plain programs that try every answer, to compare faster ones with.
+#![tactic(auto)]
+
+mod check;
+mod cuts;
+mod division;
+mod flaw;
+mod loads;
+pub mod reference;
+mod sizes;
+mod snapshot;
+mod stops;
+
+pub use check::check_division;
+pub use cuts::Cuts;
+pub use division::{Division, Floor};
+pub use flaw::Flaw;
+pub use loads::{Loads, Units};
+pub use sizes::Sizes;
+pub use snapshot::Snapshot;
+pub use stops::Stops;

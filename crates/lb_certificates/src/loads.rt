@@ -1,0 +1,90 @@
+ghost use Rattle.std.specs.Prelude.{◌≡◌, ℕ, List, ◌≤◌, [], length, sum, IsTrue, ◌↔◌, SomeIff};
+ghost use Rattle.lb_certificates.specs.Measured.{IsLoads};
+ghost use Rattle.lb_certificates.specs.Chain.{load};
+
+use chare_index::Limits;
+use std::alloc::{Allocator, Global};
+use std::marker::Model;
+
+/// A number of work units, 0 to [`Limits::LOAD`].
+pub type Units = u32;
+
+/// The load of every element in one round, in order of index: at most [`Limits::ELEMENTS`] numbers of work
+/// units. Contracts see it as the list of these numbers.
+#[derive(Drop)]
+#[derive_where(Debug)]
+pub struct Loads<A: Allocator = Global> {
+    units: Vec<Units, A>,
+}
+
+impl<A: Allocator> Model for Loads<A> {
+    ghost Value = { List ℕ };
+
+    ghost view = { λ l. l.units.items };
+
+    ghost invariant = { λ l. IsLoads l.units.items };
+}
+
+impl<A: Allocator> Loads<A> {
+    /// These loads, or `None` where they are more than there may be elements.
+    pub fn new(units: Vec<Units, A>) -> Option<Self>
+        ensures { SomeIff result (IsLoads units.items) units.items }
+    {
+        if units.len() <= Limits::ELEMENTS as usize {
+            Some(Loads { units })
+        } else {
+            None
+        }
+    }
+
+    /// The loads, in order of index.
+    pub fn as_slice(&self) -> &[Units]
+        ensures value { result.now ≡ self.now }
+        ensures within_limits { IsLoads self.now }
+    {
+        self.units.as_slice()
+    }
+
+    /// How many elements there are.
+    pub fn len(&self) -> usize
+        ensures { result ≡ length self.now }
+    {
+        self.units.len()
+    }
+
+    /// Whether there is no element.
+    pub fn is_empty(&self) -> bool
+        ensures { IsTrue result ↔ (self.now ≡ []) }
+    {
+        self.units.is_empty()
+    }
+
+    /// The load of the elements from `first` to `end`, less one: at most 281,474,976,645,120 work units.
+    pub fn load(&self, first: usize, end: usize) -> u64
+        requires ordered { first ≤ end }
+        requires within { end ≤ length self.now }
+        ensures { result ≡ load self.now first end }
+    {
+        total(&self.units[first..end])
+    }
+
+    /// Gives the list back.
+    pub fn into_vec(self) -> Vec<Units, A>
+        ensures { result.items ≡ self }
+    {
+        self.units
+    }
+}
+
+#[tactic(auto, using(crate::proofs::LoadSums::next_fits))]
+// The sum of these loads, which are as few and as small as they have to be.
+fn total(units: &[Units]) -> u64
+    requires { IsLoads units.now }
+    ensures { result ≡ sum units.now }
+{
+    let mut total = 0;
+    for &units in units {
+        total += u64::from(units);
+    }
+    total
+}

@@ -1,0 +1,73 @@
+ghost use Rattle.std.specs.Prelude.{◌≡◌, ℕ, ◌≤◌, All, List, [], length, IsTrue, ◌↔◌, SomeIff};
+ghost use Rattle.lb_certificates.specs.Measured.{IsSizes};
+
+use chare_index::{Limits, Pe};
+use std::alloc::{Allocator, Global};
+use std::marker::Model;
+
+/// The packed size in bytes and the present PE of every element, in order of index: at most
+/// [`Limits::ELEMENTS`] pairs, each size at most [`Limits::STATE_BYTES`]. Contracts see it as the list of
+/// these pairs.
+#[derive(Drop)]
+#[derive_where(Debug)]
+pub struct Sizes<A: Allocator = Global> {
+    pairs: Vec<(u32, Pe), A>,
+}
+
+impl<A: Allocator> Model for Sizes<A> {
+    ghost Value = { List (ℕ × ℕ) };
+
+    ghost view = { λ s. s.pairs.items };
+
+    ghost invariant = { λ s. IsSizes s.pairs.items };
+}
+
+impl<A: Allocator> Sizes<A> {
+    /// These sizes and places, or `None` where they are more than there may be elements, or where a size is
+    /// more than a packed element may have.
+    pub fn new(pairs: Vec<(u32, Pe), A>) -> Option<Self>
+        ensures { SomeIff result (IsSizes pairs.items) pairs.items }
+    {
+        if pairs.len() <= Limits::ELEMENTS as usize && fit(&pairs) {
+            Some(Sizes { pairs })
+        } else {
+            None
+        }
+    }
+
+    /// The size and the present PE of each element, in order of index.
+    pub fn as_slice(&self) -> &[(u32, Pe)]
+        ensures value { result.now ≡ self.now }
+        ensures within_limits { IsSizes self.now }
+    {
+        self.pairs.as_slice()
+    }
+
+    /// How many elements there are.
+    pub fn len(&self) -> usize
+        ensures { result ≡ length self.now }
+    {
+        self.pairs.len()
+    }
+
+    /// Whether there is no element.
+    pub fn is_empty(&self) -> bool
+        ensures { IsTrue result ↔ (self.now ≡ []) }
+    {
+        self.pairs.is_empty()
+    }
+
+    /// Gives the list back.
+    pub fn into_vec(self) -> Vec<(u32, Pe), A>
+        ensures { result.items ≡ self }
+    {
+        self.pairs
+    }
+}
+
+// Whether each size is one that a packed element may have.
+fn fit(pairs: &[(u32, Pe)]) -> bool
+    ensures { IsTrue result ↔ All (λ size. size.0 ≤ Limits.STATE_BYTES) pairs.now }
+{
+    pairs.iter().all(|&(bytes, _)| bytes <= Limits::STATE_BYTES)
+}

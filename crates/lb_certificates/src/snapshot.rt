@@ -1,0 +1,84 @@
+ghost use Rattle.std.specs.Prelude.{◌≡◌, ◌<◌, ◌↔◌, All, IsTrue, SomeIff};
+ghost use Rattle.lb_certificates.specs.Measured.{Taken, IsTaken};
+
+use crate::loads::Loads;
+use crate::sizes::Sizes;
+use chare_index::{Limits, Pe};
+use std::alloc::{Allocator, Global};
+use std::marker::Model;
+
+/// What a load balancer decides on: the load, size and place of every element, taken at one step of a run on
+/// `procs` PEs. There are as many loads as sizes, and each place is below `procs`, which is 1 to
+/// [`Limits::PES`]. Contracts see it as a record of the four parts.
+#[derive(Drop)]
+#[derive_where(Debug)]
+pub struct Snapshot<A: Allocator = Global> {
+    step: u32,
+    procs: u32,
+    loads: Loads<A>,
+    sizes: Sizes<A>,
+}
+
+impl<A: Allocator> Model for Snapshot<A> {
+    ghost Value = { Taken };
+
+    ghost view = { λ s. record { step = s.step; procs = s.procs; loads = s.loads; sizes = s.sizes } };
+
+    ghost invariant = { λ s. IsTaken s.procs s.loads s.sizes };
+}
+
+impl<A: Allocator> Snapshot<A> {
+    /// This snapshot, or `None` where `procs` is not 1 to [`Limits::PES`], there are not as many loads as
+    /// sizes, or a place is not below `procs`.
+    pub fn new(step: u32, procs: u32, loads: Loads<A>, sizes: Sizes<A>) -> Option<Self>
+        ensures { SomeIff result (IsTaken procs loads sizes) (record { step = step; procs = procs; loads = loads; sizes = sizes }) }
+    {
+        let in_range = 1 <= procs && procs <= Limits::PES;
+        if in_range && loads.len() == sizes.len() && stand_below(procs, sizes.as_slice()) {
+            Some(Snapshot {
+                step,
+                procs,
+                loads,
+                sizes,
+            })
+        } else {
+            None
+        }
+    }
+
+    /// The step of the run at which it was taken.
+    pub fn step(&self) -> u32
+        ensures { result ≡ self.now.step }
+    {
+        self.step
+    }
+
+    /// The number of PEs of the run.
+    pub fn procs(&self) -> u32
+        ensures value { result ≡ self.now.procs }
+        ensures consistent { IsTaken self.now.procs self.now.loads self.now.sizes }
+    {
+        self.procs
+    }
+
+    /// The load of each element.
+    pub fn loads(&self) -> &Loads<A>
+        ensures { result.now ≡ self.now.loads }
+    {
+        &self.loads
+    }
+
+    /// The size and the place of each element.
+    pub fn sizes(&self) -> &Sizes<A>
+        ensures { result.now ≡ self.now.sizes }
+    {
+        &self.sizes
+    }
+}
+
+// Whether each element stands on one of the first `procs` PEs.
+fn stand_below(procs: u32, sizes: &[(u32, Pe)]) -> bool
+    ensures { IsTrue result ↔ All (λ size. size.1 < procs) sizes.now }
+{
+    sizes.iter().all(|&(_, place)| place.get() < procs)
+}

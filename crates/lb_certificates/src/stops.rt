@@ -1,0 +1,41 @@
+ghost use Rattle.std.specs.Prelude.{◌≡◌, ℕ, List};
+
+use std::alloc::{Allocator, Global};
+use std::marker::Model;
+
+/// Elements that a walk over the chain stopped at, the list that a fence consists of. It is a plain list,
+/// under no condition, and contracts see it as that list; a fence for `p` blocks has `p + 1` stops.
+#[derive(Drop)]
+#[derive_where(Debug)]
+pub struct Stops<A: Allocator = Global> {
+    stops: Vec<u32, A>,
+}
+
+impl<A: Allocator> Model for Stops<A> {
+    ghost Value = { List ℕ };
+
+    ghost view = { λ s. s.stops.items };
+}
+
+impl<A: Allocator> Stops<A> {
+    /// These stops.
+    pub fn new(stops: Vec<u32, A>) -> Self
+        ensures { result ≡ stops.items }
+    {
+        Stops { stops }
+    }
+
+    /// The stops, in order.
+    pub fn as_slice(&self) -> &[u32]
+        ensures { result.now ≡ self.now }
+    {
+        self.stops.as_slice()
+    }
+
+    /// Gives the list back.
+    pub fn into_vec(self) -> Vec<u32, A>
+        ensures { result.items ≡ self }
+    {
+        self.stops
+    }
+}
