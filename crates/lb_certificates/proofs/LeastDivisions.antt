@@ -28,8 +28,8 @@ behind_fence : (xs : List ℕ) (p bottleneck : ℕ) (stops cuts : List ℕ) → 
 behind_fence xs p bottleneck stops cuts fence division zero inside = inl (omega (arith, fence.starts, division.starts))
 behind_fence xs p bottleneck stops cuts fence division (suc i) inside =
     elim (behind_fence xs p bottleneck stops cuts fence division i (omega arith)) [
-      inl before ↦ elim (cases_lt (slice_index stops (suc i)) (slice_index cuts (suc i))) [
-        inl behind ↦ inr (block_passes xs p bottleneck stops cuts i fence division (omega arith) before (rw add-one behind))
+      | inl before ↦ elim (cases_lt (slice_index stops (suc i)) (slice_index cuts (suc i))) [
+        | inl behind ↦ inr (block_passes xs p bottleneck stops cuts i fence division (omega arith) before (rw add-one behind))
         | inr still ↦ inl still
       ]
       | inr heavy ↦ inr heavy
@@ -39,7 +39,7 @@ behind_fence xs p bottleneck stops cuts fence division (suc i) inside =
 pub fence_below : (xs : List ℕ) (p bottleneck : ℕ) (stops cuts : List ℕ) → IsFence xs p bottleneck stops → IsDivision 0 (length xs) p cuts → bottleneck ≤ peak xs cuts
 fence_below xs p bottleneck stops cuts fence division =
     elim (behind_fence xs p bottleneck stops cuts fence division p (omega arith)) [
-      inl before ↦ absurd (omega (arith, before, fence.ends, division.ends))
+      | inl before ↦ absurd (omega (arith, before, fence.ends, division.ends))
       | inr heavy ↦ heavy
     ]
 
@@ -61,5 +61,5 @@ least_from_certified xs p d h =
     record {
       divides = h.divides;
       peak_is = omega arith;
-      least = λ others division. omega (arith, above, floor_below xs p d.bottleneck d.floor others h.floor_holds division)
+      least = λ others division. omega (arith, above, floor_below xs p d.bottleneck d.floor others h.floor_holds division);
     }

@@ -48,7 +48,7 @@ light_is_first {A} xs p d s i division within e counted starts ordered ends firs
     record {
       applies_itself = of_fence d.floor s ⊥ (λ s. (0 < i) × (i ≤ p) × (range_load xs s i < d.bottleneck)) e (first.positive, first.inside, first.light);
       no_lower_number = lower;
-      no_lower_place = earlier
+      no_lower_place = earlier;
     }
   where
     lower : (other : Flaw) → number_of other < 10 → ¬ (HasFlaw xs p d other)

@@ -34,7 +34,11 @@ pub record IsLeastDivision (loads : List ℕ) (blocks bottleneck : ℕ) (cuts : 
   pub peak_is : peak loads cuts ≡ bottleneck
   pub least : (others : List ℕ) → IsDivision 0 (length loads) blocks others → peak loads cuts ≤ peak loads others
 
--- the peak of some division of all tasks into so many blocks, and of every one at least that
-pub record IsLeastPeak (loads : List ℕ) (blocks peak_value : ℕ) : Type 0 where
-  pub reached : (cuts : List ℕ) × IsDivision 0 (length loads) blocks cuts × (peak loads cuts ≡ peak_value)
-  pub least : (cuts : List ℕ) → IsDivision 0 (length loads) blocks cuts → peak_value ≤ peak loads cuts
+-- the peak of some division of the tasks from first on into so many blocks, and of each one at least that
+pub record IsLeastPeak (loads : List ℕ) (first blocks least : ℕ) : Type 0 where
+  pub reached : (cuts : List ℕ) × IsDivision first (length loads) blocks cuts × (peak loads cuts ≡ least)
+  pub below : (cuts : List ℕ) → IsDivision first (length loads) blocks cuts → least ≤ peak loads cuts
+
+-- no list of cuts divides the tasks from first on into so many blocks
+abbrev pub HasNoDivision : List ℕ → ℕ → ℕ → Type 0
+HasNoDivision loads first blocks = (cuts : List ℕ) → ¬ (IsDivision first (length loads) blocks cuts)

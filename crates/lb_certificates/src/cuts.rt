@@ -37,6 +37,7 @@ impl<A: Allocator> Cuts<A> {
     pub fn into_vec(self) -> Vec<u32, A>
         ensures { result.items ≡ self }
     {
-        self.cuts
+        let Cuts { cuts } = self;
+        cuts
     }
 }

@@ -17,6 +17,8 @@ pub mod reference;
 mod sizes;
 mod snapshot;
 mod stops;
+#[cfg(test)]
+mod tests;
 
 pub use check::check_division;
 pub use cuts::Cuts;

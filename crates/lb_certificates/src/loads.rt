@@ -47,7 +47,8 @@ impl<A: Allocator> Loads<A> {
 
     /// How many elements there are.
     pub fn len(&self) -> usize
-        ensures { result ≡ length self.now }
+        ensures value { result ≡ length self.now }
+        ensures few { result ≤ Limits.ELEMENTS }
     {
         self.units.len()
     }
@@ -72,7 +73,8 @@ impl<A: Allocator> Loads<A> {
     pub fn into_vec(self) -> Vec<Units, A>
         ensures { result.items ≡ self }
     {
-        self.units
+        let Loads { units } = self;
+        units
     }
 }
 

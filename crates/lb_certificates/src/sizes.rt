@@ -45,7 +45,8 @@ impl<A: Allocator> Sizes<A> {
 
     /// How many elements there are.
     pub fn len(&self) -> usize
-        ensures { result ≡ length self.now }
+        ensures value { result ≡ length self.now }
+        ensures few { result ≤ Limits.ELEMENTS }
     {
         self.pairs.len()
     }
@@ -61,7 +62,8 @@ impl<A: Allocator> Sizes<A> {
     pub fn into_vec(self) -> Vec<(u32, Pe), A>
         ensures { result.items ≡ self }
     {
-        self.pairs
+        let Sizes { pairs } = self;
+        pairs
     }
 }
 

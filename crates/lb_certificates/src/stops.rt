@@ -36,6 +36,7 @@ impl<A: Allocator> Stops<A> {
     pub fn into_vec(self) -> Vec<u32, A>
         ensures { result.items ≡ self }
     {
-        self.stops
+        let Stops { stops } = self;
+        stops
     }
 }

@@ -1,0 +1,251 @@
+//! The worked examples: a chain of five, a full array, and a snapshot of three elements with one forged
+//! division for each flaw.
+
+use super::*;
+use chare_index::{Limits, Pe};
+use std::alloc::Global;
+use std::test::Fail;
+
+fn loads(alloc: Global, units: &[Units]) -> Result<Loads, Fail> {
+    let loads = Loads::new(Vec::from_slice(alloc, units)?);
+    loads.ok_or_else(|| Fail::new("too many loads"))
+}
+
+fn fenced(alloc: Global, bottleneck: u64, cuts: &[u32], stops: &[u32]) -> Result<Division, Fail> {
+    Ok(Division {
+        bottleneck,
+        cuts: Cuts::new(Vec::from_slice(alloc, cuts)?),
+        floor: Floor::Fence(Stops::new(Vec::from_slice(alloc, stops)?)),
+    })
+}
+
+fn unfenced(alloc: Global, bottleneck: u64, cuts: &[u32]) -> Result<Division, Fail> {
+    Ok(Division {
+        bottleneck,
+        cuts: Cuts::new(Vec::from_slice(alloc, cuts)?),
+        floor: Floor::Zero,
+    })
+}
+
+fn pairs(alloc: Global, sizes: &[(u32, u32)]) -> Result<Vec<(u32, Pe)>, Fail> {
+    let mut pairs = Vec::new(alloc);
+    for &(bytes, place) in sizes {
+        let place = Pe::new(place).ok_or_else(|| Fail::new("no such PE"))?;
+        pairs.push((bytes, place))?;
+    }
+    Ok(pairs)
+}
+
+fn sizes(alloc: Global, sizes: &[(u32, u32)]) -> Result<Sizes, Fail> {
+    Sizes::new(pairs(alloc, sizes)?).ok_or_else(|| Fail::new("past a limit"))
+}
+
+#[test]
+fn each_forged_division_has_its_flaw(rt: HostRuntime) -> Result<(), Fail> {
+    let loads = loads(rt.alloc(), &[1, 1, 2])?;
+    let good: ([u32; 3], [u32; 3]) = ([0, 2, 3], [0, 1, 2]);
+    let forged: [(&[u32], &[u32], Result<(), Flaw>); 13] = [
+        (&good.0, &good.1, Ok(())),
+        (&[0, 3], &good.1, Err(Flaw::CutCount)),
+        (&[], &good.1, Err(Flaw::CutCount)),
+        (&[1, 2, 3], &good.1, Err(Flaw::CutStart)),
+        (&[0, 4, 3], &good.1, Err(Flaw::CutOrder)),
+        (&[0, 2, 2], &good.1, Err(Flaw::CutEnd)),
+        (&[0, 1, 3], &good.1, Err(Flaw::Heavy(1))),
+        (&good.0, &[0, 1], Err(Flaw::FenceCount)),
+        (&good.0, &[], Err(Flaw::FenceCount)),
+        (&good.0, &[1, 1, 2], Err(Flaw::FenceStart)),
+        (&good.0, &[0, 2, 1], Err(Flaw::FenceOrder)),
+        (&good.0, &[0, 1, 3], Err(Flaw::FenceEnd)),
+        (&good.0, &[0, 0, 2], Err(Flaw::FenceLight(1))),
+    ];
+    for (cuts, stops, verdict) in forged {
+        let division = fenced(rt.alloc(), 2, cuts, stops)?;
+        assert_eq!(rt;
+            check_division(&loads, 2, &division),
+            verdict,
+            "cuts {cuts:?}, fence {stops:?}"
+        );
+    }
+    let division = unfenced(rt.alloc(), 2, &good.0)?;
+    assert_eq!(rt; check_division(&loads, 2, &division), Err(Flaw::ZeroFloor));
+    Ok(())
+}
+
+#[test]
+fn odd_numbers_of_pes_and_bottlenecks(rt: HostRuntime) -> Result<(), Fail> {
+    let five = loads(rt.alloc(), &[1, 2, 3, 4, 5])?;
+    let division = fenced(rt.alloc(), 9, &[0, 3, 5], &[0, 3, 4])?;
+    assert_eq!(rt; check_division(&five, 2, &division), Ok(()));
+    assert_eq!(rt;
+        check_division(&five, 0, &division),
+        Err(Flaw::CutCount),
+        "no PEs"
+    );
+    assert_eq!(rt;
+        check_division(&five, 257, &division),
+        Err(Flaw::CutCount),
+        "257 PEs"
+    );
+    assert_eq!(rt;
+        check_division(&five, u32::MAX, &division),
+        Err(Flaw::CutCount),
+        "most PEs"
+    );
+    let division = fenced(rt.alloc(), 10, &[0, 3, 5], &[0, 3, 4])?;
+    assert_eq!(rt;
+        check_division(&five, 2, &division),
+        Err(Flaw::FenceLight(2))
+    );
+    let division = fenced(rt.alloc(), u64::MAX, &[0, 3, 5], &[0, 3, 4])?;
+    assert_eq!(rt;
+        check_division(&five, 2, &division),
+        Err(Flaw::FenceLight(1))
+    );
+
+    let idle = loads(rt.alloc(), &[0, 0, 0])?;
+    let division = unfenced(rt.alloc(), 0, &[0, 3, 3])?;
+    assert_eq!(rt; check_division(&idle, 2, &division), Ok(()), "floor zero");
+    let division = fenced(rt.alloc(), 0, &[0, 3, 3], &[0, 0, 2])?;
+    assert_eq!(rt;
+        check_division(&idle, 2, &division),
+        Ok(()),
+        "a fence for bottleneck 0"
+    );
+
+    let none = loads(rt.alloc(), &[])?;
+    let division = unfenced(rt.alloc(), 0, &[0])?;
+    assert_eq!(rt;
+        check_division(&none, 0, &division),
+        Ok(()),
+        "no PEs, no elements"
+    );
+    assert_eq!(rt;
+        check_division(&idle, 0, &division),
+        Err(Flaw::CutEnd),
+        "no PEs, elements"
+    );
+    let division = fenced(rt.alloc(), 0, &[0, 0], &[0, 0])?;
+    assert_eq!(rt;
+        check_division(&none, 1, &division),
+        Err(Flaw::FenceEnd),
+        "no elements, a fence"
+    );
+    Ok(())
+}
+
+#[test]
+fn more_blocks_than_a_machine_has_pes(rt: HostRuntime) -> Result<(), Fail> {
+    let two = loads(rt.alloc(), &[5, 7])?;
+    let mut cuts: Vec<u32> = vec![in rt.alloc(); 2; 301]?;
+    let mut stops: Vec<u32> = vec![in rt.alloc(); 1; 301]?;
+    for (place, value) in [(0, 0), (1, 1)] {
+        if let Some(cut) = cuts.get_mut(place) {
+            *cut = value;
+        }
+        if let Some(stop) = stops.get_mut(place) {
+            *stop = value;
+        }
+    }
+    let division = fenced(rt.alloc(), 7, &cuts, &stops)?;
+    assert_eq!(rt; check_division(&two, 300, &division), Ok(()));
+    Ok(())
+}
+
+#[test]
+fn a_full_array_of_full_loads(rt: HostRuntime) -> Result<(), Fail> {
+    let most = Limits::ELEMENTS as usize;
+    let units = vec![in rt.alloc(); Limits::LOAD; most]?;
+    let full = Loads::new(units).ok_or_else(|| Fail::new("refused a full array"))?;
+    assert_eq!(rt; full.len(), 65_536);
+    let division = fenced(rt.alloc(), 281_474_976_645_120, &[0, 65_536], &[0, 65_535])?;
+    assert_eq!(rt; check_division(&full, 1, &division), Ok(()));
+    let mut units = full.into_vec();
+    units.push(0)?;
+    assert!(rt; Loads::new(units).is_none(), "one load too many");
+    Ok(())
+}
+
+#[test]
+fn a_snapshot_within_its_limits(rt: HostRuntime) -> Result<(), Fail> {
+    let alloc = rt.alloc();
+    let placed = [(10, 0), (9, 1), (8, 0)];
+    let snapshot = Snapshot::new(5, 2, loads(alloc, &[1, 1, 2])?, sizes(alloc, &placed)?);
+    let snapshot = snapshot.ok_or_else(|| Fail::new("refused the example"))?;
+    assert_eq!(rt; (snapshot.step(), snapshot.procs()), (5, 2));
+    assert_eq!(rt; snapshot.loads().as_slice(), [1, 1, 2].as_slice());
+    assert!(rt; !snapshot.loads().is_empty() && !snapshot.sizes().is_empty());
+    assert_eq!(rt; snapshot.loads().load(1, 3), 3);
+    assert_eq!(rt;
+        snapshot.sizes().as_slice(),
+        pairs(alloc, &placed)?.as_slice()
+    );
+
+    let refused: [(u32, &[Units], &[(u32, u32)]); 4] = [
+        (0, &[], &[]),
+        (257, &[], &[]),
+        (2, &[1, 1], &placed),
+        (1, &[1, 1, 2], &placed),
+    ];
+    for (procs, units, placed) in refused {
+        let snapshot = Snapshot::new(0, procs, loads(alloc, units)?, sizes(alloc, placed)?);
+        assert!(rt;
+            snapshot.is_none(),
+            "procs {procs}, loads {units:?}, sizes {placed:?}"
+        );
+    }
+    for procs in [1, 256] {
+        let snapshot = Snapshot::new(0, procs, loads(alloc, &[])?, sizes(alloc, &[])?);
+        assert!(rt; snapshot.is_some(), "procs {procs}");
+    }
+    Ok(())
+}
+
+#[test]
+fn sizes_within_their_limits(rt: HostRuntime) -> Result<(), Fail> {
+    let alloc = rt.alloc();
+    let largest = sizes(alloc, &[(1_048_576, 255)])?;
+    assert_eq!(rt; largest.into_vec().len(), 1);
+    assert!(rt;
+        Sizes::new(pairs(alloc, &[(1_048_577, 0)])?).is_none(),
+        "one byte too many"
+    );
+    let nowhere = Pe::new(0).ok_or_else(|| Fail::new("no PE 0"))?;
+    let mut most = vec![in alloc; (0, nowhere); Limits::ELEMENTS as usize]?;
+    most.push((0, nowhere))?;
+    assert!(rt; Sizes::new(most).is_none(), "one element too many");
+    Ok(())
+}
+
+#[test]
+fn lists_come_back(rt: HostRuntime) -> Result<(), Fail> {
+    let cuts = Cuts::new(Vec::from_slice(rt.alloc(), &[0, 3, 5])?);
+    assert_eq!(rt; cuts.as_slice(), [0, 3, 5].as_slice());
+    assert_eq!(rt; cuts.into_vec().as_slice(), [0, 3, 5].as_slice());
+    let stops = Stops::new(Vec::from_slice(rt.alloc(), &[0, 3, 4])?);
+    assert_eq!(rt; stops.as_slice(), [0, 3, 4].as_slice());
+    assert_eq!(rt; stops.into_vec().as_slice(), [0, 3, 4].as_slice());
+    Ok(())
+}
+
+#[test]
+fn the_reference_tries_every_division(rt: HostRuntime) -> Result<(), Fail> {
+    let rows: [(&[Units], u32, Option<u64>); 7] = [
+        (&[], 3, Some(0)),
+        (&[], 0, Some(0)),
+        (&[1], 0, None),
+        (&[1, 2, 3, 4, 5], 2, Some(9)),
+        (&[10, 1, 1], 3, Some(10)),
+        (&[0, 0, 0], 2, Some(0)),
+        (&[5, 7], 4, Some(7)),
+    ];
+    for (units, pes, least) in rows {
+        let loads = loads(rt.alloc(), units)?;
+        assert_eq!(rt;
+            reference::least_peak(&loads, pes),
+            least,
+            "loads {units:?} on {pes}"
+        );
+    }
+    Ok(())
+}
