@@ -9,7 +9,6 @@ use crate::flaw::Flaw;
 use crate::loads::Loads;
 use std::alloc::Allocator;
 
-#[tactic(auto, using(crate::proofs::LeastDivisions::least_from_certified, crate::proofs::NoFlaws::flawless))]
 /// Checks a division of these loads into `pes` blocks, whoever made it. `Ok` means that its bottleneck is the
 /// load of its heaviest block, and that no division into `pes` blocks has a lighter heaviest block.
 ///
@@ -21,6 +20,7 @@ use std::alloc::Allocator;
 ///
 /// The fence is the certificate of the lower bound of A. Pinar and C. Aykanat, JPDC 64(8), 2004: a probe at
 /// the bottleneck less one ends short of the last element.
+#[tactic(auto, using(crate::proofs::LeastDivisions::least_from_certified, crate::proofs::NoFlaws::flawless))]
 pub fn check_division<A: Allocator, B: Allocator>(
     loads: &Loads<A>,
     pes: u32,

@@ -78,8 +78,8 @@ impl<A: Allocator> Loads<A> {
     }
 }
 
-#[tactic(auto, using(crate::proofs::LoadSums::next_fits))]
 // The sum of these loads, which are as few and as small as they have to be.
+#[tactic(auto, using(crate::proofs::LoadSums::next_fits))]
 fn total(units: &[Units]) -> u64
     requires { IsLoads units.now }
     ensures { result ≡ sum units.now }

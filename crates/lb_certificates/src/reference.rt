@@ -16,8 +16,8 @@ pub fn least_peak<A: Allocator>(loads: &Loads<A>, pes: u32) -> Option<u64>
     least_peak_from(loads, 0, pes)
 }
 
-#[tactic(auto, using(crate::proofs::TriedDivisions::tried_more, crate::proofs::TriedDivisions::tried_none, crate::proofs::TriedDivisions::tried_all, crate::proofs::TriedDivisions::nothing_left, crate::proofs::TriedDivisions::none_divides))]
 // The same for the elements from `first` on: every end of the first block, with every division of the rest.
+#[tactic(auto, using(crate::proofs::TriedDivisions::tried_more, crate::proofs::TriedDivisions::tried_none, crate::proofs::TriedDivisions::tried_all, crate::proofs::TriedDivisions::nothing_left, crate::proofs::TriedDivisions::none_divides))]
 fn least_peak_from<A: Allocator>(loads: &Loads<A>, first: usize, blocks: u32) -> Option<u64>
     requires { first ≤ length loads.now }
     ensures { MatchOption result (HasNoDivision loads.now first blocks) (IsLeastPeak loads.now first blocks) }

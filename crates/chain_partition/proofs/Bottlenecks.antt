@@ -1,0 +1,130 @@
+-- The least limit within which the blocks can hold all tasks.
+use Rattle.std.proofs.Common.{◌≡◌, ◌≢◌, ℕ, suc, zero, ◌+◌, ◌-◌, ◌*◌, ◌/◌, ◌^◌, ◌<◌, ◌≤◌, ◌⊎◌, inl, inr, List, [], ◌∷◌, ◌++◌, All, length, sum, take, get_or, slice_index, arith, add-one, refl, ap, sym, ◌∙◌, subst}
+use Rattle.std.proofs.lemmas.Bool.{cases_lt, cases_eq}
+use Rattle.std.proofs.Math.Nat.{div-le_self, lt-mul-div-succ}
+use Rattle.lb_certificates.specs.Chain.{load, block_load, peak, IsDivision, IsLeastPeak}
+use Rattle.lb_certificates.specs.Certificate.{IsFence, NoneAbove, MatchFloor, HoldsFor, IsCertified}
+use Rattle.lb_certificates.specs.declared.division.Division.{Division}
+use Rattle.lb_certificates.specs.declared.division.Floor.{Floor}
+use Rattle.lb_certificates.specs.declared.division.Floor.TheVariants.{Zero, Fence}
+use Rattle.lb_certificates.specs.Measured.{IsLoads}
+use Rattle.lb_certificates.proofs.Chains.{load_after, load_wider, block_load-le-peak}
+use Rattle.lb_certificates.proofs.LeastDivisions.{heavy_at}
+use Rattle.chain_partition.specs.Chosen.{IsChosen}
+use Rattle.chain_partition.specs.Greedy.{CanFit, IsGreatestEnd, IsGreedy, FitsAll, IsLeastFence}
+use Rattle.chain_partition.proofs.GreedyWalks.{load_more, load_small}
+use Rattle.chain_partition.proofs.GreedyCuts.{load_nothing, greedy_full, greedy_short, EndsAt, ends_none, ends_more, ends_inside, ends_fit}
+
+-- what fits within a limit fits within a greater one
+pub can_fit_wider : (xs : List ℕ) (p limit wider : ℕ) → limit ≤ wider → CanFit xs p limit → CanFit xs p wider
+can_fit_wider xs p limit wider below fit = (fit.0, fit.1, omega (arith, fit.2, below))
+
+-- a limit that fits, below which none does, is the least peak
+pub least_from_bounds : (xs : List ℕ) (p bottleneck : ℕ) → CanFit xs p bottleneck → ((limit : ℕ) → limit < bottleneck → ¬ (CanFit xs p limit)) → IsLeastPeak xs 0 p bottleneck
+least_from_bounds xs p bottleneck fit stops =
+    record { reached = (fit.0, fit.1, omega (arith, fit.2, below fit.0 fit.1)); below = below }
+  where
+    below : (cuts : List ℕ) → IsDivision 0 (length xs) p cuts → bottleneck ≤ peak xs cuts
+    below cuts division = elim (cases_lt (peak xs cuts) bottleneck) [
+      | inl light ↦ absurd (stops (peak xs cuts) light (cuts, division, omega arith))
+      | inr heavy ↦ heavy
+    ]
+
+-- within the least peak the greedy cuts place all tasks
+pub greedy_at_least : (xs : List ℕ) (p bottleneck : ℕ) (ends : List ℕ) → IsLeastPeak xs 0 p bottleneck → IsGreedy xs p bottleneck ends → FitsAll xs p bottleneck ends
+greedy_at_least xs p bottleneck ends least greedy =
+    elim (cases_eq (slice_index ends p) (length xs)) [
+      | inl full ↦ (greedy_full xs p bottleneck ends greedy full).1
+      | inr short ↦ absurd ((greedy_short xs p bottleneck ends greedy short).0 (least.reached.0, least.reached.1, omega (arith, least.reached.2)))
+    ]
+
+-- one below the least peak the greedy ends are the least fence for it
+pub greedy_below_least : (xs : List ℕ) (p bottleneck : ℕ) (ends : List ℕ) → IsLeastPeak xs 0 p bottleneck → bottleneck ≢ 0 → IsGreedy xs p (bottleneck - 1) ends → IsLeastFence xs p bottleneck ends
+greedy_below_least xs p bottleneck ends least positive greedy =
+    let e : bottleneck - 1 + 1 ≡ bottleneck = omega arith in
+    elim (cases_eq (slice_index ends p) (length xs)) [
+      | inl full ↦
+          let fit = (greedy_full xs p (bottleneck - 1) ends greedy full).0 in
+          absurd (omega (arith, fit.2, least.below fit.0 fit.1))
+      | inr short ↦ subst (λ b. IsLeastFence xs p b ends) e (greedy_short xs p (bottleneck - 1) ends greedy short).1
+    ]
+
+floor_holds : {A : Type 0} (xs : List ℕ) (p bottleneck : ℕ) (floor : Floor A) → MatchFloor floor (bottleneck ≡ 0) (λ stops. (bottleneck ≢ 0) × IsLeastFence xs p bottleneck stops) → HoldsFor xs p bottleneck floor
+floor_holds xs p bottleneck Zero h = h
+floor_holds xs p bottleneck (Fence stops) h = h.1.fence
+
+-- the chosen division is certified
+pub certified_from_chosen : {A : Type 0} (xs : List ℕ) (p : ℕ) (d : Division A) → IsChosen xs p d → IsCertified xs p d
+certified_from_chosen xs p d h =
+    record {
+      divides = h.cuts.divides;
+      within = λ b inside. omega (arith, h.cuts.within, block_load-le-peak xs d.cuts b (omega (arith, h.cuts.divides.counted)));
+      floor_holds = floor_holds xs p d.bottleneck d.floor h.floor;
+    }
+
+-- the greatest end of a block: the first candidate from the last task down that fits
+end_below : (xs : List ℕ) (first limit k : ℕ) → first ≤ k → k ≤ length xs → ((other : ℕ) → other ≤ length xs → load xs first other ≤ limit → other ≤ k) → (end : ℕ) × IsGreatestEnd xs first limit end
+end_below xs first limit zero onward inside tried =
+    let e : first ≡ 0 = omega arith in (
+      0,
+      record {
+        inside = inside;
+        fits = subst (λ f. load xs f 0 ≤ limit) (sym e) (omega (arith, load_nothing xs 0));
+        greatest = tried;
+      },
+    )
+end_below xs first limit (suc k) onward inside tried =
+    elim (cases_lt limit (load xs first (suc k))) [
+      | inl heavy ↦
+          let not_last : first ≢ suc k = λ e. absurd (omega (arith, heavy, ap (λ f. load xs f (suc k)) e, load_nothing xs (suc k))) in
+          end_below xs first limit k (omega arith) (omega arith) (λ other within light.
+          let apart : other ≢ suc k = λ e. absurd (omega (arith, heavy, light, ap (λ o. load xs first o) e)) in
+          let below : other ≤ suc k = tried other within light in
+          omega arith)
+      | inr light ↦ (suc k, record { inside = inside; fits = light; greatest = tried })
+    ]
+
+pub some_end : (xs : List ℕ) (first limit : ℕ) → first ≤ length xs → (end : ℕ) × IsGreatestEnd xs first limit end
+some_end xs first limit inside = end_below xs first limit (length xs) inside (omega arith) (λ other within _. within)
+
+-- greedy blocks end somewhere
+pub some_ends : (xs : List ℕ) (limit k : ℕ) → (end : ℕ) × EndsAt xs k limit end
+some_ends xs limit zero = (0, ends_none xs limit)
+some_ends xs limit (suc k) =
+    let before = some_ends xs limit k in
+    let next = some_end xs before.0 limit (ends_inside xs k limit before.0 before.1) in
+    (next.0, rw (← add-one k) (ends_more xs k limit before.0 next.0 before.1 next.1))
+
+-- i ranges of a fence above an even share and the greatest load weigh more than i shares
+fence_weight : (xs stops : List ℕ) (p share greatest : ℕ) → All (λ w. w ≤ greatest) xs → IsFence xs p (share + greatest + 1) stops → (i : ℕ) → i ≤ p → i * (share + 1) ≤ load xs 0 (slice_index stops i)
+fence_weight xs stops p share greatest small fence zero inside = omega arith
+fence_weight xs stops p share greatest small fence (suc i) inside =
+    let before : i * (share + 1) ≤ load xs 0 (slice_index stops i) = fence_weight xs stops p share greatest small fence i (omega arith) in
+    let rises : slice_index stops i ≤ slice_index stops (i + 1) = fence.ordered i (i + 1) 0 (omega arith) (omega (arith, fence.counted)) in
+    let stays : slice_index stops (i + 1) ≤ slice_index stops p = fence.ordered (i + 1) p 0 (omega arith) (omega (arith, fence.counted)) in
+    let heavy : share + greatest + 1 ≤ load xs (slice_index stops i) (slice_index stops (i + 1) + 1) = heavy_at xs p (share + greatest + 1) stops i fence.heavy (omega arith) in
+    let last : get_or xs (slice_index stops (i + 1)) 0 ≤ greatest = small (slice_index stops (i + 1)) 0 (omega (arith, fence.ends)) in
+    let one : load xs (slice_index stops i) (slice_index stops (i + 1) + 1) ≡ load xs (slice_index stops i) (slice_index stops (i + 1)) + get_or xs (slice_index stops (i + 1)) 0 = load_more xs _ _ 0 rises (omega (arith, fence.ends)) in
+    let whole = load_after xs 0 (slice_index stops (i + 1)) (omega arith) in
+    let front = load_after xs 0 (slice_index stops i) (omega arith) in
+    let block = load_after xs (slice_index stops i) (slice_index stops (i + 1)) rises in
+    rw (← add-one i) (omega (arith, before, heavy, last, one, whole, front, block))
+
+-- a limit of an even share and the greatest load holds all tasks
+pub even_share : (xs : List ℕ) (p greatest : ℕ) → 0 < p → All (λ w. w ≤ greatest) xs → CanFit xs p (load xs 0 (length xs) / p + greatest)
+even_share xs p greatest positive small =
+    let share : ℕ = load xs 0 (length xs) / p in
+    let ends = some_ends xs (share + greatest) p in
+    elim (cases_eq ends.0 (length xs)) [
+      | inl full ↦ ends_fit xs p (share + greatest) ends.0 ends.1 full
+      | inr short ↦
+          let fence = (greedy_short xs p (share + greatest) ends.1.ends ends.1.greedy (λ e. short (sym ends.1.last ∙ e))).1.fence in
+          let heavy = fence_weight xs ends.1.ends p share greatest small fence p (omega arith) in
+          let within = load_wider xs 0 (slice_index ends.1.ends p) 0 (length xs) (omega arith) (omega arith) (omega (arith, fence.ends)) in
+          absurd (omega (arith, heavy, within, lt-mul-div-succ (load xs 0 (length xs)) positive))
+    ]
+
+-- that limit is far below 2^64
+pub share_fits : (xs : List ℕ) (p greatest : ℕ) → IsLoads xs → greatest < 2 ^ 32 → load xs 0 (length xs) / p + greatest < 2 ^ 64
+share_fits xs p greatest small low =
+    omega (arith, load_small xs 0 (length xs) small (omega arith), div-le_self (load xs 0 (length xs)) p)

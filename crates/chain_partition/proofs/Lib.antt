@@ -1,0 +1,3 @@
+pub mod Bottlenecks
+pub mod GreedyCuts
+pub mod GreedyWalks
