@@ -1,9 +1,9 @@
 -- The least limit within which the blocks can hold all tasks.
-use Rattle.std.proofs.Common.{◌≡◌, ◌≢◌, ℕ, suc, zero, ◌+◌, ◌-◌, ◌*◌, ◌/◌, ◌^◌, ◌<◌, ◌≤◌, ◌⊎◌, inl, inr, List, [], ◌∷◌, ◌++◌, All, length, sum, take, get_or, slice_index, arith, add-one, refl, ap, sym, ◌∙◌, subst}
+use Rattle.std.proofs.Common.{◌≡◌, ◌≢◌, ℕ, suc, zero, ◌+◌, ◌-◌, ◌*◌, ◌/◌, ◌^◌, ◌<◌, ◌≤◌, inl, inr, List, All, length, get_or, slice_index, arith, add-one, ap, sym, ◌∙◌, subst}
 use Rattle.std.proofs.lemmas.Bool.{cases_lt, cases_eq}
 use Rattle.std.proofs.Math.Nat.{div-le_self, lt-mul-div-succ}
-use Rattle.lb_certificates.specs.Chain.{load, block_load, peak, IsDivision, IsLeastPeak}
-use Rattle.lb_certificates.specs.Certificate.{IsFence, NoneAbove, MatchFloor, HoldsFor, IsCertified}
+use Rattle.lb_certificates.specs.Chain.{load, peak, IsDivision, IsLeastPeak}
+use Rattle.lb_certificates.specs.Certificate.{IsFence, MatchFloor, HoldsFor, IsCertified}
 use Rattle.lb_certificates.specs.declared.division.Division.{Division}
 use Rattle.lb_certificates.specs.declared.division.Floor.{Floor}
 use Rattle.lb_certificates.specs.declared.division.Floor.TheVariants.{Zero, Fence}

@@ -1,11 +1,11 @@
 -- A list of greedy ends either divides all tasks or is a fence.
-use Rattle.std.proofs.Common.{◌≡◌, ◌≢◌, ℕ, suc, zero, ◌+◌, ◌-◌, ◌<◌, ◌≤◌, Bool, true, false, eqb, IsTrue, ◌↔◌, ◌⊎◌, inl, inr, List, [], ◌∷◌, ◌++◌, length, get_or, slice_index, arith, add-one, refl, ap, sym, ◌∙◌, subst, length-append}
+use Rattle.std.proofs.Common.{◌≡◌, ◌≢◌, ℕ, suc, zero, ◌+◌, ◌-◌, ◌<◌, ◌≤◌, false, eqb, IsTrue, ◌↔◌, inl, inr, List, [], ◌∷◌, ◌++◌, length, slice_index, arith, add-one, refl, sym, ◌∙◌, subst, length-append}
 use Rattle.std.proofs.lemmas.Bool.{cases_lt}
 use Rattle.std.proofs.lemmas.Bool.Decides.{eqb_tells}
 use Rattle.std.proofs.lemmas.List.{get_or_append_left, get_or_default, get_or_push}
 use Rattle.std.proofs.lemmas.List.Sorted.{IsNonDecreasingBy-from_all_adjacent}
 use Rattle.std.specs.List.Sorted.{IsNonDecreasing}
-use Rattle.lb_certificates.specs.Chain.{load, block_load, peak, IsDivision}
+use Rattle.lb_certificates.specs.Chain.{load, peak, IsDivision}
 use Rattle.lb_certificates.specs.Certificate.{IsFence}
 use Rattle.lb_certificates.proofs.Chains.{load_after, load_wider, peak-le}
 use Rattle.lb_certificates.proofs.LeastDivisions.{fence_below}

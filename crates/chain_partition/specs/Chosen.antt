@@ -1,12 +1,12 @@
 -- Which of all least divisions is given, and with which floor.
-use Rattle.std.specs.Prelude.{◌≡◌, ◌≢◌, ℕ, ◌+◌, List, length}
+use Rattle.std.specs.Prelude.{◌≡◌, ◌≢◌, ℕ, ◌+◌, List}
 use Rattle.lb_certificates.specs.Chain.{IsLeastPeak}
 use Rattle.lb_certificates.specs.Certificate.{MatchFloor}
 use Rattle.lb_certificates.specs.declared.division.Division.{Division}
 use Rattle.lb_certificates.specs.declared.division.Floor.{Floor}
 use Rattle.chain_partition.specs.declared.outcome.Probe.{Probe}
 use Rattle.chain_partition.specs.declared.outcome.Probe.TheVariants.{Fits, Stops}
-use Rattle.chain_partition.specs.Greedy.{CanFit, FitsAll, IsGreedy, IsLeastFence}
+use Rattle.chain_partition.specs.Greedy.{CanFit, FitsAll, IsLeastFence}
 
 -- The answer of a probe: where some division keeps within the limit, the greedy cuts; where none does, the least
 -- fence for the bottleneck above the limit.

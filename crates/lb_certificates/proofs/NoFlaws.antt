@@ -1,13 +1,13 @@
 -- Flaws against certificates.
-use Rattle.std.proofs.Common.{◌≡◌, ◌≢◌, ℕ, ◌+◌, ◌-◌, ◌<◌, ◌≤◌, List, length, slice_index, arith, subst, sym}
+use Rattle.std.proofs.Common.{◌≡◌, ◌≢◌, ℕ, ◌+◌, ◌<◌, ◌≤◌, List, length, slice_index, arith, subst, sym}
 use Rattle.std.specs.List.Sorted.{IsNonDecreasing}
 use Rattle.lb_certificates.specs.declared.division.Division.{Division}
 use Rattle.lb_certificates.specs.declared.division.Floor.{Floor}
 use Rattle.lb_certificates.specs.declared.division.Floor.TheVariants.{Zero, Fence}
 use Rattle.lb_certificates.specs.declared.flaw.Flaw.{Flaw}
 use Rattle.lb_certificates.specs.declared.flaw.Flaw.TheVariants.{CutCount, CutStart, CutOrder, CutEnd, Heavy, FenceCount, FenceStart, FenceOrder, FenceEnd, FenceLight, ZeroFloor}
-use Rattle.lb_certificates.specs.Chain.{block_load, IsDivision}
-use Rattle.lb_certificates.specs.Certificate.{IsFence, MatchFloor, HoldsFor, IsCertified, NoneAbove, IsFirstLight, range_load}
+use Rattle.lb_certificates.specs.Chain.{IsDivision}
+use Rattle.lb_certificates.specs.Certificate.{MatchFloor, IsCertified, NoneAbove, IsFirstLight, range_load}
 use Rattle.lb_certificates.specs.Flaws.{Falls, HasFlaw, IsFirst, number_of, place_of}
 
 -- two facts about a floor that exclude each other at either kind

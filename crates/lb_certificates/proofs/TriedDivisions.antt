@@ -1,5 +1,5 @@
 -- The search that tries every end of the first block with every division of the rest.
-use Rattle.std.proofs.Common.{◌≡◌, ◌≢◌, ℕ, suc, zero, ◌+◌, ◌-◌, ◌<◌, ◌≤◌, max, min, ◌⊎◌, inl, inr, List, [], ◌∷◌, length, drop, get_or, slice_index, arith, add-one, refl, ap, sym, ◌∙◌, subst, Option, None, Some, MatchOption}
+use Rattle.std.proofs.Common.{◌≡◌, ◌≢◌, ℕ, suc, zero, ◌+◌, ◌-◌, ◌<◌, ◌≤◌, max, min, inl, inr, List, [], ◌∷◌, length, drop, get_or, slice_index, arith, add-one, refl, ap, sym, ◌∙◌, subst, Option, None, Some, MatchOption}
 use Rattle.std.specs.Option.{option_map_or}
 use Rattle.std.specs.List.Sorted.{IsNonDecreasing}
 use Rattle.std.proofs.lemmas.Bool.{cases_lt}

@@ -1,4 +1,3 @@
-use Rattle.lb_certificates.specs.Certificate.{IsCertified}
 use Rattle.lb_certificates.proofs.LeastDivisions.{least_from_certified}
 use Rattle.chain_partition.proofs.Bottlenecks.{greedy_at_least, certified_from_chosen}
 use Rattle.chain_partition.proofs.division.divide.Goals as goal

@@ -1,4 +1,4 @@
-use Rattle.std.proofs.Common.{◌≡◌, ◌≢◌, length, slice_index, arith, sym, ◌∙◌}
+use Rattle.std.proofs.Common.{◌≡◌, ◌≢◌, length, slice_index, arith}
 use Rattle.std.proofs.lemmas.List.{get_or_read}
 use Rattle.chain_partition.proofs.GreedyCuts.{greedy_full, greedy_short}
 use Rattle.chain_partition.proofs.probing.probe.Goals as goal

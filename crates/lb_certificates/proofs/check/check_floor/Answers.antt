@@ -1,4 +1,4 @@
-use Rattle.std.proofs.Common.{◌≡◌, ◌+◌, ◌<◌, length, slice_index, arith, sym, rules}
+use Rattle.std.proofs.Common.{◌≡◌, ◌+◌, ◌<◌, length, slice_index, rules}
 use Rattle.std.specs.List.Sorted.{IsNonDecreasing}
 use Rattle.lb_certificates.specs.declared.division.Floor.TheVariants.{Fence}
 use Rattle.lb_certificates.proofs.NoFlaws.{light_is_first}

@@ -1,4 +1,4 @@
-use Rattle.std.proofs.Common.{◌≡◌, ◌≤◌, ◌<◌, length, arith, ◌∙◌}
+use Rattle.std.proofs.Common.{arith, ◌∙◌}
 use Rattle.lb_certificates.proofs.TriedDivisions.{tried_more, nothing_left}
 use Rattle.lb_certificates.proofs.reference.+least_peak_from.Goals as goal
 
