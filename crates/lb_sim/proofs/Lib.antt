@@ -1,1 +1,3 @@
 pub mod BlockLines
+pub mod Endings
+pub mod Sends

@@ -1,7 +1,9 @@
--- What lb_sim prints of a division, byte by byte.
+-- What lb_sim prints, byte by byte: the text of a division, or the line of a fault.
 use Rattle.std.specs.Prelude.{ℕ, ◌+◌, List, [], ◌∷◌, ◌++◌, length, codes}
 use Rattle.std.specs.Fmt.{decimal}
 use Rattle.std.specs.List.{flat_map}
+use Rattle.lb_dump.specs.declared.error.DumpError.{DumpError}
+use Rattle.lb_dump.specs.declared.error.DumpError.TheVariants.{Magic, Short, Procs, Count, Size, Place, Trailing, Read, Write, OutOfMemory}
 use Rattle.lb_certificates.specs.Chain.{load}
 use Rattle.lb_certificates.specs.Measured.{Taken}
 use Rattle.lb_certificates.specs.declared.division.Division.{Division}
@@ -45,3 +47,16 @@ block_lines loads b (first ∷ end ∷ cuts) =
 abbrev pub division_text : {A : Type 0} → Taken → ℕ → Division A → List ℕ
 division_text s pes d =
     head_line s.step pes (length s.loads) ++ bottleneck_line d.bottleneck ++ floor_line d.floor ++ block_lines s.loads 0 d.cuts
+
+-- the one line of a fault
+abbrev pub fault_line : DumpError → List ℕ
+fault_line Magic = codes "dump: not LBD1" ++ newline
+fault_line (Short n) = codes "dump: ends at byte " ++ decimal n ++ newline
+fault_line Procs = codes "dump: procs out of 1..256" ++ newline
+fault_line Count = codes "dump: more than 65536 elements" ++ newline
+fault_line (Size i) = codes "dump: element " ++ decimal i ++ codes " has more than 1048576 bytes" ++ newline
+fault_line (Place i) = codes "dump: element " ++ decimal i ++ codes " is on no processor" ++ newline
+fault_line Trailing = codes "dump: bytes after the last element" ++ newline
+fault_line Read = codes "dump: read failed" ++ newline
+fault_line Write = codes "dump: write failed" ++ newline
+fault_line OutOfMemory = codes "out of memory" ++ newline

@@ -1,0 +1,4 @@
+pub mod GoodTexts
+pub mod Lists
+pub mod ReadPieces
+pub mod WordLaws

@@ -1,0 +1,59 @@
+-- A dump that comes from a reader, piece by piece.
+use Rattle.std.proofs.Common.{◌≡◌, ℕ, ◌<◌, ◌≤◌, ◌⊎◌, inl, inr, List, ◌++◌, length, take, drop, Option, Some, None, Result, Ok, Err, refl, sym, ap, subst, ◌∙◌, arith, append_assoc, length-take, length-append}
+use Rattle.std.specs.Prelude.{IfSome}
+use Rattle.std.specs.Io.KnownBytes.{Consumes}
+use Rattle.std.proofs.KnownBytes.{Consumes-trans}
+use Rattle.std.proofs.lemmas.List.{take-append-le, take-take}
+use Rattle.lb_certificates.specs.Measured.{Taken}
+use Rattle.lb_dump.specs.declared.error.DumpError.{DumpError}
+use Rattle.lb_dump.specs.declared.error.DumpError.TheVariants.{Magic, Short, Procs, Count, Size, Place, Trailing, Read, Write, OutOfMemory}
+use Rattle.lb_dump.specs.Faults.{IsBroken, IsFault}
+use Rattle.lb_dump.specs.Reading.{Progress, Feeds, IsAnswer}
+use Rattle.lb_dump.proofs.GoodTexts.{broken_append}
+
+-- the bytes that were read stand at the front of the buffer
+pub front_of : (n len : ℕ) (buffer rest now : List ℕ) → now ≡ take len (buffer ++ rest) → n ≤ length buffer → length buffer ≤ len → take n now ≡ take n buffer
+front_of n len buffer rest now is inside long = ap (take n) is ∙ take-take n len (buffer ++ rest) (omega arith) ∙ take-append-le n buffer rest inside
+
+-- a fault that a byte brings is the first one of the text
+pub fault_by : (text : List ℕ) (e : DumpError) → IsBroken text e → IsFault text e
+fault_by text Magic broken = broken
+fault_by text (Short n) broken = elim broken [ ]
+fault_by text Procs broken = broken
+fault_by text Count broken = broken
+fault_by text (Size i) broken = broken
+fault_by text (Place i) broken = broken
+fault_by text Trailing broken = broken
+fault_by text Read broken = broken
+fault_by text Write broken = broken
+fault_by text OutOfMemory broken = broken
+
+-- what a piece with a fault says of all that the reader has
+pub fed_broken : (old now after : Option (List ℕ)) (text piece : List ℕ) (dump new : Progress) (e : DumpError) → dump ≡ Ok text → Consumes old now text → Consumes now after piece → Feeds dump piece (Err e) new → IfSome old (λ bytes. (e ≡ OutOfMemory) ⊎ IsFault bytes e)
+fed_broken None now after text piece dump new e is_text so_far came fed = tt
+fed_broken (Some bytes) now after text piece dump new e is_text so_far came fed =
+    all_of after (Consumes-trans (Some bytes) now after text piece so_far came)
+  where
+    at_text : ((e ≡ OutOfMemory) ⊎ IsBroken (text ++ piece) e) × (new ≡ Err e)
+    at_text = subst (λ (p : Progress). Feeds p piece (Err e) new) is_text fed
+
+    all_of : (after : Option (List ℕ)) → Consumes (Some bytes) after (text ++ piece) → (e ≡ OutOfMemory) ⊎ IsFault bytes e
+    all_of None came = absurd came
+    all_of (Some rest) came =
+        elim at_text.0 [
+          | inl none ↦ inl none
+          | inr broken ↦ inr (fault_by bytes e (subst (λ t. IsBroken t e) (sym came) (broken_append (text ++ piece) rest e broken)))
+        ]
+
+-- the answer is that to all bytes, or that the reader failed
+pub told : (old : Option (List ℕ)) (result : Result Taken DumpError) (e : DumpError) → result ≡ Err e → IfSome old (λ bytes. (e ≡ OutOfMemory) ⊎ IsFault bytes e) → IfSome old (λ bytes. (result ≡ Err Read) ⊎ IsAnswer bytes result)
+told None result e is fault = tt
+told (Some bytes) result e is fault = inr (subst (λ (r : Result Taken DumpError). IsAnswer bytes r) (sym is) fault)
+
+-- a piece without a fault is put at the end of the text
+pub fed : (text piece : List ℕ) (dump new : Progress) → dump ≡ Ok text → Feeds dump piece (Ok tt) new → new ≡ Ok (text ++ piece)
+fed text piece dump new is_text step = (subst (λ (p : Progress). Feeds p piece (Ok tt) new) is_text step).1
+
+-- a buffer that is read into keeps its length
+pub buffer_len : (len : ℕ) (buffer items : List ℕ) → length items ≡ len → length buffer ≡ len → length (take len (buffer ++ drop (length buffer) items)) ≡ len
+buffer_len len buffer items stored lent = omega (arith, length-take len (buffer ++ drop (length buffer) items), length-append buffer (drop (length buffer) items))

@@ -1,0 +1,7 @@
+use Rattle.std.proofs.Common.{◌≡◌, ℕ, List, length, Ok}
+use Rattle.std.specs.Io.KnownBytes.{Consumes}
+use Rattle.lb_dump.proofs.decoding.read_from.Given as goal
+
+abbrev pub invariant-loop : goal.invariant-loop
+invariant-loop g l =
+    (text : List ℕ) × (l.dump ≡ Ok text) × Consumes (g.R.Read.remaining l.fn.reader) (g.R.Read.remaining l.reader) text × (length l.piece.items ≡ 65536)

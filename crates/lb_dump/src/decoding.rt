@@ -1,0 +1,59 @@
+ghost use Rattle.std.specs.Prelude.{◌≡◌, ◌⊎◌, List, ℕ, IfSome, IsErrOf, OnOk, Err};
+ghost use Rattle.std.specs.Io.KnownBytes.{Consumes, IsAtEnd};
+ghost use Rattle.lb_dump.specs.Reading.{IsAnswer};
+ghost use Rattle.lb_dump.specs.Faults.{IsGood};
+
+use crate::error::DumpError;
+use crate::reader::DumpReader;
+use lb_certificates::Snapshot;
+use std::alloc::Allocator;
+use std::io::Read;
+
+/// The bytes that are asked for at a time.
+const PIECE_LEN: usize = 65_536;
+
+/// How often a reader is called at most.
+const CALLS: u32 = 16_777_216;
+
+/// The snapshot of this text.
+///
+/// # Errors
+///
+/// The first fault of the bytes from left to right, or [`OutOfMemory`](DumpError::OutOfMemory).
+pub fn decode<A: Allocator + Copy>(alloc: A, bytes: &[u8]) -> Result<Snapshot<A>, DumpError>
+    ensures { IsAnswer bytes.now result }
+{
+    let mut reader = DumpReader::new(alloc);
+    reader.feed(bytes)?;
+    reader.end()
+}
+
+/// The snapshot of the text that a reader gives, to its end. Reads to the end, or to the first fault.
+///
+/// # Errors
+///
+/// [`Read`](DumpError::Read) where the reader fails, with any error, or has been called 16,777,216 times;
+/// [`OutOfMemory`](DumpError::OutOfMemory) where memory is refused; or else the first fault of the text from
+/// left to right. What was read before the reader failed has no fault.
+pub fn read_from<R: Read, A: Allocator + Copy>(
+    alloc: A,
+    reader: &mut R,
+) -> Result<Snapshot<A>, DumpError>
+    ensures known { IfSome (R.remaining reader.old) (λ bytes. (result ≡ Err DumpError.Read) ⊎ IsAnswer bytes result) }
+    ensures ended { OnOk result (IsAtEnd (R.remaining reader.new)) }
+    ensures failed { IsErrOf result DumpError.Read → (text : List ℕ) × Consumes (R.remaining reader.old) (R.remaining reader.new) text × IsGood text }
+{
+    let mut piece = Vec::new(alloc);
+    piece.resize(PIECE_LEN, 0)?;
+    let mut dump = DumpReader::new(alloc);
+    for _ in 0..CALLS {
+        let Ok(len) = reader.read(&mut piece) else {
+            return Err(DumpError::Read);
+        };
+        if len == 0 {
+            return dump.end();
+        }
+        dump.feed(&piece[..len])?;
+    }
+    Err(DumpError::Read)
+}
