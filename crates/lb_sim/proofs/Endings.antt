@@ -11,10 +11,10 @@ use Rattle.lb_sim.specs.declared.ended.Ended.TheVariants.{Printed, Dump, WriteFa
 -- a fault that may be told, and its line
 ends_told : (A : Type 0) (bytes : Option (List ℕ)) (procs : Option ℕ) (old new : Option (List ℕ)) (e : DumpError) (ended : Ended) → IsTold bytes e → TellsLine old new e ended → Ends A bytes procs old new ended
 ends_told A bytes procs old new e Printed told line = absurd line
-ends_told A bytes procs old new e (Dump f) told line =
-    ( subst (λ x. IsTold bytes x) (sym line.0) told
-    , subst (λ x. Appends old new (fault_line x)) (sym line.0) line.1
-    )
+ends_told A bytes procs old new e (Dump f) told line = (
+  subst (λ x. IsTold bytes x) (sym line.0) told,
+  subst (λ x. Appends old new (fault_line x)) (sym line.0) line.1,
+)
 ends_told A bytes procs old new e WriteFailed told line =
     (fault_line e, inr (e, told, refl), line)
 

@@ -43,3 +43,10 @@ Ends A bytes procs old new Printed = (text : List ℕ) × IsReplay A bytes procs
 Ends A bytes procs old new (Dump e) = IsTold bytes e × Appends old new (fault_line e)
 Ends A bytes procs old new WriteFailed =
     (text : List ℕ) × (IsReplay A bytes procs text ⊎ ((e : DumpError) × IsTold bytes e × (text ≡ fault_line e))) × ((n : ℕ) × (n ≤ length text) × Appends old new (take n text))
+
+-- the status that the program exits with
+abbrev pub status_of : Ended → ℕ
+status_of Printed = 0
+status_of (Dump OutOfMemory) = 5
+status_of (Dump e) = 3
+status_of WriteFailed = 5

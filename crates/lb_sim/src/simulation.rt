@@ -54,7 +54,7 @@ fn replay<A: Allocator + Copy, R: Read>(
 }
 
 // Writes the line of a fault, or that there is no memory for it.
-fn tell<A: Allocator, W: Write>(alloc: A, writer: &mut W, fault: DumpError) -> Ended
+pub fn tell<A: Allocator, W: Write>(alloc: A, writer: &mut W, fault: DumpError) -> Ended
     ensures { TellsLine (W.contents writer.old) (W.contents writer.new) fault result ⊎ TellsLine (W.contents writer.old) (W.contents writer.new) DumpError.OutOfMemory result }
 {
     let Ok(line) = fault_line(alloc, fault) else {
