@@ -1,5 +1,5 @@
 -- How a replay ends that tells a fault.
-use Rattle.std.proofs.Common.{◌≡◌, ℕ, ◌⊎◌, inl, inr, List, refl, sym, subst, Option, None, Some}
+use Rattle.std.proofs.Common.{ℕ, ◌⊎◌, inl, inr, List, refl, sym, subst, Option, None, Some}
 use Rattle.std.specs.Io.KnownBytes.{Appends}
 use Rattle.lb_dump.specs.declared.error.DumpError.{DumpError}
 use Rattle.lb_dump.specs.declared.error.DumpError.TheVariants.{OutOfMemory}

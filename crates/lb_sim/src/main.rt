@@ -16,6 +16,8 @@ mod fault;
 mod output;
 mod request;
 mod simulation;
+#[cfg(test)]
+mod tests;
 mod text;
 mod words;
 

@@ -1,4 +1,4 @@
-use Rattle.std.proofs.Common.{length, take, drop, arith, sym, subst}
+use Rattle.std.proofs.Common.{sym, subst}
 use Rattle.std.proofs.lemmas.List.{take_rest}
 use Rattle.lb_sim.proofs.Sends.{Sent, sent_more}
 use Rattle.lb_sim.proofs.output.write_out.Goals as goal

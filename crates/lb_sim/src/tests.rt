@@ -1,0 +1,231 @@
+//! The worked dumps, and readers and writers that fail at each place.
+
+use crate::ended::{Ended, status};
+use crate::simulation::simulate;
+use crate::words::asked;
+use lb_dump::DumpError;
+use std::alloc::Global;
+use std::io::{self, ErrorKind, Read, Write};
+use std::test::Fail;
+
+// Three elements on two PEs, at step 5.
+const EXAMPLE: [u8; 52] = *b"LBD1\0\0\0\x05\0\0\0\x02\0\0\0\x03\
+    \0\0\0\x01\0\0\0\x0a\0\0\0\0\
+    \0\0\0\x01\0\0\0\x09\0\0\0\x01\
+    \0\0\0\x02\0\0\0\x08\0\0\0\0";
+
+const TEXT: &str = "step 5 procs 2 elements 3\n\
+    bottleneck 2\n\
+    fence 0 1 2\n\
+    block 0 0..2 load 2\n\
+    block 1 2..3 load 2\n";
+
+// A reader that gives so many bytes a call, and fails once all are read, or ends.
+#[derive(Drop)]
+struct Slow<'a> {
+    rest: &'a [u8],
+    step: usize,
+    fails: bool,
+}
+
+impl Read for Slow<'_> {
+    fn read(&mut self, buf: &mut [u8]) -> io::Result<usize> {
+        if self.rest.is_empty() && self.fails {
+            return Err(io::Error::from(ErrorKind::Interrupted));
+        }
+        let len = self.rest.len().min(buf.len()).min(self.step);
+        let (now, rest) = self.rest.split_at(len);
+        buf[..len].copy_from_slice(now);
+        self.rest = rest;
+        Ok(len)
+    }
+}
+
+// A writer that takes so many bytes a call, and at one call fails or takes nothing.
+#[derive(Drop)]
+struct Narrow {
+    taken: Vec<u8>,
+    step: usize,
+    calls_left: u32,
+    fails: bool,
+}
+
+impl Write for Narrow {
+    fn write(&mut self, buf: &[u8]) -> io::Result<usize> {
+        if self.calls_left == 0 {
+            return if self.fails {
+                Err(io::Error::from(ErrorKind::Interrupted))
+            } else {
+                Ok(0)
+            };
+        }
+        self.calls_left -= 1;
+        let len = buf.len().min(self.step);
+        self.taken.extend_from_slice(&buf[..len])?;
+        Ok(len)
+    }
+
+    fn flush(&mut self) -> io::Result<()> {
+        Ok(())
+    }
+}
+
+// What a replay of these bytes answers, and whether it writes this text.
+fn replays(alloc: Global, bytes: &[u8], text: &str) -> Ended {
+    let mut reader = Slow {
+        rest: bytes,
+        step: 7,
+        fails: false,
+    };
+    let mut written = Vec::new(alloc);
+    let ended = simulate(alloc, &mut reader, &mut written, None);
+    if written.as_slice() == text.as_bytes() {
+        ended
+    } else {
+        Ended::WriteFailed
+    }
+}
+
+#[test]
+fn the_example_and_its_faults(rt: HostRuntime) -> Result<(), Fail> {
+    assert_eq!(rt; replays(rt.alloc(), &EXAMPLE, TEXT), Ended::Printed);
+    assert_eq!(rt;
+        replays(rt.alloc(), &EXAMPLE[..15], "dump: ends at byte 15\n"),
+        Ended::Dump(DumpError::Short(15))
+    );
+    assert_eq!(rt;
+        replays(rt.alloc(), &[], "dump: ends at byte 0\n"),
+        Ended::Dump(DumpError::Short(0))
+    );
+    assert_eq!(rt;
+        replays(rt.alloc(), b"LBD2", "dump: not LBD1\n"),
+        Ended::Dump(DumpError::Magic)
+    );
+    let mut longer = Vec::from_slice(rt.alloc(), &EXAMPLE)?;
+    longer.push(0)?;
+    let trailing = "dump: bytes after the last element\n";
+    assert_eq!(rt;
+        replays(rt.alloc(), &longer, trailing),
+        Ended::Dump(DumpError::Trailing)
+    );
+    Ok(())
+}
+
+#[test]
+fn a_changed_byte_is_told(rt: HostRuntime) -> Result<(), Fail> {
+    let rows: [(usize, u8, &str, DumpError); 4] = [
+        (
+            51,
+            2,
+            "dump: element 2 is on no processor\n",
+            DumpError::Place(2),
+        ),
+        (
+            33,
+            255,
+            "dump: element 1 has more than 1048576 bytes\n",
+            DumpError::Size(1),
+        ),
+        (10, 255, "dump: procs out of 1..256\n", DumpError::Procs),
+        (13, 1, "dump: more than 65536 elements\n", DumpError::Count),
+    ];
+    for (place, byte, line, fault) in rows {
+        let mut changed = EXAMPLE;
+        changed[place] = byte;
+        assert_eq!(rt;
+            replays(rt.alloc(), &changed, line),
+            Ended::Dump(fault),
+            "byte {place}"
+        );
+    }
+    Ok(())
+}
+
+#[test]
+fn each_prefix_is_short(rt: HostRuntime) -> Result<(), Fail> {
+    for len in 0..52u32 {
+        let line = format!(in rt.alloc(); "dump: ends at byte {len}\n")?;
+        let ended = replays(rt.alloc(), &EXAMPLE[..len as usize], &line);
+        assert_eq!(rt; ended, Ended::Dump(DumpError::Short(len)));
+    }
+    Ok(())
+}
+
+#[test]
+fn no_elements_and_one_block(rt: HostRuntime) -> Result<(), Fail> {
+    let empty = b"LBD1\0\0\0\0\0\0\0\x03\0\0\0\0";
+    let text = "step 0 procs 3 elements 0\nbottleneck 0\nfence zero\n\
+        block 0 0..0 load 0\nblock 1 0..0 load 0\nblock 2 0..0 load 0\n";
+    assert_eq!(rt; replays(rt.alloc(), empty, text), Ended::Printed);
+    let mut written = Vec::new(rt.alloc());
+    let mut reader = EXAMPLE.as_slice();
+    let ended = simulate(rt.alloc(), &mut reader, &mut written, Some(1));
+    assert_eq!(rt; ended, Ended::Printed);
+    let text = "step 5 procs 1 elements 3\nbottleneck 4\nfence 0 2\nblock 0 0..3 load 4\n";
+    assert_eq!(rt; written.as_slice(), text.as_bytes());
+    Ok(())
+}
+
+#[test]
+fn a_reader_that_fails_at_each_byte(rt: HostRuntime) -> Result<(), Fail> {
+    for len in 0..=52 {
+        let mut reader = Slow {
+            rest: &EXAMPLE[..len],
+            step: 5,
+            fails: true,
+        };
+        let mut written = Vec::new(rt.alloc());
+        let ended = simulate(rt.alloc(), &mut reader, &mut written, None);
+        assert_eq!(rt; ended, Ended::Dump(DumpError::Read), "after {len} bytes");
+        assert_eq!(rt; written.as_slice(), b"dump: read failed\n".as_slice());
+    }
+    Ok(())
+}
+
+#[test]
+fn a_writer_that_fails_at_each_call(rt: HostRuntime) -> Result<(), Fail> {
+    for (calls, fails) in (0..12).flat_map(|calls| [(calls, false), (calls, true)]) {
+        let mut reader = EXAMPLE.as_slice();
+        let mut writer = Narrow {
+            taken: Vec::new(rt.alloc()),
+            step: 8,
+            calls_left: calls,
+            fails,
+        };
+        let ended = simulate(rt.alloc(), &mut reader, &mut writer, None);
+        assert_eq!(rt; ended, Ended::WriteFailed, "call {calls}");
+        assert!(rt; TEXT.as_bytes().starts_with(&writer.taken), "call {calls}");
+    }
+    let mut reader = EXAMPLE.as_slice();
+    let mut writer = Narrow {
+        taken: Vec::new(rt.alloc()),
+        step: 1,
+        calls_left: 1000,
+        fails: true,
+    };
+    let ended = simulate(rt.alloc(), &mut reader, &mut writer, None);
+    assert_eq!(rt; ended, Ended::Printed, "one byte a call");
+    assert_eq!(rt; writer.taken.as_slice(), TEXT.as_bytes());
+    Ok(())
+}
+
+#[test]
+fn statuses_and_words(rt: HostRuntime) {
+    assert_eq!(rt; status(Ended::Printed), 0);
+    assert_eq!(rt; status(Ended::Dump(DumpError::Magic)), 3);
+    assert_eq!(rt; status(Ended::Dump(DumpError::OutOfMemory)), 5);
+    assert_eq!(rt; status(Ended::WriteFailed), 5);
+    let given = asked(rt.alloc(), &["lb_sim", "--procs", "2", "f"]);
+    assert!(rt; matches!(&given, Ok(asked) if asked.file == "f" && asked.procs == Some(2)));
+    let plain = asked(rt.alloc(), &["lb_sim", "f"]);
+    assert!(rt; matches!(&plain, Ok(asked) if asked.file == "f" && asked.procs.is_none()));
+    assert!(rt; asked(rt.alloc(), &["lb_sim"]).is_err(), "no file");
+    assert!(rt;
+        asked(rt.alloc(), &["lb_sim", "--procs", "0", "f"]).is_err(),
+        "no processors"
+    );
+    assert!(rt;
+        asked(rt.alloc(), &["lb_sim", "--procs", "257", "f"]).is_err(),
+        "too many"
+    );
+}
