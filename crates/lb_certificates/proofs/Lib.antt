@@ -1,5 +1,6 @@
 pub mod Chains
 pub mod LeastDivisions
 pub mod LoadSums
+pub mod MovedBytes
 pub mod NoFlaws
 pub mod TriedDivisions

@@ -1,5 +1,5 @@
 -- Flaws against certificates.
-use Rattle.std.proofs.Common.{◌≡◌, ◌≢◌, ℕ, ◌+◌, ◌<◌, ◌≤◌, List, length, slice_index, arith, subst, sym}
+use Rattle.std.proofs.Common.{◌≡◌, ◌≢◌, ℕ, ◌+◌, ◌<◌, ◌≤◌, ◌⊎◌, inl, inr, List, length, slice_index, arith, subst, sym}
 use Rattle.std.specs.List.Sorted.{IsNonDecreasing}
 use Rattle.lb_certificates.specs.declared.division.Division.{Division}
 use Rattle.lb_certificates.specs.declared.division.Floor.{Floor}
@@ -8,7 +8,7 @@ use Rattle.lb_certificates.specs.declared.flaw.Flaw.{Flaw}
 use Rattle.lb_certificates.specs.declared.flaw.Flaw.TheVariants.{CutCount, CutStart, CutOrder, CutEnd, Heavy, FenceCount, FenceStart, FenceOrder, FenceEnd, FenceLight, ZeroFloor}
 use Rattle.lb_certificates.specs.Chain.{IsDivision}
 use Rattle.lb_certificates.specs.Certificate.{MatchFloor, IsCertified, NoneAbove, IsFirstLight, range_load}
-use Rattle.lb_certificates.specs.Flaws.{Falls, HasFlaw, IsFirst, number_of, place_of}
+use Rattle.lb_certificates.specs.Flaws.{Falls, HasFlaw, IsBefore, IsFirst, number_of, place_of}
 
 -- two facts about a floor that exclude each other at either kind
 floors_apart : {A : Type 0} (floor : Floor A) (zero₁ zero₂ : Type 0) (fence₁ fence₂ : List ℕ → Type 0) → (zero₁ → zero₂ → ⊥) → ((s : List ℕ) → fence₁ s → fence₂ s → ⊥) → MatchFloor floor zero₁ fence₁ → MatchFloor floor zero₂ fence₂ → ⊥
@@ -34,6 +34,7 @@ flawless xs p d h (FenceLight i) flawed =
     floors_apart d.floor _ _ _ _ (λ _ no. no) (λ s fence light. absurd (omega (arith, light.2, fence.heavy i light.0 light.1))) h.floor_holds flawed
 flawless xs p d h ZeroFloor flawed =
     floors_apart d.floor _ _ _ _ (λ is_zero no. no is_zero) (λ s fence no. no) h.floor_holds flawed
+flawless xs p d h _ flawed = flawed
 
 -- what holds of any floor whose kind is a fence, and the other way round
 to_fence : {A : Type 0} (floor : Floor A) (s : List ℕ) (at_zero : Type 0) (at_fence : List ℕ → Type 0) → floor ≡ Fence s → MatchFloor floor at_zero at_fence → at_fence s
@@ -64,11 +65,11 @@ light_is_first {A} xs p d s i division within e counted starts ordered ends firs
         absurd (omega (arith, falls, ordered k (k + 1) 0 (omega arith) inside))
     lower FenceEnd h flawed =
         absurd (omega (arith, ends, to_fence d.floor s ⊥ (λ s. length xs ≤ slice_index s p) e flawed))
-    lower (FenceLight j) h flawed = absurd (omega arith)
-    lower ZeroFloor h flawed = absurd (omega arith)
+    lower _ h flawed = absurd (omega arith)
 
-    earlier : (other : Flaw) → number_of other ≡ 10 → place_of other < i → ¬ (HasFlaw xs p d other)
-    earlier (FenceLight j) same lower flawed =
+    earlier : (other : Flaw) → number_of other ≡ 10 → IsBefore (place_of other) (i, 0) → ¬ (HasFlaw xs p d other)
+    earlier (FenceLight j) same (inr tied) flawed = absurd (omega (arith, tied.1))
+    earlier (FenceLight j) same (inl lower) flawed =
         let light : (0 < j) × (j ≤ p) × (range_load xs s j < d.bottleneck) = to_fence d.floor s ⊥ (λ s. (0 < j) × (j ≤ p) × (range_load xs s j < d.bottleneck)) e flawed in
         absurd (omega (arith, light.2, first.earlier j light.0 (omega arith)))
     earlier _ same lower flawed = absurd (omega arith)

@@ -1,8 +1,10 @@
--- What can be wrong with a division, and which flaw of many is told.
-use Rattle.std.specs.Prelude.{◌≡◌, ◌≢◌, ℕ, ◌+◌, ◌<◌, ◌≤◌, List, length, slice_index}
+-- What can be wrong with a division or a naming, and which flaw of many is told.
+use Rattle.std.specs.Prelude.{◌≡◌, ◌≢◌, ◌⊎◌, ℕ, ◌+◌, ◌<◌, ◌≤◌, List, length, slice_index, ℤ, pos, ◌+ℤ◌, ◌<ℤ◌}
+use Rattle.chare_index.specs.declared.limits.TheConstants.Limits.{PES}
+use Rattle.lb_certificates.specs.Naming.{blocks_between, block_cost, bytes_moved, price_at, price_sum}
 use Rattle.lb_certificates.specs.declared.division.Division.{Division}
 use Rattle.lb_certificates.specs.declared.flaw.Flaw.{Flaw}
-use Rattle.lb_certificates.specs.declared.flaw.Flaw.TheVariants.{CutCount, CutStart, CutOrder, CutEnd, Heavy, FenceCount, FenceStart, FenceOrder, FenceEnd, FenceLight, ZeroFloor}
+use Rattle.lb_certificates.specs.declared.flaw.Flaw.TheVariants.{CutCount, CutStart, CutOrder, CutEnd, Heavy, FenceCount, FenceStart, FenceOrder, FenceEnd, FenceLight, ZeroFloor, NameCount, NameRange, NameTwice, PriceCount, PriceHigh, PriceGap}
 use Rattle.lb_certificates.specs.Chain.{block_load}
 use Rattle.lb_certificates.specs.Certificate.{MatchFloor, range_load}
 
@@ -10,7 +12,7 @@ use Rattle.lb_certificates.specs.Certificate.{MatchFloor, range_load}
 abbrev pub Falls : List ℕ → Type 0
 Falls numbers = (i : ℕ) × (i + 1 < length numbers) × (slice_index numbers (i + 1) < slice_index numbers i)
 
--- a flaw that applies, whatever else is wrong
+-- a flaw of a division that applies, whatever else is wrong
 abbrev pub HasFlaw : {A : Type 0} → List ℕ → ℕ → Division A → Flaw → Type 0
 HasFlaw loads blocks d CutCount = length d.cuts ≢ blocks + 1
 HasFlaw loads blocks d CutStart = slice_index d.cuts 0 ≢ 0
@@ -23,6 +25,32 @@ HasFlaw loads blocks d FenceOrder = MatchFloor d.floor ⊥ Falls
 HasFlaw loads blocks d FenceEnd = MatchFloor d.floor ⊥ (λ s. length loads ≤ slice_index s blocks)
 HasFlaw loads blocks d (FenceLight i) = MatchFloor d.floor ⊥ (λ s. (0 < i) × (i ≤ blocks) × (range_load loads s i < d.bottleneck))
 HasFlaw loads blocks d ZeroFloor = MatchFloor d.floor (d.bottleneck ≢ 0) (λ _. ⊥)
+HasFlaw loads blocks d _ = ⊥
+
+-- no two numbers are equal
+abbrev pub AreApart : List ℕ → Type 0
+AreApart numbers =
+    (i j : ℕ) → i < j → j < length numbers → slice_index numbers i ≢ slice_index numbers j
+
+-- two numbers are equal
+abbrev pub Repeats : List ℕ → Type 0
+Repeats numbers =
+    (i : ℕ) × (j : ℕ) × (i < j) × (j < length numbers) × (slice_index numbers i ≡ slice_index numbers j)
+
+-- a flaw of a naming of the blocks between these cuts, and of its prices, that applies, whatever else is wrong
+abbrev pub HasNamingFlaw : List (ℕ × ℕ) → List ℕ → List ℕ → List ℤ → List ℤ → Flaw → Type 0
+HasNamingFlaw sizes cuts names u v CutCount = (length cuts < 2) ⊎ (PES + 1 < length cuts)
+HasNamingFlaw sizes cuts names u v CutStart = slice_index cuts 0 ≢ 0
+HasNamingFlaw sizes cuts names u v CutOrder = Falls cuts
+HasNamingFlaw sizes cuts names u v CutEnd = slice_index cuts (blocks_between cuts) ≢ length sizes
+HasNamingFlaw sizes cuts names u v NameCount = length names ≢ blocks_between cuts
+HasNamingFlaw sizes cuts names u v NameRange = (b : ℕ) × (b < length names) × (blocks_between cuts ≤ slice_index names b)
+HasNamingFlaw sizes cuts names u v NameTwice = Repeats names
+HasNamingFlaw sizes cuts names u v PriceCount = (length u ≢ blocks_between cuts) ⊎ (length v ≢ blocks_between cuts)
+HasNamingFlaw sizes cuts names u v (PriceHigh b p) =
+    (b < blocks_between cuts) × (p < blocks_between cuts) × (pos (block_cost sizes cuts b p) <ℤ (price_at u b +ℤ price_at v p))
+HasNamingFlaw sizes cuts names u v PriceGap = price_sum u +ℤ price_sum v ≢ pos (bytes_moved sizes cuts names)
+HasNamingFlaw sizes cuts names u v _ = ⊥
 
 -- the flaw's number in the order in which flaws are told
 abbrev pub number_of : Flaw → ℕ
@@ -37,15 +65,26 @@ number_of FenceOrder = 8
 number_of FenceEnd = 9
 number_of (FenceLight i) = 10
 number_of ZeroFloor = 11
+number_of NameCount = 12
+number_of NameRange = 13
+number_of NameTwice = 14
+number_of PriceCount = 15
+number_of (PriceHigh b p) = 16
+number_of PriceGap = 17
 
--- the block or the stop that the flaw names
-abbrev pub place_of : Flaw → ℕ
-place_of (Heavy b) = b
-place_of (FenceLight i) = i
-place_of _ = 0
+-- the block, the stop, or the block and the PE that the flaw names
+abbrev pub place_of : Flaw → ℕ × ℕ
+place_of (Heavy b) = (b, 0)
+place_of (FenceLight i) = (i, 0)
+place_of (PriceHigh b p) = (b, p)
+place_of _ = (0, 0)
+
+-- a place comes before another: by its first number, and where these are the same by its second
+abbrev pub IsBefore : ℕ × ℕ → ℕ × ℕ → Type 0
+IsBefore one other = (one.0 < other.0) ⊎ ((one.0 ≡ other.0) × (one.1 < other.1))
 
 -- of the flaws that apply, the one with the least number, and at that number with the least place
 pub record IsFirst (applies : Flaw → Type 0) (flaw : Flaw) : Type 0 where
   pub applies_itself : applies flaw
   pub no_lower_number : (other : Flaw) → number_of other < number_of flaw → ¬ (applies other)
-  pub no_lower_place : (other : Flaw) → number_of other ≡ number_of flaw → place_of other < place_of flaw → ¬ (applies other)
+  pub no_lower_place : (other : Flaw) → number_of other ≡ number_of flaw → IsBefore (place_of other) (place_of flaw) → ¬ (applies other)

@@ -3,12 +3,17 @@
 -- Prentice Hall 1993, chapter 12; or any textbook of linear programming, under assignment and duality.
 use Rattle.std.specs.Prelude.{◌≡◌, ◌≢◌, ℕ, zero, suc, ◌+◌, ◌-◌, ◌<◌, ◌≤◌, ◌==◌, nat_lt, if◌then◌else◌, List, length, slice_index, slice_index_or, slice_range, sum_by, fold, ℤ, pos, ◌+ℤ◌, ◌≤ℤ◌}
 use Rattle.std.specs.List.{position_or_len}
+use Rattle.chare_index.specs.declared.limits.TheConstants.Limits.{PES}
 use Rattle.lb_certificates.specs.Chain.{IsDivision}
 
 -- the sum of f over the numbers below n
 abbrev pub total : ℕ → (ℕ → ℕ) → ℕ
 total zero f = 0
 total (suc n) f = total n f + f n
+
+-- how many blocks there are between these cuts
+abbrev pub blocks_between : List ℕ → ℕ
+blocks_between cuts = length cuts - 1
 
 -- the block that contains element i: the one before the first cut above i
 abbrev pub block_of : List ℕ → ℕ → ℕ
@@ -62,7 +67,9 @@ abbrev pub naming_cost : ℕ → (ℕ → ℕ → ℕ) → List ℕ → ℕ
 naming_cost blocks cost names = total blocks (λ b. cost b (slice_index names b))
 
 -- the cuts divide all elements into 1 to 256 blocks, the names are a naming of them, and the prices prove it
-pub record IsNamed (sizes : List (ℕ × ℕ)) (cuts : List ℕ) (blocks : ℕ) (names : List ℕ) (u v : List ℤ) : Type 0 where
-  pub divides : IsDivision 0 (length sizes) blocks cuts
-  pub naming : IsNaming blocks names
-  pub proved : Proves blocks (block_cost sizes cuts) (bytes_moved sizes cuts names) u v
+pub record IsNamed (sizes : List (ℕ × ℕ)) (cuts : List ℕ) (names : List ℕ) (u v : List ℤ) : Type 0 where
+  pub some_block : 0 < blocks_between cuts
+  pub few_blocks : blocks_between cuts ≤ PES
+  pub divides : IsDivision 0 (length sizes) (blocks_between cuts) cuts
+  pub naming : IsNaming (blocks_between cuts) names
+  pub proved : Proves (blocks_between cuts) (block_cost sizes cuts) (bytes_moved sizes cuts names) u v

@@ -1,5 +1,5 @@
-/// What is wrong with a division, in the order in which it is told: of several flaws the first one, at its
-/// first block or stop.
+/// What is wrong with a division or a naming, in the order in which it is told: of several flaws the first one,
+/// at its first block, stop, or block and PE.
 #[derive(Clone, Copy, Debug, PartialEq, Eq)]
 pub enum Flaw {
     /// There is not one cut more than blocks.
@@ -25,4 +25,16 @@ pub enum Flaw {
     FenceLight(u32),
     /// The floor is [`Zero`](crate::Floor::Zero) and the bottleneck is not 0.
     ZeroFloor,
+    /// There are not as many names as blocks.
+    NameCount,
+    /// A name is not below the number of blocks.
+    NameRange,
+    /// Two names are equal.
+    NameTwice,
+    /// There are not as many prices of blocks, or of PEs, as blocks.
+    PriceCount,
+    /// The prices of this block and this PE add up to more than the bytes of the block that stand elsewhere.
+    PriceHigh(u32, u32),
+    /// All prices do not add up to the bytes moved.
+    PriceGap,
 }

@@ -8,11 +8,14 @@
 //! - [`reference`]: plain programs that try every answer, to compare faster ones with.
 #![tactic(auto)]
 
-mod check;
 mod cuts;
 mod division;
+mod division_check;
 mod flaw;
 mod loads;
+mod naming;
+mod naming_check;
+mod prices;
 pub mod reference;
 mod sizes;
 mod snapshot;
@@ -20,11 +23,13 @@ mod stops;
 #[cfg(test)]
 mod tests;
 
-pub use check::check_division;
 pub use cuts::Cuts;
 pub use division::{Division, Floor};
+pub use division_check::check_division;
 pub use flaw::Flaw;
 pub use loads::{Loads, Units};
+pub use naming::Naming;
+pub use prices::{PriceList, Prices};
 pub use sizes::Sizes;
 pub use snapshot::Snapshot;
 pub use stops::Stops;

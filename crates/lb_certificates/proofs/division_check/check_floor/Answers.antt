@@ -2,7 +2,7 @@ use Rattle.std.proofs.Common.{◌≡◌, ◌+◌, ◌<◌, length, slice_index, 
 use Rattle.std.specs.List.Sorted.{IsNonDecreasing}
 use Rattle.lb_certificates.specs.declared.division.Floor.TheVariants.{Fence}
 use Rattle.lb_certificates.proofs.NoFlaws.{light_is_first}
-use Rattle.lb_certificates.proofs.check.check_floor.Goals as goal
+use Rattle.lb_certificates.proofs.division_check.check_floor.Goals as goal
 
 pub returns-in-Some-clause-first_flaw : goal.returns-in-Some-clause-first_flaw
 returns-in-Some-clause-first_flaw g c =

@@ -36,7 +36,7 @@ pub fn check_division<A: Allocator, B: Allocator>(
 }
 
 // Whether no number is greater than the next.
-fn rises(numbers: &[u32]) -> bool
+pub(crate) fn rises(numbers: &[u32]) -> bool
     ensures { MatchBool result (IsNonDecreasing numbers.now) (Falls numbers.now) }
 {
     numbers.is_sorted()

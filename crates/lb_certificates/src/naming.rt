@@ -1,0 +1,42 @@
+ghost use Rattle.std.specs.Prelude.{◌≡◌, ℕ, List};
+
+use std::alloc::{Allocator, Global};
+use std::marker::Model;
+
+/// On which PE each block runs: the PE's number for each block, in order. It is a plain list, under no
+/// condition, and contracts see it as that list; a naming of `p` blocks has `p` distinct names below `p`.
+#[derive(Drop)]
+#[derive_where(Debug)]
+pub struct Naming<A: Allocator = Global> {
+    names: Vec<u32, A>,
+}
+
+impl<A: Allocator> Model for Naming<A> {
+    ghost Value = { List ℕ };
+
+    ghost view = { λ n. n.names.items };
+}
+
+impl<A: Allocator> Naming<A> {
+    /// These names.
+    pub fn new(names: Vec<u32, A>) -> Self
+        ensures { result ≡ names.items }
+    {
+        Naming { names }
+    }
+
+    /// The names, in order of block.
+    pub fn as_slice(&self) -> &[u32]
+        ensures { result.now ≡ self.now }
+    {
+        self.names.as_slice()
+    }
+
+    /// Gives the list back.
+    pub fn into_vec(self) -> Vec<u32, A>
+        ensures { result.items ≡ self }
+    {
+        let Naming { names } = self;
+        names
+    }
+}

@@ -1,0 +1,54 @@
+ghost use Rattle.std.specs.Prelude.{◌≡◌, List, ℤ};
+
+use std::alloc::{Allocator, Global};
+use std::marker::Model;
+
+/// Prices, one for each block or for each PE, in bytes; they may be below 0. It is a plain list, under no
+/// condition, and contracts see it as that list.
+#[derive(Drop)]
+#[derive_where(Debug)]
+pub struct PriceList<A: Allocator = Global> {
+    prices: Vec<i64, A>,
+}
+
+impl<A: Allocator> Model for PriceList<A> {
+    ghost Value = { List ℤ };
+
+    ghost view = { λ l. l.prices.items };
+}
+
+impl<A: Allocator> PriceList<A> {
+    /// These prices.
+    pub fn new(prices: Vec<i64, A>) -> Self
+        ensures { result ≡ prices.items }
+    {
+        PriceList { prices }
+    }
+
+    /// The prices, in order.
+    pub fn as_slice(&self) -> &[i64]
+        ensures { result.now ≡ self.now }
+    {
+        self.prices.as_slice()
+    }
+
+    /// Gives the list back.
+    pub fn into_vec(self) -> Vec<i64, A>
+        ensures { result.items ≡ self }
+    {
+        let PriceList { prices } = self;
+        prices
+    }
+}
+
+/// The certificate of a cheapest naming, the dual of the assignment problem: a price for each block and each PE,
+/// such that those of a block and a PE never add up to more than the bytes of the block that stand elsewhere,
+/// and all of them add up to the bytes moved. It is plain data, under no condition.
+#[derive(Drop)]
+#[derive_where(Debug)]
+pub struct Prices<A: Allocator = Global> {
+    /// The prices of the blocks.
+    pub u: PriceList<A>,
+    /// The prices of the PEs.
+    pub v: PriceList<A>,
+}
