@@ -1,6 +1,9 @@
+pub mod BlockSums
 pub mod Chains
+pub mod Duality
 pub mod LeastDivisions
 pub mod LoadSums
 pub mod MovedBytes
 pub mod NoFlaws
+pub mod Totals
 pub mod TriedDivisions
