@@ -48,8 +48,8 @@ cheapest_from_named sizes cuts names u v h =
     record {
       naming = h.naming;
       cheapest = λ others naming. omega (
-          arith,
-          price_below (blocks_between cuts) (block_cost sizes cuts) (bytes_moved sizes cuts names) u v others h.proved naming,
-          moved_is_cost sizes cuts others (blocks_between cuts) h.divides
-      )
+        arith,
+        price_below (blocks_between cuts) (block_cost sizes cuts) (bytes_moved sizes cuts names) u v others h.proved naming,
+        moved_is_cost sizes cuts others (blocks_between cuts) h.blocks.divides,
+      );
     }

@@ -5,5 +5,6 @@ pub mod LeastDivisions
 pub mod LoadSums
 pub mod MovedBytes
 pub mod NoFlaws
+pub mod NoNamingFlaws
 pub mod Totals
 pub mod TriedDivisions

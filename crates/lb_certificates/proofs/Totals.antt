@@ -80,14 +80,14 @@ pick : (n q : ℕ) (f : ℕ → ℕ) → q < n → total n (λ p. f p * at p q) 
 pick zero q f inside = absurd (omega arith)
 pick (suc n) q f inside =
     elim (cases_eq q n) [
-      inl same ↦
-        let before : total n (λ p. f p * at p q) ≡ 0 = total_zeros n f (λ p. at p q) (λ p low. at_apart p q (omega arith)) in
-        let here : f n * at n q ≡ f q = ap (λ x. f n * at n x) same ∙ ap (λ x. f n * x) (at_same n) ∙ mul-one (f n) ∙ ap f (sym same) in
-        omega (arith, before, here)
+      | inl same ↦
+          let before : total n (λ p. f p * at p q) ≡ 0 = total_zeros n f (λ p. at p q) (λ p low. at_apart p q (omega arith)) in
+          let here : f n * at n q ≡ f q = ap (λ x. f n * at n x) same ∙ ap (λ x. f n * x) (at_same n) ∙ mul-one (f n) ∙ ap f (sym same) in
+          omega (arith, before, here)
       | inr apart ↦
-        let before : total n (λ p. f p * at p q) ≡ f q = pick n q f (omega arith) in
-        let here : f n * at n q ≡ 0 = ap (λ x. f n * x) (at_apart n q (λ e. apart (sym e))) ∙ mul-zero (f n) in
-        omega (arith, before, here)
+          let before : total n (λ p. f p * at p q) ≡ f q = pick n q f (omega arith) in
+          let here : f n * at n q ≡ 0 = ap (λ x. f n * x) (at_apart n q (λ e. apart (sym e))) ∙ mul-zero (f n) in
+          omega (arith, before, here)
     ]
 
 -- a sum over values is one over how often each number is a value
@@ -105,12 +105,12 @@ count_once : (k p : ℕ) (names : ℕ → ℕ) → ((a b : ℕ) → a < b → b 
 count_once zero p names apart = omega arith
 count_once (suc k) p names apart =
     elim (cases_eq p (names k)) [
-      inl same ↦
-        let before : total k (λ b. at p (names b)) ≡ 0 = total_same k (λ b. at p (names b)) (λ _. 0) (λ b inside. at_apart p (names b) (λ e. apart b k inside (omega arith) (sym e ∙ same))) ∙ total_none k in
-        omega (arith, before, at_small p (names k))
+      | inl same ↦
+          let before : total k (λ b. at p (names b)) ≡ 0 = total_same k (λ b. at p (names b)) (λ _. 0) (λ b inside. at_apart p (names b) (λ e. apart b k inside (omega arith) (sym e ∙ same))) ∙ total_none k in
+          omega (arith, before, at_small p (names k))
       | inr other ↦
-        let before : total k (λ b. at p (names b)) ≤ 1 = count_once k p names (λ a b low high. apart a b low (omega arith)) in
-        omega (arith, before, at_apart p (names k) other)
+          let before : total k (λ b. at p (names b)) ≤ 1 = count_once k p names (λ a b low high. apart a b low (omega arith)) in
+          omega (arith, before, at_apart p (names k) other)
     ]
 
 -- numbers of at most 1 that add up to their count are all 1
@@ -120,7 +120,7 @@ all_ones (suc n) c small sum p inside =
     let before : total n c ≤ total n (λ _. 1) = total_le n c (λ _. 1) (λ q low. small q (omega arith)) in
     let here : c n ≤ 1 = small n (omega arith) in
     elim (cases_eq p n) [
-      inl last ↦ ap c last ∙ omega (arith, before, total_ones n, here, sum)
+      | inl last ↦ ap c last ∙ omega (arith, before, total_ones n, here, sum)
       | inr earlier ↦ all_ones n c (λ q low. small q (omega arith)) (omega (arith, before, total_ones n, here, sum)) p (omega arith)
     ]
 

@@ -1,5 +1,5 @@
 -- What can be wrong with a division or a naming, and which flaw of many is told.
-use Rattle.std.specs.Prelude.{◌≡◌, ◌≢◌, ◌⊎◌, ℕ, ◌+◌, ◌<◌, ◌≤◌, List, length, slice_index, ℤ, pos, ◌+ℤ◌, ◌<ℤ◌}
+use Rattle.std.specs.Prelude.{◌≡◌, ◌≢◌, ◌⊎◌, ℕ, ◌+◌, ◌<◌, ◌≤◌, List, length, slice_index, ℤ, pos, ◌+ℤ◌, ◌<ℤ◌, ◌≤ℤ◌}
 use Rattle.chare_index.specs.declared.limits.TheConstants.Limits.{PES}
 use Rattle.lb_certificates.specs.Naming.{blocks_between, block_cost, bytes_moved, price_at, price_sum}
 use Rattle.lb_certificates.specs.declared.division.Division.{Division}
@@ -37,6 +37,13 @@ abbrev pub Repeats : List ℕ → Type 0
 Repeats numbers =
     (i : ℕ) × (j : ℕ) × (i < j) × (j < length numbers) × (slice_index numbers i ≡ slice_index numbers j)
 
+-- the prices of block b and PE p are at most the bytes of the block that stand elsewhere, or more than these
+abbrev pub IsLow : List (ℕ × ℕ) → List ℕ → List ℤ → List ℤ → ℕ → ℕ → Type 0
+IsLow sizes cuts u v b p = (price_at u b +ℤ price_at v p) ≤ℤ pos (block_cost sizes cuts b p)
+
+abbrev pub IsHigh : List (ℕ × ℕ) → List ℕ → List ℤ → List ℤ → ℕ → ℕ → Type 0
+IsHigh sizes cuts u v b p = pos (block_cost sizes cuts b p) <ℤ (price_at u b +ℤ price_at v p)
+
 -- a flaw of a naming of the blocks between these cuts, and of its prices, that applies, whatever else is wrong
 abbrev pub HasNamingFlaw : List (ℕ × ℕ) → List ℕ → List ℕ → List ℤ → List ℤ → Flaw → Type 0
 HasNamingFlaw sizes cuts names u v CutCount = (length cuts < 2) ⊎ (PES + 1 < length cuts)
@@ -48,7 +55,7 @@ HasNamingFlaw sizes cuts names u v NameRange = (b : ℕ) × (b < length names) �
 HasNamingFlaw sizes cuts names u v NameTwice = Repeats names
 HasNamingFlaw sizes cuts names u v PriceCount = (length u ≢ blocks_between cuts) ⊎ (length v ≢ blocks_between cuts)
 HasNamingFlaw sizes cuts names u v (PriceHigh b p) =
-    (b < blocks_between cuts) × (p < blocks_between cuts) × (pos (block_cost sizes cuts b p) <ℤ (price_at u b +ℤ price_at v p))
+    (b < blocks_between cuts) × (p < blocks_between cuts) × IsHigh sizes cuts u v b p
 HasNamingFlaw sizes cuts names u v PriceGap = price_sum u +ℤ price_sum v ≢ pos (bytes_moved sizes cuts names)
 HasNamingFlaw sizes cuts names u v _ = ⊥
 
@@ -82,6 +89,13 @@ place_of _ = (0, 0)
 -- a place comes before another: by its first number, and where these are the same by its second
 abbrev pub IsBefore : ℕ × ℕ → ℕ × ℕ → Type 0
 IsBefore one other = (one.0 < other.0) ⊎ ((one.0 ≡ other.0) × (one.1 < other.1))
+
+-- the first pair of a block and a PE, by block and then PE, whose prices are high
+pub record IsFirstHigh (sizes : List (ℕ × ℕ)) (cuts : List ℕ) (u v : List ℤ) (blocks : ℕ) (pair : ℕ × ℕ) : Type 0 where
+  pub block : pair.0 < blocks
+  pub pe : pair.1 < blocks
+  pub high : IsHigh sizes cuts u v pair.0 pair.1
+  pub earlier : (b p : ℕ) → p < blocks → IsBefore (b, p) pair → IsLow sizes cuts u v b p
 
 -- of the flaws that apply, the one with the least number, and at that number with the least place
 pub record IsFirst (applies : Flaw → Type 0) (flaw : Flaw) : Type 0 where

@@ -66,10 +66,14 @@ pub record Proves (blocks : ℕ) (cost : ℕ → ℕ → ℕ) (moved : ℕ) (u v
 abbrev pub naming_cost : ℕ → (ℕ → ℕ → ℕ) → List ℕ → ℕ
 naming_cost blocks cost names = total blocks (λ b. cost b (slice_index names b))
 
--- the cuts divide all elements into 1 to 256 blocks, the names are a naming of them, and the prices prove it
-pub record IsNamed (sizes : List (ℕ × ℕ)) (cuts : List ℕ) (names : List ℕ) (u v : List ℤ) : Type 0 where
+-- the cuts divide all elements into 1 to 256 blocks
+pub record AreBlocks (sizes : List (ℕ × ℕ)) (cuts : List ℕ) : Type 0 where
   pub some_block : 0 < blocks_between cuts
   pub few_blocks : blocks_between cuts ≤ PES
   pub divides : IsDivision 0 (length sizes) (blocks_between cuts) cuts
+
+-- the names are a naming of these blocks, and the prices prove it
+pub record IsNamed (sizes : List (ℕ × ℕ)) (cuts : List ℕ) (names : List ℕ) (u v : List ℤ) : Type 0 where
+  pub blocks : AreBlocks sizes cuts
   pub naming : IsNaming (blocks_between cuts) names
   pub proved : Proves (blocks_between cuts) (block_cost sizes cuts) (bytes_moved sizes cuts names) u v

@@ -29,6 +29,7 @@ pub use division_check::check_division;
 pub use flaw::Flaw;
 pub use loads::{Loads, Units};
 pub use naming::Naming;
+pub use naming_check::check_naming;
 pub use prices::{PriceList, Prices};
 pub use sizes::Sizes;
 pub use snapshot::Snapshot;

@@ -1,8 +1,8 @@
-ghost use Rattle.std.specs.Prelude.{◌≡◌, ◌+◌, ◌-◌, ◌*◌, ◌<◌, ◌≤◌, ◌↔◌, All, length, slice_index, sum_by, IsTrue, IsOk, IfOk, OnOk, IfErr, MatchBool, MatchOption, pos};
+ghost use Rattle.std.specs.Prelude.{◌≡◌, ℕ, ◌+◌, ◌-◌, ◌*◌, ◌<◌, ◌≤◌, ◌↔◌, All, length, slice_index, sum_by, IsTrue, IsOk, IfOk, OnOk, IfErr, MatchBool, MatchOption, pos, neg_ℤ, ◌≤ℤ◌, ◌^◌};
 ghost use Rattle.lb_certificates.specs.Chain.{IsDivision};
-ghost use Rattle.lb_certificates.specs.Flaws.{AreApart, Repeats, HasNamingFlaw, IsFirst};
+ghost use Rattle.lb_certificates.specs.Flaws.{AreApart, Repeats, HasNamingFlaw, IsFirst, IsFirstHigh, IsHigh, IsLow};
 ghost use Rattle.lb_certificates.specs.Measured.{IsSizes};
-ghost use Rattle.lb_certificates.specs.Naming.{blocks_between, block_cost, bytes_moved, moved_bytes, price_at, price_sum, IsCheapest, IsNamed, IsNaming, Proves};
+ghost use Rattle.lb_certificates.specs.Naming.{blocks_between, block_cost, bytes_moved, moved_bytes, price_at, price_sum, AreBlocks, IsCheapest, IsNamed, IsNaming, Proves};
 
 use crate::cuts::Cuts;
 use crate::division_check::rises;
@@ -12,6 +12,192 @@ use crate::prices::Prices;
 use crate::sizes::Sizes;
 use chare_index::{Limits, Pe};
 use std::alloc::Allocator;
+
+// What is claimed: these names of the blocks between these cuts, with prices of blocks and of PEs.
+#[derive(Clone, Copy)]
+struct Claim<'a> {
+    sizes: &'a [(u32, Pe)],
+    cuts: &'a [u32],
+    names: &'a [u32],
+    u: &'a [i64],
+    v: &'a [i64],
+}
+
+/// Checks a naming of the blocks between these cuts, whoever made it, by its prices, and answers the bytes
+/// moved. `Ok` means that no other naming of these blocks moves fewer bytes. There are one cut less blocks than
+/// cuts. An element whose present PE is none of the names counts as moved under every name.
+///
+/// Any lists may come. No memory is taken, so the time is that of the number of elements times that of the
+/// blocks. Prices are added up in 128 bits.
+///
+/// # Errors
+///
+/// The first [`Flaw`] of their order that applies: of the cuts (here [`CutCount`](Flaw::CutCount) is fewer than 2
+/// or more than 257 cuts), then of the names, then of the prices.
+///
+/// That the prices prove the naming cheapest is the duality of the assignment problem: R. K. Ahuja,
+/// T. L. Magnanti and J. B. Orlin, "Network Flows", 1993, chapter 12.
+#[tactic(auto, using(crate::proofs::BlockSums::cheapest_from_named, crate::proofs::NoNamingFlaws::named_flawless))]
+pub fn check_naming<A: Allocator, B: Allocator>(
+    sizes: &Sizes<A>,
+    cuts: &Cuts<B>,
+    naming: &Naming<B>,
+    prices: &Prices<B>,
+) -> Result<u64, Flaw>
+    ensures exact { IsOk result ↔ IsNamed sizes.now cuts.now naming.now prices.now.u prices.now.v }
+    ensures moved { IfOk result (λ moved. moved ≡ bytes_moved sizes.now cuts.now naming.now) }
+    ensures cheapest { OnOk result (IsCheapest sizes.now cuts.now (blocks_between cuts.now) naming.now) }
+    ensures first_flaw { IfErr result (IsFirst (HasNamingFlaw sizes.now cuts.now naming.now prices.now.u prices.now.v)) }
+{
+    let claim = Claim {
+        sizes: sizes.as_slice(),
+        cuts: cuts.as_slice(),
+        names: naming.as_slice(),
+        u: prices.u.as_slice(),
+        v: prices.v.as_slice(),
+    };
+    check_cuts(claim)?;
+    check_names(claim)?;
+    check_prices(claim)
+}
+
+// The flaws of the list of cuts itself.
+fn check_cuts(claim: Claim<'_>) -> Result<(), Flaw>
+    ensures blocks { OnOk result (AreBlocks claim.entry.sizes.now claim.entry.cuts.now) }
+    ensures first_flaw { IfErr result (IsFirst (HasNamingFlaw claim.entry.sizes.now claim.entry.cuts.now claim.entry.names.now claim.entry.u.now claim.entry.v.now)) }
+{
+    let cuts = claim.cuts;
+    if cuts.len() < 2 || cuts.len() > Limits::PES as usize + 1 {
+        return Err(Flaw::CutCount);
+    }
+    if cuts[0] != 0 {
+        return Err(Flaw::CutStart);
+    }
+    if !rises(cuts) {
+        return Err(Flaw::CutOrder);
+    }
+    if cuts[cuts.len() - 1] as usize != claim.sizes.len() {
+        return Err(Flaw::CutEnd);
+    }
+    Ok(())
+}
+
+// The flaws of the list of names.
+fn check_names(claim: Claim<'_>) -> Result<(), Flaw>
+    requires { AreBlocks claim.sizes.now claim.cuts.now }
+    ensures naming { OnOk result (IsNaming (blocks_between claim.entry.cuts.now) claim.entry.names.now) }
+    ensures first_flaw { IfErr result (IsFirst (HasNamingFlaw claim.entry.sizes.now claim.entry.cuts.now claim.entry.names.now claim.entry.u.now claim.entry.v.now)) }
+{
+    let blocks = claim.cuts.len() as u32 - 1;
+    if claim.names.len() != blocks as usize {
+        return Err(Flaw::NameCount);
+    }
+    if !all_below(claim.names, blocks) {
+        return Err(Flaw::NameRange);
+    }
+    if !all_apart(claim.names) {
+        return Err(Flaw::NameTwice);
+    }
+    Ok(())
+}
+
+// The flaws of the prices; where there is none, the bytes moved.
+fn check_prices(claim: Claim<'_>) -> Result<u64, Flaw>
+    requires sizes { IsSizes claim.sizes.now }
+    requires blocks { AreBlocks claim.sizes.now claim.cuts.now }
+    requires naming { IsNaming (blocks_between claim.cuts.now) claim.names.now }
+    ensures moved { IfOk result (λ moved. moved ≡ bytes_moved claim.entry.sizes.now claim.entry.cuts.now claim.entry.names.now) }
+    ensures proved { OnOk result (Proves (blocks_between claim.entry.cuts.now) (block_cost claim.entry.sizes.now claim.entry.cuts.now) (bytes_moved claim.entry.sizes.now claim.entry.cuts.now claim.entry.names.now) claim.entry.u.now claim.entry.v.now) }
+    ensures first_flaw { IfErr result (IsFirst (HasNamingFlaw claim.entry.sizes.now claim.entry.cuts.now claim.entry.names.now claim.entry.u.now claim.entry.v.now)) }
+{
+    let blocks = claim.cuts.len() as u32 - 1;
+    if claim.u.len() != blocks as usize || claim.v.len() != blocks as usize {
+        return Err(Flaw::PriceCount);
+    }
+    if let Some((b, p)) = first_high(claim, blocks) {
+        return Err(Flaw::PriceHigh(b, p));
+    }
+    let moved = moved_by(claim, blocks);
+    if sum_of(claim.u) + sum_of(claim.v) != i128::from(moved) {
+        return Err(Flaw::PriceGap);
+    }
+    Ok(moved)
+}
+
+// The first pair of a block and a PE, by block and then PE, whose prices add up to too much.
+fn first_high(claim: Claim<'_>, blocks: u32) -> Option<(u32, u32)>
+    requires sizes { IsSizes claim.sizes.now }
+    requires divides { IsDivision 0 (length claim.sizes.now) blocks claim.cuts.now }
+    requires block_prices { length claim.u.now ≡ blocks }
+    requires pe_prices { length claim.v.now ≡ blocks }
+    ensures { MatchOption result
+        ((b p : ℕ) → b < blocks → p < blocks → IsLow claim.entry.sizes.now claim.entry.cuts.now claim.entry.u.now claim.entry.v.now b p)
+        (IsFirstHigh claim.entry.sizes.now claim.entry.cuts.now claim.entry.u.now claim.entry.v.now blocks) }
+{
+    for b in 0..blocks {
+        if let Some(p) = first_high_pe(claim, blocks, b) {
+            return Some((b, p));
+        }
+    }
+    None
+}
+
+// The first PE whose price with that of the block is too much.
+fn first_high_pe(claim: Claim<'_>, blocks: u32, b: u32) -> Option<u32>
+    requires sizes { IsSizes claim.sizes.now }
+    requires divides { IsDivision 0 (length claim.sizes.now) blocks claim.cuts.now }
+    requires block_prices { length claim.u.now ≡ blocks }
+    requires pe_prices { length claim.v.now ≡ blocks }
+    requires inside { b < blocks }
+    ensures { MatchOption result
+        ((p : ℕ) → p < blocks → IsLow claim.entry.sizes.now claim.entry.cuts.now claim.entry.u.now claim.entry.v.now b p)
+        (λ p. (p < blocks) × IsHigh claim.entry.sizes.now claim.entry.cuts.now claim.entry.u.now claim.entry.v.now b p
+        × ((q : ℕ) → q < p → IsLow claim.entry.sizes.now claim.entry.cuts.now claim.entry.u.now claim.entry.v.now b q)) }
+{
+    for p in 0..blocks {
+        let price = i128::from(price(claim.u, b)) + i128::from(price(claim.v, p));
+        if price > i128::from(block_bytes(claim, blocks, b, p)) {
+            return Some(p);
+        }
+    }
+    None
+}
+
+// The price at a place.
+fn price(prices: &[i64], place: u32) -> i64
+    requires { place < length prices.now }
+    ensures { result ≡ price_at prices.now place }
+{
+    prices[place as usize]
+}
+
+// The bytes of a block whose present PE is another.
+fn block_bytes(claim: Claim<'_>, blocks: u32, b: u32, p: u32) -> u64
+    requires sizes { IsSizes claim.sizes.now }
+    requires divides { IsDivision 0 (length claim.sizes.now) blocks claim.cuts.now }
+    requires inside { b < blocks }
+    ensures value { result ≡ block_cost claim.entry.sizes.now claim.entry.cuts.now b p }
+    ensures small { result + slice_index claim.entry.cuts.now b * Limits.STATE_BYTES ≤ slice_index claim.entry.cuts.now (b + 1) * Limits.STATE_BYTES }
+{
+    let first = claim.cuts[b as usize] as usize;
+    let end = claim.cuts[b as usize + 1] as usize;
+    moved_to(&claim.sizes[first..end], p)
+}
+
+// The bytes of all blocks that move to their names.
+#[tactic(auto, using(crate::proofs::BlockSums::moved_is_cost))]
+fn moved_by(claim: Claim<'_>, blocks: u32) -> u64
+    requires sizes { IsSizes claim.sizes.now }
+    requires divides { IsDivision 0 (length claim.sizes.now) blocks claim.cuts.now }
+    requires named { length claim.names.now ≡ blocks }
+    ensures { result ≡ bytes_moved claim.entry.sizes.now claim.entry.cuts.now claim.entry.names.now }
+{
+    let mut moved = 0;
+    for b in 0..blocks {
+        moved += block_bytes(claim, blocks, b, claim.names[b as usize]);
+    }
+    moved
+}
 
 // The bytes of an element that move where it is to run on this PE.
 fn bytes_to(element: (u32, Pe), pe: u32) -> u32
@@ -34,11 +220,17 @@ fn moved_to(elements: &[(u32, Pe)], pe: u32) -> u64
     moved
 }
 
-// Whether the names are as many as the blocks.
+// Whether each name is below the number of blocks.
 fn all_below(names: &[u32], blocks: u32) -> bool
-    ensures { IsTrue result ↔ All (λ name. name < blocks) names.now }
+    ensures { MatchBool result ((b : ℕ) → b < length names.now → slice_index names.now b < blocks)
+        ((b : ℕ) × (b < length names.now) × (blocks ≤ slice_index names.now b)) }
 {
-    names.iter().all(|&name| name < blocks)
+    for &name in names {
+        if name >= blocks {
+            return false;
+        }
+    }
+    true
 }
 
 // Whether no name stands twice.
@@ -56,7 +248,9 @@ fn all_apart(names: &[u32]) -> bool
 // The sum of prices, which are too few to leave the range.
 fn sum_of(prices: &[i64]) -> i128
     requires { length prices.now ≤ 256 }
-    ensures { result ≡ price_sum prices.now }
+    ensures value { result ≡ price_sum prices.now }
+    ensures low { neg_ℤ (pos (2 ^ 71)) ≤ℤ result }
+    ensures high { result ≤ℤ pos (2 ^ 71) }
 {
     let mut sum = 0;
     for &price in prices {
