@@ -1,9 +1,8 @@
 -- Sums of bytes that move stay far below 2^64.
-use Rattle.std.proofs.Common.{◌≡◌, ℕ, ◌+◌, ◌*◌, ◌^◌, ◌<◌, ◌≤◌, ◌==◌, Bool, true, false, cond, All, List, length, sum_by, take, get_or, arith}
+use Rattle.std.proofs.Common.{ℕ, ◌+◌, ◌*◌, ◌^◌, ◌<◌, ◌≤◌, Bool, true, false, cond, List, length, sum_by, take, get_or, arith}
 use Rattle.std.proofs.lemmas.List.Sums.{sum_by-le, sum_by_more_le}
-use Rattle.std.proofs.lemmas.List.Elements.{All-weaker}
 use Rattle.std.proofs.Math.Nat.{mul-le-mul_right}
-use Rattle.chare_index.specs.declared.limits.TheConstants.Limits.{ELEMENTS, STATE_BYTES}
+use Rattle.chare_index.specs.declared.limits.TheConstants.Limits.{STATE_BYTES}
 use Rattle.lb_certificates.specs.Measured.{IsSizes}
 use Rattle.lb_certificates.specs.Naming.{moved_bytes}
 

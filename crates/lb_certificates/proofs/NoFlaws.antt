@@ -1,5 +1,5 @@
 -- Flaws against certificates.
-use Rattle.std.proofs.Common.{◌≡◌, ◌≢◌, ℕ, ◌+◌, ◌<◌, ◌≤◌, ◌⊎◌, inl, inr, List, length, slice_index, arith, subst, sym}
+use Rattle.std.proofs.Common.{◌≡◌, ◌≢◌, ℕ, ◌+◌, ◌<◌, ◌≤◌, inl, inr, List, length, slice_index, arith, subst, sym}
 use Rattle.std.specs.List.Sorted.{IsNonDecreasing}
 use Rattle.lb_certificates.specs.declared.division.Division.{Division}
 use Rattle.lb_certificates.specs.declared.division.Floor.{Floor}

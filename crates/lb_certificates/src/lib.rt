@@ -3,8 +3,10 @@
 //! - [`Loads`], [`Sizes`] and [`Snapshot`]: the measured load, size and place of every element.
 //! - [`Division`], with [`Cuts`], [`Floor`] and [`Stops`]: the elements cut into consecutive blocks, and the
 //!   certificate that no other division has a lighter heaviest block.
-//! - [`check_division`]: accepts a division exactly where its certificate is right, and else names the first
-//!   [`Flaw`].
+//! - [`Naming`] and [`Prices`], with [`PriceList`]: on which PE each block runs, and the certificate that no
+//!   other naming moves fewer bytes.
+//! - [`check_division`] and [`check_naming`]: accept an answer exactly where its certificate is right, and else name
+//!   the first [`Flaw`].
 //! - [`reference`]: plain programs that try every answer, to compare faster ones with.
 #![tactic(auto)]
 
@@ -15,6 +17,8 @@ mod flaw;
 mod loads;
 mod naming;
 mod naming_check;
+#[cfg(test)]
+mod naming_tests;
 mod prices;
 pub mod reference;
 mod sizes;
