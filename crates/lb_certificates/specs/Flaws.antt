@@ -4,7 +4,7 @@ use Rattle.chare_index.specs.declared.limits.TheConstants.Limits.{PES}
 use Rattle.lb_certificates.specs.Naming.{blocks_between, block_cost, bytes_moved, price_at, price_sum}
 use Rattle.lb_certificates.specs.declared.division.Division.{Division}
 use Rattle.lb_certificates.specs.declared.flaw.Flaw.{Flaw}
-use Rattle.lb_certificates.specs.declared.flaw.Flaw.TheVariants.{CutCount, CutStart, CutOrder, CutEnd, Heavy, FenceCount, FenceStart, FenceOrder, FenceEnd, FenceLight, ZeroFloor, NameCount, NameRange, NameTwice, PriceCount, PriceHigh, PriceGap}
+use Rattle.lb_certificates.specs.declared.flaw.Flaw.TheVariants.{CutCount, CutStart, CutOrder, CutEnd, Heavy, FenceCount, FenceStart, FenceOrder, FenceEnd, FenceLight, ZeroFloor, NameCount, NameRange, NameTwice, PriceCount, PriceHigh, PriceGap, MovedWrong, MovesWrong}
 use Rattle.lb_certificates.specs.Chain.{block_load}
 use Rattle.lb_certificates.specs.Certificate.{MatchFloor, range_load}
 
@@ -78,6 +78,8 @@ number_of NameTwice = 14
 number_of PriceCount = 15
 number_of (PriceHigh b p) = 16
 number_of PriceGap = 17
+number_of MovedWrong = 18
+number_of MovesWrong = 19
 
 -- the block, the stop, or the block and the PE that the flaw names
 abbrev pub place_of : Flaw → ℕ × ℕ

@@ -1,4 +1,4 @@
-/// What is wrong with a division or a naming, in the order in which it is told: of several flaws the first one,
+/// What is wrong with a division, a naming or a whole decision, in the order in which it is told: of several flaws the first one,
 /// at its first block, stop, or block and PE.
 #[derive(Clone, Copy, Debug, PartialEq, Eq)]
 pub enum Flaw {
@@ -37,4 +37,9 @@ pub enum Flaw {
     PriceHigh(u32, u32),
     /// All prices do not add up to the bytes moved.
     PriceGap,
+    /// A decision tells another number of bytes moved.
+    MovedWrong,
+    /// A decision's list of moves is not that of the elements whose present and planned PE differ, in order of
+    /// index.
+    MovesWrong,
 }
