@@ -12,9 +12,9 @@ moves_rest sizes cuts names i zero =
 moves_rest sizes cuts names i (suc k) =
     let before = moves_rest sizes cuts names i k in
     let last : List (ℕ × ℕ × ℕ) = move_of (i + k) (slice_index_or sizes (i + k) (0, 0)).1 (planned_pe cuts names (i + k)) in
-    let next : i + suc k ≡ suc (i + k) = omega arith in
-    ( before.0 ++ last
-    , ap (moves_below sizes cuts names) next ∙ ap (λ l. l ++ last) before.1 ∙ append_assoc (moves_below sizes cuts names i) before.0 last
+    let next : i + suc k ≡ suc (i + k) = omega arith in (
+      before.0 ++ last,
+      ap (moves_below sizes cuts names) next ∙ ap (λ l. l ++ last) before.1 ∙ append_assoc (moves_below sizes cuts names i) before.0 last,
     )
 
 -- a list that does not go on with the next move is not the list of moves
@@ -31,6 +31,6 @@ not_the_moves sizes cuts names n i moves taken step inside so_far next other sam
 pub all_taken : (moves wanted : List (ℕ × ℕ × ℕ)) (next : ℕ) → take next moves ≡ wanted → next ≤ length moves → MatchBool (eqb next (length moves)) (moves ≡ wanted) (moves ≢ wanted)
 all_taken moves wanted next so_far inside =
     elim (eqb_tells next (length moves)) [
-      inl same ↦ rw same.0 (sym (take_all next moves (omega arith)) ∙ so_far)
+      | inl same ↦ rw same.0 (sym (take_all next moves (omega arith)) ∙ so_far)
       | inr apart ↦ rw apart.0 (λ e. apart.1 (sym (length-take-le next moves inside) ∙ ap length so_far ∙ ap length (sym e)))
     ]

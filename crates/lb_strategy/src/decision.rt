@@ -1,4 +1,8 @@
-use crate::moves::Moves;
+ghost use Rattle.std.specs.Prelude.{◌≡◌};
+ghost use Rattle.lb_strategy.specs.Moves.{planned_pe, HasPlace};
+
+use crate::moves::{Moves, block_from};
+use chare_index::{Index, Pe};
 use lb_certificates::{Division, Naming, Prices};
 use std::alloc::{Allocator, Global};
 
@@ -17,4 +21,17 @@ pub struct Decision<A: Allocator = Global> {
     pub moved: u64,
     /// The elements that move.
     pub moves: Moves<A>,
+}
+
+impl<A: Allocator> Decision<A> {
+    /// The PE on which an element is to run: the name of its block. The cuts have to begin with 0 and not to fall,
+    /// the index to be below the last cut, and its block to have a name below 256, as holds for every element of a
+    /// decision that [`check`](crate::check) accepts.
+    pub fn place_of(&self, index: Index) -> Pe
+        requires { HasPlace self.now.division.cuts self.now.naming index }
+        ensures { result ≡ planned_pe self.now.division.cuts self.now.naming index }
+    {
+        let block = block_from(self.division.cuts.as_slice(), 0, index.get());
+        Pe::new(self.naming.as_slice()[block]).unwrap()
+    }
 }

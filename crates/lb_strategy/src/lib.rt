@@ -6,8 +6,10 @@
 //! - [`plan`]: decides.
 #![tactic(auto)]
 
+mod checking;
 mod decision;
 mod moves;
 
+pub use checking::check;
 pub use decision::Decision;
 pub use moves::Moves;

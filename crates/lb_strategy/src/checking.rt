@@ -1,0 +1,72 @@
+ghost use Rattle.std.specs.Prelude.{◌≡◌, ◌≢◌, ◌↔◌, IsOk, OnOk, IfErr, MatchBool};
+ghost use Rattle.lb_certificates.specs.Chain.{IsLeastDivision};
+ghost use Rattle.lb_certificates.specs.Naming.{IsCheapest};
+ghost use Rattle.lb_strategy.specs.Decisions.{right_moves, IsNamedRight, IsRight, IsTold};
+
+use crate::decision::Decision;
+use crate::moves::are_moves;
+use lb_certificates::{Flaw, Loads, Sizes, Snapshot, check_division, check_naming};
+use std::alloc::Allocator;
+
+/// Checks a decision for `pes` PEs on this snapshot, whoever made it. `Ok` means that no division of the elements
+/// into `pes` consecutive blocks has a lighter heaviest block, that no naming of the blocks moves fewer bytes, and
+/// that the decision tells these bytes and the moves.
+///
+/// Any number of PEs and any lists may come. No memory is taken.
+///
+/// # Errors
+///
+/// The first flaw of the division; where there is none, the first of the naming and its prices; and then
+/// [`MovedWrong`](Flaw::MovedWrong) and [`MovesWrong`](Flaw::MovesWrong).
+pub fn check<A: Allocator, B: Allocator>(
+    snapshot: &Snapshot<A>,
+    pes: u32,
+    decision: &Decision<B>,
+) -> Result<(), Flaw>
+    ensures exact { IsOk result ↔ IsRight snapshot.now.loads snapshot.now.sizes pes decision.now }
+    ensures least { OnOk result (IsLeastDivision snapshot.now.loads pes decision.now.division.bottleneck decision.now.division.cuts) }
+    ensures cheapest { OnOk result (IsCheapest snapshot.now.sizes decision.now.division.cuts pes decision.now.naming) }
+    ensures told { IfErr result (IsTold snapshot.now.loads snapshot.now.sizes pes decision.now) }
+{
+    check_parts(snapshot.loads(), snapshot.sizes(), pes, decision)
+}
+
+// The same for the loads and the sizes of a snapshot.
+#[tactic(auto, using(crate::proofs::RightDecisions::least_from_right, crate::proofs::RightDecisions::cheapest_from_right, crate::proofs::RightDecisions::named_from_right))]
+fn check_parts<A: Allocator, B: Allocator>(
+    loads: &Loads<A>,
+    sizes: &Sizes<A>,
+    pes: u32,
+    decision: &Decision<B>,
+) -> Result<(), Flaw>
+    ensures exact { IsOk result ↔ IsRight loads.now sizes.now pes decision.now }
+    ensures least { OnOk result (IsLeastDivision loads.now pes decision.now.division.bottleneck decision.now.division.cuts) }
+    ensures cheapest { OnOk result (IsCheapest sizes.now decision.now.division.cuts pes decision.now.naming) }
+    ensures told { IfErr result (IsTold loads.now sizes.now pes decision.now) }
+{
+    check_division(loads, pes, &decision.division)?;
+    let moved = check_naming(
+        sizes,
+        &decision.division.cuts,
+        &decision.naming,
+        &decision.prices,
+    )?;
+    if moved != decision.moved {
+        return Err(Flaw::MovedWrong);
+    }
+    if !tells_moves(sizes, decision) {
+        return Err(Flaw::MovesWrong);
+    }
+    Ok(())
+}
+
+// Whether the decision's moves are those that its naming asks for.
+fn tells_moves<A: Allocator, B: Allocator>(sizes: &Sizes<A>, decision: &Decision<B>) -> bool
+    requires { IsNamedRight sizes.now decision.now }
+    ensures { MatchBool result (decision.now.moves ≡ right_moves sizes.now decision.now)
+        (decision.now.moves ≢ right_moves sizes.now decision.now) }
+{
+    let cuts = decision.division.cuts.as_slice();
+    let names = decision.naming.as_slice();
+    are_moves(sizes.as_slice(), cuts, names, decision.moves.as_slice())
+}
