@@ -1,9 +1,8 @@
 -- What is known of a text stays so when it goes on.
-use Rattle.std.proofs.Common.{◌≡◌, ◌≢◌, ℕ, zero, suc, ◌+◌, ◌*◌, ◌<◌, ◌≤◌, ◌⊎◌, inl, inr, List, ◌++◌, length, slice_index, ap, sym, refl, ◌∙◌, ◌-◌, ◌/◌, arith, length-append, append_assoc, subst}
+use Rattle.std.proofs.Common.{◌≡◌, ℕ, ◌+◌, ◌*◌, ◌<◌, ◌≤◌, inl, inr, List, ◌++◌, length, ap, sym, refl, ◌∙◌, ◌-◌, ◌/◌, arith, length-append, append_assoc, subst}
 use Rattle.std.proofs.lemmas.Bool.{cases_lt}
 use Rattle.std.proofs.lemmas.List.{get_or_append_left}
-use Rattle.chare_index.specs.declared.limits.TheConstants.Limits.{ELEMENTS, PES, STATE_BYTES}
-use Rattle.lb_dump.specs.Format.{word, letters, procs_in, count_in, size_in, place_in, whole_len}
+use Rattle.lb_dump.specs.Format.{whole_len}
 use Rattle.lb_dump.specs.Faults.{IsGoodTo, IsGood, IsBroken}
 use Rattle.lb_dump.specs.declared.error.DumpError.{DumpError}
 use Rattle.lb_dump.specs.declared.error.DumpError.TheVariants.{Magic, Short, Procs, Count, Size, Place, Trailing, Read, Write, OutOfMemory}
@@ -57,7 +56,7 @@ good_before text end before good le =
 pub resumes : (text front joined : List ℕ) (len : ℕ) → joined ≡ text ++ front → len ≡ length text → IsGood text → 16 ≤ len → IsGoodTo joined (16 + 12 * ((len - 16) / 12))
 resumes text front joined len e counted good long =
     subst (λ t. IsGoodTo t (16 + 12 * ((len - 16) / 12))) (sym e)
-      (good_before (text ++ front) (length text) (16 + 12 * ((len - 16) / 12)) (good_append text front (length text) good (omega arith)) (omega arith))
+    (good_before (text ++ front) (length text) (16 + 12 * ((len - 16) / 12)) (good_append text front (length text) good (omega arith)) (omega arith))
 
 -- the length that a text asks for is asked for when more has come
 pub whole_len-append : (text front joined : List ℕ) → joined ≡ text ++ front → 16 ≤ length text → whole_len joined ≡ whole_len text
@@ -73,7 +72,7 @@ broken_by text front rest piece e parts broken =
 pub surplus : (text rest joined : List ℕ) → text ++ rest ≡ joined → IsGood text → length text ≡ whole_len text → 0 < length rest → IsBroken joined Trailing
 surplus text rest joined e good whole more =
     subst (λ t. IsBroken t Trailing) e
-      (broken_here (whole_len-append text rest (text ++ rest) refl (omega (arith, whole))))
+    (broken_here (whole_len-append text rest (text ++ rest) refl (omega (arith, whole))))
   where
     broken_here : whole_len (text ++ rest) ≡ whole_len text → IsBroken (text ++ rest) Trailing
     broken_here same = (omega (arith, same, length-append text rest), rw (same, ← whole) (good_append text rest (length text) good (omega arith)))

@@ -1,5 +1,5 @@
 -- Lists that are known by index, and what is there where a test passes.
-use Rattle.std.proofs.Common.{◌≡◌, ℕ, ◌<◌, List, length, get_or, Option, Some, None, refl, sym, subst, arith}
+use Rattle.std.proofs.Common.{◌≡◌, ℕ, ◌<◌, List, length, Option, Some, None, refl, sym, subst, arith}
 use Rattle.std.specs.Prelude.{slice_get, All, SomeIff, IsSome}
 use Rattle.std.proofs.lemmas.Option.{get_or_from_slice_get}
 

@@ -1,5 +1,5 @@
 -- A dump that comes from a reader, piece by piece.
-use Rattle.std.proofs.Common.{◌≡◌, ℕ, ◌<◌, ◌≤◌, ◌⊎◌, inl, inr, List, ◌++◌, length, take, drop, Option, Some, None, Result, Ok, Err, refl, sym, ap, subst, ◌∙◌, arith, append_assoc, length-take, length-append}
+use Rattle.std.proofs.Common.{◌≡◌, ℕ, ◌≤◌, ◌⊎◌, inl, inr, List, ◌++◌, length, take, drop, Option, Some, None, Result, Ok, Err, sym, ap, subst, ◌∙◌, arith, length-take, length-append}
 use Rattle.std.specs.Prelude.{IfSome}
 use Rattle.std.specs.Io.KnownBytes.{Consumes}
 use Rattle.std.proofs.KnownBytes.{Consumes-trans}
@@ -8,7 +8,7 @@ use Rattle.lb_certificates.specs.Measured.{Taken}
 use Rattle.lb_dump.specs.declared.error.DumpError.{DumpError}
 use Rattle.lb_dump.specs.declared.error.DumpError.TheVariants.{Magic, Short, Procs, Count, Size, Place, Trailing, Read, Write, OutOfMemory}
 use Rattle.lb_dump.specs.Faults.{IsBroken, IsFault}
-use Rattle.lb_dump.specs.Reading.{Progress, Feeds, IsAnswer}
+use Rattle.lb_dump.specs.Reading.{Progress, Feeds, EndsText, IsAnswer}
 use Rattle.lb_dump.proofs.GoodTexts.{broken_append}
 
 -- the bytes that were read stand at the front of the buffer
@@ -57,3 +57,12 @@ fed text piece dump new is_text step = (subst (λ (p : Progress). Feeds p piece 
 -- a buffer that is read into keeps its length
 pub buffer_len : (len : ℕ) (buffer items : List ℕ) → length items ≡ len → length buffer ≡ len → length (take len (buffer ++ drop (length buffer) items)) ≡ len
 buffer_len len buffer items stored lent = omega (arith, length-take len (buffer ++ drop (length buffer) items), length-append buffer (drop (length buffer) items))
+
+-- the answer at the end of a text is an answer to it
+pub answer_at_end : (text : List ℕ) (result : Result Taken DumpError) → EndsText text result → IsAnswer text result
+answer_at_end text (Ok s) ends = ends
+answer_at_end text (Err e) ends =
+    elim ends [
+      | inl (none, _) ↦ inl none
+      | inr fault ↦ inr fault
+    ]

@@ -44,3 +44,16 @@ pub record IsShort (text : List ℕ) (n : ℕ) : Type 0 where
 abbrev pub IsFault : List ℕ → DumpError → Type 0
 IsFault text (Short n) = IsShort text n
 IsFault text e = IsBroken text e
+
+-- the number by which a fault is known
+abbrev pub number_of : DumpError → ℕ
+number_of Magic = 1
+number_of (Short n) = 2
+number_of Procs = 3
+number_of Count = 4
+number_of (Size i) = 5
+number_of (Place i) = 6
+number_of Trailing = 7
+number_of Read = 8
+number_of Write = 9
+number_of OutOfMemory = 10

@@ -40,9 +40,14 @@ pub record IsSnapshot (s : Taken) : Type 0 where
   pub loads : IsLoads s.loads
   pub sizes : IsSizes s.sizes
 
+-- each number is that of a byte
+abbrev pub IsBytes : List ℕ → Type 0
+IsBytes text = (k : ℕ) → slice_index text k < 256
+
 -- these bytes are the text of this snapshot
 pub record IsText (s : Taken) (text : List ℕ) : Type 0 where
   pub snapshot : IsSnapshot s
+  pub bytes : IsBytes text
   pub whole : length text ≡ 16 + 12 * length s.loads
   pub starts : (k : ℕ) → k < 4 → slice_index text k ≡ slice_index letters k
   pub step : step_in text ≡ s.step

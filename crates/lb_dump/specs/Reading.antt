@@ -1,7 +1,7 @@
 -- What a reader of dumps answers.
-use Rattle.std.specs.Prelude.{◌≡◌, ℕ, ◌++◌, ◌⊎◌, List, Option, Some, None, Result, Ok, Err, ⊤}
+use Rattle.std.specs.Prelude.{◌≡◌, ℕ, ◌++◌, ◌⊎◌, List, length, Option, Some, None, Result, Ok, Err, ⊤}
 use Rattle.lb_certificates.specs.Measured.{Taken}
-use Rattle.lb_dump.specs.Format.{IsText}
+use Rattle.lb_dump.specs.Format.{whole_len, IsText}
 use Rattle.lb_dump.specs.Faults.{IsGood, IsBroken, IsFault}
 use Rattle.lb_dump.specs.declared.error.DumpError.{DumpError}
 use Rattle.lb_dump.specs.declared.error.DumpError.TheVariants.{OutOfMemory}
@@ -19,9 +19,13 @@ abbrev pub IsAnswer : List ℕ → Result Taken DumpError → Type 0
 IsAnswer text (Ok s) = IsText s text
 IsAnswer text (Err e) = (e ≡ OutOfMemory) ⊎ IsFault text e
 
--- the answer at the end of the text
+-- the answer at the end of a text that is good so far: memory is wanted only where the text is whole
+abbrev pub EndsText : List ℕ → Result Taken DumpError → Type 0
+EndsText text (Ok s) = IsText s text
+EndsText text (Err e) = ((e ≡ OutOfMemory) × (length text ≡ whole_len text)) ⊎ IsFault text e
+
 abbrev pub Ends : Progress → Result Taken DumpError → Type 0
-Ends (Ok text) answer = IsAnswer text answer
+Ends (Ok text) answer = EndsText text answer
 Ends (Err e) answer = answer ≡ Err e
 
 -- a piece that came: the text so far is good, or the answer is its first fault or want of memory, and stays so
@@ -29,3 +33,7 @@ abbrev pub Feeds : Progress → List ℕ → Result ⊤ DumpError → Progress �
 Feeds (Ok text) piece (Ok _) new = IsGood (text ++ piece) × (new ≡ Ok (text ++ piece))
 Feeds (Ok text) piece (Err e) new = ((e ≡ OutOfMemory) ⊎ IsBroken (text ++ piece) e) × (new ≡ Err e)
 Feeds (Err e) piece answer new = (answer ≡ Err e) × (new ≡ Err e)
+
+-- a piece for which the text need not grow: there is nothing in it, or nothing may follow the text
+abbrev pub NeedsNone : List ℕ → List ℕ → Type 0
+NeedsNone text piece = (length piece ≡ 0) ⊎ (length text ≡ whole_len text)

@@ -1,7 +1,10 @@
-ghost use Rattle.std.specs.Prelude.{◌≡◌, ◌⊎◌, List, ℕ, IfSome, IsErrOf, OnOk, Err};
+ghost use Rattle.std.specs.Prelude.{◌≡◌, ◌⊎◌, List, ℕ, IfSome, IsErrOf, MatchResult, OnOk, Err};
 ghost use Rattle.std.specs.Io.KnownBytes.{Consumes, IsAtEnd};
 ghost use Rattle.lb_dump.specs.Reading.{IsAnswer};
-ghost use Rattle.lb_dump.specs.Faults.{IsGood};
+ghost use Rattle.lb_certificates.specs.Measured.{Taken};
+ghost use Rattle.lb_dump.specs.declared.error.DumpError.{DumpError};
+ghost use Rattle.lb_dump.specs.Faults.{IsGood, IsFault};
+ghost use Rattle.lb_dump.specs.Format.{IsText};
 
 use crate::error::DumpError;
 use crate::reader::DumpReader;
@@ -15,13 +18,16 @@ const PIECE_LEN: usize = 65_536;
 /// How often a reader is called at most.
 const CALLS: u32 = 16_777_216;
 
+#[tactic(auto, using(crate::proofs::OneText::answered, crate::proofs::OneText::refused))]
 /// The snapshot of this text.
 ///
 /// # Errors
 ///
 /// The first fault of the bytes from left to right, or [`OutOfMemory`](DumpError::OutOfMemory).
 pub fn decode<A: Allocator + Copy>(alloc: A, bytes: &[u8]) -> Result<Snapshot<A>, DumpError>
-    ensures { IsAnswer bytes.now result }
+    ensures answer { IsAnswer bytes.now result }
+    ensures again { (s : Taken) → IsText s bytes.now → MatchResult result (λ t. t ≡ s) (λ e. e ≡ DumpError.OutOfMemory) }
+    ensures first { (e : DumpError) → IsFault bytes.now e → MatchResult result (λ _. ⊥) (λ f. (f ≡ DumpError.OutOfMemory) ⊎ (f ≡ e)) }
 {
     let mut reader = DumpReader::new(alloc);
     reader.feed(bytes)?;

@@ -1,11 +1,13 @@
 ghost use Rattle.std.specs.Prelude.{◌≡◌};
+ghost use Rattle.lb_dump.specs.Faults.{number_of};
 ghost use Rattle.lb_dump.specs.declared.error.DumpError.TheVariants.{OutOfMemory};
 
 use std::alloc::{AllocError, AllocFailed};
 use thiserror::Error;
 
-/// Why a dump was not read or written. The faults of a text, from [`Magic`](DumpError::Magic) to
-/// [`Trailing`](DumpError::Trailing), are told from left to right, each once the field is whole.
+/// Why a dump was not read or written. Of the faults of a text, [`Magic`](DumpError::Magic) to
+/// [`Trailing`](DumpError::Trailing), the first from left to right is told: a wrong letter at once, and any other
+/// once its field is whole.
 #[derive(Clone, Copy, Debug, PartialEq, Eq, Error)]
 pub enum DumpError {
     /// A byte of the first four is not that of `LBD1`.
@@ -38,6 +40,26 @@ pub enum DumpError {
     /// No memory was left.
     #[error("out of memory")]
     OutOfMemory,
+}
+
+impl DumpError {
+    /// The number of this kind of fault, 1 to 10 in the order above. It stays the same in later versions.
+    pub fn number(self) -> u8
+        ensures { result ≡ number_of self }
+    {
+        match self {
+            DumpError::Magic => 1,
+            DumpError::Short(_) => 2,
+            DumpError::Procs => 3,
+            DumpError::Count => 4,
+            DumpError::Size(_) => 5,
+            DumpError::Place(_) => 6,
+            DumpError::Trailing => 7,
+            DumpError::Read => 8,
+            DumpError::Write => 9,
+            DumpError::OutOfMemory => 10,
+        }
+    }
 }
 
 impl From<AllocError> for DumpError {

@@ -7,14 +7,20 @@
 #![tactic(auto)]
 
 mod decoding;
+mod encoding;
 mod error;
 mod judging;
+mod laws;
 mod making;
 mod reader;
-
+#[cfg(test)]
+mod tests;
 mod words;
+mod writing;
 
 pub use decoding::{decode, read_from};
+pub use encoding::encode;
 pub use error::DumpError;
+pub use laws::is_exact;
 pub use reader::DumpReader;
-
+pub use writing::write_to;

@@ -1,7 +1,7 @@
-ghost use Rattle.std.specs.Prelude.{◌≡◌, ◌++◌, ◌+◌, ◌<◌, ◌≤◌, ◌⊎◌, [], List, ℕ, length, Ok, MatchResult, IfOk, IfErr, OnOk};
+ghost use Rattle.std.specs.Prelude.{◌≡◌, ◌≢◌, ◌++◌, ◌+◌, ◌<◌, ◌≤◌, ◌⊎◌, [], List, ℕ, length, Ok, Err, IfOk, IfErr, OnOk};
 ghost use Rattle.lb_dump.specs.Format.{IsText, whole_len};
 ghost use Rattle.lb_dump.specs.Faults.{IsGood, IsBroken};
-ghost use Rattle.lb_dump.specs.Reading.{IsAnswer, Ends, Feeds};
+ghost use Rattle.lb_dump.specs.Reading.{EndsText, Ends, Feeds, NeedsNone};
 
 use crate::error::DumpError;
 use crate::judging::{ELEMENT_LEN, HEAD_LEN, judge_elements, judge_head};
@@ -11,7 +11,8 @@ use lb_certificates::Snapshot;
 use std::alloc::{Allocator, Global};
 use std::marker::Model;
 
-/// Reads a dump that comes in pieces. Contracts see it as the text so far or, after a fault, as that fault.
+/// Reads a dump that comes in pieces. It keeps the text so far, which grows as the pieces come, whatever count the
+/// text claims; the lists are made at the end. Contracts see it as the text so far or, after a fault, as that fault.
 #[derive(Drop)]
 #[derive_where(Debug)]
 pub struct DumpReader<A: Allocator = Global> {
@@ -42,13 +43,16 @@ impl<A: Allocator> DumpReader<A> {
         }
     }
 
-    /// Takes the next piece of the text.
+    /// Takes the next piece of the text, which may be empty.
     ///
     /// # Errors
     ///
-    /// The first fault of the text so far, once it is told, and from then on at every call; the same for want of memory.
+    /// The first fault of the text so far, with the piece that brings it, and never
+    /// [`Short`](DumpError::Short), which only [`end`](Self::end) tells; [`OutOfMemory`](DumpError::OutOfMemory)
+    /// where memory is refused. Each later call answers the same.
     pub fn feed(&mut self, piece: &[u8]) -> Result<(), DumpError>
-        ensures { Feeds self.old piece.now result self.new }
+        ensures fed { Feeds self.old piece.now result self.new }
+        ensures no_growth { IfOk self.old (λ text. NeedsNone text piece.now → result ≢ Err DumpError.OutOfMemory) }
     {
         if let Some(fault) = self.fault {
             return Err(fault);
@@ -64,8 +68,8 @@ impl<A: Allocator> DumpReader<A> {
     ///
     /// # Errors
     ///
-    /// The fault that a piece brought, or else [`Short`](DumpError::Short) where the text is not whole, or else
-    /// [`OutOfMemory`](DumpError::OutOfMemory).
+    /// What [`feed`](Self::feed) answered last where that was an error, or else [`Short`](DumpError::Short) where
+    /// the text is not whole, or else [`OutOfMemory`](DumpError::OutOfMemory) where memory is refused.
     pub fn end(self) -> Result<Snapshot<A>, DumpError>
     where
         A: Copy,
@@ -82,7 +86,7 @@ impl<A: Allocator> DumpReader<A> {
 // The snapshot of a text that ends here.
 fn whole<A: Allocator + Copy>(text: &Vec<u8, A>) -> Result<Snapshot<A>, DumpError>
     requires { IsGood text.now.items }
-    ensures { IsAnswer text.now.items result }
+    ensures { EndsText text.now.items result }
 {
     let len = text.len();
     if len < HEAD_LEN || len < HEAD_LEN + ELEMENT_LEN * word(text, 12) as usize {
@@ -94,54 +98,60 @@ fn whole<A: Allocator + Copy>(text: &Vec<u8, A>) -> Result<Snapshot<A>, DumpErro
 // Puts a piece at the end of the text.
 fn take_in<A: Allocator>(text: &mut Vec<u8, A>, piece: &[u8]) -> Result<(), DumpError>
     requires { IsGood text.old.items }
-    ensures { MatchResult result
-        (λ _. (text.new.items ≡ text.old.items ++ piece.now) × IsGood text.new.items)
-        (λ e. (e ≡ DumpError.OutOfMemory) ⊎ IsBroken (text.old.items ++ piece.now) e) }
+    ensures taken { OnOk result ((text.new.items ≡ text.old.items ++ piece.now) × IsGood text.new.items) }
+    ensures broken { IfErr result (λ e. (e ≡ DumpError.OutOfMemory) ⊎ IsBroken (text.old.items ++ piece.now) e) }
+    ensures no_growth { NeedsNone text.old.items piece.now → result ≢ Err DumpError.OutOfMemory }
 {
+    if piece.is_empty() {
+        return Ok(());
+    }
+    if text.len() >= HEAD_LEN {
+        return take_elements(text, piece);
+    }
     let rest = take_head(text, piece)?;
     if rest.is_empty() {
         return Ok(());
     }
-    let rest = take_elements(text, rest)?;
-    if rest.is_empty() {
-        Ok(())
-    } else {
-        Err(DumpError::Trailing)
-    }
+    take_elements(text, rest)
 }
 
 // Puts the part of a piece that belongs to the head at the end of the text, and gives the rest back.
-fn take_head<'a, A: Allocator>(text: &mut Vec<u8, A>, piece: &'a [u8]) -> Result<&'a [u8], DumpError>
-    requires { IsGood text.old.items }
+fn take_head<'a, A: Allocator>(
+    text: &mut Vec<u8, A>,
+    piece: &'a [u8],
+) -> Result<&'a [u8], DumpError>
+    requires { length text.old.items < 16 }
     ensures joined { IfOk result (λ rest. text.new.items ++ rest.now ≡ text.old.items ++ piece.now) }
     ensures good { OnOk result (IsGood text.new.items) }
     ensures filled { IfOk result (λ rest. 0 < length rest.now → 16 ≤ length text.new.items) }
     ensures broken { IfErr result (λ e. (e ≡ DumpError.OutOfMemory) ⊎ IsBroken (text.old.items ++ piece.now) e) }
 {
-    if text.len() >= HEAD_LEN {
-        return Ok(piece);
-    }
     let (front, rest) = piece.split_at(piece.len().min(HEAD_LEN - text.len()));
     text.extend_from_slice(front)?;
     judge_head(text)?;
     Ok(rest)
 }
 
-// Puts the part of a piece that belongs to the elements at the end of the text, and gives the rest back.
-fn take_elements<'a, A: Allocator>(text: &mut Vec<u8, A>, piece: &'a [u8]) -> Result<&'a [u8], DumpError>
+// Puts a piece at the end of a text that has its head.
+fn take_elements<A: Allocator>(text: &mut Vec<u8, A>, piece: &[u8]) -> Result<(), DumpError>
     requires good { IsGood text.old.items }
     requires headed { 16 ≤ length text.old.items }
-    ensures joined { IfOk result (λ rest. text.new.items ++ rest.now ≡ text.old.items ++ piece.now) }
-    ensures good { OnOk result (IsGood text.new.items) }
-    ensures filled { IfOk result (λ rest. 0 < length rest.now → length text.new.items ≡ whole_len text.new.items) }
+    requires some { 0 < length piece.now }
+    ensures taken { OnOk result ((text.new.items ≡ text.old.items ++ piece.now) × IsGood text.new.items) }
     ensures broken { IfErr result (λ e. (e ≡ DumpError.OutOfMemory) ⊎ IsBroken (text.old.items ++ piece.now) e) }
+    ensures full { length text.old.items ≡ whole_len text.old.items → result ≡ Err DumpError.Trailing }
 {
-    let whole = HEAD_LEN + ELEMENT_LEN * word(text, 12) as usize;
-    let room = whole - text.len();
+    let room = HEAD_LEN + ELEMENT_LEN * word(text, 12) as usize - text.len();
+    if room == 0 {
+        return Err(DumpError::Trailing);
+    }
     let first = (text.len() - HEAD_LEN) / ELEMENT_LEN;
     let (front, rest) = piece.split_at(piece.len().min(room));
-    text.reserve_exact(room)?;
     text.extend_from_slice(front)?;
     judge_elements(text, first)?;
-    Ok(rest)
+    if rest.is_empty() {
+        Ok(())
+    } else {
+        Err(DumpError::Trailing)
+    }
 }

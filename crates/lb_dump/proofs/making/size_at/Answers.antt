@@ -1,4 +1,4 @@
-use Rattle.std.proofs.Common.{◌≡◌, ◌+◌, ◌*◌, ap, ◌∙◌, arith}
+use Rattle.std.proofs.Common.{◌≡◌, ap, ◌∙◌, arith}
 use Rattle.lb_dump.specs.Format.{word, place_in}
 use Rattle.lb_dump.proofs.making.size_at.Goals as goal
 

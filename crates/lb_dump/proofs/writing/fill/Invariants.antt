@@ -1,0 +1,6 @@
+use Rattle.std.proofs.Common.{◌*◌, take}
+use Rattle.lb_dump.specs.Parts.{IsRun}
+use Rattle.lb_dump.proofs.writing.fill.Given as goal
+
+abbrev pub invariant-loop-i : goal.invariant-loop-i
+invariant-loop-i l = IsRun l.loads l.sizes l.first l.i (take (12 * l.i) l.block)

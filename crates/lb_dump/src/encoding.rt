@@ -1,0 +1,88 @@
+ghost use Rattle.std.specs.Prelude.{◌≡◌, ◌<◌, ◌≤◌, ℕ, length, slice_index, slice_get, Some, IfOk};
+ghost use Rattle.lb_dump.specs.Format.{IsSnapshot, IsText, IsBytes, letters, word};
+ghost use Rattle.lb_dump.specs.Parts.{IsFront};
+
+use crate::judging::{ELEMENT_LEN, HEAD_LEN, LETTERS};
+use chare_index::Pe;
+use lb_certificates::{Snapshot, Units};
+use std::alloc::{AllocError, Allocator};
+
+// The letters, the step, the number of PEs and the number of elements.
+fn head_with(step: u32, procs: u32, count: u32) -> [u8; HEAD_LEN]
+    ensures starts { (k : ℕ) → k < 4 → slice_index result k ≡ slice_index letters k }
+    ensures step { word result 4 ≡ step }
+    ensures procs { word result 8 ≡ procs }
+    ensures count { word result 12 ≡ count }
+    ensures bytes { IsBytes result }
+{
+    let [l, b, d, one] = LETTERS;
+    let [s0, s1, s2, s3] = step.to_be_bytes();
+    let [p0, p1, p2, p3] = procs.to_be_bytes();
+    let [c0, c1, c2, c3] = count.to_be_bytes();
+    [l, b, d, one, s0, s1, s2, s3, p0, p1, p2, p3, c0, c1, c2, c3]
+}
+
+#[tactic(auto, using(crate::proofs::Spelling::starts_with_head))]
+// The bytes before the first element.
+pub fn head_of<A: Allocator>(snapshot: &Snapshot<A>) -> [u8; HEAD_LEN]
+    ensures { IsFront snapshot.now 0 result }
+{
+    let count = snapshot.loads().len() as u32;
+    head_with(snapshot.step(), snapshot.procs(), count)
+}
+
+// The load of each element, and the size and the place of each element.
+pub fn elements_of<A: Allocator>(snapshot: &Snapshot<A>) -> (&[Units], &[(u32, Pe)])
+    ensures snapshot { IsSnapshot snapshot.now }
+    ensures loads { result.0.now ≡ snapshot.now.loads }
+    ensures sizes { result.1.now ≡ snapshot.now.sizes }
+{
+    let _ = snapshot.procs();
+    (snapshot.loads().as_slice(), snapshot.sizes().as_slice())
+}
+
+// An element.
+fn element_of(load: u32, size: u32, place: u32) -> [u8; ELEMENT_LEN]
+    ensures load { word result 0 ≡ load }
+    ensures size { word result 4 ≡ size }
+    ensures place { word result 8 ≡ place }
+    ensures bytes { IsBytes result }
+{
+    let [l0, l1, l2, l3] = load.to_be_bytes();
+    let [s0, s1, s2, s3] = size.to_be_bytes();
+    let [p0, p1, p2, p3] = place.to_be_bytes();
+    [l0, l1, l2, l3, s0, s1, s2, s3, p0, p1, p2, p3]
+}
+
+// The element at an index.
+pub fn element_at(loads: &[Units], sizes: &[(u32, Pe)], i: usize) -> [u8; ELEMENT_LEN]
+    requires load { i < length loads.now }
+    requires size { i < length sizes.now }
+    ensures load { slice_get loads.now i ≡ Some (word result 0) }
+    ensures size { slice_get sizes.now i ≡ Some (word result 4, word result 8) }
+    ensures bytes { IsBytes result }
+{
+    let (size, place) = sizes[i];
+    element_of(loads[i], size, place.get())
+}
+
+#[tactic(auto, using(crate::proofs::Spelling::whole_text))]
+/// The text of a snapshot, in a list that holds it exactly.
+///
+/// # Errors
+///
+/// Where memory is refused.
+pub fn encode<A: Allocator, B: Allocator>(
+    alloc: A,
+    snapshot: &Snapshot<B>,
+) -> Result<Vec<u8, A>, AllocError>
+    ensures { IfOk result (λ text. IsText snapshot.now text.items) }
+{
+    let (loads, sizes) = elements_of(snapshot);
+    let mut text = Vec::with_capacity(alloc, HEAD_LEN + ELEMENT_LEN * loads.len())?;
+    text.extend_from_slice(&head_of(snapshot))?;
+    for i in 0..loads.len() {
+        text.extend_from_slice(&element_at(loads, sizes, i))?;
+    }
+    Ok(text)
+}
