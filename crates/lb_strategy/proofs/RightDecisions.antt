@@ -1,10 +1,14 @@
 -- What a right decision implies.
-use Rattle.std.proofs.Common.{◌≡◌, ℕ, ◌+◌, List, length, arith, subst}
-use Rattle.lb_certificates.specs.Chain.{IsLeastDivision}
-use Rattle.lb_certificates.specs.Naming.{blocks_between, IsCheapest}
+use Rattle.std.proofs.Common.{◌≡◌, ℕ, ◌+◌, ◌<◌, ◌≤◌, ◌⊎◌, inl, inr, Bool, true, false, ltb, nat_lt, List, length, slice_index, arith, subst}
+use Rattle.std.specs.List.{position_or_len}
+use Rattle.std.proofs.lemmas.Bool.{cases_lt, lt-ltb, le-ltb}
+use Rattle.std.proofs.lemmas.List.Sums.{fails_before_first, passes_at_first}
+use Rattle.lb_certificates.specs.Chain.{IsDivision, IsLeastDivision}
+use Rattle.lb_certificates.specs.Naming.{block_of, blocks_between, IsCheapest}
 use Rattle.lb_certificates.proofs.BlockSums.{cheapest_from_named}
 use Rattle.lb_certificates.proofs.LeastDivisions.{least_from_certified}
 use Rattle.lb_strategy.specs.declared.decision.Decision.{Decision}
+use Rattle.lb_strategy.specs.Moves.{HasPlace}
 use Rattle.lb_strategy.specs.Decisions.{IsNamedRight, IsRight}
 
 pub least_from_right : {A : Type 0} (loads : List ℕ) (sizes : List (ℕ × ℕ)) (p : ℕ) (d : Decision A) → IsRight loads sizes p d → IsLeastDivision loads p d.division.bottleneck d.division.cuts
@@ -17,3 +21,33 @@ cheapest_from_right loads sizes p d right =
 
 pub named_from_right : {A : Type 0} (loads : List ℕ) (sizes : List (ℕ × ℕ)) (p : ℕ) (d : Decision A) → IsRight loads sizes p d → IsNamedRight sizes d
 named_from_right loads sizes p d right = right.named
+
+-- an element of a division stands in one of its blocks
+block_inside : (n blocks : ℕ) (cuts : List ℕ) (i : ℕ) → IsDivision 0 n blocks cuts → i < n → block_of cuts i < blocks
+block_inside n blocks cuts i division inside =
+    let above : ltb i (slice_index cuts blocks) ≡ true = lt-ltb i (slice_index cuts blocks) (omega (arith, inside, division.ends)) in
+    let not_first : ltb i (slice_index cuts 0) ≡ false = le-ltb i (slice_index cuts 0) (omega (arith, division.starts)) in
+    elim (cases_lt blocks (position_or_len (λ cut. nat_lt i cut) cuts)) [
+      | inl past ↦ let below : ltb i (slice_index cuts blocks) ≡ false = fails_before_first (λ cut. nat_lt i cut) cuts blocks 0 past in cc
+      | inr within ↦ elim (cases_lt 0 (position_or_len (λ cut. nat_lt i cut) cuts)) [
+        | inl some ↦ omega arith
+        | inr none ↦
+            let at_first : position_or_len (λ cut. nat_lt i cut) cuts ≡ 0 = omega arith in
+            let short : position_or_len (λ cut. nat_lt i cut) cuts < length cuts = omega (arith, at_first, division.counted) in
+            let passes : ltb i (slice_index cuts (position_or_len (λ cut. nat_lt i cut) cuts)) ≡ true = passes_at_first (λ cut. nat_lt i cut) cuts 0 short in
+            let passes_first : ltb i (slice_index cuts 0) ≡ true = subst (λ k. ltb i (slice_index cuts k) ≡ true) at_first passes in
+            cc
+      ]
+    ]
+
+pub place_from_right : {A : Type 0} (loads : List ℕ) (sizes : List (ℕ × ℕ)) (p : ℕ) (d : Decision A) → IsRight loads sizes p d → (i : ℕ) → i < length sizes → HasPlace d.division.cuts d.naming i
+place_from_right loads sizes p d right i inside =
+    let division : IsDivision 0 (length sizes) (blocks_between d.division.cuts) d.division.cuts = right.named.blocks.divides in
+    let block : block_of d.division.cuts i < blocks_between d.division.cuts = block_inside (length sizes) (blocks_between d.division.cuts) d.division.cuts i division inside in
+    record {
+      starts = division.starts;
+      ordered = division.ordered;
+      inside = omega (arith, inside, division.ends);
+      named = omega (arith, block, right.named.naming.counted);
+      pe = omega (arith, right.named.naming.below (block_of d.division.cuts i) block, right.named.blocks.few_blocks);
+    }

@@ -1,6 +1,7 @@
-ghost use Rattle.std.specs.Prelude.{◌≡◌, ◌≢◌, ◌↔◌, IsOk, OnOk, IfErr, MatchBool};
+ghost use Rattle.std.specs.Prelude.{◌≡◌, ◌≢◌, ◌<◌, ◌↔◌, ℕ, length, IsOk, OnOk, IfErr, MatchBool};
 ghost use Rattle.lb_certificates.specs.Chain.{IsLeastDivision};
 ghost use Rattle.lb_certificates.specs.Naming.{IsCheapest};
+ghost use Rattle.lb_strategy.specs.Moves.{HasPlace};
 ghost use Rattle.lb_strategy.specs.Decisions.{right_moves, IsNamedRight, IsRight, IsTold};
 
 use crate::decision::Decision;
@@ -10,7 +11,8 @@ use std::alloc::Allocator;
 
 /// Checks a decision for `pes` PEs on this snapshot, whoever made it. `Ok` means that no division of the elements
 /// into `pes` consecutive blocks has a lighter heaviest block, that no naming of the blocks moves fewer bytes, and
-/// that the decision tells these bytes and the moves.
+/// that the decision tells these bytes and the moves; so [`place_of`](Decision::place_of) may be asked of each
+/// element.
 ///
 /// Any number of PEs and any lists may come. No memory is taken.
 ///
@@ -26,13 +28,14 @@ pub fn check<A: Allocator, B: Allocator>(
     ensures exact { IsOk result ↔ IsRight snapshot.now.loads snapshot.now.sizes pes decision.now }
     ensures least { OnOk result (IsLeastDivision snapshot.now.loads pes decision.now.division.bottleneck decision.now.division.cuts) }
     ensures cheapest { OnOk result (IsCheapest snapshot.now.sizes decision.now.division.cuts pes decision.now.naming) }
+    ensures places { OnOk result ((i : ℕ) → i < length snapshot.now.sizes → HasPlace decision.now.division.cuts decision.now.naming i) }
     ensures told { IfErr result (IsTold snapshot.now.loads snapshot.now.sizes pes decision.now) }
 {
     check_parts(snapshot.loads(), snapshot.sizes(), pes, decision)
 }
 
 // The same for the loads and the sizes of a snapshot.
-#[tactic(auto, using(crate::proofs::RightDecisions::least_from_right, crate::proofs::RightDecisions::cheapest_from_right, crate::proofs::RightDecisions::named_from_right))]
+#[tactic(auto, using(crate::proofs::RightDecisions::least_from_right, crate::proofs::RightDecisions::cheapest_from_right, crate::proofs::RightDecisions::named_from_right, crate::proofs::RightDecisions::place_from_right))]
 fn check_parts<A: Allocator, B: Allocator>(
     loads: &Loads<A>,
     sizes: &Sizes<A>,
@@ -42,6 +45,7 @@ fn check_parts<A: Allocator, B: Allocator>(
     ensures exact { IsOk result ↔ IsRight loads.now sizes.now pes decision.now }
     ensures least { OnOk result (IsLeastDivision loads.now pes decision.now.division.bottleneck decision.now.division.cuts) }
     ensures cheapest { OnOk result (IsCheapest sizes.now decision.now.division.cuts pes decision.now.naming) }
+    ensures places { OnOk result ((i : ℕ) → i < length sizes.now → HasPlace decision.now.division.cuts decision.now.naming i) }
     ensures told { IfErr result (IsTold loads.now sizes.now pes decision.now) }
 {
     check_division(loads, pes, &decision.division)?;

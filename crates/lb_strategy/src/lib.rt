@@ -9,6 +9,8 @@
 mod checking;
 mod decision;
 mod moves;
+#[cfg(test)]
+mod tests;
 
 pub use checking::check;
 pub use decision::Decision;

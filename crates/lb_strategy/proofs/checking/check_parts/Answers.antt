@@ -1,4 +1,6 @@
-use Rattle.std.proofs.Common.{◌≡◌, Bool, true, false, Result, Ok, Err, IsOk, IsErr}
+use Rattle.std.proofs.Common.{◌≡◌, Bool, true, false, Result, Ok, Err, IsOk, IsErr, refl, rules}
+use Rattle.lb_strategy.specs.Decisions.{IsRight}
+use Rattle.lb_strategy.proofs.RightDecisions.{place_from_right}
 use Rattle.lb_strategy.proofs.checking.check_parts.Goals as goal
 
 not_both : {A B : Type 0} (r : Result A B) → IsOk r → IsErr r → ⊥
@@ -10,3 +12,13 @@ returns-in_err-moved-clause-exact g c = (
   λ ok. absurd (not_both c.from_residual-in_err-moved.result ok c.from_residual-in_err-moved.ensures.0),
   λ right. let bad : false ≡ true = c.in_err-moved.ensures.exact.1 right.named in cc,
 )
+
+pub returns-clause-places : goal.returns-clause-places
+returns-clause-places g c =
+    let right : IsRight c.args.loads.now c.args.sizes.now c.args.pes c.args.decision.now = record {
+      division = c.in_ok-check_division.ensures.exact.0 refl;
+      named = c.in_ok-moved.ensures.exact.0 refl;
+      moved = search rules;
+      moves = search rules
+    } in
+    place_from_right c.args.loads.now c.args.sizes.now c.args.pes c.args.decision.now right
