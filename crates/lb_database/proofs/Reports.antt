@@ -7,7 +7,7 @@ use Rattle.chare_index.specs.declared.limits.TheConstants.Limits.{PES, STATE_BYT
 use Rattle.lb_certificates.specs.Measured.{IsSizes, IsTaken}
 use Rattle.lb_database.specs.Measuring.{Measured, AreReports, StandBelow}
 
--- a report that is there is none of the missing, and another one is
+-- how many are missing, report by report
 count_there : {X : Type 0} (x : X) (reports : List (Option X)) → count_by is_none (Some x ∷ reports) ≡ 0 + count_by is_none reports
 count_there x reports = sum_by-cons (λ r. cond (is_none r) 1 0) (Some x) reports
 
@@ -44,7 +44,7 @@ sizes_there sizes reports same within = record {
   small = each_there (λ size. size.0 ≤ STATE_BYTES) sizes reports same within.small;
 }
 
--- elements that were all reported on the first PEs, so many, make a snapshot on that many
+-- loads and sizes of elements that have all reported, on PEs below pes, make a snapshot
 pub placed_there : (m : Measured) (pes : ℕ) (loads : List ℕ) (sizes : List (ℕ × ℕ)) → loads ≡ m.loads → map Some sizes ≡ m.reports → length m.loads ≡ length m.reports → 0 < pes → pes ≤ PES → StandBelow pes m → IsTaken pes loads sizes
 placed_there m pes loads sizes kept same paired some few below = record {
   some_pe = some;

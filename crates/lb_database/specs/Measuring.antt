@@ -6,8 +6,8 @@ use Rattle.std.specs.Prelude.{◌≡◌, ℕ, ◌+◌, ◌<◌, ◌≤◌, min, 
 use Rattle.chare_index.specs.declared.limits.TheConstants.Limits.{ELEMENTS, ROUND, LOAD, STATE_BYTES}
 use Rattle.lb_certificates.specs.Measured.{Taken, IsLoads}
 
--- what was measured so far: the units charged to each element in the round, and for each element that has
--- reported its packed size in bytes and the PE on which it stands
+-- what was measured so far in the round: the units charged to each element, and of each element that has
+-- reported the packed size in bytes and the PE on which it stands
 pub record Measured : Type 0 where
   pub round : ℕ
   pub loads : List ℕ
@@ -33,7 +33,7 @@ report_of m i = slice_index_or m.reports i None
 abbrev pub IsComplete : Measured → Type 0
 IsComplete m = All IsSome m.reports
 
--- each element that has reported stands on one of the first PEs, so many
+-- no element that has reported stands on a PE from pes on
 abbrev pub StandBelow : ℕ → Measured → Type 0
 StandBelow pes m = All (λ report. IfSome report (λ size. size.1 < pes)) m.reports
 
@@ -52,12 +52,12 @@ pub record IsSnapshotOf (m : Measured) (step pes : ℕ) (taken : Taken) : Type 0
   pub loads_charged : taken.loads ≡ m.loads
   pub sizes_reported : map Some taken.sizes ≡ m.reports
 
--- a place for a report for each element, each reported size within the limit
+-- one report or none for each element, and each reported size within the limit
 pub record AreReports (reports : List (Option (ℕ × ℕ))) : Type 0 where
   pub few : length reports ≤ ELEMENTS
   pub small : All (λ report. IfSome report (λ size. size.0 ≤ STATE_BYTES)) reports
 
--- what is measured keeps the limits, and there are as many loads as places for a report
+-- what is measured keeps the limits, and speaks of the same elements in both lists
 pub record IsMeasured (m : Measured) : Type 0 where
   pub started : 0 < m.round
   pub numbered : m.round ≤ ROUND

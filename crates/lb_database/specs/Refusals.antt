@@ -22,7 +22,7 @@ pub record IsReport (m : Measured) (i round bytes : ℕ) : Type 0 where
   pub first : IsNone (report_of m i)
   pub fits : bytes ≤ STATE_BYTES
 
--- any other is refused by the first of these that it is not
+-- any other is refused for the first of these that it is not
 abbrev pub RefusesReport : Measured → ℕ → ℕ → ℕ → DbError → Type 0
 RefusesReport m i round bytes Stranger = elements m ≤ i
 RefusesReport m i round bytes WrongRound = (i < elements m) × (round ≢ m.round)
@@ -36,7 +36,10 @@ RefusesSnapshot m Incomplete = ¬ (IsComplete m)
 RefusesSnapshot m OutOfMemory = IsComplete m × (0 < elements m)
 RefusesSnapshot m _ = ⊥
 
--- a next round waits for every report, and there is none after the last
+-- a complete round is followed by the next one, unless it is the last
+abbrev pub HasNextRound : Measured → Type 0
+HasNextRound m = IsComplete m × (m.round < ROUND)
+
 abbrev pub RefusesNextRound : Measured → DbError → Type 0
 RefusesNextRound m Incomplete = ¬ (IsComplete m)
 RefusesNextRound m Worn = IsComplete m × (m.round ≡ ROUND)

@@ -3,7 +3,7 @@
 
 ghost use Rattle.std.specs.Prelude.{◌≡◌, ℕ, ◌+◌, ◌<◌, ◌≤◌, ◌↔◌, IfOk, IfErr, IsTrue, MatchResult, OnOk, OnErr, slice_get};
 ghost use Rattle.lb_database.specs.Measuring.{Measured, IsMeasured, elements, saturated, opening, report_of, IsComplete, StandBelow, with_charge, with_report, IsSnapshotOf};
-ghost use Rattle.lb_database.specs.Refusals.{RefusesNew, RefusesCharge, IsReport, RefusesReport, RefusesSnapshot, RefusesNextRound};
+ghost use Rattle.lb_database.specs.Refusals.{RefusesNew, RefusesCharge, IsReport, RefusesReport, RefusesSnapshot, HasNextRound, RefusesNextRound};
 
 use crate::error::DbError;
 use crate::lists::{filled, loads_of, sizes_of};
@@ -164,7 +164,7 @@ impl<A: Allocator> LoadDb<A> {
     /// [`DbError::Incomplete`] where an element has not reported, and [`DbError::Worn`] in round
     /// [`Limits::ROUND`].
     pub fn next_round(&mut self) -> Result<(), DbError>
-        ensures told { MatchResult result (λ _. IsComplete self.old) (RefusesNextRound self.old) }
+        ensures told { MatchResult result (λ _. HasNextRound self.old) (RefusesNextRound self.old) }
         ensures ok { OnOk result (self.new ≡ opening (self.old.round + 1) (elements self.old)) }
         ensures err { OnErr result (self.new ≡ self.old) }
     {

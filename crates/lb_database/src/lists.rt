@@ -1,5 +1,5 @@
-//! The lists of a load database and of its snapshots. Each is as long as it has to be from its first growth
-//! on, so that it is refused no second one, and an empty list takes no memory.
+//! The lists of a load database and of its snapshots. Each asks once for all its memory before it is filled,
+//! and an empty one asks for none.
 
 ghost use Rattle.std.specs.Prelude.{◌≡◌, ◌<◌, All, length, map, replicate, Some, IfOk, IsSome, OnErr};
 ghost use Rattle.lb_certificates.specs.Measured.{IsLoads};

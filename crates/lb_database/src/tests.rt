@@ -126,3 +126,21 @@ fn two_rounds(rt: HostRuntime) -> Result<(), Fail> {
     assert_eq!(rt; db.report(0, round(2)?, 1, pe(0)?), Ok(()));
     Ok(())
 }
+
+#[test]
+fn numbers_and_texts(rt: HostRuntime) -> Result<(), Fail> {
+    let errors = [
+        (DbError::Stranger, 1, "there is no such element"),
+        (DbError::WrongRound, 2, "the report is for another round"),
+        (DbError::Twice, 3, "the element has reported already"),
+        (DbError::TooLarge, 4, "the packed size is out of range"),
+        (DbError::Incomplete, 5, "an element has not reported"),
+        (DbError::OutOfMemory, 6, "out of memory"),
+        (DbError::Worn, 7, "no round is left"),
+    ];
+    for (error, number, text) in errors {
+        assert_eq!(rt; error as u8, number, "{text}");
+        assert_eq!(rt; format!(in rt.alloc(); "{error}")?.as_str(), text);
+    }
+    Ok(())
+}

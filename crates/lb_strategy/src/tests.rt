@@ -25,211 +25,129 @@ fn snapshot(alloc: Global, procs: u32, elements: &[(u32, u32, u32)]) -> Result<S
     Snapshot::new(5, procs, loads, sizes).ok_or_else(|| Fail::new("no snapshot"))
 }
 
-// The parts of a decision as plain lists; no stops are the floor zero.
-#[derive(Clone, Copy)]
-struct Parts<'a> {
-    bottleneck: u64,
-    cuts: &'a [u32],
-    stops: &'a [u32],
-    names: &'a [u32],
-    u: &'a [i64],
-    v: &'a [i64],
-    moved: u64,
-    moves: &'a [(u32, u32, u32)],
+// What the check says of the example decision with these parts of it.
+fn verdict(
+    alloc: Global,
+    division: (&[u32], &[u32]),
+    naming: (&[u32], &[i64], &[i64]),
+    moving: (u64, &[(u32, u32, u32)]),
+) -> Result<Result<(), Flaw>, Fail> {
+    let example = snapshot(alloc, 2, &[(1, 10, 0), (1, 9, 1), (2, 8, 0)])?;
+    let decision = decision(alloc, division, naming, moving)?;
+    Ok(check(&example, 2, &decision))
 }
 
-fn decision(alloc: Global, parts: Parts<'_>, zero: bool) -> Result<Decision, Fail> {
-    let mut moves = Vec::new(alloc);
-    for &(index, present, planned) in parts.moves {
-        let index = Index::new(index).ok_or_else(|| Fail::new("no such element"))?;
-        moves.push((index, pe(present)?, pe(planned)?))?;
-    }
-    let stops = Stops::new(Vec::from_slice(alloc, parts.stops)?);
+// The decision with bottleneck 2 and these cuts and stops, names and prices, bytes moved and moves.
+fn decision(
+    alloc: Global,
+    division: (&[u32], &[u32]),
+    naming: (&[u32], &[i64], &[i64]),
+    moving: (u64, &[(u32, u32, u32)]),
+) -> Result<Decision, Fail> {
     Ok(Decision {
         division: Division {
-            bottleneck: parts.bottleneck,
-            cuts: Cuts::new(Vec::from_slice(alloc, parts.cuts)?),
-            floor: if zero {
-                Floor::Zero
-            } else {
-                Floor::Fence(stops)
-            },
+            bottleneck: 2,
+            cuts: Cuts::new(Vec::from_slice(alloc, division.0)?),
+            floor: Floor::Fence(Stops::new(Vec::from_slice(alloc, division.1)?)),
         },
-        naming: Naming::new(Vec::from_slice(alloc, parts.names)?),
+        naming: Naming::new(Vec::from_slice(alloc, naming.0)?),
         prices: Prices {
-            u: PriceList::new(Vec::from_slice(alloc, parts.u)?),
-            v: PriceList::new(Vec::from_slice(alloc, parts.v)?),
+            u: PriceList::new(Vec::from_slice(alloc, naming.1)?),
+            v: PriceList::new(Vec::from_slice(alloc, naming.2)?),
         },
-        moved: parts.moved,
-        moves: Moves::new(moves),
+        moved: moving.0,
+        moves: moves(alloc, moving.1)?,
     })
 }
 
-const RIGHT: Parts<'static> = Parts {
-    bottleneck: 2,
-    cuts: &[0, 2, 3],
-    stops: &[0, 1, 2],
-    names: &[1, 0],
-    u: &[10, 1],
-    v: &[-1, 0],
-    moved: 10,
-    moves: &[(0, 0, 1)],
-};
+fn moves(alloc: Global, rows: &[(u32, u32, u32)]) -> Result<Moves, Fail> {
+    let mut moves = Vec::new(alloc);
+    for &(index, present, planned) in rows {
+        let index = Index::new(index).ok_or_else(|| Fail::new("no such element"))?;
+        moves.push((index, pe(present)?, pe(planned)?))?;
+    }
+    Ok(Moves::new(moves))
+}
+
+const DIVISION: (&[u32], &[u32]) = (&[0, 2, 3], &[0, 1, 2]);
+
+const NAMING: (&[u32], &[i64], &[i64]) = (&[1, 0], &[10, 1], &[-1, 0]);
+
+const MOVING: (u64, &[(u32, u32, u32)]) = (10, &[(0, 0, 1)]);
 
 #[test]
-fn each_forged_decision_has_its_flaw(rt: HostRuntime) -> Result<(), Fail> {
-    let example = snapshot(rt.alloc(), 2, &[(1, 10, 0), (1, 9, 1), (2, 8, 0)])?;
-    let forged: [(Parts<'_>, Result<(), Flaw>); 24] = [
-        (RIGHT, Ok(())),
-        (
-            Parts {
-                cuts: &[0, 3],
-                ..RIGHT
-            },
-            Err(Flaw::CutCount),
-        ),
-        (Parts { cuts: &[], ..RIGHT }, Err(Flaw::CutCount)),
-        (
-            Parts {
-                cuts: &[1, 2, 3],
-                ..RIGHT
-            },
-            Err(Flaw::CutStart),
-        ),
-        (
-            Parts {
-                cuts: &[0, 4, 3],
-                ..RIGHT
-            },
-            Err(Flaw::CutOrder),
-        ),
-        (
-            Parts {
-                cuts: &[0, 2, 2],
-                ..RIGHT
-            },
-            Err(Flaw::CutEnd),
-        ),
-        (
-            Parts {
-                cuts: &[0, 1, 3],
-                ..RIGHT
-            },
-            Err(Flaw::Heavy(1)),
-        ),
-        (
-            Parts {
-                stops: &[0, 1],
-                ..RIGHT
-            },
-            Err(Flaw::FenceCount),
-        ),
-        (
-            Parts {
-                stops: &[1, 1, 2],
-                ..RIGHT
-            },
-            Err(Flaw::FenceStart),
-        ),
-        (
-            Parts {
-                stops: &[0, 2, 1],
-                ..RIGHT
-            },
-            Err(Flaw::FenceOrder),
-        ),
-        (
-            Parts {
-                stops: &[0, 1, 3],
-                ..RIGHT
-            },
-            Err(Flaw::FenceEnd),
-        ),
-        (
-            Parts {
-                stops: &[0, 0, 2],
-                ..RIGHT
-            },
-            Err(Flaw::FenceLight(1)),
-        ),
-        (
-            Parts {
-                names: &[1],
-                ..RIGHT
-            },
-            Err(Flaw::NameCount),
-        ),
-        (
-            Parts {
-                names: &[1, 2],
-                ..RIGHT
-            },
-            Err(Flaw::NameRange),
-        ),
-        (
-            Parts {
-                names: &[1, 1],
-                ..RIGHT
-            },
-            Err(Flaw::NameTwice),
-        ),
-        (Parts { u: &[10], ..RIGHT }, Err(Flaw::PriceCount)),
-        (Parts { v: &[], ..RIGHT }, Err(Flaw::PriceCount)),
-        (
-            Parts {
-                v: &[0, 0],
-                ..RIGHT
-            },
-            Err(Flaw::PriceHigh(0, 0)),
-        ),
-        (
-            Parts {
-                u: &[9, 1],
-                ..RIGHT
-            },
-            Err(Flaw::PriceGap),
-        ),
-        (
-            Parts {
-                names: &[0, 1],
-                ..RIGHT
-            },
-            Err(Flaw::PriceGap),
-        ),
-        (Parts { moved: 17, ..RIGHT }, Err(Flaw::MovedWrong)),
-        (
-            Parts {
-                moves: &[],
-                ..RIGHT
-            },
-            Err(Flaw::MovesWrong),
-        ),
-        (
-            Parts {
-                moves: &[(0, 0, 1), (1, 1, 0)],
-                ..RIGHT
-            },
-            Err(Flaw::MovesWrong),
-        ),
-        (
-            Parts {
-                moves: &[(1, 1, 0)],
-                ..RIGHT
-            },
-            Err(Flaw::MovesWrong),
-        ),
+fn each_forged_division_has_its_flaw(rt: HostRuntime) -> Result<(), Fail> {
+    let forged: [(&[u32], &[u32], Result<(), Flaw>); 13] = [
+        (&[0, 2, 3], &[0, 1, 2], Ok(())),
+        (&[0, 3], &[0, 1, 2], Err(Flaw::CutCount)),
+        (&[], &[0, 1, 2], Err(Flaw::CutCount)),
+        (&[1, 2, 3], &[0, 1, 2], Err(Flaw::CutStart)),
+        (&[0, 4, 3], &[0, 1, 2], Err(Flaw::CutOrder)),
+        (&[0, 2, 2], &[0, 1, 2], Err(Flaw::CutEnd)),
+        (&[0, 1, 3], &[0, 1, 2], Err(Flaw::Heavy(1))),
+        (&[0, 2, 3], &[0, 1], Err(Flaw::FenceCount)),
+        (&[0, 2, 3], &[], Err(Flaw::FenceCount)),
+        (&[0, 2, 3], &[1, 1, 2], Err(Flaw::FenceStart)),
+        (&[0, 2, 3], &[0, 2, 1], Err(Flaw::FenceOrder)),
+        (&[0, 2, 3], &[0, 1, 3], Err(Flaw::FenceEnd)),
+        (&[0, 2, 3], &[0, 0, 2], Err(Flaw::FenceLight(1))),
     ];
-    for (number, (parts, verdict)) in forged.into_iter().enumerate() {
-        let decision = decision(rt.alloc(), parts, false)?;
-        assert_eq!(rt; check(&example, 2, &decision), verdict, "row {number}");
+    for (cuts, stops, expected) in forged {
+        let found = verdict(rt.alloc(), (cuts, stops), NAMING, MOVING)?;
+        assert_eq!(rt; found, expected, "cuts {cuts:?}, fence {stops:?}");
     }
-    let unfenced = decision(rt.alloc(), RIGHT, true)?;
-    assert_eq!(rt; check(&example, 2, &unfenced), Err(Flaw::ZeroFloor));
-    assert_eq!(rt;
-        unfenced
-            .place_of(Index::new(2).ok_or_else(|| Fail::new("no element"))?)
-            .get(),
-        0
-    );
+    Ok(())
+}
+
+#[test]
+fn each_forged_naming_has_its_flaw(rt: HostRuntime) -> Result<(), Fail> {
+    let forged: [(&[u32], &[i64], &[i64], Flaw); 9] = [
+        (&[1], &[10, 1], &[-1, 0], Flaw::NameCount),
+        (&[], &[10, 1], &[-1, 0], Flaw::NameCount),
+        (&[1, 2], &[10, 1], &[-1, 0], Flaw::NameRange),
+        (&[1, 1], &[10, 1], &[-1, 0], Flaw::NameTwice),
+        (&[1, 0], &[10], &[-1, 0], Flaw::PriceCount),
+        (&[1, 0], &[10, 1], &[], Flaw::PriceCount),
+        (&[1, 0], &[10, 1], &[0, 0], Flaw::PriceHigh(0, 0)),
+        (&[1, 0], &[9, 1], &[-1, 0], Flaw::PriceGap),
+        (&[0, 1], &[10, 1], &[-1, 0], Flaw::PriceGap),
+    ];
+    for (names, u, v, flaw) in forged {
+        let found = verdict(rt.alloc(), DIVISION, (names, u, v), MOVING)?;
+        assert_eq!(rt; found, Err(flaw), "names {names:?}, prices {u:?} {v:?}");
+    }
+    Ok(())
+}
+
+#[test]
+fn each_forged_list_of_moves_has_its_flaw(rt: HostRuntime) -> Result<(), Fail> {
+    let forged: [(u64, &[(u32, u32, u32)], Flaw); 4] = [
+        (17, &[(0, 0, 1)], Flaw::MovedWrong),
+        (10, &[], Flaw::MovesWrong),
+        (10, &[(0, 0, 1), (1, 1, 0)], Flaw::MovesWrong),
+        (10, &[(1, 1, 0)], Flaw::MovesWrong),
+    ];
+    for (moved, moves, flaw) in forged {
+        let found = verdict(rt.alloc(), DIVISION, NAMING, (moved, moves))?;
+        assert_eq!(rt; found, Err(flaw), "moved {moved}, moves {moves:?}");
+    }
+    Ok(())
+}
+
+#[test]
+fn an_element_runs_where_its_block_does(rt: HostRuntime) -> Result<(), Fail> {
+    let example = snapshot(rt.alloc(), 2, &[(1, 10, 0), (1, 9, 1), (2, 8, 0)])?;
+    let decision = decision(rt.alloc(), DIVISION, NAMING, MOVING)?;
+    if check(&example, 2, &decision).is_err() {
+        return Err(Fail::new("refused the example"));
+    }
+    for (place, planned) in [(0u32, 1), (1, 1), (2, 0)] {
+        let Some(index) = Index::new(place) else {
+            return Err(Fail::new("no such element"));
+        };
+        if (index.get() as usize) < example.sizes().len() {
+            assert_eq!(rt; decision.place_of(index).get(), planned, "element {place}");
+        }
+    }
     Ok(())
 }

@@ -19,6 +19,6 @@ returns-clause-places g c =
       division = c.in_ok-check_division.ensures.exact.0 refl;
       named = c.in_ok-moved.ensures.exact.0 refl;
       moved = search rules;
-      moves = search rules
+      moves = search rules;
     } in
     place_from_right c.args.loads.now c.args.sizes.now c.args.pes c.args.decision.now right
