@@ -14,8 +14,9 @@ use std::marker::Model;
 
 /// What is measured of the elements of a chare array in one round: the work units charged to each, and the
 /// packed size in bytes and the place of each element that has reported. It has at most
-/// [`Limits::ELEMENTS`] elements, and its rounds are 1 to [`Limits::ROUND`]. A call that is refused leaves it
-/// unchanged. Contracts see it as the record `Measured`.
+/// [`Limits::ELEMENTS`] elements, and its rounds are 1 to [`Limits::ROUND`]. It takes memory where it is made
+/// and for a snapshot, and nowhere else. A call that is refused leaves it unchanged. Contracts see it as the
+/// record `Measured`.
 #[derive(Drop)]
 #[derive_where(Debug)]
 pub struct LoadDb<A: Allocator = Global> {
@@ -37,7 +38,9 @@ impl<A: Allocator> Model for LoadDb<A> {
 
     ghost view = { λ d. record { round = d.round; loads = d.loads.items; reports = d.reports.items } };
 
-    ghost invariant = { λ d. IsMeasured (record { round = d.round; loads = d.loads.items; reports = d.reports.items }) × (d.missing ≡ count_by is_none d.reports.items) };
+    ghost invariant = { λ d.
+        IsMeasured (record { round = d.round; loads = d.loads.items; reports = d.reports.items })
+        × (d.missing ≡ count_by is_none d.reports.items) };
 }
 
 impl<A: Allocator> LoadDb<A> {
