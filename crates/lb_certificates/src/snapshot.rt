@@ -1,4 +1,4 @@
-ghost use Rattle.std.specs.Prelude.{◌≡◌, ◌<◌, ◌↔◌, All, IsTrue, SomeIff};
+ghost use Rattle.std.specs.Prelude.{◌≡◌, ◌<◌, ◌↔◌, All, IsTrue, SomeIff, length};
 ghost use Rattle.lb_certificates.specs.Measured.{Taken, IsTaken};
 
 use crate::loads::Loads;
@@ -68,9 +68,10 @@ impl<A: Allocator> Snapshot<A> {
         &self.loads
     }
 
-    /// The size and the place of each element.
+    /// The size and the place of each element, as many as there are loads.
     pub fn sizes(&self) -> &Sizes<A>
-        ensures { result.now ≡ self.now.sizes }
+        ensures value { result.now ≡ self.now.sizes }
+        ensures paired { length self.now.loads ≡ length self.now.sizes }
     {
         &self.sizes
     }

@@ -3,8 +3,11 @@ use Rattle.std.proofs.Common.{◌≡◌, ℕ, ◌+◌, ◌<◌, ◌≤◌, ◌�
 use Rattle.std.specs.List.{position_or_len}
 use Rattle.std.proofs.lemmas.Bool.{cases_lt, lt-ltb, le-ltb}
 use Rattle.std.proofs.lemmas.List.Sums.{fails_before_first, passes_at_first}
+use Rattle.lb_certificates.specs.Certificate.{IsCertified}
 use Rattle.lb_certificates.specs.Chain.{IsDivision, IsLeastDivision}
-use Rattle.lb_certificates.specs.Naming.{block_of, blocks_between, IsCheapest}
+use Rattle.lb_certificates.specs.declared.division.Division.{Division}
+use Rattle.chare_index.specs.declared.limits.TheConstants.Limits.{PES}
+use Rattle.lb_certificates.specs.Naming.{block_of, blocks_between, AreBlocks, IsCheapest}
 use Rattle.lb_certificates.proofs.BlockSums.{cheapest_from_named}
 use Rattle.lb_certificates.proofs.LeastDivisions.{least_from_certified}
 use Rattle.lb_strategy.specs.declared.decision.Decision.{Decision}
@@ -50,4 +53,15 @@ place_from_right loads sizes p d right i inside =
       inside = omega (arith, inside, division.ends);
       named = omega (arith, block, right.named.naming.counted);
       pe = omega (arith, right.named.naming.below (block_of d.division.cuts i) block, right.named.blocks.few_blocks);
+    }
+
+-- a certified division of the loads divides the elements
+pub blocks_from_certified : {A : Type 0} (loads : List ℕ) (sizes : List (ℕ × ℕ)) (p : ℕ) (d : Division A) → IsCertified loads p d → length loads ≡ length sizes → 1 ≤ p → p ≤ PES → AreBlocks sizes d.cuts
+blocks_from_certified loads sizes p d certified counted some few =
+    let blocks : p ≡ blocks_between d.cuts = omega (arith, certified.divides.counted) in
+    let divides : IsDivision 0 (length sizes) p d.cuts = subst (λ n. IsDivision 0 n p d.cuts) counted certified.divides in
+    record {
+      some_block = omega (arith, blocks, some);
+      few_blocks = omega (arith, blocks, few);
+      divides = subst (λ n. IsDivision 0 (length sizes) n d.cuts) blocks divides;
     }

@@ -3,15 +3,19 @@
 //!
 //! - [`Decision`], with its [`Moves`]: what a step decides.
 //! - [`check`]: accepts a decision exactly where every part of it is right.
-//! - [`plan`]: decides.
+//! - [`plan`]: decides, or answers a [`PlanError`].
 #![tactic(auto)]
 
 mod checking;
 mod decision;
+mod error;
 mod moves;
+mod planning;
 #[cfg(test)]
 mod tests;
 
 pub use checking::check;
 pub use decision::Decision;
+pub use error::PlanError;
 pub use moves::Moves;
+pub use planning::plan;

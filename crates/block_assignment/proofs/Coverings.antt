@@ -1,0 +1,139 @@
+-- Finite lists of numbers that reach others: the pigeonhole principle, and sums over a permutation.
+use Rattle.std.proofs.Common.{◌≡◌, ◌≢◌, ℕ, suc, zero, ◌+◌, ◌-◌, ◌<◌, ◌≤◌, ◌==◌, cond, ◌⊎◌, inl, inr, List, slice_index, arith, ap, sym, ◌∙◌, refl}
+use Rattle.std.proofs.lemmas.Bool.{cases_eq, cond-true, cond-false, eq-eqb, ne_eqb}
+use Rattle.lb_certificates.specs.Naming.{total}
+use Rattle.block_assignment.specs.Search.{IsFree}
+
+-- a PE is held by a block, or free
+pub held_or_free : (n : ℕ) (names : List ℕ) (p : ℕ) → ((b : ℕ) × (b < n) × (slice_index names b ≡ p)) ⊎ IsFree n names p
+held_or_free zero names p = inr (λ b inside. absurd (omega arith))
+held_or_free (suc n) names p =
+    elim (cases_eq (slice_index names n) p) [
+      | inl here ↦ inl (n, omega arith, here)
+      | inr apart ↦ elim (held_or_free n names p) [
+        | inl held ↦ inl (held.0, omega (arith, held.1), held.2)
+        | inr free ↦ inr (λ b inside. elim (cases_eq b n) [
+          | inl last ↦ λ e. apart (ap (λ k. slice_index names k) (sym last) ∙ e)
+          | inr before ↦ free b (omega arith)
+        ])
+      ]
+    ]
+
+-- a function with another value at one place
+abbrev pub changed : (ℕ → ℕ) → ℕ → ℕ → ℕ → ℕ
+changed f q x k = cond (k == q) x (f k)
+
+pub changed_here : (f : ℕ → ℕ) (q x k : ℕ) → k ≡ q → changed f q x k ≡ x
+changed_here f q x k e = cond-true (k == q) x (f k) (eq-eqb k q e)
+
+pub changed_apart : (f : ℕ → ℕ) (q x k : ℕ) → k ≢ q → changed f q x k ≡ f k
+changed_apart f q x k apart = cond-false (k == q) x (f k) (ne_eqb k q apart)
+
+-- without the block that reaches the last number the others reach those before it
+reached_before : (m n : ℕ) (f : ℕ → ℕ) (top : ℕ) → top < n → f top ≡ m → ((p : ℕ) → p < suc m → (b : ℕ) × (b < n) × (f b ≡ p)) → (p : ℕ) → p < m → (b : ℕ) × (b < n - 1) × (changed f top (f (n - 1)) b ≡ p)
+reached_before m n f top below e h p inside =
+    let at = h p (omega arith) in
+    let apart : at.0 ≢ top = λ same. absurd (omega (arith, inside, at.2, e, ap f same)) in
+    elim (cases_eq at.0 (n - 1)) [
+      | inl last ↦ (top, omega (arith, last, apart, below, at.1), changed_here f top (f (n - 1)) top refl ∙ ap f (sym last) ∙ at.2)
+      | inr before ↦ (at.0, omega (arith, before, at.1), changed_apart f top (f (n - 1)) at.0 apart ∙ at.2)
+    ]
+
+-- numbers that reach each number below a bound are no fewer than it
+pub covers : (m n : ℕ) (f : ℕ → ℕ) → ((p : ℕ) → p < m → (b : ℕ) × (b < n) × (f b ≡ p)) → m ≤ n
+covers zero n f h = omega arith
+covers (suc m) n f h =
+    let top = h m (omega arith) in
+    omega (arith, top.1, covers m (n - 1) (changed f top.0 (f (n - 1))) (reached_before m n f top.0 top.1 top.2 h))
+
+-- fewer blocks than PEs leave a PE free
+pub some_free : (n m : ℕ) (names : List ℕ) → n < m → (p : ℕ) × (p < m) × IsFree n names p
+some_free n m names fewer =
+    elim (free_below n m names) [
+      | inl found ↦ found
+      | inr held ↦ absurd (omega (arith, fewer, covers m n (λ b. slice_index names b) held))
+    ]
+  where
+    free_below : (n m : ℕ) (names : List ℕ) → ((p : ℕ) × (p < m) × IsFree n names p) ⊎ ((p : ℕ) → p < m → (b : ℕ) × (b < n) × (slice_index names b ≡ p))
+    free_below n zero names = inr (λ p inside. absurd (omega arith))
+    free_below n (suc m) names =
+        elim (held_or_free n names m) [
+          | inr free ↦ inl (m, omega arith, free)
+          | inl held ↦ elim (free_below n m names) [
+            | inl found ↦ inl (found.0, omega (arith, found.1), found.2)
+            | inr all ↦ inr (λ p inside. elim (cases_eq p m) [
+              | inl last ↦ (held.0, held.1, held.2 ∙ sym last)
+              | inr before ↦ all p (omega arith)
+            ])
+          ]
+        ]
+
+-- equal terms, equal sums
+pub total_same : (n : ℕ) (f g : ℕ → ℕ) → ((k : ℕ) → k < n → f k ≡ g k) → total n f ≡ total n g
+total_same zero f g same = refl
+total_same (suc n) f g same =
+    omega (arith, total_same n f g (λ k inside. same k (omega arith)), same n (omega arith))
+
+-- one term is another
+pub total_changed : (n : ℕ) (f : ℕ → ℕ) (q x : ℕ) → q < n → total n (changed f q x) + f q ≡ total n f + x
+total_changed zero f q x inside = absurd (omega arith)
+total_changed (suc n) f q x inside =
+    elim (cases_eq q n) [
+      | inl last ↦
+          let before : total n (changed f q x) ≡ total n f = total_same n (changed f q x) f (λ k below. changed_apart f q x k (omega arith)) in
+          omega (arith, before, changed_here f q x n (sym last), ap f last)
+      | inr before ↦
+          omega (arith, total_changed n f q x (omega arith), changed_apart f q x n (λ e. before (sym e)))
+    ]
+
+-- the number n under the name q
+abbrev relabelled : ℕ → ℕ → ℕ → ℕ
+relabelled n q x = cond (x == n) q x
+
+relabelled_here : (n q x : ℕ) → x ≡ n → relabelled n q x ≡ q
+relabelled_here n q x e = cond-true (x == n) q x (eq-eqb x n e)
+
+relabelled_kept : (n q x : ℕ) → x ≢ n → relabelled n q x ≡ x
+relabelled_kept n q x apart = cond-false (x == n) q x (ne_eqb x n apart)
+
+relabelled_same : (n q : ℕ) (f : ℕ → ℕ) (x : ℕ) → x ≢ q → changed f q (f n) (relabelled n q x) ≡ f x
+relabelled_same n q f x apart =
+    elim (cases_eq x n) [
+      | inl here ↦ changed_here f q (f n) (relabelled n q x) (relabelled_here n q x here) ∙ ap f (sym here)
+      | inr kept ↦ ap (changed f q (f n)) (relabelled_kept n q x kept) ∙ changed_apart f q (f n) x apart
+    ]
+
+relabelled_below : (n q x : ℕ) → q < suc n → x < suc n → x ≢ q → relabelled n q x < n
+relabelled_below n q x small inside apart =
+    elim (cases_eq x n) [
+      | inl here ↦ omega (arith, relabelled_here n q x here)
+      | inr kept ↦ omega (arith, relabelled_kept n q x kept)
+    ]
+
+relabelled_apart : (n q x y : ℕ) → x ≢ y → x ≢ q → y ≢ q → relabelled n q x ≢ relabelled n q y
+relabelled_apart n q x y apart left right e =
+    elim (cases_eq x n) [
+      | inl here ↦ absurd (omega (arith, e, relabelled_here n q x here, relabelled_kept n q y (λ other. apart (here ∙ sym other))))
+      | inr kept ↦ elim (cases_eq y n) [
+        | inl here ↦ absurd (omega (arith, e, relabelled_here n q y here, relabelled_kept n q x kept))
+        | inr other ↦ absurd (omega (arith, e, relabelled_kept n q x kept, relabelled_kept n q y other))
+      ]
+    ]
+
+-- a sum over different numbers below their count is the sum over all of them
+pub total_permuted : (n : ℕ) (f names : ℕ → ℕ) → ((b : ℕ) → b < n → names b < n) → ((a b : ℕ) → a < b → b < n → names a ≢ names b) → total n (λ b. f (names b)) ≡ total n f
+total_permuted zero f names below apart = refl
+total_permuted (suc n) f names below apart =
+    let q : ℕ = names n in
+    let same : total n (λ b. f (names b)) ≡ total n (λ b. changed f q (f n) (relabelled n q (names b))) =
+    total_same n (λ b. f (names b)) (λ b. changed f q (f n) (relabelled n q (names b))) (λ b inside. sym (relabelled_same n q f (names b) (λ e. apart b n inside (omega arith) e))) in
+    let rest : total n (λ b. changed f q (f n) (relabelled n q (names b))) ≡ total n (changed f q (f n)) =
+    total_permuted n (changed f q (f n)) (λ b. relabelled n q (names b))
+    (λ b inside. relabelled_below n q (names b) (below n (omega arith)) (below b (omega arith)) (apart b n inside (omega arith)))
+    (λ a b before inside. relabelled_apart n q (names a) (names b) (apart a b before (omega arith)) (apart a n (omega arith) (omega arith)) (apart b n inside (omega arith))) in
+    elim (cases_eq q n) [
+      | inl last ↦
+          let kept : total n (changed f q (f n)) ≡ total n f = total_same n (changed f q (f n)) f (λ k inside. changed_apart f q (f n) k (omega arith)) in
+          omega (arith, same, rest, kept, ap f last)
+      | inr before ↦ omega (arith, same, rest, total_changed n f q (f n) (omega (arith, before, below n (omega arith))))
+    ]

@@ -1,0 +1,5 @@
+pub mod Coverings
+pub mod Rows
+pub mod Sums
+pub mod Trees
+pub mod Duality

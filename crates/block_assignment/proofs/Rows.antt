@@ -1,0 +1,70 @@
+-- The costs of one block, and of the blocks before it.
+use Rattle.std.proofs.Common.{◌≡◌, ℕ, ◌+◌, ◌-◌, ◌*◌, ◌^◌, ◌<◌, ◌≤◌, ◌==◌, inl, inr, List, ◌++◌, All, length, take, drop, get_or, slice_index, sum_by, arith, ap, sym, ◌∙◌, subst}
+use Rattle.std.proofs.lemmas.Bool.{cases_lt, cond_both}
+use Rattle.std.proofs.lemmas.List.{get_or_append_left, get_or-append_right, length-drop, length-append, get_or_default}
+use Rattle.std.proofs.lemmas.List.Elements.{All-drop, All-append}
+use Rattle.std.proofs.lemmas.List.Sums.{sum_by-le, sum_by_more_le, sum_by-take-le}
+use Rattle.std.proofs.lemmas.Nat.{mul-add-lt}
+use Rattle.std.proofs.Math.Nat.{mul-le-mul_right}
+use Rattle.chare_index.specs.declared.limits.TheConstants.Limits.{STATE_BYTES}
+use Rattle.lb_certificates.specs.Measured.{IsSizes}
+use Rattle.lb_certificates.specs.Naming.{moved_bytes, block_cost}
+
+-- the bytes of elements are far below 2^64
+pub bytes_small : (pairs : List (ℕ × ℕ)) → IsSizes pairs → sum_by (λ size. size.0) pairs ≤ 2 ^ 36
+bytes_small pairs h =
+    omega (arith, sum_by-le (λ (size : ℕ × ℕ). size.0) STATE_BYTES pairs h.small, mul-le-mul_right STATE_BYTES h.few)
+
+-- one more element fits
+pub bytes_fit : (pairs : List (ℕ × ℕ)) (i : ℕ) (d : ℕ × ℕ) → IsSizes pairs → i < length pairs → sum_by (λ size. size.0) (take i pairs) + (get_or pairs i d).0 < 2 ^ 64
+bytes_fit pairs i d h inside =
+    omega (arith, bytes_small pairs h, sum_by_more_le (λ (size : ℕ × ℕ). size.0) pairs i d inside)
+
+-- no more bytes of an element move than it has
+moved_le : (size : ℕ × ℕ) (p : ℕ) → moved_bytes size p ≤ size.0
+moved_le size p = cond_both (size.1 == p) 0 size.0 (λ n. n ≤ size.0) (λ _. omega arith) (λ _. omega arith)
+
+pub block_cost_small : (sizes : List (ℕ × ℕ)) (cuts : List ℕ) (b p : ℕ) → IsSizes sizes → block_cost sizes cuts b p ≤ 2 ^ 36
+block_cost_small sizes cuts b p h =
+    let first : ℕ = slice_index cuts b in
+    let behind : All (λ size. size.0 ≤ STATE_BYTES) (drop first sizes) = All-drop (λ (size : ℕ × ℕ). size.0 ≤ STATE_BYTES) first sizes h.small in
+    let whole : sum_by (λ size. moved_bytes size p) (drop first sizes) ≤ length (drop first sizes) * STATE_BYTES =
+    sum_by-le (λ size. moved_bytes size p) STATE_BYTES (drop first sizes) (λ i d inside. omega (arith, moved_le (get_or (drop first sizes) i d) p, behind i d inside)) in
+    let part : block_cost sizes cuts b p ≤ sum_by (λ size. moved_bytes size p) (drop first sizes) =
+    sum_by-take-le (λ size. moved_bytes size p) (drop first sizes) (slice_index cuts (b + 1) - first) in
+    omega (arith, whole, part, length-drop first sizes, h.few)
+
+-- after the first i elements of a block each entry of its row is the bytes of all, less those of the first i that
+-- stand on its PE
+abbrev pub Stands : List (ℕ × ℕ) → ℕ → List ℕ → Type 0
+Stands pairs i row =
+    (p : ℕ) → p < length row → slice_index row p + sum_by (λ size. size.0) (take i pairs) ≡ sum_by (λ size. size.0) pairs + sum_by (λ size. moved_bytes size p) (take i pairs)
+
+-- what stands on a PE can be taken off its entry
+pub taken_off : (pairs : List (ℕ × ℕ)) (i : ℕ) (row : List ℕ) (p : ℕ) (d : ℕ × ℕ) → Stands pairs i row → p < length row → i < length pairs → (get_or pairs i d).0 ≤ slice_index row p
+taken_off pairs i row p d stands inside before =
+    omega (arith, stands p inside, sum_by_more_le (λ (size : ℕ × ℕ). size.0) pairs i d before)
+
+-- the rows of the first b blocks
+pub record HasRows (sizes : List (ℕ × ℕ)) (cuts : List ℕ) (blocks b : ℕ) (costs : List ℕ) : Type 0 where
+  pub counted : length costs ≡ b * blocks
+  pub small : All (λ cost. cost ≤ 2 ^ 36) costs
+  pub exact : (k p : ℕ) → k < b → p < blocks → slice_index costs (k * blocks + p) ≡ block_cost sizes cuts k p
+
+-- one more row
+pub rows_more : (sizes : List (ℕ × ℕ)) (cuts : List ℕ) (blocks b : ℕ) (costs row : List ℕ) → IsSizes sizes → HasRows sizes cuts blocks b costs → length row ≡ blocks → ((p : ℕ) → p < blocks → slice_index row p ≡ block_cost sizes cuts b p) → HasRows sizes cuts blocks (b + 1) (costs ++ row)
+rows_more sizes cuts blocks b costs row h rows counted exact =
+    record {
+      counted = omega (arith, rows.counted, length-append costs row);
+      small = All-append (λ cost. cost ≤ 2 ^ 36) costs row rows.small (λ p d inside. omega (arith, get_or_default row p 0 d inside, exact p (omega arith), block_cost_small sizes cuts b p h));
+      exact = λ k p before inside. elim (cases_lt k b) [
+        | inl earlier ↦
+            let below : k * blocks + p < length costs = omega (arith, rows.counted, mul-add-lt k blocks p b earlier inside) in
+            get_or_append_left costs row 0 (k * blocks + p) below ∙ rows.exact k p earlier inside
+        | inr last ↦
+            let e : k ≡ b = omega arith in
+            let turned : b * blocks + p - b * blocks ≡ p = omega arith in
+            let read : slice_index (costs ++ row) (b * blocks + p) ≡ slice_index row (b * blocks + p - b * blocks) = get_or-append_right costs row (b * blocks) (b * blocks + p) 0 rows.counted (omega arith) in
+            subst (λ n. slice_index (costs ++ row) (n * blocks + p) ≡ block_cost sizes cuts n p) (sym e) (read ∙ ap (λ n. slice_index row n) turned ∙ exact p inside)
+      ];
+    }

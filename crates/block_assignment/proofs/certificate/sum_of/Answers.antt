@@ -1,0 +1,12 @@
+use Rattle.std.proofs.Common.{arith}
+use Rattle.std.proofs.lemmas.Int.{ints, to_z-of_z}
+use Rattle.std.proofs.lemmas.List.Sums.{fold_more}
+use Rattle.block_assignment.proofs.certificate.sum_of.Goals as goal
+
+pub loop-price-preserved : goal.loop-price-preserved
+loop-price-preserved c =
+    record {
+      value = grind (arith, ints, to_z-of_z, fold_more);
+      low = omega (arith, ints);
+      high = omega (arith, ints);
+    }

@@ -1,0 +1,25 @@
+-- What each block of a division costs on each PE, as a square table: an assignment problem.
+use Rattle.std.specs.Prelude.{◌≡◌, ℕ, ◌+◌, ◌-◌, ◌*◌, ◌^◌, ◌<◌, ◌≤◌, List, length, All, slice_index}
+use Rattle.chare_index.specs.declared.limits.TheConstants.Limits.{PES}
+use Rattle.lb_certificates.specs.Naming.{block_cost}
+
+-- so many blocks and as many PEs, and the costs of the first block on each PE, of the second, and so on
+pub record Table : Type 0 where
+  pub blocks : ℕ
+  pub costs : List ℕ
+
+-- the cost of block b on PE p
+abbrev pub cost_at : Table → ℕ → ℕ → ℕ
+cost_at t b p = slice_index t.costs (b * t.blocks + p)
+
+-- 1 to 256 blocks, and each cost at most that of a full array of elements of the greatest size
+pub record IsTable (t : Table) : Type 0 where
+  pub some_block : 1 ≤ t.blocks
+  pub few_blocks : t.blocks ≤ PES
+  pub square : length t.costs ≡ t.blocks * t.blocks
+  pub small : All (λ cost. cost ≤ 2 ^ 36) t.costs
+
+-- the costs are the bytes of each block that do not stand on each PE
+pub record IsTableOf (sizes : List (ℕ × ℕ)) (cuts : List ℕ) (t : Table) : Type 0 where
+  pub counted : t.blocks ≡ length cuts - 1
+  pub exact : (b p : ℕ) → b < t.blocks → p < t.blocks → cost_at t b p ≡ block_cost sizes cuts b p

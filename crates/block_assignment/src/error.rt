@@ -1,0 +1,24 @@
+ghost use Rattle.std.specs.Prelude.{◌≡◌};
+ghost use Rattle.block_assignment.specs.declared.error.NameError.TheVariants.{OutOfMemory};
+
+use std::alloc::{AllocError, AllocFailed};
+use thiserror::Error;
+
+/// Why the blocks were not named. The numbers are stable.
+#[derive(Clone, Copy, Debug, PartialEq, Eq, Error)]
+pub enum NameError {
+    /// The names that were found are not proved cheapest by their prices.
+    #[error("the naming is not certified")]
+    Uncertified = 1,
+    /// No memory was left.
+    #[error("out of memory")]
+    OutOfMemory = 2,
+}
+
+impl From<AllocError> for NameError {
+    ghost from_gives = { λ _ e. e ≡ OutOfMemory };
+
+    fn from(_: AllocError) -> NameError {
+        NameError::OutOfMemory
+    }
+}

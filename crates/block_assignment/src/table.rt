@@ -1,0 +1,113 @@
+ghost use Rattle.std.specs.Prelude.{◌≡◌, ℕ, ◌+◌, ◌-◌, ◌^◌, ◌<◌, ◌≤◌, List, All, length, slice_index, sum_by, IfOk};
+ghost use Rattle.lb_certificates.specs.Chain.{IsDivision};
+ghost use Rattle.lb_certificates.specs.Measured.{IsSizes};
+ghost use Rattle.lb_certificates.specs.Naming.{moved_bytes};
+ghost use Rattle.block_assignment.specs.Table.{Table, IsTable, IsTableOf, cost_at};
+
+use chare_index::{Limits, Pe};
+use lb_certificates::{Cuts, Sizes};
+use std::alloc::{AllocError, Allocator, Global};
+use std::marker::Model;
+
+/// The bytes that move where a block runs on a PE, for each block and each PE: an assignment problem of 1 to
+/// [`Limits::PES`] blocks and as many PEs. Contracts see it as the number of blocks and the list of the costs,
+/// row by row.
+#[derive(Drop)]
+#[derive_where(Debug)]
+pub struct CostTable<A: Allocator = Global> {
+    blocks: u32,
+    costs: Vec<u64, A>,
+}
+
+impl<A: Allocator> Model for CostTable<A> {
+    ghost Value = { Table };
+
+    ghost view = { λ t. record { blocks = t.blocks; costs = t.costs.items } };
+
+    ghost invariant = { λ t. IsTable (record { blocks = t.blocks; costs = t.costs.items }) };
+}
+
+impl<A: Allocator + Copy> CostTable<A> {
+    /// The table of the blocks into which these cuts divide the elements. An element whose PE is none of the
+    /// blocks' moves wherever its block runs. The elements are walked over twice, and the table once.
+    ///
+    /// # Errors
+    ///
+    /// Want of memory, where the list of the costs or one row of it was refused.
+    pub fn of<B: Allocator, C: Allocator>(
+        alloc: A,
+        sizes: &Sizes<B>,
+        cuts: &Cuts<C>,
+    ) -> Result<Self, AllocError>
+        requires some_block { 1 < length cuts.now }
+        requires few_blocks { length cuts.now ≤ Limits.PES + 1 }
+        requires divides { IsDivision 0 (length sizes.now) (length cuts.now - 1) cuts.now }
+        ensures { IfOk result (IsTableOf sizes.now cuts.now) }
+    {
+        let pairs = sizes.as_slice();
+        let cuts = cuts.as_slice();
+        let blocks = cuts.len() - 1;
+        let mut costs = Vec::with_capacity(alloc, blocks * blocks)?;
+        let mut room = vec![in alloc; 0u64; blocks]?;
+        let row = room.as_mut_slice();
+        for b in 0..blocks {
+            let first = cuts[b] as usize;
+            let end = cuts[b + 1] as usize;
+            fill_row(row, &pairs[first..end]);
+            costs.extend_from_slice(row)?;
+        }
+        Ok(CostTable {
+            blocks: blocks as u32,
+            costs,
+        })
+    }
+}
+
+impl<A: Allocator> CostTable<A> {
+    /// The bytes of block `b` whose present PE is not `p`.
+    #[tactic(auto, using(crate::proofs::Sums::cost_small))]
+    pub fn cost(&self, b: u32, p: u32) -> u64
+        requires block { b < self.now.blocks }
+        requires pe { p < self.now.blocks }
+        ensures value { result ≡ cost_at self.now b p }
+        ensures small { result ≤ 2 ^ 36 }
+    {
+        self.costs[b as usize * self.blocks as usize + p as usize]
+    }
+
+    /// How many blocks there are, and as many PEs.
+    pub fn blocks(&self) -> u32
+        ensures value { result ≡ self.now.blocks }
+        ensures within_limits { IsTable self.now }
+    {
+        self.blocks
+    }
+}
+
+// What the block of these elements costs on each PE: its bytes, less those that stand there.
+#[tactic(auto, using(crate::proofs::Rows::taken_off))]
+fn fill_row(row: &mut [u64], pairs: &[(u32, Pe)])
+    requires { IsSizes pairs.now }
+    ensures { (p : ℕ) → p < length row.new → slice_index row.new p ≡ sum_by (λ size. moved_bytes size p) pairs.now }
+{
+    row.fill(bytes(pairs));
+    for &(size, pe) in pairs {
+        let place = pe.get() as usize;
+        if place < row.len() {
+            row[place] -= u64::from(size);
+        }
+    }
+}
+
+// The bytes of these elements.
+#[tactic(auto, using(crate::proofs::Rows::bytes_fit))]
+fn bytes(pairs: &[(u32, Pe)]) -> u64
+    requires { IsSizes pairs.now }
+    ensures { result ≡ sum_by (λ size. size.0) pairs.now }
+{
+    let mut total = 0;
+    for &(size, _) in pairs {
+        total += u64::from(size);
+    }
+    total
+}

@@ -1,0 +1,87 @@
+ghost use Rattle.std.specs.Prelude.{◌≡◌, ◌<◌, ◌≤◌, ℕ, length, IfOk};
+ghost use Rattle.chain_partition.specs.Chosen.{IsChosen};
+ghost use Rattle.block_assignment.specs.Table.{cost_at};
+ghost use Rattle.lb_certificates.specs.Chain.{IsLeastDivision};
+ghost use Rattle.lb_certificates.specs.Naming.{naming_cost, IsCheapest, IsNaming};
+ghost use Rattle.lb_strategy.specs.Decisions.{IsRight};
+ghost use Rattle.lb_strategy.specs.Moves.{HasPlace};
+
+use crate::checking::check;
+use crate::decision::Decision;
+use crate::error::PlanError;
+use crate::moves::moves_of;
+use block_assignment::{CostTable, name_blocks};
+use chain_partition::divide;
+use chare_index::Limits;
+use lb_certificates::{Loads, Sizes, Snapshot};
+use std::alloc::Allocator;
+
+/// Decides where each element of this snapshot runs next, on `pes` PEs, 1 to 256, which may be more or fewer than
+/// those of the run: its blocks are those of [`divide`], named so that the fewest bytes move. The decision has
+/// passed [`check`].
+///
+/// # Errors
+///
+/// [`OutOfMemory`](PlanError::OutOfMemory) where a list was refused, and
+/// [`Uncertified`](PlanError::Uncertified) where the decision failed its check.
+#[tactic(auto, using(crate::proofs::RightDecisions::least_from_right, crate::proofs::RightDecisions::cheapest_from_right, crate::proofs::RightDecisions::place_from_right))]
+pub fn plan<A: Allocator + Copy, B: Allocator>(
+    alloc: A,
+    snapshot: &Snapshot<B>,
+    pes: u32,
+) -> Result<Decision<A>, PlanError>
+    requires some_pe { 1 ≤ pes }
+    requires few_pes { pes ≤ Limits.PES }
+    ensures right { IfOk result (IsRight snapshot.now.loads snapshot.now.sizes pes) }
+    ensures chosen { IfOk result (λ d. IsChosen snapshot.now.loads pes d.division) }
+    ensures least { IfOk result (λ d. IsLeastDivision snapshot.now.loads pes d.division.bottleneck d.division.cuts) }
+    ensures cheapest { IfOk result (λ d. IsCheapest snapshot.now.sizes d.division.cuts pes d.naming) }
+    ensures places { IfOk result (λ d. (i : ℕ) → i < length snapshot.now.sizes → HasPlace d.division.cuts d.naming i) }
+{
+    let decision = decide(alloc, snapshot.loads(), snapshot.sizes(), pes)?;
+    if check(snapshot, pes, &decision).is_err() {
+        return Err(PlanError::Uncertified);
+    }
+    Ok(decision)
+}
+
+// The decision before its check.
+#[tactic(auto, using(crate::proofs::RightDecisions::blocks_from_certified))]
+fn decide<A: Allocator + Copy, B: Allocator>(
+    alloc: A,
+    loads: &Loads<B>,
+    sizes: &Sizes<B>,
+    pes: u32,
+) -> Result<Decision<A>, PlanError>
+    requires counted { length loads.now ≡ length sizes.now }
+    requires some_pe { 1 ≤ pes }
+    requires few_pes { pes ≤ Limits.PES }
+    ensures { IfOk result (λ d. IsChosen loads.now pes d.division) }
+{
+    let division = divide(alloc, loads, pes)?;
+    let table = CostTable::of(alloc, sizes, &division.cuts)?;
+    let (naming, prices) = name_blocks(alloc, &table)?;
+    let moved = cost_of(&table, naming.as_slice());
+    let pairs = sizes.as_slice();
+    let moves = moves_of(alloc, pairs, division.cuts.as_slice(), naming.as_slice())?;
+    Ok(Decision {
+        division,
+        naming,
+        prices,
+        moved,
+        moves,
+    })
+}
+
+// The bytes that these names move, by the table.
+#[tactic(auto, using(block_assignment::proofs::Sums::total_more))]
+fn cost_of<A: Allocator>(table: &CostTable<A>, names: &[u32]) -> u64
+    requires { IsNaming table.now.blocks names.now }
+    ensures { result ≡ naming_cost table.now.blocks (cost_at table.now) names.now }
+{
+    let mut total = 0;
+    for b in 0..table.blocks() {
+        total += table.cost(b, names[b as usize]);
+    }
+    total
+}
