@@ -1,3 +1,4 @@
+pub mod BlockCosts
 pub mod BlockSums
 pub mod Chains
 pub mod Duality

@@ -10,6 +10,7 @@
 //! - [`reference`]: plain programs that try every answer, to compare faster ones with.
 #![tactic(auto)]
 
+mod block_costs;
 mod cuts;
 mod division;
 mod division_check;

@@ -4,6 +4,7 @@ ghost use Rattle.lb_certificates.specs.Flaws.{AreApart, Repeats, HasNamingFlaw, 
 ghost use Rattle.lb_certificates.specs.Measured.{IsSizes};
 ghost use Rattle.lb_certificates.specs.Naming.{blocks_between, block_cost, bytes_moved, moved_bytes, price_at, price_sum, AreBlocks, IsCheapest, IsNamed, IsNaming, Proves};
 
+use crate::block_costs::write_costs;
 use crate::cuts::Cuts;
 use crate::division_check::rises;
 use crate::flaw::Flaw;
@@ -27,8 +28,8 @@ struct Claim<'a> {
 /// moved. `Ok` means that no other naming of these blocks moves fewer bytes. There are one cut less blocks than
 /// cuts. An element whose present PE is none of the names counts as moved under every name.
 ///
-/// Any lists may come. No memory is taken, so the time is that of the number of elements times that of the
-/// blocks. Prices are added up in 128 bits.
+/// Any lists may come. No memory is taken. The time is that of the number of elements, and of the square of the
+/// number of blocks. Prices are added up in 128 bits.
 ///
 /// # Errors
 ///
@@ -127,6 +128,7 @@ fn check_prices(claim: Claim<'_>) -> Result<u64, Flaw>
 // The first pair of a block and a PE, by block and then PE, whose prices add up to too much.
 fn first_high(claim: Claim<'_>, blocks: u32) -> Option<(u32, u32)>
     requires sizes { IsSizes claim.sizes.now }
+    requires few_blocks { blocks ≤ Limits.PES }
     requires divides { IsDivision 0 (length claim.sizes.now) blocks claim.cuts.now }
     requires block_prices { length claim.u.now ≡ blocks }
     requires pe_prices { length claim.v.now ≡ blocks }
@@ -145,6 +147,7 @@ fn first_high(claim: Claim<'_>, blocks: u32) -> Option<(u32, u32)>
 // The first PE whose price with that of the block is too much.
 fn first_high_pe(claim: Claim<'_>, blocks: u32, b: u32) -> Option<u32>
     requires sizes { IsSizes claim.sizes.now }
+    requires few_blocks { blocks ≤ Limits.PES }
     requires divides { IsDivision 0 (length claim.sizes.now) blocks claim.cuts.now }
     requires block_prices { length claim.u.now ≡ blocks }
     requires pe_prices { length claim.v.now ≡ blocks }
@@ -154,9 +157,38 @@ fn first_high_pe(claim: Claim<'_>, blocks: u32, b: u32) -> Option<u32>
         (λ p. (p < blocks) × IsHigh claim.entry.sizes.now claim.entry.cuts.now claim.entry.u.now claim.entry.v.now b p
         × ((q : ℕ) → q < p → IsLow claim.entry.sizes.now claim.entry.cuts.now claim.entry.u.now claim.entry.v.now b q)) }
 {
+    let mut costs = [0; Limits::PES as usize];
+    write_block(claim, blocks, b, &mut costs);
+    first_above(claim, blocks, b, &costs)
+}
+
+// Writes what a block costs on each PE.
+fn write_block(claim: Claim<'_>, blocks: u32, b: u32, costs: &mut [u64])
+    requires sizes { IsSizes claim.sizes.now }
+    requires divides { IsDivision 0 (length claim.sizes.now) blocks claim.cuts.now }
+    requires inside { b < blocks }
+    ensures { (p : ℕ) → p < length costs.new → slice_index costs.new p ≡ block_cost claim.entry.sizes.now claim.entry.cuts.now b p }
+{
+    let first = claim.cuts[b as usize] as usize;
+    let end = claim.cuts[b as usize + 1] as usize;
+    write_costs(costs, &claim.sizes[first..end]);
+}
+
+// The first PE whose price with that of the block is above what the block costs there.
+fn first_above(claim: Claim<'_>, blocks: u32, b: u32, costs: &[u64]) -> Option<u32>
+    requires block_prices { length claim.u.now ≡ blocks }
+    requires pe_prices { length claim.v.now ≡ blocks }
+    requires inside { b < blocks }
+    requires counted { blocks ≤ length costs.now }
+    requires costs { (p : ℕ) → p < length costs.now → slice_index costs.now p ≡ block_cost claim.sizes.now claim.cuts.now b p }
+    ensures { MatchOption result
+        ((p : ℕ) → p < blocks → IsLow claim.entry.sizes.now claim.entry.cuts.now claim.entry.u.now claim.entry.v.now b p)
+        (λ p. (p < blocks) × IsHigh claim.entry.sizes.now claim.entry.cuts.now claim.entry.u.now claim.entry.v.now b p
+        × ((q : ℕ) → q < p → IsLow claim.entry.sizes.now claim.entry.cuts.now claim.entry.u.now claim.entry.v.now b q)) }
+{
     for p in 0..blocks {
         let price = i128::from(price(claim.u, b)) + i128::from(price(claim.v, p));
-        if price > i128::from(block_bytes(claim, blocks, b, p)) {
+        if price > i128::from(costs[p as usize]) {
             return Some(p);
         }
     }

@@ -1,3 +1,4 @@
 pub mod BlockLines
 pub mod Endings
+pub mod RightTexts
 pub mod Sends

@@ -1,52 +1,80 @@
 -- What a replay of a dump answers, and what it leaves with its writer.
 use Rattle.std.specs.Prelude.{◌≡◌, ℕ, ◌≤◌, ◌⊎◌, List, length, take, Option, IfSome, unwrap_or}
 use Rattle.std.specs.Io.KnownBytes.{Appends}
-use Rattle.lb_certificates.specs.Chain.{IsLeastDivision}
 use Rattle.lb_certificates.specs.Measured.{Taken}
-use Rattle.lb_certificates.specs.declared.division.Division.{Division}
 use Rattle.chain_partition.specs.Chosen.{IsChosen}
 use Rattle.lb_dump.specs.Faults.{IsFault}
 use Rattle.lb_dump.specs.Format.{IsText}
 use Rattle.lb_dump.specs.declared.error.DumpError.{DumpError}
-use Rattle.lb_dump.specs.declared.error.DumpError.TheVariants.{Read, OutOfMemory}
-use Rattle.lb_sim.specs.Text.{division_text, fault_line}
+use Rattle.lb_dump.specs.declared.error.DumpError.TheVariants.{Read}
+use Rattle.lb_strategy.specs.Decisions.{IsRight}
+use Rattle.lb_strategy.specs.declared.decision.Decision.{Decision}
+use Rattle.lb_strategy.specs.declared.error.PlanError.{PlanError}
+use Rattle.lb_strategy.specs.declared.error.PlanError.TheVariants.{Uncertified}
+use Rattle.lb_sim.specs.Text.{decision_text, fault_line}
 use Rattle.lb_sim.specs.declared.ended.Ended.{Ended}
-use Rattle.lb_sim.specs.declared.ended.Ended.TheVariants.{Printed, Dump, WriteFailed}
+use Rattle.lb_sim.specs.declared.ended.Ended.TheVariants.{Printed, WriteFailed}
+use Rattle.lb_sim.specs.declared.fault.Fault.{Fault}
+use Rattle.lb_sim.specs.declared.fault.Fault.TheVariants.{Dump, Plan}
 
 -- the number of blocks: the one asked for, or else that of the dump
 abbrev pub blocks_of : Option ℕ → Taken → ℕ
 blocks_of procs s = unwrap_or procs s.procs
 
--- This is the text of the chosen division, a least one, of the snapshot whose text the bytes are. Where the
--- reader does not tell its bytes, the snapshot is any.
+-- this is the text of a right decision on the snapshot, of the chosen division
+pub record IsPlanned (A : Type 0) (s : Taken) (blocks : ℕ) (text : List ℕ) : Type 0 where
+  pub decision : Decision A
+  pub chosen : IsChosen s.loads blocks decision.division
+  pub right : IsRight s.loads s.sizes blocks decision
+  pub printed : text ≡ decision_text s blocks decision
+
+-- This is such a text for the snapshot whose dump the bytes are. Where the reader does not tell its bytes, the
+-- snapshot is any.
 pub record IsReplay (A : Type 0) (bytes : Option (List ℕ)) (procs : Option ℕ) (text : List ℕ) : Type 0 where
   pub snapshot : Taken
-  pub division : Division A
   pub read : IfSome bytes (IsText snapshot)
-  pub chosen : IsChosen snapshot.loads (blocks_of procs snapshot) division
-  pub least : IsLeastDivision snapshot.loads (blocks_of procs snapshot) division.bottleneck division.cuts
-  pub printed : text ≡ division_text snapshot (blocks_of procs snapshot) division
+  pub planned : IsPlanned A snapshot (blocks_of procs snapshot) text
 
--- the reader or memory failed, or this is the first fault of the bytes
-abbrev pub IsTold : Option (List ℕ) → DumpError → Type 0
-IsTold bytes e = IfSome bytes (λ text. (e ≡ Read) ⊎ ((e ≡ OutOfMemory) ⊎ IsFault text e))
+-- The reader or memory failed, or this is the first fault of the bytes; or the bytes are a dump, and then its
+-- decision was not certified or memory failed.
+abbrev pub IsTold : Option (List ℕ) → Fault → Type 0
+IsTold bytes (Dump e) = IfSome bytes (λ text. (e ≡ Read) ⊎ ((e ≡ DumpError.OutOfMemory) ⊎ IsFault text e))
+IsTold bytes (Plan e) = (s : Taken) × IfSome bytes (IsText s)
+
+-- the fault that is told where there is no memory for the line of another
+abbrev pub without_memory : Fault → Fault
+without_memory (Dump e) = Dump DumpError.OutOfMemory
+without_memory (Plan e) = Plan PlanError.OutOfMemory
+
+-- the end of a replay that told a fault
+abbrev pub ended_at : Fault → Ended
+ended_at (Dump e) = Ended.Dump e
+ended_at (Plan e) = Ended.Plan e
+
+-- a prefix of the line of a fault went out
+abbrev pub TellsPart : Option (List ℕ) → Option (List ℕ) → List ℕ → Type 0
+TellsPart old new line = (n : ℕ) × (n ≤ length line) × Appends old new (take n line)
 
 -- the line of a fault went out, or a prefix of it
-abbrev pub TellsLine : Option (List ℕ) → Option (List ℕ) → DumpError → Ended → Type 0
-TellsLine old new e Printed = ⊥
-TellsLine old new e (Dump told) = (told ≡ e) × Appends old new (fault_line e)
-TellsLine old new e WriteFailed = (n : ℕ) × (n ≤ length (fault_line e)) × Appends old new (take n (fault_line e))
+abbrev pub TellsLine : Option (List ℕ) → Option (List ℕ) → Fault → Ended → Type 0
+TellsLine old new fault Printed = ⊥
+TellsLine old new fault (Ended.Dump e) = (fault ≡ Dump e) × Appends old new (fault_line fault)
+TellsLine old new fault (Ended.Plan e) = (fault ≡ Plan e) × Appends old new (fault_line fault)
+TellsLine old new fault WriteFailed = TellsPart old new (fault_line fault)
 
 -- What the writer holds after each end: the whole text, the line of the fault, or a prefix of one of these.
 abbrev pub Ends : (A : Type 0) → Option (List ℕ) → Option ℕ → Option (List ℕ) → Option (List ℕ) → Ended → Type 0
 Ends A bytes procs old new Printed = (text : List ℕ) × IsReplay A bytes procs text × Appends old new text
-Ends A bytes procs old new (Dump e) = IsTold bytes e × Appends old new (fault_line e)
+Ends A bytes procs old new (Ended.Dump e) = IsTold bytes (Dump e) × Appends old new (fault_line (Dump e))
+Ends A bytes procs old new (Ended.Plan e) = IsTold bytes (Plan e) × Appends old new (fault_line (Plan e))
 Ends A bytes procs old new WriteFailed =
-    (text : List ℕ) × (IsReplay A bytes procs text ⊎ ((e : DumpError) × IsTold bytes e × (text ≡ fault_line e))) × ((n : ℕ) × (n ≤ length text) × Appends old new (take n text))
+    (text : List ℕ) × (IsReplay A bytes procs text ⊎ ((fault : Fault) × IsTold bytes fault × (text ≡ fault_line fault))) × TellsPart old new text
 
 -- the status that the program exits with
 abbrev pub status_of : Ended → ℕ
 status_of Printed = 0
-status_of (Dump OutOfMemory) = 5
-status_of (Dump e) = 3
+status_of (Ended.Dump DumpError.OutOfMemory) = 5
+status_of (Ended.Dump e) = 3
+status_of (Ended.Plan Uncertified) = 4
+status_of (Ended.Plan PlanError.OutOfMemory) = 5
 status_of WriteFailed = 5

@@ -1,12 +1,16 @@
--- What lb_sim prints, byte by byte: the text of a division, or the line of a fault.
-use Rattle.std.specs.Prelude.{ℕ, ◌+◌, List, [], ◌∷◌, ◌++◌, length, codes}
+-- What lb_sim prints, byte by byte: the text of a decision, or the line of a fault.
+use Rattle.std.specs.Prelude.{ℕ, ◌+◌, ◌==◌, if◌then◌else◌, List, [], ◌∷◌, ◌++◌, length, slice_index, codes}
 use Rattle.std.specs.Fmt.{decimal}
 use Rattle.std.specs.List.{flat_map}
 use Rattle.lb_dump.specs.declared.error.DumpError.{DumpError}
-use Rattle.lb_dump.specs.declared.error.DumpError.TheVariants.{Magic, Short, Procs, Count, Size, Place, Trailing, Read, Write, OutOfMemory}
+use Rattle.lb_dump.specs.declared.error.DumpError.TheVariants.{Magic, Short, Procs, Count, Size, Place, Trailing, Read, Write}
+use Rattle.lb_strategy.specs.declared.error.PlanError.{PlanError}
+use Rattle.lb_strategy.specs.declared.error.PlanError.TheVariants.{Uncertified}
+use Rattle.lb_sim.specs.declared.fault.Fault.{Fault}
+use Rattle.lb_sim.specs.declared.fault.Fault.TheVariants.{Dump, Plan}
 use Rattle.lb_certificates.specs.Chain.{load}
 use Rattle.lb_certificates.specs.Measured.{Taken}
-use Rattle.lb_certificates.specs.declared.division.Division.{Division}
+use Rattle.lb_strategy.specs.declared.decision.Decision.{Decision}
 use Rattle.lb_certificates.specs.declared.division.Floor.{Floor}
 use Rattle.lb_certificates.specs.declared.division.Floor.TheVariants.{Zero, Fence}
 
@@ -31,32 +35,54 @@ abbrev pub floor_line : {A : Type 0} → Floor A → List ℕ
 floor_line Zero = codes "fence zero" ++ newline
 floor_line (Fence stops) = codes "fence" ++ flat_map blank_number stops ++ newline
 
--- block b from..to load L
-abbrev pub block_line : ℕ → ℕ → ℕ → ℕ → List ℕ
-block_line b first end weight =
-    codes "block " ++ decimal b ++ codes " " ++ decimal first ++ codes ".." ++ decimal end ++ codes " load " ++ decimal weight ++ newline
+-- the PE of a block, or - where the block has no element
+abbrev pub pe_line : ℕ → ℕ → ℕ → List ℕ
+pe_line first end pe = (if first == end then codes "-" else decimal pe) ++ newline
+
+-- a block, without its PE
+abbrev pub block_start : ℕ → ℕ → ℕ → ℕ → List ℕ
+block_start b first end weight =
+    codes "block " ++ decimal b ++ codes " " ++ decimal first ++ codes ".." ++ decimal end ++ codes " load " ++ decimal weight ++ codes " pe "
+
+-- block b from..to load L pe p
+abbrev pub block_line : ℕ → ℕ → ℕ → ℕ → ℕ → List ℕ
+block_line b first end weight pe = block_start b first end weight ++ pe_line first end pe
 
 -- a line for each block, the first of them with this number
-abbrev pub block_lines : List ℕ → ℕ → List ℕ → List ℕ
-block_lines loads b [] = []
-block_lines loads b (first ∷ []) = []
-block_lines loads b (first ∷ end ∷ cuts) =
-    block_line b first end (load loads first end) ++ block_lines loads (b + 1) (end ∷ cuts)
+abbrev pub block_lines : List ℕ → List ℕ → ℕ → List ℕ → List ℕ
+block_lines loads names b [] = []
+block_lines loads names b (first ∷ []) = []
+block_lines loads names b (first ∷ end ∷ cuts) =
+    block_line b first end (load loads first end) (slice_index names b) ++ block_lines loads names (b + 1) (end ∷ cuts)
 
--- the whole text of a division of a snapshot's elements into so many blocks
-abbrev pub division_text : {A : Type 0} → Taken → ℕ → Division A → List ℕ
-division_text s pes d =
-    head_line s.step pes (length s.loads) ++ bottleneck_line d.bottleneck ++ floor_line d.floor ++ block_lines s.loads 0 d.cuts
+-- moved M
+abbrev pub moved_line : ℕ → List ℕ
+moved_line moved = codes "moved " ++ decimal moved ++ newline
+
+-- the whole text of a decision on a snapshot, for so many PEs
+abbrev pub decision_text : {A : Type 0} → Taken → ℕ → Decision A → List ℕ
+decision_text s pes d =
+    head_line s.step pes (length s.loads) ++ bottleneck_line d.division.bottleneck ++ floor_line d.division.floor ++ block_lines s.loads d.naming 0 d.division.cuts ++ moved_line d.moved
+
+-- the one line of a want of memory
+abbrev pub memory_line : List ℕ
+memory_line = codes "out of memory" ++ newline
+
+-- the one line of a fault of the dump
+abbrev pub dump_line : DumpError → List ℕ
+dump_line Magic = codes "dump: not LBD1" ++ newline
+dump_line (Short n) = codes "dump: ends at byte " ++ decimal n ++ newline
+dump_line Procs = codes "dump: procs out of 1..256" ++ newline
+dump_line Count = codes "dump: more than 65536 elements" ++ newline
+dump_line (Size i) = codes "dump: element " ++ decimal i ++ codes " has more than 1048576 bytes" ++ newline
+dump_line (Place i) = codes "dump: element " ++ decimal i ++ codes " is on no processor" ++ newline
+dump_line Trailing = codes "dump: bytes after the last element" ++ newline
+dump_line Read = codes "dump: read failed" ++ newline
+dump_line Write = codes "dump: write failed" ++ newline
+dump_line DumpError.OutOfMemory = memory_line
 
 -- the one line of a fault
-abbrev pub fault_line : DumpError → List ℕ
-fault_line Magic = codes "dump: not LBD1" ++ newline
-fault_line (Short n) = codes "dump: ends at byte " ++ decimal n ++ newline
-fault_line Procs = codes "dump: procs out of 1..256" ++ newline
-fault_line Count = codes "dump: more than 65536 elements" ++ newline
-fault_line (Size i) = codes "dump: element " ++ decimal i ++ codes " has more than 1048576 bytes" ++ newline
-fault_line (Place i) = codes "dump: element " ++ decimal i ++ codes " is on no processor" ++ newline
-fault_line Trailing = codes "dump: bytes after the last element" ++ newline
-fault_line Read = codes "dump: read failed" ++ newline
-fault_line Write = codes "dump: write failed" ++ newline
-fault_line OutOfMemory = codes "out of memory" ++ newline
+abbrev pub fault_line : Fault → List ℕ
+fault_line (Dump e) = dump_line e
+fault_line (Plan Uncertified) = codes "plan: uncertified" ++ newline
+fault_line (Plan PlanError.OutOfMemory) = memory_line

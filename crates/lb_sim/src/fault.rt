@@ -1,17 +1,71 @@
 ghost use Rattle.std.specs.Prelude.{◌≡◌, IfOk};
 ghost use Rattle.std.specs.String.{string_bytes};
-ghost use Rattle.lb_sim.specs.Text.{fault_line};
+ghost use Rattle.lb_sim.specs.declared.fault.Fault.TheVariants.{Dump, Plan};
+ghost use Rattle.lb_sim.specs.Simulation.{without_memory};
+ghost use Rattle.lb_sim.specs.Text.{dump_line, fault_line};
 
 use lb_dump::DumpError;
-use std::alloc::{AllocError, Allocator};
+use lb_strategy::PlanError;
+use std::alloc::{AllocError, AllocFailed, Allocator};
+
+/// Why a dump was not replayed.
+#[derive(Clone, Copy, Debug, PartialEq, Eq)]
+pub enum Fault {
+    /// The dump was not read.
+    Dump(DumpError),
+    /// The dump was read, and no decision or no text was made.
+    Plan(PlanError),
+}
+
+impl From<DumpError> for Fault {
+    ghost from_gives = { λ fault e. e ≡ Dump fault };
+
+    fn from(fault: DumpError) -> Fault {
+        Fault::Dump(fault)
+    }
+}
+
+impl From<PlanError> for Fault {
+    ghost from_gives = { λ fault e. e ≡ Plan fault };
+
+    fn from(fault: PlanError) -> Fault {
+        Fault::Plan(fault)
+    }
+}
+
+impl Fault {
+    /// The fault that is told in place of this one where there is no memory for its line.
+    pub fn without_memory(self) -> Fault
+        ensures { result ≡ without_memory self }
+    {
+        match self {
+            Fault::Dump(_) => Fault::Dump(DumpError::OutOfMemory),
+            Fault::Plan(_) => Fault::Plan(PlanError::OutOfMemory),
+        }
+    }
+}
+
+/// The line of a want of memory.
+pub const NO_MEMORY: &str = "out of memory\n";
 
 /// The line that tells a fault.
 ///
 /// # Errors
 ///
 /// Want of memory, where a growth of the line was refused.
-pub fn fault_line<A: Allocator>(alloc: A, fault: DumpError) -> Result<String<A>, AllocError>
+pub fn fault_line<A: Allocator>(alloc: A, fault: Fault) -> Result<String<A>, AllocError>
     ensures { IfOk result (λ line. string_bytes line ≡ fault_line fault) }
+{
+    match fault {
+        Fault::Dump(fault) => dump_line(alloc, fault),
+        Fault::Plan(PlanError::Uncertified) => String::from_str(alloc, "plan: uncertified\n"),
+        Fault::Plan(PlanError::OutOfMemory) => String::from_str(alloc, NO_MEMORY),
+    }
+}
+
+// The line that tells a fault of the dump.
+fn dump_line<A: Allocator>(alloc: A, fault: DumpError) -> Result<String<A>, AllocError>
+    ensures { IfOk result (λ line. string_bytes line ≡ dump_line fault) }
 {
     let mut line = String::new(alloc);
     match fault {
@@ -24,7 +78,7 @@ pub fn fault_line<A: Allocator>(alloc: A, fault: DumpError) -> Result<String<A>,
         DumpError::Trailing => line.push_str("dump: bytes after the last element\n")?,
         DumpError::Read => line.push_str("dump: read failed\n")?,
         DumpError::Write => line.push_str("dump: write failed\n")?,
-        DumpError::OutOfMemory => line.push_str("out of memory\n")?,
+        DumpError::OutOfMemory => line.push_str(NO_MEMORY)?,
     }
     Ok(line)
 }

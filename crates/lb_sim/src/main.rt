@@ -1,5 +1,5 @@
 //! `lb_sim [--procs P] FILE` replays a dump of the load database off line: it prints the least division of the
-//! elements into consecutive blocks, with the fence that proves it.
+//! elements into consecutive blocks, with the fence that proves it, the PE of each block and the bytes that move.
 //!
 //! - [`simulation`]: the engine, from the bytes of a reader to the bytes of a writer.
 //! - [`text`] and [`fault`]: what is printed.
@@ -22,6 +22,7 @@ mod text;
 mod words;
 
 use ended::status;
+use fault::Fault;
 use lb_dump::DumpError;
 use request::Asked;
 use simulation::{simulate, tell};
@@ -64,7 +65,7 @@ fn run(rt: &HostRuntime, asked: Asked<'_>) -> u8
     let mut output = io::writer(rt);
     let ended = match File::open(rt, asked.file) {
         Ok(mut file) => simulate(rt.alloc(), &mut file, &mut output, asked.procs),
-        Err(_) => tell(rt.alloc(), &mut output, DumpError::Read),
+        Err(_) => tell(rt.alloc(), &mut output, Fault::Dump(DumpError::Read)),
     };
     status(ended)
 }

@@ -2,23 +2,24 @@ ghost use Rattle.std.specs.Prelude.{◌≡◌, ◌≤◌, ◌⊎◌, IfOk, IfErr
 ghost use Rattle.std.specs.Option.{ForSome};
 ghost use Rattle.std.specs.String.{string_bytes};
 ghost use Rattle.lb_sim.specs.Text.{fault_line};
-ghost use Rattle.lb_sim.specs.Simulation.{Ends, IsReplay, IsTold, TellsLine};
+ghost use Rattle.lb_sim.specs.Simulation.{Ends, IsPlanned, IsReplay, IsTold, TellsLine, without_memory};
 
 use crate::ended::Ended;
-use crate::fault::fault_line;
+use crate::fault::{Fault, NO_MEMORY, fault_line};
 use crate::output::write_out;
-use crate::text::division_text;
-use chain_partition::divide;
+use crate::text::decision_text;
 use chare_index::Limits;
-use lb_dump::{DumpError, read_from};
+use lb_certificates::Snapshot;
+use lb_dump::read_from;
+use lb_strategy::{PlanError, plan};
 use std::alloc::Allocator;
 use std::io::{Read, Write};
 
-/// Replays a dump off line: reads it, divides its elements into `procs` blocks (1 to 256), or as many as the
-/// dump has PEs, and writes the text of the least division with its fence, or the one line of a fault, and
-/// nothing else.
+/// Replays a dump off line: reads it, plans its balancing step for `procs` PEs (1 to 256), or as many as the
+/// dump has, and writes the text of the decision, or the one line of a fault, and nothing else.
 ///
-/// Want of memory is told as a fault of the dump, with its line.
+/// Want of memory is told as a fault of the dump while that is read, and then as one of the plan, with the same
+/// line.
 pub fn simulate<A: Allocator + Copy, R: Read, W: Write>(
     alloc: A,
     reader: &mut R,
@@ -36,12 +37,12 @@ pub fn simulate<A: Allocator + Copy, R: Read, W: Write>(
     }
 }
 
-// The text of the least division, made whole, or the fault that kept it from being made.
+// The text of the decision, made whole, or the fault that kept it from being made.
 fn replay<A: Allocator + Copy, R: Read>(
     alloc: A,
     reader: &mut R,
     procs: Option<u32>,
-) -> Result<String<A>, DumpError>
+) -> Result<String<A>, Fault>
     requires some_pe { ForSome procs (λ p. 1 ≤ p) }
     requires few_pes { ForSome procs (λ p. p ≤ Limits.PES) }
     ensures text { IfOk result (λ text. IsReplay A (R.remaining reader.old) procs (string_bytes text)) }
@@ -49,26 +50,39 @@ fn replay<A: Allocator + Copy, R: Read>(
 {
     let snapshot = read_from(alloc, reader)?;
     let pes = procs.unwrap_or(snapshot.procs());
-    let division = divide(alloc, snapshot.loads(), pes)?;
-    Ok(division_text(alloc, &snapshot, pes, &division)?)
+    Ok(planned_text(alloc, &snapshot, pes)?)
+}
+
+// The text of the decision that is planned for a snapshot.
+fn planned_text<A: Allocator + Copy, B: Allocator>(
+    alloc: A,
+    snapshot: &Snapshot<B>,
+    pes: u32,
+) -> Result<String<A>, PlanError>
+    requires some_pe { 1 ≤ pes }
+    requires few_pes { pes ≤ Limits.PES }
+    ensures { IfOk result (λ text. IsPlanned A snapshot.now pes (string_bytes text)) }
+{
+    let decision = plan(alloc, snapshot, pes)?;
+    Ok(decision_text(alloc, snapshot, pes, &decision)?)
 }
 
 // Writes the line of a fault, or that there is no memory for it.
-pub fn tell<A: Allocator, W: Write>(alloc: A, writer: &mut W, fault: DumpError) -> Ended
-    ensures { TellsLine (W.contents writer.old) (W.contents writer.new) fault result ⊎ TellsLine (W.contents writer.old) (W.contents writer.new) DumpError.OutOfMemory result }
+pub fn tell<A: Allocator, W: Write>(alloc: A, writer: &mut W, fault: Fault) -> Ended
+    ensures { TellsLine (W.contents writer.old) (W.contents writer.new) fault result ⊎ TellsLine (W.contents writer.old) (W.contents writer.new) (without_memory fault) result }
 {
     let Ok(line) = fault_line(alloc, fault) else {
-        return tell_line(writer, DumpError::OutOfMemory, b"out of memory\n");
+        return tell_line(writer, fault.without_memory(), NO_MEMORY.as_bytes());
     };
     tell_line(writer, fault, line.as_bytes())
 }
 
-fn tell_line<W: Write>(writer: &mut W, fault: DumpError, line: &[u8]) -> Ended
+fn tell_line<W: Write>(writer: &mut W, fault: Fault, line: &[u8]) -> Ended
     requires { line.now ≡ fault_line fault }
     ensures { TellsLine (W.contents writer.old) (W.contents writer.new) fault result }
 {
     if write_out(writer, line) {
-        Ended::Dump(fault)
+        Ended::at(fault)
     } else {
         Ended::WriteFailed
     }

@@ -4,6 +4,8 @@ use crate::ended::{Ended, status};
 use crate::simulation::simulate;
 use crate::words::asked;
 use lb_dump::DumpError;
+use lb_strategy::PlanError;
+use refusing_alloc::{Outcome, Refusing, each_refusal};
 use std::alloc::Global;
 use std::io::{self, ErrorKind, Read, Write};
 use std::test::Fail;
@@ -17,8 +19,9 @@ const EXAMPLE: [u8; 52] = *b"LBD1\0\0\0\x05\0\0\0\x02\0\0\0\x03\
 const TEXT: &str = "step 5 procs 2 elements 3\n\
     bottleneck 2\n\
     fence 0 1 2\n\
-    block 0 0..2 load 2\n\
-    block 1 2..3 load 2\n";
+    block 0 0..2 load 2 pe 1\n\
+    block 1 2..3 load 2 pe 0\n\
+    moved 10\n";
 
 // A reader that gives so many bytes a call, and fails once all are read, or ends.
 #[derive(Drop)]
@@ -155,13 +158,15 @@ fn each_prefix_is_short(rt: HostRuntime) -> Result<(), Fail> {
 fn no_elements_and_one_block(rt: HostRuntime) -> Result<(), Fail> {
     let empty = b"LBD1\0\0\0\0\0\0\0\x03\0\0\0\0";
     let text = "step 0 procs 3 elements 0\nbottleneck 0\nfence zero\n\
-        block 0 0..0 load 0\nblock 1 0..0 load 0\nblock 2 0..0 load 0\n";
+        block 0 0..0 load 0 pe -\nblock 1 0..0 load 0 pe -\nblock 2 0..0 load 0 pe -\n\
+        moved 0\n";
     assert_eq!(rt; replays(rt.alloc(), empty, text), Ended::Printed);
     let mut written = Vec::new(rt.alloc());
     let mut reader = EXAMPLE.as_slice();
     let ended = simulate(rt.alloc(), &mut reader, &mut written, Some(1));
     assert_eq!(rt; ended, Ended::Printed);
-    let text = "step 5 procs 1 elements 3\nbottleneck 4\nfence 0 2\nblock 0 0..3 load 4\n";
+    let text = "step 5 procs 1 elements 3\nbottleneck 4\nfence 0 2\n\
+        block 0 0..3 load 4 pe 0\nmoved 9\n";
     assert_eq!(rt; written.as_slice(), text.as_bytes());
     Ok(())
 }
@@ -209,11 +214,32 @@ fn a_writer_that_fails_at_each_call(rt: HostRuntime) -> Result<(), Fail> {
     Ok(())
 }
 
+// What a replay of the example comes to, over an allocator that may refuse.
+fn attempted(alloc: &Refusing<Global>, written: &mut Vec<u8>) -> Outcome {
+    let ended = simulate(alloc, &mut EXAMPLE.as_slice(), written, None);
+    match ended {
+        Ended::Printed if written.as_slice() == TEXT.as_bytes() => Outcome::Right,
+        Ended::Dump(DumpError::OutOfMemory) | Ended::Plan(PlanError::OutOfMemory)
+            if written.as_slice() == b"out of memory\n".as_slice() => { Outcome::Refused }
+        _ => Outcome::Wrong,
+    }
+}
+
+#[test]
+fn memory_refused_at_each_request(rt: HostRuntime) -> Result<(), Fail> {
+    let attempt = |alloc: &Refusing<Global>| attempted(alloc, &mut Vec::new(rt.alloc()));
+    let refusals = each_refusal(rt.alloc(), 80, attempt)?;
+    assert!(rt; refusals > 10, "{refusals} requests");
+    Ok(())
+}
+
 #[test]
 fn statuses_and_words(rt: HostRuntime) {
     assert_eq!(rt; status(Ended::Printed), 0);
     assert_eq!(rt; status(Ended::Dump(DumpError::Magic)), 3);
     assert_eq!(rt; status(Ended::Dump(DumpError::OutOfMemory)), 5);
+    assert_eq!(rt; status(Ended::Plan(PlanError::Uncertified)), 4);
+    assert_eq!(rt; status(Ended::Plan(PlanError::OutOfMemory)), 5);
     assert_eq!(rt; status(Ended::WriteFailed), 5);
     let given = asked(rt.alloc(), &["lb_sim", "--procs", "2", "f"]);
     assert!(rt; matches!(&given, Ok(asked) if asked.file == "f" && asked.procs == Some(2)));

@@ -1,34 +1,40 @@
-//! The printed text of a division. It is made whole before any of it goes out.
+//! The printed text of a decision. It is made whole before any of it goes out.
 
 ghost use Rattle.std.specs.Prelude.{◌≡◌, ◌++◌, OnOk, IfOk, length};
 ghost use Rattle.std.specs.List.{flat_map};
 ghost use Rattle.std.specs.String.{string_bytes};
 ghost use Rattle.lb_certificates.specs.Chain.{IsDivision};
-ghost use Rattle.lb_sim.specs.Text.{head_line, bottleneck_line, floor_line, blank_number, block_line, block_lines, division_text};
+ghost use Rattle.lb_strategy.specs.Decisions.{IsRight};
+ghost use Rattle.lb_sim.specs.Text.{head_line, bottleneck_line, floor_line, blank_number, block_start, block_line, block_lines, pe_line, moved_line, decision_text};
 
-use lb_certificates::{Division, Floor, Loads, Snapshot};
+use lb_certificates::{Floor, Loads, Snapshot};
+use lb_strategy::Decision;
 use std::alloc::{AllocError, Allocator};
 
-/// The text of a division of the snapshot's elements into `pes` blocks.
+/// The text of a decision for `pes` PEs on the snapshot: its division with the floor, a line for each block, and
+/// the bytes that move.
 ///
 /// # Errors
 ///
 /// Want of memory, where a growth of the text was refused.
-pub fn division_text<A: Allocator, B: Allocator, C: Allocator>(
+#[tactic(auto, using(crate::proofs::RightTexts::divides_from_right, crate::proofs::RightTexts::named_from_right))]
+pub fn decision_text<A: Allocator, B: Allocator, C: Allocator>(
     alloc: A,
     snapshot: &Snapshot<B>,
     pes: u32,
-    division: &Division<C>,
+    decision: &Decision<C>,
 ) -> Result<String<A>, AllocError>
-    requires { IsDivision 0 (length snapshot.now.loads) pes division.now.cuts }
-    ensures { IfOk result (λ text. string_bytes text ≡ division_text snapshot.now pes division.now) }
+    requires { IsRight snapshot.now.loads snapshot.now.sizes pes decision.now }
+    ensures { IfOk result (λ text. string_bytes text ≡ decision_text snapshot.now pes decision.now) }
 {
     let loads = snapshot.loads();
+    let cuts = decision.division.cuts.as_slice();
     let mut text = String::new(alloc);
     push_head(&mut text, snapshot.step(), pes, loads.len())?;
-    push_bottleneck(&mut text, division.bottleneck)?;
-    push_floor(&mut text, &division.floor)?;
-    push_blocks(&mut text, loads, pes, division.cuts.as_slice())?;
+    push_bottleneck(&mut text, decision.division.bottleneck)?;
+    push_floor(&mut text, &decision.division.floor)?;
+    push_blocks(&mut text, loads, cuts, decision.naming.as_slice())?;
+    push_moved(&mut text, decision.moved)?;
     Ok(text)
 }
 
@@ -76,22 +82,17 @@ fn push_numbers<A: Allocator>(text: &mut String<A>, numbers: &[u32]) -> Result<(
 fn push_blocks<A: Allocator, B: Allocator>(
     text: &mut String<A>,
     loads: &Loads<B>,
-    pes: u32,
     cuts: &[u32],
+    names: &[u32],
 ) -> Result<(), AllocError>
-    requires { IsDivision 0 (length loads.now) pes cuts.now }
-    ensures { OnOk result (string_bytes text.new ≡ string_bytes text.old ++ block_lines loads.now 0 cuts.now) }
+    requires { IsDivision 0 (length loads.now) (length names.now) cuts.now }
+    ensures { OnOk result (string_bytes text.new ≡ string_bytes text.old ++ block_lines loads.now names.now 0 cuts.now) }
 {
-    for b in 0..pes as usize {
+    for b in 0..names.len() {
         let first = cuts[b];
         let end = cuts[b + 1];
-        push_block(
-            text,
-            b,
-            first,
-            end,
-            loads.load(first as usize, end as usize),
-        )?;
+        let load = loads.load(first as usize, end as usize);
+        push_block(text, b, first, end, load, names[b])?;
     }
     Ok(())
 }
@@ -102,8 +103,44 @@ fn push_block<A: Allocator>(
     first: u32,
     end: u32,
     load: u64,
+    pe: u32,
 ) -> Result<(), AllocError>
-    ensures { OnOk result (string_bytes text.new ≡ string_bytes text.old ++ block_line b first end load) }
+    ensures { OnOk result (string_bytes text.new ≡ string_bytes text.old ++ block_line b first end load pe) }
 {
-    writeln!(text, "block {b} {first}..{end} load {load}")
+    push_block_start(text, b, first, end, load)?;
+    push_pe(text, first, end, pe)
+}
+
+// A block, without its PE.
+fn push_block_start<A: Allocator>(
+    text: &mut String<A>,
+    b: usize,
+    first: u32,
+    end: u32,
+    load: u64,
+) -> Result<(), AllocError>
+    ensures { OnOk result (string_bytes text.new ≡ string_bytes text.old ++ block_start b first end load) }
+{
+    write!(text, "block {b} {first}..{end} load {load} pe ")
+}
+
+// The PE of a block, and a dash for one that has no element.
+fn push_pe<A: Allocator>(
+    text: &mut String<A>,
+    first: u32,
+    end: u32,
+    pe: u32,
+) -> Result<(), AllocError>
+    ensures { OnOk result (string_bytes text.new ≡ string_bytes text.old ++ pe_line first end pe) }
+{
+    if first == end {
+        return text.push_str("-\n");
+    }
+    writeln!(text, "{pe}")
+}
+
+fn push_moved<A: Allocator>(text: &mut String<A>, moved: u64) -> Result<(), AllocError>
+    ensures { OnOk result (string_bytes text.new ≡ string_bytes text.old ++ moved_line moved) }
+{
+    writeln!(text, "moved {moved}")
 }

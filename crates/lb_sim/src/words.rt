@@ -24,12 +24,12 @@ pub fn asked<'a>(alloc: Global, words: &'a [&'a str]) -> Result<Asked<'a>, Error
     let procs = Arg::new(alloc, "procs")
         .long("procs")
         .value_name("P")
-        .help("Divides for P processors in place of the dump's own number")
+        .help("Plans for P processors in place of the dump's own number")
         .action(ArgAction::Set)
         .value_parser(value_parser!(u32).range(1..=256));
     let command = Command::new(alloc, "lb_sim")
         .version("0.1.0")
-        .about("Replays a dump of the load database and prints the least division with its fence")
+        .about("Replays a dump of the load database and prints the decision of its balancing step")
         .arg(file)?
         .arg(procs)?;
     let matches = command.try_get_matches_from(words)?;

@@ -5,4 +5,4 @@ use Rattle.lb_sim.proofs.text.push_blocks.Given as goal
 
 abbrev pub invariant-loop-b : goal.invariant-loop-b
 invariant-loop-b g l =
-    string_bytes l.text ++ block_lines l.loads l.b (drop l.b l.cuts) ≡ string_bytes l.initial.text ++ block_lines l.loads 0 l.cuts
+    string_bytes l.text ++ block_lines l.loads l.names l.b (drop l.b l.cuts) ≡ string_bytes l.initial.text ++ block_lines l.loads l.names 0 l.cuts

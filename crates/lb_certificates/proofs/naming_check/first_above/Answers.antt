@@ -3,7 +3,7 @@ use Rattle.std.proofs.lemmas.Bool.{cases_lt}
 use Rattle.std.proofs.lemmas.Int.{ints}
 use Rattle.lb_certificates.specs.Flaws.{IsLow}
 use Rattle.lb_certificates.specs.Naming.{block_cost, price_at}
-use Rattle.lb_certificates.proofs.naming_check.first_high_pe.Goals as goal
+use Rattle.lb_certificates.proofs.naming_check.first_above.Goals as goal
 
 pub loop-p-preserved : goal.loop-p-preserved
 loop-p-preserved c =

@@ -1,6 +1,6 @@
 use Rattle.std.proofs.Common.{ℕ, ◌<◌}
 use Rattle.lb_certificates.specs.Flaws.{IsLow}
-use Rattle.lb_certificates.proofs.naming_check.first_high_pe.Given as goal
+use Rattle.lb_certificates.proofs.naming_check.first_above.Given as goal
 
 abbrev pub invariant-loop-p : goal.invariant-loop-p
 invariant-loop-p l =
