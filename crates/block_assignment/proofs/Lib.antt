@@ -1,5 +1,6 @@
 pub mod Coverings
+pub mod Duality
+pub mod Moves
 pub mod Rows
 pub mod Sums
 pub mod Trees
-pub mod Duality

@@ -5,9 +5,8 @@
 //! Society for Industrial and Applied Mathematics 5(1), 1957; R. Jonker and A. Volgenant, "A shortest augmenting path
 //! algorithm for dense and sparse linear assignment problems", Computing 38, 1987.
 
-ghost use Rattle.std.specs.Prelude.{◌≡◌, ℕ, ◌+◌, ◌-◌, ◌^◌, ◌<◌, ◌≤◌, All, false, length, slice_index, slice_index_or, IfOk, IfSome, MatchOption, pos, neg_ℤ};
-ghost use Rattle.lb_certificates.specs.Naming.{price_at};
-ghost use Rattle.block_assignment.specs.Table.{Table, cost_at};
+ghost use Rattle.std.specs.Prelude.{◌≡◌, ℕ, ◌+◌, ◌^◌, ◌<◌, ◌≤◌, false, length, slice_index, slice_index_or, IfOk, MatchOption};
+ghost use Rattle.block_assignment.specs.Table.{cost_at};
 ghost use Rattle.block_assignment.specs.Search.{State, IsSized, IsFree, IsVisited, IsMatched, IsTree, IsSmall, IsNearest, IsRelaxed, IsRaised, unvisited};
 
 use crate::table::CostTable;

@@ -1,4 +1,4 @@
-ghost use Rattle.std.specs.Prelude.{◌≡◌, ℕ, ◌+◌, ◌-◌, ◌^◌, ◌<◌, ◌≤◌, List, All, length, slice_index, sum_by, IfOk};
+ghost use Rattle.std.specs.Prelude.{◌≡◌, ℕ, ◌+◌, ◌-◌, ◌^◌, ◌<◌, ◌≤◌, length, slice_index, sum_by, IfOk};
 ghost use Rattle.lb_certificates.specs.Chain.{IsDivision};
 ghost use Rattle.lb_certificates.specs.Measured.{IsSizes};
 ghost use Rattle.lb_certificates.specs.Naming.{moved_bytes};
@@ -15,16 +15,18 @@ use std::marker::Model;
 #[derive(Drop)]
 #[derive_where(Debug)]
 pub struct CostTable<A: Allocator = Global> {
-    blocks: u32,
+    // How many blocks there are.
+    count: u32,
+    // The costs, row by row.
     costs: Vec<u64, A>,
 }
 
 impl<A: Allocator> Model for CostTable<A> {
     ghost Value = { Table };
 
-    ghost view = { λ t. record { blocks = t.blocks; costs = t.costs.items } };
+    ghost view = { λ t. record { blocks = t.count; costs = t.costs.items } };
 
-    ghost invariant = { λ t. IsTable (record { blocks = t.blocks; costs = t.costs.items }) };
+    ghost invariant = { λ t. IsTable (record { blocks = t.count; costs = t.costs.items }) };
 }
 
 impl<A: Allocator + Copy> CostTable<A> {
@@ -57,7 +59,7 @@ impl<A: Allocator + Copy> CostTable<A> {
             costs.extend_from_slice(row)?;
         }
         Ok(CostTable {
-            blocks: blocks as u32,
+            count: blocks as u32,
             costs,
         })
     }
@@ -72,7 +74,7 @@ impl<A: Allocator> CostTable<A> {
         ensures value { result ≡ cost_at self.now b p }
         ensures small { result ≤ 2 ^ 36 }
     {
-        self.costs[b as usize * self.blocks as usize + p as usize]
+        self.costs[b as usize * self.blocks() as usize + p as usize]
     }
 
     /// How many blocks there are, and as many PEs.
@@ -80,7 +82,7 @@ impl<A: Allocator> CostTable<A> {
         ensures value { result ≡ self.now.blocks }
         ensures within_limits { IsTable self.now }
     {
-        self.blocks
+        self.count
     }
 }
 

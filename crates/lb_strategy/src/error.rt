@@ -1,4 +1,5 @@
 ghost use Rattle.std.specs.Prelude.{◌≡◌};
+ghost use Rattle.lb_strategy.specs.PlanErrors.{plan_error_of};
 ghost use Rattle.lb_strategy.specs.declared.error.PlanError.TheVariants.{OutOfMemory};
 
 use block_assignment::NameError;
@@ -25,6 +26,8 @@ impl From<AllocError> for PlanError {
 }
 
 impl From<NameError> for PlanError {
+    ghost from_gives = { λ error e. e ≡ plan_error_of error };
+
     fn from(error: NameError) -> PlanError {
         match error {
             NameError::Uncertified => PlanError::Uncertified,

@@ -1,6 +1,7 @@
-//! The example decision, with one part forged for each flaw.
+//! The worked decisions, and the example with one part forged for each flaw.
 
 use super::*;
+use block_assignment::NameError;
 use chare_index::{Index, Pe};
 use lb_certificates::{
     Cuts, Division, Flaw, Floor, Loads, Naming, PriceList, Prices, Sizes, Snapshot, Stops,
@@ -149,5 +150,68 @@ fn an_element_runs_where_its_block_does(rt: HostRuntime) -> Result<(), Fail> {
             assert_eq!(rt; decision.place_of(index).get(), planned, "element {place}");
         }
     }
+    Ok(())
+}
+
+// Whether a decision has this bottleneck, and these cuts, names, bytes moved and moves.
+fn decides(
+    decision: &Decision,
+    bottleneck: u64,
+    cuts: &[u32],
+    names: &[u32],
+    moving: (u64, &[(u32, u32, u32)]),
+) -> bool {
+    let moves = decision.moves.as_slice();
+    let same_moves = moves.len() == moving.1.len()
+        && moves.iter().zip(moving.1).all(|(found, row)| (
+            found.0.get(),
+            found.1.get(),
+            found.2.get(),
+        ) == *row);
+    decision.division.bottleneck == bottleneck
+        && decision.division.cuts.as_slice() == cuts
+        && decision.naming.as_slice() == names
+        && decision.moved == moving.0
+        && same_moves
+}
+
+#[test]
+fn the_examples_are_planned(rt: HostRuntime) -> Result<(), Fail> {
+    let swapped = snapshot(rt.alloc(), 2, &[(1, 8, 1), (1, 8, 1), (1, 8, 0), (1, 8, 0)])?;
+    let decision = plan(rt.alloc(), &swapped, 2)?;
+    assert!(rt;
+        decides(&decision, 2, &[0, 2, 4], &[1, 0], (0, &[])),
+        "swapped"
+    );
+    let example = snapshot(rt.alloc(), 2, &[(1, 10, 0), (1, 9, 1), (2, 8, 0)])?;
+    let decision = plan(rt.alloc(), &example, 2)?;
+    assert!(rt;
+        decides(&decision, 2, &[0, 2, 3], &[1, 0], MOVING),
+        "example"
+    );
+    let decision = plan(rt.alloc(), &example, 1)?;
+    let moving: (u64, &[(u32, u32, u32)]) = (9, &[(1, 1, 0)]);
+    assert!(rt; decides(&decision, 4, &[0, 3], &[0], moving), "one PE");
+    assert_eq!(rt; check(&example, 1, &decision), Ok(()));
+    assert_eq!(rt; check(&example, 2, &decision), Err(Flaw::CutCount));
+    let none = snapshot(rt.alloc(), 3, &[])?;
+    let decision = plan(rt.alloc(), &none, 3)?;
+    assert_eq!(rt; decision.moved, 0, "no elements");
+    assert_eq!(rt; decision.naming.into_vec().len(), 3, "no elements");
+    Ok(())
+}
+
+#[test]
+fn the_errors_have_their_numbers(rt: HostRuntime) -> Result<(), Fail> {
+    assert_eq!(rt; PlanError::Uncertified as u8, 1);
+    assert_eq!(rt; PlanError::OutOfMemory as u8, 2);
+    assert_eq!(rt;
+        PlanError::from(NameError::Uncertified),
+        PlanError::Uncertified
+    );
+    assert_eq!(rt;
+        PlanError::from(NameError::OutOfMemory),
+        PlanError::OutOfMemory
+    );
     Ok(())
 }

@@ -1,7 +1,7 @@
 use Rattle.std.proofs.Common.{◌≡◌, ◌<◌, ◌≤◌, ◌+◌, ℕ, List, length, set, slice_index, arith, sym, ◌∙◌, subst, ap}
 use Rattle.std.proofs.lemmas.List.{get_or_read}
 use Rattle.block_assignment.specs.Search.{State, IsMatched, IsTree}
-use Rattle.block_assignment.proofs.Trees.{IsMoving, next_earlier, moving_more, moving_ends, renamed}
+use Rattle.block_assignment.proofs.Moves.{IsMoving, next_earlier, moving_more, moving_ends, renamed}
 use Rattle.block_assignment.proofs.search.Search.move_on.Goals as goal
 
 pub index-requires-in-loop-b : goal.index-requires-in-loop-b

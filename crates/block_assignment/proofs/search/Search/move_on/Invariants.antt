@@ -1,5 +1,5 @@
 use Rattle.std.proofs.Common.{◌≡◌, slice_index}
-use Rattle.block_assignment.proofs.Trees.{IsMoving}
+use Rattle.block_assignment.proofs.Moves.{IsMoving}
 use Rattle.block_assignment.proofs.search.Search.move_on.Given as goal
 
 abbrev pub invariant-loop-b : goal.invariant-loop-b
