@@ -1,5 +1,5 @@
 -- A list of moves, element by element.
-use Rattle.std.proofs.Common.{◌≡◌, ◌≢◌, ℕ, zero, suc, ◌+◌, ◌-◌, ◌<◌, ◌≤◌, ◌⊎◌, inl, inr, Bool, true, false, eqb, List, [], ◌∷◌, ◌++◌, length, take, slice_index_or, arith, refl, ap, sym, ◌∙◌, subst, add-suc, add-zero, add-one, append_assoc, MatchBool}
+use Rattle.std.proofs.Common.{◌≡◌, ◌≢◌, ℕ, zero, suc, ◌+◌, ◌-◌, ◌<◌, ◌≤◌, inl, inr, eqb, List, [], ◌++◌, length, take, slice_index_or, arith, ap, sym, ◌∙◌, add-one, append_assoc, MatchBool}
 use Rattle.std.proofs.lemmas.Bool.Decides.{eqb_tells}
 use Rattle.std.proofs.lemmas.List.{append-nil, take_all, length-take-le}
 use Rattle.lb_strategy.specs.Moves.{move_of, moves_below, planned_pe}

@@ -1,4 +1,4 @@
-use Rattle.std.proofs.Common.{◌≡◌, Bool, true, false, Result, Ok, Err, IsOk, IsErr, refl, rules}
+use Rattle.std.proofs.Common.{◌≡◌, true, false, Result, Ok, Err, IsOk, IsErr, refl, rules}
 use Rattle.lb_strategy.specs.Decisions.{IsRight}
 use Rattle.lb_strategy.proofs.RightDecisions.{place_from_right}
 use Rattle.lb_strategy.proofs.checking.check_parts.Goals as goal

@@ -1,4 +1,4 @@
-use Rattle.std.proofs.Common.{◌≡◌, ◌≢◌, ◌++◌, length, take, slice_index, slice_index_or, arith, ap, sym, ◌∙◌, subst, MatchBool, eqb}
+use Rattle.std.proofs.Common.{◌≡◌, length, take, slice_index, slice_index_or, arith, ap, ◌∙◌}
 use Rattle.std.specs.Option.{option_to_list}
 use Rattle.std.proofs.lemmas.List.{get_or_default}
 use Rattle.lb_strategy.specs.Moves.{move_of, moves_below, planned_pe}
