@@ -1,5 +1,5 @@
 -- The bytes of a block, and those of it that stand on a PE.
-use Rattle.std.proofs.Common.{◌≡◌, ℕ, ◌+◌, ◌*◌, ◌^◌, ◌<◌, ◌≤◌, List, length, take, get_or, slice_index, sum_by, arith}
+use Rattle.std.proofs.Common.{◌≡◌, ℕ, ◌+◌, ◌^◌, ◌<◌, ◌≤◌, List, length, take, get_or, slice_index, sum_by, arith}
 use Rattle.std.proofs.lemmas.List.Sums.{sum_by-le, sum_by_more_le}
 use Rattle.std.proofs.Math.Nat.{mul-le-mul_right}
 use Rattle.chare_index.specs.declared.limits.TheConstants.Limits.{STATE_BYTES}
