@@ -1,5 +1,7 @@
 //! The worked decisions, and the example with one part forged for each flaw.
 
+ghost use Rattle.std.specs.Prelude.{◌≤◌};
+
 use super::*;
 use block_assignment::NameError;
 use chare_index::{Index, Pe};
@@ -153,51 +155,95 @@ fn an_element_runs_where_its_block_does(rt: HostRuntime) -> Result<(), Fail> {
     Ok(())
 }
 
-// Whether a decision has this bottleneck, and these cuts, names, bytes moved and moves.
-fn decides(
-    decision: &Decision,
+// What a decision is to say.
+#[derive(Clone, Copy)]
+struct Row<'a> {
     bottleneck: u64,
-    cuts: &[u32],
-    names: &[u32],
-    moving: (u64, &[(u32, u32, u32)]),
-) -> bool {
-    let moves = decision.moves.as_slice();
-    let same_moves = moves.len() == moving.1.len()
-        && moves.iter().zip(moving.1).all(|(found, row)| (
-            found.0.get(),
-            found.1.get(),
-            found.2.get(),
-        ) == *row);
-    decision.division.bottleneck == bottleneck
-        && decision.division.cuts.as_slice() == cuts
-        && decision.naming.as_slice() == names
-        && decision.moved == moving.0
-        && same_moves
+    cuts: &'a [u32],
+    names: &'a [u32],
+    moved: u64,
+    moves: &'a [(u32, u32, u32)],
+}
+
+fn are_rows(moves: &[(Index, Pe, Pe)], rows: &[(u32, u32, u32)]) -> bool {
+    if moves.len() != rows.len() {
+        return false;
+    }
+    for i in 0..moves.len() {
+        let (index, present, planned) = moves[i];
+        if (index.get(), present.get(), planned.get()) != rows[i] {
+            return false;
+        }
+    }
+    true
+}
+
+fn says(decision: &Decision, row: Row<'_>) -> bool {
+    decision.division.bottleneck == row.bottleneck
+        && decision.division.cuts.as_slice() == row.cuts
+        && decision.naming.as_slice() == row.names
+        && decision.moved == row.moved
+        && are_rows(decision.moves.as_slice(), row.moves)
+}
+
+// Whether the plan for this snapshot says this, and is accepted for as many PEs alone.
+fn plans(alloc: Global, taken: &Snapshot, pes: u32, row: Row<'_>) -> Result<bool, Fail>
+    requires some_pe { 1 ≤ pes }
+    requires few_pes { pes ≤ 4 }
+{
+    let decision = plan(alloc, taken, pes)?;
+    let accepted = check(taken, pes, &decision).is_ok();
+    let alone = check(taken, pes + 1, &decision).is_err();
+    Ok(says(&decision, row) && accepted && alone)
 }
 
 #[test]
 fn the_examples_are_planned(rt: HostRuntime) -> Result<(), Fail> {
     let swapped = snapshot(rt.alloc(), 2, &[(1, 8, 1), (1, 8, 1), (1, 8, 0), (1, 8, 0)])?;
-    let decision = plan(rt.alloc(), &swapped, 2)?;
-    assert!(rt;
-        decides(&decision, 2, &[0, 2, 4], &[1, 0], (0, &[])),
-        "swapped"
-    );
+    let row = Row {
+        bottleneck: 2,
+        cuts: &[0, 2, 4],
+        names: &[1, 0],
+        moved: 0,
+        moves: &[],
+    };
+    assert!(rt; plans(rt.alloc(), &swapped, 2, row)?, "swapped");
+    Ok(())
+}
+
+#[test]
+fn the_example_is_planned_for_two_and_for_one(rt: HostRuntime) -> Result<(), Fail> {
     let example = snapshot(rt.alloc(), 2, &[(1, 10, 0), (1, 9, 1), (2, 8, 0)])?;
-    let decision = plan(rt.alloc(), &example, 2)?;
-    assert!(rt;
-        decides(&decision, 2, &[0, 2, 3], &[1, 0], MOVING),
-        "example"
-    );
-    let decision = plan(rt.alloc(), &example, 1)?;
-    let moving: (u64, &[(u32, u32, u32)]) = (9, &[(1, 1, 0)]);
-    assert!(rt; decides(&decision, 4, &[0, 3], &[0], moving), "one PE");
-    assert_eq!(rt; check(&example, 1, &decision), Ok(()));
-    assert_eq!(rt; check(&example, 2, &decision), Err(Flaw::CutCount));
+    let row = Row {
+        bottleneck: 2,
+        cuts: &[0, 2, 3],
+        names: &[1, 0],
+        moved: 10,
+        moves: &[(0, 0, 1)],
+    };
+    assert!(rt; plans(rt.alloc(), &example, 2, row)?, "two PEs");
+    let row = Row {
+        bottleneck: 4,
+        cuts: &[0, 3],
+        names: &[0],
+        moved: 9,
+        moves: &[(1, 1, 0)],
+    };
+    assert!(rt; plans(rt.alloc(), &example, 1, row)?, "one PE");
+    Ok(())
+}
+
+#[test]
+fn no_elements_are_planned(rt: HostRuntime) -> Result<(), Fail> {
     let none = snapshot(rt.alloc(), 3, &[])?;
-    let decision = plan(rt.alloc(), &none, 3)?;
-    assert_eq!(rt; decision.moved, 0, "no elements");
-    assert_eq!(rt; decision.naming.into_vec().len(), 3, "no elements");
+    let row = Row {
+        bottleneck: 0,
+        cuts: &[0, 0, 0, 0],
+        names: &[0, 1, 2],
+        moved: 0,
+        moves: &[],
+    };
+    assert!(rt; plans(rt.alloc(), &none, 3, row)?, "no elements");
     Ok(())
 }
 
