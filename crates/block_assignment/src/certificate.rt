@@ -76,7 +76,7 @@ fn check_sum<A: Allocator>(table: &CostTable<A>, names: &[u32], u: &[i64], v: &[
     requires pe_prices { length v.now ≡ table.now.blocks }
     ensures { IsTrue result ↔ (price_sum u.now +ℤ price_sum v.now ≡ pos (naming_cost table.now.blocks (cost_at table.now) names.now)) }
 {
-    sum_of(u) + sum_of(v) == i128::from(cost_of(table, names))
+    sum_of(u) + sum_of(v) == i128::from(table.cost_of(names))
 }
 
 // The sum of these prices.
@@ -91,17 +91,4 @@ fn sum_of(prices: &[i64]) -> i128
         sum += i128::from(*price);
     }
     sum
-}
-
-// What the naming costs.
-#[tactic(auto, using(crate::proofs::Sums::total_more))]
-fn cost_of<A: Allocator>(table: &CostTable<A>, names: &[u32]) -> u64
-    requires { IsNaming table.now.blocks names.now }
-    ensures { result ≡ naming_cost table.now.blocks (cost_at table.now) names.now }
-{
-    let mut total = 0;
-    for b in 0..table.blocks() {
-        total += table.cost(b, names[b as usize]);
-    }
-    total
 }

@@ -1,7 +1,7 @@
 ghost use Rattle.std.specs.Prelude.{◌≡◌, ℕ, ◌+◌, ◌-◌, ◌^◌, ◌<◌, ◌≤◌, length, slice_index, sum_by, IfOk};
 ghost use Rattle.lb_certificates.specs.Chain.{IsDivision};
 ghost use Rattle.lb_certificates.specs.Measured.{IsSizes};
-ghost use Rattle.lb_certificates.specs.Naming.{moved_bytes};
+ghost use Rattle.lb_certificates.specs.Naming.{naming_cost, moved_bytes, IsNaming};
 ghost use Rattle.block_assignment.specs.Table.{Table, IsTable, IsTableOf, cost_at};
 
 use chare_index::{Limits, Pe};
@@ -75,6 +75,19 @@ impl<A: Allocator> CostTable<A> {
         ensures small { result ≤ 2 ^ 36 }
     {
         self.costs[b as usize * self.blocks() as usize + p as usize]
+    }
+
+    /// The bytes that move where each block runs on the PE of its name.
+    #[tactic(auto, using(crate::proofs::Sums::total_more))]
+    pub fn cost_of(&self, names: &[u32]) -> u64
+        requires { IsNaming self.now.blocks names.now }
+        ensures { result ≡ naming_cost self.now.blocks (cost_at self.now) names.now }
+    {
+        let mut total = 0;
+        for b in 0..self.blocks() {
+            total += self.cost(b, names[b as usize]);
+        }
+        total
     }
 
     /// How many blocks there are, and as many PEs.

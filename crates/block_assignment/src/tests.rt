@@ -88,7 +88,9 @@ fn the_examples_have_their_names(rt: HostRuntime) -> Result<(), Fail> {
         let (naming, prices) = name_blocks(rt.alloc(), &table)?;
         assert_eq!(rt; naming.as_slice(), names, "names of {pairs:?}");
         let total = sum(prices.u.as_slice()).saturating_add(sum(&prices.v.into_vec()));
-        assert_eq!(rt; total, cost, "cost of {pairs:?}");
+        assert_eq!(rt; total, cost, "prices of {pairs:?}");
+        let moved = table.cost_of(naming.as_slice());
+        assert_eq!(rt; moved, cost as u64, "cost of {pairs:?}");
     }
     Ok(())
 }

@@ -26,7 +26,7 @@ ends_told A bytes procs old new fault WriteFailed told line =
 memory_told : (bytes : Option (List ℕ)) (fault : Fault) → IsTold bytes fault → IsTold bytes (without_memory fault)
 memory_told None (Dump e) told = tt
 memory_told (Some text) (Dump e) told = inr (inl refl)
-memory_told bytes (Plan e) told = told
+memory_told bytes (Plan e) told = (refl, told.1)
 
 -- the line of a fault, or that of want of memory in its place
 pub ends_fault : (A : Type 0) (bytes : Option (List ℕ)) (procs : Option ℕ) (old new : Option (List ℕ)) (fault : Fault) (ended : Ended) → IsTold bytes fault → TellsLine old new fault ended ⊎ TellsLine old new (without_memory fault) ended → Ends A bytes procs old new ended

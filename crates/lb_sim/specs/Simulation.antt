@@ -35,11 +35,11 @@ pub record IsReplay (A : Type 0) (bytes : Option (List ℕ)) (procs : Option ℕ
   pub read : IfSome bytes (IsText snapshot)
   pub planned : IsPlanned A snapshot (blocks_of procs snapshot) text
 
--- The reader or memory failed, or this is the first fault of the bytes; or the bytes are a dump, and then its
--- decision was not certified or memory failed.
+-- The reader or memory failed, or this is the first fault of the bytes; or the bytes are a dump, and then memory
+-- failed.
 abbrev pub IsTold : Option (List ℕ) → Fault → Type 0
 IsTold bytes (Dump e) = IfSome bytes (λ text. (e ≡ Read) ⊎ ((e ≡ DumpError.OutOfMemory) ⊎ IsFault text e))
-IsTold bytes (Plan e) = (s : Taken) × IfSome bytes (IsText s)
+IsTold bytes (Plan e) = (e ≡ PlanError.OutOfMemory) × ((s : Taken) × IfSome bytes (IsText s))
 
 -- the fault that is told where there is no memory for the line of another
 abbrev pub without_memory : Fault → Fault

@@ -13,8 +13,8 @@ pub enum Ended {
     /// The line of this fault was written: the dump's first fault, or that its reader failed or memory was
     /// refused.
     Dump(DumpError),
-    /// The line of this fault was written: the dump was read, and then its decision was not certified or memory
-    /// was refused.
+    /// The line of this fault was written: the dump was read, and then memory was refused, or the decision was
+    /// not certified, which never comes.
     Plan(PlanError),
     /// The writer failed, or took nothing. A prefix of what was to be written has gone out.
     WriteFailed,

@@ -1,6 +1,7 @@
 ghost use Rattle.std.specs.Prelude.{◌≡◌, ◌≤◌, ◌⊎◌, IfOk, IfErr};
 ghost use Rattle.std.specs.Option.{ForSome};
 ghost use Rattle.std.specs.String.{string_bytes};
+ghost use Rattle.lb_strategy.specs.declared.error.PlanError.TheVariants.{OutOfMemory};
 ghost use Rattle.lb_sim.specs.Text.{fault_line};
 ghost use Rattle.lb_sim.specs.Simulation.{Ends, IsPlanned, IsReplay, IsTold, TellsLine, without_memory};
 
@@ -61,7 +62,8 @@ fn planned_text<A: Allocator + Copy, B: Allocator>(
 ) -> Result<String<A>, PlanError>
     requires some_pe { 1 ≤ pes }
     requires few_pes { pes ≤ Limits.PES }
-    ensures { IfOk result (λ text. IsPlanned A snapshot.now pes (string_bytes text)) }
+    ensures text { IfOk result (λ text. IsPlanned A snapshot.now pes (string_bytes text)) }
+    ensures fault { IfErr result (λ error. error ≡ OutOfMemory) }
 {
     let decision = plan(alloc, snapshot, pes)?;
     Ok(decision_text(alloc, snapshot, pes, &decision)?)

@@ -1,5 +1,5 @@
 -- What a right decision implies.
-use Rattle.std.proofs.Common.{◌≡◌, ℕ, ◌<◌, ◌≤◌, inl, inr, true, false, ltb, nat_lt, List, length, slice_index, arith, subst}
+use Rattle.std.proofs.Common.{◌≡◌, ℕ, ◌<◌, ◌≤◌, inl, inr, true, false, ltb, nat_lt, Result, Ok, Err, IfOk, List, length, slice_index, ℤ, ◌+ℤ◌, ◌≤ℤ◌, pos, arith, ap, subst, sym, ◌∙◌}
 use Rattle.std.specs.List.{position_or_len}
 use Rattle.std.proofs.lemmas.Bool.{cases_lt, lt-ltb, le-ltb}
 use Rattle.std.proofs.lemmas.List.Sums.{fails_before_first, passes_at_first}
@@ -7,12 +7,14 @@ use Rattle.lb_certificates.specs.Certificate.{IsCertified}
 use Rattle.lb_certificates.specs.Chain.{IsDivision, IsLeastDivision}
 use Rattle.lb_certificates.specs.declared.division.Division.{Division}
 use Rattle.chare_index.specs.declared.limits.TheConstants.Limits.{PES}
-use Rattle.lb_certificates.specs.Naming.{block_of, blocks_between, AreBlocks, IsCheapest}
-use Rattle.lb_certificates.proofs.BlockSums.{cheapest_from_named}
+use Rattle.lb_certificates.specs.Naming.{block_cost, block_of, blocks_between, bytes_moved, naming_cost, AreBlocks, price_at, IsCheapest, IsNaming, Proves}
+use Rattle.lb_certificates.proofs.BlockSums.{cheapest_from_named, moved_is_cost}
 use Rattle.lb_certificates.proofs.LeastDivisions.{least_from_certified}
+use Rattle.lb_certificates.proofs.Totals.{total_same}
+use Rattle.block_assignment.specs.Table.{Table, cost_at, IsTableOf}
 use Rattle.lb_strategy.specs.declared.decision.Decision.{Decision}
 use Rattle.lb_strategy.specs.Moves.{HasPlace}
-use Rattle.lb_strategy.specs.Decisions.{IsNamedRight, IsRight}
+use Rattle.lb_strategy.specs.Decisions.{right_moves, IsNamedRight, IsRight}
 
 pub least_from_right : {A : Type 0} (loads : List ℕ) (sizes : List (ℕ × ℕ)) (p : ℕ) (d : Decision A) → IsRight loads sizes p d → IsLeastDivision loads p d.division.bottleneck d.division.cuts
 least_from_right loads sizes p d right = least_from_certified loads p d.division right.division
@@ -55,6 +57,10 @@ place_from_right loads sizes p d right i inside =
       pe = omega (arith, right.named.naming.below (block_of d.division.cuts i) block, right.named.blocks.few_blocks);
     }
 
+pub places_if_right : {A E : Type 0} (loads : List ℕ) (sizes : List (ℕ × ℕ)) (p : ℕ) (result : Result (Decision A) E) → IfOk result (IsRight loads sizes p) → IfOk result (λ d. (i : ℕ) → i < length sizes → HasPlace d.division.cuts d.naming i)
+places_if_right loads sizes p (Ok d) right = place_from_right loads sizes p d right
+places_if_right loads sizes p (Err e) none = none
+
 -- a certified division of the loads divides the elements
 pub blocks_from_certified : {A : Type 0} (loads : List ℕ) (sizes : List (ℕ × ℕ)) (p : ℕ) (d : Division A) → IsCertified loads p d → length loads ≡ length sizes → 1 ≤ p → p ≤ PES → AreBlocks sizes d.cuts
 blocks_from_certified loads sizes p d certified counted some few =
@@ -64,4 +70,35 @@ blocks_from_certified loads sizes p d certified counted some few =
       some_block = omega (arith, blocks, some);
       few_blocks = omega (arith, blocks, few);
       divides = subst (λ n. IsDivision 0 (length sizes) n d.cuts) blocks divides;
+    }
+
+-- a naming costs by the table of its blocks what it moves
+moved_by_table : (sizes : List (ℕ × ℕ)) (cuts names : List ℕ) (t : Table) → AreBlocks sizes cuts → IsTableOf sizes cuts t → IsNaming t.blocks names → naming_cost t.blocks (cost_at t) names ≡ bytes_moved sizes cuts names
+moved_by_table sizes cuts names t blocks table naming =
+    let by_block : naming_cost t.blocks (cost_at t) names ≡ naming_cost t.blocks (block_cost sizes cuts) names = total_same t.blocks (λ b. cost_at t b (slice_index names b)) (λ b. block_cost sizes cuts b (slice_index names b)) (λ b inside. table.exact b (slice_index names b) inside (naming.below b inside)) in
+    by_block ∙ ap (λ n. naming_cost n (block_cost sizes cuts) names) table.counted ∙ sym (moved_is_cost sizes cuts names (blocks_between cuts) blocks.divides)
+
+-- prices that prove a naming by the table of its blocks prove what it moves
+proved_by_table : (sizes : List (ℕ × ℕ)) (cuts names : List ℕ) (u v : List ℤ) (t : Table) → AreBlocks sizes cuts → IsTableOf sizes cuts t → IsNaming t.blocks names → Proves t.blocks (cost_at t) (naming_cost t.blocks (cost_at t) names) u v → Proves (blocks_between cuts) (block_cost sizes cuts) (bytes_moved sizes cuts names) u v
+proved_by_table sizes cuts names u v t blocks table naming proved =
+    let counted : t.blocks ≡ blocks_between cuts = table.counted in
+    record {
+      block_prices = proved.block_prices ∙ counted;
+      pe_prices = proved.pe_prices ∙ counted;
+      low = λ b p block pe. subst (λ cost. (price_at u b +ℤ price_at v p) ≤ℤ pos cost) (table.exact b p (omega (arith, block, counted)) (omega (arith, pe, counted))) (proved.low b p (omega (arith, block, counted)) (omega (arith, pe, counted)));
+      adds_up = proved.adds_up ∙ ap pos (moved_by_table sizes cuts names t blocks table naming);
+    }
+
+-- a certified division, named and priced by the table of its blocks, with the bytes of the table and the moves
+pub right_from_table : {A : Type 0} (loads : List ℕ) (sizes : List (ℕ × ℕ)) (p : ℕ) (d : Decision A) (t : Table) → IsCertified loads p d.division → AreBlocks sizes d.division.cuts → IsTableOf sizes d.division.cuts t → IsNaming t.blocks d.naming → Proves t.blocks (cost_at t) (naming_cost t.blocks (cost_at t) d.naming) d.prices.u d.prices.v → d.moved ≡ naming_cost t.blocks (cost_at t) d.naming → d.moves ≡ right_moves sizes d → IsRight loads sizes p d
+right_from_table loads sizes p d t division blocks table naming proved moved moves =
+    record {
+      division = division;
+      named = record {
+        blocks = blocks;
+        naming = subst (λ n. IsNaming n d.naming) table.counted naming;
+        proved = proved_by_table sizes d.division.cuts d.naming d.prices.u d.prices.v t blocks table naming proved;
+      };
+      moved = moved ∙ moved_by_table sizes d.division.cuts d.naming t blocks table naming;
+      moves = moves;
     }

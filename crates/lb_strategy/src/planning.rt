@@ -1,10 +1,10 @@
-ghost use Rattle.std.specs.Prelude.{◌≡◌, ◌<◌, ◌≤◌, ℕ, length, IfOk};
+ghost use Rattle.std.specs.Prelude.{◌≡◌, ◌<◌, ◌≤◌, ℕ, length, IfOk, IfErr};
 ghost use Rattle.chain_partition.specs.Chosen.{IsChosen};
-ghost use Rattle.block_assignment.specs.Table.{cost_at};
 ghost use Rattle.lb_certificates.specs.Chain.{IsLeastDivision};
-ghost use Rattle.lb_certificates.specs.Naming.{naming_cost, IsCheapest, IsNaming};
+ghost use Rattle.lb_certificates.specs.Naming.{IsCheapest};
 ghost use Rattle.lb_strategy.specs.Decisions.{IsRight};
 ghost use Rattle.lb_strategy.specs.Moves.{HasPlace};
+ghost use Rattle.lb_strategy.specs.declared.error.PlanError.TheVariants.{OutOfMemory};
 
 use crate::checking::check;
 use crate::decision::Decision;
@@ -22,8 +22,8 @@ use std::alloc::Allocator;
 ///
 /// # Errors
 ///
-/// [`OutOfMemory`](PlanError::OutOfMemory) where a list was refused, and
-/// [`Uncertified`](PlanError::Uncertified) where the decision failed its check.
+/// [`OutOfMemory`](PlanError::OutOfMemory) where a list was refused.
+/// [`Uncertified`](PlanError::Uncertified), were the decision to fail its check, never comes.
 #[tactic(auto, using(crate::proofs::RightDecisions::least_from_right, crate::proofs::RightDecisions::cheapest_from_right, crate::proofs::RightDecisions::place_from_right))]
 pub fn plan<A: Allocator + Copy, B: Allocator>(
     alloc: A,
@@ -37,8 +37,22 @@ pub fn plan<A: Allocator + Copy, B: Allocator>(
     ensures least { IfOk result (λ d. IsLeastDivision snapshot.now.loads pes d.division.bottleneck d.division.cuts) }
     ensures cheapest { IfOk result (λ d. IsCheapest snapshot.now.sizes d.division.cuts pes d.naming) }
     ensures places { IfOk result (λ d. (i : ℕ) → i < length snapshot.now.sizes → HasPlace d.division.cuts d.naming i) }
+    ensures certified { IfErr result (λ error. error ≡ OutOfMemory) }
 {
     let decision = decide(alloc, snapshot.loads(), snapshot.sizes(), pes)?;
+    certified(snapshot, pes, decision)
+}
+
+// This decision, if its check accepts it.
+fn certified<A: Allocator, B: Allocator>(
+    snapshot: &Snapshot<B>,
+    pes: u32,
+    decision: Decision<A>,
+) -> Result<Decision<A>, PlanError>
+    ensures same { IfOk result (λ d. d ≡ decision) }
+    ensures accepted { IfOk result (IsRight snapshot.now.loads snapshot.now.sizes pes) }
+    ensures refused { IfErr result (λ _. ¬ (IsRight snapshot.now.loads snapshot.now.sizes pes decision)) }
+{
     if check(snapshot, pes, &decision).is_err() {
         return Err(PlanError::Uncertified);
     }
@@ -56,12 +70,14 @@ fn decide<A: Allocator + Copy, B: Allocator>(
     requires counted { length loads.now ≡ length sizes.now }
     requires some_pe { 1 ≤ pes }
     requires few_pes { pes ≤ Limits.PES }
-    ensures { IfOk result (λ d. IsChosen loads.now pes d.division) }
+    ensures chosen { IfOk result (λ d. IsChosen loads.now pes d.division) }
+    ensures right { IfOk result (IsRight loads.now sizes.now pes) }
+    ensures certified { IfErr result (λ error. error ≡ OutOfMemory) }
 {
     let division = divide(alloc, loads, pes)?;
     let table = CostTable::of(alloc, sizes, &division.cuts)?;
     let (naming, prices) = name_blocks(alloc, &table)?;
-    let moved = cost_of(&table, naming.as_slice());
+    let moved = table.cost_of(naming.as_slice());
     let pairs = sizes.as_slice();
     let moves = moves_of(alloc, pairs, division.cuts.as_slice(), naming.as_slice())?;
     Ok(Decision {
@@ -71,17 +87,4 @@ fn decide<A: Allocator + Copy, B: Allocator>(
         moved,
         moves,
     })
-}
-
-// The bytes that these names move, by the table.
-#[tactic(auto, using(block_assignment::proofs::Sums::total_more))]
-fn cost_of<A: Allocator>(table: &CostTable<A>, names: &[u32]) -> u64
-    requires { IsNaming table.now.blocks names.now }
-    ensures { result ≡ naming_cost table.now.blocks (cost_at table.now) names.now }
-{
-    let mut total = 0;
-    for b in 0..table.blocks() {
-        total += table.cost(b, names[b as usize]);
-    }
-    total
 }

@@ -1,11 +1,11 @@
 use Rattle.std.proofs.Common.{◌≡◌, ◌≤◌, ◌*◌, ◌^◌, slice_index}
 use Rattle.lb_certificates.specs.Naming.{total}
 use Rattle.block_assignment.specs.Table.{cost_at}
-use Rattle.block_assignment.proofs.certificate.cost_of.Given as goal
+use Rattle.block_assignment.proofs.table.CostTable.cost_of.Given as goal
 
 abbrev pub invariant-loop-b : goal.invariant-loop-b
 invariant-loop-b g l =
     record {
-      value : l.total ≡ total l.b (λ b. cost_at l.table b (slice_index l.names b));
+      value : l.total ≡ total l.b (λ b. cost_at l.self b (slice_index l.names b));
       small : l.total ≤ l.b * 2 ^ 36;
     }

@@ -1,0 +1,19 @@
+use Rattle.std.proofs.Common.{rules}
+use Rattle.lb_certificates.specs.Certificate.{IsCertified}
+use Rattle.lb_certificates.specs.Naming.{AreBlocks}
+use Rattle.lb_strategy.proofs.RightDecisions.{blocks_from_certified, right_from_table}
+use Rattle.lb_strategy.proofs.planning.decide.Goals as goal
+
+pub returns-clause-right : goal.returns-clause-right
+returns-clause-right g c =
+    let division : IsCertified c.args.loads.now c.args.pes c.in_ok-division.division = c.in_ok-division.ensures.certified in
+    let blocks : AreBlocks c.args.sizes.now c.in_ok-division.division.cuts = blocks_from_certified c.args.loads.now c.args.sizes.now c.args.pes c.in_ok-division.division division c.requires.counted c.requires.some_pe c.requires.few_pes in
+    right_from_table c.args.loads.now c.args.sizes.now c.args.pes
+    (record {
+      division = c.in_ok-division.division;
+      naming = c.in_ok-naming.naming;
+      prices = c.in_ok-naming.prices;
+      moved = c.cost_of-moved.result;
+      moves = c.in_ok-moves.moves;
+    })
+    c.in_ok-table.table division blocks c.in_ok-table.ensures c.in_ok-naming.ensures.naming c.in_ok-naming.ensures.proved (search rules) (search rules)
