@@ -1,9 +1,9 @@
 //! The search for a cheapest naming. The blocks are named one after the other. To name one more, a tree of blocks
-//! grows from it: a block joins with the PE that it holds, once the prices let some block of the tree have that PE at
-//! no loss. When a free PE comes within reach, each block on the way to it moves on by one PE. This is the method of
-//! shortest augmenting paths: J. Munkres, "Algorithms for the assignment and transportation problems", Journal of the
-//! Society for Industrial and Applied Mathematics 5(1), 1957; R. Jonker and A. Volgenant, "A shortest augmenting path
-//! algorithm for dense and sparse linear assignment problems", Computing 38, 1987.
+//! grows from it: a block joins with the PE that it holds, once the prices let some block of the tree have that PE
+//! at no loss. When a free PE comes within reach, each block on the way to it moves on by one PE. This is the
+//! method of shortest augmenting paths: J. Munkres, "Algorithms for the assignment and transportation problems",
+//! Journal of the Society for Industrial and Applied Mathematics 5(1), 1957; R. Jonker and A. Volgenant, "A
+//! shortest augmenting path algorithm for dense and sparse linear assignment problems", Computing 38, 1987.
 
 ghost use Rattle.std.specs.Prelude.{◌≡◌, ℕ, ◌+◌, ◌^◌, ◌<◌, ◌≤◌, false, length, slice_index, slice_index_or, IfOk, MatchOption};
 ghost use Rattle.block_assignment.specs.Table.{cost_at};
@@ -164,8 +164,8 @@ impl<A: Allocator, B: Allocator> Search<'_, A, B> {
         );
     }
 
-    // Lets each block of the tree pay as much more as the nearest PE misses, and each PE that they hold give as much
-    // back.
+    // Lets each block of the tree pay as much more as the nearest PE misses, and each PE that they hold give as
+    // much back.
     fn raise(&mut self, pe: u32)
         requires sized { IsSized self.old }
         requires matched { IsMatched self.old }
@@ -186,8 +186,8 @@ impl<A: Allocator, B: Allocator> Search<'_, A, B> {
         raise_rebates(&self.visited, step, &mut self.rebate, &mut self.slack);
     }
 
-    // Gives the free PE to the block that reaches it, the PE of that block to the one that reaches that, and so on to
-    // the root.
+    // Gives the free PE to the block that reaches it, the PE of that block to the one that reaches that, and so on
+    // to the root.
     fn move_on(&mut self, free: u32)
         requires sized { IsSized self.old }
         requires matched { IsMatched self.old }

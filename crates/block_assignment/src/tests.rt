@@ -90,7 +90,7 @@ fn the_examples_have_their_names(rt: HostRuntime) -> Result<(), Fail> {
         let total = sum(prices.u.as_slice()).saturating_add(sum(&prices.v.into_vec()));
         assert_eq!(rt; total, cost, "prices of {pairs:?}");
         let moved = table.cost_of(naming.as_slice());
-        assert_eq!(rt; moved, cost as u64, "cost of {pairs:?}");
+        assert_eq!(rt; i128::from(moved), i128::from(cost), "cost of {pairs:?}");
     }
     Ok(())
 }

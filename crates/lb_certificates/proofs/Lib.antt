@@ -4,6 +4,7 @@ pub mod Chains
 pub mod Duality
 pub mod LeastDivisions
 pub mod LoadSums
+pub mod Made
 pub mod MovedBytes
 pub mod NoFlaws
 pub mod NoNamingFlaws

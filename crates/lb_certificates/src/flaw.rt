@@ -1,5 +1,5 @@
-/// What is wrong with a division, a naming or a whole decision, in the order in which it is told: of several flaws the first one,
-/// at its first block, stop, or block and PE.
+/// What is wrong with a division, a naming or a whole decision, in the order in which it is told: of several flaws
+/// the first one, at its first block, stop, or block and PE.
 #[derive(Clone, Copy, Debug, PartialEq, Eq)]
 pub enum Flaw {
     /// There is not one cut more than blocks.

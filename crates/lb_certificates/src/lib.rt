@@ -5,8 +5,8 @@
 //!   certificate that no other division has a lighter heaviest block.
 //! - [`Naming`] and [`Prices`], with [`PriceList`]: on which PE each block runs, and the certificate that no
 //!   other naming moves fewer bytes.
-//! - [`check_division`] and [`check_naming`]: accept an answer exactly where its certificate is right, and else name
-//!   the first [`Flaw`].
+//! - [`check_division`] and [`check_naming`]: accept an answer exactly where its certificate is right, and else
+//!   name the first [`Flaw`].
 //! - [`reference`]: plain programs that try every answer, to compare faster ones with.
 #![tactic(auto)]
 

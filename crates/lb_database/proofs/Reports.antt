@@ -1,6 +1,6 @@
 -- Lists of reports: whether one is missing, and those that are there.
 use Rattle.std.proofs.Common.{◌≡◌, ℕ, suc, zero, ◌+◌, ◌<◌, ◌≤◌, List, [], ◌∷◌, length, get_or, map, refl, ap, sym, subst, arith, cond, Option, None, Some}
-use Rattle.std.specs.Prelude.{All, IsSome, IfSome, SomeIff, is_none, count_by}
+use Rattle.std.specs.Prelude.{All, IsSome, IfSome, is_none, count_by}
 use Rattle.std.proofs.lemmas.List.Sums.{sum_by-cons}
 use Rattle.std.proofs.lemmas.List.{get_or-map, length-map}
 use Rattle.chare_index.specs.declared.limits.TheConstants.Limits.{PES, STATE_BYTES}
@@ -52,8 +52,3 @@ placed_there m pes loads sizes kept same paired some few below = record {
   paired = omega (arith, paired, ap length kept, ap length same, length-map sizes Some);
   placed = each_there (λ size. size.1 < pes) sizes m.reports same below;
 }
-
--- there is a value where a test passes
-pub some_where : {T : Type 0} (o : Option T) (P : Type 0) (v : T) → SomeIff o P v → P → IsSome o
-some_where None P v iff holds = absurd (iff holds)
-some_where (Some x) P v iff holds = refl

@@ -20,7 +20,7 @@ pub fn filled<T: Copy, A: Allocator>(alloc: A, value: T, n: usize) -> Result<Vec
 }
 
 /// The loads of a snapshot: a copy of these.
-#[tactic(auto, using(crate::proofs::Reports::some_where))]
+#[tactic(auto, using(lb_certificates::proofs::Made::made_where))]
 pub fn loads_of<A: Allocator>(alloc: A, units: &[Units]) -> Result<Loads<A>, AllocError>
     requires { IsLoads units.now }
     ensures items { IfOk result (λ loads. loads ≡ units.now) }
@@ -32,7 +32,7 @@ pub fn loads_of<A: Allocator>(alloc: A, units: &[Units]) -> Result<Loads<A>, All
 }
 
 /// The sizes of a snapshot: what all elements have reported.
-#[tactic(auto, using(crate::proofs::Reports::some_where, crate::proofs::Reports::sizes_there))]
+#[tactic(auto, using(lb_certificates::proofs::Made::made_where, crate::proofs::Reports::sizes_there))]
 pub fn sizes_of<A: Allocator>(
     alloc: A,
     reports: &[Option<(u32, Pe)>],

@@ -18,12 +18,12 @@ const PIECE_LEN: usize = 65_536;
 /// How often a reader is called at most.
 const CALLS: u32 = 16_777_216;
 
-#[tactic(auto, using(crate::proofs::OneText::answered, crate::proofs::OneText::refused))]
 /// The snapshot of this text.
 ///
 /// # Errors
 ///
 /// The first fault of the bytes from left to right, or [`OutOfMemory`](DumpError::OutOfMemory).
+#[tactic(auto, using(crate::proofs::OneText::answered, crate::proofs::OneText::refused))]
 pub fn decode<A: Allocator + Copy>(alloc: A, bytes: &[u8]) -> Result<Snapshot<A>, DumpError>
     ensures answer { IsAnswer bytes.now result }
     ensures again { (s : Taken) → IsText s bytes.now → MatchResult result (λ t. t ≡ s) (λ e. e ≡ DumpError.OutOfMemory) }

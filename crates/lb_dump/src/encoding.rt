@@ -66,12 +66,12 @@ pub fn element_at(loads: &[Units], sizes: &[(u32, Pe)], i: usize) -> [u8; ELEMEN
     element_of(loads[i], size, place.get())
 }
 
-#[tactic(auto, using(crate::proofs::Spelling::whole_text))]
 /// The text of a snapshot, in a list that holds it exactly.
 ///
 /// # Errors
 ///
 /// Where memory is refused.
+#[tactic(auto, using(crate::proofs::Spelling::whole_text))]
 pub fn encode<A: Allocator, B: Allocator>(
     alloc: A,
     snapshot: &Snapshot<B>,

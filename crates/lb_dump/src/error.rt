@@ -31,7 +31,7 @@ pub enum DumpError {
     /// A byte follows the last element.
     #[error("bytes follow the last element")]
     Trailing,
-    /// The reader failed, or gave so little at a time that it was called too often.
+    /// The reader failed, or was called more often than any text has bytes.
     #[error("reading failed")]
     Read,
     /// The writer failed, or took nothing.

@@ -51,7 +51,7 @@ fn size_at(text: &[u8], i: usize) -> (u32, Pe)
     (word(text, at + 4), pe(word(text, at + 8)))
 }
 
-#[tactic(auto, using(crate::proofs::Lists::some_where))]
+#[tactic(auto, using(lb_certificates::proofs::Made::made_where))]
 // The PE with this number.
 fn pe(number: u32) -> Pe
     requires { number < Limits.PES }

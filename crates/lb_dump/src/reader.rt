@@ -12,7 +12,8 @@ use std::alloc::{Allocator, Global};
 use std::marker::Model;
 
 /// Reads a dump that comes in pieces. It keeps the text so far, which grows as the pieces come, whatever count the
-/// text claims; the lists are made at the end. Contracts see it as the text so far or, after a fault, as that fault.
+/// text claims; the lists are made at the end. Contracts see it as the text so far or, after a fault, as that
+/// fault.
 #[derive(Drop)]
 #[derive_where(Debug)]
 pub struct DumpReader<A: Allocator = Global> {

@@ -1,4 +1,5 @@
-//! A snapshot of three elements and its 52 bytes, cut and changed at each place, and readers and writers that fail.
+//! A snapshot of three elements and its 52 bytes, cut and changed at each place, and readers and writers that
+//! fail.
 
 use super::*;
 use chare_index::Pe;

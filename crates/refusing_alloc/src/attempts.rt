@@ -62,8 +62,8 @@ impl Display for Failure {
 /// Runs the attempt with a [`Refusing`] allocator for turn 1, 2 and so on, until a run meets no refusal, and gives
 /// the number of refusals met.
 ///
-/// A run that meets a refusal must come to [`Outcome::Refused`], and a run after it, with an allocator that refuses
-/// nothing, to [`Outcome::Right`]. The run that meets no refusal must come to [`Outcome::Right`].
+/// A run that meets a refusal must come to [`Outcome::Refused`], and a run after it, with an allocator that
+/// refuses nothing, to [`Outcome::Right`]. The run that meets no refusal must come to [`Outcome::Right`].
 ///
 /// An attempt is mostly a `match` on a call, or [`Outcome::from`] of a `Result<bool, AllocError>`:
 ///
@@ -77,8 +77,8 @@ impl Display for Failure {
 ///
 /// # Errors
 ///
-/// The [`Failure`] of the first turn that failed, and [`Failure::TooManyTurns`] where each of `most_turns` turns met
-/// a refusal, as it should be.
+/// The [`Failure`] of the first turn that failed, and [`Failure::TooManyTurns`] where each of `most_turns` turns
+/// met a refusal, as it should be.
 pub fn each_refusal<B: Allocator + Copy, F: Fn(&Refusing<B>) -> Outcome>(
     inner: B,
     most_turns: u64,
