@@ -73,64 +73,74 @@ fn each_forged_division_has_its_flaw(rt: HostRuntime) -> Result<(), Fail> {
 }
 
 #[test]
-fn odd_numbers_of_pes_and_bottlenecks(rt: HostRuntime) -> Result<(), Fail> {
+fn any_number_of_pes_may_be_asked_for(rt: HostRuntime) -> Result<(), Fail> {
     let five = loads(rt.alloc(), &[1, 2, 3, 4, 5])?;
     let division = fenced(rt.alloc(), 9, &[0, 3, 5], &[0, 3, 4])?;
-    assert_eq!(rt; check_division(&five, 2, &division), Ok(()));
-    assert_eq!(rt;
-        check_division(&five, 0, &division),
-        Err(Flaw::CutCount),
-        "no PEs"
-    );
-    assert_eq!(rt;
-        check_division(&five, 257, &division),
-        Err(Flaw::CutCount),
-        "257 PEs"
-    );
-    assert_eq!(rt;
-        check_division(&five, u32::MAX, &division),
-        Err(Flaw::CutCount),
-        "most PEs"
-    );
-    let division = fenced(rt.alloc(), 10, &[0, 3, 5], &[0, 3, 4])?;
-    assert_eq!(rt;
-        check_division(&five, 2, &division),
-        Err(Flaw::FenceLight(2))
-    );
-    let division = fenced(rt.alloc(), u64::MAX, &[0, 3, 5], &[0, 3, 4])?;
-    assert_eq!(rt;
-        check_division(&five, 2, &division),
-        Err(Flaw::FenceLight(1))
-    );
+    let rows = [
+        (2, Ok(())),
+        (0, Err(Flaw::CutCount)),
+        (257, Err(Flaw::CutCount)),
+        (u32::MAX, Err(Flaw::CutCount)),
+    ];
+    for (pes, verdict) in rows {
+        assert_eq!(rt; check_division(&five, pes, &division), verdict, "{pes} PEs");
+    }
+    Ok(())
+}
 
-    let idle = loads(rt.alloc(), &[0, 0, 0])?;
-    let division = unfenced(rt.alloc(), 0, &[0, 3, 3])?;
-    assert_eq!(rt; check_division(&idle, 2, &division), Ok(()), "floor zero");
-    let division = fenced(rt.alloc(), 0, &[0, 3, 3], &[0, 0, 2])?;
-    assert_eq!(rt;
-        check_division(&idle, 2, &division),
-        Ok(()),
-        "a fence for bottleneck 0"
-    );
+#[test]
+fn any_bottleneck_may_be_claimed(rt: HostRuntime) -> Result<(), Fail> {
+    let five = loads(rt.alloc(), &[1, 2, 3, 4, 5])?;
+    let rows = [
+        (9, Ok(())),
+        (10, Err(Flaw::FenceLight(2))),
+        (u64::MAX, Err(Flaw::FenceLight(1))),
+    ];
+    for (bottleneck, verdict) in rows {
+        let division = fenced(rt.alloc(), bottleneck, &[0, 3, 5], &[0, 3, 4])?;
+        assert_eq!(rt;
+            check_division(&five, 2, &division),
+            verdict,
+            "bottleneck {bottleneck}"
+        );
+    }
+    Ok(())
+}
 
-    let none = loads(rt.alloc(), &[])?;
-    let division = unfenced(rt.alloc(), 0, &[0])?;
-    assert_eq!(rt;
-        check_division(&none, 0, &division),
-        Ok(()),
-        "no PEs, no elements"
-    );
-    assert_eq!(rt;
-        check_division(&idle, 0, &division),
-        Err(Flaw::CutEnd),
-        "no PEs, elements"
-    );
-    let division = fenced(rt.alloc(), 0, &[0, 0], &[0, 0])?;
-    assert_eq!(rt;
-        check_division(&none, 1, &division),
-        Err(Flaw::FenceEnd),
-        "no elements, a fence"
-    );
+#[test]
+fn a_bottleneck_of_0_needs_no_fence(rt: HostRuntime) -> Result<(), Fail> {
+    let rows: [(&[Units], u32, &[u32], Result<(), Flaw>); 3] = [
+        (&[0, 0, 0], 2, &[0, 3, 3], Ok(())),
+        (&[], 0, &[0], Ok(())),
+        (&[0, 0, 0], 0, &[0], Err(Flaw::CutEnd)),
+    ];
+    for (units, pes, cuts, verdict) in rows {
+        let loads = loads(rt.alloc(), units)?;
+        let division = unfenced(rt.alloc(), 0, cuts)?;
+        assert_eq!(rt;
+            check_division(&loads, pes, &division),
+            verdict,
+            "{pes} PEs"
+        );
+    }
+    Ok(())
+}
+
+#[test]
+fn a_bottleneck_of_0_may_have_a_fence(rt: HostRuntime) -> Result<(), Fail> {
+    let rows: [(&[Units], u32, &[u32], &[u32], Result<(), Flaw>); 2] = [
+        (&[0, 0, 0], 2, &[0, 3, 3], &[0, 0, 2], Ok(())),
+        (&[], 1, &[0, 0], &[0, 0], Err(Flaw::FenceEnd)),
+    ];
+    for (units, pes, cuts, stops, verdict) in rows {
+        let loads = loads(rt.alloc(), units)?;
+        let division = fenced(rt.alloc(), 0, cuts, stops)?;
+        assert_eq!(rt;
+            check_division(&loads, pes, &division),
+            verdict,
+            "{pes} PEs"
+        );
+    }
     Ok(())
 }
 
@@ -166,37 +176,51 @@ fn a_full_array_of_full_loads(rt: HostRuntime) -> Result<(), Fail> {
     Ok(())
 }
 
+// The snapshot of these loads and sizes at step 5, where they make one.
+fn taken(
+    alloc: Global,
+    procs: u32,
+    units: &[Units],
+    placed: &[(u32, u32)],
+) -> Result<Option<Snapshot>, Fail> {
+    let loads = loads(alloc, units)?;
+    let sizes = sizes(alloc, placed)?;
+    Ok(Snapshot::new(5, procs, loads, sizes))
+}
+
 #[test]
-fn a_snapshot_within_its_limits(rt: HostRuntime) -> Result<(), Fail> {
-    let alloc = rt.alloc();
+fn the_example_is_a_snapshot(rt: HostRuntime) -> Result<(), Fail> {
     let placed = [(10, 0), (9, 1), (8, 0)];
-    let snapshot = Snapshot::new(5, 2, loads(alloc, &[1, 1, 2])?, sizes(alloc, &placed)?);
-    let snapshot = snapshot.ok_or_else(|| Fail::new("refused the example"))?;
+    let Some(snapshot) = taken(rt.alloc(), 2, &[1, 1, 2], &placed)? else {
+        return Err(Fail::new("refused the example"));
+    };
     assert_eq!(rt; (snapshot.step(), snapshot.procs()), (5, 2));
     assert_eq!(rt; snapshot.loads().as_slice(), [1, 1, 2].as_slice());
     assert!(rt; !snapshot.loads().is_empty() && !snapshot.sizes().is_empty());
     assert_eq!(rt; snapshot.loads().load(1, 3), 3);
-    assert_eq!(rt;
-        snapshot.sizes().as_slice(),
-        pairs(alloc, &placed)?.as_slice()
-    );
+    let pairs = pairs(rt.alloc(), &placed)?;
+    assert_eq!(rt; snapshot.sizes().as_slice(), pairs.as_slice());
+    Ok(())
+}
 
-    let refused: [(u32, &[Units], &[(u32, u32)]); 4] = [
-        (0, &[], &[]),
-        (257, &[], &[]),
-        (2, &[1, 1], &placed),
-        (1, &[1, 1, 2], &placed),
+#[test]
+fn a_snapshot_within_its_limits(rt: HostRuntime) -> Result<(), Fail> {
+    let placed = [(10, 0), (9, 1), (8, 0)];
+    let rows: [(u32, &[Units], &[(u32, u32)], bool); 6] = [
+        (0, &[], &[], false),
+        (1, &[], &[], true),
+        (256, &[], &[], true),
+        (257, &[], &[], false),
+        (2, &[1, 1], &placed, false),
+        (1, &[1, 1, 2], &placed, false),
     ];
-    for (procs, units, placed) in refused {
-        let snapshot = Snapshot::new(0, procs, loads(alloc, units)?, sizes(alloc, placed)?);
-        assert!(rt;
-            snapshot.is_none(),
+    for (procs, units, placed, made) in rows {
+        let snapshot = taken(rt.alloc(), procs, units, placed)?;
+        assert_eq!(rt;
+            snapshot.is_some(),
+            made,
             "procs {procs}, loads {units:?}, sizes {placed:?}"
         );
-    }
-    for procs in [1, 256] {
-        let snapshot = Snapshot::new(0, procs, loads(alloc, &[])?, sizes(alloc, &[])?);
-        assert!(rt; snapshot.is_some(), "procs {procs}");
     }
     Ok(())
 }

@@ -6,6 +6,7 @@ ghost use Rattle.std.specs.Prelude.{◌≡◌, IfOk};
 use super::*;
 use chare_index::{Pe, Round};
 use lb_certificates::Units;
+use std::alloc::Global;
 use std::test::Fail;
 
 fn round(number: u32) -> Result<Round, Fail>
@@ -32,15 +33,32 @@ fn seen(db: &LoadDb) -> (Round, usize, bool, bool, [Element; 5]) {
     )
 }
 
+// A database of four elements, of which element 2 has done all the work that is counted, and reported.
+fn begun(alloc: Global) -> Result<LoadDb, Fail> {
+    let mut db = LoadDb::new(alloc, 4)?;
+    db.report(2, round(1)?, 5, pe(0)?)?;
+    db.charge(2, u32::MAX)?;
+    db.charge(2, 1)?;
+    Ok(db)
+}
+
 #[test]
-fn four_elements(rt: HostRuntime) -> Result<(), Fail> {
-    let mut db = LoadDb::new(rt.alloc(), 4)?;
-    assert_eq!(rt; db.report(2, round(1)?, 5, pe(0)?), Ok(()));
-    assert_eq!(rt; db.charge(2, u32::MAX), Ok(()));
-    assert_eq!(rt; db.charge(2, 1), Ok(()));
+fn four_elements_of_which_one_reported(rt: HostRuntime) -> Result<(), Fail> {
+    let mut db = begun(rt.alloc())?;
     let before = seen(&db);
     assert_eq!(rt; before.4[2], (Some(u32::MAX), Some((5, pe(0)?))));
+    assert_eq!(rt; db.charge(4, 1), Err(DbError::Stranger));
+    assert_eq!(rt; db.next_round(), Err(DbError::Incomplete));
+    assert!(rt; db.stands_on(1) && !db.stands_on(0));
+    assert_eq!(rt; db.snapshot(1, 1).err(), Some(DbError::Incomplete));
+    assert_eq!(rt; seen(&db), before);
+    Ok(())
+}
 
+#[test]
+fn reports_that_are_refused(rt: HostRuntime) -> Result<(), Fail> {
+    let mut db = begun(rt.alloc())?;
+    let before = seen(&db);
     let refused = [
         (2, 1, 5, DbError::Twice),
         (2, 3, 5, DbError::WrongRound),
@@ -51,38 +69,28 @@ fn four_elements(rt: HostRuntime) -> Result<(), Fail> {
         (2, 1, 1_048_577, DbError::Twice),
     ];
     for (i, number, bytes, error) in refused {
-        assert_eq!(rt;
-            db.report(i, round(number)?, bytes, pe(0)?),
-            Err(error),
-            "the report of {i} for {number}"
-        );
+        let answer = db.report(i, round(number)?, bytes, pe(0)?);
+        assert_eq!(rt; answer, Err(error), "the report of {i} for {number}");
         assert_eq!(rt; seen(&db), before, "after the report of {i} for {number}");
     }
-    assert_eq!(rt; db.charge(4, 1), Err(DbError::Stranger));
-    assert_eq!(rt; db.next_round(), Err(DbError::Incomplete));
-    assert!(rt; db.stands_on(1));
-    assert_eq!(rt; db.snapshot(1, 1).err(), Some(DbError::Incomplete));
-    assert_eq!(rt; seen(&db), before);
+    Ok(())
+}
 
+#[test]
+fn a_full_load_is_taken(rt: HostRuntime) -> Result<(), Fail> {
+    let mut db = begun(rt.alloc())?;
     for i in [0, 1, 3] {
-        assert_eq!(rt;
-            db.report(i, round(1)?, 1, pe(0)?),
-            Ok(()),
-            "the report of {i}"
-        );
+        let answer = db.report(i, round(1)?, 1, pe(0)?);
+        assert_eq!(rt; answer, Ok(()), "the report of {i}");
     }
-    assert!(rt; db.stands_on(1) && !db.stands_on(0));
+    assert!(rt; db.stands_on(1));
     let taken = db.snapshot(1, 1)?;
     assert_eq!(rt; (taken.step(), taken.procs()), (1, 1));
-    assert_eq!(rt;
-        taken.loads().as_slice(),
-        [0, 0, 4_294_967_295, 0].as_slice()
-    );
+    let loads = [0, 0, 4_294_967_295, 0];
+    assert_eq!(rt; taken.loads().as_slice(), loads.as_slice());
     let small = (1, pe(0)?);
-    assert_eq!(rt;
-        taken.sizes().as_slice(),
-        [small, small, (5, pe(0)?), small].as_slice()
-    );
+    let sizes = [small, small, (5, pe(0)?), small];
+    assert_eq!(rt; taken.sizes().as_slice(), sizes.as_slice());
     Ok(())
 }
 
