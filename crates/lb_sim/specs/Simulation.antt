@@ -1,9 +1,9 @@
 -- What a replay of a dump answers, and what it leaves with its writer.
 use Rattle.std.specs.Prelude.{◌≡◌, ℕ, ◌≤◌, ◌⊎◌, List, length, take, Option, IfSome, unwrap_or}
-use Rattle.std.specs.Io.KnownBytes.{Appends}
+use Rattle.std.specs.Io.KnownBytes.{Appends, Consumes, IsAtEnd}
 use Rattle.lb_certificates.specs.Measured.{Taken}
 use Rattle.chain_partition.specs.Chosen.{IsChosen}
-use Rattle.lb_dump.specs.Faults.{IsFault}
+use Rattle.lb_dump.specs.Faults.{IsFault, IsGood}
 use Rattle.lb_dump.specs.Format.{IsText}
 use Rattle.lb_dump.specs.declared.error.DumpError.{DumpError}
 use Rattle.lb_dump.specs.declared.error.DumpError.TheVariants.{Read}
@@ -35,11 +35,17 @@ pub record IsReplay (A : Type 0) (bytes : Option (List ℕ)) (procs : Option ℕ
   pub read : IfSome bytes (IsText snapshot)
   pub planned : IsPlanned A snapshot (blocks_of procs snapshot) text
 
--- The reader or memory failed, or this is the first fault of the bytes; or the bytes are a dump, and then memory
--- failed.
-abbrev pub IsTold : Option (List ℕ) → Fault → Type 0
-IsTold bytes (Dump e) = IfSome bytes (λ text. (e ≡ Read) ⊎ ((e ≡ DumpError.OutOfMemory) ⊎ IsFault text e))
-IsTold bytes (Plan e) = (e ≡ PlanError.OutOfMemory) × ((s : Taken) × IfSome bytes (IsText s))
+-- nothing is wrong with what was read
+abbrev pub ReadsGood : Option (List ℕ) → Option (List ℕ) → Type 0
+ReadsGood bytes rest = (text : List ℕ) × Consumes bytes rest text × IsGood text
+
+-- The first fault of the bytes, or a failure of the reader where nothing is wrong with what was read, or want of
+-- memory; and once the bytes were read, and are a dump, only that.
+abbrev pub IsTold : Option (List ℕ) → Option (List ℕ) → Fault → Type 0
+IsTold bytes rest (Dump e) =
+    IfSome bytes (λ text. (e ≡ Read) ⊎ ((e ≡ DumpError.OutOfMemory) ⊎ IsFault text e)) × (e ≡ Read → ReadsGood bytes rest)
+IsTold bytes rest (Plan e) =
+    (e ≡ PlanError.OutOfMemory) × IsAtEnd rest × ((s : Taken) × IfSome bytes (IsText s))
 
 -- the fault that is told where there is no memory for the line of another
 abbrev pub without_memory : Fault → Fault
@@ -62,13 +68,21 @@ TellsLine old new fault (Ended.Dump e) = (fault ≡ Dump e) × Appends old new (
 TellsLine old new fault (Ended.Plan e) = (fault ≡ Plan e) × Appends old new (fault_line fault)
 TellsLine old new fault WriteFailed = TellsPart old new (fault_line fault)
 
--- What the writer holds after each end: the whole text, the line of the fault, or a prefix of one of these.
-abbrev pub Ends : (A : Type 0) → Option (List ℕ) → Option ℕ → Option (List ℕ) → Option (List ℕ) → Ended → Type 0
-Ends A bytes procs old new Printed = (text : List ℕ) × IsReplay A bytes procs text × Appends old new text
-Ends A bytes procs old new (Ended.Dump e) = IsTold bytes (Dump e) × Appends old new (fault_line (Dump e))
-Ends A bytes procs old new (Ended.Plan e) = IsTold bytes (Plan e) × Appends old new (fault_line (Plan e))
-Ends A bytes procs old new WriteFailed =
-    (text : List ℕ) × (IsReplay A bytes procs text ⊎ ((fault : Fault) × IsTold bytes fault × (text ≡ fault_line fault))) × TellsPart old new text
+-- What the writer holds after each end: the whole text, the line of the fault, or a prefix of one of these. The
+-- reader had these bytes, and has the rest.
+abbrev pub Ends : (A : Type 0) → Option (List ℕ) → Option (List ℕ) → Option ℕ → Option (List ℕ) → Option (List ℕ) → Ended → Type 0
+Ends A bytes rest procs old new Printed = (text : List ℕ) × IsReplay A bytes procs text × Appends old new text
+Ends A bytes rest procs old new (Ended.Dump e) =
+    IsTold bytes rest (Dump e) × Appends old new (fault_line (Dump e))
+Ends A bytes rest procs old new (Ended.Plan e) =
+    IsTold bytes rest (Plan e) × Appends old new (fault_line (Plan e))
+Ends A bytes rest procs old new WriteFailed =
+    (text : List ℕ) × (IsReplay A bytes procs text ⊎ ((fault : Fault) × IsTold bytes rest fault × (text ≡ fault_line fault))) × TellsPart old new text
+
+-- the line that the dump was not read went out, or that of want of memory in its place, or a prefix of one
+abbrev pub TellsUnread : Option (List ℕ) → Option (List ℕ) → Ended → Type 0
+TellsUnread old new ended =
+    TellsLine old new (Dump Read) ended ⊎ TellsLine old new (Dump DumpError.OutOfMemory) ended
 
 -- the status that the program exits with
 abbrev pub status_of : Ended → ℕ

@@ -22,10 +22,8 @@ mod text;
 mod words;
 
 use ended::status;
-use fault::Fault;
-use lb_dump::DumpError;
 use request::Asked;
-use simulation::{simulate, tell};
+use simulation::replay_file;
 use std::fs::File;
 use std::process::ExitCode;
 use std::{env, io};
@@ -63,9 +61,6 @@ fn run(rt: &HostRuntime, asked: Asked<'_>) -> u8
     requires few_pes { ForSome asked.procs (λ p. p ≤ 256) }
 {
     let mut output = io::writer(rt);
-    let ended = match File::open(rt, asked.file) {
-        Ok(mut file) => simulate(rt.alloc(), &mut file, &mut output, asked.procs),
-        Err(_) => tell(rt.alloc(), &mut output, Fault::Dump(DumpError::Read)),
-    };
-    status(ended)
+    let file = File::open(rt, asked.file);
+    status(replay_file(rt.alloc(), file, &mut output, asked.procs))
 }

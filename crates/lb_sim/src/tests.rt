@@ -1,9 +1,9 @@
 //! The worked dumps, and readers and writers that fail at each place.
 
 use crate::ended::{Ended, status};
-use crate::simulation::simulate;
+use crate::simulation::{replay_file, simulate};
 use crate::words::asked;
-use lb_dump::DumpError;
+use lb_dump::{DumpError, read_from};
 use lb_strategy::PlanError;
 use refusing_alloc::{Outcome, Refusing, each_refusal};
 use std::alloc::Global;
@@ -225,33 +225,148 @@ fn attempted(alloc: &Refusing<Global>, written: &mut Vec<u8>) -> Outcome {
     }
 }
 
+// What a reading of the example comes to, over such an allocator.
+fn read(alloc: &Refusing<Global>) -> Outcome {
+    match read_from(alloc, &mut EXAMPLE.as_slice()) {
+        Ok(_) => Outcome::Right,
+        Err(DumpError::OutOfMemory) => Outcome::Refused,
+        Err(_) => Outcome::Wrong,
+    }
+}
+
 #[test]
 fn memory_refused_at_each_request(rt: HostRuntime) -> Result<(), Fail> {
     let attempt = |alloc: &Refusing<Global>| attempted(alloc, &mut Vec::new(rt.alloc()));
-    let refusals = each_refusal(rt.alloc(), 80, attempt)?;
-    assert!(rt; refusals > 10, "{refusals} requests");
+    let requests = each_refusal(rt.alloc(), 80, attempt)?;
+    let reading = each_refusal(rt.alloc(), 80, read)?;
+    assert!(rt;
+        0 < reading && reading < requests,
+        "{reading} of {requests} requests"
+    );
+    for turn in 1..=requests {
+        let alloc = Refusing::new(rt.alloc(), turn);
+        let mut written = Vec::new(rt.alloc());
+        let ended = simulate(&alloc, &mut EXAMPLE.as_slice(), &mut written, None);
+        let wanted = if turn <= reading {
+            Ended::Dump(DumpError::OutOfMemory)
+        } else {
+            Ended::Plan(PlanError::OutOfMemory)
+        };
+        assert_eq!(rt; ended, wanted, "request {turn}");
+    }
+    Ok(())
+}
+
+// A writer that holds what it takes back until it is flushed, and then gives it out or fails.
+#[derive(Drop)]
+struct Held {
+    held: Vec<u8>,
+    given: Vec<u8>,
+    fails: bool,
+}
+
+impl Write for Held {
+    fn write(&mut self, buf: &[u8]) -> io::Result<usize> {
+        self.held.extend_from_slice(buf)?;
+        Ok(buf.len())
+    }
+
+    fn flush(&mut self) -> io::Result<()> {
+        if self.fails {
+            return Err(io::Error::from(ErrorKind::Other));
+        }
+        self.given.extend_from_slice(&self.held)?;
+        self.held.clear();
+        Ok(())
+    }
+}
+
+#[test]
+fn what_was_written_is_flushed(rt: HostRuntime) {
+    for (fails, end, given) in [
+        (false, Ended::Printed, TEXT),
+        (true, Ended::WriteFailed, ""),
+    ] {
+        let mut writer = Held {
+            held: Vec::new(rt.alloc()),
+            given: Vec::new(rt.alloc()),
+            fails,
+        };
+        let ended = simulate(rt.alloc(), &mut EXAMPLE.as_slice(), &mut writer, None);
+        assert_eq!(rt; ended, end, "fails: {fails}");
+        assert_eq!(rt; writer.given.as_slice(), given.as_bytes());
+    }
+}
+
+#[test]
+fn the_most_blocks_are_printed(rt: HostRuntime) -> Result<(), Fail> {
+    let empty = b"LBD1\0\0\0\0\0\0\x01\0\0\0\0\0";
+    let mut text = String::new(rt.alloc());
+    text.push_str("step 0 procs 256 elements 0\nbottleneck 0\nfence zero\n")?;
+    for b in 0..256u32 {
+        writeln!(text, "block {b} 0..0 load 0 pe -")?;
+    }
+    text.push_str("moved 0\n")?;
+    assert_eq!(rt; replays(rt.alloc(), empty, &text), Ended::Printed);
     Ok(())
 }
 
 #[test]
-fn statuses_and_words(rt: HostRuntime) {
+fn a_file_that_was_opened_or_not(rt: HostRuntime) {
+    let mut written = Vec::new(rt.alloc());
+    let opened = Ok(EXAMPLE.as_slice());
+    let ended = replay_file(rt.alloc(), opened, &mut written, None);
+    assert_eq!(rt; ended, Ended::Printed);
+    assert_eq!(rt; written.as_slice(), TEXT.as_bytes());
+
+    let mut written = Vec::new(rt.alloc());
+    let missing: io::Result<&[u8]> = Err(io::Error::from(ErrorKind::NotFound));
+    let ended = replay_file(rt.alloc(), missing, &mut written, None);
+    assert_eq!(rt; ended, Ended::Dump(DumpError::Read));
+    assert_eq!(rt; written.as_slice(), b"dump: read failed\n".as_slice());
+}
+
+#[test]
+fn statuses(rt: HostRuntime) {
     assert_eq!(rt; status(Ended::Printed), 0);
     assert_eq!(rt; status(Ended::Dump(DumpError::Magic)), 3);
     assert_eq!(rt; status(Ended::Dump(DumpError::OutOfMemory)), 5);
     assert_eq!(rt; status(Ended::Plan(PlanError::Uncertified)), 4);
     assert_eq!(rt; status(Ended::Plan(PlanError::OutOfMemory)), 5);
     assert_eq!(rt; status(Ended::WriteFailed), 5);
-    let given = asked(rt.alloc(), &["lb_sim", "--procs", "2", "f"]);
-    assert!(rt; matches!(&given, Ok(asked) if asked.file == "f" && asked.procs == Some(2)));
-    let plain = asked(rt.alloc(), &["lb_sim", "f"]);
-    assert!(rt; matches!(&plain, Ok(asked) if asked.file == "f" && asked.procs.is_none()));
-    assert!(rt; asked(rt.alloc(), &["lb_sim"]).is_err(), "no file");
-    assert!(rt;
-        asked(rt.alloc(), &["lb_sim", "--procs", "0", "f"]).is_err(),
-        "no processors"
-    );
-    assert!(rt;
-        asked(rt.alloc(), &["lb_sim", "--procs", "257", "f"]).is_err(),
-        "too many"
-    );
+}
+
+#[test]
+fn words_that_ask(rt: HostRuntime) {
+    let rows: [(&[&str], Option<u32>); 6] = [
+        (&["lb_sim", "f"], None),
+        (&["lb_sim", "--procs", "2", "f"], Some(2)),
+        (&["lb_sim", "--procs", "1", "f"], Some(1)),
+        (&["lb_sim", "--procs", "256", "f"], Some(256)),
+        (&["lb_sim", "--procs=3", "f"], Some(3)),
+        (&["lb_sim", "f", "--procs", "3"], Some(3)),
+    ];
+    for (words, procs) in rows {
+        let asked = asked(rt.alloc(), words);
+        assert!(rt;
+            matches!(&asked, Ok(asked) if asked.file == "f" && asked.procs == procs),
+            "{words:?}"
+        );
+    }
+}
+
+#[test]
+fn words_that_are_refused(rt: HostRuntime) {
+    let rows: [&[&str]; 7] = [
+        &["lb_sim"],
+        &["lb_sim", "--procs", "0", "f"],
+        &["lb_sim", "--procs", "257", "f"],
+        &["lb_sim", "--procs", "two", "f"],
+        &["lb_sim", "--procs", "2"],
+        &["lb_sim", "f", "g"],
+        &["lb_sim", "--help"],
+    ];
+    for words in rows {
+        assert!(rt; asked(rt.alloc(), words).is_err(), "{words:?}");
+    }
 }

@@ -247,10 +247,55 @@ fn no_elements_are_planned(rt: HostRuntime) -> Result<(), Fail> {
     Ok(())
 }
 
+// As many elements as there may be, with 8 bytes each, whose blocks of 256 stand each on the PE behind its own.
+fn full(alloc: Global) -> Result<Snapshot, Fail> {
+    let mut units = Vec::new(alloc);
+    let mut pairs = Vec::new(alloc);
+    for i in 0..65_536u32 {
+        units.push(1)?;
+        pairs.push((8, pe((i / 256 + 1) % 256)?))?;
+    }
+    let (Some(loads), Some(sizes)) = (Loads::new(units), Sizes::new(pairs)) else {
+        return Err(Fail::new("past a limit"));
+    };
+    Snapshot::new(1, 256, loads, sizes).ok_or_else(|| Fail::new("no snapshot"))
+}
+
 #[test]
-fn the_errors_have_their_numbers(rt: HostRuntime) -> Result<(), Fail> {
-    assert_eq!(rt; PlanError::Uncertified as u8, 1);
-    assert_eq!(rt; PlanError::OutOfMemory as u8, 2);
+fn a_full_array_on_all_pes(rt: HostRuntime) -> Result<(), Fail> {
+    let full = full(rt.alloc())?;
+    let decision = plan(rt.alloc(), &full, 256)?;
+    assert_eq!(rt; decision.division.bottleneck, 256);
+    assert_eq!(rt; (decision.moved, decision.moves.as_slice().len()), (0, 0));
+    for b in 0..256u32 {
+        let name = decision.naming.as_slice().get(b as usize).copied();
+        assert_eq!(rt; name, Some((b + 1) % 256), "block {b}");
+    }
+    Ok(())
+}
+
+#[test]
+fn a_full_array_on_one_pe(rt: HostRuntime) -> Result<(), Fail> {
+    let full = full(rt.alloc())?;
+    let decision = plan(rt.alloc(), &full, 1)?;
+    assert_eq!(rt; decision.division.bottleneck, 65_536);
+    assert_eq!(rt;
+        (decision.moved, decision.moves.as_slice().len()),
+        (522_240, 65_280)
+    );
+    Ok(())
+}
+
+#[test]
+fn the_errors_have_their_numbers_and_texts(rt: HostRuntime) -> Result<(), Fail> {
+    let errors = [
+        (PlanError::Uncertified, 1, "uncertified"),
+        (PlanError::OutOfMemory, 2, "out of memory"),
+    ];
+    for (error, number, text) in errors {
+        assert_eq!(rt; error as u8, number, "{text}");
+        assert_eq!(rt; format!(in rt.alloc(); "{error}")?.as_str(), text);
+    }
     assert_eq!(rt;
         PlanError::from(NameError::Uncertified),
         PlanError::Uncertified
