@@ -1,14 +1,14 @@
 -- What lb_sim prints, byte by byte: the text of a decision, or the line of a fault.
 use Rattle.std.specs.Prelude.{ℕ, ◌+◌, ◌==◌, if◌then◌else◌, List, [], ◌∷◌, ◌++◌, length, slice_index, codes}
 use Rattle.std.specs.Fmt.{decimal}
-use Rattle.std.specs.List.{flat_map}
+use Rattle.std.specs.List.{flat_map, range_with_len}
 use Rattle.lb_dump.specs.declared.error.DumpError.{DumpError}
 use Rattle.lb_dump.specs.declared.error.DumpError.TheVariants.{Magic, Short, Procs, Count, Size, Place, Trailing, Read, Write}
 use Rattle.lb_strategy.specs.declared.error.PlanError.{PlanError}
 use Rattle.lb_strategy.specs.declared.error.PlanError.TheVariants.{Uncertified}
 use Rattle.lb_sim.specs.declared.fault.Fault.{Fault}
 use Rattle.lb_sim.specs.declared.fault.Fault.TheVariants.{Dump, Plan}
-use Rattle.lb_certificates.specs.Chain.{load}
+use Rattle.lb_certificates.specs.Chain.{block_load}
 use Rattle.lb_certificates.specs.Measured.{Taken}
 use Rattle.lb_strategy.specs.declared.decision.Decision.{Decision}
 use Rattle.lb_certificates.specs.declared.division.Floor.{Floor}
@@ -48,12 +48,14 @@ block_start b first end weight =
 abbrev pub block_line : ℕ → ℕ → ℕ → ℕ → ℕ → List ℕ
 block_line b first end weight pe = block_start b first end weight ++ pe_line first end pe
 
--- a line for each block, the first of them with this number
-abbrev pub block_lines : List ℕ → List ℕ → ℕ → List ℕ → List ℕ
-block_lines loads names b [] = []
-block_lines loads names b (first ∷ []) = []
-block_lines loads names b (first ∷ end ∷ cuts) =
-    block_line b first end (load loads first end) (slice_index names b) ++ block_lines loads names (b + 1) (end ∷ cuts)
+-- the line of block b between these cuts
+abbrev pub line_of : List ℕ → List ℕ → List ℕ → ℕ → List ℕ
+line_of loads cuts names b =
+    block_line b (slice_index cuts b) (slice_index cuts (b + 1)) (block_load loads cuts b) (slice_index names b)
+
+-- the lines of the first blocks, in order
+abbrev pub block_lines : List ℕ → List ℕ → List ℕ → ℕ → List ℕ
+block_lines loads cuts names blocks = flat_map (line_of loads cuts names) (range_with_len 0 blocks)
 
 -- moved M
 abbrev pub moved_line : ℕ → List ℕ
@@ -62,7 +64,7 @@ moved_line moved = codes "moved " ++ decimal moved ++ newline
 -- the whole text of a decision on a snapshot, for so many PEs
 abbrev pub decision_text : {A : Type 0} → Taken → ℕ → Decision A → List ℕ
 decision_text s pes d =
-    head_line s.step pes (length s.loads) ++ bottleneck_line d.division.bottleneck ++ floor_line d.division.floor ++ block_lines s.loads d.naming 0 d.division.cuts ++ moved_line d.moved
+    head_line s.step pes (length s.loads) ++ bottleneck_line d.division.bottleneck ++ floor_line d.division.floor ++ block_lines s.loads d.division.cuts d.naming pes ++ moved_line d.moved
 
 -- the one line of a want of memory
 abbrev pub memory_line : List ℕ

@@ -79,6 +79,7 @@ fn push_numbers<A: Allocator>(text: &mut String<A>, numbers: &[u32]) -> Result<(
     Ok(())
 }
 
+#[tactic(auto, using(crate::proofs::BlockLines::block_lines_more))]
 fn push_blocks<A: Allocator, B: Allocator>(
     text: &mut String<A>,
     loads: &Loads<B>,
@@ -86,7 +87,7 @@ fn push_blocks<A: Allocator, B: Allocator>(
     names: &[u32],
 ) -> Result<(), AllocError>
     requires { IsDivision 0 (length loads.now) (length names.now) cuts.now }
-    ensures { OnOk result (string_bytes text.new ≡ string_bytes text.old ++ block_lines loads.now names.now 0 cuts.now) }
+    ensures { OnOk result (string_bytes text.new ≡ string_bytes text.old ++ block_lines loads.now cuts.now names.now (length names.now)) }
 {
     for b in 0..names.len() {
         let first = cuts[b];

@@ -1,9 +1,10 @@
-ghost use Rattle.std.specs.Prelude.{◌≡◌, ◌≢◌, ℕ, List, ◌+◌, ◌-◌, ◌++◌, ◌<◌, ◌≤◌, [], length, take, slice_index, slice_index_or, IfOk, OnOk, OnErr, MatchBool, MatchOption};
+ghost use Rattle.std.specs.Prelude.{◌≡◌, ◌≢◌, ℕ, List, ◌+◌, ◌-◌, ◌++◌, ◌<◌, ◌≤◌, [], ◌∷◌, length, take, slice_index, slice_index_or, IfOk, OnOk, OnErr, MatchBool, MatchOption};
+ghost use Rattle.std.specs.List.{filter};
 ghost use Rattle.std.specs.Option.{option_to_list};
 ghost use Rattle.lb_certificates.specs.Chain.{IsDivision};
 ghost use Rattle.lb_certificates.specs.Measured.{IsSizes};
 ghost use Rattle.lb_certificates.specs.Naming.{blocks_between, block_of, AreBlocks, IsNaming};
-ghost use Rattle.lb_strategy.specs.Moves.{move_of, moves_below, planned_pe};
+ghost use Rattle.lb_strategy.specs.Moves.{is_move, moves_below, planned_pe};
 
 use chare_index::{Index, Pe};
 use std::alloc::{AllocError, Allocator, Global};
@@ -51,7 +52,7 @@ impl<A: Allocator> Moves<A> {
 fn move_of(i: u32, present: Pe, planned: u32) -> Option<(Index, Pe, Pe)>
     requires index { i < 65536 }
     requires pe { planned < 256 }
-    ensures { option_to_list result ≡ move_of i present planned }
+    ensures { option_to_list result ≡ filter is_move ((i, present, planned) ∷ []) }
 {
     if present.get() == planned {
         return None;
@@ -114,6 +115,7 @@ fn place_behind(
 /// # Errors
 ///
 /// Want of memory, where a growth of the list was refused.
+#[tactic(auto, using(crate::proofs::MoveLists::moves_more))]
 pub(crate) fn moves_of<A: Allocator>(
     alloc: A,
     sizes: &[(u32, Pe)],
@@ -136,6 +138,7 @@ pub(crate) fn moves_of<A: Allocator>(
 }
 
 /// Whether these are the moves that a naming asks for, in order of index.
+#[tactic(auto, using(crate::proofs::MoveLists::moves_more))]
 pub(crate) fn are_moves(
     sizes: &[(u32, Pe)],
     cuts: &[u32],
