@@ -18,15 +18,11 @@ mod flaw;
 mod loads;
 mod naming;
 mod naming_check;
-#[cfg(test)]
-mod naming_tests;
 mod prices;
 pub mod reference;
 mod sizes;
 mod snapshot;
 mod stops;
-#[cfg(test)]
-mod tests;
 
 pub use cuts::Cuts;
 pub use division::{Division, Floor};

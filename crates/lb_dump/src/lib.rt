@@ -13,8 +13,6 @@ mod judging;
 mod laws;
 mod making;
 mod reader;
-#[cfg(test)]
-mod tests;
 mod words;
 mod writing;
 

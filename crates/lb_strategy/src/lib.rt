@@ -11,8 +11,6 @@ mod decision;
 mod error;
 mod moves;
 mod planning;
-#[cfg(test)]
-mod tests;
 
 pub use checking::check;
 pub use decision::Decision;

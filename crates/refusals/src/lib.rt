@@ -4,4 +4,6 @@
 #![tactic(auto)]
 
 #[cfg(test)]
+mod refusing;
+#[cfg(test)]
 mod tests;
