@@ -2,55 +2,47 @@
 
 ghost use Rattle.std.specs.Prelude.{◌≤◌};
 
-use crate::fixtures::{cuts, index, pe, prices, snapshot, stops};
+use crate::fixtures::{fenced, index, naming, pe, prices, snapshot};
 use block_assignment::NameError;
 use chare_index::{Index, Pe};
-use lb_certificates::{Division, Flaw, Floor, Loads, Naming, Prices, Sizes, Snapshot};
+use lb_certificates::{Flaw, Loads, Sizes, Snapshot};
 use lb_strategy::{Decision, Moves, PlanError, check, plan};
-use std::alloc::Global;
-use std::test::Fail;
+use std::process::Abort;
 
-// What the check says of the example decision with these parts of it.
-fn verdict(
-    alloc: Global,
-    division: (&[u32], &[u32]),
-    naming: (&[u32], &[i64], &[i64]),
-    moving: (u64, &[(u32, u32, u32)]),
-) -> Result<Result<(), Flaw>, Fail> {
-    let example = snapshot(alloc, 2, &[(1, 10, 0), (1, 9, 1), (2, 8, 0)])?;
-    let decision = decision(alloc, division, naming, moving)?;
-    Ok(check(&example, 2, &decision))
+fn moves(rt: &(impl Abort + AllocGlobal), rows: &[(u32, u32, u32)]) -> Moves {
+    let mut moves = Vec::new(rt.alloc());
+    for &(moved, present, planned) in rows {
+        let step = (index(rt, moved), pe(rt, present), pe(rt, planned));
+        moves.push(step).expect(rt, "out of memory");
+    }
+    Moves::new(moves)
 }
 
 // The decision with bottleneck 2 and these cuts and stops, names and prices, bytes moved and moves.
 fn decision(
-    alloc: Global,
+    rt: &(impl Abort + AllocGlobal),
     division: (&[u32], &[u32]),
-    naming: (&[u32], &[i64], &[i64]),
+    names: (&[u32], &[i64], &[i64]),
     moving: (u64, &[(u32, u32, u32)]),
-) -> Result<Decision, Fail> {
-    Ok(Decision {
-        division: Division {
-            bottleneck: 2,
-            cuts: cuts(alloc, division.0)?,
-            floor: Floor::Fence(stops(alloc, division.1)?),
-        },
-        naming: Naming::new(Vec::from_slice(alloc, naming.0)?),
-        prices: Prices {
-            u: prices(alloc, naming.1)?,
-            v: prices(alloc, naming.2)?,
-        },
+) -> Decision {
+    Decision {
+        division: fenced(rt, 2, division.0, division.1),
+        naming: naming(rt, names.0),
+        prices: prices(rt, names.1, names.2),
         moved: moving.0,
-        moves: moves(alloc, moving.1)?,
-    })
+        moves: moves(rt, moving.1),
+    }
 }
 
-fn moves(alloc: Global, rows: &[(u32, u32, u32)]) -> Result<Moves, Fail> {
-    let mut moves = Vec::new(alloc);
-    for &(moved, present, planned) in rows {
-        moves.push((index(moved)?, pe(present)?, pe(planned)?))?;
-    }
-    Ok(Moves::new(moves))
+// What the check says of the example decision with these parts of it.
+fn verdict(
+    rt: &(impl Abort + AllocGlobal),
+    division: (&[u32], &[u32]),
+    names: (&[u32], &[i64], &[i64]),
+    moving: (u64, &[(u32, u32, u32)]),
+) -> Result<(), Flaw> {
+    let example = snapshot(rt, 2, &[(1, 10, 0), (1, 9, 1), (2, 8, 0)]);
+    check(&example, 2, &decision(rt, division, names, moving))
 }
 
 const DIVISION: (&[u32], &[u32]) = (&[0, 2, 3], &[0, 1, 2]);
@@ -60,7 +52,7 @@ const NAMING: (&[u32], &[i64], &[i64]) = (&[1, 0], &[10, 1], &[-1, 0]);
 const MOVING: (u64, &[(u32, u32, u32)]) = (10, &[(0, 0, 1)]);
 
 #[test]
-fn each_forged_division_has_its_flaw(rt: HostRuntime) -> Result<(), Fail> {
+fn each_forged_division_has_its_flaw(rt: HostRuntime) {
     let forged: [(&[u32], &[u32], Result<(), Flaw>); 13] = [
         (&[0, 2, 3], &[0, 1, 2], Ok(())),
         (&[0, 3], &[0, 1, 2], Err(Flaw::CutCount)),
@@ -77,14 +69,13 @@ fn each_forged_division_has_its_flaw(rt: HostRuntime) -> Result<(), Fail> {
         (&[0, 2, 3], &[0, 0, 2], Err(Flaw::FenceLight(1))),
     ];
     for (cuts, stops, expected) in forged {
-        let found = verdict(rt.alloc(), (cuts, stops), NAMING, MOVING)?;
+        let found = verdict(&rt, (cuts, stops), NAMING, MOVING);
         assert_eq!(rt; found, expected, "cuts {cuts:?}, fence {stops:?}");
     }
-    Ok(())
 }
 
 #[test]
-fn each_forged_naming_has_its_flaw(rt: HostRuntime) -> Result<(), Fail> {
+fn each_forged_naming_has_its_flaw(rt: HostRuntime) {
     let forged: [(&[u32], &[i64], &[i64], Flaw); 9] = [
         (&[1], &[10, 1], &[-1, 0], Flaw::NameCount),
         (&[], &[10, 1], &[-1, 0], Flaw::NameCount),
@@ -97,14 +88,13 @@ fn each_forged_naming_has_its_flaw(rt: HostRuntime) -> Result<(), Fail> {
         (&[0, 1], &[10, 1], &[-1, 0], Flaw::PriceGap),
     ];
     for (names, u, v, flaw) in forged {
-        let found = verdict(rt.alloc(), DIVISION, (names, u, v), MOVING)?;
+        let found = verdict(&rt, DIVISION, (names, u, v), MOVING);
         assert_eq!(rt; found, Err(flaw), "names {names:?}, prices {u:?} {v:?}");
     }
-    Ok(())
 }
 
 #[test]
-fn each_forged_list_of_moves_has_its_flaw(rt: HostRuntime) -> Result<(), Fail> {
+fn each_forged_list_of_moves_has_its_flaw(rt: HostRuntime) {
     let forged: [(u64, &[(u32, u32, u32)], Flaw); 4] = [
         (17, &[(0, 0, 1)], Flaw::MovedWrong),
         (10, &[], Flaw::MovesWrong),
@@ -112,26 +102,25 @@ fn each_forged_list_of_moves_has_its_flaw(rt: HostRuntime) -> Result<(), Fail> {
         (10, &[(1, 1, 0)], Flaw::MovesWrong),
     ];
     for (moved, moves, flaw) in forged {
-        let found = verdict(rt.alloc(), DIVISION, NAMING, (moved, moves))?;
+        let found = verdict(&rt, DIVISION, NAMING, (moved, moves));
         assert_eq!(rt; found, Err(flaw), "moved {moved}, moves {moves:?}");
     }
-    Ok(())
 }
 
 #[test]
-fn an_element_runs_where_its_block_does(rt: HostRuntime) -> Result<(), Fail> {
-    let example = snapshot(rt.alloc(), 2, &[(1, 10, 0), (1, 9, 1), (2, 8, 0)])?;
-    let decision = decision(rt.alloc(), DIVISION, NAMING, MOVING)?;
-    if check(&example, 2, &decision).is_err() {
-        return Err(Fail::new("refused the example"));
-    }
+fn an_element_runs_where_its_block_does(rt: HostRuntime) {
+    let example = snapshot(&rt, 2, &[(1, 10, 0), (1, 9, 1), (2, 8, 0)]);
+    let decision = decision(&rt, DIVISION, NAMING, MOVING);
+    assert!(rt;
+        check(&example, 2, &decision).is_ok(),
+        "refused the example"
+    );
     for (place, planned) in [(0u32, 1), (1, 1), (2, 0)] {
-        let index = index(place)?;
+        let index = index(&rt, place);
         if (index.get() as usize) < example.sizes().len() {
             assert_eq!(rt; decision.place_of(index).get(), planned, "element {place}");
         }
     }
-    Ok(())
 }
 
 // What a decision is to say.
@@ -166,19 +155,19 @@ fn says(decision: &Decision, row: Row<'_>) -> bool {
 }
 
 // Whether the plan for this snapshot says this, and is accepted for as many PEs alone.
-fn plans(alloc: Global, taken: &Snapshot, pes: u32, row: Row<'_>) -> Result<bool, Fail>
+fn plans(rt: &(impl Abort + AllocGlobal), taken: &Snapshot, pes: u32, row: Row<'_>) -> bool
     requires some_pe { 1 ≤ pes }
     requires few_pes { pes ≤ 4 }
 {
-    let decision = plan(alloc, taken, pes)?;
+    let decision = plan(rt.alloc(), taken, pes).expect(rt, "out of memory");
     let accepted = check(taken, pes, &decision).is_ok();
     let alone = check(taken, pes + 1, &decision).is_err();
-    Ok(says(&decision, row) && accepted && alone)
+    says(&decision, row) && accepted && alone
 }
 
 #[test]
-fn the_examples_are_planned(rt: HostRuntime) -> Result<(), Fail> {
-    let swapped = snapshot(rt.alloc(), 2, &[(1, 8, 1), (1, 8, 1), (1, 8, 0), (1, 8, 0)])?;
+fn the_examples_are_planned(rt: HostRuntime) {
+    let swapped = snapshot(&rt, 2, &[(1, 8, 1), (1, 8, 1), (1, 8, 0), (1, 8, 0)]);
     let row = Row {
         bottleneck: 2,
         cuts: &[0, 2, 4],
@@ -186,13 +175,12 @@ fn the_examples_are_planned(rt: HostRuntime) -> Result<(), Fail> {
         moved: 0,
         moves: &[],
     };
-    assert!(rt; plans(rt.alloc(), &swapped, 2, row)?, "swapped");
-    Ok(())
+    assert!(rt; plans(&rt, &swapped, 2, row), "swapped");
 }
 
 #[test]
-fn the_example_is_planned_for_two_and_for_one(rt: HostRuntime) -> Result<(), Fail> {
-    let example = snapshot(rt.alloc(), 2, &[(1, 10, 0), (1, 9, 1), (2, 8, 0)])?;
+fn the_example_is_planned_for_two_and_for_one(rt: HostRuntime) {
+    let example = snapshot(&rt, 2, &[(1, 10, 0), (1, 9, 1), (2, 8, 0)]);
     let row = Row {
         bottleneck: 2,
         cuts: &[0, 2, 3],
@@ -200,7 +188,7 @@ fn the_example_is_planned_for_two_and_for_one(rt: HostRuntime) -> Result<(), Fai
         moved: 10,
         moves: &[(0, 0, 1)],
     };
-    assert!(rt; plans(rt.alloc(), &example, 2, row)?, "two PEs");
+    assert!(rt; plans(&rt, &example, 2, row), "two PEs");
     let row = Row {
         bottleneck: 4,
         cuts: &[0, 3],
@@ -208,13 +196,12 @@ fn the_example_is_planned_for_two_and_for_one(rt: HostRuntime) -> Result<(), Fai
         moved: 9,
         moves: &[(1, 1, 0)],
     };
-    assert!(rt; plans(rt.alloc(), &example, 1, row)?, "one PE");
-    Ok(())
+    assert!(rt; plans(&rt, &example, 1, row), "one PE");
 }
 
 #[test]
-fn no_elements_are_planned(rt: HostRuntime) -> Result<(), Fail> {
-    let none = snapshot(rt.alloc(), 3, &[])?;
+fn no_elements_are_planned(rt: HostRuntime) {
+    let none = snapshot(&rt, 3, &[]);
     let row = Row {
         bottleneck: 0,
         cuts: &[0, 0, 0, 0],
@@ -222,60 +209,58 @@ fn no_elements_are_planned(rt: HostRuntime) -> Result<(), Fail> {
         moved: 0,
         moves: &[],
     };
-    assert!(rt; plans(rt.alloc(), &none, 3, row)?, "no elements");
-    Ok(())
+    assert!(rt; plans(&rt, &none, 3, row), "no elements");
 }
 
 // As many elements as there may be, with 8 bytes each, whose blocks of 256 stand each on the PE behind its own.
-fn full(alloc: Global) -> Result<Snapshot, Fail> {
-    let mut units = Vec::new(alloc);
-    let mut pairs = Vec::new(alloc);
+fn full(rt: &(impl Abort + AllocGlobal)) -> Snapshot {
+    let mut units = Vec::new(rt.alloc());
+    let mut pairs = Vec::new(rt.alloc());
     for i in 0..65_536u32 {
-        units.push(1)?;
-        pairs.push((8, pe((i / 256 + 1) % 256)?))?;
+        let pair = (8, pe(rt, (i / 256 + 1) % 256));
+        units.push(1).expect(rt, "out of memory");
+        pairs.push(pair).expect(rt, "out of memory");
     }
-    let (Some(loads), Some(sizes)) = (Loads::new(units), Sizes::new(pairs)) else {
-        return Err(Fail::new("past a limit"));
-    };
-    Snapshot::new(1, 256, loads, sizes).ok_or_else(|| Fail::new("no snapshot"))
+    let loads = Loads::new(units).expect(rt, "too many loads");
+    let sizes = Sizes::new(pairs).expect(rt, "past a limit");
+    Snapshot::new(1, 256, loads, sizes).expect(rt, "no snapshot")
 }
 
 #[test]
-fn a_full_array_on_all_pes(rt: HostRuntime) -> Result<(), Fail> {
-    let full = full(rt.alloc())?;
-    let decision = plan(rt.alloc(), &full, 256)?;
+fn a_full_array_on_all_pes(rt: HostRuntime) {
+    let full = full(&rt);
+    let decision = plan(rt.alloc(), &full, 256).expect(&rt, "out of memory");
     assert_eq!(rt; decision.division.bottleneck, 256);
     assert_eq!(rt; (decision.moved, decision.moves.as_slice().len()), (0, 0));
     for b in 0..256u32 {
         let name = decision.naming.as_slice().get(b as usize).copied();
         assert_eq!(rt; name, Some((b + 1) % 256), "block {b}");
     }
-    Ok(())
 }
 
 #[test]
-fn a_full_array_on_one_pe(rt: HostRuntime) -> Result<(), Fail> {
-    let full = full(rt.alloc())?;
-    let decision = plan(rt.alloc(), &full, 1)?;
+fn a_full_array_on_one_pe(rt: HostRuntime) {
+    let full = full(&rt);
+    let decision = plan(rt.alloc(), &full, 1).expect(&rt, "out of memory");
     assert_eq!(rt; decision.division.bottleneck, 65_536);
     assert_eq!(rt;
         (decision.moved, decision.moves.as_slice().len()),
         (522_240, 65_280)
     );
-    Ok(())
 }
 
 #[test]
-fn the_error_has_its_number_and_text(rt: HostRuntime) -> Result<(), Fail> {
+fn the_error_has_its_number_and_text(rt: HostRuntime) {
     let error = PlanError::OutOfMemory;
     assert_eq!(rt; error as u8, 2);
     assert_eq!(rt;
-        format!(in rt.alloc(); "{error}")?.as_str(),
+        format!(in rt.alloc(); "{error}")
+            .expect(&rt, "out of memory")
+            .as_str(),
         "out of memory"
     );
     assert_eq!(rt;
         PlanError::from(NameError::OutOfMemory),
         PlanError::OutOfMemory
     );
-    Ok(())
 }

@@ -1,72 +1,99 @@
-//! What the tests are made of: numbers, lists, snapshots and cost tables, each checked where it has a limit.
+//! What the tests are made of: numbers, lists, snapshots and cost tables. What can't be made ends the test.
 
 use block_assignment::CostTable;
 use chare_index::{Index, Pe};
-use lb_certificates::{Cuts, Loads, PriceList, Sizes, Snapshot, Stops, Units};
-use std::alloc::Global;
-use std::test::Fail;
+use lb_certificates::{
+    Cuts, Division, Floor, Loads, Naming, PriceList, Prices, Sizes, Snapshot, Stops, Units,
+};
+use std::process::Abort;
 
-pub fn pe(number: u32) -> Result<Pe, Fail> {
-    Pe::new(number).ok_or_else(|| Fail::new("no such PE"))
+pub fn list<T: Copy>(rt: &(impl Abort + AllocGlobal), items: &[T]) -> Vec<T> {
+    Vec::from_slice(rt.alloc(), items).expect(rt, "out of memory")
 }
 
-pub fn index(place: u32) -> Result<Index, Fail> {
-    Index::new(place).ok_or_else(|| Fail::new("no such element"))
+pub fn pe(rt: &(impl Abort + AllocGlobal), number: u32) -> Pe {
+    Pe::new(number).expect(rt, "no such PE")
 }
 
-pub fn cuts(alloc: Global, cuts: &[u32]) -> Result<Cuts, Fail> {
-    Ok(Cuts::new(Vec::from_slice(alloc, cuts)?))
+pub fn index(rt: &(impl Abort + AllocGlobal), place: u32) -> Index {
+    Index::new(place).expect(rt, "no such element")
 }
 
-pub fn stops(alloc: Global, stops: &[u32]) -> Result<Stops, Fail> {
-    Ok(Stops::new(Vec::from_slice(alloc, stops)?))
-}
-
-pub fn prices(alloc: Global, prices: &[i64]) -> Result<PriceList, Fail> {
-    Ok(PriceList::new(Vec::from_slice(alloc, prices)?))
-}
-
-pub fn loads(alloc: Global, units: &[Units]) -> Result<Loads, Fail> {
-    let loads = Loads::new(Vec::from_slice(alloc, units)?);
-    loads.ok_or_else(|| Fail::new("too many loads"))
+pub fn loads(rt: &(impl Abort + AllocGlobal), units: &[Units]) -> Loads {
+    Loads::new(list(rt, units)).expect(rt, "too many loads")
 }
 
 /// The bytes and the PE of each element.
-pub fn pairs(alloc: Global, elements: &[(u32, u32)]) -> Result<Vec<(u32, Pe)>, Fail> {
-    let mut pairs = Vec::new(alloc);
+pub fn pairs(rt: &(impl Abort + AllocGlobal), elements: &[(u32, u32)]) -> Vec<(u32, Pe)> {
+    let mut pairs = Vec::new(rt.alloc());
     for &(bytes, place) in elements {
-        pairs.push((bytes, pe(place)?))?;
+        let pair = (bytes, pe(rt, place));
+        pairs.push(pair).expect(rt, "out of memory");
     }
-    Ok(pairs)
+    pairs
 }
 
-pub fn sizes(alloc: Global, elements: &[(u32, u32)]) -> Result<Sizes, Fail> {
-    Sizes::new(pairs(alloc, elements)?).ok_or_else(|| Fail::new("past a limit"))
+pub fn sizes(rt: &(impl Abort + AllocGlobal), elements: &[(u32, u32)]) -> Sizes {
+    Sizes::new(pairs(rt, elements)).expect(rt, "past a limit")
+}
+
+/// The division with this bottleneck, these cuts and this fence.
+pub fn fenced(
+    rt: &(impl Abort + AllocGlobal),
+    bottleneck: u64,
+    cuts: &[u32],
+    stops: &[u32],
+) -> Division {
+    Division {
+        bottleneck,
+        cuts: Cuts::new(list(rt, cuts)),
+        floor: Floor::Fence(Stops::new(list(rt, stops))),
+    }
+}
+
+/// The division with this bottleneck, these cuts and the floor zero.
+pub fn unfenced(rt: &(impl Abort + AllocGlobal), bottleneck: u64, cuts: &[u32]) -> Division {
+    Division {
+        bottleneck,
+        cuts: Cuts::new(list(rt, cuts)),
+        floor: Floor::Zero,
+    }
+}
+
+pub fn naming(rt: &(impl Abort + AllocGlobal), names: &[u32]) -> Naming {
+    Naming::new(list(rt, names))
+}
+
+pub fn prices(rt: &(impl Abort + AllocGlobal), u: &[i64], v: &[i64]) -> Prices {
+    Prices {
+        u: PriceList::new(list(rt, u)),
+        v: PriceList::new(list(rt, v)),
+    }
 }
 
 /// The snapshot at step 5 of elements with these loads, bytes and PEs.
-pub fn snapshot(alloc: Global, procs: u32, elements: &[(u32, u32, u32)]) -> Result<Snapshot, Fail> {
-    let mut units = Vec::new(alloc);
-    let mut pairs = Vec::new(alloc);
+pub fn snapshot(
+    rt: &(impl Abort + AllocGlobal),
+    procs: u32,
+    elements: &[(u32, u32, u32)],
+) -> Snapshot {
+    let mut units = Vec::new(rt.alloc());
+    let mut pairs = Vec::new(rt.alloc());
     for &(load, bytes, place) in elements {
-        units.push(load)?;
-        pairs.push((bytes, pe(place)?))?;
+        let pair = (bytes, pe(rt, place));
+        units.push(load).expect(rt, "out of memory");
+        pairs.push(pair).expect(rt, "out of memory");
     }
-    let (Some(loads), Some(sizes)) = (Loads::new(units), Sizes::new(pairs)) else {
-        return Err(Fail::new("past a limit"));
-    };
-    Snapshot::new(5, procs, loads, sizes).ok_or_else(|| Fail::new("no snapshot"))
+    let loads = Loads::new(units).expect(rt, "too many loads");
+    let sizes = Sizes::new(pairs).expect(rt, "past a limit");
+    Snapshot::new(5, procs, loads, sizes).expect(rt, "no snapshot")
 }
 
 /// The cost table of the blocks between these cuts, which have to divide the elements.
-pub fn table(alloc: Global, sizes: &Sizes, ends: &[u32]) -> Result<CostTable, Fail> {
-    let cuts = cuts(alloc, ends)?;
-    let list = cuts.as_slice();
-    if list.len() < 2 || list.len() > 257 || !list.is_sorted() {
-        return Err(Fail::new("no division"));
-    }
-    if list[0] != 0 || list[list.len() - 1] as usize != sizes.len() {
-        return Err(Fail::new("no division of all elements"));
-    }
-    Ok(CostTable::of(alloc, sizes, &cuts)?)
+pub fn table(rt: &(impl Abort + AllocGlobal), sizes: &Sizes, ends: &[u32]) -> CostTable {
+    let cuts = Cuts::new(list(rt, ends));
+    let count = cuts.as_slice().len();
+    assert!(rt; 2 <= count && count <= 257, "no blocks, or too many");
+    assert!(rt; cuts.divides(sizes.len()), "no division");
+    CostTable::of(rt.alloc(), sizes, &cuts).expect(rt, "out of memory")
 }

@@ -1,6 +1,6 @@
 //! Tests of how a decision is made and checked: snapshots, certificates, divisions, namings and whole decisions.
 //! They use public calls only, on worked examples whose answers come from outside, on full arrays, and beside slow
-//! references.
+//! references: [`reference`] tries every answer.
 #![tactic(auto)]
 
 #[cfg(test)]
@@ -15,3 +15,4 @@ mod fixtures;
 mod naming_checks;
 #[cfg(test)]
 mod namings;
+pub mod reference;

@@ -6,7 +6,7 @@ use lb_certificates::{Loads, Sizes, Snapshot};
 use lb_dump::{DumpError, DumpReader, decode, encode, is_exact, read_from, write_to};
 use std::alloc::Global;
 use std::io::{self, Error, ErrorKind, Read, Write};
-use std::test::Fail;
+use std::process::Abort;
 
 // Step 5, 2 PEs, 3 elements: their loads, sizes and places.
 const EXAMPLE: [u8; 52] = *b"LBD1\
@@ -15,16 +15,16 @@ const EXAMPLE: [u8; 52] = *b"LBD1\
     \0\0\0\x01\0\0\0\x09\0\0\0\x01\
     \0\0\0\x02\0\0\0\x08\0\0\0\0";
 
-fn example(alloc: Global) -> Result<Snapshot, Fail> {
-    let loads = Loads::new([1, 1, 2].to_vec(alloc)?);
-    let mut pairs = Vec::new(alloc);
+fn example(rt: &(impl Abort + AllocGlobal)) -> Snapshot {
+    let loads = [1, 1, 2].to_vec(rt.alloc()).expect(rt, "out of memory");
+    let mut pairs = Vec::new(rt.alloc());
     for (size, place) in [(10, 0), (9, 1), (8, 0)] {
-        let place = Pe::new(place).ok_or("no such PE")?;
-        pairs.push((size, place))?;
+        let place = Pe::new(place).expect(rt, "no such PE");
+        pairs.push((size, place)).expect(rt, "out of memory");
     }
-    let loads = loads.ok_or("too many loads")?;
-    let sizes = Sizes::new(pairs).ok_or("past a limit")?;
-    Ok(Snapshot::new(5, 2, loads, sizes).ok_or("no snapshot")?)
+    let loads = Loads::new(loads).expect(rt, "too many loads");
+    let sizes = Sizes::new(pairs).expect(rt, "past a limit");
+    Snapshot::new(5, 2, loads, sizes).expect(rt, "no snapshot")
 }
 
 // The text of what these pieces give, or why they give nothing.
@@ -37,20 +37,21 @@ fn joined(alloc: Global, pieces: &[&[u8]]) -> Result<Vec<u8>, DumpError> {
 }
 
 #[test]
-fn the_example(rt: HostRuntime) -> Result<(), Fail> {
-    let snapshot = example(rt.alloc())?;
+fn the_example(rt: HostRuntime) {
+    let snapshot = example(&rt);
     assert_eq!(rt;
-        encode(rt.alloc(), &snapshot)?.as_slice(),
+        encode(rt.alloc(), &snapshot)
+            .expect(&rt, "out of memory")
+            .as_slice(),
         EXAMPLE.as_slice()
     );
     let mut out: Vec<u8> = Vec::new(rt.alloc());
     assert_eq!(rt; write_to(&mut out, &snapshot), Ok(()));
     assert_eq!(rt; out.as_slice(), EXAMPLE.as_slice());
-    let read = decode(rt.alloc(), &EXAMPLE).ok().ok_or("a dump")?;
+    let read = decode(rt.alloc(), &EXAMPLE).expect(&rt, "a dump");
     assert_eq!(rt; (read.step(), read.procs()), (5, 2));
     assert_eq!(rt; read.loads().as_slice(), snapshot.loads().as_slice());
     assert_eq!(rt; read.sizes().as_slice(), snapshot.sizes().as_slice());
-    Ok(())
 }
 
 #[test]
@@ -130,7 +131,7 @@ fn one_byte_is_255(rt: HostRuntime) {
 }
 
 #[test]
-fn first_faults(rt: HostRuntime) -> Result<(), Fail> {
+fn first_faults(rt: HostRuntime) {
     let mut surplus = [7; 55];
     surplus[..52].copy_from_slice(&EXAMPLE);
     let mut place = EXAMPLE;
@@ -154,7 +155,6 @@ fn first_faults(rt: HostRuntime) -> Result<(), Fail> {
             (Some((offset, fault)), true, Some(fault))
         );
     }
-    Ok(())
 }
 
 // Gives so many bytes at once, and then fails or ends.
@@ -238,8 +238,8 @@ impl Write for Sink {
 }
 
 #[test]
-fn writers(rt: HostRuntime) -> Result<(), Fail> {
-    let snapshot = example(rt.alloc())?;
+fn writers(rt: HostRuntime) {
+    let snapshot = example(&rt);
     for calls in 0..=53usize {
         for at_once in [0, 1, 5, 64] {
             let mut sink = Sink {
@@ -259,11 +259,10 @@ fn writers(rt: HostRuntime) -> Result<(), Fail> {
             );
         }
     }
-    Ok(())
 }
 
 #[test]
-fn numbers_and_words(rt: HostRuntime) -> Result<(), Fail> {
+fn numbers_and_words(rt: HostRuntime) {
     let faults = [
         DumpError::Magic,
         DumpError::Short(9),
@@ -280,9 +279,11 @@ fn numbers_and_words(rt: HostRuntime) -> Result<(), Fail> {
         assert_eq!(rt; fault.number(), number);
     }
     assert_eq!(rt;
-        DumpError::Short(9).to_string(rt.alloc())?.as_str(),
+        DumpError::Short(9)
+            .to_string(rt.alloc())
+            .expect(&rt, "out of memory")
+            .as_str(),
         "the dump ends after 9 bytes"
     );
     is_exact();
-    Ok(())
 }

@@ -7,7 +7,6 @@
 //!   other naming moves fewer bytes.
 //! - [`check_division`] and [`check_naming`]: accept an answer exactly where its certificate is right, and else
 //!   name the first [`Flaw`].
-//! - [`reference`]: plain programs that try every answer, to compare faster ones with.
 #![tactic(auto)]
 
 mod block_costs;
@@ -19,7 +18,6 @@ mod loads;
 mod naming;
 mod naming_check;
 mod prices;
-pub mod reference;
 mod sizes;
 mod snapshot;
 mod stops;

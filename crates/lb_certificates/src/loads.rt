@@ -28,7 +28,7 @@ impl<A: Allocator> Model for Loads<A> {
 impl<A: Allocator> Loads<A> {
     /// These loads, or `None` where they are more than there may be elements.
     pub fn new(units: Vec<Units, A>) -> Option<Self>
-        ensures { SomeIff result (IsLoads units.items) units.items }
+        ensures made { SomeIff result (IsLoads units.items) units.items }
     {
         if units.len() <= Limits::ELEMENTS as usize {
             Some(Loads { units })
@@ -55,7 +55,7 @@ impl<A: Allocator> Loads<A> {
 
     /// Whether there is no element.
     pub fn is_empty(&self) -> bool
-        ensures { IsTrue result ↔ (self.now ≡ []) }
+        ensures value { IsTrue result ↔ (self.now ≡ []) }
     {
         self.units.is_empty()
     }
@@ -64,14 +64,14 @@ impl<A: Allocator> Loads<A> {
     pub fn load(&self, first: usize, end: usize) -> u64
         requires ordered { first ≤ end }
         requires within { end ≤ length self.now }
-        ensures { result ≡ load self.now first end }
+        ensures value { result ≡ load self.now first end }
     {
         total(&self.units[first..end])
     }
 
     /// Gives the list back.
     pub fn into_vec(self) -> Vec<Units, A>
-        ensures { result.items ≡ self }
+        ensures value { result.items ≡ self }
     {
         let Loads { units } = self;
         units

@@ -20,21 +20,21 @@ impl<A: Allocator> Model for Naming<A> {
 impl<A: Allocator> Naming<A> {
     /// These names.
     pub fn new(names: Vec<u32, A>) -> Self
-        ensures { result ≡ names.items }
+        ensures value { result ≡ names.items }
     {
         Naming { names }
     }
 
     /// The names, in order of block.
     pub fn as_slice(&self) -> &[u32]
-        ensures { result.now ≡ self.now }
+        ensures value { result.now ≡ self.now }
     {
         self.names.as_slice()
     }
 
     /// Gives the list back.
     pub fn into_vec(self) -> Vec<u32, A>
-        ensures { result.items ≡ self }
+        ensures value { result.items ≡ self }
     {
         let Naming { names } = self;
         names

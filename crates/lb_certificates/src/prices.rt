@@ -20,21 +20,21 @@ impl<A: Allocator> Model for PriceList<A> {
 impl<A: Allocator> PriceList<A> {
     /// These prices.
     pub fn new(prices: Vec<i64, A>) -> Self
-        ensures { result ≡ prices.items }
+        ensures value { result ≡ prices.items }
     {
         PriceList { prices }
     }
 
     /// The prices, in order.
     pub fn as_slice(&self) -> &[i64]
-        ensures { result.now ≡ self.now }
+        ensures value { result.now ≡ self.now }
     {
         self.prices.as_slice()
     }
 
     /// Gives the list back.
     pub fn into_vec(self) -> Vec<i64, A>
-        ensures { result.items ≡ self }
+        ensures value { result.items ≡ self }
     {
         let PriceList { prices } = self;
         prices

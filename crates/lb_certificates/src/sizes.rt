@@ -26,7 +26,7 @@ impl<A: Allocator> Sizes<A> {
     /// These sizes and places, or `None` where they are more than there may be elements, or where a size is
     /// more than a packed element may have.
     pub fn new(pairs: Vec<(u32, Pe), A>) -> Option<Self>
-        ensures { SomeIff result (IsSizes pairs.items) pairs.items }
+        ensures made { SomeIff result (IsSizes pairs.items) pairs.items }
     {
         if pairs.len() <= Limits::ELEMENTS as usize && fit(&pairs) {
             Some(Sizes { pairs })
@@ -53,14 +53,14 @@ impl<A: Allocator> Sizes<A> {
 
     /// Whether there is no element.
     pub fn is_empty(&self) -> bool
-        ensures { IsTrue result ↔ (self.now ≡ []) }
+        ensures value { IsTrue result ↔ (self.now ≡ []) }
     {
         self.pairs.is_empty()
     }
 
     /// Gives the list back.
     pub fn into_vec(self) -> Vec<(u32, Pe), A>
-        ensures { result.items ≡ self }
+        ensures value { result.items ≡ self }
     {
         let Sizes { pairs } = self;
         pairs

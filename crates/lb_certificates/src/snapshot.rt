@@ -31,7 +31,7 @@ impl<A: Allocator> Snapshot<A> {
     /// This snapshot, or `None` where `procs` is not 1 to [`Limits::PES`], there are not as many loads as
     /// sizes, or a place is not below `procs`.
     pub fn new(step: u32, procs: u32, loads: Loads<A>, sizes: Sizes<A>) -> Option<Self>
-        ensures { SomeIff result (IsTaken procs loads sizes) (record { step = step; procs = procs; loads = loads; sizes = sizes }) }
+        ensures made { SomeIff result (IsTaken procs loads sizes) (record { step = step; procs = procs; loads = loads; sizes = sizes }) }
     {
         let in_range = 1 <= procs && procs <= Limits::PES;
         if in_range && loads.len() == sizes.len() && stand_below(procs, sizes.as_slice()) {
@@ -48,7 +48,7 @@ impl<A: Allocator> Snapshot<A> {
 
     /// The step of the run at which it was taken.
     pub fn step(&self) -> u32
-        ensures { result ≡ self.now.step }
+        ensures value { result ≡ self.now.step }
     {
         self.step
     }
@@ -63,7 +63,7 @@ impl<A: Allocator> Snapshot<A> {
 
     /// The load of each element.
     pub fn loads(&self) -> &Loads<A>
-        ensures { result.now ≡ self.now.loads }
+        ensures value { result.now ≡ self.now.loads }
     {
         &self.loads
     }

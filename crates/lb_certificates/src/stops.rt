@@ -20,21 +20,21 @@ impl<A: Allocator> Model for Stops<A> {
 impl<A: Allocator> Stops<A> {
     /// These stops.
     pub fn new(stops: Vec<u32, A>) -> Self
-        ensures { result ≡ stops.items }
+        ensures value { result ≡ stops.items }
     {
         Stops { stops }
     }
 
     /// The stops, in order.
     pub fn as_slice(&self) -> &[u32]
-        ensures { result.now ≡ self.now }
+        ensures value { result.now ≡ self.now }
     {
         self.stops.as_slice()
     }
 
     /// Gives the list back.
     pub fn into_vec(self) -> Vec<u32, A>
-        ensures { result.items ≡ self }
+        ensures value { result.items ≡ self }
     {
         let Stops { stops } = self;
         stops

@@ -8,7 +8,7 @@ use Rattle.lb_dump.proofs.making.loads_in.Goals as goal
 
 pub unwrap-requires : goal.unwrap-requires
 unwrap-requires g c =
-    made_where c.new.result _ _ c.new.ensures (record {
+    made_where c.new.result _ _ c.new.ensures.made (record {
       few = omega (arith, c.in_ok-loads_of.ensures.len, c.requires.good.count (omega arith));
       small = all_from_gets (λ units. units ≤ LOAD) c.in_ok-loads_of.field-0.items (load_in c.args.text.now) (count_in c.args.text.now) c.in_ok-loads_of.ensures.len c.in_ok-loads_of.ensures.each (λ i inside. omega (arith, word_below c.args.text.now (16 + 12 * i) (λ k. omega (arith, c.type_inv.text k))));
     })

@@ -4,14 +4,14 @@ ghost use Rattle.std.specs.Prelude.{◌≡◌, ◌≤◌, min, max, length, Matc
 ghost use Rattle.std.specs.Option.{option_map_or};
 ghost use Rattle.lb_certificates.specs.Chain.{IsLeastPeak, HasNoDivision};
 
-use crate::loads::Loads;
+use lb_certificates::Loads;
 use std::alloc::Allocator;
 
 /// The least peak of all divisions of these loads into `pes` blocks, or `None` where there is none: some
 /// element and no PE. It tries every division, so its time grows as the number of elements to the power of
 /// `pes`.
 pub fn least_peak<A: Allocator>(loads: &Loads<A>, pes: u32) -> Option<u64>
-    ensures { MatchOption result (HasNoDivision loads.now 0 pes) (IsLeastPeak loads.now 0 pes) }
+    ensures least_peak { MatchOption result (HasNoDivision loads.now 0 pes) (IsLeastPeak loads.now 0 pes) }
 {
     least_peak_from(loads, 0, pes)
 }

@@ -1,5 +1,5 @@
-use Rattle.lb_certificates.proofs.TriedDivisions.{Tried}
-use Rattle.lb_certificates.proofs.reference.+least_peak_from.Given as goal
+use Rattle.decision_tests.proofs.TriedDivisions.{Tried}
+use Rattle.decision_tests.proofs.reference.+least_peak_from.Given as goal
 
 abbrev pub decreases-least_peak_from : goal.decreases-least_peak_from
 decreases-least_peak_from g l = l.blocks
