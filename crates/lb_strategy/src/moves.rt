@@ -75,7 +75,7 @@ fn push_move<A: Allocator>(
 
 // The block of an element, looked for from a block on that it does not stand before.
 #[tactic(auto, using(lb_certificates::proofs::BlockSums::block_of_is))]
-pub(crate) fn block_from(cuts: &[u32], from: usize, i: u32) -> usize
+fn block_from(cuts: &[u32], from: usize, i: u32) -> usize
     requires divides { IsDivision 0 (slice_index cuts.now (blocks_between cuts.now)) (blocks_between cuts.now) cuts.now }
     requires from { from < blocks_between cuts.now }
     requires not_before { slice_index cuts.now from ≤ i }
