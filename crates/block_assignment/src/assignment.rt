@@ -3,7 +3,6 @@ ghost use Rattle.lb_certificates.specs.Naming.{IsNaming, Proves, naming_cost, pr
 ghost use Rattle.block_assignment.specs.declared.error.NameError.TheVariants.{OutOfMemory};
 ghost use Rattle.block_assignment.specs.Table.{cost_at};
 
-use crate::certificate::certifies;
 use crate::error::NameError;
 use crate::search::Search;
 use crate::table::CostTable;
@@ -14,8 +13,7 @@ use std::alloc::Allocator;
 ///
 /// # Errors
 ///
-/// [`OutOfMemory`](NameError::OutOfMemory) where a list was refused, which is told before the search begins.
-/// [`Uncertified`](NameError::Uncertified), were the prices not to prove the names, never comes.
+/// [`OutOfMemory`](NameError::OutOfMemory) where a list was refused, before the search begins.
 pub fn name_blocks<A: Allocator + Copy, B: Allocator>(
     alloc: A,
     table: &CostTable<B>,
@@ -23,7 +21,7 @@ pub fn name_blocks<A: Allocator + Copy, B: Allocator>(
     ensures naming { IfOk result (λ answer. IsNaming table.now.blocks answer.0) }
     ensures proved { IfOk result (λ answer. Proves table.now.blocks (cost_at table.now) (naming_cost table.now.blocks (cost_at table.now) answer.0) answer.1.u answer.1.v) }
     ensures cheapest { IfOk result (λ answer. (others : List ℕ) → IsNaming table.now.blocks others → naming_cost table.now.blocks (cost_at table.now) answer.0 ≤ naming_cost table.now.blocks (cost_at table.now) others) }
-    ensures certified { IfErr result (λ error. error ≡ OutOfMemory) }
+    ensures only_memory { IfErr result (λ error. error ≡ OutOfMemory) }
 {
     let blocks = table.blocks();
     let mut u = vec![in alloc; 0i64; blocks as usize]?;
@@ -35,9 +33,6 @@ pub fn name_blocks<A: Allocator + Copy, B: Allocator>(
     let (names, paid, rebate) = search.into_parts();
     write_paid(&paid, &mut u);
     write_rebates(&rebate, &mut v);
-    if !certifies(table, &names, &u, &v) {
-        return Err(NameError::Uncertified);
-    }
     let prices = Prices {
         u: PriceList::new(u),
         v: PriceList::new(v),

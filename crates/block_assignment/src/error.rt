@@ -4,12 +4,9 @@ ghost use Rattle.block_assignment.specs.declared.error.NameError.TheVariants.{Ou
 use std::alloc::AllocError;
 use thiserror::Error;
 
-/// Why the blocks were not named. The numbers are stable.
+/// Why the blocks were not named. The number is stable.
 #[derive(Clone, Copy, Debug, PartialEq, Eq, Error)]
 pub enum NameError {
-    /// The names that were found are not proved cheapest by their prices.
-    #[error("the naming is not certified")]
-    Uncertified = 1,
     /// No memory was left.
     #[error("out of memory")]
     OutOfMemory = 2,

@@ -6,7 +6,6 @@
 #![tactic(auto)]
 
 mod assignment;
-mod certificate;
 mod error;
 mod search;
 mod table;

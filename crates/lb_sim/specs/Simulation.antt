@@ -10,7 +10,6 @@ use Rattle.lb_dump.specs.declared.error.DumpError.TheVariants.{Read}
 use Rattle.lb_strategy.specs.Decisions.{IsRight}
 use Rattle.lb_strategy.specs.declared.decision.Decision.{Decision}
 use Rattle.lb_strategy.specs.declared.error.PlanError.{PlanError}
-use Rattle.lb_strategy.specs.declared.error.PlanError.TheVariants.{Uncertified}
 use Rattle.lb_sim.specs.Text.{decision_text, fault_line}
 use Rattle.lb_sim.specs.declared.ended.Ended.{Ended}
 use Rattle.lb_sim.specs.declared.ended.Ended.TheVariants.{Printed, WriteFailed}
@@ -89,6 +88,5 @@ abbrev pub status_of : Ended → ℕ
 status_of Printed = 0
 status_of (Ended.Dump DumpError.OutOfMemory) = 5
 status_of (Ended.Dump e) = 3
-status_of (Ended.Plan Uncertified) = 4
 status_of (Ended.Plan PlanError.OutOfMemory) = 5
 status_of WriteFailed = 5

@@ -5,7 +5,6 @@ use Rattle.std.specs.List.{flat_map, range_with_len}
 use Rattle.lb_dump.specs.declared.error.DumpError.{DumpError}
 use Rattle.lb_dump.specs.declared.error.DumpError.TheVariants.{Magic, Short, Procs, Count, Size, Place, Trailing, Read, Write}
 use Rattle.lb_strategy.specs.declared.error.PlanError.{PlanError}
-use Rattle.lb_strategy.specs.declared.error.PlanError.TheVariants.{Uncertified}
 use Rattle.lb_sim.specs.declared.fault.Fault.{Fault}
 use Rattle.lb_sim.specs.declared.fault.Fault.TheVariants.{Dump, Plan}
 use Rattle.lb_certificates.specs.Chain.{block_load}
@@ -86,5 +85,4 @@ dump_line DumpError.OutOfMemory = memory_line
 -- the one line of a fault
 abbrev pub fault_line : Fault → List ℕ
 fault_line (Dump e) = dump_line e
-fault_line (Plan Uncertified) = codes "plan: uncertified" ++ newline
 fault_line (Plan PlanError.OutOfMemory) = memory_line

@@ -13,8 +13,7 @@ pub enum Ended {
     /// The line of this fault was written: the dump's first fault, or that its reader failed or memory was
     /// refused.
     Dump(DumpError),
-    /// The line of this fault was written: the dump was read, and then memory was refused, or the decision was
-    /// not certified, which never comes.
+    /// The line of this fault was written: the dump was read, and then memory was refused.
     Plan(PlanError),
     /// The writer failed, or took nothing. A prefix of what was to be written has gone out.
     WriteFailed,
@@ -32,8 +31,8 @@ impl Ended {
     }
 }
 
-/// The status that the program exits with: 0 where the text was printed, 3 for a fault of the dump, 4 where the
-/// decision was not certified, and 5 where memory or the output failed.
+/// The status that the program exits with: 0 where the text was printed, 3 for a fault of the dump, and 5 where
+/// memory or the output failed.
 pub fn status(ended: Ended) -> u8
     ensures { result ≡ status_of ended }
 {
@@ -43,6 +42,5 @@ pub fn status(ended: Ended) -> u8
         | Ended::Plan(PlanError::OutOfMemory)
         | Ended::WriteFailed => 5,
         Ended::Dump(_) => 3,
-        Ended::Plan(PlanError::Uncertified) => 4,
     }
 }

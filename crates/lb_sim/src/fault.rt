@@ -58,7 +58,6 @@ pub fn fault_line<A: Allocator>(alloc: A, fault: Fault) -> Result<String<A>, All
 {
     match fault {
         Fault::Dump(fault) => dump_line(alloc, fault),
-        Fault::Plan(PlanError::Uncertified) => String::from_str(alloc, "plan: uncertified\n"),
         Fault::Plan(PlanError::OutOfMemory) => String::from_str(alloc, NO_MEMORY),
     }
 }

@@ -331,7 +331,6 @@ fn statuses(rt: HostRuntime) {
     assert_eq!(rt; status(Ended::Printed), 0);
     assert_eq!(rt; status(Ended::Dump(DumpError::Magic)), 3);
     assert_eq!(rt; status(Ended::Dump(DumpError::OutOfMemory)), 5);
-    assert_eq!(rt; status(Ended::Plan(PlanError::Uncertified)), 4);
     assert_eq!(rt; status(Ended::Plan(PlanError::OutOfMemory)), 5);
     assert_eq!(rt; status(Ended::WriteFailed), 5);
 }

@@ -1,5 +1,5 @@
 -- What a right decision implies.
-use Rattle.std.proofs.Common.{◌≡◌, ℕ, ◌<◌, ◌≤◌, inl, inr, true, false, ltb, nat_lt, Result, Ok, Err, IfOk, List, length, slice_index, ℤ, ◌+ℤ◌, ◌≤ℤ◌, pos, arith, ap, subst, sym, ◌∙◌}
+use Rattle.std.proofs.Common.{◌≡◌, ℕ, ◌<◌, ◌≤◌, inl, inr, true, false, ltb, nat_lt, List, length, slice_index, ℤ, ◌+ℤ◌, ◌≤ℤ◌, pos, arith, ap, subst, sym, ◌∙◌}
 use Rattle.std.specs.List.{position_or_len}
 use Rattle.std.proofs.lemmas.Bool.{cases_lt, lt-ltb, le-ltb}
 use Rattle.std.proofs.lemmas.List.Sums.{fails_before_first, passes_at_first}
@@ -56,10 +56,6 @@ place_from_right loads sizes p d right i inside =
       named = omega (arith, block, right.named.naming.counted);
       pe = omega (arith, right.named.naming.below (block_of d.division.cuts i) block, right.named.blocks.few_blocks);
     }
-
-pub places_if_right : {A E : Type 0} (loads : List ℕ) (sizes : List (ℕ × ℕ)) (p : ℕ) (result : Result (Decision A) E) → IfOk result (IsRight loads sizes p) → IfOk result (λ d. (i : ℕ) → i < length sizes → HasPlace d.division.cuts d.naming i)
-places_if_right loads sizes p (Ok d) right = place_from_right loads sizes p d right
-places_if_right loads sizes p (Err e) none = none
 
 -- a certified division of the loads divides the elements
 pub blocks_from_certified : {A : Type 0} (loads : List ℕ) (sizes : List (ℕ × ℕ)) (p : ℕ) (d : Division A) → IsCertified loads p d → length loads ≡ length sizes → 1 ≤ p → p ≤ PES → AreBlocks sizes d.cuts

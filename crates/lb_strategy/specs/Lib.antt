@@ -1,3 +1,2 @@
 pub mod Decisions
 pub mod Moves
-pub mod PlanErrors

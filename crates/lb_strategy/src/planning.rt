@@ -6,7 +6,6 @@ ghost use Rattle.lb_strategy.specs.Decisions.{IsRight};
 ghost use Rattle.lb_strategy.specs.Moves.{HasPlace};
 ghost use Rattle.lb_strategy.specs.declared.error.PlanError.TheVariants.{OutOfMemory};
 
-use crate::checking::check;
 use crate::decision::Decision;
 use crate::error::PlanError;
 use crate::moves::moves_of;
@@ -17,14 +16,13 @@ use lb_certificates::{Loads, Sizes, Snapshot};
 use std::alloc::Allocator;
 
 /// Decides where each element of this snapshot runs next, on `pes` PEs, 1 to 256, which may be more or fewer than
-/// those of the run: its blocks are those of [`divide`], named so that the fewest bytes move. The decision has
-/// passed [`check`].
+/// those of the run: its blocks are those of [`divide`], named so that the fewest bytes move.
+/// [`check`](crate::check) accepts the decision.
 ///
 /// # Errors
 ///
 /// [`OutOfMemory`](PlanError::OutOfMemory) where a list was refused.
-/// [`Uncertified`](PlanError::Uncertified), were the decision to fail its check, never comes.
-#[tactic(auto, using(crate::proofs::RightDecisions::least_from_right, crate::proofs::RightDecisions::cheapest_from_right, crate::proofs::RightDecisions::place_from_right))]
+#[tactic(auto, using(crate::proofs::RightDecisions::least_from_right, crate::proofs::RightDecisions::cheapest_from_right))]
 pub fn plan<A: Allocator + Copy, B: Allocator>(
     alloc: A,
     snapshot: &Snapshot<B>,
@@ -37,29 +35,12 @@ pub fn plan<A: Allocator + Copy, B: Allocator>(
     ensures least { IfOk result (λ d. IsLeastDivision snapshot.now.loads pes d.division.bottleneck d.division.cuts) }
     ensures cheapest { IfOk result (λ d. IsCheapest snapshot.now.sizes d.division.cuts pes d.naming) }
     ensures places { IfOk result (λ d. (i : ℕ) → i < length snapshot.now.sizes → HasPlace d.division.cuts d.naming i) }
-    ensures certified { IfErr result (λ error. error ≡ OutOfMemory) }
+    ensures only_memory { IfErr result (λ error. error ≡ OutOfMemory) }
 {
-    let decision = decide(alloc, snapshot.loads(), snapshot.sizes(), pes)?;
-    certified(snapshot, pes, decision)
+    decide(alloc, snapshot.loads(), snapshot.sizes(), pes)
 }
 
-// This decision, if its check accepts it.
-fn certified<A: Allocator, B: Allocator>(
-    snapshot: &Snapshot<B>,
-    pes: u32,
-    decision: Decision<A>,
-) -> Result<Decision<A>, PlanError>
-    ensures same { IfOk result (λ d. d ≡ decision) }
-    ensures accepted { IfOk result (IsRight snapshot.now.loads snapshot.now.sizes pes) }
-    ensures refused { IfErr result (λ _. ¬ (IsRight snapshot.now.loads snapshot.now.sizes pes decision)) }
-{
-    if check(snapshot, pes, &decision).is_err() {
-        return Err(PlanError::Uncertified);
-    }
-    Ok(decision)
-}
-
-// The decision before its check.
+// The decision on these loads and sizes.
 #[tactic(auto, using(crate::proofs::RightDecisions::blocks_from_certified))]
 fn decide<A: Allocator + Copy, B: Allocator>(
     alloc: A,
@@ -72,7 +53,8 @@ fn decide<A: Allocator + Copy, B: Allocator>(
     requires few_pes { pes ≤ Limits.PES }
     ensures chosen { IfOk result (λ d. IsChosen loads.now pes d.division) }
     ensures right { IfOk result (IsRight loads.now sizes.now pes) }
-    ensures certified { IfErr result (λ error. error ≡ OutOfMemory) }
+    ensures places { IfOk result (λ d. (i : ℕ) → i < length sizes.now → HasPlace d.division.cuts d.naming i) }
+    ensures only_memory { IfErr result (λ error. error ≡ OutOfMemory) }
 {
     let division = divide(alloc, loads, pes)?;
     let table = CostTable::of(alloc, sizes, &division.cuts)?;

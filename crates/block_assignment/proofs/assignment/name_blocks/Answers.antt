@@ -1,34 +1,31 @@
-use Rattle.std.proofs.Common.{◌≡◌, ◌<◌, ◌≤◌, ℕ, length, slice_index, arith, sym, ◌∙◌, subst, ap, pos, neg_ℤ}
-use Rattle.lb_certificates.specs.Naming.{IsNaming, Proves, naming_cost, price_at}
+use Rattle.std.proofs.Common.{◌≡◌, ◌<◌, ℕ, length, slice_index, arith, sym, ◌∙◌, ap, pos, neg_ℤ}
+use Rattle.lb_certificates.specs.Naming.{price_at}
 use Rattle.block_assignment.specs.Table.{Table, cost_at}
 use Rattle.block_assignment.specs.Search.{State, IsSized}
-use Rattle.std.proofs.lemmas.Bool.{both_ways}
 use Rattle.block_assignment.proofs.Trees.{written}
 use Rattle.block_assignment.proofs.Duality.{found, cheapest_from_prices}
 use Rattle.block_assignment.proofs.assignment.name_blocks.Goals as goal
 
-pub returns-then-not-certifies-clause-certified : goal.returns-then-not-certifies-clause-certified
-returns-then-not-certifies-clause-certified g c =
+pub returns-clause-proved : goal.returns-clause-proved
+returns-clause-proved g c =
     let s : State = c.loop.search in
     let table : s.table ≡ c.args.table.now = c.loop.invariant.table in
     let sized : IsSized s = c.loop.invariant.sized in
     let blocks : s.table.blocks ≡ c.blocks-blocks.result = omega (arith, ap (λ (t : Table). t.blocks) table, c.blocks-blocks.ensures.value) in
     let named : s.named ≡ s.table.blocks = omega (arith, blocks, c.loop.invariant.named, c.loop-test.false) in
-    let names : s.names ≡ c.deref-3.result.now = sym (c.deref-3.ensures.value ∙ c.into_parts-names.ensures.names) in
+    let names : s.names ≡ c.new-4.result = sym (c.new-4.ensures ∙ c.into_parts-names.ensures.names) in
     let paid : c.deref.result.now ≡ s.paid = c.deref.ensures.value ∙ c.into_parts-names.ensures.paid in
     let rebate : c.deref-2.result.now ≡ s.rebate = c.deref-2.ensures.value ∙ c.into_parts-names.ensures.rebate in
     let u_length : length c.write_paid.new.prices ≡ s.table.blocks = omega (arith, blocks, c.write_paid.auto.prices, c.deref_mut.ensures.len, c.in_ok-u.ensures.len) in
     let v_length : length c.write_rebates.new.prices ≡ s.table.blocks = omega (arith, blocks, c.write_rebates.auto.prices, c.deref_mut-2.ensures.len, c.in_ok-v.ensures.len) in
-    let u : c.write_paid.new.prices ≡ c.deref-4.result.now = sym (c.deref-4.ensures.value ∙ written _ _ _ (omega (arith, blocks, u_length, c.in_ok-u.ensures.len))) in
-    let v : c.write_rebates.new.prices ≡ c.deref-5.result.now = sym (c.deref-5.ensures.value ∙ written _ _ _ (omega (arith, blocks, v_length, c.in_ok-v.ensures.len))) in
+    let u : c.write_paid.new.prices ≡ c.new-2.result = sym (c.new-2.ensures ∙ written _ _ _ (omega (arith, blocks, u_length, c.in_ok-u.ensures.len))) in
+    let v : c.write_rebates.new.prices ≡ c.new-3.result = sym (c.new-3.ensures ∙ written _ _ _ (omega (arith, blocks, v_length, c.in_ok-v.ensures.len))) in
     let pays : (b : ℕ) → b < s.table.blocks → price_at c.write_paid.new.prices b ≡ pos (slice_index s.paid b) = λ b inside. (let h = rw paid at c.write_paid.ensures in h b (omega (arith, inside, sized.paid_length))) in
     let gives : (p : ℕ) → p < s.table.blocks → price_at c.write_rebates.new.prices p ≡ neg_ℤ (pos (slice_index s.rebate p)) = λ p inside. (let h = rw rebate at c.write_rebates.ensures in h p (omega (arith, inside, sized.rebate_length))) in
     let facts = found s c.write_paid.new.prices c.write_rebates.new.prices sized c.loop.invariant.matched named u_length v_length pays gives in
     let there = rw (table, names, u, v) at facts in
-    absurd (both_ways _ c.if-not-certifies.true (c.certifies.ensures.1 there))
+    there.1
 
 pub returns-clause-cheapest : goal.returns-clause-cheapest
-returns-clause-cheapest g c =
-    let both : IsNaming c.args.table.now.blocks c.deref-3.result.now × Proves c.args.table.now.blocks (cost_at c.args.table.now) (naming_cost c.args.table.now.blocks (cost_at c.args.table.now) c.deref-3.result.now) c.deref-4.result.now c.deref-5.result.now = c.certifies.ensures.0 c.if-not-certifies.false in
-    let names : c.deref-3.result.now ≡ c.new-4.result = c.deref-3.ensures.value ∙ sym c.new-4.ensures in
-    λ others naming. subst (λ xs. naming_cost c.args.table.now.blocks (cost_at c.args.table.now) xs ≤ naming_cost c.args.table.now.blocks (cost_at c.args.table.now) others) names (cheapest_from_prices c.args.table.now.blocks (cost_at c.args.table.now) _ c.deref-4.result.now c.deref-5.result.now others both.1 naming)
+returns-clause-cheapest g c = λ others naming.
+    cheapest_from_prices c.args.table.now.blocks (cost_at c.args.table.now) _ c.new-2.result c.new-3.result others (returns-clause-proved g c) naming

@@ -1,7 +1,7 @@
 use Rattle.std.proofs.Common.{rules}
 use Rattle.lb_certificates.specs.Certificate.{IsCertified}
 use Rattle.lb_certificates.specs.Naming.{AreBlocks}
-use Rattle.lb_strategy.proofs.RightDecisions.{blocks_from_certified, right_from_table}
+use Rattle.lb_strategy.proofs.RightDecisions.{blocks_from_certified, place_from_right, right_from_table}
 use Rattle.lb_strategy.proofs.planning.decide.Goals as goal
 
 pub returns-clause-right : goal.returns-clause-right
@@ -17,3 +17,7 @@ returns-clause-right g c =
       moves = c.in_ok-moves.moves;
     })
     c.in_ok-table.table division blocks c.in_ok-table.ensures c.in_ok-naming.ensures.naming c.in_ok-naming.ensures.proved (search rules) (search rules)
+
+pub returns-clause-places : goal.returns-clause-places
+returns-clause-places g c =
+    place_from_right c.args.loads.now c.args.sizes.now c.args.pes _ (returns-clause-right g c)
