@@ -1,8 +1,9 @@
 -- Who has finished: how many have not, and whether somebody has not.
-use Rattle.std.proofs.Common.{◌≡◌, ◌∙◌, ℕ, suc, zero, ◌+◌, ◌<◌, Bool, true, false, not, cond, List, [], ◌∷◌, length, get_or, set, refl, ap, sym, arith}
+use Rattle.std.proofs.Common.{◌≡◌, ◌∙◌, ℕ, suc, zero, ◌+◌, ◌<◌, Bool, true, false, not, cond, List, [], ◌∷◌, length, get_or, replicate, set, refl, ap, sym, arith}
 use Rattle.std.specs.Prelude.{All, IsTrue, count_by}
 use Rattle.std.proofs.lemmas.List.Sums.{sum_by-cons}
 use Rattle.std.proofs.lemmas.List.{set-get_or}
+use Rattle.std.proofs.lemmas.List.Folds.{sum_by-replicate}
 
 -- how many have not finished, element by element
 count_finished : (finished : List Bool) → count_by not (true ∷ finished) ≡ 0 + count_by not finished
@@ -31,3 +32,7 @@ all_finished (true ∷ finished) none (suc k) d inside =
 -- nothing changes where an element finishes again
 pub set_again : (finished : List Bool) (i : ℕ) (d : Bool) → get_or finished i d ≡ true → set finished i true ≡ finished
 set_again finished i d done = ap (set finished i) (sym done) ∙ set-get_or finished i d
+
+-- of elements that all run, all are counted
+pub count_all : (n : ℕ) → n ≡ count_by not (replicate n false)
+count_all n = omega (arith, sum_by-replicate (λ b. cond (not b) 1 0) n false)

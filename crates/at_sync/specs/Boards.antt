@@ -7,7 +7,7 @@ use Rattle.std.specs.Option.{option_map}
 use Rattle.chare_index.specs.declared.limits.TheConstants.Limits.{PES, ROUND}
 use Rattle.chain_partition.specs.Chosen.{IsChosen}
 use Rattle.lb_certificates.specs.Chain.{IsLeastDivision}
-use Rattle.lb_certificates.specs.Measured.{Taken, IsTaken}
+use Rattle.lb_certificates.specs.Measured.{Taken}
 use Rattle.lb_certificates.specs.Naming.{IsCheapest}
 use Rattle.lb_database.specs.Measuring.{Measured, IsComplete, IsSnapshotOf, StandBelow, elements, opening, with_charge, with_report}
 use Rattle.lb_strategy.specs.Decisions.{IsRight}
@@ -60,7 +60,6 @@ pub record IsDecided {A : Type 0} (n pes r : ℕ) (kept : Kept A) : Type 0 where
   pub at_step : kept.0.step ≡ r
   pub on_pes : kept.0.procs ≡ pes
   pub of_all : length kept.0.loads ≡ n
-  pub taken : IsTaken pes kept.0.loads kept.0.sizes
   pub right : IsRight kept.0.loads kept.0.sizes pes kept.1
   pub chosen : IsChosen kept.0.loads pes kept.1.division
   pub least : IsLeastDivision kept.0.loads pes kept.1.division.bottleneck kept.1.division.cuts

@@ -1,10 +1,10 @@
 //! The board, after AtSync of Charm++: nobody is decided on until everybody waits.
 
-ghost use Rattle.std.specs.Prelude.{◌≡◌, ℕ, ◌+◌, ◌++◌, ◌∷◌, [], ◌<◌, ◌≤◌, ◌↔◌, IfOk, IfErr, IfSome, IsTrue, MatchResult, OnOk, OnErr, slice_get};
+ghost use Rattle.std.specs.Prelude.{◌≡◌, ℕ, ◌+◌, ◌++◌, ◌∷◌, [], ◌<◌, ◌≤◌, ◌↔◌, IfOk, IfErr, IfSome, IsTrue, false, MatchResult, OnOk, OnErr, replicate, slice_get};
 ghost use Rattle.std.specs.Option.{option_copied};
-ghost use Rattle.lb_database.specs.Measuring.{IsComplete, IsMeasured, IsSnapshotOf, elements};
+ghost use Rattle.lb_database.specs.Measuring.{IsComplete, IsMeasured, IsSnapshotOf, StandBelow, elements};
 ghost use Rattle.lb_database.specs.Refusals.{HasNextRound, IsReport, RefusesReport};
-ghost use Rattle.at_sync.specs.Boards.{AreDecided, Decides, IsDecided, HaveFinished, IsBoard, IsKeptIn, after_finish, after_report, decision_of, new_board};
+ghost use Rattle.at_sync.specs.Boards.{AreDecided, Decides, IsDecided, HaveFinished, IsBoard, IsKeptIn, after_finish, after_report, decision_of, kept_of, new_board};
 ghost use Rattle.at_sync.specs.Refusals.{RefusesDecision, RefusesFinish, database_error_of};
 
 use crate::error::BoardError;
@@ -61,15 +61,16 @@ impl<A: Allocator> Board<A> {
         ensures made { IfOk result (λ board. board ≡ new_board n pes) }
         ensures refused { OnErr result (0 < n) }
     {
-        let database = LoadDb::new(alloc, n).map_err(|_| AllocError)?;
-        let mut finished = Vec::with_capacity(alloc, n as usize)?;
-        finished.resize(n as usize, false)?;
+        let Ok(database) = LoadDb::new(alloc, n) else {
+            return Err(AllocError);
+        };
+        let n = n as usize;
         Ok(Board {
             pes,
             database,
             rounds: Vec::new(alloc),
-            finished,
-            running: n as usize,
+            finished: all_running(alloc, n)?,
+            running: n,
         })
     }
 
@@ -116,51 +117,27 @@ impl<A: Allocator> Board<A> {
     /// The first that applies: [`Incomplete`](BoardError::Incomplete) where an element has not reported,
     /// [`Worn`](BoardError::Worn) in round [`Limits::ROUND`], which is never decided, and
     /// [`OutOfMemory`](BoardError::OutOfMemory).
-    #[tactic(auto, using(crate::proofs::Unrefused::begun, crate::proofs::Rounds::decided_more))]
     pub fn decide(&mut self) -> Result<Round, BoardError>
     where
         A: Copy,
-        ensures told { IfErr result (RefusesDecision self.old) }
+        ensures told { IfErr result (RefusesDecision self.old.database) }
         ensures round { IfOk result (λ round. round ≡ self.old.database.round) }
         ensures ok { OnOk result (Decides self.old self.new) }
         ensures err { OnErr result (self.new ≡ self.old) }
     {
-        let kept = self.planned()?;
+        let kept = planned(*self.rounds.allocator(), &self.database, self.pes)?;
         let round = self.database.round();
         keep(&mut self.rounds, kept)?;
         self.database.next_round().unwrap();
         Ok(round)
     }
 
-    // What is to be kept of the present round.
-    fn planned(&self) -> Result<(Snapshot<A>, Decision<A>), BoardError>
-    where
-        A: Copy,
-        ensures told { MatchResult result (λ _. HasNextRound self.now.database) (RefusesDecision self.now) }
-        ensures reported { IfOk result (λ kept. IsSnapshotOf self.now.database self.now.database.round self.now.pes kept.0) }
-        ensures decided { IfOk result (IsDecided (elements self.now.database) self.now.pes self.now.database.round) }
-    {
-        if !self.database.is_complete() {
-            return Err(BoardError::Incomplete);
-        }
-        let round = self.database.round();
-        if round.get() == Limits::ROUND {
-            return Err(BoardError::Worn);
-        }
-        let alloc = *self.rounds.allocator();
-        let snapshot = self.database.snapshot(round.get(), self.pes)?;
-        let decision = plan(alloc, &snapshot, self.pes)?;
-        Ok((snapshot, decision))
-    }
-
     /// The decision of a round, in constant time, or `None` where the round is not decided.
-    #[tactic(auto, using(crate::proofs::Rounds::kept_at))]
     pub fn decision_for(&self, round: Round) -> Option<&Decision<A>>
         ensures value { option_copied result ≡ decision_of self.now round }
         ensures right { IfSome result (λ decision. IsKeptIn self.now round decision.now) }
     {
-        let behind = round.get().checked_sub(1)?;
-        let (_, decision) = self.rounds.get(behind as usize)?;
+        let (_, decision) = kept_for(self.rounds(), round.get())?;
         Some(decision)
     }
 
@@ -168,7 +145,7 @@ impl<A: Allocator> Board<A> {
     /// [`Stranger`](BoardError::Stranger).
     #[tactic(auto, using(crate::proofs::Finished::set_again))]
     pub fn finish(&mut self, i: u32) -> Result<(), BoardError>
-        ensures told { MatchResult result (λ _. i < elements self.old.database) (RefusesFinish self.old i) }
+        ensures told { MatchResult result (λ _. i < elements self.old.database) (RefusesFinish self.old.database i) }
         ensures ok { OnOk result (self.new ≡ after_finish self.old i) }
         ensures err { OnErr result (self.new ≡ self.old) }
     {
@@ -252,6 +229,41 @@ impl<A: Allocator> Board<A> {
     }
 }
 
+// The list that says of `n` elements that none has finished.
+fn all_running<A: Allocator>(alloc: A, n: usize) -> Result<Vec<bool, A>, AllocError>
+    ensures items { IfOk result (λ finished. finished.items ≡ replicate n false) }
+    ensures refused { OnErr result (0 < n) }
+{
+    let mut finished = Vec::with_capacity(alloc, n)?;
+    finished.resize(n, false)?;
+    Ok(finished)
+}
+
+// What is to be kept of the round that was measured.
+fn planned<A: Allocator + Copy>(
+    alloc: A,
+    database: &LoadDb<A>,
+    pes: u32,
+) -> Result<(Snapshot<A>, Decision<A>), BoardError>
+    requires some_pe { 0 < pes }
+    requires few_pes { pes ≤ Limits.PES }
+    requires placed { StandBelow pes database.now }
+    ensures told { MatchResult result (λ _. HasNextRound database.now) (RefusesDecision database.now) }
+    ensures reported { IfOk result (λ kept. IsSnapshotOf database.now database.now.round pes kept.0) }
+    ensures decided { IfOk result (IsDecided (elements database.now) pes database.now.round) }
+{
+    if !database.is_complete() {
+        return Err(BoardError::Incomplete);
+    }
+    let round = database.round().get();
+    if round == Limits::ROUND {
+        return Err(BoardError::Worn);
+    }
+    let snapshot = database.snapshot(round, pes)?;
+    let decision = plan(alloc, &snapshot, pes)?;
+    Ok((snapshot, decision))
+}
+
 // Adds what is to be kept of one more round.
 fn keep<A: Allocator>(
     rounds: &mut Vec<(Snapshot<A>, Decision<A>), A>,
@@ -262,4 +274,17 @@ fn keep<A: Allocator>(
 {
     rounds.push(kept)?;
     Ok(())
+}
+
+// What is kept of a round.
+fn kept_for<A: Allocator>(
+    rounds: &[(Snapshot<A>, Decision<A>)],
+    round: u32,
+) -> Option<&(Snapshot<A>, Decision<A>)>
+    ensures { option_copied result ≡ kept_of rounds.now round }
+{
+    if round == 0 {
+        return None;
+    }
+    rounds.get(round as usize - 1)
 }
