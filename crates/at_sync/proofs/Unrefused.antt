@@ -1,5 +1,5 @@
 -- Calls of a board's database that are never refused.
-use Rattle.std.proofs.Common.{◌≡◌, ℕ, ◌<◌, ◌≤◌, Result, Ok, Err, IsOk, MatchResult, refl, arith}
+use Rattle.std.proofs.Common.{ℕ, ◌<◌, Result, Ok, Err, IsOk, MatchResult, refl, arith}
 use Rattle.lb_database.specs.Measuring.{Measured, elements}
 use Rattle.lb_database.specs.Refusals.{RefusesCharge, HasNextRound, RefusesNextRound}
 use Rattle.lb_database.specs.declared.error.DbError.{DbError}

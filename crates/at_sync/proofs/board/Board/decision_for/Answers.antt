@@ -1,4 +1,4 @@
-use Rattle.std.proofs.Common.{◌≡◌, ◌∙◌, ap, Some}
+use Rattle.std.proofs.Common.{◌≡◌, ap, Some}
 use Rattle.std.specs.Option.{option_map}
 use Rattle.at_sync.specs.Boards.{kept_of}
 use Rattle.at_sync.proofs.Rounds.{kept_in}
