@@ -27,21 +27,21 @@ impl<A: Allocator> Model for Moves<A> {
 impl<A: Allocator> Moves<A> {
     /// These moves.
     pub fn new(moves: Vec<(Index, Pe, Pe), A>) -> Self
-        ensures { result ≡ moves.items }
+        ensures value { result ≡ moves.items }
     {
         Moves { moves }
     }
 
     /// The moves, in order.
     pub fn as_slice(&self) -> &[(Index, Pe, Pe)]
-        ensures { result.now ≡ self.now }
+        ensures value { result.now ≡ self.now }
     {
         self.moves.as_slice()
     }
 
     /// Gives the list back.
     pub fn into_vec(self) -> Vec<(Index, Pe, Pe), A>
-        ensures { result.items ≡ self }
+        ensures value { result.items ≡ self }
     {
         let Moves { moves } = self;
         moves
@@ -75,7 +75,7 @@ fn push_move<A: Allocator>(
 
 // The block of an element, looked for from a block on that it does not stand before.
 #[tactic(auto, using(lb_certificates::proofs::BlockSums::block_of_is))]
-pub(crate) fn block_from(cuts: &[u32], from: usize, i: u32) -> usize
+fn block_from(cuts: &[u32], from: usize, i: u32) -> usize
     requires divides { IsDivision 0 (slice_index cuts.now (blocks_between cuts.now)) (blocks_between cuts.now) cuts.now }
     requires from { from < blocks_between cuts.now }
     requires not_before { slice_index cuts.now from ≤ i }
