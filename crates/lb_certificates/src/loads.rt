@@ -60,7 +60,7 @@ impl<A: Allocator> Loads<A> {
         self.units.is_empty()
     }
 
-    /// The load of the elements from `first` to `end`, less one: at most 281,474,976,645,120 work units.
+    /// The load of the elements `first..end`: at most 281,474,976,645,120 work units.
     pub fn load(&self, first: usize, end: usize) -> u64
         requires ordered { first ≤ end }
         requires within { end ≤ length self.now }

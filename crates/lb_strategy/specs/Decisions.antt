@@ -21,7 +21,7 @@ abbrev pub IsNamedRight : {A : Type 0} → List (ℕ × ℕ) → Decision A → 
 IsNamedRight sizes d = IsNamed sizes d.division.cuts d.naming d.prices.u d.prices.v
 
 -- Every part of the decision is right for these loads and sizes and so many blocks: its division is certified, its
--- prices prove its naming, and it tells the bytes that this naming moves, and the moves.
+-- prices prove its naming, and it states the bytes that this naming moves, and the moves.
 pub record IsRight {A : Type 0} (loads : List ℕ) (sizes : List (ℕ × ℕ)) (blocks : ℕ) (d : Decision A) : Type 0 where
   pub division : IsCertified loads blocks d.division
   pub named : IsNamedRight sizes d

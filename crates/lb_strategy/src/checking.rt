@@ -11,10 +11,10 @@ use std::alloc::Allocator;
 
 /// Checks a decision for `pes` PEs on this snapshot, whoever made it. `Ok` means that no division of the elements
 /// into `pes` consecutive blocks has a lighter heaviest block, that no naming of the blocks moves fewer bytes, and
-/// that the decision tells these bytes and the moves; so [`place_of`](Decision::place_of) may be asked of each
+/// that the decision states these bytes and the moves; so [`place_of`](Decision::place_of) may be asked of each
 /// element.
 ///
-/// Any number of PEs and any lists may come. No memory is taken.
+/// Any number of PEs and any lists may be passed. No memory is taken.
 ///
 /// # Errors
 ///

@@ -114,7 +114,7 @@ fn place_behind(
 ///
 /// # Errors
 ///
-/// Want of memory, where a growth of the list was refused.
+/// Out of memory, where a growth of the list was refused.
 #[tactic(auto, using(crate::proofs::MoveLists::moves_more))]
 pub(crate) fn moves_of<A: Allocator>(
     alloc: A,
