@@ -1,6 +1,4 @@
-use Rattle.std.proofs.Common.{◌≡◌, ◌+◌}
 use Rattle.std.proofs.lemmas.Result.{err_from_is_err_and}
-use Rattle.lb_database.specs.Measuring.{elements, opening}
 use Rattle.at_sync.proofs.Rounds.{board_after, decides_from}
 use Rattle.at_sync.proofs.board.Board.decide.Goals as goal
 
