@@ -1,5 +1,5 @@
 -- What is kept of rounds.
-use Rattle.std.proofs.Common.{◌≡◌, ◌∙◌, ℕ, suc, zero, ◌+◌, ◌<◌, ◌≤◌, List, [], ◌∷◌, ◌++◌, length, slice_index, replicate, Option, None, Some, ap, sym, subst, refl, false, arith, length-append}
+use Rattle.std.proofs.Common.{◌≡◌, ◌≢◌, ◌∙◌, ℕ, suc, zero, ◌+◌, ◌-◌, ◌<◌, ◌≤◌, List, [], ◌∷◌, ◌++◌, length, slice_index, replicate, Option, None, Some, ap, sym, subst, refl, false, arith, length-append}
 use Rattle.std.specs.Prelude.{IfSome, slice_get}
 use denote.Ref.{Bor}
 use Rattle.std.specs.Option.{option_copied}
@@ -102,16 +102,21 @@ decides_from b kept next reported decided = record {
 }
 
 -- what `get` lends is the item at that place, if there is one
-pub lent_at : {X : Type 0} (items : List X) (i : ℕ) (lent : Option (Bor X)) → IsItemAt items i lent → option_copied lent ≡ slice_get items i
+lent_at : {X : Type 0} (items : List X) (i : ℕ) (lent : Option (Bor X)) → IsItemAt items i lent → option_copied lent ≡ slice_get items i
 lent_at items i None found = sym (slice_get_past items i found.3)
 lent_at items i (Some item) found =
     let inside : i < length items = found.3.0 in
     sym (slice_get_read items (length items) i item.now refl inside found.1)
 
 -- what is kept of a round stands as many places from the front as there are rounds before it
-pub kept_at : {A : Type 0} (rounds : List (Kept A)) (r k : ℕ) → r ≡ k + 1 → kept_of rounds r ≡ slice_get rounds k
+kept_at : {A : Type 0} (rounds : List (Kept A)) (r k : ℕ) → r ≡ k + 1 → kept_of rounds r ≡ slice_get rounds k
 kept_at rounds zero k next = absurd (omega (arith, next))
 kept_at rounds (suc r) k next = let same : r ≡ k = omega (arith, next) in ap (slice_get rounds) same
+
+-- what `get` lends at that place is what is kept of the round
+pub found_in : {A : Type 0} (rounds : List (Kept A)) (r : ℕ) (lent : Option (Bor (Kept A))) → r ≢ 0 → IsItemAt rounds (r - 1) lent → option_copied lent ≡ kept_of rounds r
+found_in rounds r lent later found =
+    lent_at rounds (r - 1) lent found ∙ sym (kept_at rounds r (r - 1) (omega arith))
 
 -- what is found of a round on a board is best
 pub kept_in : {A : Type 0} (b : BoardState A) (r : ℕ) (kept : Kept A) → IsBoard b → Some kept ≡ kept_of b.rounds r → IsKeptIn b r kept.1

@@ -2,7 +2,7 @@
 
 ghost use Rattle.std.specs.Prelude.{◌≡◌, ℕ, ◌+◌, ◌++◌, ◌∷◌, [], ◌<◌, ◌≤◌, ◌↔◌, IfOk, IfErr, IfSome, IsTrue, false, MatchResult, OnOk, OnErr, replicate, slice_get};
 ghost use Rattle.std.specs.Option.{option_copied};
-ghost use Rattle.lb_database.specs.Measuring.{IsComplete, IsMeasured, IsSnapshotOf, StandBelow, elements};
+ghost use Rattle.lb_database.specs.Measuring.{IsComplete, IsMeasured, IsSnapshotOf, StandBelow, elements, opening};
 ghost use Rattle.lb_database.specs.Refusals.{HasNextRound, IsReport, RefusesReport};
 ghost use Rattle.at_sync.specs.Boards.{AreDecided, Decides, IsDecided, HaveFinished, IsBoard, IsKeptIn, after_finish, after_report, decision_of, kept_of, new_board};
 ghost use Rattle.at_sync.specs.Refusals.{RefusesDecision, RefusesFinish, database_error_of};
@@ -51,7 +51,7 @@ impl<A: Allocator> Model for Board<A> {
 
 impl<A: Allocator> Board<A> {
     /// A board for `n` elements on `pes` PEs, in round 1: nothing is reported or decided, and nobody has finished.
-    /// Memory is wanted only where there is an element.
+    /// It runs out of memory only where there is an element.
     pub fn new(alloc: A, n: u32, pes: u32) -> Result<Self, AllocError>
     where
         A: Copy,
@@ -127,15 +127,14 @@ impl<A: Allocator> Board<A> {
     {
         let kept = planned(*self.rounds.allocator(), &self.database, self.pes)?;
         let round = self.database.round();
-        keep(&mut self.rounds, kept)?;
-        self.database.next_round().unwrap();
+        keep(&mut self.database, &mut self.rounds, kept)?;
         Ok(round)
     }
 
     /// The decision of a round, in constant time, or `None` where the round is not decided.
     pub fn decision_for(&self, round: Round) -> Option<&Decision<A>>
         ensures value { option_copied result ≡ decision_of self.now round }
-        ensures right { IfSome result (λ decision. IsKeptIn self.now round decision.now) }
+        ensures decided { IfSome result (λ decision. IsKeptIn self.now round decision.now) }
     {
         let (_, decision) = kept_for(self.rounds(), round.get())?;
         Some(decision)
@@ -216,7 +215,7 @@ impl<A: Allocator> Board<A> {
     /// The snapshot and the decision of each round that was decided, from round 1 on.
     pub fn into_rounds(self) -> Vec<(Snapshot<A>, Decision<A>), A>
         ensures value { result.items ≡ self.rounds }
-        ensures right { AreDecided (elements self.database) self.pes self.rounds }
+        ensures decided { AreDecided (elements self.database) self.pes self.rounds }
     {
         let Board {
             pes: _,
@@ -264,15 +263,21 @@ fn planned<A: Allocator + Copy>(
     Ok((snapshot, decision))
 }
 
-// Adds what is to be kept of one more round.
+// Adds what is to be kept of the round that was measured, and then begins the next one.
+#[tactic(auto, using(crate::proofs::Unrefused::begun))]
 fn keep<A: Allocator>(
+    database: &mut LoadDb<A>,
     rounds: &mut Vec<(Snapshot<A>, Decision<A>), A>,
     kept: (Snapshot<A>, Decision<A>),
 ) -> Result<(), AllocError>
-    ensures ok { OnOk result (rounds.new.items ≡ rounds.old.items ++ kept ∷ []) }
-    ensures err { OnErr result (rounds.new.items ≡ rounds.old.items) }
+    requires { HasNextRound database.old }
+    ensures added { OnOk result (rounds.new.items ≡ rounds.old.items ++ kept ∷ []) }
+    ensures begun { OnOk result (database.new ≡ opening (database.old.round + 1) (elements database.old)) }
+    ensures same_rounds { OnErr result (rounds.new.items ≡ rounds.old.items) }
+    ensures same_database { OnErr result (database.new ≡ database.old) }
 {
     rounds.push(kept)?;
+    database.next_round().unwrap();
     Ok(())
 }
 

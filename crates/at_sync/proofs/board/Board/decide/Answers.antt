@@ -1,8 +1,5 @@
-use Rattle.std.proofs.Common.{◌≡◌, ◌+◌}
 use Rattle.std.proofs.lemmas.Result.{err_from_is_err_and}
-use Rattle.lb_database.specs.Measuring.{elements, opening}
 use Rattle.at_sync.proofs.Rounds.{board_after, decides_from}
-use Rattle.at_sync.proofs.Unrefused.{begun}
 use Rattle.at_sync.proofs.board.Board.decide.Goals as goal
 
 pub returns-in_err-kept-clause-told : goal.returns-in_err-kept-clause-told
@@ -15,14 +12,9 @@ returns-in_err-keep-clause-told g c =
     let p = err_from_is_err_and c.from_residual-in_err-keep.result c.from_residual-in_err-keep.ensures.1 in
     rw (p.1, p.2, ← c.self.view_is) c.in_ok-kept.ensures.told
 
-pub unwrap-requires : goal.unwrap-requires
-unwrap-requires g c =
-    begun c.self.inside.database c.next_round.result c.next_round.ensures.told c.in_ok-kept.ensures.told
-
 pub invariant_of-self-2 : goal.invariant_of-self-2
 invariant_of-self-2 g c =
-    let next : c.next_round.new.self ≡ opening (c.self.inside.database.round + 1) (elements c.self.inside.database) = rw c.unwrap.ensures at c.next_round.ensures.ok in
-    rw (next, c.in_ok-keep.ensures.ok) (
+    rw (c.in_ok-keep.ensures.begun, c.in_ok-keep.ensures.added) (
       board_after
           (record {
             pes = c.self.inside.pes;
@@ -36,8 +28,7 @@ invariant_of-self-2 g c =
 
 pub returns-clause-ok : goal.returns-clause-ok
 returns-clause-ok g c =
-    let next : c.next_round.new.self ≡ opening (c.self.inside.database.round + 1) (elements c.self.inside.database) = rw c.unwrap.ensures at c.next_round.ensures.ok in
-    rw (next, c.in_ok-keep.ensures.ok, ← c.self.view_is)
+    rw (c.in_ok-keep.ensures.begun, c.in_ok-keep.ensures.added, ← c.self.view_is)
     (decides_from
     (record {
       pes = c.self.inside.pes;

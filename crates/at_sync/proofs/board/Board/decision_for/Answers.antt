@@ -9,7 +9,7 @@ returns-clause-value g c =
     let found : Some c.in_ok-decision.field-0.now ≡ kept_of c.args.self.now.rounds c.args.round = rw (← c.get.ensures.value, ← c.rounds.ensures.value) c.in_ok-decision.ensures in
     ap (option_map (λ kept. kept.1)) found
 
-pub returns-clause-right : goal.returns-clause-right
-returns-clause-right g c =
+pub returns-clause-decided : goal.returns-clause-decided
+returns-clause-decided g c =
     let found : Some c.in_ok-decision.field-0.now ≡ kept_of c.args.self.now.rounds c.args.round = rw (← c.get.ensures.value, ← c.rounds.ensures.value) c.in_ok-decision.ensures in
     kept_in c.args.self.now c.args.round c.in_ok-decision.field-0.now c.rounds.ensures.consistent found
