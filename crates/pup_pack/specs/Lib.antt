@@ -1,0 +1,4 @@
+pub mod Packing
+pub mod Numbers
+pub mod Pairs
+pub mod Lists
