@@ -1,5 +1,5 @@
 -- Lists: how many items in four bytes, then the items one after another.
-use Rattle.std.specs.Prelude.{◌≡◌, ℕ, zero, suc, ◌+◌, ◌<◌, ◌≤◌, ◌^◌, List, [], ◌∷◌, ◌++◌, length, take, drop, flat_map, All, Result, Ok, Err, nat_lt, cond}
+use Rattle.std.specs.Prelude.{ℕ, zero, suc, ◌+◌, ◌≤◌, List, [], ◌∷◌, ◌++◌, length, take, drop, flat_map, Result, Ok, Err, nat_lt, cond}
 use Rattle.std.specs.Int.{w32, to_be_bytes}
 use Rattle.chare_index.specs.declared.limits.TheConstants.Limits.{STATE_BYTES}
 use Rattle.pup_pack.specs.declared.error.PupError.{PupError}
@@ -9,6 +9,10 @@ use Rattle.pup_pack.specs.Numbers.{unpack_u32}
 
 abbrev pub pack_list : {T : Type 0} → (T → List ℕ) → List T → List ℕ
 pack_list pack xs = to_be_bytes w32 (length xs) ++ flat_map pack xs
+
+-- no list has more items than a pack may have bytes
+abbrev pub IsCounted : {T : Type 0} → List T → Type 0
+IsCounted xs = length xs ≤ STATE_BYTES
 
 -- a count that is whole and within the limit
 abbrev pub unpack_count : List ℕ → Result ℕ PupError

@@ -4,11 +4,18 @@
 //! - [`PupError`]: why a value is not packed, or bytes are not unpacked.
 #![tactic(auto)]
 
+mod bytes;
 mod error;
+mod fields;
+mod items;
+mod lists;
 mod measure;
 mod numbers;
 mod pair;
 mod pup;
 
+pub use bytes::Bytes;
 pub use error::PupError;
+pub use fields::Fields;
+pub use items::Items;
 pub use pup::Pup;

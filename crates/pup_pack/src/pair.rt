@@ -1,7 +1,7 @@
 //! Pairs: the first part, then the second.
 
 use crate::error::PupError;
-use crate::measure::both_len;
+use crate::fields::Fields;
 use crate::pup::Pup;
 use chare_index::Limits;
 use std::alloc::Allocator;
@@ -21,22 +21,11 @@ impl<A: Allocator + Copy, X: Pup<A> + Drop, Y: Pup<A> + Drop> Pup<A> for (X, Y) 
     ghost round_trip = { λ s rest fit c few. pair_round_trip X.pack Y.pack X.unpack Y.unpack s.0 s.1 rest (λ r. X.round_trip s.0 r fit.0 c.0 (le_first _ _ few)) (λ r. Y.round_trip s.1 r fit.1 c.1 (le_second _ _ few)) few };
 
     fn packed_len(&self) -> u32 {
-        both_len(self.0.packed_len(), self.1.packed_len())
+        (&self.0, &self.1).fields_len()
     }
 
     fn pack_into(&self, out: &mut Vec<u8, A>) -> Result<(), PupError> {
-        let before = out.len();
-        let len = self.packed_len();
-        if len > Limits::STATE_BYTES {
-            return Err(PupError::TooLong);
-        }
-        out.reserve(len as usize)?;
-        self.0.pack_into(out)?;
-        if let Err(refusal) = self.1.pack_into(out) {
-            out.truncate(before);
-            return Err(refusal);
-        }
-        Ok(())
+        (&self.0, &self.1).pack_fields(out)
     }
 
     fn unpack(alloc: A, bytes: &[u8]) -> Result<((X, Y), usize), PupError> {
