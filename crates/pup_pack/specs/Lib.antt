@@ -3,3 +3,5 @@ pub mod Numbers
 pub mod Pairs
 pub mod Lists
 pub mod ListTrips
+pub mod Structs
+pub mod Trips

@@ -9,18 +9,15 @@ use Rattle.std.proofs.Math.Seq.{drop-append_seam, take-append_seam}
 use Rattle.chare_index.specs.declared.limits.TheConstants.Limits.{STATE_BYTES}
 use Rattle.pup_pack.specs.declared.error.PupError.{PupError}
 use Rattle.pup_pack.specs.Pairs.{within-few, le_first, le_second}
+use Rattle.pup_pack.specs.Packing.{within, RoundTrip}
 use Rattle.pup_pack.specs.Lists.{pack_list, unpack_count, unpack_items, unpack_list, pack_bytes, unpack_front, unpack_bytes, IsCounted}
-
--- the law of an item
-abbrev pub RoundTrip : {T : Type 0} → (T → Type 0) → (T → Type 0) → (T → List ℕ) → (List ℕ → Result (T × ℕ) PupError) → Type 0
-RoundTrip {T} fits counted pack item = (x : T) (rest : List ℕ) → fits x → counted x → length (pack x) ≤ STATE_BYTES → item (pack x ++ rest) ≡ Ok (x, length (pack x))
 
 pub items_round_trip : {T : Type 0} (fits counted : T → Type 0) (pack : T → List ℕ) (item : List ℕ → Result (T × ℕ) PupError) → RoundTrip fits counted pack item
     → (xs : List T) (rest : List ℕ) → All fits xs → All counted xs → length (flat_map pack xs) ≤ STATE_BYTES
     → unpack_items item (length xs) (flat_map pack xs ++ rest) ≡ Ok (xs, length (flat_map pack xs))
 items_round_trip fits counted pack item law [] rest f c few = refl
 items_round_trip fits counted pack item law (x ∷ xs) rest f c few =
-    rw append_assoc (rw (law x (flat_map pack xs ++ rest) (All-head fits x xs f) (All-head counted x xs c) (le_first (pack x) (flat_map pack xs) few), drop-append_seam (pack x) (flat_map pack xs ++ rest), items_round_trip fits counted pack item law xs rest (All-tail fits x xs f) (All-tail counted x xs c) (le_second (pack x) (flat_map pack xs) few), length-append (pack x) (flat_map pack xs)) refl)
+    rw append_assoc (rw (law.trip x (flat_map pack xs ++ rest) (All-head fits x xs f) (All-head counted x xs c) (le_first (pack x) (flat_map pack xs) few), drop-append_seam (pack x) (flat_map pack xs ++ rest), items_round_trip fits counted pack item law xs rest (All-tail fits x xs f) (All-tail counted x xs c) (le_second (pack x) (flat_map pack xs) few), length-append (pack x) (flat_map pack xs)) refl)
 
 pub count_round_trip : (n : ℕ) (rest : List ℕ) → n ≤ STATE_BYTES → unpack_count (to_be_bytes w32 n ++ rest) ≡ Ok n
 count_round_trip n rest few =

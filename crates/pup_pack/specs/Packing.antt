@@ -1,5 +1,5 @@
 -- What packing and unpacking answer.
-use Rattle.std.specs.Prelude.{◌≡◌, ℕ, ◌≤◌, Result, Ok, Err, ⊤, nat_lt, cond}
+use Rattle.std.specs.Prelude.{◌≡◌, ℕ, ◌≤◌, List, ◌++◌, length, Result, Ok, Err, ⊤, nat_lt, cond}
 use Rattle.chare_index.specs.declared.limits.TheConstants.Limits.{STATE_BYTES}
 use Rattle.pup_pack.specs.declared.error.PupError.{PupError}
 use Rattle.pup_pack.specs.declared.error.PupError.TheVariants.{Short, Bad, TooLong, OutOfMemory}
@@ -29,3 +29,13 @@ and_then (Err e) next = Err e
 -- a value of n bytes, which is refused where the bytes are too many
 abbrev pub within : {T : Type 0} → T → ℕ → Result (T × ℕ) PupError
 within x n = cond (nat_lt STATE_BYTES n) (Err TooLong) (Ok (x, n))
+
+-- a value that packs is unpacked from its pack, whatever bytes follow
+pub record RoundTrip {T : Type 0} (fits counted : T → Type 0) (pack : T → List ℕ) (unpack : List ℕ → Result (T × ℕ) PupError) : Type 0 where
+  pub trip : (x : T) (rest : List ℕ) → fits x → counted x → length (pack x) ≤ STATE_BYTES → unpack (pack x ++ rest) ≡ Ok (x, length (pack x))
+
+-- the law as a trait has it
+abbrev pub trips_by : {T : Type 0} (fits counted : T → Type 0) (pack : T → List ℕ) (unpack : List ℕ → Result (T × ℕ) PupError)
+    → ((x : T) (rest : List ℕ) → fits x → counted x → length (pack x) ≤ STATE_BYTES → unpack (pack x ++ rest) ≡ Ok (x, length (pack x)))
+    → RoundTrip fits counted pack unpack
+trips_by fits counted pack unpack law = record { trip = law }

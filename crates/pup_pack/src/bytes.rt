@@ -47,7 +47,7 @@ impl<A: Allocator> Bytes<A> {
 
 impl<A: Allocator> Pup<A> for Bytes<A> {
     ghost use Rattle.pup_pack.specs.Lists.{IsCounted, pack_bytes, unpack_bytes};
-    ghost use Rattle.pup_pack.specs.ListTrips.{bytes_round_trip};
+    ghost use Rattle.pup_pack.specs.Trips.{bytes_trips};
 
     ghost fits = { λ _. Unit {0} };
 
@@ -57,7 +57,7 @@ impl<A: Allocator> Pup<A> for Bytes<A> {
 
     ghost unpack = { unpack_bytes };
 
-    ghost round_trip = { λ bytes rest _ _ few. bytes_round_trip bytes rest few };
+    ghost round_trip = { bytes_trips.trip };
 
     fn packed_len(&self) -> u32 {
         let count = self.all.len();

@@ -57,7 +57,8 @@ impl<T, A: Allocator> Items<T, A> {
 impl<A: Allocator + Copy, T: Pup<A> + Drop> Pup<A> for Items<T, A> {
     ghost use Rattle.std.specs.Prelude.{All};
     ghost use Rattle.pup_pack.specs.Lists.{IsCounted, pack_list, unpack_list};
-    ghost use Rattle.pup_pack.specs.ListTrips.{list_round_trip};
+    ghost use Rattle.pup_pack.specs.Packing.{trips_by};
+    ghost use Rattle.pup_pack.specs.Trips.{list_trips};
 
     ghost fits = { All T.fits };
 
@@ -67,7 +68,7 @@ impl<A: Allocator + Copy, T: Pup<A> + Drop> Pup<A> for Items<T, A> {
 
     ghost unpack = { unpack_list T.unpack };
 
-    ghost round_trip = { λ xs rest fit counted few. list_round_trip T.fits T.counted T.pack T.unpack T.round_trip xs rest fit counted.1 counted.0 few };
+    ghost round_trip = { (list_trips (trips_by T.fits T.counted T.pack T.unpack T.round_trip)).trip };
 
     fn packed_len(&self) -> u32 {
         list_len(self.all.as_slice())

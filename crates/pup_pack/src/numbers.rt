@@ -9,7 +9,8 @@ use std::alloc::Allocator;
 impl<A: Allocator> Pup<A> for u32 {
     ghost use Rattle.std.specs.Prelude.{◌<◌, ◌^◌};
     ghost use Rattle.std.specs.Int.{w32, to_be_bytes};
-    ghost use Rattle.pup_pack.specs.Numbers.{unpack_u32, u32_round_trip};
+    ghost use Rattle.pup_pack.specs.Numbers.{unpack_u32};
+    ghost use Rattle.pup_pack.specs.Trips.{u32_trips};
 
     ghost fits = { λ n. n < 2 ^ 32 };
 
@@ -19,7 +20,7 @@ impl<A: Allocator> Pup<A> for u32 {
 
     ghost unpack = { unpack_u32 };
 
-    ghost round_trip = { λ n rest fit _ _. u32_round_trip n rest fit };
+    ghost round_trip = { u32_trips.trip };
 
     fn packed_len(&self) -> u32 {
         let _value = *self;
@@ -44,7 +45,8 @@ impl<A: Allocator> Pup<A> for u32 {
 impl<A: Allocator> Pup<A> for u64 {
     ghost use Rattle.std.specs.Prelude.{◌<◌, ◌^◌};
     ghost use Rattle.std.specs.Int.{w64, to_be_bytes};
-    ghost use Rattle.pup_pack.specs.Numbers.{unpack_u64, u64_round_trip};
+    ghost use Rattle.pup_pack.specs.Numbers.{unpack_u64};
+    ghost use Rattle.pup_pack.specs.Trips.{u64_trips};
 
     ghost fits = { λ n. n < 2 ^ 64 };
 
@@ -54,7 +56,7 @@ impl<A: Allocator> Pup<A> for u64 {
 
     ghost unpack = { unpack_u64 };
 
-    ghost round_trip = { λ n rest fit _ _. u64_round_trip n rest fit };
+    ghost round_trip = { u64_trips.trip };
 
     fn packed_len(&self) -> u32 {
         let _value = *self;

@@ -8,7 +8,9 @@ use std::alloc::Allocator;
 
 impl<A: Allocator + Copy, X: Pup<A> + Drop, Y: Pup<A> + Drop> Pup<A> for (X, Y) {
     ghost use Rattle.std.specs.Prelude.{◌++◌};
-    ghost use Rattle.pup_pack.specs.Pairs.{unpack_pair, pair_round_trip, le_first, le_second};
+    ghost use Rattle.pup_pack.specs.Pairs.{unpack_pair};
+    ghost use Rattle.pup_pack.specs.Packing.{trips_by};
+    ghost use Rattle.pup_pack.specs.Trips.{pair_trips};
 
     ghost fits = { λ s. X.fits s.0 × Y.fits s.1 };
 
@@ -18,7 +20,7 @@ impl<A: Allocator + Copy, X: Pup<A> + Drop, Y: Pup<A> + Drop> Pup<A> for (X, Y) 
 
     ghost unpack = { unpack_pair X.unpack Y.unpack };
 
-    ghost round_trip = { λ s rest fit c few. pair_round_trip X.pack Y.pack X.unpack Y.unpack s.0 s.1 rest (λ r. X.round_trip s.0 r fit.0 c.0 (le_first _ _ few)) (λ r. Y.round_trip s.1 r fit.1 c.1 (le_second _ _ few)) few };
+    ghost round_trip = { (pair_trips (trips_by X.fits X.counted X.pack X.unpack X.round_trip) (trips_by Y.fits Y.counted Y.pack Y.unpack Y.round_trip)).trip };
 
     fn packed_len(&self) -> u32 {
         (&self.0, &self.1).fields_len()
