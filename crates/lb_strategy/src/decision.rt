@@ -11,7 +11,8 @@ use std::alloc::{Allocator, Global};
 /// What a balancing step decides. It is plain data, under no condition: [`check`](crate::check) says whether every
 /// part of it is right.
 #[derive(Drop)]
-#[derive_where(Debug)]
+#[derive_where(Debug, PartialEq)]
+#[derive_where(Clone; A: Copy)]
 pub struct Decision<A: Allocator = Global> {
     /// The elements cut into consecutive blocks.
     pub division: Division<A>,

@@ -1,12 +1,14 @@
 ghost use Rattle.std.specs.Prelude.{◌≡◌, ◌≢◌, ℕ, List, ◌+◌, ◌-◌, ◌++◌, ◌<◌, ◌≤◌, [], ◌∷◌, length, take, slice_index, slice_index_or, IfOk, OnOk, OnErr, MatchBool, MatchOption};
+ghost use Rattle.std.specs.Cmp.{and_per, nat_eq_equiv, on_per, partial_equiv_from_equiv};
+ghost use Rattle.std.specs.Cmp.Lexicographic.{pointwise, lists_per};
 ghost use Rattle.std.specs.List.{filter};
 ghost use Rattle.std.specs.Option.{option_to_list};
 ghost use Rattle.lb_certificates.specs.Chain.{IsDivision};
 ghost use Rattle.lb_certificates.specs.Measured.{IsSizes};
 ghost use Rattle.lb_certificates.specs.Naming.{blocks_between, block_of, AreBlocks, IsNaming};
-ghost use Rattle.lb_strategy.specs.Moves.{is_move, moves_below, planned_pe};
+ghost use Rattle.lb_strategy.specs.Moves.{same_move, is_move, moves_below, planned_pe};
 
-use chare_index::{Index, Pe};
+use chare_index::{Index, Limits, Pe};
 use std::alloc::{AllocError, Allocator, Global};
 use std::marker::Model;
 
@@ -48,10 +50,29 @@ impl<A: Allocator> Moves<A> {
     }
 }
 
+impl<A: Allocator> PartialEq for Moves<A> {
+    ghost eq = { λ a b. pointwise same_move a b };
+
+    ghost laws = { lists_per (and_per (and_per (on_per (λ t. t.0) (partial_equiv_from_equiv nat_eq_equiv)) (on_per (λ t. t.1) (partial_equiv_from_equiv nat_eq_equiv))) (on_per (λ t. t.2) (partial_equiv_from_equiv nat_eq_equiv))) };
+
+    fn eq(&self, other: &Self) -> bool {
+        self.as_slice() == other.as_slice()
+    }
+}
+
+impl<A: Allocator + Copy> Clone for Moves<A> {
+    ghost is_clone = { λ v w. w ≡ v };
+
+    fn clone(&self) -> Result<Self, AllocError> {
+        let moves = Vec::from_slice(*self.moves.allocator(), self.as_slice())?;
+        Ok(Moves { moves })
+    }
+}
+
 // The move of an element, where it stands elsewhere than it is to run.
 fn move_of(i: u32, present: Pe, planned: u32) -> Option<(Index, Pe, Pe)>
-    requires index { i < 65536 }
-    requires pe { planned < 256 }
+    requires index { i < Limits.ELEMENTS }
+    requires pe { planned < Limits.PES }
     ensures { option_to_list result ≡ filter is_move ((i, present, planned) ∷ []) }
 {
     if present.get() == planned {
