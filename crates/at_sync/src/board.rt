@@ -204,7 +204,8 @@ impl<A: Allocator> Board<A> {
         &self.database
     }
 
-    /// The snapshot and the decision of each round that was decided, from round 1 on.
+    /// The snapshot and the decision of each round that was decided, from round 1 on. The clause `consistent` says
+    /// what holds of every board, for a caller that knows nothing else of this one.
     pub fn rounds(&self) -> &[(Snapshot<A>, Decision<A>)]
         ensures value { result.now ≡ self.now.rounds }
         ensures consistent { IsBoard self.now }
