@@ -4,4 +4,6 @@
 #![tactic(auto)]
 
 #[cfg(test)]
+mod packing;
+#[cfg(test)]
 mod tests;
