@@ -9,7 +9,7 @@ use Rattle.std.proofs.Math.Seq.{drop-append_seam, take-append_seam}
 use Rattle.chare_index.specs.declared.limits.TheConstants.Limits.{STATE_BYTES}
 use Rattle.pup_pack.specs.declared.error.PupError.{PupError}
 use Rattle.pup_pack.specs.Pairs.{within-few, le_first, le_second}
-use Rattle.pup_pack.specs.Packing.{within, RoundTrip}
+use Rattle.pup_pack.specs.Packing.{RoundTrip}
 use Rattle.pup_pack.specs.Lists.{pack_list, unpack_count, unpack_items, unpack_list, pack_bytes, unpack_first, unpack_bytes, IsCounted}
 
 pub items_round_trip : {T : Type 0} (fits counted : T → Type 0) (pack : T → List ℕ) (item : List ℕ → Result (T × ℕ) PupError) → RoundTrip fits counted pack item
