@@ -6,6 +6,8 @@
 #[cfg(test)]
 mod board;
 #[cfg(test)]
+mod packing;
+#[cfg(test)]
 mod refusing;
 #[cfg(test)]
 mod tests;
