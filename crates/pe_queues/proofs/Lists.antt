@@ -26,18 +26,18 @@ at_some [] k lt = absurd (omega arith)
 at_some (x ∷ xs) zero lt = (x, refl)
 at_some (x ∷ xs) (suc k) lt = at_some xs k (omega arith)
 
--- what a pop took from a beginning of a list
-pub record IsPopped {X : Type 0} (all others rest : List X) (x : X) : Type 0 where
-  pub long : length others ≡ suc (length rest)
-  pub at : (d : X) → x ≡ get_or all (length rest) d
+-- what a pop took from a beginning of a list, of which k are left
+pub record IsPopped {X : Type 0} (all others rest : List X) (x : X) (k : ℕ) : Type 0 where
+  pub long : length others ≡ suc k
+  pub at : (d : X) → x ≡ get_or all k d
   pub left : (j : ℕ) (d : X) → j < length rest → get_or rest j d ≡ get_or all j d
 
-pub popped : {X : Type 0} (all others rest : List X) (x : X) → ((j : ℕ) (d : X) → j < length others → get_or others j d ≡ get_or all j d) → others ≡ rest ++ x ∷ [] → IsPopped all others rest x
-popped all others rest x begins is =
+pub popped : {X : Type 0} (all others rest : List X) (x : X) (k : ℕ) → ((j : ℕ) (d : X) → j < length others → get_or others j d ≡ get_or all j d) → others ≡ rest ++ x ∷ [] → k ≡ length rest → IsPopped all others rest x k
+popped all others rest x k begins is left =
     let n : length others ≡ suc (length rest) = omega (arith, ap length is, length-append rest (x ∷ [])) in
     record {
-      long = n;
-      at = λ d. sym (get_or-append_seam rest x [] d) ∙ ap (λ l. get_or l (length rest) d) (sym is) ∙ begins (length rest) d (omega arith);
+      long = n ∙ ap suc (sym left);
+      at = λ d. sym (get_or-append_seam rest x [] d) ∙ ap (λ l. get_or l (length rest) d) (sym is) ∙ begins (length rest) d (omega arith) ∙ ap (λ j. get_or all j d) (sym left);
       left = λ j d lt. sym (get_or_append_left rest (x ∷ []) d j lt) ∙ ap (λ l. get_or l j d) (sym is) ∙ begins j d (omega arith);
     }
 

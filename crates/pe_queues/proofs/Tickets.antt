@@ -1,8 +1,8 @@
 -- What a seat is, by its tickets, after a call on one or on each of them.
-use Rattle.std.proofs.Common.{◌≡◌, ◌≢◌, ℕ, zero, suc, ◌+◌, ◌-◌, ◌<◌, ◌≤◌, List, [], ◌∷◌, ◌++◌, All, length, map, set, get_or, sym, refl, ap, ◌∙◌, subst, Option, Some, None, Result, Ok, Err, OnOk, OnErr, IfSome, IfNone, MatchResult, MatchOption, Vec, arith}
+use Rattle.std.proofs.Common.{◌≡◌, ◌≢◌, ℕ, zero, suc, ◌+◌, ◌-◌, ◌<◌, ◌≤◌, List, [], ◌∷◌, ◌++◌, All, length, map, set, get_or, take, sym, refl, ap, ◌∙◌, subst, Option, Some, None, Result, Ok, Err, OnOk, OnErr, IfSome, IfNone, MatchResult, MatchOption, Vec, arith}
 use Rattle.std.specs.Option.{option_or}
 use Rattle.atomic_table.specs.Seated.{TableId}
-use Rattle.std.proofs.lemmas.List.{length-map, map-set, get_or-map, set-get_or, get_or_default}
+use Rattle.std.proofs.lemmas.List.{length-map, map-set, get_or-map, set-get_or, get_or_default, map-append, take_more}
 use Rattle.std.proofs.Math.Seq.{map-set_same}
 use Rattle.crossbeam_queue.specs.Fifo.{Held}
 use Rattle.chare_index.specs.declared.limits.TheConstants.Limits.{SEATS}
@@ -10,7 +10,7 @@ use Rattle.pe_queues.specs.declared.full.Full.{Full}
 use Rattle.pe_queues.specs.declared.traffic.Traffic.{Traffic}
 use Rattle.pe_queues.specs.Balance.{Balances, Seen, IsShare, traffic, with_put, with_take, of_both}
 use Rattle.pe_queues.specs.Seats.{QueueView, TicketView, PostView, SeatView, ticket, seat_of, new_seat, puts_at, takes_at, after_put, after_take, append_each, joined, HeldAt, IsAllSeats, AreRooms, IsSeat}
-use Rattle.pe_queues.proofs.Lists.{alike, at_some}
+use Rattle.pe_queues.proofs.Lists.{alike, all_alike, at_some}
 use Rattle.pe_queues.proofs.Steps.{held_counts}
 
 -- clause by clause
@@ -125,14 +125,14 @@ module _ {T : Type 0} where
       let rest = appended f all as' bs (omega arith) (omega arith) (λ j d lt. each (suc j) d (omega arith)) in
       λ i. first i ∷ rest i
 
-  pub seats_joined : (c n m : ℕ) (all as' bs : List (TicketView T)) → length all ≡ length as' → length bs ≡ length as' → ((j : ℕ) (d e : TicketView T) → j < length as' → get_or all j d ≡ both (get_or as' j e) (get_or bs j e)) → seat_of c (n + m) all ≡ joined (seat_of c n as') (seat_of c m bs)
-  seats_joined c n m all as' bs same others each =
+  pub seats_joined : (c c' n m : ℕ) (all as' bs : List (TicketView T)) → length all ≡ length as' → length bs ≡ length as' → ((j : ℕ) (d e : TicketView T) → j < length as' → get_or all j d ≡ both (get_or as' j e) (get_or bs j e)) → seat_of c (n + m) all ≡ joined (seat_of c n as') (seat_of c' m bs)
+  seats_joined c c' n m all as' bs same others each =
       let queues = alike (λ (t : TicketView T). t.queue) (λ (t : TicketView T). t.queue) all as' same (λ j d e lt. ap (λ (t : TicketView T). t.queue) (each j d e lt)) in
       let puts = appended (λ (t : TicketView T). t.traffic.puts) all as' bs same others (λ j d lt. ap (λ (t : TicketView T). t.traffic.puts) (each j d d lt)) in
       let takes = appended (λ (t : TicketView T). t.traffic.takes) all as' bs same others (λ j d lt. ap (λ (t : TicketView T). t.traffic.takes) (each j d d lt)) in
       λ i. record { post = record { queues = queues i; capacity = c }; seats = n + m; puts = puts i; takes = takes i }
 
-  pub seats_added : (n m : ℕ) (all as' bs : List (TicketView T)) → length all ≡ length as' → length bs ≡ length as' → ((j : ℕ) (d e : TicketView T) → j < length as' → get_or all j d ≡ both (get_or as' j e) (get_or bs j e))
+  seats_added : (n m : ℕ) (all as' bs : List (TicketView T)) → length all ≡ length as' → length bs ≡ length as' → ((j : ℕ) (d e : TicketView T) → j < length as' → get_or all j d ≡ both (get_or as' j e) (get_or bs j e))
       → All (λ (t : TicketView T). t.traffic.seats ≡ n) as' → All (λ (t : TicketView T). t.traffic.seats ≡ m) bs → All (λ (t : TicketView T). t.traffic.seats ≡ n + m) all
   seats_added n m all as' bs same others each first second j d lt =
       let x = ap (λ (t : TicketView T). t.traffic.seats) (each j d d (omega arith)) in
@@ -141,7 +141,7 @@ module _ {T : Type 0} where
       omega arith
 
   -- the rooms of two seats: those of the first, or else of the second; and where neither has them, these are not all seats
-  pub rooms_joined : {A B : Type 0} (c n m : ℕ) (all as' bs : List (TicketView T)) (ra rb : Option (Vec (Vec T A) B)) → 0 < length all → length all ≡ length as' → length bs ≡ length as'
+  rooms_joined : {A B : Type 0} (c n m : ℕ) (all as' bs : List (TicketView T)) (ra rb : Option (Vec (Vec T A) B)) → 0 < length all → length all ≡ length as' → length bs ≡ length as'
       → ((j : ℕ) (d e : TicketView T) → j < length as' → get_or all j d ≡ both (get_or as' j e) (get_or bs j e))
       → All (λ (t : TicketView T). t.traffic.seats ≡ n + m) all → All (λ (t : TicketView T). IsShare t.traffic) all
       → MatchOption ra ((n ≢ SEATS) × All (λ (t : TicketView T). t.traffic.rooms ≡ 0) as') (λ rs. AreRooms c (length as') rs.items)
@@ -163,3 +163,71 @@ module _ {T : Type 0} where
             absurd (omega arith)),
         none,
       )
+
+  pub joined_here : (as' bs : List (TicketView T)) (k : ℕ) (a b new : TicketView T) → k < length as' → k < length bs → a ≡ get_or as' k a → b ≡ get_or bs k b → new ≡ record a { traffic = of_both a.traffic b.traffic } → (e : TicketView T) → new ≡ both (get_or as' k e) (get_or bs k e)
+  joined_here as' bs k a b new lt lt' at at' is e =
+      let x : a ≡ get_or as' k e = at ∙ get_or_default as' k a e lt in
+      let y : b ≡ get_or bs k e = at' ∙ get_or_default bs k b e lt' in
+      is ∙ (λ i. both (x i) (y i))
+
+  pub seat_joined : {A B : Type 0} (c c' n m : ℕ) (all as' bs : List (TicketView T)) (ra rb : Option (Vec (Vec T A) B)) → 0 < length all → length all ≡ length as' → length bs ≡ length as' → c' ≡ c
+      → ((j : ℕ) (d e : TicketView T) → j < length as' → get_or all j d ≡ both (get_or as' j e) (get_or bs j e)) → All (λ (t : TicketView T). IsShare t.traffic) all
+      → IsSeat c n as' ra → IsSeat c' m bs rb → IsSeat c (n + m) all (option_or ra rb)
+  seat_joined {A} {B} c c' n m all as' bs ra rb some same others room each share first second =
+      let seats = seats_added n m all as' bs same others each first.each second.each in
+      let t = at_some all 0 some in
+      let s = seats 0 t.0 some in
+      let f = (share 0 t.0 some).few in
+      let p = first.some in
+      record {
+        some = omega arith;
+        few = omega arith;
+        each = seats;
+        wide = rooms_joined c n m all as' bs ra rb some same others each seats share first.wide
+            (subst (λ r. MatchOption rb ((m ≢ SEATS) × All (λ (t : TicketView T). t.traffic.rooms ≡ 0) bs) (λ (rs : Vec (Vec T A) B). AreRooms r (length bs) rs.items)) room second.wide);
+      }
+
+  -- tickets of no traffic
+  ids_fresh : {X : Type 0} (g : X → TableId) (v : Traffic T) (xs : List X) → ids_of (map (λ x. ticket (g x) v) xs) ≡ map g xs
+  ids_fresh g v [] = refl
+  ids_fresh g v (x ∷ xs) = ap (λ l. g x ∷ l) (ids_fresh g v xs)
+
+  none_fresh : {X : Type 0} (g : X → TableId) (f : Traffic T → List T) (v : Traffic T) (xs : List X) → f v ≡ [] → map (λ (t : TicketView T). f t.traffic) (map (λ x. ticket (g x) v) xs) ≡ map (λ _. []) (map g xs)
+  none_fresh g f v [] none = refl
+  none_fresh g f v (x ∷ xs) none = let rest = none_fresh g f v xs none in λ i. none i ∷ rest i
+
+  pub seat_fresh : {X : Type 0} (g : X → TableId) (c n : ℕ) (v : Traffic T) (xs : List X) → v.puts ≡ [] → v.takes ≡ [] → seat_of c n (map (λ x. ticket (g x) v) xs) ≡ new_seat (record { queues = map g xs; capacity = c }) n
+  seat_fresh g c n v xs no_puts no_takes =
+      let queues = ids_fresh g v xs in
+      let puts = none_fresh g (λ (v : Traffic T). v.puts) v xs no_puts in
+      let takes = none_fresh g (λ (v : Traffic T). v.takes) v xs no_takes in
+      λ i. record { post = record { queues = queues i; capacity = c }; seats = n; puts = puts i; takes = takes i }
+
+  pub ticket_more : (ids : List TableId) (k : ℕ) (id : TableId) (ones : List (TicketView T)) (x : TicketView T) (v : Traffic T) → k < length ids → id ≡ get_or ids k id → ones ≡ map (λ id. ticket id v) (take k ids) → x ≡ ticket id v → ones ++ x ∷ [] ≡ map (λ id. ticket id v) (take (k + 1) ids)
+  ticket_more ids k id ones x v lt at so_far is =
+      let more = take_more ids k id lt in
+      (λ i. so_far i ++ is i ∷ []) ∙ ap (λ y. map (λ id. ticket id v) (take k ids) ++ ticket y v ∷ []) at ∙ sym (map-append (λ id. ticket id v) (take k ids) (get_or ids k id ∷ [])) ∙ ap (map (λ id. ticket id v)) (sym more)
+
+  -- a seat with one seat less still has the rooms that it had
+  pub rooms_kept : {A B : Type 0} (c n m : ℕ) (ts us : List (TicketView T)) (rooms : Option (Vec (Vec T A) B)) → map (λ (t : TicketView T). t.traffic.rooms) us ≡ map (λ (t : TicketView T). t.traffic.rooms) ts → length us ≡ length ts → m ≢ SEATS
+      → MatchOption rooms ((n ≢ SEATS) × All (λ (t : TicketView T). t.traffic.rooms ≡ 0) ts) (λ rs. AreRooms c (length ts) rs.items) → MatchOption rooms ((m ≢ SEATS) × All (λ (t : TicketView T). t.traffic.rooms ≡ 0) us) (λ rs. AreRooms c (length us) rs.items)
+  rooms_kept c n m ts us (Some rs) same count less wide = subst (λ k. AreRooms c k rs.items) (sym count) wide
+  rooms_kept c n m ts us None same count less wide = (less, all_alike (λ r. r ≡ 0) (λ (t : TicketView T). t.traffic.rooms) (λ (t : TicketView T). t.traffic.rooms) us ts same wide.1)
+
+  -- what is left of one queue, told of the whole seat
+  pub balance_here : (ts : List (TicketView T)) (k : ℕ) (t : TicketView T) (left : List T) → k < length ts → t ≡ get_or ts k t → Balances t.traffic.puts t.traffic.takes left → (e : TicketView T) → Balances (get_or ts k e).traffic.puts (get_or ts k e).traffic.takes left
+  balance_here ts k t left lt at balance e = subst (λ (y : TicketView T). Balances y.traffic.puts y.traffic.takes left) (at ∙ get_or_default ts k t e lt) balance
+
+  pub balance_there : (c n : ℕ) (ts : List (TicketView T)) (k : ℕ) (left : List T) → k < length ts → ((e : TicketView T) → Balances (get_or ts k e).traffic.puts (get_or ts k e).traffic.takes left) → Balances (puts_at (seat_of c n ts) k) (takes_at (seat_of c n ts) k) left
+  balance_there c n ts k left lt balance =
+      let x = at_some ts k lt in
+      let puts = ap (λ (t : TicketView T). t.traffic.puts) (sym x.1) ∙ sym (puts_there c n ts k x.0 lt x.1) in
+      let takes = ap (λ (t : TicketView T). t.traffic.takes) (sym x.1) ∙ sym (takes_there c n ts k x.0 lt x.1) in
+      subst (λ (y : List T × List T). Balances y.0 y.1 left) (λ i. (puts i, takes i)) (balance x.0)
+
+  -- the rooms of a seat that has them
+  pub rooms_there : {A B : Type 0} (c n : ℕ) (ts : List (TicketView T)) (rooms : Option (Vec (Vec T A) B)) (rs : Vec (Vec T A) B) → rooms ≡ Some rs → IsSeat c n ts rooms → AreRooms c (length ts) rs.items
+  rooms_there {A} {B} c n ts rooms rs is seat = subst (λ (o : Option (Vec (Vec T A) B)). MatchOption o ((n ≢ SEATS) × All (λ (t : TicketView T). t.traffic.rooms ≡ 0) ts) (λ rs. AreRooms c (length ts) rs.items)) is seat.wide
+
+  pub tickets_of_post : (ts : List (TicketView T)) (ids : List TableId) → ids_of ts ≡ ids → length ts ≡ length ids
+  tickets_of_post ts ids same = sym (length-map ts (λ (t : TicketView T). t.queue)) ∙ ap length same

@@ -11,6 +11,6 @@ invariant-loop-k g l = record {
   rooms : map (λ t. t.traffic.rooms) l.tickets.items ≡ map (λ t. t.traffic.rooms) l.initial.tickets.items;
   done : (j : ℕ) (d : _) → j < l.k → (get_or l.tickets.items j d).traffic.seats ≡ l.seats - 1;
   still : (j : ℕ) (d : _) → l.k ≤ j → j < length l.tickets.items → (get_or l.tickets.items j d).traffic.seats ≡ l.seats;
-  ones : l.ones.items ≡ map (λ q. ticket q.id of_one) (take l.k l.self.queues.items);
-  wide : length l.self.queues.items ≤ vec_capacity l.ones;
+  ones : l.ones.items ≡ map (λ id. ticket id of_one) (take l.k l.self.queues);
+  wide : length l.self.queues ≤ vec_capacity l.ones;
 }
