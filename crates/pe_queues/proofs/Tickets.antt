@@ -42,6 +42,9 @@ on_none P (Some x) told f = tt
 abbrev pub queues_of : List QueueView → List TableId
 queues_of qs = map (λ (q : QueueView). q.id) qs
 
+abbrev pub post_of : ℕ → List QueueView → PostView
+post_of c qs = record { queues = queues_of qs; capacity = c }
+
 -- as many tickets as queues, and the queue of each ticket
 pub inside_queues : (qs : List QueueView) (ids : List TableId) (k : ℕ) → queues_of qs ≡ ids → k < length ids → k < length qs
 inside_queues qs ids k same lt = let n : length ids ≡ length qs = ap length (sym same) ∙ length-map qs (λ (q : QueueView). q.id) in omega arith

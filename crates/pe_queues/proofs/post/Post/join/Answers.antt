@@ -95,5 +95,5 @@ returns g c =
     let a = c.first.view_is in
     let b = c.second.view_is in
     record {
-      both = seats_joined _ _ _ _ c.loop-other.tickets.items as' bs i.count (omega arith) (λ j d e lt. i.done j d (omega arith) (omega arith) e) ∙ (λ i. joined (a i) (b i));
+      both = seats_joined c.first.inside.capacity c.second.inside.capacity c.first.inside.seats c.second.inside.seats c.loop-other.tickets.items as' bs i.count (omega arith) (λ j d e lt. i.done j d (omega arith) (omega arith) e) ∙ (λ i. joined (a i) (b i));
     }
