@@ -234,3 +234,21 @@ module _ {T : Type 0} where
 
   pub tickets_of_post : (ts : List (TicketView T)) (ids : List TableId) → ids_of ts ≡ ids → length ts ≡ length ids
   tickets_of_post ts ids same = sym (length-map ts (λ (t : TicketView T). t.queue)) ∙ ap length same
+
+  -- a seat is of the same post, whatever a call on one of its tickets told
+  kept : (s : SeatView T) (c n : ℕ) (ts : List (TicketView T)) (k : ℕ) (t new : TicketView T) → seat_of c n ts ≡ s → t ≡ get_or ts k t → new.queue ≡ t.queue → ((seat_of c n (set ts k new)).post ≡ s.post) × (n ≡ s.seats)
+  kept s c n ts k t new view at same =
+      let queues = map-set_same (λ (t : TicketView T). t.queue) ts k new t (same ∙ ap (λ (t : TicketView T). t.queue) at) in
+      ((λ i. record { queues = queues i; capacity = c }) ∙ ap (λ (s : SeatView T). s.post) view, ap (λ (s : SeatView T). s.seats) view)
+
+  pub push_kept : (r : Result Unit (Full T)) (s : SeatView T) (c n : ℕ) (ts : List (TicketView T)) (k : ℕ) (t new : TicketView T) (x : T) (a : ℕ) → seat_of c n ts ≡ s → t ≡ get_or ts k t
+      → MatchResult r (λ _. new ≡ record t { traffic = with_put t.traffic x }) (λ full. (full.0 ≡ x) × (new ≡ t) × Held a (Seen t.traffic))
+      → ((seat_of c n (set ts k new)).post ≡ s.post) × (n ≡ s.seats)
+  push_kept (Ok u) s c n ts k t new x a view at told = kept s c n ts k t new view at (ap (λ (t : TicketView T). t.queue) told)
+  push_kept (Err full) s c n ts k t new x a view at told = kept s c n ts k t new view at (ap (λ (t : TicketView T). t.queue) told.1)
+
+  pub pop_kept : (r : Option T) (s : SeatView T) (c n : ℕ) (ts : List (TicketView T)) (k : ℕ) (t new : TicketView T) → seat_of c n ts ≡ s → t ≡ get_or ts k t
+      → MatchOption r ((new ≡ t) × Held 0 (Seen t.traffic)) (λ x. new ≡ record t { traffic = with_take t.traffic x })
+      → ((seat_of c n (set ts k new)).post ≡ s.post) × (n ≡ s.seats)
+  pop_kept None s c n ts k t new view at told = kept s c n ts k t new view at (ap (λ (t : TicketView T). t.queue) told.0)
+  pop_kept (Some x) s c n ts k t new view at told = kept s c n ts k t new view at (ap (λ (t : TicketView T). t.queue) told)

@@ -163,6 +163,7 @@ impl<T: Drop, A: Allocator> Post<T, A> {
         requires known { pe < pes self.now }
         ensures ok { OnOk result (seat.new ≡ after_put seat.old pe value) }
         ensures err { OnErr result (seat.new ≡ seat.old) }
+        ensures kept { (seat.new.post ≡ seat.old.post) × (seat.new.seats ≡ seat.old.seats) }
         ensures back { IfErr result (λ full. full.0 ≡ value) }
         ensures full { OnErr result (HeldAt seat.old pe self.now.capacity) }
         ensures all_full { OnErr result (IsAllSeats seat.old → length (puts_at seat.old pe) ≡ length (takes_at seat.old pe) + self.now.capacity) }
@@ -178,6 +179,7 @@ impl<T: Drop, A: Allocator> Post<T, A> {
         requires known { pe < pes self.now }
         ensures some { IfSome result (λ value. seat.new ≡ after_take seat.old pe value) }
         ensures none { IfNone result (seat.new ≡ seat.old) }
+        ensures kept { (seat.new.post ≡ seat.old.post) × (seat.new.seats ≡ seat.old.seats) }
         ensures empty { IfNone result (HeldAt seat.old pe 0) }
         ensures all_empty { IfNone result (IsAllSeats seat.old → length (puts_at seat.old pe) ≡ length (takes_at seat.old pe)) }
     {

@@ -1,6 +1,6 @@
 use Rattle.std.proofs.Common.{◌≡◌, ◌<◌, ◌∙◌, ap, sym, refl, subst, length, arith}
 use Rattle.pe_queues.specs.Seats.{HeldAt, after_put, seat_of}
-use Rattle.pe_queues.proofs.Tickets.{inside_queues, same_count, own_queue, push_told, if_ok, if_err, on_err, all_held}
+use Rattle.pe_queues.proofs.Tickets.{inside_queues, same_count, own_queue, push_told, if_ok, if_err, on_err, all_held, push_kept}
 use Rattle.pe_queues.proofs.post.Post.put.Goals as goal
 
 pub push-requires-clause-own : goal.push-requires-clause-own
@@ -35,3 +35,6 @@ returns-clause-full g c =
 pub returns-clause-all_full : goal.returns-clause-all_full
 returns-clause-all_full g c =
     on_err _ c.push.result (returns-clause-full g c) (all_held c.args.seat.now c.args.pe c.args.self.now.capacity)
+
+pub returns-clause-kept : goal.returns-clause-kept
+returns-clause-kept g c = push_kept c.push.result c.args.seat.now c.seat.inside.capacity c.seat.inside.seats c.seat.inside.tickets.items c.get-k.result c.index_mut.result.now c.push.new.mine c.args.value _ c.seat.view_is c.index_mut.ensures.value c.push.ensures

@@ -1,6 +1,6 @@
 use Rattle.std.proofs.Common.{◌≡◌, ◌<◌, ◌∙◌, ap, sym, refl, subst, length, arith}
 use Rattle.pe_queues.specs.Seats.{HeldAt, after_take, seat_of}
-use Rattle.pe_queues.proofs.Tickets.{inside_queues, same_count, own_queue, pop_told, if_some, if_none, on_none, all_held}
+use Rattle.pe_queues.proofs.Tickets.{inside_queues, same_count, own_queue, pop_told, if_some, if_none, on_none, all_held, pop_kept}
 use Rattle.pe_queues.proofs.post.Post.take.Goals as goal
 
 pub pop-requires-clause-own : goal.pop-requires-clause-own
@@ -33,3 +33,6 @@ returns-clause-empty g c =
 pub returns-clause-all_empty : goal.returns-clause-all_empty
 returns-clause-all_empty g c =
     on_none _ c.pop.result (returns-clause-empty g c) (λ held all. let n = all_held c.args.seat.now c.args.pe 0 held all in omega arith)
+
+pub returns-clause-kept : goal.returns-clause-kept
+returns-clause-kept g c = pop_kept c.pop.result c.args.seat.now c.seat.inside.capacity c.seat.inside.seats c.seat.inside.tickets.items c.get-k.result c.index_mut.result.now c.pop.new.mine c.seat.view_is c.index_mut.ensures.value c.pop.ensures
