@@ -42,9 +42,6 @@ on_none P (Some x) told f = tt
 abbrev pub queues_of : List QueueView → List TableId
 queues_of qs = map (λ (q : QueueView). q.id) qs
 
-abbrev pub post_of : ℕ → List QueueView → PostView
-post_of c qs = record { queues = queues_of qs; capacity = c }
-
 -- as many tickets as queues, and the queue of each ticket
 pub inside_queues : (qs : List QueueView) (ids : List TableId) (k : ℕ) → queues_of qs ≡ ids → k < length ids → k < length qs
 inside_queues qs ids k same lt = let n : length ids ≡ length qs = ap length (sym same) ∙ length-map qs (λ (q : QueueView). q.id) in omega arith
@@ -64,6 +61,14 @@ module _ {T : Type 0} where
       let n = same_count ts qs same in
       ap (λ (t : TicketView T). t.queue) at_t ∙ sym (get_or-map (λ (t : TicketView T). t.queue) ts k t t.queue (omega arith)) ∙ ap (λ l. get_or l k t.queue) same
       ∙ get_or-map (λ (q : QueueView). q.id) qs k q t.queue lt ∙ ap (λ (q : QueueView). q.id) (sym at_q)
+
+  pub inside_tickets : (ts : List (TicketView T)) (ids : List TableId) (k : ℕ) → ids_of ts ≡ ids → k < length ids → k < length ts
+  inside_tickets ts ids k same lt = let n : length ts ≡ length ids = sym (length-map ts (λ (t : TicketView T). t.queue)) ∙ ap length same in omega arith
+
+  -- the queue of a ticket is that of its place in the post
+  pub ticket_queue : (ts : List (TicketView T)) (ids : List TableId) (k pe : ℕ) (t : TicketView T) (id : TableId) → ids_of ts ≡ ids → k ≡ pe → k < length ts → t ≡ get_or ts k t → id ≡ get_or ids pe id → t.queue ≡ id
+  ticket_queue ts ids k pe t id same at_pe lt at own =
+      ap (λ (t : TicketView T). t.queue) at ∙ sym (get_or-map (λ (t : TicketView T). t.queue) ts k t id lt) ∙ (λ i. get_or (same i) (at_pe i) id) ∙ sym own
 
   pub puts_there : (c n : ℕ) (ts : List (TicketView T)) (k : ℕ) (t : TicketView T) → k < length ts → t ≡ get_or ts k t → puts_at (seat_of c n ts) k ≡ t.traffic.puts
   puts_there c n ts k t lt at = get_or-map (λ (t : TicketView T). t.traffic.puts) ts k t [] lt ∙ ap (λ (t : TicketView T). t.traffic.puts) (sym at)
@@ -252,3 +257,7 @@ module _ {T : Type 0} where
       → ((seat_of c n (set ts k new)).post ≡ s.post) × (n ≡ s.seats)
   pop_kept None s c n ts k t new view at told = kept s c n ts k t new view at (ap (λ (t : TicketView T). t.queue) told.0)
   pop_kept (Some x) s c n ts k t new view at told = kept s c n ts k t new view at (ap (λ (t : TicketView T). t.queue) told)
+
+-- the queue of a PE is that of its place in the post
+pub queue_at : (qs : List QueueView) (ids : List TableId) (k pe : ℕ) (q : QueueView) → queues_of qs ≡ ids → k ≡ pe → k < length qs → q ≡ get_or qs k q → q.id ≡ get_or ids pe q.id
+queue_at qs ids k pe q same at_pe lt at = ap (λ (q : QueueView). q.id) at ∙ sym (get_or-map (λ (q : QueueView). q.id) qs k q q.id lt) ∙ (λ i. get_or (same i) (at_pe i) q.id)

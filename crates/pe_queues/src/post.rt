@@ -1,17 +1,20 @@
 //! The queues of all PEs, and the calls by which threads use them through their seats. docs/QUEUES.md tells the
 //! protocol.
-ghost use Rattle.std.specs.Prelude.{◌≡◌, ◌≢◌, ◌+◌, ◌-◌, ◌<◌, ◌≤◌, All, length, map, sum_by, IfOk, IfErr, OnOk, OnErr, IfSome, IfNone, OnSome, MatchResult};
+ghost use Rattle.std.specs.Prelude.{◌≡◌, ◌≢◌, ◌+◌, ◌<◌, ◌≤◌, All, length, sum_by, slice_index_or, IfOk, IfErr, OnOk, OnErr, IfSome, IfNone, MatchResult};
 ghost use Rattle.chare_index.specs.declared.limits.TheConstants.Limits.{PES, SEATS};
 ghost use Rattle.pe_queues.specs.declared.error.PostError.TheVariants.{SeatsOut};
 ghost use Rattle.pe_queues.specs.Refusals.{IsWithin, RefusesNew};
-ghost use Rattle.pe_queues.specs.Seats.{PostView, pes, IsPost, IsAllSeats, HeldAt, AreLeft, puts_at, takes_at, new_seat, after_put, after_take, joined};
+ghost use Rattle.pe_queues.specs.Seats.{pes, IsAllSeats, HeldAt, AreLeft, puts_at, takes_at, new_seat, after_put, after_take, joined};
+
+mod joining;
+mod making;
 
 use crate::error::PostError;
 use crate::full::Full;
 use crate::queue::Queue;
 use crate::seat::Seat;
 use chare_index::{Limits, Pe};
-use std::alloc::{AllocError, Allocator, Global};
+use std::alloc::{Allocator, Global};
 use std::marker::Model;
 use std::sync::Wait;
 
@@ -73,77 +76,9 @@ impl<T: Drop, A: Allocator> Post<T, A> {
         ensures shared { IfOk result (λ made. sum_by (λ seat. seat.seats) made.1.items ≡ SEATS) }
     {
         check(pes, seats, capacity)?;
-        let mut given = Vec::with_capacity(alloc, seats as usize)?;
-        let (post, mut rest) = Post::open(alloc, pes as usize, capacity as usize)?;
-        for _n in 1..seats {
-            let (left, one) = post.split(alloc, rest)?;
-            given.push_reserved(one);
-            rest = left;
-        }
-        given.push_reserved(rest);
+        let (post, all) = Post::open(alloc, pes as usize, capacity as usize)?;
+        let given = post.hand_out(alloc, all, seats)?;
         Ok((post, given))
-    }
-
-    // Empty queues, and the seat that is all seats.
-    fn open(alloc: A, count: usize, capacity: usize) -> Result<(Self, Seat<T, A>), AllocError>
-    where
-        A: Copy,
-        requires some { 0 < count }
-        requires few { count ≤ PES }
-        requires wide { 0 < capacity }
-        ensures sized { IfOk result (λ made. (length made.0.queues ≡ count) × (made.0.capacity ≡ capacity)) }
-        ensures all { IfOk result (λ made. made.1 ≡ new_seat made.0 SEATS) }
-    {
-        let mut queues = Vec::with_capacity(alloc, count)?;
-        let mut tickets = Vec::with_capacity(alloc, count)?;
-        let mut rooms = Vec::with_capacity(alloc, count)?;
-        for _i in 0..count {
-            let room = Vec::with_capacity(alloc, capacity)?;
-            let (queue, ticket) = Queue::new(alloc, capacity)?;
-            queues.push_reserved(queue);
-            tickets.push_reserved(ticket);
-            rooms.push_reserved(room);
-        }
-        let seat = Seat {
-            tickets,
-            seats: Limits::SEATS,
-            capacity,
-            rooms: Some(rooms),
-        };
-        Ok((Post { queues, capacity }, seat))
-    }
-
-    // Splits one seat off.
-    fn split(&self, alloc: A, seat: Seat<T, A>) -> Result<(Seat<T, A>, Seat<T, A>), AllocError>
-        requires own { seat.post ≡ self.now }
-        requires fresh { seat ≡ new_seat self.now seat.seats }
-        requires more { 1 < seat.seats }
-        ensures left { IfOk result (λ two. two.0 ≡ new_seat self.now (seat.seats - 1)) }
-        ensures one { IfOk result (λ two. two.1 ≡ new_seat self.now 1) }
-    {
-        let Seat {
-            mut tickets,
-            seats,
-            capacity,
-            rooms,
-        } = seat;
-        let mut ones = Vec::with_capacity(alloc, self.queues.len())?;
-        for k in 0..self.queues.len() {
-            ones.push_reserved(self.queues[k].split(&mut tickets[k]));
-        }
-        let left = Seat {
-            tickets,
-            seats: seats - 1,
-            capacity,
-            rooms,
-        };
-        let one = Seat {
-            tickets: ones,
-            seats: 1,
-            capacity,
-            rooms: None,
-        };
-        Ok((left, one))
     }
 
     /// Puts a value at the back of the queue of a PE, which has to be one of the post's PEs. The seat has to be one
@@ -168,8 +103,7 @@ impl<T: Drop, A: Allocator> Post<T, A> {
         ensures full { OnErr result (HeldAt seat.old pe self.now.capacity) }
         ensures all_full { OnErr result (IsAllSeats seat.old → length (puts_at seat.old pe) ≡ length (takes_at seat.old pe) + self.now.capacity) }
     {
-        let k = pe.get() as usize;
-        self.queues[k].push(rt, &mut seat.tickets[k], value)
+        seat.push(rt, self.queue(pe), pe, value)
     }
 
     /// Takes the value at the front of the queue of a PE, which has to be one of the post's PEs, and `None` only
@@ -183,38 +117,25 @@ impl<T: Drop, A: Allocator> Post<T, A> {
         ensures empty { IfNone result (HeldAt seat.old pe 0) }
         ensures all_empty { IfNone result (IsAllSeats seat.old → length (puts_at seat.old pe) ≡ length (takes_at seat.old pe)) }
     {
-        let k = pe.get() as usize;
-        self.queues[k].pop(rt, &mut seat.tickets[k])
+        seat.pop(rt, self.queue(pe), pe)
     }
 
-    /// Two seats of this post as one, with all that was put and taken through either.
+    // The queue of a PE.
+    fn queue(&self, pe: Pe) -> &Queue<T, A>
+        requires { pe < pes self.now }
+        ensures own { result.now.id ≡ slice_index_or self.now.queues pe result.now.id }
+        ensures capacity { result.now.capacity ≡ self.now.capacity }
+    {
+        &self.queues[pe.get() as usize]
+    }
+
+    /// Two seats of this post as one, with all that was put and taken through either. It waits for nobody.
     pub fn join(&self, first: Seat<T, A>, second: Seat<T, A>) -> Seat<T, A>
         requires own { first.post ≡ self.now }
         requires others { second.post ≡ self.now }
-        ensures both { result ≡ joined first second }
+        ensures { result ≡ joined first second }
     {
-        let Seat {
-            mut tickets,
-            seats,
-            capacity,
-            rooms,
-        } = first;
-        let Seat {
-            tickets: mut others,
-            seats: more,
-            capacity: _,
-            rooms: other_rooms,
-        } = second;
-        while let Some(other) = others.pop() {
-            let k = others.len();
-            self.queues[k].join(&mut tickets[k], other);
-        }
-        Seat {
-            tickets,
-            seats: seats + more,
-            capacity,
-            rooms: rooms.or(other_rooms),
-        }
+        self.joined(first, second)
     }
 
     /// Ends the post, and gives what is left in each queue, front first. The seat has to be one of this post's.
@@ -239,29 +160,13 @@ impl<T: Drop, A: Allocator> Post<T, A> {
                 cause: PostError::SeatsOut,
             });
         }
-        let Post {
-            queues,
-            capacity: _,
-        } = self;
-        let Seat {
-            mut tickets,
-            rooms,
-            ..
-        } = seat;
-        let Some(mut left) = rooms else {
-            unreachable!();
-        };
-        for k in 0..queues.len() {
-            queues[k].drain(rt, &mut tickets[k], &mut left[k]);
-        }
-        Ok(left)
+        Ok(self.drained(rt, seat))
     }
 
     /// How many PEs have a queue here.
     pub fn pes(&self) -> u32
         ensures value { result ≡ pes self.now }
-        ensures some { 0 < result }
-        ensures few { result ≤ PES }
+        ensures in_range { (0 < result) × (result ≤ PES) }
     {
         self.queues.len() as u32
     }
@@ -269,7 +174,7 @@ impl<T: Drop, A: Allocator> Post<T, A> {
     /// How many values each queue has room for.
     pub fn capacity(&self) -> usize
         ensures value { result ≡ self.now.capacity }
-        ensures some { 0 < result }
+        ensures in_range { 0 < result }
     {
         self.capacity
     }

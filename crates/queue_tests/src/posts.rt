@@ -1,10 +1,12 @@
 //! What one thread gets of a post.
 
-ghost use Rattle.std.specs.Prelude.{◌≡◌, IfOk};
+ghost use Rattle.std.specs.Prelude.{◌≡◌, ◌<◌, All, IfOk};
+ghost use Rattle.pe_queues.specs.Seats.{pes};
 
 use crate::seats::{next, pe, two_seats};
+use chare_index::Pe;
 use pe_queues::{Full, Post, PostError, Seat, Unsettled};
-use std::alloc::Global;
+use std::sync::Wait;
 use std::test::Fail;
 
 #[test]
@@ -26,7 +28,7 @@ fn a_queue_of_one_place(rt: HostRuntime) -> Result<(), Fail> {
 }
 
 // The post and the seat that are handed back where one seat is out.
-fn refused<R: std::sync::Wait>(
+fn refused<R: Wait>(
     post: Post<char>,
     rt: &R,
     seat: Seat<char>,
@@ -34,10 +36,34 @@ fn refused<R: std::sync::Wait>(
     requires { seat.post ≡ post }
     ensures { IfOk result (λ back. (back.0 ≡ post) × (back.1 ≡ seat)) }
 {
-    match post.settle(rt, seat) {
-        Err(Unsettled { post, seat, cause }) if cause == PostError::SeatsOut => Ok((post, seat)),
-        _ => Err(Fail::new("a seat was out")),
+    let Err(unsettled) = post.settle(rt, seat) else {
+        return Err(Fail::new("a seat was out"));
+    };
+    let Unsettled { post, seat, cause } = unsettled;
+    if cause != PostError::SeatsOut {
+        return Err(Fail::new("another cause"));
     }
+    Ok((post, seat))
+}
+
+// Puts these values at one PE.
+fn put_all<R: Wait>(
+    rt: &R,
+    post: &Post<u32>,
+    seat: &mut Seat<u32>,
+    place: Pe,
+    values: &[u32],
+) -> bool
+    requires own { seat.old.post ≡ post.now }
+    requires known { place < pes post.now }
+    ensures { seat.new.post ≡ post.now }
+{
+    let mut all = true;
+    for value in values {
+        let put = post.put(rt, seat, place, *value);
+        all = all && put.is_ok();
+    }
+    all
 }
 
 #[test]
@@ -48,9 +74,8 @@ fn what_is_left_stands_by_queue_front_first(rt: HostRuntime) -> Result<(), Fail>
     };
     assert!(rt; seats.is_empty());
     assert_eq!(rt; (post.pes(), post.capacity()), (3, 4));
-    for (number, value) in [(2, 20), (0, 1), (2, 21), (0, 2), (2, 22)] {
-        assert_eq!(rt; post.put(&rt, &mut seat, pe(number), value), Ok(()));
-    }
+    assert!(rt; put_all(&rt, &post, &mut seat, pe(2), &[20, 21, 22]));
+    assert!(rt; put_all(&rt, &post, &mut seat, pe(0), &[1, 2]));
     assert_eq!(rt; post.take(&rt, &mut seat, pe(2)), Some(20));
     let Ok(left) = post.settle(&rt, seat) else {
         return Err(Fail::new("there is one seat"));
@@ -88,7 +113,7 @@ fn numbers_out_of_range(rt: HostRuntime) -> Result<(), Fail> {
     Ok(())
 }
 
-// All but one of the seats, joined one after the other.
+// All seats as one.
 fn joined(post: &Post<u8>, mut seats: Vec<Seat<u8>>) -> Result<Seat<u8>, Fail>
     requires { All (λ seat. seat.post ≡ post.now) seats.items }
     ensures { IfOk result (λ seat. seat.post ≡ post.now) }
@@ -96,7 +121,7 @@ fn joined(post: &Post<u8>, mut seats: Vec<Seat<u8>>) -> Result<Seat<u8>, Fail>
     let Some(mut all) = next(post, &mut seats) else {
         return Err(Fail::new("no seat"));
     };
-    while let Some(seat) = next(post, &mut seats) {
+    for seat in seats {
         all = post.join(all, seat);
     }
     Ok(all)

@@ -125,9 +125,11 @@ fn four<R: Threads + Wait + Sync>(
     let (a, b) = thread::join(
         rt,
         move || -> Result<Worker, AllocError>
+            requires { IsSync R.row × (low.0.post ≡ post.now) × (low.1.post ≡ post.now) × (pes post.now ≡ 3) }
             ensures { IfOk result (λ worker. worker.seat.post ≡ post.entry.now) }
         { together(post, two(rt, alloc, post, low, 0)?) },
         move || -> Result<Worker, AllocError>
+            requires { IsSync R.row × (high.0.post ≡ post.now) × (high.1.post ≡ post.now) × (pes post.now ≡ 3) }
             ensures { IfOk result (λ worker. worker.seat.post ≡ post.entry.now) }
         { together(post, two(rt, alloc, post, high, 2 * EACH)?) },
     );

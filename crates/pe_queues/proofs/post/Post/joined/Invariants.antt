@@ -1,7 +1,7 @@
 use Rattle.std.proofs.Common.{◌≡◌, ◌<◌, ◌≤◌, ℕ, length, get_or}
 use Rattle.pe_queues.specs.Balance.{IsShare}
 use Rattle.pe_queues.proofs.Tickets.{both}
-use Rattle.pe_queues.proofs.post.Post.join.Given as goal
+use Rattle.pe_queues.proofs.post.Post.joined.Given as goal
 
 -- the tickets that are not popped yet are as they were, and so are those that they will be joined to
 abbrev pub invariant-loop-other : goal.invariant-loop-other

@@ -4,7 +4,7 @@ use Rattle.pe_queues.specs.Balance.{IsShare}
 use Rattle.pe_queues.specs.Seats.{TicketView, joined}
 use Rattle.pe_queues.proofs.Lists.{popped, above_more}
 use Rattle.pe_queues.proofs.Tickets.{both, same_count, own_queue, joined_here, seats_joined, seat_joined}
-use Rattle.pe_queues.proofs.post.Post.join.Goals as goal
+use Rattle.pe_queues.proofs.post.Post.joined.Goals as goal
 
 pub join-requires-clause-own : goal.join-requires-clause-own
 join-requires-clause-own g c =

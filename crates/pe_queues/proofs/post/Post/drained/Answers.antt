@@ -5,7 +5,7 @@ use Rattle.pe_queues.specs.Balance.{Balances}
 use Rattle.pe_queues.specs.Seats.{TicketView, seat_of, puts_at, takes_at}
 use Rattle.pe_queues.proofs.Lists.{below_more}
 use Rattle.pe_queues.proofs.Tickets.{same_count, own_queue, rooms_there, balance_here, balance_there, tickets_of_post}
-use Rattle.pe_queues.proofs.post.Post.settle.Goals as goal
+use Rattle.pe_queues.proofs.post.Post.drained.Goals as goal
 
 pub drain-requires-clause-own : goal.drain-requires-clause-own
 drain-requires-clause-own g c =
@@ -69,8 +69,8 @@ loop-k-preserved g c =
       empty = λ j d from. get_or-set_other c.loop-k.left.items k j c.drain.new.room d (λ e. absurd (omega arith)) ∙ i.empty j d (omega arith);
     }
 
-pub returns-clause-left : goal.returns-clause-left
-returns-clause-left g c =
+pub returns : goal.returns
+returns g c =
     let i = c.loop-k.invariant in
     let ts = c.seat.inside.tickets.items in
     let ids = ap (λ p. p.queues) c.self.view_is in
@@ -83,6 +83,8 @@ returns-clause-left g c =
     let over : length c.self.inside.queues.items ≤ c.loop-k.k = search rules in
     let pes = tickets_of_post ts c.args.seat.post.queues own in
     record {
-      one_each = omega arith;
-      balance = λ pe d lt. rw (← c.seat.view_is) (balance_there c.seat.inside.capacity c.seat.inside.seats ts pe (get_or c.loop-k.left.items pe d).items (omega arith) (i.done pe d (omega arith)));
+      left = record {
+        one_each = omega arith;
+        balance = λ pe d lt. rw (← c.seat.view_is) (balance_there c.seat.inside.capacity c.seat.inside.seats ts pe (get_or c.loop-k.left.items pe d).items (omega arith) (i.done pe d (omega arith)));
+      };
     }

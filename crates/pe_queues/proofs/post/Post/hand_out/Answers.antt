@@ -3,14 +3,13 @@ use Rattle.std.proofs.lemmas.List.Elements.{All-push}
 use Rattle.std.proofs.lemmas.List.Sums.{sum_by_push}
 use Rattle.chare_index.specs.declared.limits.TheConstants.Limits.{SEATS}
 use Rattle.pe_queues.specs.Seats.{new_seat}
-use Rattle.pe_queues.proofs.Tickets.{post_of}
-use Rattle.pe_queues.proofs.post.Post.new.Goals as goal
+use Rattle.pe_queues.proofs.post.Post.hand_out.Goals as goal
 
 pub split-requires-clause-own : goal.split-requires-clause-own
-split-requires-clause-own g c = ap (λ s. s.post) c.loop-n.invariant.rest ∙ c.post.view_is
+split-requires-clause-own g c = ap (λ s. s.post) c.loop-n.invariant.rest
 
 pub split-requires-clause-fresh : goal.split-requires-clause-fresh
-split-requires-clause-fresh g c = c.loop-n.invariant.rest ∙ ap (λ p. new_seat p c.loop-n.rest.seats) c.post.view_is
+split-requires-clause-fresh g c = c.loop-n.invariant.rest
 
 pub split-requires-clause-more : goal.split-requires-clause-more
 split-requires-clause-more g c =
@@ -23,7 +22,6 @@ pub loop-n-preserved : goal.loop-n-preserved
 loop-n-preserved g c =
     let i = c.loop-n.invariant in
     let given = c.loop-n.given.items in
-    let made = c.post.view_is in
     let left = c.in_ok-left.ensures.left in
     let one = c.in_ok-left.ensures.one in
     let less = ap (λ s. s.seats) left in
@@ -36,17 +34,13 @@ loop-n-preserved g c =
     let more = ap length c.push_reserved.ensures.items ∙ length-append given (c.in_ok-left.one ∷ []) in
     let sum = ap (sum_by (λ s. s.seats)) c.push_reserved.ensures.items ∙ sum_by_push (λ s. s.seats) given c.in_ok-left.one in
     record {
-      rest = left ∙ (λ k. new_seat (sym made k) (sym less k));
+      rest = left ∙ ap (new_seat c.args.self.now) (sym less);
       seats = omega arith;
       count = omega arith;
       wide = search rules;
-      fresh = rw c.push_reserved.ensures.items (All-push (λ s. s ≡ new_seat (post_of c.post.inside.capacity c.post.inside.queues.items) s.seats) given c.in_ok-left.one i.fresh (one ∙ (λ k. new_seat (sym made k) (sym single k))));
+      fresh = rw c.push_reserved.ensures.items (All-push (λ s. s ≡ new_seat c.args.self.now s.seats) given c.in_ok-left.one i.fresh (one ∙ ap (new_seat c.args.self.now) (sym single)));
       shared = omega arith;
     }
 
 pub returns-clause-fresh : goal.returns-clause-fresh
-returns-clause-fresh g c =
-    let i = c.loop-n.invariant in
-    let made = c.post.view_is in
-    let given = c.loop-n.given.items in
-    rw c.push_reserved-2.ensures.items (All-push (λ s. s ≡ new_seat c.in_ok-post.post s.seats) given c.loop-n.rest (subst (λ p. All (λ s. s ≡ new_seat p s.seats) given) made i.fresh) (i.rest ∙ ap (λ p. new_seat p c.loop-n.rest.seats) made))
+returns-clause-fresh g c = rw c.push_reserved-2.ensures.items (All-push (λ s. s ≡ new_seat c.args.self.now s.seats) c.loop-n.given.items c.loop-n.rest c.loop-n.invariant.fresh c.loop-n.invariant.rest)
