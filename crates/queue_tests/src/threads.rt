@@ -88,9 +88,11 @@ fn two<R: Threads + Wait + Sync>(
     let (a, b) = thread::join(
         rt,
         move || -> Result<Worker, AllocError>
+            requires { (one.post ≡ post.now) × (pes post.now ≡ 3) × (first ≤ 2000) }
             ensures { IfOk result (λ worker. worker.seat.post ≡ post.entry.now) }
         { work(rt, alloc, post, one, first) },
         move || -> Result<Worker, AllocError>
+            requires { (other.post ≡ post.now) × (pes post.now ≡ 3) × (first ≤ 2000) }
             ensures { IfOk result (λ worker. worker.seat.post ≡ post.entry.now) }
         { work(rt, alloc, post, other, first + EACH) },
     );
