@@ -3,7 +3,7 @@
 
 use chare_index::Pe;
 use lb_certificates::{Loads, Sizes, Snapshot};
-use lb_dump::{DumpError, DumpReader, decode, encode, is_exact, read_from, write_to};
+use lb_dump::{DumpError, DumpReader, decode, encode, format_laws, read_from, write_to};
 use std::alloc::Global;
 use std::io::{self, Error, ErrorKind, Read, Write};
 use std::process::Abort;
@@ -285,5 +285,5 @@ fn numbers_and_words(rt: HostRuntime) {
             .as_str(),
         "the dump ends after 9 bytes"
     );
-    is_exact();
+    format_laws();
 }
