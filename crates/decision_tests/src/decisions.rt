@@ -5,7 +5,7 @@ ghost use Rattle.std.specs.Prelude.{◌≤◌};
 use crate::fixtures::{fenced, index, naming, pe, prices, snapshot};
 use block_assignment::NameError;
 use chare_index::{Index, Pe};
-use lb_certificates::{Flaw, Loads, Sizes, Snapshot};
+use lb_certificates::{Flaw, Floor, Loads, Sizes, Snapshot};
 use lb_strategy::{Decision, Moves, PlanError, check, plan};
 use std::process::Abort;
 
@@ -75,13 +75,22 @@ fn each_forged_division_has_its_flaw(rt: HostRuntime) {
 }
 
 #[test]
+fn a_floor_of_zero_is_forged(rt: HostRuntime) {
+    let example = snapshot(&rt, 2, &[(1, 10, 0), (1, 9, 1), (2, 8, 0)]);
+    let mut forged = decision(&rt, DIVISION, NAMING, MOVING);
+    forged.division.floor = Floor::Zero;
+    assert_eq!(rt; check(&example, 2, &forged), Err(Flaw::ZeroFloor));
+}
+
+#[test]
 fn each_forged_naming_has_its_flaw(rt: HostRuntime) {
-    let forged: [(&[u32], &[i64], &[i64], Flaw); 9] = [
+    let forged: [(&[u32], &[i64], &[i64], Flaw); 10] = [
         (&[1], &[10, 1], &[-1, 0], Flaw::NameCount),
         (&[], &[10, 1], &[-1, 0], Flaw::NameCount),
         (&[1, 2], &[10, 1], &[-1, 0], Flaw::NameRange),
         (&[1, 1], &[10, 1], &[-1, 0], Flaw::NameTwice),
         (&[1, 0], &[10], &[-1, 0], Flaw::PriceCount),
+        (&[1, 0], &[], &[-1, 0], Flaw::PriceCount),
         (&[1, 0], &[10, 1], &[], Flaw::PriceCount),
         (&[1, 0], &[10, 1], &[0, 0], Flaw::PriceHigh(0, 0)),
         (&[1, 0], &[9, 1], &[-1, 0], Flaw::PriceGap),
@@ -224,6 +233,37 @@ fn full(rt: &(impl Abort + AllocGlobal)) -> Snapshot {
     let loads = Loads::new(units).expect(rt, "too many loads");
     let sizes = Sizes::new(pairs).expect(rt, "past a limit");
     Snapshot::new(1, 256, loads, sizes).expect(rt, "no snapshot")
+}
+
+// Three hundred elements with loads of 0 to 6 and sizes of 0 to 10, on PEs 0 to 12.
+fn mixed(rt: &(impl Abort + AllocGlobal)) -> Snapshot {
+    let mut rows = Vec::new(rt.alloc());
+    for i in 0..300u32 {
+        let row = (i * 5 % 7, i * 3 % 11, i * i % 13);
+        rows.push(row).expect(rt, "out of memory");
+    }
+    snapshot(rt, 13, &rows)
+}
+
+#[test]
+fn each_number_of_pes_has_its_plan(rt: HostRuntime) {
+    let mixed = mixed(&rt);
+    for pes in 1..=256 {
+        let decision = plan(rt.alloc(), &mixed, pes).expect(&rt, "out of memory");
+        assert_eq!(rt; check(&mixed, pes, &decision), Ok(()), "{pes} PEs");
+    }
+}
+
+#[test]
+fn a_copy_is_equal_and_a_change_is_not(rt: HostRuntime) {
+    let mixed = mixed(&rt);
+    assert!(rt; mixed.clone().expect(&rt, "out of memory") == mixed);
+    let decision = plan(rt.alloc(), &mixed, 4).expect(&rt, "out of memory");
+    let mut copy = decision.clone().expect(&rt, "out of memory");
+    assert!(rt; copy == decision);
+    copy.moved = copy.moved.wrapping_add(1);
+    assert!(rt; copy != decision);
+    assert!(rt; mixed != self::snapshot(&rt, 13, &[]));
 }
 
 #[test]

@@ -2,10 +2,10 @@
 
 ghost use Rattle.std.specs.Prelude.{◌≤◌};
 
-use crate::fixtures::loads;
+use crate::fixtures::{loads, unfenced};
 use crate::reference;
 use chain_partition::{Probe, divide, probe};
-use lb_certificates::{Division, Floor, Loads, Units, check_division};
+use lb_certificates::{Division, Flaw, Floor, Loads, Units, check_division};
 use std::process::Abort;
 
 fn divided(rt: &(impl Abort + AllocGlobal), loads: &Loads, pes: u32) -> Division
@@ -40,6 +40,14 @@ fn the_examples_have_their_divisions(rt: HostRuntime) {
         assert_eq!(rt; division.cuts.as_slice(), cuts, "loads {units:?} on {pes}");
         assert_eq!(rt; stops(&division), fence, "loads {units:?} on {pes}");
     }
+}
+
+#[test]
+fn blocks_of_equal_counts_are_heavier(rt: HostRuntime) {
+    let five = loads(&rt, &[1, 2, 3, 4, 5]);
+    let halves = unfenced(&rt, 9, &[0, 2, 5]);
+    assert_eq!(rt; five.load(2, 5), 12);
+    assert_eq!(rt; check_division(&five, 2, &halves), Err(Flaw::Heavy(1)));
 }
 
 #[test]

@@ -12,6 +12,8 @@ mod divisions;
 #[cfg(test)]
 mod fixtures;
 #[cfg(test)]
+mod limits;
+#[cfg(test)]
 mod naming_checks;
 #[cfg(test)]
 mod namings;

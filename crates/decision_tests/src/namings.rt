@@ -79,6 +79,20 @@ fn the_examples_have_their_names(rt: HostRuntime) {
 }
 
 #[test]
+fn blocks_that_keep_their_numbers_move_more(rt: HostRuntime) {
+    let rows: [(&[(u32, u32)], &[u32], u64); 2] = [
+        (&[(10, 0), (9, 1), (8, 0)], &[0, 2, 3], 17),
+        (&[(8, 1), (8, 1), (8, 0), (8, 0)], &[0, 2, 4], 32),
+    ];
+    for (pairs, cuts, bytes) in rows {
+        let table = table(&rt, &sizes(&rt, pairs), cuts);
+        assert!(rt; table.blocks() == 2, "two blocks");
+        let cost = table.cost(0, 0).saturating_add(table.cost(1, 1));
+        assert_eq!(rt; cost, bytes, "elements {pairs:?}");
+    }
+}
+
+#[test]
 fn a_full_array_on_all_pes(rt: HostRuntime) {
     let mut pairs = Vec::new(rt.alloc());
     for i in 0..65_536u32 {

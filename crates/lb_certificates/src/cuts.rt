@@ -1,9 +1,11 @@
-ghost use Rattle.std.specs.Prelude.{◌≡◌, ◌<◌, ◌↔◌, ℕ, List, length, IsTrue};
+ghost use Rattle.std.specs.Prelude.{◌≡◌, ◌<◌, ◌↔◌, ℕ, List, length, IsTrue, bytes_eq};
+ghost use Rattle.std.specs.Cmp.{partial_equiv_from_equiv};
+ghost use Rattle.std.specs.Cmp.Lexicographic.{nat_list_eq_equiv};
 ghost use Rattle.lb_certificates.specs.Chain.{IsDivision};
 ghost use Rattle.lb_certificates.specs.Naming.{blocks_between};
 
 use crate::division_check::rises;
-use std::alloc::{Allocator, Global};
+use std::alloc::{AllocError, Allocator, Global};
 use std::marker::Model;
 
 /// Where a chain of elements is cut into consecutive blocks: block `b` is the elements `cuts[b]..cuts[b + 1]`, so
@@ -53,5 +55,24 @@ impl<A: Allocator> Cuts<A> {
     {
         let Cuts { cuts } = self;
         cuts
+    }
+}
+
+impl<A: Allocator> PartialEq for Cuts<A> {
+    ghost eq = { λ a b. bytes_eq a b };
+
+    ghost laws = { partial_equiv_from_equiv nat_list_eq_equiv };
+
+    fn eq(&self, other: &Self) -> bool {
+        self.as_slice() == other.as_slice()
+    }
+}
+
+impl<A: Allocator + Copy> Clone for Cuts<A> {
+    ghost is_clone = { λ v w. w ≡ v };
+
+    fn clone(&self) -> Result<Self, AllocError> {
+        let cuts = Vec::from_slice(*self.cuts.allocator(), self.as_slice())?;
+        Ok(Cuts { cuts })
     }
 }

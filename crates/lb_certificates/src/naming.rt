@@ -1,6 +1,8 @@
-ghost use Rattle.std.specs.Prelude.{◌≡◌, ℕ, List};
+ghost use Rattle.std.specs.Prelude.{◌≡◌, ℕ, List, bytes_eq};
+ghost use Rattle.std.specs.Cmp.{partial_equiv_from_equiv};
+ghost use Rattle.std.specs.Cmp.Lexicographic.{nat_list_eq_equiv};
 
-use std::alloc::{Allocator, Global};
+use std::alloc::{AllocError, Allocator, Global};
 use std::marker::Model;
 
 /// On which PE each block runs: the PE's number for each block, in order. It is a plain list, under no
@@ -38,5 +40,24 @@ impl<A: Allocator> Naming<A> {
     {
         let Naming { names } = self;
         names
+    }
+}
+
+impl<A: Allocator> PartialEq for Naming<A> {
+    ghost eq = { λ a b. bytes_eq a b };
+
+    ghost laws = { partial_equiv_from_equiv nat_list_eq_equiv };
+
+    fn eq(&self, other: &Self) -> bool {
+        self.as_slice() == other.as_slice()
+    }
+}
+
+impl<A: Allocator + Copy> Clone for Naming<A> {
+    ghost is_clone = { λ v w. w ≡ v };
+
+    fn clone(&self) -> Result<Self, AllocError> {
+        let names = Vec::from_slice(*self.names.allocator(), self.as_slice())?;
+        Ok(Naming { names })
     }
 }

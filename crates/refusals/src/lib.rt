@@ -4,6 +4,8 @@
 #![tactic(auto)]
 
 #[cfg(test)]
+mod board;
+#[cfg(test)]
 mod refusing;
 #[cfg(test)]
 mod tests;
