@@ -9,6 +9,9 @@
 //! - [`words`] and [`request`]: the words of the command line, and what they ask for.
 #![tactic(auto)]
 
+ghost use Rattle.std.specs.Prelude.{◌≤◌};
+ghost use Rattle.std.specs.Option.{ForSome};
+
 mod ended;
 mod fault;
 mod noted;
@@ -20,6 +23,8 @@ mod tests;
 mod text;
 mod words;
 
+use chare_index::Limits;
+use request::Asked;
 use simulation::run;
 use std::fs::File;
 use std::process::ExitCode;
@@ -40,17 +45,25 @@ fn main(rt: HostRuntime) -> ExitCode {
     else {
         return ExitCode::from(NO_WORDS);
     };
-    let asked = match asked(rt.alloc(), &words) {
-        Ok(asked) => asked,
+    match asked(rt.alloc(), &words) {
+        Ok(asked) => ExitCode::from(replayed(&rt, asked)),
         Err(error) => {
             let _ = error.print(&rt);
-            return ExitCode::from(words_status(&error));
+            ExitCode::from(words_status(&error))
         }
-    };
-    let file = File::open(&rt, asked.file);
-    let (status, reason) = run(rt.alloc(), asked, file, &mut io::writer(&rt));
+    }
+}
+
+// Opens the file, replays it to the standard output, and returns the status. Where a read failed, the standard error
+// has the file's name and the system's reason.
+fn replayed(rt: &HostRuntime, asked: Asked<'_>) -> u8
+    requires some_pe { ForSome asked.procs (λ p. 1 ≤ p) }
+    requires few_pes { ForSome asked.procs (λ p. p ≤ Limits.PES) }
+{
+    let file = File::open(rt, asked.file);
+    let (status, reason) = run(rt.alloc(), asked, file, &mut io::writer(rt));
     if let Some(reason) = reason {
         let _ = eprintln!(rt; "lb_sim: {}: {reason}", asked.file);
     }
-    ExitCode::from(status)
+    status
 }

@@ -79,7 +79,7 @@ pub fn run<A: Allocator + Copy, R: Read + Drop, W: Write>(
     requires some_pe { ForSome asked.procs (λ p. 1 ≤ p) }
     requires few_pes { ForSome asked.procs (λ p. p ≤ Limits.PES) }
     ensures status { (ended : Ended) × (result.0 ≡ status_of ended)
-        × IfOk file (λ file. (rest : Option (List ℕ)) × EndsReplay A (R.remaining file) rest asked.procs (W.contents writer.old) (W.contents writer.new) ended)
+        × IfOk file (λ file. (rest : Option (List ℕ)) × EndsReplay A (R.remaining file) rest asked.entry.procs (W.contents writer.old) (W.contents writer.new) ended)
         × IfErr file (λ _. ReportsUnread (W.contents writer.old) (W.contents writer.new) ended) }
     ensures reason { IfErr file (λ reason. result.1 ≡ Some reason) }
 {
