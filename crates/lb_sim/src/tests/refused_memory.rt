@@ -12,8 +12,12 @@ use std::test::Fail;
 // The requests to read the example: the piece, its text, and the two lists of the snapshot.
 const TO_READ: u64 = 5;
 
-// The requests of a whole replay.
-const IN_ALL: u64 = 0;
+// The requests of the search for names on two blocks.
+const NAMING: u64 = 9;
+
+// The requests of a whole replay: to read; for the division, the cost table, the names and the moves; and each growth of
+// the text.
+const IN_ALL: u64 = TO_READ + (2 + 2 + NAMING + 1) + 5;
 
 // What a replay of the example comes to, over an allocator that may refuse.
 fn attempted(alloc: &Refusing<Global>, written: &mut Vec<u8>) -> Outcome {
