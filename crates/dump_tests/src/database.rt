@@ -3,6 +3,7 @@
 
 ghost use Rattle.std.specs.Prelude.{◌≡◌};
 
+use crate::fixtures::pe;
 use chare_index::{Pe, Round};
 use lb_certificates::Units;
 use lb_database::{DbError, LoadDb};
@@ -12,10 +13,6 @@ fn round(rt: &impl Abort, number: u32) -> Round
     ensures { result ≡ number }
 {
     Round::new(number).expect(rt, "no such round")
-}
-
-fn pe(rt: &impl Abort, number: u32) -> Pe {
-    Pe::new(number).expect(rt, "no such PE")
 }
 
 type Element = (Option<Units>, Option<(u32, Pe)>);

@@ -1,31 +1,11 @@
 //! A snapshot of three elements and its 52 bytes, cut and changed at each place, and readers and writers that
 //! fail.
 
-use chare_index::Pe;
-use lb_certificates::{Loads, Sizes, Snapshot};
-use lb_dump::{DumpError, DumpReader, decode, encode, is_exact, read_from, write_to};
+use crate::fixtures::{EXAMPLE, Sink, Source, example};
+use lb_certificates::Snapshot;
+use lb_dump::{DumpError, DumpReader, decode, encode, format_laws, read_from, write_to};
 use std::alloc::Global;
-use std::io::{self, Error, ErrorKind, Read, Write};
-use std::process::Abort;
-
-// Step 5, 2 PEs, 3 elements: their loads, sizes and places.
-const EXAMPLE: [u8; 52] = *b"LBD1\
-    \0\0\0\x05\0\0\0\x02\0\0\0\x03\
-    \0\0\0\x01\0\0\0\x0a\0\0\0\0\
-    \0\0\0\x01\0\0\0\x09\0\0\0\x01\
-    \0\0\0\x02\0\0\0\x08\0\0\0\0";
-
-fn example(rt: &(impl Abort + AllocGlobal)) -> Snapshot {
-    let loads = [1, 1, 2].to_vec(rt.alloc()).expect(rt, "out of memory");
-    let mut pairs = Vec::new(rt.alloc());
-    for (size, place) in [(10, 0), (9, 1), (8, 0)] {
-        let place = Pe::new(place).expect(rt, "no such PE");
-        pairs.push((size, place)).expect(rt, "out of memory");
-    }
-    let loads = Loads::new(loads).expect(rt, "too many loads");
-    let sizes = Sizes::new(pairs).expect(rt, "past a limit");
-    Snapshot::new(5, 2, loads, sizes).expect(rt, "no snapshot")
-}
+use std::io::ErrorKind;
 
 // The text of what these pieces give, or why they give nothing.
 fn joined(alloc: Global, pieces: &[&[u8]]) -> Result<Vec<u8>, DumpError> {
@@ -48,17 +28,14 @@ fn the_example(rt: HostRuntime) {
     let mut out: Vec<u8> = Vec::new(rt.alloc());
     assert_eq!(rt; write_to(&mut out, &snapshot), Ok(()));
     assert_eq!(rt; out.as_slice(), EXAMPLE.as_slice());
-    let read = decode(rt.alloc(), &EXAMPLE).expect(&rt, "a dump");
-    assert_eq!(rt; (read.step(), read.procs()), (5, 2));
-    assert_eq!(rt; read.loads().as_slice(), snapshot.loads().as_slice());
-    assert_eq!(rt; read.sizes().as_slice(), snapshot.sizes().as_slice());
+    assert_eq!(rt; decode(rt.alloc(), &EXAMPLE), Ok(snapshot));
 }
 
 #[test]
 fn in_any_pieces(rt: HostRuntime) {
     for cut in 0..=52usize {
-        let (front, rest) = EXAMPLE.split_at(cut);
-        let pieces: [&[u8]; 5] = [&[], front, &[], rest, &[]];
+        let (start, rest) = EXAMPLE.split_at(cut);
+        let pieces: [&[u8]; 5] = [&[], start, &[], rest, &[]];
         let text = joined(rt.alloc(), &pieces);
         assert!(rt;
             text.is_ok_and(|text| text.as_slice() == EXAMPLE.as_slice()),
@@ -67,12 +44,16 @@ fn in_any_pieces(rt: HostRuntime) {
     }
 }
 
-// What a reader that is given these bytes one by one answers to each `feed` and then to `end`: the first fault,
-// the offset of the byte that brought it, and whether every later call answered the same.
+// What a reader that is given these bytes one by one returns from each `feed` and then from `end`: the first fault
+// with the offset of the byte that brought it, whether every later call returned the same, and the end.
 fn byte_by_byte(
     alloc: Global,
     text: &[u8],
-) -> (Option<(usize, DumpError)>, bool, Option<DumpError>) {
+) -> (
+    Option<(usize, DumpError)>,
+    bool,
+    Result<Snapshot, DumpError>,
+) {
     let mut reader = DumpReader::new(alloc);
     let mut first = None;
     let mut stays = true;
@@ -84,15 +65,21 @@ fn byte_by_byte(
             (Some((_, fault)), again) => stays = stays && again == Err(fault),
         }
     }
-    (first, stays, reader.end().err())
+    (first, stays, reader.end())
+}
+
+#[test]
+fn the_example_byte_by_byte(rt: HostRuntime) {
+    let snapshot = Ok(example(&rt));
+    assert_eq!(rt; byte_by_byte(rt.alloc(), &EXAMPLE), (None, true, snapshot));
 }
 
 #[test]
 fn each_prefix_is_short(rt: HostRuntime) {
     for len in 0..52u32 {
         let text = &EXAMPLE[..len as usize];
-        let short = Some(DumpError::Short(len));
-        assert_eq!(rt; decode(rt.alloc(), text).err(), short);
+        let short = Err(DumpError::Short(len));
+        assert_eq!(rt; decode(rt.alloc(), text), short);
         assert_eq!(rt; byte_by_byte(rt.alloc(), text), (None, true, short));
     }
 }
@@ -149,115 +136,79 @@ fn first_faults(rt: HostRuntime) {
         (b"LBD1\0\0\0\0\0\0\0\0\0", 11, DumpError::Procs),
     ];
     for (text, offset, fault) in rows {
-        assert_eq!(rt; decode(rt.alloc(), text).err(), Some(fault));
+        assert_eq!(rt; decode(rt.alloc(), text), Err(fault));
         assert_eq!(rt;
             byte_by_byte(rt.alloc(), text),
-            (Some((offset, fault)), true, Some(fault))
+            (Some((offset, fault)), true, Err(fault))
         );
     }
 }
 
-// Gives so many bytes at once, and then fails or ends.
-#[derive(Drop)]
-struct Source<'a> {
-    rest: &'a [u8],
-    at_once: usize,
-    failure: Option<ErrorKind>,
-}
-
-impl Read for Source<'_> {
-    fn read(&mut self, buf: &mut [u8]) -> io::Result<usize> {
-        let len = self.rest.len().min(self.at_once).min(buf.len());
-        if let Some(kind) = self.failure
-            && len == 0
-        {
-            return Err(Error::from(kind));
-        }
-        let (front, rest) = self.rest.split_at(len);
-        buf[..len].copy_from_slice(front);
-        self.rest = rest;
-        Ok(len)
-    }
-}
-
 #[test]
-fn readers(rt: HostRuntime) {
-    for len in 0..=52usize {
-        for kind in [ErrorKind::Interrupted, ErrorKind::Other] {
-            for at_once in [1, 7, 64] {
-                let mut source = Source {
-                    rest: &EXAMPLE[..len],
-                    at_once,
-                    failure: Some(kind),
-                };
-                let answer = read_from(rt.alloc(), &mut source).err();
-                assert_eq!(rt; answer, Some(DumpError::Read), "fails after {len}");
+fn a_reader_that_fails_once(rt: HostRuntime) {
+    for kind in [
+        ErrorKind::Interrupted,
+        ErrorKind::WouldBlock,
+        ErrorKind::Other,
+    ] {
+        for (at_once, calls) in [(1, 53), (7, 9), (64, 2)] {
+            for call in 0..calls {
+                let mut source = Source::new(&EXAMPLE, at_once, Some((call, kind)));
+                let found = read_from(rt.alloc(), &mut source);
+                assert_eq!(rt; found, Err(DumpError::Read), "call {call} of {calls}");
+                assert_eq!(rt; source.calls, call.saturating_add(1));
             }
         }
     }
-    let mut wrong = EXAMPLE;
-    wrong[20] = 255;
-    for (text, failure, answer) in [
-        (EXAMPLE, None, None),
-        (wrong, None, Some(DumpError::Size(0))),
-        (wrong, Some(ErrorKind::Other), Some(DumpError::Size(0))),
-    ] {
-        for at_once in [1, 64] {
-            let mut source = Source {
-                rest: &text,
-                at_once,
-                failure,
-            };
-            assert_eq!(rt; read_from(rt.alloc(), &mut source).err(), answer);
-        }
-    }
 }
 
-// Takes so many bytes at once, and fails once it was called so many times.
-#[derive(Drop)]
-struct Sink {
-    taken: Vec<u8>,
-    at_once: usize,
-    calls: usize,
-}
-
-impl Write for Sink {
-    fn write(&mut self, buf: &[u8]) -> io::Result<usize> {
-        if self.calls == 0 {
-            return Err(Error::from(ErrorKind::Interrupted));
-        }
-        self.calls -= 1;
-        let len = buf.len().min(self.at_once);
-        self.taken.extend_from_slice(&buf[..len])?;
-        Ok(len)
-    }
-
-    fn flush(&mut self) -> io::Result<()> {
-        Ok(())
+#[test]
+fn a_reader_that_does_not_fail(rt: HostRuntime) {
+    for (at_once, calls) in [(1, 53), (7, 9), (64, 2)] {
+        let mut source = Source::new(&EXAMPLE, at_once, Some((calls, ErrorKind::Other)));
+        let found = read_from(rt.alloc(), &mut source);
+        assert_eq!(rt; found, Ok(example(&rt)), "{at_once} bytes a call");
+        assert_eq!(rt; source.calls, calls);
     }
 }
 
 #[test]
-fn writers(rt: HostRuntime) {
+fn a_fault_before_a_failure(rt: HostRuntime) {
+    let mut wrong = EXAMPLE;
+    wrong[20] = 255;
+    // Byte 23 ends the size of element 0.
+    for (at_once, calls) in [(1, 24), (7, 4), (64, 1)] {
+        let mut source = Source::new(&wrong, at_once, Some((calls, ErrorKind::Other)));
+        let found = read_from(rt.alloc(), &mut source);
+        assert_eq!(rt; found, Err(DumpError::Size(0)), "{at_once} bytes a call");
+        assert_eq!(rt; source.calls, calls);
+    }
+}
+
+#[test]
+fn a_writer_that_fails_once(rt: HostRuntime) {
     let snapshot = example(&rt);
-    for calls in 0..=53usize {
-        for at_once in [0, 1, 5, 64] {
-            let mut sink = Sink {
-                taken: Vec::new(rt.alloc()),
-                at_once,
-                calls,
-            };
-            let answer = write_to(&mut sink, &snapshot);
-            assert!(rt; EXAMPLE.starts_with(&sink.taken));
-            let whole = sink.taken.len() == 52;
-            assert_eq!(rt; answer, if whole { Ok(()) } else { Err(DumpError::Write) });
-            assert_eq!(rt;
-                whole,
-                at_once == 64 && calls >= 2
-                    || at_once == 5 && calls >= 12
-                    || at_once == 1 && calls >= 52
-            );
+    for error in [None, Some(ErrorKind::Interrupted), Some(ErrorKind::Other)] {
+        // The head of 16 bytes is written first, and then the three elements.
+        for (at_once, calls) in [(1, 52), (5, 12), (64, 2)] {
+            for call in 0..calls {
+                let mut sink = Sink::new(&rt, at_once, call, error);
+                assert_eq!(rt; write_to(&mut sink, &snapshot), Err(DumpError::Write));
+                assert_eq!(rt; sink.calls, call.saturating_add(1));
+                assert!(rt; EXAMPLE.starts_with(&sink.taken), "call {call} of {calls}");
+            }
         }
+    }
+}
+
+#[test]
+fn a_writer_that_does_not_fail(rt: HostRuntime) {
+    let snapshot = example(&rt);
+    for (at_once, calls) in [(1, 52), (5, 12), (64, 2)] {
+        let mut sink = Sink::new(&rt, at_once, calls, None);
+        assert_eq!(rt; write_to(&mut sink, &snapshot), Ok(()));
+        assert_eq!(rt; sink.calls, calls);
+        assert_eq!(rt; sink.taken.as_slice(), EXAMPLE.as_slice());
     }
 }
 
@@ -285,5 +236,5 @@ fn numbers_and_words(rt: HostRuntime) {
             .as_str(),
         "the dump ends after 9 bytes"
     );
-    is_exact();
+    format_laws();
 }

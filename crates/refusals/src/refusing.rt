@@ -2,6 +2,7 @@
 
 use refusing_alloc::{Failure, Outcome, Refusing, each_refusal};
 use std::alloc::{AllocError, Allocator, Global};
+use std::sync::atomic::{AtomicU64, Ordering};
 use std::test::Fail;
 use std::thread::{self, Threads};
 
@@ -58,6 +59,83 @@ fn sums_told(alloc: Global, refused: Outcome, summed: Outcome) -> Result<u64, Fa
         9,
         |lent| sum_of_two(lent).map_or(refused, |_| summed),
     )
+}
+
+// Thirty requests.
+fn thirty(alloc: Lent<'_>) -> Outcome {
+    for n in 0..30u32 {
+        if Box::new(alloc, n).is_err() {
+            return Outcome::Refused;
+        }
+    }
+    Outcome::Right
+}
+
+#[test]
+fn each_of_many_requests_is_refused(rt: HostRuntime) {
+    assert_eq!(rt; each_refusal(rt.alloc(), 31, thirty), Ok(30));
+    assert_eq!(rt;
+        each_refusal(rt.alloc(), 30, thirty),
+        Err(Failure::TooManyTurns(30))
+    );
+    for turn in [1, 9, 10, 30] {
+        let alloc = Refusing::new(rt.alloc(), turn);
+        assert_eq!(rt; thirty(&alloc), Outcome::Refused);
+        assert_eq!(rt; alloc.requests(), turn);
+        assert!(rt; alloc.has_refused());
+    }
+    let alloc = Refusing::new(rt.alloc(), 31);
+    assert_eq!(rt; thirty(&alloc), Outcome::Right);
+    assert!(rt; !alloc.has_refused());
+}
+
+// A sum of two that comes to this outcome where its second request is refused.
+fn second_refused(alloc: Lent<'_>, outcome: Outcome) -> Outcome {
+    match sum_of_two(alloc) {
+        Ok(_) => Outcome::Right,
+        Err(AllocError) if alloc.requests() == 1 => Outcome::Refused,
+        Err(AllocError) => outcome,
+    }
+}
+
+#[test]
+fn the_second_refusal_is_looked_at_too(rt: HostRuntime) {
+    for (outcome, found) in [
+        (Outcome::Refused, Ok(2)),
+        (Outcome::Right, Err(Failure::Ignored(2))),
+        (Outcome::Wrong, Err(Failure::Wrong(2))),
+    ] {
+        let attempt = |alloc: Lent<'_>| second_refused(alloc, outcome);
+        assert_eq!(rt; each_refusal(rt.alloc(), 9, attempt), found);
+    }
+}
+
+// A sum of two in the first runs, and then this outcome without a request.
+fn after(runs: &AtomicU64, first: u64, alloc: Lent<'_>, outcome: Outcome) -> Outcome {
+    if runs.fetch_add(1, Ordering::SeqCst) < first {
+        sums(alloc)
+    } else {
+        outcome
+    }
+}
+
+#[test]
+fn each_run_is_looked_at(rt: HostRuntime) {
+    // Runs 0, 2 and 4 are those of turns 1 to 3, and runs 1 and 3 the ones after turns 1 and 2.
+    for (first, outcome, found) in [
+        (2, Outcome::Refused, Err(Failure::GaveUp(2))),
+        (2, Outcome::Wrong, Err(Failure::Wrong(2))),
+        (2, Outcome::Right, Ok(1)),
+        (3, Outcome::Refused, Err(Failure::GaveUpAfter(2))),
+        (3, Outcome::Wrong, Err(Failure::WrongAfter(2))),
+        (4, Outcome::Refused, Err(Failure::GaveUp(3))),
+        (4, Outcome::Wrong, Err(Failure::Wrong(3))),
+        (5, Outcome::Wrong, Ok(2)),
+    ] {
+        let runs = AtomicU64::new(0);
+        let attempt = |alloc: Lent<'_>| after(&runs, first, alloc, outcome);
+        assert_eq!(rt; each_refusal(rt.alloc(), 9, attempt), found, "{first} runs");
+    }
 }
 
 // A thousand requests.

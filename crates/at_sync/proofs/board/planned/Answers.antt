@@ -6,7 +6,7 @@ use Rattle.at_sync.proofs.board.planned.Goals as goal
 pub returns-clause-told : goal.returns-clause-told
 returns-clause-told g c =
     let before : c.args.database.now.round < ROUND = omega (arith, c.round.ensures, c.get-round.ensures.value, c.get-round.ensures.in_range, c.if-round.false) in
-    (c.in_ok-snapshot.ensures.told, before)
+    (c.in_ok-snapshot.ensures.answer, before)
 
 pub returns-clause-decided : goal.returns-clause-decided
 returns-clause-decided g c =

@@ -1,7 +1,7 @@
 use Rattle.std.proofs.Common.{◌≡◌, ℕ, ◌<◌, length, Some}
 use Rattle.std.specs.Prelude.{slice_get}
 use Rattle.lb_dump.specs.Format.{size_in, place_in}
-use Rattle.lb_dump.proofs.making.sizes_of.Given as goal
+use Rattle.lb_dump.proofs.making.size_list.Given as goal
 
 abbrev pub invariant-loop-i : goal.invariant-loop-i
 invariant-loop-i g l = record {

@@ -1,7 +1,7 @@
 use Rattle.std.proofs.Common.{◌≡◌, ℕ, ◌<◌, length, Some}
 use Rattle.std.specs.Prelude.{slice_get}
 use Rattle.lb_dump.specs.Format.{load_in}
-use Rattle.lb_dump.proofs.making.loads_of.Given as goal
+use Rattle.lb_dump.proofs.making.load_list.Given as goal
 
 abbrev pub invariant-loop-i : goal.invariant-loop-i
 invariant-loop-i g l = record {
