@@ -10,8 +10,6 @@ mod error;
 mod scan;
 mod search;
 mod table;
-#[cfg(test)]
-mod tests;
 
 pub use assignment::name_blocks;
 pub use error::NameError;

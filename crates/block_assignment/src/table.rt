@@ -44,7 +44,7 @@ impl<A: Allocator + Copy> CostTable<A> {
         requires some_block { 1 < length cuts.now }
         requires few_blocks { length cuts.now ≤ Limits.PES + 1 }
         requires divides { IsDivision 0 (length sizes.now) (length cuts.now - 1) cuts.now }
-        ensures { IfOk result (IsTableOf sizes.now cuts.now) }
+        ensures table { IfOk result (IsTableOf sizes.now cuts.now) }
     {
         let pairs = sizes.as_slice();
         let cuts = cuts.as_slice();
@@ -91,7 +91,7 @@ impl<A: Allocator> CostTable<A> {
     #[tactic(auto, using(crate::proofs::Sums::total_more))]
     pub fn cost_of(&self, names: &[u32]) -> u64
         requires { IsNaming self.now.blocks names.now }
-        ensures { result ≡ naming_cost self.now.blocks (cost_at self.now) names.now }
+        ensures value { result ≡ naming_cost self.now.blocks (cost_at self.now) names.now }
     {
         let mut total = 0;
         for b in 0..self.blocks() {

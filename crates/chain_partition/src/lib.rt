@@ -8,8 +8,6 @@
 mod division;
 mod outcome;
 mod probing;
-#[cfg(test)]
-mod tests;
 mod walk;
 
 pub use division::divide;

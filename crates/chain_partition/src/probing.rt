@@ -21,7 +21,7 @@ pub fn probe<A: Allocator, B: Allocator>(
 ) -> Result<Probe<A>, AllocError>
     requires some_pe { 1 ≤ pes }
     requires few_pes { pes ≤ Limits.PES }
-    ensures { IfOk result (IsProbe loads.now pes limit) }
+    ensures probed { IfOk result (IsProbe loads.now pes limit) }
 {
     let ends = greedy_ends(alloc, loads, pes, limit)?;
     if ends[pes as usize] as usize == loads.len() {

@@ -23,7 +23,7 @@ impl Model for Index {
 impl Index {
     /// The index of the element at `place`, or `None` where no array reaches that far.
     pub fn new(place: u32) -> Option<Self>
-        ensures { SomeIff result (place < Limits.ELEMENTS) place }
+        ensures made { SomeIff result (place < Limits.ELEMENTS) place }
     {
         if place < Limits::ELEMENTS {
             Some(Index { place })

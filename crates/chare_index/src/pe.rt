@@ -23,7 +23,7 @@ impl Model for Pe {
 impl Pe {
     /// The PE with this number, or `None` where the number is past the last PE.
     pub fn new(number: u32) -> Option<Self>
-        ensures { SomeIff result (number < Limits.PES) number }
+        ensures made { SomeIff result (number < Limits.PES) number }
     {
         if number < Limits::PES {
             Some(Pe { number })

@@ -25,7 +25,7 @@ impl Model for Round {
 impl Round {
     /// The round with this number, or `None` where the number is past the last round.
     pub fn new(number: u32) -> Option<Self>
-        ensures { SomeIff result (number ≤ Limits.ROUND) number }
+        ensures made { SomeIff result (number ≤ Limits.ROUND) number }
     {
         if number <= Limits::ROUND {
             Some(Round { number })

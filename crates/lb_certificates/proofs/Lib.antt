@@ -9,4 +9,3 @@ pub mod MovedBytes
 pub mod NoFlaws
 pub mod NoNamingFlaws
 pub mod Totals
-pub mod TriedDivisions

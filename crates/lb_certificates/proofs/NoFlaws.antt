@@ -8,7 +8,7 @@ use Rattle.lb_certificates.specs.declared.flaw.Flaw.{Flaw}
 use Rattle.lb_certificates.specs.declared.flaw.Flaw.TheVariants.{CutCount, CutStart, CutOrder, CutEnd, Heavy, FenceCount, FenceStart, FenceOrder, FenceEnd, FenceLight, ZeroFloor}
 use Rattle.lb_certificates.specs.Chain.{IsDivision}
 use Rattle.lb_certificates.specs.Certificate.{MatchFloor, IsCertified, NoneAbove, IsFirstLight, range_load}
-use Rattle.lb_certificates.specs.Flaws.{Falls, HasFlaw, IsBefore, IsFirst, number_of, place_of}
+use Rattle.lb_certificates.specs.Flaws.{Falls, HasFlaw, IsBefore, IsFirst, flaw_number, flaw_place}
 
 -- two facts about a floor that exclude each other at either kind
 floors_apart : {A : Type 0} (floor : Floor A) (zero₁ zero₂ : Type 0) (fence₁ fence₂ : List ℕ → Type 0) → (zero₁ → zero₂ → ⊥) → ((s : List ℕ) → fence₁ s → fence₂ s → ⊥) → MatchFloor floor zero₁ fence₁ → MatchFloor floor zero₂ fence₂ → ⊥
@@ -52,7 +52,7 @@ light_is_first {A} xs p d s i division within e counted starts ordered ends firs
       no_lower_place = earlier;
     }
   where
-    lower : (other : Flaw) → number_of other < 10 → ¬ (HasFlaw xs p d other)
+    lower : (other : Flaw) → flaw_number other < 10 → ¬ (HasFlaw xs p d other)
     lower CutCount h flawed = flawed division.counted
     lower CutStart h flawed = flawed division.starts
     lower CutOrder h (k, inside, falls) = absurd (omega (arith, falls, division.ordered k (k + 1) 0 (omega arith) inside))
@@ -67,7 +67,7 @@ light_is_first {A} xs p d s i division within e counted starts ordered ends firs
         absurd (omega (arith, ends, to_fence d.floor s ⊥ (λ s. length xs ≤ slice_index s p) e flawed))
     lower _ h flawed = absurd (omega arith)
 
-    earlier : (other : Flaw) → number_of other ≡ 10 → IsBefore (place_of other) (i, 0) → ¬ (HasFlaw xs p d other)
+    earlier : (other : Flaw) → flaw_number other ≡ 10 → IsBefore (flaw_place other) (i, 0) → ¬ (HasFlaw xs p d other)
     earlier (FenceLight j) same (inr tied) flawed = absurd (omega (arith, tied.1))
     earlier (FenceLight j) same (inl lower) flawed =
         let light : (0 < j) × (j ≤ p) × (range_load xs s j < d.bottleneck) = to_fence d.floor s ⊥ (λ s. (0 < j) × (j ≤ p) × (range_load xs s j < d.bottleneck)) e flawed in

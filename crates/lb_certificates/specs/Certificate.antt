@@ -1,4 +1,4 @@
--- What a division carries so that whoever holds it can see that it is least.
+-- What a division carries so that anybody can check that it is least.
 use Rattle.std.specs.Prelude.{◌≡◌, ℕ, ◌+◌, ◌-◌, ◌<◌, ◌≤◌, List, length, slice_index}
 use Rattle.std.specs.List.Sorted.{IsNonDecreasing}
 use Rattle.lb_certificates.specs.declared.division.Floor.{Floor}
@@ -10,7 +10,7 @@ use Rattle.lb_certificates.specs.Chain.{load, block_load, IsDivision}
 abbrev pub NoneAbove : List ℕ → ℕ → ℕ → List ℕ → Type 0
 NoneAbove loads blocks bottleneck cuts = (b : ℕ) → b < blocks → block_load loads cuts b ≤ bottleneck
 
--- the load of the tasks from stop i - 1 to stop i, both included; i counts from 1
+-- the load of the elements from stop i - 1 to stop i, both included; i counts from 1
 abbrev pub range_load : List ℕ → List ℕ → ℕ → ℕ
 range_load loads stops i = load loads (slice_index stops (i - 1)) (slice_index stops i + 1)
 
@@ -25,10 +25,10 @@ pub record IsFirstLight (loads : List ℕ) (n bottleneck : ℕ) (stops : List �
   pub light : range_load loads stops i < bottleneck
   pub earlier : NoneLight loads (i - 1) bottleneck stops
 
--- A fence for a bottleneck: stops, one more than blocks, that do not fall, the first of them 0 and the last a
--- task, such that the tasks from each stop to the next, both included, weigh at least the bottleneck. Blocks
--- that are all lighter cannot pass a stop each, so they leave the last task over: no division into so many
--- blocks has a peak below the bottleneck.
+-- A fence for a bottleneck and n blocks: n + 1 stops in non-decreasing order, from 0 to an element, such that the
+-- elements from each stop to the next, both included, weigh at least the bottleneck. A block that is lighter and
+-- begins at or before one stop ends at or before the next, so n lighter blocks never contain the last stop: no
+-- division into n blocks has a peak below the bottleneck.
 pub record IsFence (loads : List ℕ) (blocks bottleneck : ℕ) (stops : List ℕ) : Type 0 where
   pub counted : length stops ≡ blocks + 1
   pub starts : slice_index stops 0 ≡ 0
@@ -45,7 +45,7 @@ MatchFloor (Fence stops) zero_floor fence = fence stops
 abbrev pub HoldsFor : {A : Type 0} → List ℕ → ℕ → ℕ → Floor A → Type 0
 HoldsFor loads blocks bottleneck floor = MatchFloor floor (bottleneck ≡ 0) (IsFence loads blocks bottleneck)
 
--- the division is one of these loads into so many blocks, none above the bottleneck, and its floor holds
+-- the cuts divide these loads into so many blocks, none of them is heavier than the bottleneck, and the floor holds
 pub record IsCertified {A : Type 0} (loads : List ℕ) (blocks : ℕ) (division : Division A) : Type 0 where
   pub divides : IsDivision 0 (length loads) blocks division.cuts
   pub within : NoneAbove loads blocks division.bottleneck division.cuts

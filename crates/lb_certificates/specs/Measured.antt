@@ -1,5 +1,5 @@
 -- What is measured of the elements of a chare array in one round, and the limits that it keeps.
-use Rattle.std.specs.Prelude.{◌≡◌, ℕ, ◌<◌, ◌≤◌, List, length, All}
+use Rattle.std.specs.Prelude.{Bool, ◌==◌, ◌&&◌, ◌≡◌, ℕ, ◌<◌, ◌≤◌, List, length, All}
 use Rattle.chare_index.specs.declared.limits.TheConstants.Limits.{ELEMENTS, PES, LOAD, STATE_BYTES}
 
 -- one load for each element
@@ -25,3 +25,7 @@ pub record IsTaken (procs : ℕ) (loads : List ℕ) (sizes : List (ℕ × ℕ)) 
   pub few_pes : procs ≤ PES
   pub paired : length loads ≡ length sizes
   pub placed : All (λ size. size.1 < procs) sizes
+
+-- the same size and the same place
+abbrev pub same_size : ℕ × ℕ → ℕ × ℕ → Bool
+same_size a b = (a.0 == b.0) && (a.1 == b.1)

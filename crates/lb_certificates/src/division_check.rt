@@ -12,11 +12,11 @@ use std::alloc::Allocator;
 /// Checks a division of these loads into `pes` blocks, whoever made it. `Ok` means that its bottleneck is the
 /// load of its heaviest block, and that no division into `pes` blocks has a lighter heaviest block.
 ///
-/// Any number of PEs and any lists may come. The loads are added up twice, and no memory is taken.
+/// Any number of PEs and any lists may be passed. The loads are added up twice, and no memory is taken.
 ///
 /// # Errors
 ///
-/// The first [`Flaw`] of their order that applies.
+/// The first [`Flaw`] that applies, in their order.
 ///
 /// The fence is the certificate of the lower bound of A. Pinar and C. Aykanat, JPDC 64(8), 2004: a probe at
 /// the bottleneck less one ends short of the last element.

@@ -1,13 +1,24 @@
-//! What a load balancer is given, what it answers, and a checker whose yes means that the answer is best.
+//! What a load balancer is given, what it decides, and checkers whose `Ok` means that no decision is better.
 //!
 //! - [`Loads`], [`Sizes`] and [`Snapshot`]: the measured load, size and place of every element.
 //! - [`Division`], with [`Cuts`], [`Floor`] and [`Stops`]: the elements cut into consecutive blocks, and the
 //!   certificate that no other division has a lighter heaviest block.
 //! - [`Naming`] and [`Prices`], with [`PriceList`]: on which PE each block runs, and the certificate that no
 //!   other naming moves fewer bytes.
-//! - [`check_division`] and [`check_naming`]: accept an answer exactly where its certificate is right, and else
-//!   name the first [`Flaw`].
-//! - [`reference`]: plain programs that try every answer, to compare faster ones with.
+//! - [`check_division`] and [`check_naming`]: accept a division or a naming exactly where its certificate is right,
+//!   and otherwise report the first [`Flaw`].
+//!
+//! Whoever made the division, an `Ok` proves it least:
+//!
+//! ```
+//! let loads = Loads::new(vec![in alloc; 1, 2, 3, 4, 5]?)?;
+//! let division = Division {
+//!     bottleneck: 9,
+//!     cuts: Cuts::new(vec![in alloc; 0, 3, 5]?),
+//!     floor: Floor::Fence(Stops::new(vec![in alloc; 0, 3, 4]?)),
+//! };
+//! check_division(&loads, 2, &division) // Ok(())
+//! ```
 #![tactic(auto)]
 
 mod block_costs;
@@ -18,15 +29,10 @@ mod flaw;
 mod loads;
 mod naming;
 mod naming_check;
-#[cfg(test)]
-mod naming_tests;
 mod prices;
-pub mod reference;
 mod sizes;
 mod snapshot;
 mod stops;
-#[cfg(test)]
-mod tests;
 
 pub use cuts::Cuts;
 pub use division::{Division, Floor};

@@ -1,9 +1,11 @@
-ghost use Rattle.std.specs.Prelude.{◌≡◌, ℕ, List, ◌≤◌, [], length, sum, IsTrue, ◌↔◌, SomeIff};
+ghost use Rattle.std.specs.Prelude.{◌≡◌, ℕ, List, ◌≤◌, [], length, sum, IsTrue, ◌↔◌, SomeIff, bytes_eq};
+ghost use Rattle.std.specs.Cmp.{partial_equiv_from_equiv};
+ghost use Rattle.std.specs.Cmp.Lexicographic.{nat_list_eq_equiv};
 ghost use Rattle.lb_certificates.specs.Measured.{IsLoads};
 ghost use Rattle.lb_certificates.specs.Chain.{load};
 
 use chare_index::Limits;
-use std::alloc::{Allocator, Global};
+use std::alloc::{AllocError, Allocator, Global};
 use std::marker::Model;
 
 /// A number of work units, 0 to [`Limits::LOAD`].
@@ -28,7 +30,7 @@ impl<A: Allocator> Model for Loads<A> {
 impl<A: Allocator> Loads<A> {
     /// These loads, or `None` where they are more than there may be elements.
     pub fn new(units: Vec<Units, A>) -> Option<Self>
-        ensures { SomeIff result (IsLoads units.items) units.items }
+        ensures made { SomeIff result (IsLoads units.items) units.items }
     {
         if units.len() <= Limits::ELEMENTS as usize {
             Some(Loads { units })
@@ -55,23 +57,23 @@ impl<A: Allocator> Loads<A> {
 
     /// Whether there is no element.
     pub fn is_empty(&self) -> bool
-        ensures { IsTrue result ↔ (self.now ≡ []) }
+        ensures value { IsTrue result ↔ (self.now ≡ []) }
     {
         self.units.is_empty()
     }
 
-    /// The load of the elements from `first` to `end`, less one: at most 281,474,976,645,120 work units.
+    /// The load of the elements `first..end`: at most 281,474,976,645,120 work units.
     pub fn load(&self, first: usize, end: usize) -> u64
         requires ordered { first ≤ end }
         requires within { end ≤ length self.now }
-        ensures { result ≡ load self.now first end }
+        ensures value { result ≡ load self.now first end }
     {
         total(&self.units[first..end])
     }
 
     /// Gives the list back.
     pub fn into_vec(self) -> Vec<Units, A>
-        ensures { result.items ≡ self }
+        ensures value { result.items ≡ self }
     {
         let Loads { units } = self;
         units
@@ -89,4 +91,23 @@ fn total(units: &[Units]) -> u64
         total += u64::from(units);
     }
     total
+}
+
+impl<A: Allocator> PartialEq for Loads<A> {
+    ghost eq = { λ a b. bytes_eq a b };
+
+    ghost laws = { partial_equiv_from_equiv nat_list_eq_equiv };
+
+    fn eq(&self, other: &Self) -> bool {
+        self.as_slice() == other.as_slice()
+    }
+}
+
+impl<A: Allocator + Copy> Clone for Loads<A> {
+    ghost is_clone = { λ v w. w ≡ v };
+
+    fn clone(&self) -> Result<Self, AllocError> {
+        let units = Vec::from_slice(*self.units.allocator(), self.as_slice())?;
+        Ok(Loads { units })
+    }
 }

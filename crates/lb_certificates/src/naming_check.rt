@@ -24,17 +24,17 @@ struct Claim<'a> {
     v: &'a [i64],
 }
 
-/// Checks a naming of the blocks between these cuts, whoever made it, by its prices, and answers the bytes
-/// moved. `Ok` means that no other naming of these blocks moves fewer bytes. There are one cut less blocks than
-/// cuts. An element whose present PE is none of the names counts as moved under every name.
+/// Checks a naming of the blocks between these cuts by its prices, whoever made it, and returns the bytes moved.
+/// `Ok` means that no other naming of these blocks moves fewer bytes. `n + 1` cuts delimit `n` blocks. An element
+/// whose present PE is none of the names counts as moved under every name.
 ///
-/// Any lists may come. No memory is taken. The time is that of the number of elements, and of the square of the
-/// number of blocks. Prices are added up in 128 bits.
+/// Any lists may be passed. It takes no memory, and time in proportion to the number of elements plus the square of
+/// the number of blocks. Prices are added up in 128 bits.
 ///
 /// # Errors
 ///
-/// The first [`Flaw`] of their order that applies: of the cuts (here [`CutCount`](Flaw::CutCount) is fewer than 2
-/// or more than 257 cuts), then of the names, then of the prices.
+/// The first [`Flaw`] that applies, in their order: of the cuts (here [`CutCount`](Flaw::CutCount) means fewer than
+/// 2 or more than 257 cuts), then of the names, then of the prices.
 ///
 /// That the prices prove the naming cheapest is the duality of the assignment problem: R. K. Ahuja,
 /// T. L. Magnanti and J. B. Orlin, "Network Flows", 1993, chapter 12.
@@ -102,7 +102,7 @@ fn check_names(claim: Claim<'_>) -> Result<(), Flaw>
     Ok(())
 }
 
-// The flaws of the prices; where there is none, the bytes moved.
+// The first flaw of the prices or, where there is none, the bytes moved.
 fn check_prices(claim: Claim<'_>) -> Result<u64, Flaw>
     requires sizes { IsSizes claim.sizes.now }
     requires blocks { AreBlocks claim.sizes.now claim.cuts.now }
@@ -279,7 +279,7 @@ fn all_apart(names: &[u32]) -> bool
 
 // The sum of prices, which are too few to leave the range.
 fn sum_of(prices: &[i64]) -> i128
-    requires { length prices.now ≤ 256 }
+    requires { length prices.now ≤ Limits.PES }
     ensures value { result ≡ price_sum prices.now }
     ensures low { neg_ℤ (pos (2 ^ 71)) ≤ℤ result }
     ensures high { result ≤ℤ pos (2 ^ 71) }

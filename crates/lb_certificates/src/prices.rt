@@ -1,6 +1,9 @@
 ghost use Rattle.std.specs.Prelude.{◌≡◌, List, ℤ};
+ghost use Rattle.std.specs.Cmp.{partial_equiv_from_equiv, int_eq_equiv};
+ghost use Rattle.std.specs.Cmp.Lexicographic.{pointwise, lists_per};
+ghost use Rattle.std.specs.Ordering.{int_eq};
 
-use std::alloc::{Allocator, Global};
+use std::alloc::{AllocError, Allocator, Global};
 use std::marker::Model;
 
 /// Prices, one for each block or for each PE, in bytes; they may be below 0. It is a plain list, under no
@@ -20,21 +23,21 @@ impl<A: Allocator> Model for PriceList<A> {
 impl<A: Allocator> PriceList<A> {
     /// These prices.
     pub fn new(prices: Vec<i64, A>) -> Self
-        ensures { result ≡ prices.items }
+        ensures value { result ≡ prices.items }
     {
         PriceList { prices }
     }
 
     /// The prices, in order.
     pub fn as_slice(&self) -> &[i64]
-        ensures { result.now ≡ self.now }
+        ensures value { result.now ≡ self.now }
     {
         self.prices.as_slice()
     }
 
     /// Gives the list back.
     pub fn into_vec(self) -> Vec<i64, A>
-        ensures { result.items ≡ self }
+        ensures value { result.items ≡ self }
     {
         let PriceList { prices } = self;
         prices
@@ -45,10 +48,30 @@ impl<A: Allocator> PriceList<A> {
 /// such that those of a block and a PE never add up to more than the bytes of the block that stand elsewhere,
 /// and all of them add up to the bytes moved. It is plain data, under no condition.
 #[derive(Drop)]
-#[derive_where(Debug)]
+#[derive_where(Debug, PartialEq)]
+#[derive_where(Clone; A: Copy)]
 pub struct Prices<A: Allocator = Global> {
     /// The prices of the blocks.
     pub u: PriceList<A>,
     /// The prices of the PEs.
     pub v: PriceList<A>,
+}
+
+impl<A: Allocator> PartialEq for PriceList<A> {
+    ghost eq = { λ a b. pointwise int_eq a b };
+
+    ghost laws = { lists_per (partial_equiv_from_equiv int_eq_equiv) };
+
+    fn eq(&self, other: &Self) -> bool {
+        self.as_slice() == other.as_slice()
+    }
+}
+
+impl<A: Allocator + Copy> Clone for PriceList<A> {
+    ghost is_clone = { λ v w. w ≡ v };
+
+    fn clone(&self) -> Result<Self, AllocError> {
+        let prices = Vec::from_slice(*self.prices.allocator(), self.as_slice())?;
+        Ok(PriceList { prices })
+    }
 }

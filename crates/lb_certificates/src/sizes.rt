@@ -1,8 +1,10 @@
 ghost use Rattle.std.specs.Prelude.{◌≡◌, ℕ, ◌≤◌, All, List, [], length, IsTrue, ◌↔◌, SomeIff};
-ghost use Rattle.lb_certificates.specs.Measured.{IsSizes};
+ghost use Rattle.std.specs.Cmp.{and_per, nat_eq_equiv, on_per, partial_equiv_from_equiv};
+ghost use Rattle.std.specs.Cmp.Lexicographic.{pointwise, lists_per};
+ghost use Rattle.lb_certificates.specs.Measured.{same_size, IsSizes};
 
 use chare_index::{Limits, Pe};
-use std::alloc::{Allocator, Global};
+use std::alloc::{AllocError, Allocator, Global};
 use std::marker::Model;
 
 /// The packed size in bytes and the present PE of every element, in order of index: at most
@@ -26,7 +28,7 @@ impl<A: Allocator> Sizes<A> {
     /// These sizes and places, or `None` where they are more than there may be elements, or where a size is
     /// more than a packed element may have.
     pub fn new(pairs: Vec<(u32, Pe), A>) -> Option<Self>
-        ensures { SomeIff result (IsSizes pairs.items) pairs.items }
+        ensures made { SomeIff result (IsSizes pairs.items) pairs.items }
     {
         if pairs.len() <= Limits::ELEMENTS as usize && fit(&pairs) {
             Some(Sizes { pairs })
@@ -53,17 +55,36 @@ impl<A: Allocator> Sizes<A> {
 
     /// Whether there is no element.
     pub fn is_empty(&self) -> bool
-        ensures { IsTrue result ↔ (self.now ≡ []) }
+        ensures value { IsTrue result ↔ (self.now ≡ []) }
     {
         self.pairs.is_empty()
     }
 
     /// Gives the list back.
     pub fn into_vec(self) -> Vec<(u32, Pe), A>
-        ensures { result.items ≡ self }
+        ensures value { result.items ≡ self }
     {
         let Sizes { pairs } = self;
         pairs
+    }
+}
+
+impl<A: Allocator> PartialEq for Sizes<A> {
+    ghost eq = { λ a b. pointwise same_size a b };
+
+    ghost laws = { lists_per (and_per (on_per (λ t. t.0) (partial_equiv_from_equiv nat_eq_equiv)) (on_per (λ t. t.1) (partial_equiv_from_equiv nat_eq_equiv))) };
+
+    fn eq(&self, other: &Self) -> bool {
+        self.as_slice() == other.as_slice()
+    }
+}
+
+impl<A: Allocator + Copy> Clone for Sizes<A> {
+    ghost is_clone = { λ v w. w ≡ v };
+
+    fn clone(&self) -> Result<Self, AllocError> {
+        let pairs = Vec::from_slice(*self.pairs.allocator(), self.as_slice())?;
+        Ok(Sizes { pairs })
     }
 }
 

@@ -6,7 +6,7 @@ use Rattle.std.specs.Prelude.{◌≡◌, ℕ, ◌+◌, ◌<◌, ◌≤◌, min, 
 use Rattle.chare_index.specs.declared.limits.TheConstants.Limits.{ELEMENTS, ROUND, LOAD, STATE_BYTES}
 use Rattle.lb_certificates.specs.Measured.{Taken, IsLoads}
 
--- what was measured so far in the round: the units charged to each element, and of each element that has
+-- What was measured so far in the round: the units charged to each element, and of each element that has
 -- reported the packed size in bytes and the PE on which it stands
 pub record Measured : Type 0 where
   pub round : ℕ
@@ -17,7 +17,7 @@ pub record Measured : Type 0 where
 abbrev pub elements : Measured → ℕ
 elements m = length m.loads
 
--- units count up to the limit of a load
+-- a load is at most the limit: units above it are not counted
 abbrev pub saturated : ℕ → ℕ
 saturated units = min units LOAD
 
@@ -33,7 +33,7 @@ report_of m i = slice_index_or m.reports i None
 abbrev pub IsComplete : Measured → Type 0
 IsComplete m = All IsSome m.reports
 
--- no element that has reported stands on a PE from pes on
+-- each element that has reported stands on one of the PEs 0..pes
 abbrev pub StandBelow : ℕ → Measured → Type 0
 StandBelow pes m = All (λ report. IfSome report (λ size. size.1 < pes)) m.reports
 
@@ -57,7 +57,7 @@ pub record AreReports (reports : List (Option (ℕ × ℕ))) : Type 0 where
   pub few : length reports ≤ ELEMENTS
   pub small : All (λ report. IfSome report (λ size. size.0 ≤ STATE_BYTES)) reports
 
--- what is measured keeps the limits, and speaks of the same elements in both lists
+-- what is measured keeps the limits, and both lists are of the same elements
 pub record IsMeasured (m : Measured) : Type 0 where
   pub started : 0 < m.round
   pub numbered : m.round ≤ ROUND

@@ -6,7 +6,7 @@ ghost use Rattle.lb_database.specs.Measuring.{Measured, IsMeasured, elements, sa
 ghost use Rattle.lb_database.specs.Refusals.{RefusesNew, RefusesCharge, IsReport, RefusesReport, RefusesSnapshot, HasNextRound, RefusesNextRound};
 
 use crate::error::DbError;
-use crate::lists::{filled, loads_of, sizes_of};
+use crate::lists::{copied_loads, filled, reported_sizes};
 use chare_index::{Limits, Pe, Round};
 use lb_certificates::{Snapshot, Units};
 use std::alloc::{AllocError, Allocator, Global};
@@ -78,7 +78,7 @@ impl<A: Allocator> LoadDb<A> {
     /// Adds work units to the load of element `i`, which stops at [`Limits::LOAD`], whether the element has
     /// reported or not. The only refusal is [`DbError::Stranger`].
     pub fn charge(&mut self, i: u32, units: Units) -> Result<(), DbError>
-        ensures told { MatchResult result (λ _. i < elements self.old) (RefusesCharge self.old i) }
+        ensures answer { MatchResult result (λ _. i < elements self.old) (RefusesCharge self.old i) }
         ensures ok { OnOk result (self.new ≡ with_charge self.old i units) }
         ensures err { OnErr result (self.new ≡ self.old) }
     {
@@ -91,7 +91,7 @@ impl<A: Allocator> LoadDb<A> {
     /// Refusals, the first that applies: [`DbError::Stranger`], [`DbError::WrongRound`] where the database
     /// is in another round, [`DbError::Twice`], and [`DbError::TooLarge`] above [`Limits::STATE_BYTES`].
     pub fn report(&mut self, i: u32, round: Round, bytes: u32, pe: Pe) -> Result<(), DbError>
-        ensures told { MatchResult result (λ _. IsReport self.old i round bytes) (RefusesReport self.old i round bytes) }
+        ensures answer { MatchResult result (λ _. IsReport self.old i round bytes) (RefusesReport self.old i round bytes) }
         ensures ok { OnOk result (self.new ≡ with_report self.old i bytes pe) }
         ensures err { OnErr result (self.new ≡ self.old) }
     {
@@ -113,22 +113,22 @@ impl<A: Allocator> LoadDb<A> {
     /// Whether every element has reported in the round. It holds at once where there is no element.
     #[tactic(auto, using(crate::proofs::Reports::all_there, crate::proofs::Reports::none_missing))]
     pub fn is_complete(&self) -> bool
-        ensures { IsTrue result ↔ IsComplete self.now }
+        ensures complete { IsTrue result ↔ IsComplete self.now }
     {
         self.missing == 0
     }
 
-    /// Whether each element that has reported stands on one of the first `pes` PEs.
+    /// Whether each element that has reported stands on one of the PEs `0..pes`.
     pub fn stands_on(&self, pes: u32) -> bool
-        ensures { IsTrue result ↔ StandBelow pes self.now }
+        ensures below { IsTrue result ↔ StandBelow pes self.now }
     {
         self.reports
             .iter()
             .all(|report| report.is_none_or(|(_, place)| place.get() < pes))
     }
 
-    /// What a load balancer decides on, taken at `step` of a run on `pes` PEs, on which all elements have to
-    /// stand, as [`stands_on`](LoadDb::stands_on) tells. Refusals: [`DbError::Incomplete`] where an element
+    /// What a load balancer decides on, taken at `step` of a run on `pes` PEs. All elements have to stand on these,
+    /// which [`stands_on`](LoadDb::stands_on) tests. Refusals: [`DbError::Incomplete`] where an element
     /// has not reported, then [`DbError::OutOfMemory`].
     pub fn snapshot(&self, step: u32, pes: u32) -> Result<Snapshot<A>, DbError>
     where
@@ -136,7 +136,7 @@ impl<A: Allocator> LoadDb<A> {
         requires some_pe { 0 < pes }
         requires few_pes { pes ≤ Limits.PES }
         requires placed { StandBelow pes self.now }
-        ensures told { MatchResult result (λ _. IsComplete self.now) (RefusesSnapshot self.now) }
+        ensures answer { MatchResult result (λ _. IsComplete self.now) (RefusesSnapshot self.now) }
         ensures taken { IfOk result (IsSnapshotOf self.now step pes) }
     {
         if self.is_complete() {
@@ -158,8 +158,8 @@ impl<A: Allocator> LoadDb<A> {
         ensures refused { OnErr result (0 < elements self.now) }
     {
         let alloc = *self.loads.allocator();
-        let loads = loads_of(alloc, &self.loads)?;
-        let sizes = sizes_of(alloc, &self.reports)?;
+        let loads = copied_loads(alloc, &self.loads)?;
+        let sizes = reported_sizes(alloc, &self.reports)?;
         Ok(Snapshot::new(step, pes, loads, sizes).unwrap())
     }
 
@@ -167,7 +167,7 @@ impl<A: Allocator> LoadDb<A> {
     /// [`DbError::Incomplete`] where an element has not reported, and [`DbError::Worn`] in round
     /// [`Limits::ROUND`].
     pub fn next_round(&mut self) -> Result<(), DbError>
-        ensures told { MatchResult result (λ _. HasNextRound self.old) (RefusesNextRound self.old) }
+        ensures answer { MatchResult result (λ _. HasNextRound self.old) (RefusesNextRound self.old) }
         ensures ok { OnOk result (self.new ≡ opening (self.old.round + 1) (elements self.old)) }
         ensures err { OnErr result (self.new ≡ self.old) }
     {
@@ -183,7 +183,7 @@ impl<A: Allocator> LoadDb<A> {
 
     /// The round that is measured.
     pub fn round(&self) -> Round
-        ensures { result ≡ self.now.round }
+        ensures value { result ≡ self.now.round }
     {
         self.round
     }
@@ -198,14 +198,14 @@ impl<A: Allocator> LoadDb<A> {
 
     /// Whether there is no element.
     pub fn is_empty(&self) -> bool
-        ensures { IsTrue result ↔ (elements self.now ≡ 0) }
+        ensures value { IsTrue result ↔ (elements self.now ≡ 0) }
     {
         self.loads.is_empty()
     }
 
     /// The units charged to element `i` in the round, or `None` where there is no such element.
     pub fn load(&self, i: u32) -> Option<Units>
-        ensures { result ≡ slice_get self.now.loads i }
+        ensures value { result ≡ slice_get self.now.loads i }
     {
         self.loads.get(i as usize).copied()
     }
@@ -213,15 +213,15 @@ impl<A: Allocator> LoadDb<A> {
     /// The packed size in bytes and the place that element `i` has reported in the round, or `None` where
     /// it has not, or there is no such element.
     pub fn reported(&self, i: u32) -> Option<(u32, Pe)>
-        ensures { result ≡ report_of self.now i }
+        ensures value { result ≡ report_of self.now i }
     {
         self.reports.get(i as usize).copied().flatten()
     }
 }
 
-// The sum, up to the limit of a load.
+// The sum, or the limit of a load where that is less.
 fn saturating_sum(load: Units, units: Units) -> Units
-    ensures { result ≡ saturated (load + units) }
+    ensures value { result ≡ saturated (load + units) }
 {
     load.saturating_add(units).min(Limits::LOAD)
 }

@@ -4,8 +4,8 @@ ghost use Rattle.lb_database.specs.declared.error.DbError.TheVariants.{OutOfMemo
 use std::alloc::AllocError;
 use thiserror::Error;
 
-/// Why a call of the load database was refused. Where several reasons apply, the one with the lowest number
-/// is told. The numbers are stable.
+/// Why a call of the load database was refused. Where several reasons apply, it is the one with the lowest
+/// number. The numbers stay the same in later versions.
 #[derive(Clone, Copy, Debug, PartialEq, Eq, Error)]
 pub enum DbError {
     /// There is no element with this index.
@@ -17,7 +17,7 @@ pub enum DbError {
     /// The element has reported in this round.
     #[error("the element has reported already")]
     Twice = 3,
-    /// The packed size is above 1,048,576 bytes.
+    /// The packed size is above 1,048,576 bytes (`Limits::STATE_BYTES`).
     #[error("the packed size is out of range")]
     TooLarge = 4,
     /// An element has not reported in this round.

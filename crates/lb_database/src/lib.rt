@@ -9,8 +9,6 @@
 mod database;
 mod error;
 mod lists;
-#[cfg(test)]
-mod tests;
 
 pub use database::LoadDb;
 pub use error::DbError;

@@ -21,7 +21,7 @@ pub fn filled<T: Copy, A: Allocator>(alloc: A, value: T, n: usize) -> Result<Vec
 
 /// The loads of a snapshot: a copy of these.
 #[tactic(auto, using(lb_certificates::proofs::Made::made_where))]
-pub fn loads_of<A: Allocator>(alloc: A, units: &[Units]) -> Result<Loads<A>, AllocError>
+pub fn copied_loads<A: Allocator>(alloc: A, units: &[Units]) -> Result<Loads<A>, AllocError>
     requires { IsLoads units.now }
     ensures items { IfOk result (λ loads. loads ≡ units.now) }
     ensures refused { OnErr result (0 < length units.now) }
@@ -33,7 +33,7 @@ pub fn loads_of<A: Allocator>(alloc: A, units: &[Units]) -> Result<Loads<A>, All
 
 /// The sizes of a snapshot: what all elements have reported.
 #[tactic(auto, using(lb_certificates::proofs::Made::made_where, crate::proofs::Reports::sizes_there))]
-pub fn sizes_of<A: Allocator>(
+pub fn reported_sizes<A: Allocator>(
     alloc: A,
     reports: &[Option<(u32, Pe)>],
 ) -> Result<Sizes<A>, AllocError>

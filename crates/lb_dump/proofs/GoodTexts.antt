@@ -1,8 +1,8 @@
 -- What is known of a text stays so when it goes on.
-use Rattle.std.proofs.Common.{◌≡◌, ℕ, ◌+◌, ◌*◌, ◌<◌, ◌≤◌, inl, inr, List, ◌++◌, length, ap, sym, refl, ◌∙◌, ◌-◌, ◌/◌, arith, length-append, append_assoc, subst}
+use Rattle.std.proofs.Common.{◌≡◌, ℕ, ◌+◌, ◌<◌, ◌≤◌, inl, inr, List, ◌++◌, length, ap, sym, refl, ◌∙◌, ◌-◌, ◌/◌, arith, length-append, append_assoc, subst}
 use Rattle.std.proofs.lemmas.Bool.{cases_lt}
 use Rattle.std.proofs.lemmas.List.{get_or_append_left}
-use Rattle.lb_dump.specs.Format.{whole_len}
+use Rattle.lb_dump.specs.Format.{whole_len, procs_at, count_at, head_len, load_at, size_at, place_at, element_len, in_element}
 use Rattle.lb_dump.specs.Faults.{IsGoodTo, IsGood, IsBroken}
 use Rattle.lb_dump.specs.declared.error.DumpError.{DumpError}
 use Rattle.lb_dump.specs.declared.error.DumpError.TheVariants.{Magic, Short, Procs, Count, Size, Place, Trailing, Read, Write, OutOfMemory}
@@ -12,28 +12,28 @@ pub good_append : (text more : List ℕ) (end : ℕ) → IsGoodTo text end → e
 good_append text more end good inside =
     record {
       starts = λ k in_letters in_end. get_or_append_left text more 0 k (omega arith) ∙ good.starts k in_letters in_end;
-      some_pe = λ long. rw (word-append text more 8 (omega arith)) (good.some_pe long);
-      few_pes = λ long. rw (word-append text more 8 (omega arith)) (good.few_pes long);
-      count = λ long. rw (word-append text more 12 (omega arith)) (good.count long);
-      sizes = λ i long. rw (word-append text more (20 + 12 * i) (omega arith)) (good.sizes i long);
-      places = λ i long. rw (word-append text more 8 (omega arith), word-append text more (24 + 12 * i) (omega arith)) (good.places i long);
+      some_pe = λ long. rw (word-append text more procs_at (omega arith)) (good.some_pe long);
+      few_pes = λ long. rw (word-append text more procs_at (omega arith)) (good.few_pes long);
+      count = λ long. rw (word-append text more count_at (omega arith)) (good.count long);
+      sizes = λ i long. rw (word-append text more (in_element i size_at) (omega arith)) (good.sizes i long);
+      places = λ i long. rw (word-append text more procs_at (omega arith), word-append text more (in_element i place_at) (omega arith)) (good.places i long);
       inside = goes_on;
     }
   where
     goes_on : end ≤ whole_len (text ++ more)
     goes_on =
-        elim (cases_lt end 16) [
+        elim (cases_lt end head_len) [
           | inl below ↦ omega arith
-          | inr above ↦ omega (arith, word-append text more 12 (omega arith), good.inside)
+          | inr above ↦ omega (arith, word-append text more count_at (omega arith), good.inside)
         ]
 
 pub broken_append : (text more : List ℕ) (e : DumpError) → IsBroken text e → IsBroken (text ++ more) e
 broken_append text more Magic (k, in_letters, inside, differs) = (k, in_letters, omega (arith, length-append text more), λ same. differs (sym (get_or_append_left text more 0 k inside) ∙ same))
-broken_append text more Procs (long, good, bad) = (omega (arith, length-append text more), good_append text more 11 good (omega arith), rw (word-append text more 8 (omega arith)) bad)
-broken_append text more Count (long, good, bad) = (omega (arith, length-append text more), good_append text more 15 good (omega arith), rw (word-append text more 12 (omega arith)) bad)
-broken_append text more (Size i) (long, good, bad) = (omega (arith, length-append text more), good_append text more (23 + 12 * i) good (omega arith), rw (word-append text more (20 + 12 * i) (omega arith)) bad)
-broken_append text more (Place i) (long, good, bad) = (omega (arith, length-append text more), good_append text more (27 + 12 * i) good (omega arith), rw (word-append text more 8 (omega arith), word-append text more (24 + 12 * i) (omega arith)) bad)
-broken_append text more Trailing (long, good) = rw (word-append text more 12 (omega arith)) (omega (arith, length-append text more), good_append text more (whole_len text) good (omega arith))
+broken_append text more Procs (long, good, bad) = (omega (arith, length-append text more), good_append text more (procs_at + 3) good (omega arith), rw (word-append text more procs_at (omega arith)) bad)
+broken_append text more Count (long, good, bad) = (omega (arith, length-append text more), good_append text more (count_at + 3) good (omega arith), rw (word-append text more count_at (omega arith)) bad)
+broken_append text more (Size i) (long, good, bad) = (omega (arith, length-append text more), good_append text more (in_element i (size_at + 3)) good (omega arith), rw (word-append text more (in_element i size_at) (omega arith)) bad)
+broken_append text more (Place i) (long, good, bad) = (omega (arith, length-append text more), good_append text more (in_element i (place_at + 3)) good (omega arith), rw (word-append text more procs_at (omega arith), word-append text more (in_element i place_at) (omega arith)) bad)
+broken_append text more Trailing (long, good) = rw (word-append text more count_at (omega arith)) (omega (arith, length-append text more), good_append text more (whole_len text) good (omega arith))
 broken_append text more (Short n) broken = elim broken [ ]
 broken_append text more Read broken = elim broken [ ]
 broken_append text more Write broken = elim broken [ ]
@@ -53,16 +53,16 @@ good_before text end before good le =
     }
 
 -- the whole elements of a text of so many bytes are good when more has come
-pub resumes : (text front joined : List ℕ) (len : ℕ) → joined ≡ text ++ front → len ≡ length text → IsGood text → 16 ≤ len → IsGoodTo joined (16 + 12 * ((len - 16) / 12))
+pub resumes : (text front joined : List ℕ) (len : ℕ) → joined ≡ text ++ front → len ≡ length text → IsGood text → head_len ≤ len → IsGoodTo joined (in_element ((len - head_len) / element_len) load_at)
 resumes text front joined len e counted good long =
-    subst (λ t. IsGoodTo t (16 + 12 * ((len - 16) / 12))) (sym e)
-    (good_before (text ++ front) (length text) (16 + 12 * ((len - 16) / 12)) (good_append text front (length text) good (omega arith)) (omega arith))
+    subst (λ t. IsGoodTo t (in_element ((len - head_len) / element_len) load_at)) (sym e)
+    (good_before (text ++ front) (length text) (in_element ((len - head_len) / element_len) load_at) (good_append text front (length text) good (omega arith)) (omega arith))
 
 -- the length that a text asks for is asked for when more has come
-pub whole_len-append : (text front joined : List ℕ) → joined ≡ text ++ front → 16 ≤ length text → whole_len joined ≡ whole_len text
-whole_len-append text front joined e long = rw e (rw (word-append text front 12 (omega arith)) refl)
+pub whole_len-append : (text front joined : List ℕ) → joined ≡ text ++ front → head_len ≤ length text → whole_len joined ≡ whole_len text
+whole_len-append text front joined e long = rw e (rw (word-append text front count_at (omega arith)) refl)
 
--- a fault in a front of what came
+-- a fault in a prefix of what came
 pub broken_by : (text front rest piece : List ℕ) (e : DumpError) → piece ≡ front ++ rest → IsBroken (text ++ front) e → IsBroken (text ++ piece) e
 broken_by text front rest piece e parts broken =
     let joined : (text ++ front) ++ rest ≡ text ++ piece = append_assoc text front rest ∙ ap (λ (p : List ℕ). text ++ p) (sym parts) in

@@ -7,7 +7,7 @@ use Rattle.std.proofs.lemmas.List.{same_lists}
 use Rattle.std.proofs.lemmas.Option.{get_or_from_slice_get}
 use Rattle.chare_index.specs.declared.limits.TheConstants.Limits.{STATE_BYTES}
 use Rattle.lb_certificates.specs.Measured.{Taken}
-use Rattle.lb_dump.specs.Format.{word, IsBytes, load_in, size_in, place_in, whole_len, IsText}
+use Rattle.lb_dump.specs.Format.{word, IsBytes, load_in, size_in, place_in, whole_len, IsText, procs_at, count_at, load_at, size_at, place_at, in_element}
 use Rattle.lb_dump.specs.Faults.{IsGoodTo, IsGood, IsBroken, IsShort, IsFault}
 use Rattle.lb_dump.specs.Reading.{IsAnswer}
 use Rattle.lb_dump.specs.declared.error.DumpError.{DumpError}
@@ -36,10 +36,10 @@ record Stop (text : List ℕ) (at : ℕ) : Type 0 where
 
 -- the offset of the last byte of the field that breaks its rule, which for the letters can be any of the first four
 abbrev offset_of : List ℕ → DumpError → ℕ
-offset_of text Procs = 11
-offset_of text Count = 15
-offset_of text (Size i) = 23 + 12 * i
-offset_of text (Place i) = 27 + 12 * i
+offset_of text Procs = procs_at + 3
+offset_of text Count = count_at + 3
+offset_of text (Size i) = in_element i (size_at + 3)
+offset_of text (Place i) = in_element i (place_at + 3)
 offset_of text Trailing = whole_len text
 offset_of text _ = 0
 
@@ -81,10 +81,10 @@ stuck_at_letters text end (k, in_letters, inside, differs) long good = differs (
 magic_alone : (text : List ℕ) (e : DumpError) → IsBroken text Magic → IsBroken text e → e ≡ Magic
 magic_alone text Magic magic broken = refl
 magic_alone text (Short n) magic broken = elim broken [ ]
-magic_alone text Procs magic (long, good, bad) = absurd (stuck_at_letters text 11 magic (omega arith) good)
-magic_alone text Count magic (long, good, bad) = absurd (stuck_at_letters text 15 magic (omega arith) good)
-magic_alone text (Size i) magic (long, good, bad) = absurd (stuck_at_letters text (23 + 12 * i) magic (omega arith) good)
-magic_alone text (Place i) magic (long, good, bad) = absurd (stuck_at_letters text (27 + 12 * i) magic (omega arith) good)
+magic_alone text Procs magic (long, good, bad) = absurd (stuck_at_letters text (procs_at + 3) magic (omega arith) good)
+magic_alone text Count magic (long, good, bad) = absurd (stuck_at_letters text (count_at + 3) magic (omega arith) good)
+magic_alone text (Size i) magic (long, good, bad) = absurd (stuck_at_letters text (in_element i (size_at + 3)) magic (omega arith) good)
+magic_alone text (Place i) magic (long, good, bad) = absurd (stuck_at_letters text (in_element i (place_at + 3)) magic (omega arith) good)
 magic_alone text Trailing magic (long, good) = absurd (stuck_at_letters text (whole_len text) magic (omega arith) good)
 magic_alone text Read magic broken = elim broken [ ]
 magic_alone text Write magic broken = elim broken [ ]
@@ -202,13 +202,13 @@ same_words s a b one other (suc (suc (suc j))) inside = at_element (j / 3) (j % 
 
     at_element : (i r : ℕ) → r < 3 → j ≡ 3 * i + r → word a (4 * (suc (suc (suc j)) + 1)) ≡ word b (4 * (suc (suc (suc j)) + 1))
     at_element i zero small e =
-        let at : 4 * (suc (suc (suc j)) + 1) ≡ 16 + 12 * i = omega arith in
+        let at : 4 * (suc (suc (suc j)) + 1) ≡ in_element i load_at = omega arith in
         rw at (loads i (omega (arith, one.whole)))
     at_element i (suc zero) small e =
-        let at : 4 * (suc (suc (suc j)) + 1) ≡ 20 + 12 * i = omega arith in
+        let at : 4 * (suc (suc (suc j)) + 1) ≡ in_element i size_at = omega arith in
         rw at (ap (λ (p : ℕ × ℕ). p.0) (pairs i (omega (arith, one.whole))))
     at_element i (suc (suc zero)) small e =
-        let at : 4 * (suc (suc (suc j)) + 1) ≡ 24 + 12 * i = omega arith in
+        let at : 4 * (suc (suc (suc j)) + 1) ≡ in_element i place_at = omega arith in
         rw at (ap (λ (p : ℕ × ℕ). p.1) (pairs i (omega (arith, one.whole))))
     at_element i (suc (suc (suc r))) small e = absurd (omega arith)
 

@@ -6,8 +6,9 @@ use borrow.Author.Count.{below_more}
 use Rattle.std.proofs.lemmas.Bool.{cases_lt}
 use Rattle.std.proofs.lemmas.List.{get_or_append_left, get_or-append_right, append-nil}
 use Rattle.lb_certificates.specs.Measured.{Taken}
-use Rattle.lb_dump.specs.Format.{word, letters, load_in, size_in, place_in, IsSnapshot, IsBytes, IsText}
-use Rattle.lb_dump.specs.Parts.{IsFront, IsRun, Puts}
+use Rattle.lb_dump.specs.Format.{word, letters, load_in, size_in, place_in, IsSnapshot, IsBytes, IsText, step_at, procs_at, count_at, head_len, load_at, size_at, place_at, element_len, in_element}
+use Rattle.lb_dump.specs.Internal.{IsPrefix, IsRun}
+use Rattle.lb_dump.specs.Writing.{Puts}
 use Rattle.lb_dump.specs.declared.error.DumpError.{DumpError}
 use Rattle.lb_dump.specs.declared.error.DumpError.TheVariants.{Write}
 use Rattle.std.specs.Int.{w32, to_be_bytes}
@@ -17,7 +18,7 @@ use Rattle.std.proofs.lemmas.Option.{slice_get-get_or}
 use Rattle.lb_dump.proofs.WordLaws.{word-append, word-after, no_bytes, number_bytes}
 
 -- the head of a snapshot
-pub starts_with_head : (s : Taken) (head : List ℕ) → length head ≡ 16 → IsBytes head → ((k : ℕ) → k < 4 → slice_index head k ≡ slice_index letters k) → word head 4 ≡ s.step → word head 8 ≡ s.procs → word head 12 ≡ length s.loads → IsFront s 0 head
+pub starts_with_head : (s : Taken) (head : List ℕ) → length head ≡ head_len → IsBytes head → ((k : ℕ) → k < 4 → slice_index head k ≡ slice_index letters k) → word head step_at ≡ s.step → word head procs_at ≡ s.procs → word head count_at ≡ length s.loads → IsPrefix s 0 head
 starts_with_head s head len bytes starts step procs count =
     record {
       len = omega (arith, len);
@@ -38,33 +39,33 @@ bytes-append xs ys left right k =
     ]
 
 -- the bytes of one element more
-pub goes_on : (s : Taken) (n : ℕ) (text element : List ℕ) → IsFront s n text → length element ≡ 12 → IsBytes element → slice_get s.loads n ≡ Some (word element 0) → slice_get s.sizes n ≡ Some (word element 4, word element 8) → IsFront s (n + 1) (text ++ element)
+pub goes_on : (s : Taken) (n : ℕ) (text element : List ℕ) → IsPrefix s n text → length element ≡ element_len → IsBytes element → slice_get s.loads n ≡ Some (word element load_at) → slice_get s.sizes n ≡ Some (word element size_at, word element place_at) → IsPrefix s (n + 1) (text ++ element)
 goes_on s n text element front len bytes load size =
     record {
       len = omega (arith, length-append text element, front.len);
       bytes = bytes-append text element front.bytes bytes;
       starts = λ k in_letters. get_or_append_left text element 0 k (omega (arith, front.len)) ∙ front.starts k in_letters;
-      step = word-append text element 4 (omega (arith, front.len)) ∙ front.step;
-      procs = word-append text element 8 (omega (arith, front.len)) ∙ front.procs;
-      count = word-append text element 12 (omega (arith, front.len)) ∙ front.count;
+      step = word-append text element step_at (omega (arith, front.len)) ∙ front.step;
+      procs = word-append text element procs_at (omega (arith, front.len)) ∙ front.procs;
+      count = word-append text element count_at (omega (arith, front.len)) ∙ front.count;
       loads = below_more (λ i. slice_get s.loads i ≡ Some (load_in (text ++ element) i)) n
-          (λ i below. rw (word-append text element (16 + 12 * i) (omega (arith, front.len))) (front.loads i below))
-          (rw (word-after text element (16 + 12 * n) 0 (omega (arith, front.len))) load);
+          (λ i below. rw (word-append text element (in_element i load_at) (omega (arith, front.len))) (front.loads i below))
+          (rw (word-after text element (in_element n load_at) load_at (omega (arith, front.len))) load);
       sizes = below_more (λ i. slice_get s.sizes i ≡ Some (size_in (text ++ element) i, place_in (text ++ element) i)) n
-          (λ i below. rw (word-append text element (20 + 12 * i) (omega (arith, front.len)), word-append text element (24 + 12 * i) (omega (arith, front.len))) (front.sizes i below))
-          (rw (word-after text element (20 + 12 * n) 4 (omega (arith, front.len)), word-after text element (24 + 12 * n) 8 (omega (arith, front.len))) size);
+          (λ i below. rw (word-append text element (in_element i size_at) (omega (arith, front.len)), word-append text element (in_element i place_at) (omega (arith, front.len))) (front.sizes i below))
+          (rw (word-after text element (in_element n size_at) size_at (omega (arith, front.len)), word-after text element (in_element n place_at) place_at (omega (arith, front.len))) size);
     }
 
 -- the bytes of some elements more
-pub joined : (s : Taken) (n m : ℕ) (text run : List ℕ) → IsFront s n text → IsRun s.loads s.sizes n m run → IsFront s (n + m) (text ++ run)
+pub joined : (s : Taken) (n m : ℕ) (text run : List ℕ) → IsPrefix s n text → IsRun s.loads s.sizes n m run → IsPrefix s (n + m) (text ++ run)
 joined s n m text run front after =
     record {
       len = omega (arith, length-append text run, front.len, after.len);
       bytes = bytes-append text run front.bytes after.bytes;
       starts = λ k in_letters. get_or_append_left text run 0 k (omega (arith, front.len)) ∙ front.starts k in_letters;
-      step = word-append text run 4 (omega (arith, front.len)) ∙ front.step;
-      procs = word-append text run 8 (omega (arith, front.len)) ∙ front.procs;
-      count = word-append text run 12 (omega (arith, front.len)) ∙ front.count;
+      step = word-append text run step_at (omega (arith, front.len)) ∙ front.step;
+      procs = word-append text run procs_at (omega (arith, front.len)) ∙ front.procs;
+      count = word-append text run count_at (omega (arith, front.len)) ∙ front.count;
       loads = loads;
       sizes = sizes;
     }
@@ -72,19 +73,19 @@ joined s n m text run front after =
     loads : (i : ℕ) → i < n + m → slice_get s.loads i ≡ Some (load_in (text ++ run) i)
     loads i inside =
         elim (cases_lt i n) [
-          | inl below ↦ rw (word-append text run (16 + 12 * i) (omega (arith, front.len))) (front.loads i below)
+          | inl below ↦ rw (word-append text run (in_element i load_at) (omega (arith, front.len))) (front.loads i below)
           | inr above ↦
               let same : n + (i - n) ≡ i = omega arith in
-              rw (word-after text run (16 + 12 * i) (12 * (i - n)) (omega (arith, front.len))) (subst (λ j. slice_get s.loads j ≡ Some (word run (12 * (i - n)))) same (after.loads_are (i - n) (omega arith)))
+              rw (word-after text run (in_element i load_at) (load_at + element_len * (i - n)) (omega (arith, front.len))) (subst (λ j. slice_get s.loads j ≡ Some (word run (load_at + element_len * (i - n)))) same (after.loads_are (i - n) (omega arith)))
         ]
 
     sizes : (i : ℕ) → i < n + m → slice_get s.sizes i ≡ Some (size_in (text ++ run) i, place_in (text ++ run) i)
     sizes i inside =
         elim (cases_lt i n) [
-          | inl below ↦ rw (word-append text run (20 + 12 * i) (omega (arith, front.len)), word-append text run (24 + 12 * i) (omega (arith, front.len))) (front.sizes i below)
+          | inl below ↦ rw (word-append text run (in_element i size_at) (omega (arith, front.len)), word-append text run (in_element i place_at) (omega (arith, front.len))) (front.sizes i below)
           | inr above ↦
               let same : n + (i - n) ≡ i = omega arith in
-              rw (word-after text run (20 + 12 * i) (4 + 12 * (i - n)) (omega (arith, front.len)), word-after text run (24 + 12 * i) (8 + 12 * (i - n)) (omega (arith, front.len))) (subst (λ j. slice_get s.sizes j ≡ Some (word run (4 + 12 * (i - n)), word run (8 + 12 * (i - n)))) same (after.sizes_are (i - n) (omega arith)))
+              rw (word-after text run (in_element i size_at) (size_at + element_len * (i - n)) (omega (arith, front.len)), word-after text run (in_element i place_at) (place_at + element_len * (i - n)) (omega (arith, front.len))) (subst (λ j. slice_get s.sizes j ≡ Some (word run (size_at + element_len * (i - n)), word run (place_at + element_len * (i - n)))) same (after.sizes_are (i - n) (omega arith)))
         ]
 
 -- no elements
@@ -93,22 +94,22 @@ no_run loads sizes first =
     record { len = omega arith; bytes = no_bytes; loads_are = λ i none. absurd (omega arith); sizes_are = λ i none. absurd (omega arith) }
 
 -- one element more
-pub runs_on : (loads : List ℕ) (sizes : List (ℕ × ℕ)) (first n : ℕ) (run element : List ℕ) → IsRun loads sizes first n run → length element ≡ 12 → IsBytes element
-    → slice_get loads (first + n) ≡ Some (word element 0) → slice_get sizes (first + n) ≡ Some (word element 4, word element 8) → IsRun loads sizes first (n + 1) (run ++ element)
+pub runs_on : (loads : List ℕ) (sizes : List (ℕ × ℕ)) (first n : ℕ) (run element : List ℕ) → IsRun loads sizes first n run → length element ≡ element_len → IsBytes element
+    → slice_get loads (first + n) ≡ Some (word element load_at) → slice_get sizes (first + n) ≡ Some (word element size_at, word element place_at) → IsRun loads sizes first (n + 1) (run ++ element)
 runs_on loads sizes first n run element before len bytes load size =
     record {
       len = omega (arith, length-append run element, before.len);
       bytes = bytes-append run element before.bytes bytes;
-      loads_are = below_more (λ i. slice_get loads (first + i) ≡ Some (word (run ++ element) (12 * i))) n
-          (λ i below. rw (word-append run element (12 * i) (omega (arith, before.len))) (before.loads_are i below))
-          (rw (word-after run element (12 * n) 0 (omega (arith, before.len))) load);
-      sizes_are = below_more (λ i. slice_get sizes (first + i) ≡ Some (word (run ++ element) (4 + 12 * i), word (run ++ element) (8 + 12 * i))) n
-          (λ i below. rw (word-append run element (4 + 12 * i) (omega (arith, before.len)), word-append run element (8 + 12 * i) (omega (arith, before.len))) (before.sizes_are i below))
-          (rw (word-after run element (4 + 12 * n) 4 (omega (arith, before.len)), word-after run element (8 + 12 * n) 8 (omega (arith, before.len))) size);
+      loads_are = below_more (λ i. slice_get loads (first + i) ≡ Some (word (run ++ element) (load_at + element_len * i))) n
+          (λ i below. rw (word-append run element (load_at + element_len * i) (omega (arith, before.len))) (before.loads_are i below))
+          (rw (word-after run element (load_at + element_len * n) load_at (omega (arith, before.len))) load);
+      sizes_are = below_more (λ i. slice_get sizes (first + i) ≡ Some (word (run ++ element) (size_at + element_len * i), word (run ++ element) (place_at + element_len * i))) n
+          (λ i below. rw (word-append run element (size_at + element_len * i) (omega (arith, before.len)), word-append run element (place_at + element_len * i) (omega (arith, before.len))) (before.sizes_are i below))
+          (rw (word-after run element (size_at + element_len * n) size_at (omega (arith, before.len)), word-after run element (place_at + element_len * n) place_at (omega (arith, before.len))) size);
     }
 
 -- the text up to the last element is all of it
-pub whole_text : (s : Taken) (n : ℕ) (text : List ℕ) → IsSnapshot s → n ≡ length s.loads → IsFront s n text → IsText s text
+pub whole_text : (s : Taken) (n : ℕ) (text : List ℕ) → IsSnapshot s → n ≡ length s.loads → IsPrefix s n text → IsText s text
 whole_text s n text snapshot all front =
     record {
       snapshot = snapshot;
@@ -129,7 +130,7 @@ spelled n small = from_be_bytes-to_be_bytes_4 n small
 
 -- the element at an index can be written
 one_more : (s : Taken) (n : ℕ) → IsSnapshot s → n < length s.loads
-    → (element : List ℕ) × (length element ≡ 12) × IsBytes element × (slice_get s.loads n ≡ Some (word element 0)) × (slice_get s.sizes n ≡ Some (word element 4, word element 8))
+    → (element : List ℕ) × (length element ≡ element_len) × IsBytes element × (slice_get s.loads n ≡ Some (word element load_at)) × (slice_get s.sizes n ≡ Some (word element size_at, word element place_at))
 one_more s n snapshot inside =
     let load : ℕ = get_or s.loads n 0 in
     let pair : ℕ × ℕ = get_or s.sizes n (0, 0) in
@@ -153,7 +154,7 @@ regrouped : (s : Taken) (a b c : List ℕ) → IsText s ((a ++ b) ++ c) → IsTe
 regrouped s a b c is = rw (← append_assoc a b c) is
 
 -- what is still to be written
-pub completed : (s : Taken) → IsSnapshot s → (m n : ℕ) (text : List ℕ) → n + m ≡ length s.loads → IsFront s n text → (rest : List ℕ) × IsText s (text ++ rest)
+pub completed : (s : Taken) → IsSnapshot s → (m n : ℕ) (text : List ℕ) → n + m ≡ length s.loads → IsPrefix s n text → (rest : List ℕ) × IsText s (text ++ rest)
 completed s snapshot zero n text all front = ([], subst (IsText s) (sym (append-nil text)) (whole_text s n text snapshot (omega arith) front))
 completed s snapshot (suc m) n text all front =
     let (element, len, bytes, load, size) = one_more s n snapshot (omega arith) in
@@ -161,25 +162,25 @@ completed s snapshot (suc m) n text all front =
     (element ++ rest, regrouped s text element rest whole)
 
 -- a part of the text that has gone out
-pub put_in_part : (s : Taken) (n : ℕ) (text gone rest : List ℕ) (old new : Option (List ℕ)) → IsSnapshot s → n ≤ length s.loads → IsFront s n (text ++ (gone ++ rest)) → Appends old new (text ++ gone)
+pub put_in_part : (s : Taken) (n : ℕ) (text gone rest : List ℕ) (old new : Option (List ℕ)) → IsSnapshot s → n ≤ length s.loads → IsPrefix s n (text ++ (gone ++ rest)) → Appends old new (text ++ gone)
     → (all : List ℕ) × IsText s all × Puts old new all (Err Write)
 put_in_part s n text gone rest old new snapshot inside front out =
     let (after, whole) = completed s snapshot (length s.loads - n) n (text ++ (gone ++ rest)) (omega arith) front in
     ((text ++ (gone ++ rest)) ++ after, whole, (refl, text ++ gone, rest ++ after, simp append_assoc, out))
 
 -- a block of which a part has gone out
-pub block_in_part : (s : Taken) (n m : ℕ) (text block : List ℕ) (old now new : Option (List ℕ)) (e : DumpError) (result : Result ⊤ DumpError) → IsSnapshot s → n + m ≤ length s.loads → IsFront s n text → IsRun s.loads s.sizes n m block
+pub block_in_part : (s : Taken) (n m : ℕ) (text block : List ℕ) (old now new : Option (List ℕ)) (e : DumpError) (result : Result ⊤ DumpError) → IsSnapshot s → n + m ≤ length s.loads → IsPrefix s n text → IsRun s.loads s.sizes n m block
     → Appends old now text → Puts now new block (Err e) → result ≡ Err e → (all : List ℕ) × IsText s all × Puts old new all result
 block_in_part s n m text block old now new e result snapshot inside front run so_far (is_write, gone, rest, parts, out) is_err =
     let is : result ≡ Err Write = is_err ∙ ap Err is_write in
-    let next : IsFront s (n + m) (text ++ (gone ++ rest)) = subst (λ b. IsFront s (n + m) (text ++ b)) parts (joined s n m text block front run) in
+    let next : IsPrefix s (n + m) (text ++ (gone ++ rest)) = subst (λ b. IsPrefix s (n + m) (text ++ b)) parts (joined s n m text block front run) in
     subst (λ (r : Result ⊤ DumpError). (all : List ℕ) × IsText s all × Puts old new all r) (sym is)
     (put_in_part s (n + m) text gone rest old new snapshot inside next (Appends-trans old now new text gone so_far out))
 
 -- a head of which a part has gone out
-pub head_in_part : (s : Taken) (head : List ℕ) (old new : Option (List ℕ)) (e : DumpError) (result : Result ⊤ DumpError) → IsSnapshot s → IsFront s 0 head
+pub head_in_part : (s : Taken) (head : List ℕ) (old new : Option (List ℕ)) (e : DumpError) (result : Result ⊤ DumpError) → IsSnapshot s → IsPrefix s 0 head
     → Puts old new head (Err e) → result ≡ Err e → (all : List ℕ) × IsText s all × Puts old new all result
 head_in_part s head old new e result snapshot front (is_write, gone, rest, parts, out) is_err =
     let is : result ≡ Err Write = is_err ∙ ap Err is_write in
     subst (λ (r : Result ⊤ DumpError). (all : List ℕ) × IsText s all × Puts old new all r) (sym is)
-    (put_in_part s 0 [] gone rest old new snapshot (omega arith) (subst (IsFront s 0) parts front) out)
+    (put_in_part s 0 [] gone rest old new snapshot (omega arith) (subst (IsPrefix s 0) parts front) out)

@@ -2,9 +2,9 @@
 use Rattle.std.proofs.Common.{◌≡◌, ℕ, ◌+◌, ◌^◌, ◌<◌, ◌≤◌, zero, suc, List, [], ◌∷◌, subst, sym, ◌++◌, length, slice_index, refl, ap, ◌∙◌, arith}
 use Rattle.std.proofs.lemmas.List.{get_or_append_left, get_or-append_right}
 use Rattle.std.specs.Int.{w32, to_be_bytes}
-use Rattle.lb_dump.specs.Format.{word, letters, IsBytes}
+use Rattle.lb_dump.specs.Format.{word, letters, IsBytes, word_len}
 
-pub word-append : (text more : List ℕ) (at : ℕ) → at + 4 ≤ length text → word (text ++ more) at ≡ word text at
+pub word-append : (text more : List ℕ) (at : ℕ) → at + word_len ≤ length text → word (text ++ more) at ≡ word text at
 unfolding word
 word-append text more at inside =
     rw (get_or_append_left text more 0 at (omega arith), get_or_append_left text more 0 (at + 1) (omega arith), get_or_append_left text more 0 (at + 2) (omega arith), get_or_append_left text more 0 (at + 3) (omega arith)) refl

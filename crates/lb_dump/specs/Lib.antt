@@ -1,4 +1,5 @@
 pub mod Format
 pub mod Faults
 pub mod Reading
-pub mod Parts
+pub mod Writing
+pub mod Internal

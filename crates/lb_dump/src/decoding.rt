@@ -12,10 +12,10 @@ use lb_certificates::Snapshot;
 use std::alloc::Allocator;
 use std::io::Read;
 
-/// The bytes that are asked for at a time.
+/// The bytes that are asked for at a time. It is no limit of the format.
 const PIECE_LEN: usize = 65_536;
 
-/// How often a reader is called at most.
+/// How often a reader is called at most: more often than any dump has bytes, so that the call ends.
 const CALLS: u32 = 16_777_216;
 
 /// The snapshot of this text.
@@ -39,14 +39,14 @@ pub fn decode<A: Allocator + Copy>(alloc: A, bytes: &[u8]) -> Result<Snapshot<A>
 /// # Errors
 ///
 /// [`Read`](DumpError::Read) where the reader fails, with any error, or has been called 16,777,216 times;
-/// [`OutOfMemory`](DumpError::OutOfMemory) where memory is refused; or else the first fault of the text from
-/// left to right. What was read before the reader failed has no fault.
+/// [`OutOfMemory`](DumpError::OutOfMemory) where a request for memory is refused; or else the first fault of the
+/// text from left to right. What was read before the reader failed has no fault.
 pub fn read_from<R: Read, A: Allocator + Copy>(
     alloc: A,
     reader: &mut R,
 ) -> Result<Snapshot<A>, DumpError>
     ensures known { IfSome (R.remaining reader.old) (λ bytes. (result ≡ Err DumpError.Read) ⊎ IsAnswer bytes result) }
-    ensures ended { OnOk result (IsAtEnd (R.remaining reader.new)) }
+    ensures at_end { OnOk result (IsAtEnd (R.remaining reader.new)) }
     ensures failed { IsErrOf result DumpError.Read → (text : List ℕ) × Consumes (R.remaining reader.old) (R.remaining reader.new) text × IsGood text }
 {
     let mut piece = Vec::new(alloc);

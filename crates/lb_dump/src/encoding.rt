@@ -1,8 +1,8 @@
 ghost use Rattle.std.specs.Prelude.{◌≡◌, ◌<◌, ◌≤◌, ℕ, length, slice_index, slice_get, Some, IfOk};
-ghost use Rattle.lb_dump.specs.Format.{IsSnapshot, IsText, IsBytes, letters, word};
-ghost use Rattle.lb_dump.specs.Parts.{IsFront};
+ghost use Rattle.lb_dump.specs.Format.{IsSnapshot, IsText, IsBytes, letters, word, step_at, procs_at, count_at, load_at, size_at, place_at};
+ghost use Rattle.lb_dump.specs.Internal.{IsPrefix};
 
-use crate::judging::{ELEMENT_LEN, HEAD_LEN, LETTERS};
+use crate::format::{ELEMENT_LEN, HEAD_LEN, LETTERS};
 use chare_index::Pe;
 use lb_certificates::{Snapshot, Units};
 use std::alloc::{AllocError, Allocator};
@@ -10,9 +10,9 @@ use std::alloc::{AllocError, Allocator};
 // The letters, the step, the number of PEs and the number of elements.
 fn head_with(step: u32, procs: u32, count: u32) -> [u8; HEAD_LEN]
     ensures starts { (k : ℕ) → k < 4 → slice_index result k ≡ slice_index letters k }
-    ensures step { word result 4 ≡ step }
-    ensures procs { word result 8 ≡ procs }
-    ensures count { word result 12 ≡ count }
+    ensures step { word result step_at ≡ step }
+    ensures procs { word result procs_at ≡ procs }
+    ensures count { word result count_at ≡ count }
     ensures bytes { IsBytes result }
 {
     let [l, b, d, one] = LETTERS;
@@ -25,7 +25,7 @@ fn head_with(step: u32, procs: u32, count: u32) -> [u8; HEAD_LEN]
 #[tactic(auto, using(crate::proofs::Spelling::starts_with_head))]
 // The bytes before the first element.
 pub fn head_of<A: Allocator>(snapshot: &Snapshot<A>) -> [u8; HEAD_LEN]
-    ensures { IsFront snapshot.now 0 result }
+    ensures prefix { IsPrefix snapshot.now 0 result }
 {
     let count = snapshot.loads().len() as u32;
     head_with(snapshot.step(), snapshot.procs(), count)
@@ -43,9 +43,9 @@ pub fn elements_of<A: Allocator>(snapshot: &Snapshot<A>) -> (&[Units], &[(u32, P
 
 // An element.
 fn element_of(load: u32, size: u32, place: u32) -> [u8; ELEMENT_LEN]
-    ensures load { word result 0 ≡ load }
-    ensures size { word result 4 ≡ size }
-    ensures place { word result 8 ≡ place }
+    ensures load { word result load_at ≡ load }
+    ensures size { word result size_at ≡ size }
+    ensures place { word result place_at ≡ place }
     ensures bytes { IsBytes result }
 {
     let [l0, l1, l2, l3] = load.to_be_bytes();
@@ -58,8 +58,8 @@ fn element_of(load: u32, size: u32, place: u32) -> [u8; ELEMENT_LEN]
 pub fn element_at(loads: &[Units], sizes: &[(u32, Pe)], i: usize) -> [u8; ELEMENT_LEN]
     requires load { i < length loads.now }
     requires size { i < length sizes.now }
-    ensures load { slice_get loads.now i ≡ Some (word result 0) }
-    ensures size { slice_get sizes.now i ≡ Some (word result 4, word result 8) }
+    ensures load { slice_get loads.now i ≡ Some (word result load_at) }
+    ensures size { slice_get sizes.now i ≡ Some (word result size_at, word result place_at) }
     ensures bytes { IsBytes result }
 {
     let (size, place) = sizes[i];
@@ -70,13 +70,13 @@ pub fn element_at(loads: &[Units], sizes: &[(u32, Pe)], i: usize) -> [u8; ELEMEN
 ///
 /// # Errors
 ///
-/// Where memory is refused.
+/// Out of memory.
 #[tactic(auto, using(crate::proofs::Spelling::whole_text))]
 pub fn encode<A: Allocator, B: Allocator>(
     alloc: A,
     snapshot: &Snapshot<B>,
 ) -> Result<Vec<u8, A>, AllocError>
-    ensures { IfOk result (λ text. IsText snapshot.now text.items) }
+    ensures text { IfOk result (λ text. IsText snapshot.now text.items) }
 {
     let (loads, sizes) = elements_of(snapshot);
     let mut text = Vec::with_capacity(alloc, HEAD_LEN + ELEMENT_LEN * loads.len())?;

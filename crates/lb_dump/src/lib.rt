@@ -9,18 +9,17 @@
 mod decoding;
 mod encoding;
 mod error;
+mod format;
 mod judging;
 mod laws;
 mod making;
 mod reader;
-#[cfg(test)]
-mod tests;
-mod words;
 mod writing;
 
 pub use decoding::{decode, read_from};
 pub use encoding::encode;
 pub use error::DumpError;
-pub use laws::is_exact;
+#[doc(hidden)]
+pub use laws::format_laws;
 pub use reader::DumpReader;
 pub use writing::write_to;

@@ -1,12 +1,12 @@
 ghost use Rattle.std.specs.Prelude.{◌≡◌, ◌≢◌, ◌++◌, ◌+◌, ◌<◌, ◌≤◌, ◌⊎◌, [], List, ℕ, length, Ok, Err, IfOk, IfErr, OnOk};
-ghost use Rattle.lb_dump.specs.Format.{IsText, whole_len};
+ghost use Rattle.lb_dump.specs.Format.{IsText, head_len, whole_len};
 ghost use Rattle.lb_dump.specs.Faults.{IsGood, IsBroken};
-ghost use Rattle.lb_dump.specs.Reading.{EndsText, Ends, Feeds, NeedsNone};
+ghost use Rattle.lb_dump.specs.Reading.{EndsText, EndsReading, Feeds, NeedsNone};
 
 use crate::error::DumpError;
-use crate::judging::{ELEMENT_LEN, HEAD_LEN, judge_elements, judge_head};
+use crate::format::{COUNT_AT, ELEMENT_LEN, HEAD_LEN, word};
+use crate::judging::{judge_elements, judge_head};
 use crate::making::snapshot_of;
-use crate::words::word;
 use lb_certificates::Snapshot;
 use std::alloc::{Allocator, Global};
 use std::marker::Model;
@@ -34,9 +34,9 @@ impl<A: Allocator> Model for DumpReader<A> {
 }
 
 impl<A: Allocator> DumpReader<A> {
-    /// A reader that no piece has come to. It takes no memory.
+    /// A reader that was given no piece. It takes no memory.
     pub fn new(alloc: A) -> Self
-        ensures { result ≡ Ok [] }
+        ensures value { result ≡ Ok [] }
     {
         DumpReader {
             text: Vec::new(alloc),
@@ -49,8 +49,8 @@ impl<A: Allocator> DumpReader<A> {
     /// # Errors
     ///
     /// The first fault of the text so far, with the piece that brings it, and never
-    /// [`Short`](DumpError::Short), which only [`end`](Self::end) tells; [`OutOfMemory`](DumpError::OutOfMemory)
-    /// where memory is refused. Each later call answers the same.
+    /// [`Short`](DumpError::Short), which only [`end`](Self::end) reports; [`OutOfMemory`](DumpError::OutOfMemory)
+    /// where a request for memory is refused. Each later call returns the same error.
     pub fn feed(&mut self, piece: &[u8]) -> Result<(), DumpError>
         ensures fed { Feeds self.old piece.now result self.new }
         ensures no_growth { IfOk self.old (λ text. NeedsNone text piece.now → result ≢ Err DumpError.OutOfMemory) }
@@ -69,12 +69,12 @@ impl<A: Allocator> DumpReader<A> {
     ///
     /// # Errors
     ///
-    /// What [`feed`](Self::feed) answered last where that was an error, or else [`Short`](DumpError::Short) where
-    /// the text is not whole, or else [`OutOfMemory`](DumpError::OutOfMemory) where memory is refused.
+    /// What [`feed`](Self::feed) returned last where that was an error, or else [`Short`](DumpError::Short) where
+    /// the text is not whole, or else [`OutOfMemory`](DumpError::OutOfMemory) where a request for memory is refused.
     pub fn end(self) -> Result<Snapshot<A>, DumpError>
     where
         A: Copy,
-        ensures { Ends self result }
+        ensures ends { EndsReading self result }
     {
         let DumpReader { text, fault } = self;
         match fault {
@@ -90,7 +90,7 @@ fn whole<A: Allocator + Copy>(text: &Vec<u8, A>) -> Result<Snapshot<A>, DumpErro
     ensures { EndsText text.now.items result }
 {
     let len = text.len();
-    if len < HEAD_LEN || len < HEAD_LEN + ELEMENT_LEN * word(text, 12) as usize {
+    if len < HEAD_LEN || len < HEAD_LEN + ELEMENT_LEN * word(text, COUNT_AT) as usize {
         return Err(DumpError::Short(len as u32));
     }
     Ok(snapshot_of(*text.allocator(), text)?)
@@ -121,14 +121,14 @@ fn take_head<'a, A: Allocator>(
     text: &mut Vec<u8, A>,
     piece: &'a [u8],
 ) -> Result<&'a [u8], DumpError>
-    requires { length text.old.items < 16 }
+    requires { length text.old.items < head_len }
     ensures joined { IfOk result (λ rest. text.new.items ++ rest.now ≡ text.old.items ++ piece.now) }
     ensures good { OnOk result (IsGood text.new.items) }
-    ensures filled { IfOk result (λ rest. 0 < length rest.now → 16 ≤ length text.new.items) }
+    ensures filled { IfOk result (λ rest. 0 < length rest.now → head_len ≤ length text.new.items) }
     ensures broken { IfErr result (λ e. (e ≡ DumpError.OutOfMemory) ⊎ IsBroken (text.old.items ++ piece.now) e) }
 {
-    let (front, rest) = piece.split_at(piece.len().min(HEAD_LEN - text.len()));
-    text.extend_from_slice(front)?;
+    let (start, rest) = piece.split_at(piece.len().min(HEAD_LEN - text.len()));
+    text.extend_from_slice(start)?;
     judge_head(text)?;
     Ok(rest)
 }
@@ -136,19 +136,19 @@ fn take_head<'a, A: Allocator>(
 // Puts a piece at the end of a text that has its head.
 fn take_elements<A: Allocator>(text: &mut Vec<u8, A>, piece: &[u8]) -> Result<(), DumpError>
     requires good { IsGood text.old.items }
-    requires headed { 16 ≤ length text.old.items }
+    requires headed { head_len ≤ length text.old.items }
     requires some { 0 < length piece.now }
     ensures taken { OnOk result ((text.new.items ≡ text.old.items ++ piece.now) × IsGood text.new.items) }
     ensures broken { IfErr result (λ e. (e ≡ DumpError.OutOfMemory) ⊎ IsBroken (text.old.items ++ piece.now) e) }
     ensures full { length text.old.items ≡ whole_len text.old.items → result ≡ Err DumpError.Trailing }
 {
-    let room = HEAD_LEN + ELEMENT_LEN * word(text, 12) as usize - text.len();
+    let room = HEAD_LEN + ELEMENT_LEN * word(text, COUNT_AT) as usize - text.len();
     if room == 0 {
         return Err(DumpError::Trailing);
     }
     let first = (text.len() - HEAD_LEN) / ELEMENT_LEN;
-    let (front, rest) = piece.split_at(piece.len().min(room));
-    text.extend_from_slice(front)?;
+    let (start, rest) = piece.split_at(piece.len().min(room));
+    text.extend_from_slice(start)?;
     judge_elements(text, first)?;
     if rest.is_empty() {
         Ok(())

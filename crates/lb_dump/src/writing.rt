@@ -1,17 +1,18 @@
 ghost use Rattle.std.specs.Prelude.{◌≡◌, ◌<◌, ◌≤◌, ◌-◌, ◌*◌, ◌++◌, List, ℕ, length, take};
 ghost use Rattle.std.specs.Io.KnownBytes.{Appends};
-ghost use Rattle.lb_dump.specs.Format.{IsText};
-ghost use Rattle.lb_dump.specs.Parts.{IsRun, Puts};
+ghost use Rattle.lb_dump.specs.Format.{IsText, element_len};
+ghost use Rattle.lb_dump.specs.Internal.{IsRun};
+ghost use Rattle.lb_dump.specs.Writing.{Puts};
 
 use crate::encoding::{element_at, elements_of, head_of};
 use crate::error::DumpError;
-use crate::judging::ELEMENT_LEN;
+use crate::format::ELEMENT_LEN;
 use chare_index::Pe;
 use lb_certificates::{Snapshot, Units};
 use std::alloc::Allocator;
 use std::io::Write;
 
-/// The elements that are written at a time.
+/// How many elements are written at a time.
 const BLOCK: usize = 512;
 
 // Writes these bytes.
@@ -28,13 +29,13 @@ fn put<W: Write>(writer: &mut W, bytes: &[u8]) -> Result<(), DumpError>
     Ok(())
 }
 
-// Puts the elements from `first` to `end`, less one, at the front of a block.
+// Puts the elements `first..end` at the start of a block.
 fn fill(block: &mut [u8], loads: &[Units], sizes: &[(u32, Pe)], first: usize, end: usize)
     requires ordered { first ≤ end }
     requires loads { end ≤ length loads.now }
     requires sizes { end ≤ length sizes.now }
-    requires room { 12 * (end - first) ≤ length block.old }
-    ensures { IsRun loads.now sizes.now first (end - first) (take (12 * (end - first)) block.new) }
+    requires room { element_len * (end - first) ≤ length block.old }
+    ensures { IsRun loads.now sizes.now first (end - first) (take (element_len * (end - first)) block.new) }
 {
     for i in 0..end - first {
         let at = ELEMENT_LEN * i;
@@ -43,17 +44,17 @@ fn fill(block: &mut [u8], loads: &[Units], sizes: &[(u32, Pe)], first: usize, en
     }
 }
 
-/// Writes the text of a snapshot, and takes no memory.
+/// Writes the text of a snapshot. It takes no memory.
 ///
 /// # Errors
 ///
-/// [`Write`](DumpError::Write) where the writer fails, with any error, or takes nothing. A front of the text has
-/// then gone out.
+/// [`Write`](DumpError::Write) where the writer fails, with any error, or takes nothing. A prefix of the text has
+/// then been written.
 pub fn write_to<W: Write, A: Allocator>(
     writer: &mut W,
     snapshot: &Snapshot<A>,
 ) -> Result<(), DumpError>
-    ensures { (text : List ℕ) × IsText snapshot.now text × Puts (W.contents writer.old) (W.contents writer.new) text result }
+    ensures written { (text : List ℕ) × IsText snapshot.now text × Puts (W.contents writer.old) (W.contents writer.new) text result }
 {
     let (loads, sizes) = elements_of(snapshot);
     put(writer, &head_of(snapshot))?;

@@ -65,11 +65,11 @@ abbrev pub decision_text : {A : Type 0} → Taken → ℕ → Decision A → Lis
 decision_text s pes d =
     head_line s.step pes (length s.loads) ++ bottleneck_line d.division.bottleneck ++ floor_line d.division.floor ++ block_lines s.loads d.division.cuts d.naming pes ++ moved_line d.moved
 
--- the one line of a want of memory
+-- the one line where it is out of memory
 abbrev pub memory_line : List ℕ
 memory_line = codes "out of memory" ++ newline
 
--- the one line of a fault of the dump
+-- the one line of a fault of the dump; the numbers in it are the limits of PEs, of elements and of packed bytes
 abbrev pub dump_line : DumpError → List ℕ
 dump_line Magic = codes "dump: not LBD1" ++ newline
 dump_line (Short n) = codes "dump: ends at byte " ++ decimal n ++ newline

@@ -1,5 +1,6 @@
 ghost use Rattle.std.specs.Prelude.{◌≡◌};
-ghost use Rattle.lb_sim.specs.Simulation.{ended_at, status_of};
+ghost use Rattle.lb_sim.specs.Internal.{ended_at};
+ghost use Rattle.lb_sim.specs.Simulation.{status_of};
 
 use crate::fault::Fault;
 use lb_dump::DumpError;
@@ -10,19 +11,18 @@ use lb_strategy::PlanError;
 pub enum Ended {
     /// The text of the decision was written whole.
     Printed,
-    /// The line of this fault was written: the dump's first fault, or that its reader failed or memory was
-    /// refused.
+    /// The line of this fault was written: the dump's first fault, or that its reader failed, or out of memory.
     Dump(DumpError),
-    /// The line of this fault was written: the dump was read, and then memory was refused.
+    /// The line of this fault was written: the dump was read, and then it was out of memory.
     Plan(PlanError),
-    /// The writer failed, or took nothing. A prefix of what was to be written has gone out.
+    /// The writer failed, or took nothing. A prefix of what was to be written has been written.
     WriteFailed,
 }
 
 impl Ended {
-    /// The end of a replay that told this fault.
+    /// The end of a replay that reported this fault.
     pub fn at(fault: Fault) -> Ended
-        ensures { result ≡ ended_at fault }
+        ensures value { result ≡ ended_at fault }
     {
         match fault {
             Fault::Dump(fault) => Ended::Dump(fault),
@@ -34,7 +34,7 @@ impl Ended {
 /// The status that the program exits with: 0 where the text was printed, 3 for a fault of the dump, and 5 where
 /// memory or the output failed.
 pub fn status(ended: Ended) -> u8
-    ensures { result ≡ status_of ended }
+    ensures value { result ≡ status_of ended }
 {
     match ended {
         Ended::Printed => 0,

@@ -1,7 +1,7 @@
 ghost use Rattle.std.specs.Prelude.{◌≡◌, IfOk};
 ghost use Rattle.std.specs.String.{string_bytes};
 ghost use Rattle.lb_sim.specs.declared.fault.Fault.TheVariants.{Dump, Plan};
-ghost use Rattle.lb_sim.specs.Simulation.{without_memory};
+ghost use Rattle.lb_sim.specs.Internal.{without_memory};
 ghost use Rattle.lb_sim.specs.Text.{dump_line, fault_line};
 
 use lb_dump::DumpError;
@@ -34,9 +34,9 @@ impl From<PlanError> for Fault {
 }
 
 impl Fault {
-    /// The fault that is told in place of this one where there is no memory for its line.
+    /// The fault that is reported in place of this one where there is no memory for its line.
     pub fn without_memory(self) -> Fault
-        ensures { result ≡ without_memory self }
+        ensures value { result ≡ without_memory self }
     {
         match self {
             Fault::Dump(_) => Fault::Dump(DumpError::OutOfMemory),
@@ -45,16 +45,16 @@ impl Fault {
     }
 }
 
-/// The line of a want of memory.
+/// The line where it is out of memory.
 pub const NO_MEMORY: &str = "out of memory\n";
 
-/// The line that tells a fault.
+/// The line that reports a fault.
 ///
 /// # Errors
 ///
-/// Want of memory, where a growth of the line was refused.
+/// Out of memory.
 pub fn fault_line<A: Allocator>(alloc: A, fault: Fault) -> Result<String<A>, AllocError>
-    ensures { IfOk result (λ line. string_bytes line ≡ fault_line fault) }
+    ensures line { IfOk result (λ line. string_bytes line ≡ fault_line fault) }
 {
     match fault {
         Fault::Dump(fault) => dump_line(alloc, fault),
@@ -62,9 +62,10 @@ pub fn fault_line<A: Allocator>(alloc: A, fault: Fault) -> Result<String<A>, All
     }
 }
 
-// The line that tells a fault of the dump.
+// The line that reports a fault of the dump. Its numbers are `Limits::PES`, `Limits::ELEMENTS` and
+// `Limits::STATE_BYTES`.
 fn dump_line<A: Allocator>(alloc: A, fault: DumpError) -> Result<String<A>, AllocError>
-    ensures { IfOk result (λ line. string_bytes line ≡ dump_line fault) }
+    ensures line { IfOk result (λ line. string_bytes line ≡ dump_line fault) }
 {
     let mut line = String::new(alloc);
     match fault {

@@ -1,10 +1,11 @@
 //! `lb_sim [--procs P] FILE` replays a dump of the load database off line: it prints the least division of the
 //! elements into consecutive blocks, with the fence that proves it, the PE of each block and the bytes that move.
 //!
-//! - [`simulation`]: the engine, from the bytes of a reader to the bytes of a writer.
+//! - [`simulation`]: the engine, from the bytes of a reader to the bytes of a writer, and the run of the program.
 //! - [`text`] and [`fault`]: what is printed.
 //! - [`output`]: writes it out.
-//! - [`ended`]: how a replay ended, and the status that tells it.
+//! - [`noted`]: keeps the error of a read that failed.
+//! - [`ended`]: how a replay ended, and the status for it.
 //! - [`words`] and [`request`]: the words of the command line, and what they ask for.
 #![tactic(auto)]
 
@@ -13,6 +14,7 @@ ghost use Rattle.std.specs.Option.{ForSome};
 
 mod ended;
 mod fault;
+mod noted;
 mod output;
 mod request;
 mod simulation;
@@ -21,16 +23,13 @@ mod tests;
 mod text;
 mod words;
 
-use ended::status;
+use chare_index::Limits;
 use request::Asked;
-use simulation::replay_file;
+use simulation::run;
 use std::fs::File;
 use std::process::ExitCode;
 use std::{env, io};
-use words::asked;
-
-/// The status where the words of the command line cannot be had.
-const NO_WORDS: u8 = 2;
+use words::{NO_WORDS, asked, words_status};
 
 fn main(rt: HostRuntime) -> ExitCode {
     let Ok(args) = env::args(&rt) else {
@@ -47,20 +46,24 @@ fn main(rt: HostRuntime) -> ExitCode {
         return ExitCode::from(NO_WORDS);
     };
     match asked(rt.alloc(), &words) {
-        Ok(asked) => ExitCode::from(run(&rt, asked)),
+        Ok(asked) => ExitCode::from(replayed(&rt, asked)),
         Err(error) => {
             let _ = error.print(&rt);
-            ExitCode::from(if error.use_stderr() { NO_WORDS } else { 0 })
+            ExitCode::from(words_status(&error))
         }
     }
 }
 
-// Replays the file, and answers the status.
-fn run(rt: &HostRuntime, asked: Asked<'_>) -> u8
+// Opens the file, replays it to the standard output, and returns the status. Where a read failed, the standard error
+// has the file's name and the system's reason.
+fn replayed(rt: &HostRuntime, asked: Asked<'_>) -> u8
     requires some_pe { ForSome asked.procs (λ p. 1 ≤ p) }
-    requires few_pes { ForSome asked.procs (λ p. p ≤ 256) }
+    requires few_pes { ForSome asked.procs (λ p. p ≤ Limits.PES) }
 {
-    let mut output = io::writer(rt);
     let file = File::open(rt, asked.file);
-    status(replay_file(rt.alloc(), file, &mut output, asked.procs))
+    let (status, reason) = run(rt.alloc(), asked, file, &mut io::writer(rt));
+    if let Some(reason) = reason {
+        let _ = eprintln!(rt; "lb_sim: {}: {reason}", asked.file);
+    }
+    status
 }

@@ -3,10 +3,10 @@ ghost use Rattle.std.specs.Io.KnownBytes.{Appends};
 
 use std::io::Write;
 
-/// Writes these bytes and flushes the writer, and answers whether that came about. It stops at the first call
-/// that fails, with any error, or that takes nothing; what went out is then a prefix.
+/// Writes these bytes and flushes the writer, and returns whether that succeeded. It stops at the first call that
+/// fails, with any error, or that takes nothing; a prefix has then been written.
 pub fn write_out<W: Write>(writer: &mut W, bytes: &[u8]) -> bool
-    ensures { MatchBool result (Appends (W.contents writer.old) (W.contents writer.new) bytes.now)
+    ensures written { MatchBool result (Appends (W.contents writer.old) (W.contents writer.new) bytes.now)
         ((n : ℕ) × (n ≤ length bytes.now) × Appends (W.contents writer.old) (W.contents writer.new) (take n bytes.now)) }
 {
     let mut rest = bytes;

@@ -3,6 +3,6 @@
 pub struct Asked<'a> {
     /// The file with the dump.
     pub file: &'a str,
-    /// The number of blocks, 1 to 256, where one is asked for.
+    /// The number of blocks, 1 to 256 (`Limits::PES`), where one is asked for.
     pub procs: Option<u32>,
 }

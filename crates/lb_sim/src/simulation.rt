@@ -1,13 +1,17 @@
-ghost use Rattle.std.specs.Prelude.{◌≡◌, ◌≤◌, ◌⊎◌, ℕ, List, Option, IfOk, IfErr};
+ghost use Rattle.std.specs.Prelude.{◌≡◌, ◌≤◌, ◌⊎◌, ℕ, List, Option, Some, IfOk, IfErr};
 ghost use Rattle.std.specs.Option.{ForSome};
 ghost use Rattle.std.specs.String.{string_bytes};
 ghost use Rattle.lb_strategy.specs.declared.error.PlanError.TheVariants.{OutOfMemory};
 ghost use Rattle.lb_sim.specs.Text.{fault_line};
-ghost use Rattle.lb_sim.specs.Simulation.{Ends, IsPlanned, IsReplay, IsTold, TellsLine, TellsUnread, without_memory};
+ghost use Rattle.lb_sim.specs.Internal.{without_memory};
+ghost use Rattle.lb_sim.specs.Simulation.{EndsReplay, IsPlanned, IsReplay, IsReplayFault, ReportsFault, ReportsUnread, status_of};
+ghost use Rattle.lb_sim.specs.declared.ended.Ended.{Ended};
 
-use crate::ended::Ended;
+use crate::ended::{Ended, status};
 use crate::fault::{Fault, NO_MEMORY, fault_line};
+use crate::noted::Noted;
 use crate::output::write_out;
+use crate::request::Asked;
 use crate::text::decision_text;
 use chare_index::Limits;
 use lb_certificates::Snapshot;
@@ -19,8 +23,7 @@ use std::io::{self, Read, Write};
 /// Replays a dump off line: reads it, plans its balancing step for `procs` PEs (1 to 256), or as many as the
 /// dump has, and writes the text of the decision, or the one line of a fault, and nothing else.
 ///
-/// Want of memory is told as a fault of the dump while that is read, and then as one of the plan, with the same
-/// line.
+/// Out of memory is a fault of the dump while that is read, and then one of the plan. The line is the same.
 pub fn simulate<A: Allocator + Copy, R: Read, W: Write>(
     alloc: A,
     reader: &mut R,
@@ -29,32 +32,59 @@ pub fn simulate<A: Allocator + Copy, R: Read, W: Write>(
 ) -> Ended
     requires some_pe { ForSome procs (λ p. 1 ≤ p) }
     requires few_pes { ForSome procs (λ p. p ≤ Limits.PES) }
-    ensures { Ends A (R.remaining reader.old) (R.remaining reader.new) procs (W.contents writer.old) (W.contents writer.new) result }
+    ensures ends { EndsReplay A (R.remaining reader.old) (R.remaining reader.new) procs (W.contents writer.old) (W.contents writer.new) result }
 {
     match replay(alloc, reader, procs) {
         Ok(text) if write_out(writer, text.as_bytes()) => Ended::Printed,
         Ok(_) => Ended::WriteFailed,
-        Err(fault) => tell(alloc, writer, fault),
+        Err(fault) => report(alloc, writer, fault),
     }
 }
 
-/// Replays the dump in a file as [`simulate`] does. One that could not be opened is told as a dump that was not
-/// read.
+/// Replays the dump in a file as [`simulate`] does, and returns also the system's reason where a read failed. A file
+/// that could not be opened is reported as a dump that was not read.
 pub fn replay_file<A: Allocator + Copy, R: Read + Drop, W: Write>(
     alloc: A,
     file: io::Result<R>,
     writer: &mut W,
     procs: Option<u32>,
-) -> Ended
+) -> (Ended, Option<io::Error>)
     requires some_pe { ForSome procs (λ p. 1 ≤ p) }
     requires few_pes { ForSome procs (λ p. p ≤ Limits.PES) }
-    ensures opened { IfOk file (λ file. (rest : Option (List ℕ)) × Ends A (R.remaining file) rest procs (W.contents writer.old) (W.contents writer.new) result) }
-    ensures unopened { IfErr file (λ _. TellsUnread (W.contents writer.old) (W.contents writer.new) result) }
+    ensures opened { IfOk file (λ file. (rest : Option (List ℕ)) × EndsReplay A (R.remaining file) rest procs (W.contents writer.old) (W.contents writer.new) result.0) }
+    ensures unopened { IfErr file (λ _. ReportsUnread (W.contents writer.old) (W.contents writer.new) result.0) }
+    ensures reason { IfErr file (λ reason. result.1 ≡ Some reason) }
 {
     match file {
-        Ok(mut reader) => simulate(alloc, &mut reader, writer, procs),
-        Err(_) => tell(alloc, writer, Fault::Dump(DumpError::Read)),
+        Ok(reader) => {
+            let mut noted = Noted::new(reader);
+            let ended = simulate(alloc, &mut noted, writer, procs);
+            (ended, noted.failure())
+        }
+        Err(reason) => {
+            let ended = report(alloc, writer, Fault::Dump(DumpError::Read));
+            (ended, Some(reason))
+        }
     }
+}
+
+/// Replays the dump in the file asked for, for the number of PEs asked for, and returns the status of its end, with
+/// the system's reason where a read failed.
+pub fn run<A: Allocator + Copy, R: Read + Drop, W: Write>(
+    alloc: A,
+    asked: Asked<'_>,
+    file: io::Result<R>,
+    writer: &mut W,
+) -> (u8, Option<io::Error>)
+    requires some_pe { ForSome asked.procs (λ p. 1 ≤ p) }
+    requires few_pes { ForSome asked.procs (λ p. p ≤ Limits.PES) }
+    ensures status { (ended : Ended) × (result.0 ≡ status_of ended)
+        × IfOk file (λ file. (rest : Option (List ℕ)) × EndsReplay A (R.remaining file) rest asked.entry.procs (W.contents writer.old) (W.contents writer.new) ended)
+        × IfErr file (λ _. ReportsUnread (W.contents writer.old) (W.contents writer.new) ended) }
+    ensures reason { IfErr file (λ reason. result.1 ≡ Some reason) }
+{
+    let (ended, reason) = replay_file(alloc, file, writer, asked.procs);
+    (status(ended), reason)
 }
 
 // The text of the decision, made whole, or the fault that kept it from being made.
@@ -66,7 +96,7 @@ fn replay<A: Allocator + Copy, R: Read>(
     requires some_pe { ForSome procs (λ p. 1 ≤ p) }
     requires few_pes { ForSome procs (λ p. p ≤ Limits.PES) }
     ensures text { IfOk result (λ text. IsReplay A (R.remaining reader.old) procs (string_bytes text)) }
-    ensures fault { IfErr result (IsTold (R.remaining reader.old) (R.remaining reader.new)) }
+    ensures fault { IfErr result (IsReplayFault (R.remaining reader.old) (R.remaining reader.new)) }
 {
     let snapshot = read_from(alloc, reader)?;
     let pes = procs.unwrap_or(snapshot.procs());
@@ -88,19 +118,19 @@ fn planned_text<A: Allocator + Copy, B: Allocator>(
     Ok(decision_text(alloc, snapshot, pes, &decision)?)
 }
 
-// Writes the line of a fault, or that there is no memory for it.
-fn tell<A: Allocator, W: Write>(alloc: A, writer: &mut W, fault: Fault) -> Ended
-    ensures { TellsLine (W.contents writer.old) (W.contents writer.new) fault result ⊎ TellsLine (W.contents writer.old) (W.contents writer.new) (without_memory fault) result }
+// Writes the line of a fault, or that it is out of memory.
+fn report<A: Allocator, W: Write>(alloc: A, writer: &mut W, fault: Fault) -> Ended
+    ensures { ReportsFault (W.contents writer.old) (W.contents writer.new) fault result ⊎ ReportsFault (W.contents writer.old) (W.contents writer.new) (without_memory fault) result }
 {
     let Ok(line) = fault_line(alloc, fault) else {
-        return tell_line(writer, fault.without_memory(), NO_MEMORY.as_bytes());
+        return report_line(writer, fault.without_memory(), NO_MEMORY.as_bytes());
     };
-    tell_line(writer, fault, line.as_bytes())
+    report_line(writer, fault, line.as_bytes())
 }
 
-fn tell_line<W: Write>(writer: &mut W, fault: Fault, line: &[u8]) -> Ended
+fn report_line<W: Write>(writer: &mut W, fault: Fault, line: &[u8]) -> Ended
     requires { line.now ≡ fault_line fault }
-    ensures { TellsLine (W.contents writer.old) (W.contents writer.new) fault result }
+    ensures { ReportsFault (W.contents writer.old) (W.contents writer.new) fault result }
 {
     if write_out(writer, line) {
         Ended::at(fault)

@@ -16,7 +16,7 @@ use std::alloc::{AllocError, Allocator};
 ///
 /// # Errors
 ///
-/// Want of memory, where a growth of the text was refused.
+/// Out of memory.
 #[tactic(auto, using(crate::proofs::RightTexts::divides_from_right, crate::proofs::RightTexts::named_from_right))]
 pub fn decision_text<A: Allocator, B: Allocator, C: Allocator>(
     alloc: A,
@@ -25,7 +25,7 @@ pub fn decision_text<A: Allocator, B: Allocator, C: Allocator>(
     decision: &Decision<C>,
 ) -> Result<String<A>, AllocError>
     requires { IsRight snapshot.now.loads snapshot.now.sizes pes decision.now }
-    ensures { IfOk result (λ text. string_bytes text ≡ decision_text snapshot.now pes decision.now) }
+    ensures text { IfOk result (λ text. string_bytes text ≡ decision_text snapshot.now pes decision.now) }
 {
     let loads = snapshot.loads();
     let cuts = decision.division.cuts.as_slice();

@@ -1,17 +1,30 @@
-ghost use Rattle.std.specs.Prelude.{◌≤◌, IfOk};
+ghost use Rattle.std.specs.Prelude.{◌≡◌, ◌≢◌, ◌≤◌, ◌⊎◌, IfOk};
 ghost use Rattle.std.specs.Option.{ForSome};
+ghost use Rattle.clap.specs.Values.{kind_of};
+ghost use Rattle.clap.specs.declared.error.kind.ErrorKind.TheVariants.{DisplayHelp, DisplayVersion};
 
 use crate::request::Asked;
 use chare_index::Limits;
 use clap::{Arg, ArgAction, Command, Error, value_parser};
 use std::alloc::Global;
 
+/// The status where the words of the command line cannot be had, or are refused.
+pub const NO_WORDS: u8 = 2;
+
+/// The status where the words ask for no replay: 0 for help or the version, and else [`NO_WORDS`].
+pub fn words_status(error: &Error) -> u8
+    ensures shown { (kind_of error.now ≡ DisplayHelp) ⊎ (kind_of error.now ≡ DisplayVersion) → result ≡ 0 }
+    ensures refused { (kind_of error.now ≢ DisplayHelp) → (kind_of error.now ≢ DisplayVersion) → result ≡ NO_WORDS }
+{
+    if error.use_stderr() { NO_WORDS } else { 0 }
+}
+
 /// Reads the words of a command line, the program's name first.
 ///
 /// # Errors
 ///
-/// The words are not `[--procs P] FILE` with a P of 1 to 256, help or the version is asked for, or memory was
-/// refused; the error has the text to print and the status to exit with.
+/// The words are not `[--procs P] FILE` with a P of 1 to 256 (`Limits::PES`), help or the version is asked for, or
+/// it is out of memory. The error has the text to print; [`words_status`] is the status for it.
 pub fn asked<'a>(alloc: Global, words: &'a [&'a str]) -> Result<Asked<'a>, Error>
     ensures some_pe { IfOk result (λ asked. ForSome asked.procs (λ p. 1 ≤ p)) }
     ensures few_pes { IfOk result (λ asked. ForSome asked.procs (λ p. p ≤ Limits.PES)) }
@@ -26,7 +39,7 @@ pub fn asked<'a>(alloc: Global, words: &'a [&'a str]) -> Result<Asked<'a>, Error
         .value_name("P")
         .help("Plans for P processors in place of the dump's own number")
         .action(ArgAction::Set)
-        .value_parser(value_parser!(u32).range(1..=256));
+        .value_parser(value_parser!(u32).range(1..=i64::from(Limits::PES)));
     let command = Command::new(alloc, "lb_sim")
         .version("0.1.0")
         .about("Replays a dump of the load database and prints the decision of its balancing step")

@@ -1,4 +1,4 @@
--- When a decision of a balancing step is right, and what is told of one that is not.
+-- When a decision of a balancing step is right, and what is the first flaw of one that is not.
 use Rattle.std.specs.Prelude.{◌≡◌, ◌≢◌, ℕ, List, length, ◌⊎◌}
 use Rattle.lb_certificates.specs.Certificate.{IsCertified}
 use Rattle.lb_certificates.specs.Flaws.{HasFlaw, HasNamingFlaw, IsFirst}
@@ -21,15 +21,33 @@ abbrev pub IsNamedRight : {A : Type 0} → List (ℕ × ℕ) → Decision A → 
 IsNamedRight sizes d = IsNamed sizes d.division.cuts d.naming d.prices.u d.prices.v
 
 -- Every part of the decision is right for these loads and sizes and so many blocks: its division is certified, its
--- prices prove its naming, and it tells the bytes that this naming moves, and the moves.
+-- prices prove its naming, and it states the bytes that this naming moves, and the moves.
 pub record IsRight {A : Type 0} (loads : List ℕ) (sizes : List (ℕ × ℕ)) (blocks : ℕ) (d : Decision A) : Type 0 where
   pub division : IsCertified loads blocks d.division
   pub named : IsNamedRight sizes d
   pub moved : d.moved ≡ right_moved sizes d
   pub moves : d.moves ≡ right_moves sizes d
 
--- What is told of a decision that is not right: the first flaw of its division; where that is certified, the first
--- of its naming; where that is right too, that the bytes moved are wrong, or else that the moves are.
-abbrev pub IsTold : {A : Type 0} → List ℕ → List (ℕ × ℕ) → ℕ → Decision A → Flaw → Type 0
-IsTold loads sizes blocks d flaw =
-    IsFirst (HasFlaw loads blocks d.division) flaw ⊎ (IsCertified loads blocks d.division × (IsFirst (HasNamingFlaw sizes d.division.cuts d.naming d.prices.u d.prices.v) flaw ⊎ (IsNamedRight sizes d × (((flaw ≡ MovedWrong) × (d.moved ≢ right_moved sizes d)) ⊎ ((flaw ≡ MovesWrong) × (d.moved ≡ right_moved sizes d) × (d.moves ≢ right_moves sizes d))))))
+-- the first flaw of the division
+abbrev pub IsDivisionFlaw : {A : Type 0} → List ℕ → ℕ → Decision A → Flaw → Type 0
+IsDivisionFlaw loads blocks d flaw = IsFirst (HasFlaw loads blocks d.division) flaw
+
+-- the first flaw of the naming and its prices, of a certified division
+abbrev pub IsNamingFlaw : {A : Type 0} → List ℕ → List (ℕ × ℕ) → ℕ → Decision A → Flaw → Type 0
+IsNamingFlaw loads sizes blocks d flaw =
+    IsCertified loads blocks d.division × IsFirst (HasNamingFlaw sizes d.division.cuts d.naming d.prices.u d.prices.v) flaw
+
+-- a wrong number of bytes moved, where division and naming are right
+abbrev pub IsMovedFlaw : {A : Type 0} → List ℕ → List (ℕ × ℕ) → ℕ → Decision A → Flaw → Type 0
+IsMovedFlaw loads sizes blocks d flaw =
+    IsCertified loads blocks d.division × IsNamedRight sizes d × (flaw ≡ MovedWrong) × (d.moved ≢ right_moved sizes d)
+
+-- a wrong list of moves, where all else is right
+abbrev pub IsMovesFlaw : {A : Type 0} → List ℕ → List (ℕ × ℕ) → ℕ → Decision A → Flaw → Type 0
+IsMovesFlaw loads sizes blocks d flaw =
+    IsCertified loads blocks d.division × IsNamedRight sizes d × (flaw ≡ MovesWrong) × (d.moved ≡ right_moved sizes d) × (d.moves ≢ right_moves sizes d)
+
+-- the first flaw of a decision that is not right
+abbrev pub IsFirstFlaw : {A : Type 0} → List ℕ → List (ℕ × ℕ) → ℕ → Decision A → Flaw → Type 0
+IsFirstFlaw loads sizes blocks d flaw =
+    IsDivisionFlaw loads blocks d flaw ⊎ (IsNamingFlaw loads sizes blocks d flaw ⊎ (IsMovedFlaw loads sizes blocks d flaw ⊎ IsMovesFlaw loads sizes blocks d flaw))

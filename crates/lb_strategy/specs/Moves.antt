@@ -1,5 +1,5 @@
 -- Which elements a decision moves, and where to.
-use Rattle.std.specs.Prelude.{ℕ, ◌≡◌, ◌<◌, ◌==◌, Bool, not, List, length, map, slice_index, slice_index_or}
+use Rattle.std.specs.Prelude.{ℕ, ◌≡◌, ◌<◌, ◌==◌, Bool, not, ◌&&◌, List, length, map, slice_index, slice_index_or}
 use Rattle.std.specs.List.{filter, range_with_len}
 use Rattle.std.specs.List.Sorted.{IsNonDecreasing}
 use Rattle.chare_index.specs.declared.limits.TheConstants.Limits.{PES}
@@ -28,3 +28,7 @@ pub record HasPlace (cuts names : List ℕ) (i : ℕ) : Type 0 where
   pub inside : i < slice_index cuts (blocks_between cuts)
   pub named : block_of cuts i < length names
   pub pe : planned_pe cuts names i < PES
+
+-- the same element, with the same two PEs
+abbrev pub same_move : ℕ × ℕ × ℕ → ℕ × ℕ × ℕ → Bool
+same_move a b = ((a.0 == b.0) && (a.1 == b.1)) && (a.2 == b.2)

@@ -2,7 +2,7 @@ ghost use Rattle.std.specs.Prelude.{◌≡◌, ◌≢◌, ◌<◌, ◌↔◌, �
 ghost use Rattle.lb_certificates.specs.Chain.{IsLeastDivision};
 ghost use Rattle.lb_certificates.specs.Naming.{IsCheapest};
 ghost use Rattle.lb_strategy.specs.Moves.{HasPlace};
-ghost use Rattle.lb_strategy.specs.Decisions.{right_moves, IsNamedRight, IsRight, IsTold};
+ghost use Rattle.lb_strategy.specs.Decisions.{right_moves, IsFirstFlaw, IsNamedRight, IsRight};
 
 use crate::decision::Decision;
 use crate::moves::are_moves;
@@ -11,10 +11,10 @@ use std::alloc::Allocator;
 
 /// Checks a decision for `pes` PEs on this snapshot, whoever made it. `Ok` means that no division of the elements
 /// into `pes` consecutive blocks has a lighter heaviest block, that no naming of the blocks moves fewer bytes, and
-/// that the decision tells these bytes and the moves; so [`place_of`](Decision::place_of) may be asked of each
+/// that the decision states these bytes and the moves; so [`place_of`](Decision::place_of) may be asked of each
 /// element.
 ///
-/// Any number of PEs and any lists may come. No memory is taken.
+/// Any number of PEs and any lists may be passed. No memory is taken.
 ///
 /// # Errors
 ///
@@ -29,7 +29,7 @@ pub fn check<A: Allocator, B: Allocator>(
     ensures least { OnOk result (IsLeastDivision snapshot.now.loads pes decision.now.division.bottleneck decision.now.division.cuts) }
     ensures cheapest { OnOk result (IsCheapest snapshot.now.sizes decision.now.division.cuts pes decision.now.naming) }
     ensures places { OnOk result ((i : ℕ) → i < length snapshot.now.sizes → HasPlace decision.now.division.cuts decision.now.naming i) }
-    ensures told { IfErr result (IsTold snapshot.now.loads snapshot.now.sizes pes decision.now) }
+    ensures first_flaw { IfErr result (IsFirstFlaw snapshot.now.loads snapshot.now.sizes pes decision.now) }
 {
     check_parts(snapshot.loads(), snapshot.sizes(), pes, decision)
 }
@@ -46,7 +46,7 @@ fn check_parts<A: Allocator, B: Allocator>(
     ensures least { OnOk result (IsLeastDivision loads.now pes decision.now.division.bottleneck decision.now.division.cuts) }
     ensures cheapest { OnOk result (IsCheapest sizes.now decision.now.division.cuts pes decision.now.naming) }
     ensures places { OnOk result ((i : ℕ) → i < length sizes.now → HasPlace decision.now.division.cuts decision.now.naming i) }
-    ensures told { IfErr result (IsTold loads.now sizes.now pes decision.now) }
+    ensures first_flaw { IfErr result (IsFirstFlaw loads.now sizes.now pes decision.now) }
 {
     check_division(loads, pes, &decision.division)?;
     let moved = check_naming(

@@ -3,7 +3,25 @@
 //!
 //! - [`Decision`], with its [`Moves`]: what a step decides.
 //! - [`check`]: accepts a decision exactly where every part of it is right.
-//! - [`plan`]: decides, or answers a [`PlanError`].
+//! - [`plan`]: decides, or returns a [`PlanError`].
+//!
+//! ```
+//! use chare_index::{Index, Pe};
+//! use lb_certificates::{Loads, Sizes, Snapshot};
+//! use lb_strategy::{check, plan};
+//!
+//! // Three elements on two PEs: their loads, and the bytes and the PE of each.
+//! let (zero, one) = (Pe::new(0)?, Pe::new(1)?);
+//! let loads = Loads::new(vec![in alloc; 1, 1, 2]?)?;
+//! let sizes = Sizes::new(vec![in alloc; (10, zero), (9, one), (8, zero)]?)?;
+//! let snapshot = Snapshot::new(5, 2, loads, sizes)?;
+//!
+//! let decision = plan(alloc, &snapshot, 2)?;
+//! assert!(check(&snapshot, 2, &decision).is_ok());
+//! assert_eq!(decision.division.bottleneck, 2);
+//! assert_eq!(decision.moved, 10);
+//! assert_eq!(decision.place_of(Index::new(2)?), zero);
+//! ```
 #![tactic(auto)]
 
 mod checking;
@@ -11,8 +29,6 @@ mod decision;
 mod error;
 mod moves;
 mod planning;
-#[cfg(test)]
-mod tests;
 
 pub use checking::check;
 pub use decision::Decision;

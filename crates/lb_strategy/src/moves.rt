@@ -1,12 +1,14 @@
 ghost use Rattle.std.specs.Prelude.{◌≡◌, ◌≢◌, ℕ, List, ◌+◌, ◌-◌, ◌++◌, ◌<◌, ◌≤◌, [], ◌∷◌, length, take, slice_index, slice_index_or, IfOk, OnOk, OnErr, MatchBool, MatchOption};
+ghost use Rattle.std.specs.Cmp.{and_per, nat_eq_equiv, on_per, partial_equiv_from_equiv};
+ghost use Rattle.std.specs.Cmp.Lexicographic.{pointwise, lists_per};
 ghost use Rattle.std.specs.List.{filter};
 ghost use Rattle.std.specs.Option.{option_to_list};
 ghost use Rattle.lb_certificates.specs.Chain.{IsDivision};
 ghost use Rattle.lb_certificates.specs.Measured.{IsSizes};
 ghost use Rattle.lb_certificates.specs.Naming.{blocks_between, block_of, AreBlocks, IsNaming};
-ghost use Rattle.lb_strategy.specs.Moves.{is_move, moves_below, planned_pe};
+ghost use Rattle.lb_strategy.specs.Moves.{same_move, is_move, moves_below, planned_pe};
 
-use chare_index::{Index, Pe};
+use chare_index::{Index, Limits, Pe};
 use std::alloc::{AllocError, Allocator, Global};
 use std::marker::Model;
 
@@ -27,31 +29,50 @@ impl<A: Allocator> Model for Moves<A> {
 impl<A: Allocator> Moves<A> {
     /// These moves.
     pub fn new(moves: Vec<(Index, Pe, Pe), A>) -> Self
-        ensures { result ≡ moves.items }
+        ensures value { result ≡ moves.items }
     {
         Moves { moves }
     }
 
     /// The moves, in order.
     pub fn as_slice(&self) -> &[(Index, Pe, Pe)]
-        ensures { result.now ≡ self.now }
+        ensures value { result.now ≡ self.now }
     {
         self.moves.as_slice()
     }
 
     /// Gives the list back.
     pub fn into_vec(self) -> Vec<(Index, Pe, Pe), A>
-        ensures { result.items ≡ self }
+        ensures value { result.items ≡ self }
     {
         let Moves { moves } = self;
         moves
     }
 }
 
+impl<A: Allocator> PartialEq for Moves<A> {
+    ghost eq = { λ a b. pointwise same_move a b };
+
+    ghost laws = { lists_per (and_per (and_per (on_per (λ t. t.0) (partial_equiv_from_equiv nat_eq_equiv)) (on_per (λ t. t.1) (partial_equiv_from_equiv nat_eq_equiv))) (on_per (λ t. t.2) (partial_equiv_from_equiv nat_eq_equiv))) };
+
+    fn eq(&self, other: &Self) -> bool {
+        self.as_slice() == other.as_slice()
+    }
+}
+
+impl<A: Allocator + Copy> Clone for Moves<A> {
+    ghost is_clone = { λ v w. w ≡ v };
+
+    fn clone(&self) -> Result<Self, AllocError> {
+        let moves = Vec::from_slice(*self.moves.allocator(), self.as_slice())?;
+        Ok(Moves { moves })
+    }
+}
+
 // The move of an element, where it stands elsewhere than it is to run.
 fn move_of(i: u32, present: Pe, planned: u32) -> Option<(Index, Pe, Pe)>
-    requires index { i < 65536 }
-    requires pe { planned < 256 }
+    requires index { i < Limits.ELEMENTS }
+    requires pe { planned < Limits.PES }
     ensures { option_to_list result ≡ filter is_move ((i, present, planned) ∷ []) }
 {
     if present.get() == planned {
@@ -75,7 +96,7 @@ fn push_move<A: Allocator>(
 
 // The block of an element, looked for from a block on that it does not stand before.
 #[tactic(auto, using(lb_certificates::proofs::BlockSums::block_of_is))]
-pub(crate) fn block_from(cuts: &[u32], from: usize, i: u32) -> usize
+fn block_from(cuts: &[u32], from: usize, i: u32) -> usize
     requires divides { IsDivision 0 (slice_index cuts.now (blocks_between cuts.now)) (blocks_between cuts.now) cuts.now }
     requires from { from < blocks_between cuts.now }
     requires not_before { slice_index cuts.now from ≤ i }
@@ -114,7 +135,7 @@ fn place_behind(
 ///
 /// # Errors
 ///
-/// Want of memory, where a growth of the list was refused.
+/// Out of memory, where a growth of the list was refused.
 #[tactic(auto, using(crate::proofs::MoveLists::moves_more))]
 pub(crate) fn moves_of<A: Allocator>(
     alloc: A,

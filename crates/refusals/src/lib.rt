@@ -1,7 +1,21 @@
-//! Tests of want of memory, for each call that allocates: its requests are refused one at a time, in turn. A run
-//! whose request was refused answers want of memory, the next run of the same call answers its row, and the first
-//! run that meets no refusal does too. Each new call that allocates gets its line here.
+//! Tests of calls that are out of memory, for each call that allocates: its requests are refused one at a time, in
+//! turn. A run whose request was refused returns out of memory, and the next run of the same call its row. Each new
+//! call that allocates gets its line here; a call that promises to take no memory gets one in `no_memory.rt`.
 #![tactic(auto)]
 
 #[cfg(test)]
-mod tests;
+mod board;
+#[cfg(test)]
+mod database;
+#[cfg(test)]
+mod decisions;
+#[cfg(test)]
+mod dumps;
+#[cfg(test)]
+mod fixtures;
+#[cfg(test)]
+mod no_memory;
+#[cfg(test)]
+mod packing;
+#[cfg(test)]
+mod refusing;

@@ -8,8 +8,6 @@
 mod attempts;
 mod refusing;
 mod requests;
-#[cfg(test)]
-mod tests;
 
 pub use attempts::{Failure, Outcome, each_refusal};
 pub use refusing::Refusing;

@@ -6,7 +6,7 @@ pub returns-clause-chosen : goal.returns-clause-chosen
 returns-clause-chosen g c =
     record {
       least_peak = c.least_bottleneck-bottleneck.ensures;
-      cuts = rw c.new-cuts.ensures (greedy_at_least c.args.loads.now c.args.pes c.least_bottleneck-bottleneck.result c.in_ok-greedy_ends.field-0.items c.least_bottleneck-bottleneck.ensures c.in_ok-greedy_ends.ensures);
+      cuts = rw c.new-cuts.ensures.value (greedy_at_least c.args.loads.now c.args.pes c.least_bottleneck-bottleneck.result c.in_ok-greedy_ends.field-0.items c.least_bottleneck-bottleneck.ensures c.in_ok-greedy_ends.ensures);
       floor = c.in_ok-floor.ensures;
     }
 

@@ -7,10 +7,10 @@ pub returns-then-index-len : goal.returns-then-index-len
 returns-then-index-len g c =
     let read : c.index.result.now ≡ slice_index c.in_ok-ends.ends.items c.args.pes = get_or_read c.in_ok-ends.ends.items c.args.pes c.index.result.now (omega (arith, c.in_ok-ends.ensures.counted)) c.index.ensures 0 in
     let full : slice_index c.in_ok-ends.ends.items c.args.pes ≡ length c.args.loads.now = omega arith in
-    rw c.new.ensures (greedy_full c.args.loads.now c.args.pes c.args.limit c.in_ok-ends.ends.items c.in_ok-ends.ensures full)
+    record { probed = rw c.new.ensures.value (greedy_full c.args.loads.now c.args.pes c.args.limit c.in_ok-ends.ends.items c.in_ok-ends.ensures full) }
 
 pub returns-else-index-len : goal.returns-else-index-len
 returns-else-index-len g c =
     let read : c.index.result.now ≡ slice_index c.in_ok-ends.ends.items c.args.pes = get_or_read c.in_ok-ends.ends.items c.args.pes c.index.result.now (omega (arith, c.in_ok-ends.ensures.counted)) c.index.ensures 0 in
     let short : slice_index c.in_ok-ends.ends.items c.args.pes ≢ length c.args.loads.now = omega arith in
-    rw c.new-else-index-len.ensures (greedy_short c.args.loads.now c.args.pes c.args.limit c.in_ok-ends.ends.items c.in_ok-ends.ensures short)
+    record { probed = rw c.new-else-index-len.ensures.value (greedy_short c.args.loads.now c.args.pes c.args.limit c.in_ok-ends.ends.items c.in_ok-ends.ensures short) }

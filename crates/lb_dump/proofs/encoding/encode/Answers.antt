@@ -1,12 +1,12 @@
 use Rattle.std.proofs.Common.{◌≡◌, Some, arith}
 use Rattle.std.specs.Prelude.{slice_get}
-use Rattle.lb_dump.specs.Format.{word}
+use Rattle.lb_dump.specs.Format.{word, load_at, size_at, place_at}
 use Rattle.lb_dump.proofs.Spelling.{goes_on}
 use Rattle.lb_dump.proofs.encoding.encode.Goals as goal
 
 pub loop-i-preserved : goal.loop-i-preserved
 loop-i-preserved g c =
     let element = c.element_at.result in
-    let load : slice_get c.args.snapshot.now.loads c.loop-i.i ≡ Some (word element 0) = rw c.elements_of.ensures.loads at c.element_at.ensures.load in
-    let size : slice_get c.args.snapshot.now.sizes c.loop-i.i ≡ Some (word element 4, word element 8) = rw c.elements_of.ensures.sizes at c.element_at.ensures.size in
+    let load : slice_get c.args.snapshot.now.loads c.loop-i.i ≡ Some (word element load_at) = rw c.elements_of.ensures.loads at c.element_at.ensures.load in
+    let size : slice_get c.args.snapshot.now.sizes c.loop-i.i ≡ Some (word element size_at, word element place_at) = rw c.elements_of.ensures.sizes at c.element_at.ensures.size in
     rw c.in_ok-extend_from_slice-2.ensures.items (goes_on c.args.snapshot.now c.loop-i.i c.loop-i.text.items element c.loop-i.invariant (omega arith) c.element_at.ensures.bytes load size)

@@ -3,4 +3,4 @@ use Rattle.lb_sim.proofs.simulation.simulate.Goals as goal
 
 pub returns-in-Err : goal.returns-in-Err
 returns-in-Err g c =
-    ends_fault g.row.A.Denot (g.R.Read.remaining c.args.reader.now) (g.R.Read.remaining c.replay.new.reader) c.args.procs (g.W.Write.contents c.args.writer.now) (g.W.Write.contents c.tell.new.writer) c.in-Err.fault c.tell.result c.in-Err.ensures.fault c.tell.ensures
+    record { ends = ends_fault g.row.A.Denot (g.R.Read.remaining c.args.reader.now) (g.R.Read.remaining c.replay.new.reader) c.args.procs (g.W.Write.contents c.args.writer.now) (g.W.Write.contents c.report.new.writer) c.in-Err.fault c.report.result c.in-Err.ensures.fault c.report.ensures }

@@ -12,5 +12,5 @@ loop-b-preserved g c =
     let b = c.loop-b.b in
     let before : List ℕ = string_bytes c.args.text.now in
     let lines : List ℕ = block_lines loads cuts names b in
-    let line : block_line b (slice_index cuts b) (slice_index cuts (b + 1)) c.load-load.result (slice_index names b) ≡ line_of loads cuts names b = ap (λ weight. block_line b (slice_index cuts b) (slice_index cuts (b + 1)) weight (slice_index names b)) c.load-load.ensures in
+    let line : block_line b (slice_index cuts b) (slice_index cuts (b + 1)) c.load-load.result (slice_index names b) ≡ line_of loads cuts names b = ap (λ weight. block_line b (slice_index cuts b) (slice_index cuts (b + 1)) weight (slice_index names b)) c.load-load.ensures.value in
     c.in_ok-push_block.ensures ∙ ap (λ l. string_bytes c.loop-b.text ++ l) line ∙ ap (λ t. t ++ line_of loads cuts names b) c.loop-b.invariant ∙ append_assoc before lines (line_of loads cuts names b) ∙ ap (λ l. before ++ l) (sym (block_lines_more loads cuts names b))

@@ -18,7 +18,7 @@ returns-clause-right g c =
       moved = c.cost_of-moved.result;
       moves = c.in_ok-moves.moves;
     })
-    c.in_ok-table.table division blocks c.in_ok-table.ensures c.in_ok-naming.ensures.naming c.in_ok-naming.ensures.proved (search rules) moves
+    c.in_ok-table.table division blocks c.in_ok-table.ensures.table c.in_ok-naming.ensures.naming c.in_ok-naming.ensures.proved (search rules) moves
 
 pub returns-clause-places : goal.returns-clause-places
 returns-clause-places g c =

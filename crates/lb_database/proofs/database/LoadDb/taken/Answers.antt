@@ -11,4 +11,4 @@ unwrap-requires g c =
     let same : map Some c.in_ok-sizes.sizes ≡ m.reports = c.in_ok-sizes.ensures.items ∙ c.deref-2.ensures.value ∙ ap (λ m. m.reports) c.self.view_is in
     let paired : length m.loads ≡ length m.reports = sym (ap (λ m. length m.loads) c.self.view_is) ∙ c.self.invariant.0.paired ∙ ap (λ m. length m.reports) c.self.view_is in
     let taken : IsTaken c.args.pes c.in_ok-loads.loads c.in_ok-sizes.sizes = placed_there m c.args.pes c.in_ok-loads.loads c.in_ok-sizes.sizes kept same paired c.requires.some_pe c.requires.few_pes c.requires.placed in
-    made_where c.new.result (IsTaken c.args.pes c.in_ok-loads.loads c.in_ok-sizes.sizes) _ c.new.ensures taken
+    made_where c.new.result (IsTaken c.args.pes c.in_ok-loads.loads c.in_ok-sizes.sizes) _ c.new.ensures.made taken

@@ -1,0 +1,13 @@
+//! Where a chare array comes together to be balanced: elements report at AtSync, and once all have, one decision
+//! says where each runs next.
+//!
+//! - [`Board`]: the reports of the present round, the snapshot and the decision of each round before it, and who
+//!   has finished.
+//! - [`BoardError`]: why a call was refused.
+#![tactic(auto)]
+
+mod board;
+mod error;
+
+pub use board::Board;
+pub use error::BoardError;

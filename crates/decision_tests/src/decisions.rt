@@ -1,0 +1,324 @@
+//! The worked decisions, and the example with one part forged for each flaw.
+
+ghost use Rattle.std.specs.Prelude.{◌≤◌};
+
+use crate::fixtures::{fenced, index, naming, pe, prices, snapshot};
+use block_assignment::NameError;
+use chare_index::{Index, Pe};
+use lb_certificates::{Flaw, Floor, Loads, Sizes, Snapshot};
+use lb_strategy::{Decision, Moves, PlanError, check, plan};
+use std::process::Abort;
+
+fn moves(rt: &(impl Abort + AllocGlobal), rows: &[(u32, u32, u32)]) -> Moves {
+    let mut moves = Vec::new(rt.alloc());
+    for &(moved, present, planned) in rows {
+        let step = (index(rt, moved), pe(rt, present), pe(rt, planned));
+        moves.push(step).expect(rt, "out of memory");
+    }
+    Moves::new(moves)
+}
+
+// The decision with bottleneck 2 and these cuts and stops, names and prices, bytes moved and moves.
+fn decision(
+    rt: &(impl Abort + AllocGlobal),
+    division: (&[u32], &[u32]),
+    names: (&[u32], &[i64], &[i64]),
+    moving: (u64, &[(u32, u32, u32)]),
+) -> Decision {
+    Decision {
+        division: fenced(rt, 2, division.0, division.1),
+        naming: naming(rt, names.0),
+        prices: prices(rt, names.1, names.2),
+        moved: moving.0,
+        moves: moves(rt, moving.1),
+    }
+}
+
+// What the check says of the example decision with these parts of it.
+fn verdict(
+    rt: &(impl Abort + AllocGlobal),
+    division: (&[u32], &[u32]),
+    names: (&[u32], &[i64], &[i64]),
+    moving: (u64, &[(u32, u32, u32)]),
+) -> Result<(), Flaw> {
+    let example = snapshot(rt, 2, &[(1, 10, 0), (1, 9, 1), (2, 8, 0)]);
+    check(&example, 2, &decision(rt, division, names, moving))
+}
+
+const DIVISION: (&[u32], &[u32]) = (&[0, 2, 3], &[0, 1, 2]);
+
+const NAMING: (&[u32], &[i64], &[i64]) = (&[1, 0], &[10, 1], &[-1, 0]);
+
+const MOVING: (u64, &[(u32, u32, u32)]) = (10, &[(0, 0, 1)]);
+
+#[test]
+fn each_forged_division_has_its_flaw(rt: HostRuntime) {
+    let forged: [(&[u32], &[u32], Result<(), Flaw>); 13] = [
+        (&[0, 2, 3], &[0, 1, 2], Ok(())),
+        (&[0, 3], &[0, 1, 2], Err(Flaw::CutCount)),
+        (&[], &[0, 1, 2], Err(Flaw::CutCount)),
+        (&[1, 2, 3], &[0, 1, 2], Err(Flaw::CutStart)),
+        (&[0, 4, 3], &[0, 1, 2], Err(Flaw::CutOrder)),
+        (&[0, 2, 2], &[0, 1, 2], Err(Flaw::CutEnd)),
+        (&[0, 1, 3], &[0, 1, 2], Err(Flaw::Heavy(1))),
+        (&[0, 2, 3], &[0, 1], Err(Flaw::FenceCount)),
+        (&[0, 2, 3], &[], Err(Flaw::FenceCount)),
+        (&[0, 2, 3], &[1, 1, 2], Err(Flaw::FenceStart)),
+        (&[0, 2, 3], &[0, 2, 1], Err(Flaw::FenceOrder)),
+        (&[0, 2, 3], &[0, 1, 3], Err(Flaw::FenceEnd)),
+        (&[0, 2, 3], &[0, 0, 2], Err(Flaw::FenceLight(1))),
+    ];
+    for (cuts, stops, expected) in forged {
+        let found = verdict(&rt, (cuts, stops), NAMING, MOVING);
+        assert_eq!(rt; found, expected, "cuts {cuts:?}, fence {stops:?}");
+    }
+}
+
+#[test]
+fn a_floor_of_zero_is_forged(rt: HostRuntime) {
+    let example = snapshot(&rt, 2, &[(1, 10, 0), (1, 9, 1), (2, 8, 0)]);
+    let mut forged = decision(&rt, DIVISION, NAMING, MOVING);
+    forged.division.floor = Floor::Zero;
+    assert_eq!(rt; check(&example, 2, &forged), Err(Flaw::ZeroFloor));
+}
+
+#[test]
+fn each_forged_naming_has_its_flaw(rt: HostRuntime) {
+    let forged: [(&[u32], &[i64], &[i64], Flaw); 10] = [
+        (&[1], &[10, 1], &[-1, 0], Flaw::NameCount),
+        (&[], &[10, 1], &[-1, 0], Flaw::NameCount),
+        (&[1, 2], &[10, 1], &[-1, 0], Flaw::NameRange),
+        (&[1, 1], &[10, 1], &[-1, 0], Flaw::NameTwice),
+        (&[1, 0], &[10], &[-1, 0], Flaw::PriceCount),
+        (&[1, 0], &[], &[-1, 0], Flaw::PriceCount),
+        (&[1, 0], &[10, 1], &[], Flaw::PriceCount),
+        (&[1, 0], &[10, 1], &[0, 0], Flaw::PriceHigh(0, 0)),
+        (&[1, 0], &[9, 1], &[-1, 0], Flaw::PriceGap),
+        (&[0, 1], &[10, 1], &[-1, 0], Flaw::PriceGap),
+    ];
+    for (names, u, v, flaw) in forged {
+        let found = verdict(&rt, DIVISION, (names, u, v), MOVING);
+        assert_eq!(rt; found, Err(flaw), "names {names:?}, prices {u:?} {v:?}");
+    }
+}
+
+#[test]
+fn each_forged_list_of_moves_has_its_flaw(rt: HostRuntime) {
+    let forged: [(u64, &[(u32, u32, u32)], Flaw); 4] = [
+        (17, &[(0, 0, 1)], Flaw::MovedWrong),
+        (10, &[], Flaw::MovesWrong),
+        (10, &[(0, 0, 1), (1, 1, 0)], Flaw::MovesWrong),
+        (10, &[(1, 1, 0)], Flaw::MovesWrong),
+    ];
+    for (moved, moves, flaw) in forged {
+        let found = verdict(&rt, DIVISION, NAMING, (moved, moves));
+        assert_eq!(rt; found, Err(flaw), "moved {moved}, moves {moves:?}");
+    }
+}
+
+#[test]
+fn an_element_runs_where_its_block_does(rt: HostRuntime) {
+    let example = snapshot(&rt, 2, &[(1, 10, 0), (1, 9, 1), (2, 8, 0)]);
+    let decision = decision(&rt, DIVISION, NAMING, MOVING);
+    assert!(rt;
+        check(&example, 2, &decision).is_ok(),
+        "refused the example"
+    );
+    for (place, planned) in [(0u32, 1), (1, 1), (2, 0)] {
+        let index = index(&rt, place);
+        if (index.get() as usize) < example.sizes().len() {
+            assert_eq!(rt; decision.place_of(index).get(), planned, "element {place}");
+        }
+    }
+}
+
+// What a decision is to say.
+#[derive(Clone, Copy)]
+struct Row<'a> {
+    bottleneck: u64,
+    cuts: &'a [u32],
+    names: &'a [u32],
+    moved: u64,
+    moves: &'a [(u32, u32, u32)],
+}
+
+fn are_rows(moves: &[(Index, Pe, Pe)], rows: &[(u32, u32, u32)]) -> bool {
+    if moves.len() != rows.len() {
+        return false;
+    }
+    for i in 0..moves.len() {
+        let (index, present, planned) = moves[i];
+        if (index.get(), present.get(), planned.get()) != rows[i] {
+            return false;
+        }
+    }
+    true
+}
+
+fn says(decision: &Decision, row: Row<'_>) -> bool {
+    decision.division.bottleneck == row.bottleneck
+        && decision.division.cuts.as_slice() == row.cuts
+        && decision.naming.as_slice() == row.names
+        && decision.moved == row.moved
+        && are_rows(decision.moves.as_slice(), row.moves)
+}
+
+// Whether the plan for this snapshot says this, and is accepted for as many PEs alone.
+fn plans(rt: &(impl Abort + AllocGlobal), taken: &Snapshot, pes: u32, row: Row<'_>) -> bool
+    requires some_pe { 1 ≤ pes }
+    requires few_pes { pes ≤ 4 }
+{
+    let decision = plan(rt.alloc(), taken, pes).expect(rt, "out of memory");
+    let accepted = check(taken, pes, &decision).is_ok();
+    let alone = check(taken, pes + 1, &decision).is_err();
+    says(&decision, row) && accepted && alone
+}
+
+#[test]
+fn the_examples_are_planned(rt: HostRuntime) {
+    let swapped = snapshot(&rt, 2, &[(1, 8, 1), (1, 8, 1), (1, 8, 0), (1, 8, 0)]);
+    let row = Row {
+        bottleneck: 2,
+        cuts: &[0, 2, 4],
+        names: &[1, 0],
+        moved: 0,
+        moves: &[],
+    };
+    assert!(rt; plans(&rt, &swapped, 2, row), "swapped");
+}
+
+#[test]
+fn six_elements_are_planned_for_three(rt: HostRuntime) {
+    let elements = [(1, 5, 0), (1, 4, 1), (1, 5, 0), (1, 1, 1), (1, 4, 1), (1, 3, 2)];
+    let six = snapshot(&rt, 3, &elements);
+    let row = Row {
+        bottleneck: 2,
+        cuts: &[0, 2, 4, 6],
+        names: &[1, 0, 2],
+        moved: 10,
+        moves: &[(0, 0, 1), (3, 1, 0), (4, 1, 2)],
+    };
+    assert!(rt; plans(&rt, &six, 3, row), "six");
+    let decision = plan(rt.alloc(), &six, 3).expect(&rt, "out of memory");
+    assert!(rt;
+        matches!(&decision.division.floor, Floor::Fence(stops) if stops.as_slice() == [0, 1, 2, 3])
+    );
+}
+
+#[test]
+fn the_example_is_planned_for_two_and_for_one(rt: HostRuntime) {
+    let example = snapshot(&rt, 2, &[(1, 10, 0), (1, 9, 1), (2, 8, 0)]);
+    let row = Row {
+        bottleneck: 2,
+        cuts: &[0, 2, 3],
+        names: &[1, 0],
+        moved: 10,
+        moves: &[(0, 0, 1)],
+    };
+    assert!(rt; plans(&rt, &example, 2, row), "two PEs");
+    let row = Row {
+        bottleneck: 4,
+        cuts: &[0, 3],
+        names: &[0],
+        moved: 9,
+        moves: &[(1, 1, 0)],
+    };
+    assert!(rt; plans(&rt, &example, 1, row), "one PE");
+}
+
+#[test]
+fn no_elements_are_planned(rt: HostRuntime) {
+    let none = snapshot(&rt, 3, &[]);
+    let row = Row {
+        bottleneck: 0,
+        cuts: &[0, 0, 0, 0],
+        names: &[0, 1, 2],
+        moved: 0,
+        moves: &[],
+    };
+    assert!(rt; plans(&rt, &none, 3, row), "no elements");
+}
+
+// As many elements as there may be, with 8 bytes each, whose blocks of 256 stand each on the PE behind its own.
+fn full(rt: &(impl Abort + AllocGlobal)) -> Snapshot {
+    let mut units = Vec::new(rt.alloc());
+    let mut pairs = Vec::new(rt.alloc());
+    for i in 0..65_536u32 {
+        let pair = (8, pe(rt, (i / 256 + 1) % 256));
+        units.push(1).expect(rt, "out of memory");
+        pairs.push(pair).expect(rt, "out of memory");
+    }
+    let loads = Loads::new(units).expect(rt, "too many loads");
+    let sizes = Sizes::new(pairs).expect(rt, "past a limit");
+    Snapshot::new(1, 256, loads, sizes).expect(rt, "no snapshot")
+}
+
+// Three hundred elements with loads of 0 to 6 and sizes of 0 to 10, on PEs 0 to 12.
+fn mixed(rt: &(impl Abort + AllocGlobal)) -> Snapshot {
+    let mut rows = Vec::new(rt.alloc());
+    for i in 0..300u32 {
+        let row = (i * 5 % 7, i * 3 % 11, i * i % 13);
+        rows.push(row).expect(rt, "out of memory");
+    }
+    snapshot(rt, 13, &rows)
+}
+
+#[test]
+fn each_number_of_pes_has_its_plan(rt: HostRuntime) {
+    let mixed = mixed(&rt);
+    for pes in 1..=256 {
+        let decision = plan(rt.alloc(), &mixed, pes).expect(&rt, "out of memory");
+        assert_eq!(rt; check(&mixed, pes, &decision), Ok(()), "{pes} PEs");
+    }
+}
+
+#[test]
+fn a_copy_is_equal_and_a_change_is_not(rt: HostRuntime) {
+    let mixed = mixed(&rt);
+    assert!(rt; mixed.clone().expect(&rt, "out of memory") == mixed);
+    let decision = plan(rt.alloc(), &mixed, 4).expect(&rt, "out of memory");
+    let mut copy = decision.clone().expect(&rt, "out of memory");
+    assert!(rt; copy == decision);
+    copy.moved = copy.moved.wrapping_add(1);
+    assert!(rt; copy != decision);
+    assert!(rt; mixed != self::snapshot(&rt, 13, &[]));
+}
+
+#[test]
+fn a_full_array_on_all_pes(rt: HostRuntime) {
+    let full = full(&rt);
+    let decision = plan(rt.alloc(), &full, 256).expect(&rt, "out of memory");
+    assert_eq!(rt; decision.division.bottleneck, 256);
+    assert_eq!(rt; (decision.moved, decision.moves.as_slice().len()), (0, 0));
+    for b in 0..256u32 {
+        let name = decision.naming.as_slice().get(b as usize).copied();
+        assert_eq!(rt; name, Some((b + 1) % 256), "block {b}");
+    }
+}
+
+#[test]
+fn a_full_array_on_one_pe(rt: HostRuntime) {
+    let full = full(&rt);
+    let decision = plan(rt.alloc(), &full, 1).expect(&rt, "out of memory");
+    assert_eq!(rt; decision.division.bottleneck, 65_536);
+    assert_eq!(rt;
+        (decision.moved, decision.moves.as_slice().len()),
+        (522_240, 65_280)
+    );
+}
+
+#[test]
+fn the_error_has_its_number_and_text(rt: HostRuntime) {
+    let error = PlanError::OutOfMemory;
+    assert_eq!(rt; error as u8, 2);
+    assert_eq!(rt;
+        format!(in rt.alloc(); "{error}")
+            .expect(&rt, "out of memory")
+            .as_str(),
+        "out of memory"
+    );
+    assert_eq!(rt;
+        PlanError::from(NameError::OutOfMemory),
+        PlanError::OutOfMemory
+    );
+}

@@ -1,0 +1,99 @@
+//! What the tests are made of: numbers, lists, snapshots and cost tables. What can't be made ends the test.
+
+use block_assignment::CostTable;
+use chare_index::{Index, Pe};
+use lb_certificates::{
+    Cuts, Division, Floor, Loads, Naming, PriceList, Prices, Sizes, Snapshot, Stops, Units,
+};
+use std::process::Abort;
+
+pub fn list<T: Copy>(rt: &(impl Abort + AllocGlobal), items: &[T]) -> Vec<T> {
+    Vec::from_slice(rt.alloc(), items).expect(rt, "out of memory")
+}
+
+pub fn pe(rt: &(impl Abort + AllocGlobal), number: u32) -> Pe {
+    Pe::new(number).expect(rt, "no such PE")
+}
+
+pub fn index(rt: &(impl Abort + AllocGlobal), place: u32) -> Index {
+    Index::new(place).expect(rt, "no such element")
+}
+
+pub fn loads(rt: &(impl Abort + AllocGlobal), units: &[Units]) -> Loads {
+    Loads::new(list(rt, units)).expect(rt, "too many loads")
+}
+
+/// The bytes and the PE of each element.
+pub fn pairs(rt: &(impl Abort + AllocGlobal), elements: &[(u32, u32)]) -> Vec<(u32, Pe)> {
+    let mut pairs = Vec::new(rt.alloc());
+    for &(bytes, place) in elements {
+        let pair = (bytes, pe(rt, place));
+        pairs.push(pair).expect(rt, "out of memory");
+    }
+    pairs
+}
+
+pub fn sizes(rt: &(impl Abort + AllocGlobal), elements: &[(u32, u32)]) -> Sizes {
+    Sizes::new(pairs(rt, elements)).expect(rt, "past a limit")
+}
+
+/// The division with this bottleneck, these cuts and this fence.
+pub fn fenced(
+    rt: &(impl Abort + AllocGlobal),
+    bottleneck: u64,
+    cuts: &[u32],
+    stops: &[u32],
+) -> Division {
+    Division {
+        bottleneck,
+        cuts: Cuts::new(list(rt, cuts)),
+        floor: Floor::Fence(Stops::new(list(rt, stops))),
+    }
+}
+
+/// The division with this bottleneck, these cuts and the floor zero.
+pub fn unfenced(rt: &(impl Abort + AllocGlobal), bottleneck: u64, cuts: &[u32]) -> Division {
+    Division {
+        bottleneck,
+        cuts: Cuts::new(list(rt, cuts)),
+        floor: Floor::Zero,
+    }
+}
+
+pub fn naming(rt: &(impl Abort + AllocGlobal), names: &[u32]) -> Naming {
+    Naming::new(list(rt, names))
+}
+
+pub fn prices(rt: &(impl Abort + AllocGlobal), u: &[i64], v: &[i64]) -> Prices {
+    Prices {
+        u: PriceList::new(list(rt, u)),
+        v: PriceList::new(list(rt, v)),
+    }
+}
+
+/// The snapshot at step 5 of elements with these loads, bytes and PEs.
+pub fn snapshot(
+    rt: &(impl Abort + AllocGlobal),
+    procs: u32,
+    elements: &[(u32, u32, u32)],
+) -> Snapshot {
+    let mut units = Vec::new(rt.alloc());
+    let mut pairs = Vec::new(rt.alloc());
+    for &(load, bytes, place) in elements {
+        let pair = (bytes, pe(rt, place));
+        units.push(load).expect(rt, "out of memory");
+        pairs.push(pair).expect(rt, "out of memory");
+    }
+    let loads = Loads::new(units).expect(rt, "too many loads");
+    let sizes = Sizes::new(pairs).expect(rt, "past a limit");
+    Snapshot::new(5, procs, loads, sizes).expect(rt, "no snapshot")
+}
+
+/// The cost table of the blocks between these cuts, which have to divide the elements.
+pub fn table(rt: &(impl Abort + AllocGlobal), sizes: &Sizes, ends: &[u32]) -> CostTable {
+    let cuts = Cuts::new(list(rt, ends));
+    let count = cuts.as_slice().len();
+    assert!(rt; 2 <= count && count <= 257, "no blocks, or too many");
+    assert!(rt; cuts.divides(sizes.len()), "no division");
+    CostTable::of(rt.alloc(), sizes, &cuts).expect(rt, "out of memory")
+}

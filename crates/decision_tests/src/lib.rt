@@ -1,0 +1,22 @@
+//! Tests of how a decision is made and checked: snapshots, certificates, divisions, namings and whole decisions.
+//! They use public calls only, on worked examples whose answers come from outside, on full arrays, and beside slow
+//! references: [`reference`] tries every answer.
+#![tactic(auto)]
+
+#[cfg(test)]
+mod certificates;
+#[cfg(test)]
+mod decisions;
+#[cfg(test)]
+mod divisions;
+#[cfg(test)]
+mod equal_costs;
+#[cfg(test)]
+mod fixtures;
+#[cfg(test)]
+mod limits;
+#[cfg(test)]
+mod naming_checks;
+#[cfg(test)]
+mod namings;
+pub mod reference;

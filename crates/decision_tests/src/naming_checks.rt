@@ -1,0 +1,115 @@
+//! The worked namings, with one forged naming for each flaw.
+
+use crate::fixtures::{list, naming, prices, sizes};
+use lb_certificates::{Cuts, Flaw, Naming, PriceList, Sizes, check_naming};
+use std::process::Abort;
+
+// What the checker says of these cuts, names and prices.
+fn verdict(
+    rt: &(impl Abort + AllocGlobal),
+    sizes: &Sizes,
+    cuts: &[u32],
+    names: &[u32],
+    u: &[i64],
+    v: &[i64],
+) -> Result<u64, Flaw> {
+    let cuts = Cuts::new(list(rt, cuts));
+    let naming = naming(rt, names);
+    let prices = prices(rt, u, v);
+    check_naming(sizes, &cuts, &naming, &prices)
+}
+
+#[test]
+fn each_forged_naming_has_its_flaw(rt: HostRuntime) {
+    let sizes = sizes(&rt, &[(10, 0), (9, 1), (8, 0)]);
+    let forged: [(&[u32], &[u32], &[i64], &[i64], Result<u64, Flaw>); 15] = [
+        (&[0, 2, 3], &[1, 0], &[10, 1], &[-1, 0], Ok(10)),
+        (&[], &[1, 0], &[10, 1], &[-1, 0], Err(Flaw::CutCount)),
+        (&[0], &[], &[], &[], Err(Flaw::CutCount)),
+        (&[1, 2, 3], &[1, 0], &[10, 1], &[-1, 0], Err(Flaw::CutStart)),
+        (&[0, 4, 3], &[1, 0], &[10, 1], &[-1, 0], Err(Flaw::CutOrder)),
+        (&[0, 2, 2], &[1, 0], &[10, 1], &[-1, 0], Err(Flaw::CutEnd)),
+        (&[0, 2, 3], &[1], &[10, 1], &[-1, 0], Err(Flaw::NameCount)),
+        (
+            &[0, 2, 3],
+            &[1, 2],
+            &[10, 1],
+            &[-1, 0],
+            Err(Flaw::NameRange),
+        ),
+        (
+            &[0, 2, 3],
+            &[1, 1],
+            &[10, 1],
+            &[-1, 0],
+            Err(Flaw::NameTwice),
+        ),
+        (&[0, 2, 3], &[1, 0], &[10], &[-1, 0], Err(Flaw::PriceCount)),
+        (&[0, 2, 3], &[1, 0], &[10, 1], &[], Err(Flaw::PriceCount)),
+        (
+            &[0, 2, 3],
+            &[1, 0],
+            &[10, 1],
+            &[0, 0],
+            Err(Flaw::PriceHigh(0, 0)),
+        ),
+        (&[0, 2, 3], &[1, 0], &[9, 1], &[-1, 0], Err(Flaw::PriceGap)),
+        (&[0, 2, 3], &[0, 1], &[10, 1], &[-1, 0], Err(Flaw::PriceGap)),
+        (&[0, 2, 3], &[], &[10, 1], &[-1, 0], Err(Flaw::NameCount)),
+    ];
+    for (cuts, names, u, v, expected) in forged {
+        let found = verdict(&rt, &sizes, cuts, names, u, v);
+        assert_eq!(rt;
+            found,
+            expected,
+            "cuts {cuts:?}, names {names:?}, prices {u:?} {v:?}"
+        );
+    }
+}
+
+#[test]
+fn other_namings_by_hand(rt: HostRuntime) {
+    let six = sizes(&rt, &[(5, 0), (4, 1), (5, 0), (1, 1), (4, 1), (3, 2)]);
+    let found = verdict(
+        &rt,
+        &six,
+        &[0, 2, 4, 6],
+        &[1, 0, 2],
+        &[6, 3, 4],
+        &[-2, -1, 0],
+    );
+    assert_eq!(rt; found, Ok(10));
+    let astray = sizes(&rt, &[(7, 5)]);
+    let found = verdict(&rt, &astray, &[0, 1], &[0], &[7], &[0]);
+    assert_eq!(rt; found, Ok(7), "a PE that is no name");
+}
+
+#[test]
+fn prices_at_the_ends_of_their_range(rt: HostRuntime) {
+    let none = sizes(&rt, &[]);
+    let cuts = [0; 257];
+    let names: Vec<u32> = (0..256).collect(rt.alloc()).expect(&rt, "out of memory");
+    for (price, flaw) in [
+        (i64::MIN, Flaw::PriceGap),
+        (i64::MAX, Flaw::PriceHigh(0, 0)),
+    ] {
+        let prices = [price; 256];
+        let found = verdict(&rt, &none, &cuts, &names, &prices, &prices);
+        assert_eq!(rt; found, Err(flaw), "prices of {price}");
+    }
+    let zeros = [0; 256];
+    assert_eq!(rt; verdict(&rt, &none, &cuts, &names, &zeros, &zeros), Ok(0));
+    let more = [0; 258];
+    let found = verdict(&rt, &none, &more, &names, &zeros, &zeros);
+    assert_eq!(rt; found, Err(Flaw::CutCount), "257 blocks");
+}
+
+#[test]
+fn names_and_prices_come_back(rt: HostRuntime) {
+    let naming = Naming::new(list(&rt, &[1, 0]));
+    assert_eq!(rt; naming.as_slice(), [1, 0].as_slice());
+    assert_eq!(rt; naming.into_vec().as_slice(), [1, 0].as_slice());
+    let prices = PriceList::new(list(&rt, &[-1, 0]));
+    assert_eq!(rt; prices.as_slice(), [-1, 0].as_slice());
+    assert_eq!(rt; prices.into_vec().as_slice(), [-1, 0].as_slice());
+}

@@ -1,0 +1,182 @@
+//! The worked examples, a full array, and small tables against every naming.
+
+ghost use Rattle.std.specs.Prelude.{◌≡◌, ◌≤◌, length};
+ghost use Rattle.lb_certificates.specs.Naming.{IsNaming};
+
+use crate::fixtures::{sizes, table};
+use block_assignment::{CostTable, NameError, name_blocks};
+use lb_certificates::{Naming, Prices};
+use std::process::Abort;
+
+fn named(rt: &(impl Abort + AllocGlobal), table: &CostTable) -> (Naming, Prices)
+    ensures naming { IsNaming table.now.blocks result.0 }
+{
+    name_blocks(rt.alloc(), table).expect(rt, "out of memory")
+}
+
+fn costs(rt: &(impl Abort + AllocGlobal), table: &CostTable) -> Vec<u64> {
+    let mut costs = Vec::new(rt.alloc());
+    for b in 0..table.blocks() {
+        for p in 0..table.blocks() {
+            costs.push(table.cost(b, p)).expect(rt, "out of memory");
+        }
+    }
+    costs
+}
+
+fn sum(prices: &[i64]) -> i64 {
+    let mut sum = 0i64;
+    for &price in prices {
+        sum = sum.saturating_add(price);
+    }
+    sum
+}
+
+#[test]
+fn the_examples_have_their_names(rt: HostRuntime) {
+    let rows: [(&[(u32, u32)], &[u32], &[u64], &[u32], i64); 5] = [
+        (
+            &[(10, 0), (9, 1), (8, 0)],
+            &[0, 2, 3],
+            &[9, 10, 0, 8],
+            &[1, 0],
+            10,
+        ),
+        (
+            &[(8, 1), (8, 1), (8, 0), (8, 0)],
+            &[0, 2, 4],
+            &[16, 0, 0, 16],
+            &[1, 0],
+            0,
+        ),
+        (
+            &[(5, 0), (4, 1), (5, 0), (1, 1), (4, 1), (3, 2)],
+            &[0, 2, 4, 6],
+            &[4, 5, 9, 1, 5, 6, 7, 3, 4],
+            &[1, 0, 2],
+            10,
+        ),
+        (
+            &[],
+            &[0, 0, 0, 0],
+            &[0, 0, 0, 0, 0, 0, 0, 0, 0],
+            &[0, 1, 2],
+            0,
+        ),
+        (&[(7, 5)], &[0, 1], &[7], &[0], 7),
+    ];
+    for (pairs, cuts, bytes, names, cost) in rows {
+        let table = table(&rt, &sizes(&rt, pairs), cuts);
+        let found = costs(&rt, &table);
+        assert_eq!(rt; found.as_slice(), bytes, "costs of {pairs:?}");
+        let (naming, prices) = named(&rt, &table);
+        assert_eq!(rt; naming.as_slice(), names, "names of {pairs:?}");
+        let total = sum(prices.u.as_slice()).saturating_add(sum(&prices.v.into_vec()));
+        assert_eq!(rt; total, cost, "prices of {pairs:?}");
+        let moved = table.cost_of(naming.as_slice());
+        assert_eq!(rt; i128::from(moved), i128::from(cost), "cost of {pairs:?}");
+    }
+}
+
+#[test]
+fn blocks_that_keep_their_numbers_move_more(rt: HostRuntime) {
+    let rows: [(&[(u32, u32)], &[u32], u64); 2] = [
+        (&[(10, 0), (9, 1), (8, 0)], &[0, 2, 3], 17),
+        (&[(8, 1), (8, 1), (8, 0), (8, 0)], &[0, 2, 4], 32),
+    ];
+    for (pairs, cuts, bytes) in rows {
+        let table = table(&rt, &sizes(&rt, pairs), cuts);
+        assert!(rt; table.blocks() == 2, "two blocks");
+        let cost = table.cost(0, 0).saturating_add(table.cost(1, 1));
+        assert_eq!(rt; cost, bytes, "elements {pairs:?}");
+    }
+}
+
+#[test]
+fn a_full_array_on_all_pes(rt: HostRuntime) {
+    let mut pairs = Vec::new(rt.alloc());
+    for i in 0..65_536u32 {
+        let pair = (1_048_576, i * 7 % 256);
+        pairs.push(pair).expect(&rt, "out of memory");
+    }
+    let mut cuts = Vec::new(rt.alloc());
+    for b in 0..257u32 {
+        cuts.push(b * 256).expect(&rt, "out of memory");
+    }
+    let table = table(&rt, &sizes(&rt, &pairs), &cuts);
+    assert_eq!(rt; table.blocks(), 256);
+    let (naming, prices) = named(&rt, &table);
+    assert_eq!(rt; naming.into_vec().len(), 256);
+    let total = sum(prices.u.as_slice()).saturating_add(sum(prices.v.as_slice()));
+    assert_eq!(rt; total, 256 * 255 * 1_048_576);
+}
+
+// What these names cost, if each is used once.
+fn cost_of(table: &CostTable, names: &[u32]) -> Option<u64>
+    requires { length names.now ≡ table.now.blocks }
+{
+    let mut cost = 0u64;
+    for b in 0..table.blocks() {
+        let name = names[b as usize];
+        if name >= table.blocks() || names[..b as usize].contains(&name) {
+            return None;
+        }
+        cost = cost.saturating_add(table.cost(b, name));
+    }
+    Some(cost)
+}
+
+// The least cost of all namings of at most four blocks, each of them tried.
+fn least_cost(table: &CostTable) -> Option<u64>
+    requires { table.now.blocks ≤ 4 }
+{
+    let mut least = None;
+    for code in 0..256u32 {
+        let names = [code % 4, code / 4 % 4, code / 16 % 4, code / 64];
+        let cost = cost_of(table, &names[..table.blocks() as usize]);
+        least = match (least, cost) {
+            (None, cost) => cost,
+            (Some(least), None) => Some(least),
+            (Some(least), Some(cost)) => Some(least.min(cost)),
+        };
+    }
+    least
+}
+
+// The elements of this number of blocks, two in each, with sizes of 0 to 7 on PEs 0 to 4.
+fn elements(rt: &(impl Abort + AllocGlobal), blocks: u32, number: u32) -> Vec<(u32, u32)> {
+    let mut seed = number.wrapping_mul(2_654_435_761).wrapping_add(blocks);
+    let mut pairs = Vec::new(rt.alloc());
+    for _ in 0..blocks.saturating_mul(2) {
+        seed = seed.wrapping_mul(1_664_525).wrapping_add(1_013_904_223);
+        let pair = (seed / 65_536 % 8, seed / 1_048_576 % 5);
+        pairs.push(pair).expect(rt, "out of memory");
+    }
+    pairs
+}
+
+#[test]
+fn small_tables_are_named_at_the_least_cost(rt: HostRuntime) {
+    for (cuts, blocks) in [
+        ([0u32, 2].as_slice(), 1u32),
+        (&[0, 2, 4], 2),
+        (&[0, 2, 4, 6], 3),
+        (&[0, 2, 4, 6, 8], 4),
+    ] {
+        for number in 0..60 {
+            let pairs = elements(&rt, blocks, number);
+            let table = table(&rt, &sizes(&rt, &pairs), cuts);
+            assert_eq!(rt; table.blocks(), blocks);
+            let (naming, _) = named(&rt, &table);
+            let names = naming.into_vec();
+            assert_eq!(rt; names.len(), blocks as usize);
+            let cost = cost_of(&table, &names);
+            assert_eq!(rt; cost, least_cost(&table), "elements {pairs:?}");
+        }
+    }
+}
+
+#[test]
+fn the_error_has_its_number(rt: HostRuntime) {
+    assert_eq!(rt; NameError::OutOfMemory as u8, 2);
+}

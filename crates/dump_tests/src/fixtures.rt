@@ -1,0 +1,146 @@
+//! What the tests are made of: the worked dump and a full one, as snapshots and as bytes, and readers and writers
+//! that fail. What can't be made ends the test.
+
+use chare_index::Pe;
+use lb_certificates::{Loads, Sizes, Snapshot};
+use std::io::{self, Error, ErrorKind, Read, Write};
+use std::process::Abort;
+
+/// Step 5, 2 PEs, 3 elements: their loads, sizes and places.
+pub const EXAMPLE: [u8; 52] = *b"LBD1\
+    \0\0\0\x05\0\0\0\x02\0\0\0\x03\
+    \0\0\0\x01\0\0\0\x0a\0\0\0\0\
+    \0\0\0\x01\0\0\0\x09\0\0\0\x01\
+    \0\0\0\x02\0\0\0\x08\0\0\0\0";
+
+pub fn pe(rt: &impl Abort, number: u32) -> Pe {
+    Pe::new(number).expect(rt, "no such PE")
+}
+
+pub fn example(rt: &(impl Abort + AllocGlobal)) -> Snapshot {
+    let loads = [1, 1, 2].to_vec(rt.alloc()).expect(rt, "out of memory");
+    let mut pairs = Vec::new(rt.alloc());
+    for (size, place) in [(10, 0), (9, 1), (8, 0)] {
+        let place = pe(rt, place);
+        pairs.push((size, place)).expect(rt, "out of memory");
+    }
+    let loads = Loads::new(loads).expect(rt, "too many loads");
+    let sizes = Sizes::new(pairs).expect(rt, "past a limit");
+    Snapshot::new(5, 2, loads, sizes).expect(rt, "no snapshot")
+}
+
+// The load, the size and the place of element `i` of a full array: loads of all widths, up to the greatest size.
+fn full_element(i: u32) -> (u32, u32, u32) {
+    (i.wrapping_mul(65_537), 1_048_576 - i, i % 256)
+}
+
+/// The most elements on the most PEs, at the greatest step.
+pub fn full(rt: &(impl Abort + AllocGlobal)) -> Snapshot {
+    let mut loads = Vec::new(rt.alloc());
+    let mut pairs = Vec::new(rt.alloc());
+    for i in 0..65_536u32 {
+        let (load, size, place) = full_element(i);
+        let place = pe(rt, place);
+        loads.push(load).expect(rt, "out of memory");
+        pairs.push((size, place)).expect(rt, "out of memory");
+    }
+    let loads = Loads::new(loads).expect(rt, "too many loads");
+    let sizes = Sizes::new(pairs).expect(rt, "past a limit");
+    Snapshot::new(u32::MAX, 256, loads, sizes).expect(rt, "no snapshot")
+}
+
+/// Its 786,448 bytes, number by number.
+pub fn full_text(rt: &(impl Abort + AllocGlobal)) -> Vec<u8> {
+    let head = b"LBD1\xff\xff\xff\xff\0\0\x01\0\0\x01\0\0";
+    let mut text = Vec::from_slice(rt.alloc(), head).expect(rt, "out of memory");
+    for i in 0..65_536u32 {
+        let (load, size, place) = full_element(i);
+        for number in [load, size, place] {
+            text.extend_from_slice(&number.to_be_bytes())
+                .expect(rt, "out of memory");
+        }
+    }
+    text
+}
+
+/// Gives so many bytes a call, and fails at one call, counted from 0, whatever comes after it.
+#[derive(Drop)]
+pub struct Source<'a> {
+    pub rest: &'a [u8],
+    pub at_once: usize,
+    pub calls: usize,
+    pub fails: Option<(usize, ErrorKind)>,
+}
+
+impl<'a> Source<'a> {
+    pub fn new(rest: &'a [u8], at_once: usize, fails: Option<(usize, ErrorKind)>) -> Source<'a> {
+        Source {
+            rest,
+            at_once,
+            calls: 0,
+            fails,
+        }
+    }
+}
+
+impl Read for Source<'_> {
+    fn read(&mut self, buf: &mut [u8]) -> io::Result<usize> {
+        let call = self.calls;
+        self.calls = call.saturating_add(1);
+        if let Some((at, kind)) = self.fails
+            && at == call
+        {
+            return Err(Error::from(kind));
+        }
+        let len = self.rest.len().min(self.at_once).min(buf.len());
+        let (now, rest) = self.rest.split_at(len);
+        buf[..len].copy_from_slice(now);
+        self.rest = rest;
+        Ok(len)
+    }
+}
+
+/// Takes so many bytes a call, and fails at one call, counted from 0, whatever comes after it: with an error, or
+/// where there is none by taking nothing.
+#[derive(Drop)]
+pub struct Sink {
+    pub taken: Vec<u8>,
+    pub at_once: usize,
+    pub calls: usize,
+    pub fails_at: usize,
+    pub error: Option<ErrorKind>,
+}
+
+impl Sink {
+    pub fn new(
+        rt: &impl AllocGlobal,
+        at_once: usize,
+        fails_at: usize,
+        error: Option<ErrorKind>,
+    ) -> Sink {
+        Sink {
+            taken: Vec::new(rt.alloc()),
+            at_once,
+            calls: 0,
+            fails_at,
+            error,
+        }
+    }
+}
+
+impl Write for Sink {
+    fn write(&mut self, buf: &[u8]) -> io::Result<usize> {
+        let call = self.calls;
+        self.calls = call.saturating_add(1);
+        if call == self.fails_at {
+            return self.error.map_or(Ok(0), |kind| Err(Error::from(kind)));
+        }
+        let len = buf.len().min(self.at_once);
+        self.taken.extend_from_slice(&buf[..len])?;
+        Ok(len)
+    }
+
+    fn flush(&mut self) -> io::Result<()> {
+        Ok(())
+    }
+}

@@ -1,0 +1,44 @@
+//! The format LBD1: its letters, the lengths of its parts, and where each field begins. `specs/Format.antt` has the
+//! same names.
+
+ghost use Rattle.std.specs.Prelude.{◌≡◌, ◌+◌, ◌≤◌, length};
+ghost use Rattle.lb_dump.specs.Format.{word, word_len};
+
+/// The bytes with which a dump begins.
+pub const LETTERS: [u8; 4] = *b"LBD1";
+
+/// The length of a number, whose highest byte comes first.
+pub const WORD_LEN: usize = 4;
+
+/// The length of the head: the letters and three numbers.
+pub const HEAD_LEN: usize = 16;
+
+/// Where the step begins.
+pub const STEP_AT: usize = 4;
+
+/// Where the number of PEs begins.
+pub const PROCS_AT: usize = 8;
+
+/// Where the number of elements begins.
+pub const COUNT_AT: usize = 12;
+
+/// The length of an element: three numbers.
+pub const ELEMENT_LEN: usize = 12;
+
+/// Where the load begins in an element.
+pub const LOAD_AT: usize = 0;
+
+/// Where the packed size begins in an element.
+pub const SIZE_AT: usize = 4;
+
+/// Where the PE on which it stands begins in an element.
+pub const PLACE_AT: usize = 8;
+
+#[tactic(auto, unfolding(crate::specs::Format::word))]
+/// The number in the four bytes from this offset on.
+pub fn word(text: &[u8], at: usize) -> u32
+    requires { at + word_len ≤ length text.now }
+    ensures value { result ≡ word text.now at }
+{
+    u32::from_be_bytes([text[at], text[at + 1], text[at + 2], text[at + 3]])
+}

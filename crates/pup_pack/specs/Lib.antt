@@ -1,0 +1,7 @@
+pub mod Packing
+pub mod Numbers
+pub mod Pairs
+pub mod Lists
+pub mod ListTrips
+pub mod Structs
+pub mod Trips

@@ -1,0 +1,22 @@
+-- A struct packs into its fields, one after another.
+use Rattle.std.specs.Prelude.{◌≡◌, ℕ, Bool, true, cond, Result, Ok, Err}
+use Rattle.std.proofs.Common.{refl}
+use Rattle.pup_pack.specs.declared.error.PupError.{PupError}
+use Rattle.pup_pack.specs.declared.error.PupError.TheVariants.{Bad}
+use Rattle.pup_pack.specs.Packing.{and_then}
+
+-- the struct of the fields that were unpacked
+abbrev pub made : {F S : Type 0} → (F → S) → Result (F × ℕ) PupError → Result (S × ℕ) PupError
+made make fields = and_then fields (λ x. Ok (make x.0, x.1))
+
+-- a value that the type's own test passes, or Bad
+abbrev pub judged : {S : Type 0} → (S → Bool) → Result (S × ℕ) PupError → Result (S × ℕ) PupError
+judged test value = and_then value (λ x. cond (test x.0) (Ok x) (Err Bad))
+
+-- a struct is unpacked where its fields are
+pub made_round_trip : {F S : Type 0} (make : F → S) (fields : Result (F × ℕ) PupError) (x : F) (n : ℕ) → fields ≡ Ok (x, n) → made make fields ≡ Ok (make x, n)
+made_round_trip make fields x n unpacked = rw unpacked refl
+
+-- and a value that passes the test is
+pub judged_round_trip : {S : Type 0} (test : S → Bool) (value : Result (S × ℕ) PupError) (s : S) (n : ℕ) → test s ≡ true → value ≡ Ok (s, n) → judged test value ≡ Ok (s, n)
+judged_round_trip test value s n passes unpacked = rw (unpacked, passes) refl

@@ -1,0 +1,43 @@
+-- The law of each type, as a value: that of a list is made from that of its items, and that of a struct from those
+-- of its fields, as the types are.
+use Rattle.std.specs.Prelude.{◌≡◌, ℕ, ◌<◌, ◌^◌, List, ◌++◌, length, All, Bool, true, Result, Ok}
+use Rattle.std.specs.Int.{w32, w64, to_be_bytes}
+use Rattle.std.proofs.Common.{subst}
+use Rattle.pup_pack.specs.declared.error.PupError.{PupError}
+use Rattle.pup_pack.specs.Packing.{RoundTrip}
+use Rattle.pup_pack.specs.Numbers.{unpack_u32, u32_round_trip, unpack_u64, u64_round_trip}
+use Rattle.pup_pack.specs.Pairs.{unpack_pair, pair_round_trip, le_first, le_second}
+use Rattle.pup_pack.specs.Lists.{IsCounted, pack_list, unpack_list, pack_bytes, unpack_bytes}
+use Rattle.pup_pack.specs.ListTrips.{list_round_trip, bytes_round_trip}
+use Rattle.pup_pack.specs.Structs.{made, judged, made_round_trip, judged_round_trip}
+
+pub u32_trips : RoundTrip (λ n. n < 2 ^ 32) (λ _. Unit {0}) (to_be_bytes w32) unpack_u32
+u32_trips = record { trip = λ n rest fit _ _. u32_round_trip n rest fit }
+
+pub u64_trips : RoundTrip (λ n. n < 2 ^ 64) (λ _. Unit {0}) (to_be_bytes w64) unpack_u64
+u64_trips = record { trip = λ n rest fit _ _. u64_round_trip n rest fit }
+
+pub bytes_trips : RoundTrip (λ _. Unit {0}) IsCounted pack_bytes unpack_bytes
+bytes_trips = record { trip = λ bytes rest _ _ few. bytes_round_trip bytes rest few }
+
+pub list_trips : {T : Type 0} {fits counted : T → Type 0} {pack : T → List ℕ} {unpack : List ℕ → Result (T × ℕ) PupError} → RoundTrip fits counted pack unpack
+    → RoundTrip (All fits) (λ xs. IsCounted xs × All counted xs) (pack_list pack) (unpack_list unpack)
+list_trips {fits = fits} {counted = counted} {pack = pack} {unpack = unpack} item =
+    record { trip = λ xs rest fit count few. list_round_trip fits counted pack unpack item xs rest fit count.1 count.0 few }
+
+pub pair_trips : {T U : Type 0} {f c : T → Type 0} {p : T → List ℕ} {u : List ℕ → Result (T × ℕ) PupError} {g d : U → Type 0} {q : U → List ℕ} {v : List ℕ → Result (U × ℕ) PupError}
+    → RoundTrip f c p u → RoundTrip g d q v → RoundTrip (λ s. f s.0 × g s.1) (λ s. c s.0 × d s.1) (λ s. p s.0 ++ q s.1) (unpack_pair u v)
+pair_trips {p = p} {u = u} {q = q} {v = v} first second =
+    record { trip = λ s rest fit count few. pair_round_trip p q u v s.0 s.1 rest (λ r. first.trip s.0 r fit.0 count.0 (le_first (p s.0) (q s.1) few)) (λ r. second.trip s.1 r fit.1 count.1 (le_second (p s.0) (q s.1) few)) few }
+
+-- of a struct that is made from its fields again
+pub struct_trips : {F S : Type 0} {f c : F → Type 0} {p : F → List ℕ} {u : List ℕ → Result (F × ℕ) PupError} (fields : S → F) (make : F → S) → ((s : S) → make (fields s) ≡ s)
+    → RoundTrip f c p u → RoundTrip (λ s. f (fields s)) (λ s. c (fields s)) (λ s. p (fields s)) (λ bytes. made make (u bytes))
+struct_trips {p = p} {u = u} fields make same whole =
+    record { trip = λ s rest fit count few. subst (λ t. made make (u (p (fields s) ++ rest)) ≡ Ok (t, length (p (fields s)))) (same s) (made_round_trip make (u (p (fields s) ++ rest)) (fields s) (length (p (fields s))) (whole.trip (fields s) rest fit count few)) }
+
+-- of a type with a test that each of its values passes
+pub judged_trips : {S : Type 0} {f c : S → Type 0} {p : S → List ℕ} {u : List ℕ → Result (S × ℕ) PupError} (test : S → Bool)
+    → RoundTrip f c p u → RoundTrip (λ s. f s × (test s ≡ true)) c p (λ bytes. judged test (u bytes))
+judged_trips {p = p} {u = u} test whole =
+    record { trip = λ s rest fit count few. judged_round_trip test (u (p s ++ rest)) s (length (p s)) fit.1 (whole.trip s rest fit.0 count few) }

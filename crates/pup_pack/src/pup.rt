@@ -1,0 +1,113 @@
+ghost use Rattle.std.specs.Prelude.{◌≡◌, ℕ, ◌+◌, ◌<◌, ◌≤◌, List, ◌++◌, length, Result, Ok, Err, OnOk, OnErr, IfOk, vec_len, vec_capacity};
+ghost use Rattle.chare_index.specs.declared.limits.TheConstants.Limits.{STATE_BYTES};
+ghost use Rattle.pup_pack.specs.declared.error.PupError.{PupError};
+ghost use Rattle.pup_pack.specs.Packing.{PackAnswer, UnpackAnswer};
+
+use crate::error::PupError;
+use chare_index::Limits;
+use std::alloc::Allocator;
+
+/// A value that packs into bytes and is unpacked from them again. `A` is the allocator of the bytes, and of what
+/// an unpacked value owns. The name is that of the pack and unpack routine of a migratable object in Charm++
+/// (the Charm++ manual, on serialization).
+///
+/// # A type of your own
+///
+/// A state of several fields packs into its fields, one after another. They are a pair, or pairs within a pair, so
+/// every member and method hands on to it:
+///
+/// ```text
+/// #[derive(Drop)]
+/// struct Tally<A: Allocator = Global> {
+///     sum: u64,
+///     amounts: Items<u32, A>,
+///     pad: Bytes<A>,
+/// }
+///
+/// impl<A: Allocator + Copy> Pup<A> for Tally<A> {
+///     ghost use Rattle.std.specs.Prelude.{refl};
+///     ghost use Rattle.pup_pack.specs.Structs.{made};
+///     ghost use Rattle.pup_pack.specs.Trips.{bytes_trips, list_trips, pair_trips, struct_trips, u32_trips, u64_trips};
+///
+///     ghost fits = { λ t. ⟦<(u64, (Items<u32, A>, Bytes<A>)) as Pup<A>>⟧.fits (t.sum, (t.amounts, t.pad)) };
+///     ghost counted = { λ t. ⟦<(u64, (Items<u32, A>, Bytes<A>)) as Pup<A>>⟧.counted (t.sum, (t.amounts, t.pad)) };
+///     ghost pack = { λ t. ⟦<(u64, (Items<u32, A>, Bytes<A>)) as Pup<A>>⟧.pack (t.sum, (t.amounts, t.pad)) };
+///     ghost unpack = { λ bytes. made (λ x. record { sum = x.0; amounts = x.1.0; pad = x.1.1 })
+///         (⟦<(u64, (Items<u32, A>, Bytes<A>)) as Pup<A>>⟧.unpack bytes) };
+///     ghost round_trip = { (struct_trips (λ t. (t.sum, (t.amounts, t.pad)))
+///         (λ x. record { sum = x.0; amounts = x.1.0; pad = x.1.1 }) (λ _. refl)
+///         (pair_trips u64_trips (pair_trips (list_trips u32_trips) bytes_trips))).trip };
+///
+///     fn packed_len(&self) -> u32 {
+///         (&self.sum, (&self.amounts, &self.pad)).fields_len()
+///     }
+///
+///     fn pack_into(&self, out: &mut Vec<u8, A>) -> Result<(), PupError> {
+///         (&self.sum, (&self.amounts, &self.pad)).pack_fields(out)
+///     }
+///
+///     fn unpack(alloc: A, bytes: &[u8]) -> Result<(Tally<A>, usize), PupError> {
+///         let (fields, len) = <(u64, (Items<u32, A>, Bytes<A>)) as Pup<A>>::unpack(alloc, bytes)?;
+///         let (sum, (amounts, pad)) = fields;
+///         Ok((Tally { sum, amounts, pad }, len))
+///     }
+/// }
+/// ```
+///
+/// This needs no proof file. The law is put together as the type is: `pair_trips` of the laws of the fields, and
+/// `struct_trips` of how the struct is made of them. A type that some bytes are no value of tests what it unpacked,
+/// answers [`Bad`](PupError::Bad), and has `judged` and `judged_trips` in place of these.
+pub trait Pup<A: Allocator>: Sized {
+    /// Holds of every value of the type: in the law below an integer is any natural number.
+    ghost fits: { Self → Type 0 };
+
+    /// Whether each list in the value has at most 1,048,576 items.
+    ghost counted: { Self → Type 0 };
+
+    /// The bytes that the value packs into.
+    ghost pack: { Self → List ℕ };
+
+    /// What bytes unpack to: the value and how many bytes it took, or the refusal.
+    ghost unpack: { List ℕ → Result (Self × ℕ) PupError };
+
+    /// The length of the pack in bytes, or 1,048,577 where it is more than 1,048,576. Takes no memory.
+    fn packed_len(&self) -> u32
+        ensures len { length (pack self.now) ≤ Limits.STATE_BYTES → result ≡ length (pack self.now) }
+        ensures over { Limits.STATE_BYTES < length (pack self.now) → result ≡ Limits.STATE_BYTES + 1 }
+        ensures fits { fits self.now };
+
+    /// Appends the pack of the value to `out`, for which it asks for memory at most once.
+    ///
+    /// # Errors
+    ///
+    /// `out` is unchanged on each of them.
+    ///
+    /// - [`TooLong`](PupError::TooLong): the pack is longer than 1,048,576 bytes, or a list in the value has more
+    ///   than 1,048,576 items.
+    /// - [`OutOfMemory`](PupError::OutOfMemory): the bytes did not fit in the capacity of `out`, and no memory was
+    ///   left. A pack that is too long is never refused for memory; a list with too many items, whose items pack
+    ///   into nothing, may be.
+    fn pack_into(&self, out: &mut Vec<u8, A>) -> Result<(), PupError>
+        ensures appended { OnOk result (out.new.items ≡ out.old.items ++ pack self.now) }
+        ensures answer { PackAnswer (counted self.now) (length (pack self.now)) result }
+        ensures full { result ≡ Err PupError.OutOfMemory → vec_capacity out.old < vec_len out.old + length (pack self.now) }
+        ensures unchanged { OnErr result (out.new.items ≡ out.old.items) }
+        ensures capacity { vec_capacity out.old ≤ vec_capacity out.new };
+
+    /// The value whose pack the bytes begin with, and how many bytes that pack has.
+    ///
+    /// # Errors
+    ///
+    /// - [`Short`](PupError::Short): the bytes end before the value does.
+    /// - [`Bad`](PupError::Bad): the bytes are those of no value of the type.
+    /// - [`TooLong`](PupError::TooLong): a list has more than 1,048,576 items, or the value would pack into more
+    ///   than 1,048,576 bytes.
+    /// - [`OutOfMemory`](PupError::OutOfMemory): no memory was left. It may come before what only bytes further
+    ///   on would show.
+    fn unpack(alloc: A, bytes: &[u8]) -> Result<(Self, usize), PupError>
+        ensures answer { UnpackAnswer (unpack bytes.now) result }
+        ensures within { IfOk result (λ r. r.1 ≤ length bytes.now) };
+
+    /// A value that packs is unpacked from its pack, whatever bytes follow.
+    ghost round_trip: { (s : Self) (rest : List ℕ) → fits s → counted s → length (pack s) ≤ STATE_BYTES → unpack (pack s ++ rest) ≡ Ok (s, length (pack s)) };
+}

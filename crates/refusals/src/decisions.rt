@@ -1,0 +1,121 @@
+//! Divisions, namings and whole decisions.
+
+use crate::fixtures::{example, five, pe, requests, three};
+use block_assignment::{CostTable, NameError, name_blocks};
+use chain_partition::{Probe, divide, probe};
+use chare_index::{Index, Pe};
+use lb_certificates::{Cuts, Floor, Loads, Sizes, Snapshot};
+use lb_strategy::{Decision, PlanError, check, plan};
+use refusing_alloc::{Outcome, Refusing};
+use std::alloc::{AllocError, Allocator, Global};
+use std::process::Abort;
+
+// The requests of the search for names on two blocks.
+const NAMING: u64 = 9;
+
+// Whether five fit in two blocks within 9, and stop within 8, as they should.
+fn probes_five<A: Allocator>(alloc: A, five: &Loads, limit: u64) -> Result<bool, AllocError> {
+    Ok(match probe(alloc, five, 2, limit)? {
+        Probe::Fits(cuts) => limit == 9 && cuts.as_slice() == [0, 3, 5].as_slice(),
+        Probe::Stops(stops) => limit == 8 && stops.as_slice() == [0, 3, 4].as_slice(),
+    })
+}
+
+// Whether five are divided into two blocks as they should be.
+fn divides_five<A: Allocator + Copy>(alloc: A, five: &Loads) -> Result<bool, AllocError> {
+    let division = divide(alloc, five, 2)?;
+    let Floor::Fence(stops) = &division.floor else {
+        return Ok(false);
+    };
+    let same = division.bottleneck == 9 && stops.as_slice() == [0, 3, 4].as_slice();
+    Ok(same && division.cuts.as_slice() == [0, 3, 5].as_slice())
+}
+
+#[test]
+fn probes_and_divisions(rt: HostRuntime) {
+    let five = five(&rt);
+    for limit in [9, 8] {
+        let attempt = |alloc: &Refusing<Global>| Outcome::from(probes_five(alloc, &five, limit));
+        assert_eq!(rt; requests(&rt, attempt), 1, "limit {limit}");
+    }
+    let attempt = |alloc: &Refusing<Global>| Outcome::from(divides_five(alloc, &five));
+    assert_eq!(rt; requests(&rt, attempt), 2, "the cuts and the fence");
+}
+
+fn cuts(rt: &(impl Abort + AllocGlobal)) -> Cuts {
+    Cuts::new(Vec::from_slice(rt.alloc(), &[0, 2, 3]).expect(rt, "out of memory"))
+}
+
+// The costs of the example's two blocks, which are to be 9 and 10, and 0 and 8.
+fn tables<A: Allocator + Copy>(alloc: A, sizes: &Sizes, cuts: &Cuts) -> Result<bool, AllocError> {
+    if cuts.as_slice().len() != 3 || !cuts.divides(sizes.len()) {
+        return Ok(false);
+    }
+    let table = CostTable::of(alloc, sizes, cuts)?;
+    let first = (table.cost(0, 0), table.cost(0, 1));
+    Ok(table.blocks() == 2 && first == (9, 10) && (table.cost(1, 0), table.cost(1, 1)) == (0, 8))
+}
+
+#[test]
+fn cost_tables(rt: HostRuntime) {
+    let sizes = three(&rt, rt.alloc());
+    let cuts = cuts(&rt);
+    let attempt = |alloc: &Refusing<Global>| Outcome::from(tables(alloc, &sizes, &cuts));
+    assert_eq!(rt; requests(&rt, attempt), 2, "the costs and a row");
+}
+
+// What a naming of the example's blocks comes to.
+fn names<A: Allocator + Copy>(alloc: A, table: &CostTable) -> Outcome {
+    match name_blocks(alloc, table) {
+        Ok((naming, _)) if naming.as_slice() == [1, 0].as_slice() => Outcome::Right,
+        Err(NameError::OutOfMemory) => Outcome::Refused,
+        _ => Outcome::Wrong,
+    }
+}
+
+#[test]
+fn namings(rt: HostRuntime) {
+    let sizes = three(&rt, rt.alloc());
+    let cuts = cuts(&rt);
+    assert!(rt; cuts.as_slice().len() == 3 && cuts.divides(sizes.len()));
+    let table = CostTable::of(rt.alloc(), &sizes, &cuts).expect(&rt, "out of memory");
+    let attempt = |alloc: &Refusing<Global>| names(alloc, &table);
+    assert_eq!(rt; requests(&rt, attempt), NAMING);
+}
+
+// Whether this is the whole decision on the example. Its prices are any that `check` accepts.
+fn is_decided<A: Allocator>(
+    example: &Snapshot,
+    decision: &Decision<A>,
+    moves: &[(Index, Pe, Pe)],
+) -> bool {
+    let Floor::Fence(stops) = &decision.division.floor else {
+        return false;
+    };
+    decision.division.bottleneck == 2
+        && decision.division.cuts.as_slice() == [0, 2, 3].as_slice()
+        && stops.as_slice() == [0, 1, 2].as_slice()
+        && decision.naming.as_slice() == [1, 0].as_slice()
+        && decision.moved == 10
+        && decision.moves.as_slice() == moves
+        && check(example, 2, decision).is_ok()
+}
+
+// What a plan for the example comes to.
+fn plans<A: Allocator + Copy>(alloc: A, example: &Snapshot, moves: &[(Index, Pe, Pe)]) -> Outcome {
+    match plan(alloc, example, 2) {
+        Ok(decision) if is_decided(example, &decision, moves) => Outcome::Right,
+        Err(PlanError::OutOfMemory) => Outcome::Refused,
+        _ => Outcome::Wrong,
+    }
+}
+
+#[test]
+fn whole_decisions(rt: HostRuntime) {
+    let example = example(&rt, rt.alloc());
+    let first = Index::new(0).expect(&rt, "no such element");
+    let moves = [(first, pe(&rt, 0), pe(&rt, 1))];
+    let attempt = |alloc: &Refusing<Global>| plans(alloc, &example, &moves);
+    // Those of `divide`, `CostTable::of` and `name_blocks`, and the moves.
+    assert_eq!(rt; requests(&rt, attempt), 2 + 2 + NAMING + 1);
+}

@@ -1,0 +1,8 @@
+//! Tests of the runtime: packed states, what elements report, and what is decided for them. They use public calls
+//! only, on worked examples whose answers come from outside, and on full sizes.
+#![tactic(auto)]
+
+#[cfg(test)]
+mod board;
+#[cfg(test)]
+mod packing;
