@@ -16,7 +16,8 @@ fn table_of(
 ) -> CostTable {
     let mut cuts = Vec::new(rt.alloc());
     for b in 0..=blocks {
-        cuts.push(b.saturating_mul(each)).expect(rt, "out of memory");
+        cuts.push(b.saturating_mul(each))
+            .expect(rt, "out of memory");
     }
     table(rt, &sizes(rt, pairs), &cuts)
 }
