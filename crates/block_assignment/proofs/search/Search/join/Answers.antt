@@ -49,8 +49,8 @@ scan-requires-clause-low g c =
     let paid : c.index.result.now ≡ slice_index s.paid c.args.block = get_or_read s.paid c.args.block c.index.result.now (omega (arith, block, sized.paid_length)) c.index.ensures 0 in
     let far : c.index-2.result.now ≡ slice_index s.distance c.args.pe = get_or_read s.distance c.args.pe c.index-2.result.now (omega (arith, near.inside, sized.distance_length)) c.index-2.ensures 0 in
     rw (c.deref.ensures.value, paid) (λ p inside.
-        let within : p < s.table.blocks = omega (arith, inside, c.row.ensures.counted) in
-        omega (arith, c.row.ensures.costs p within, matched.low c.args.block p block within))
+    let within : p < s.table.blocks = omega (arith, inside, c.row.ensures.counted) in
+    omega (arith, c.row.ensures.costs p within, matched.low c.args.block p block within))
 
 pub returns-clause-nearest : goal.returns-clause-nearest
 returns-clause-nearest g c =
@@ -102,8 +102,8 @@ scan-requires-clause-small g c =
     let paid : c.index.result.now ≡ slice_index s.paid c.args.block = get_or_read s.paid c.args.block c.index.result.now (omega (arith, block, sized.paid_length)) c.index.ensures 0 in
     let far : c.index-2.result.now ≡ slice_index s.distance c.args.pe = get_or_read s.distance c.args.pe c.index-2.result.now (omega (arith, near.inside, sized.distance_length)) c.index-2.ensures 0 in
     rw c.deref.ensures.value (λ p inside.
-        let within : p < s.table.blocks = omega (arith, inside, c.row.ensures.counted) in
-        omega (arith, c.row.ensures.costs p within, cost_small s.table c.args.block p sized.is_table block within, rebate_small s sized.is_table matched unnamed p within))
+    let within : p < s.table.blocks = omega (arith, inside, c.row.ensures.counted) in
+    omega (arith, c.row.ensures.costs p within, cost_small s.table c.args.block p sized.is_table block within, rebate_small s sized.is_table matched unnamed p within))
 
 pub returns-clause-matched : goal.returns-clause-matched
 returns-clause-matched g c =
@@ -138,9 +138,9 @@ returns-clause-tree g c =
     let w : take c.self.inside.distance.len (c.scan.new.distance ++ drop (length c.scan.new.distance) c.self.inside.distance.items) ≡ c.scan.new.distance = written _ _ _ (omega arith) in
     let w2 : take c.self.inside.from.len (c.scan.new.from ++ drop (length c.scan.new.from) c.self.inside.from.items) ≡ c.scan.new.from = written _ _ _ (omega arith) in
     let relaxed : Relaxed s (slice_index s.distance c.args.pe) (set s.rank c.args.pe c.args.rank) c.args.block c.scan.new.distance c.scan.new.from = λ p inside not_yet.
-        let h = rw (paid, far, c.deref.ensures.value, c.deref-2.ensures.value, c.deref_mut.ensures.value, c.deref_mut-2.ensures.value) at c.scan.ensures.relaxed in
-        let h2 : IsRelaxed (slice_index s.distance c.args.pe) (slice_index c.row.result.now p) (slice_index s.paid c.args.block) (slice_index s.rebate p) c.args.block (slice_index s.distance p) (slice_index s.from p) (slice_index c.scan.new.distance p) (slice_index c.scan.new.from p) = h p (omega (arith, inside, c.row.ensures.counted)) not_yet in
-        subst (λ cost. IsRelaxed (slice_index s.distance c.args.pe) cost (slice_index s.paid c.args.block) (slice_index s.rebate p) c.args.block (slice_index s.distance p) (slice_index s.from p) (slice_index c.scan.new.distance p) (slice_index c.scan.new.from p)) (c.row.ensures.costs p inside) h2 in
+    let h = rw (paid, far, c.deref.ensures.value, c.deref-2.ensures.value, c.deref_mut.ensures.value, c.deref_mut-2.ensures.value) at c.scan.ensures.relaxed in
+    let h2 : IsRelaxed (slice_index s.distance c.args.pe) (slice_index c.row.result.now p) (slice_index s.paid c.args.block) (slice_index s.rebate p) c.args.block (slice_index s.distance p) (slice_index s.from p) (slice_index c.scan.new.distance p) (slice_index c.scan.new.from p) = h p (omega (arith, inside, c.row.ensures.counted)) not_yet in
+    subst (λ cost. IsRelaxed (slice_index s.distance c.args.pe) cost (slice_index s.paid c.args.block) (slice_index s.rebate p) c.args.block (slice_index s.distance p) (slice_index s.from p) (slice_index c.scan.new.distance p) (slice_index c.scan.new.from p)) (c.row.ensures.costs p inside) h2 in
     let kept : Kept s (set s.rank c.args.pe c.args.rank) c.scan.new.distance c.scan.new.from = record {
       distances = (let h = rw (c.deref-2.ensures.value, c.deref_mut.ensures.value) at c.scan.ensures.kept_distance in h);
       froms = (let h = rw (c.deref-2.ensures.value, c.deref_mut-2.ensures.value) at c.scan.ensures.kept_from in h);

@@ -16,8 +16,8 @@ scan-requires-clause-small g c =
     let block : s.named < s.table.blocks = unnamed in
     let paid : c.index.result.now ≡ slice_index s.paid s.named = get_or_read s.paid s.named c.index.result.now (omega (arith, unnamed, sized.paid_length)) c.index.ensures 0 in
     rw c.deref.ensures.value (λ p inside.
-        let within : p < s.table.blocks = omega (arith, inside, c.row.ensures.counted) in
-        omega (arith, c.row.ensures.costs p within, cost_small s.table s.named p sized.is_table block within, rebate_small s sized.is_table matched unnamed p within))
+    let within : p < s.table.blocks = omega (arith, inside, c.row.ensures.counted) in
+    omega (arith, c.row.ensures.costs p within, cost_small s.table s.named p sized.is_table block within, rebate_small s sized.is_table matched unnamed p within))
 
 pub returns-clause-matched : goal.returns-clause-matched
 returns-clause-matched g c =
