@@ -1,4 +1,4 @@
--- What an attempt may answer while a request is refused, and what a run over every refusal tells of it.
+-- What an attempt may come to while a request is refused, and what a run over every refusal says of it.
 use Rattle.std.specs.Prelude.{◌≡◌, ℕ, ◌+◌, ◌<◌, ◌≤◌, ◌⊎◌, Bool, true, false}
 use Rattle.std.specs.declared.result.Result.{Result}
 use Rattle.std.specs.declared.result.Result.TheVariants.{Ok, Err}
@@ -24,14 +24,14 @@ module _ {B : Type 0} (Answers : Bor (Refusing B) → Outcome → Type 0) (inner
     pub refuses : alloc.now.requests.turn ≡ turn
     pub answers : Answers alloc outcome
 
-  -- the refusal of this request was told, and a run after it with no refusal was right
+  -- the refusal of this request was reported, and a run after it with no refusal was right
   abbrev pub Told : ℕ → Type 0
   Told turn = MayAnswer turn Refused × MayAnswer 0 Right
 
   abbrev pub EachTold : ℕ → Type 0
   EachTold refusals = (turn : ℕ) → 1 ≤ turn → turn ≤ refusals → Told turn
 
-  -- each refusal was told, and the run with no request left to refuse was right
+  -- each refusal was reported, and the run with no request left to refuse was right
   abbrev pub Passes : ℕ → Type 0
   Passes refusals = EachTold refusals × MayAnswer (refusals + 1) Right
 

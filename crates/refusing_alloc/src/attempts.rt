@@ -10,13 +10,13 @@ use std::fmt::{self, Display, Formatter, Write};
 pub enum Outcome {
     /// The right answer.
     Right,
-    /// Want of memory, and whatever the attempt may change was as it should be then.
+    /// Out of memory, and whatever the attempt may change was as it should be then.
     Refused,
     /// Anything else.
     Wrong,
 }
 
-/// Whether the answer is right, or want of memory.
+/// Whether the answer is right, or out of memory.
 impl From<Result<bool, AllocError>> for Outcome {
     ghost from_gives = { λ answer outcome. outcome ≡ outcome_of answer };
 
@@ -32,15 +32,15 @@ impl From<Result<bool, AllocError>> for Outcome {
 /// How an attempt failed, and in the run of which turn.
 #[derive(Clone, Copy, Debug, PartialEq, Eq)]
 pub enum Failure {
-    /// It answered wrong.
+    /// It gave a wrong answer.
     Wrong(u64),
-    /// A request was refused, and it answered as if none was.
+    /// A request was refused, and its answer was as if none was.
     Ignored(u64),
-    /// It told of want of memory, and no request was refused.
+    /// It reported out of memory, and no request was refused.
     GaveUp(u64),
-    /// It told of the refusal, and then answered wrong with no refusal.
+    /// It reported the refusal, and then gave a wrong answer with no refusal.
     WrongAfter(u64),
-    /// It told of the refusal, and then of want of memory with no refusal.
+    /// It reported the refusal, and then out of memory with no refusal.
     GaveUpAfter(u64),
     /// There was still a request to refuse in the last of this many turns.
     TooManyTurns(u64),

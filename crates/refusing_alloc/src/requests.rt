@@ -13,7 +13,7 @@ pub(crate) struct Requests {
 
 impl Requests {
     pub(crate) fn new(turn: u64) -> Requests
-        ensures { result.turn ≡ turn }
+        ensures turn { result.turn ≡ turn }
     {
         Requests {
             turn,
