@@ -51,8 +51,8 @@ returns-clause-bounded g c =
     let rebate : c.deref-2.result.now ≡ s.rebate = c.deref-2.ensures.value ∙ c.into_parts-names.ensures.rebate in
     let u_length : length c.write_paid.new.prices ≡ s.table.blocks = omega (arith, blocks, c.write_paid.auto.prices, c.deref_mut.ensures.len, c.in_ok-u.ensures.len) in
     let v_length : length c.write_rebates.new.prices ≡ s.table.blocks = omega (arith, blocks, c.write_rebates.auto.prices, c.deref_mut-2.ensures.len, c.in_ok-v.ensures.len) in
-    let u : c.write_paid.new.prices ≡ c.new-2.result = sym (c.new-2.ensures ∙ written _ _ _ (omega (arith, blocks, u_length, c.in_ok-u.ensures.len))) in
-    let v : c.write_rebates.new.prices ≡ c.new-3.result = sym (c.new-3.ensures ∙ written _ _ _ (omega (arith, blocks, v_length, c.in_ok-v.ensures.len))) in
+    let u : c.write_paid.new.prices ≡ c.new-2.result = sym (c.new-2.ensures.value ∙ written _ _ _ (omega (arith, blocks, u_length, c.in_ok-u.ensures.len))) in
+    let v : c.write_rebates.new.prices ≡ c.new-3.result = sym (c.new-3.ensures.value ∙ written _ _ _ (omega (arith, blocks, v_length, c.in_ok-v.ensures.len))) in
     let pays : (b : ℕ) → b < s.table.blocks → price_at c.write_paid.new.prices b ≡ pos (slice_index s.paid b) = λ b inside. (let h = rw paid at c.write_paid.ensures in h b (omega (arith, inside, sized.paid_length))) in
     let gives : (p : ℕ) → p < s.table.blocks → price_at c.write_rebates.new.prices p ≡ neg_ℤ (pos (slice_index s.rebate p)) = λ p inside. (let h = rw rebate at c.write_rebates.ensures in h p (omega (arith, inside, sized.rebate_length))) in
     let facts = prices_within s.table.blocks (greatest s.table.costs) c.write_paid.new.prices c.write_rebates.new.prices s.paid s.rebate u_length v_length pays gives c.loop.invariant.small.paid c.loop.invariant.small.rebate in
