@@ -81,9 +81,10 @@ fn a_full_load_is_taken(rt: HostRuntime) {
     assert_eq!(rt; (taken.step(), taken.procs()), (1, 1));
     let loads = [0, 0, 4_294_967_295, 0];
     assert_eq!(rt; taken.loads().as_slice(), loads.as_slice());
-    let small = (1, pe(&rt, 0));
-    let sizes = [small, small, (5, pe(&rt, 0)), small];
-    assert_eq!(rt; taken.sizes().as_slice(), sizes.as_slice());
+    assert_eq!(rt; taken.sizes().len(), 4);
+    for (&(bytes, place), expected) in taken.sizes().as_slice().iter().zip([1, 1, 5, 1]) {
+        assert_eq!(rt; (bytes, place.get()), (expected, 0));
+    }
 }
 
 #[test]
@@ -99,39 +100,46 @@ fn no_elements(rt: HostRuntime) {
     assert_eq!(rt; taken.loads().len(), 0);
 }
 
-#[test]
-fn two_rounds(rt: HostRuntime) {
-    let mut db = LoadDb::new(rt.alloc(), 2).expect(&rt, "out of memory");
+// A database of two elements that have done their work and reported.
+fn reported(rt: &(impl Abort + AllocGlobal)) -> LoadDb {
+    let mut db = LoadDb::new(rt.alloc(), 2).expect(rt, "out of memory");
     for i in [0, 1] {
         assert_eq!(rt; db.charge(i, 7), Ok(()));
-        assert_eq!(rt;
-            db.report(i, round(&rt, 1), 1_048_576, pe(&rt, 255)),
-            Ok(())
-        );
+        let answer = db.report(i, round(rt, 1), 1_048_576, pe(rt, 255));
+        assert_eq!(rt; answer, Ok(()));
         assert_eq!(rt; db.charge(i, 2), Ok(()), "after the report");
-        assert_eq!(rt;
-            (db.load(i), db.reported(i)),
-            (Some(9), Some((1_048_576, pe(&rt, 255))))
-        );
+    }
+    db
+}
+
+#[test]
+fn work_after_a_report_is_counted(rt: HostRuntime) {
+    let db = reported(&rt);
+    for i in [0, 1] {
+        assert_eq!(rt; db.load(i), Some(9));
+        assert_eq!(rt; db.reported(i), Some((1_048_576, pe(&rt, 255))));
     }
     assert!(rt; db.is_complete());
+}
+
+#[test]
+fn the_next_round_has_nothing(rt: HostRuntime) {
+    let mut db = reported(&rt);
     assert_eq!(rt; db.next_round(), Ok(()));
-    let idle = (Some(0), None);
-    let past = (None, None);
-    assert_eq!(rt;
-        seen(&db),
-        (
-            round(&rt, 2),
-            2,
-            false,
-            false,
-            [idle, idle, past, past, past]
-        )
-    );
-    assert_eq!(rt;
-        db.report(0, round(&rt, 1), 1, pe(&rt, 0)),
-        Err(DbError::WrongRound)
-    );
+    assert_eq!(rt; (db.round(), db.len()), (round(&rt, 2), 2));
+    assert!(rt; !db.is_empty() && !db.is_complete());
+    for i in [0, 1] {
+        assert_eq!(rt; db.load(i), Some(0));
+        assert_eq!(rt; db.reported(i), None);
+    }
+}
+
+#[test]
+fn the_next_round_has_its_own_reports(rt: HostRuntime) {
+    let mut db = reported(&rt);
+    assert_eq!(rt; db.next_round(), Ok(()));
+    let late = db.report(0, round(&rt, 1), 1, pe(&rt, 0));
+    assert_eq!(rt; late, Err(DbError::WrongRound));
     assert_eq!(rt; db.report(0, round(&rt, 2), 1, pe(&rt, 0)), Ok(()));
 }
 

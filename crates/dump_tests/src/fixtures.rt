@@ -31,7 +31,11 @@ pub fn example(rt: &(impl Abort + AllocGlobal)) -> Snapshot {
 
 // The load, the size and the place of element `i` of a full array: loads of all widths, up to the greatest size.
 fn full_element(i: u32) -> (u32, u32, u32) {
-    (i.wrapping_mul(65_537), 1_048_576 - i, i % 256)
+    (
+        i.wrapping_mul(65_537),
+        1_048_576u32.saturating_sub(i),
+        i % 256,
+    )
 }
 
 /// The most elements on the most PEs, at the greatest step.

@@ -4,6 +4,22 @@
 //! - [`LoadDb`]: the work units charged to each element, and the size and the place that it reported, from
 //!   which each snapshot is taken.
 //! - [`DbError`]: why a call was refused.
+//!
+//! ```
+//! use chare_index::Pe;
+//! use lb_database::LoadDb;
+//!
+//! let mut db = LoadDb::new(alloc, 2)?;
+//! let round = db.round();
+//! for i in 0..2 {
+//!     db.charge(i, 7)?;
+//!     db.report(i, round, 100, Pe::new(i)?)?;
+//! }
+//! assert!(db.is_complete() && db.stands_on(2));
+//! let snapshot = db.snapshot(5, 2)?;
+//! assert_eq!(snapshot.loads().as_slice(), [7, 7].as_slice());
+//! db.next_round()?;
+//! ```
 #![tactic(auto)]
 
 mod database;

@@ -4,6 +4,15 @@
 //! - [`decode`] and [`read_from`]: the snapshot of a text, or the first fault of the bytes from left to right.
 //! - [`DumpReader`]: the same for a text that comes in pieces.
 //! - [`DumpError`]: the faults.
+//!
+//! ```
+//! use lb_dump::{DumpError, decode, encode};
+//!
+//! // `snapshot` is an `lb_certificates::Snapshot`.
+//! let text = encode(alloc, &snapshot)?;
+//! assert_eq!(decode(alloc, &text[..15]), Err(DumpError::Short(15)));
+//! assert_eq!(decode(alloc, &text), Ok(snapshot));
+//! ```
 #![tactic(auto)]
 
 mod decoding;
