@@ -49,7 +49,7 @@ pub(crate) fn scan(
                 distance[p] = far;
                 from[p] = joining.block;
             }
-            if comes_first(distance[p], holders[p].is_some(), least, held) {
+            if comes_first(distance[p], &holders[p], least, held) {
                 nearest = Some(p as u32);
                 least = distance[p];
                 held = holders[p].is_some();
@@ -60,9 +60,9 @@ pub(crate) fn scan(
 }
 
 // Whether a PE is to be scanned before the nearest of those before it: it is nearer, or the first free one of those
-// that are as near.
-fn comes_first(far: u64, held: bool, least: u64, least_held: bool) -> bool
+// that are as near. Its holder is looked up only where it is as near, which is rare.
+fn comes_first(far: u64, holder: &Option<u32>, least: u64, least_held: bool) -> bool
     ensures { MatchBool result (far ≤ least) (least ≤ far) }
 {
-    far < least || (far == least && !held && least_held)
+    far < least || (far == least && least_held && holder.is_none())
 }
