@@ -82,21 +82,21 @@ impl<P: PeCount, A: Allocator> Locations<P, A> {
 
     /// How many elements have a word.
     pub fn len(&self) -> usize
-        ensures { result ≡ self.now.elements }
+        ensures value { result ≡ self.now.elements }
     {
         self.words.len()
     }
 
     /// Whether no element has a word.
     pub fn is_empty(&self) -> bool
-        ensures { result ≡ (self.now.elements == 0) }
+        ensures value { result ≡ (self.now.elements == 0) }
     {
         self.words.is_empty()
     }
 
     /// The number of PEs of the run.
     pub fn pes(&self) -> u32
-        ensures { result ≡ self.now.pes }
+        ensures value { result ≡ self.now.pes }
     {
         self.pes
     }
