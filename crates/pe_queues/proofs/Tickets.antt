@@ -1,5 +1,5 @@
 -- What a seat is, by its tickets, after a call on one or on each of them.
-use Rattle.std.proofs.Common.{◌≡◌, ◌≢◌, ℕ, zero, suc, ◌+◌, ◌-◌, ◌<◌, ◌≤◌, List, [], ◌∷◌, ◌++◌, All, length, map, set, get_or, take, sym, refl, ap, ◌∙◌, subst, Option, Some, None, Result, Ok, Err, OnOk, OnErr, IfSome, IfNone, MatchResult, MatchOption, Vec, arith}
+use Rattle.std.proofs.Common.{◌≡◌, ◌≢◌, ℕ, suc, ◌+◌, ◌<◌, List, [], ◌∷◌, ◌++◌, All, length, map, set, get_or, take, sym, refl, ap, ◌∙◌, subst, Option, Some, None, Result, Ok, Err, OnOk, OnErr, IfSome, IfNone, MatchResult, MatchOption, Vec, arith}
 use Rattle.std.specs.Option.{option_or}
 use Rattle.atomic_table.specs.Seated.{TableId}
 use Rattle.std.proofs.lemmas.List.{length-map, map-set, get_or-map, set-get_or, get_or_default, map-append, take_more}
@@ -9,7 +9,7 @@ use Rattle.chare_index.specs.declared.limits.TheConstants.Limits.{SEATS}
 use Rattle.pe_queues.specs.declared.full.Full.{Full}
 use Rattle.pe_queues.specs.declared.traffic.Traffic.{Traffic}
 use Rattle.pe_queues.specs.Balance.{Balances, Seen, IsShare, traffic, with_put, with_take, of_both}
-use Rattle.pe_queues.specs.Seats.{QueueView, TicketView, PostView, SeatView, ticket, seat_of, new_seat, puts_at, takes_at, after_put, after_take, append_each, joined, HeldAt, IsAllSeats, AreRooms, IsSeat}
+use Rattle.pe_queues.specs.Seats.{QueueView, TicketView, SeatView, ticket, seat_of, new_seat, puts_at, takes_at, after_put, after_take, append_each, joined, HeldAt, IsAllSeats, AreRooms, IsSeat}
 use Rattle.pe_queues.proofs.Lists.{alike, all_alike, at_some}
 use Rattle.pe_queues.proofs.Steps.{held_counts}
 

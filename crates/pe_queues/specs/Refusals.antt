@@ -1,5 +1,5 @@
 -- When no post is made, and for what.
-use Rattle.std.specs.Prelude.{◌≡◌, ℕ, ◌<◌, ◌≤◌, ◌⊎◌, IsTrue}
+use Rattle.std.specs.Prelude.{◌≡◌, ℕ, ◌<◌, ◌≤◌, ◌⊎◌}
 use Rattle.chare_index.specs.declared.limits.TheConstants.Limits.{PES, SEATS, CAPACITY}
 use Rattle.pe_queues.specs.declared.error.PostError.{PostError}
 use Rattle.pe_queues.specs.declared.error.PostError.TheVariants.{Zero, TooMany, SeatsOut, OutOfMemory}

@@ -133,7 +133,7 @@ impl<T: Drop, A: Allocator> Post<T, A> {
     pub fn join(&self, first: Seat<T, A>, second: Seat<T, A>) -> Seat<T, A>
         requires own { first.post ≡ self.now }
         requires others { second.post ≡ self.now }
-        ensures joined { result ≡ joined first second }
+        ensures both { result ≡ joined first second }
     {
         self.joined(first, second)
     }

@@ -115,7 +115,8 @@ impl<T: Drop, A: Allocator> Queue<T, A> {
     }
 }
 
-// The queue holds no more values than it has room for, and since no other seat is out, none can join them.
+// Pops until the queue is empty. It held no more values than it has room for when its length was taken, and since no
+// other seat is out, none can have joined them.
 fn pop_all<T: Drop, A: Allocator, R: Wait>(
     rt: &R,
     ring: &Ring<T, A>,

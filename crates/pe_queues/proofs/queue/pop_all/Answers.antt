@@ -1,4 +1,4 @@
-use Rattle.std.proofs.Common.{◌≡◌, ◌+◌, ◌<◌, ◌-◌, ◌∙◌, ◌∷◌, length, ap, arith, rules, length-append, []}
+use Rattle.std.proofs.Common.{◌<◌, ◌∙◌, ◌∷◌, length, ap, arith, rules, length-append, []}
 use Rattle.crossbeam_queue.specs.Passes.{view}
 use Rattle.pe_queues.proofs.Steps.{pops, looks, all_counted, drained_none, drained_more, drained_counts, drained_all}
 use Rattle.pe_queues.proofs.queue.pop_all.Goals as goal

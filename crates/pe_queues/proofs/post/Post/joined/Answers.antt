@@ -1,4 +1,4 @@
-use Rattle.std.proofs.Common.{◌≡◌, ◌<◌, ◌≤◌, ◌∙◌, ap, sym, refl, length, get_or, ℕ, suc, arith, rules}
+use Rattle.std.proofs.Common.{◌≡◌, ◌<◌, ◌∙◌, ap, sym, length, get_or, arith, rules}
 use Rattle.std.proofs.lemmas.List.{length-set, get_or-set_other}
 use Rattle.pe_queues.specs.Balance.{IsShare}
 use Rattle.pe_queues.specs.Seats.{TicketView, joined}

@@ -1,5 +1,4 @@
-use Rattle.std.proofs.Common.{◌≡◌, ◌∙◌, ap, sym}
-use Rattle.std.proofs.lemmas.List.{get_or-map}
+use Rattle.std.proofs.Common.{ap}
 use Rattle.pe_queues.proofs.Tickets.{inside_queues, queue_at}
 use Rattle.pe_queues.proofs.post.Post.queue.Goals as goal
 

@@ -1,12 +1,11 @@
-use Rattle.std.proofs.Common.{◌≡◌, ◌≢◌, ◌<◌, ◌≤◌, ◌-◌, ◌∙◌, All, ap, sym, refl, length, map, get_or, take, ℕ, arith, rules, map-id}
+use Rattle.std.proofs.Common.{◌≡◌, ◌<◌, ◌≤◌, ◌-◌, ◌∙◌, ap, sym, refl, length, map, get_or, take, arith, rules, map-id}
 use Rattle.std.proofs.lemmas.List.{length-set, length-map, get_or-set_other, get_or-map, take_all}
 use Rattle.std.proofs.lemmas.List.Elements.{All-map}
 use Rattle.std.proofs.Math.Seq.{map-set_same}
-use Rattle.chare_index.specs.declared.limits.TheConstants.Limits.{SEATS}
 use Rattle.pe_queues.specs.Balance.{of_one}
-use Rattle.pe_queues.specs.Seats.{TicketView, PostView, ticket, seat_of, new_seat}
+use Rattle.pe_queues.specs.Seats.{ticket, seat_of, new_seat}
 use Rattle.pe_queues.proofs.Lists.{below_more}
-use Rattle.pe_queues.proofs.Tickets.{same_count, same_counts, own_queue, ticket_more, seat_fresh, rooms_kept, tickets_of_post, queues_of}
+use Rattle.pe_queues.proofs.Tickets.{same_count, same_counts, own_queue, ticket_more, seat_fresh, rooms_kept}
 use Rattle.pe_queues.proofs.post.Post.split.Goals as goal
 
 pub split-requires-clause-own : goal.split-requires-clause-own

@@ -1,5 +1,4 @@
-use Rattle.std.proofs.Common.{◌≡◌, ◌<◌, ◌∙◌, ap, sym, refl, subst, length, arith}
-use Rattle.pe_queues.specs.Seats.{HeldAt, after_take, seat_of}
+use Rattle.std.proofs.Common.{◌∙◌, ap, arith}
 use Rattle.pe_queues.proofs.Tickets.{inside_tickets, ticket_queue, pop_told, if_some, if_none, on_none, all_held, pop_kept}
 use Rattle.pe_queues.proofs.seat.Seat.pop.Goals as goal
 

@@ -1,5 +1,4 @@
-use Rattle.std.proofs.Common.{◌≡◌, ◌<◌, ◌∙◌, ap, sym, refl, subst, length, arith}
-use Rattle.pe_queues.specs.Seats.{HeldAt, after_put, seat_of}
+use Rattle.std.proofs.Common.{◌∙◌, ap, refl}
 use Rattle.pe_queues.proofs.Tickets.{inside_tickets, ticket_queue, push_told, if_ok, if_err, on_err, all_held, push_kept}
 use Rattle.pe_queues.proofs.seat.Seat.push.Goals as goal
 
