@@ -53,9 +53,9 @@ abbrev pub after_decision : {A : Type 0} → BoardState A → Kept A → BoardSt
 after_decision b kept =
     record b { database = opening (b.database.round + 1) (elements b.database); rounds = b.rounds ++ kept ∷ [] }
 
--- What is kept of round r is best: the snapshot is one of all n elements on pes PEs, taken at step r, and every part
--- of the decision is right for it. So its division is the chosen one, and no division has a lighter heaviest block,
--- no naming of the blocks moves fewer bytes, and each element has a place.
+-- What is kept of round r is best: the snapshot is one of all n elements on pes PEs, taken at step r; every part of
+-- the decision is right for it, and its division is the chosen one. So no division has a lighter heaviest block, no
+-- naming of the blocks moves fewer bytes, and each element has a place.
 pub record IsDecided {A : Type 0} (n pes r : ℕ) (kept : Kept A) : Type 0 where
   pub at_step : kept.0.step ≡ r
   pub on_pes : kept.0.procs ≡ pes
@@ -76,8 +76,8 @@ pub record IsKeptIn {A : Type 0} (b : BoardState A) (r : ℕ) (decision : Decisi
   pub kept : kept_of b.rounds r ≡ Some (snapshot, decision)
   pub decided : IsDecided (elements b.database) b.pes r (snapshot, decision)
 
--- a board is of 1 to 256 PEs, on which all that have reported stand; of each round before the present one it holds
--- what is best
+-- What holds of every board: there are 1 to 256 PEs, and on these stand all that have reported; of each element it is
+-- known whether it has finished; the present round is the one after those that are kept, and what is kept is best.
 pub record IsBoard {A : Type 0} (b : BoardState A) : Type 0 where
   pub some_pe : 0 < b.pes
   pub few_pes : b.pes ≤ PES

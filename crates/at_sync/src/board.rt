@@ -92,7 +92,7 @@ impl<A: Allocator> Board<A> {
         pe: Pe,
     ) -> Result<(), BoardError>
         requires { pe < self.old.pes }
-        ensures told { MatchResult result (λ _. IsReport self.old.database i round bytes)
+        ensures answer { MatchResult result (λ _. IsReport self.old.database i round bytes)
             (λ error. RefusesReport self.old.database i round bytes (database_error_of error)) }
         ensures ok { OnOk result (self.new ≡ after_report self.old i units bytes pe) }
         ensures err { OnErr result (self.new ≡ self.old) }
@@ -104,7 +104,7 @@ impl<A: Allocator> Board<A> {
 
     /// Whether every element has reported in the present round. It holds at once where there is no element.
     pub fn is_complete(&self) -> bool
-        ensures { IsTrue result ↔ IsComplete self.now.database }
+        ensures value { IsTrue result ↔ IsComplete self.now.database }
     {
         self.database.is_complete()
     }
@@ -120,7 +120,7 @@ impl<A: Allocator> Board<A> {
     pub fn decide(&mut self) -> Result<Round, BoardError>
     where
         A: Copy,
-        ensures told { IfErr result (RefusesDecision self.old.database) }
+        ensures answer { IfErr result (RefusesDecision self.old.database) }
         ensures round { IfOk result (λ round. round ≡ self.old.database.round) }
         ensures ok { OnOk result (Decides self.old self.new) }
         ensures err { OnErr result (self.new ≡ self.old) }
@@ -144,7 +144,7 @@ impl<A: Allocator> Board<A> {
     /// [`Stranger`](BoardError::Stranger).
     #[tactic(auto, using(crate::proofs::Finished::set_again))]
     pub fn finish(&mut self, i: u32) -> Result<(), BoardError>
-        ensures told { MatchResult result (λ _. i < elements self.old.database) (RefusesFinish self.old.database i) }
+        ensures answer { MatchResult result (λ _. i < elements self.old.database) (RefusesFinish self.old.database i) }
         ensures ok { OnOk result (self.new ≡ after_finish self.old i) }
         ensures err { OnErr result (self.new ≡ self.old) }
     {
@@ -163,21 +163,21 @@ impl<A: Allocator> Board<A> {
     /// Whether every element has finished. It holds at once where there is no element.
     #[tactic(auto, using(crate::proofs::Finished::none_running, crate::proofs::Finished::all_finished))]
     pub fn all_finished(&self) -> bool
-        ensures { IsTrue result ↔ HaveFinished self.now }
+        ensures value { IsTrue result ↔ HaveFinished self.now }
     {
         self.running == 0
     }
 
     /// Whether element `i` has finished, or `None` where there is no such element.
     pub fn has_finished(&self, i: u32) -> Option<bool>
-        ensures { result ≡ slice_get self.now.finished i }
+        ensures value { result ≡ slice_get self.now.finished i }
     {
         self.finished.get(i as usize).copied()
     }
 
     /// On how many PEs the elements run.
     pub fn pes(&self) -> u32
-        ensures { result ≡ self.now.pes }
+        ensures value { result ≡ self.now.pes }
     {
         self.pes
     }
@@ -192,19 +192,20 @@ impl<A: Allocator> Board<A> {
 
     /// Whether there is no element.
     pub fn is_empty(&self) -> bool
-        ensures { IsTrue result ↔ (elements self.now.database ≡ 0) }
+        ensures value { IsTrue result ↔ (elements self.now.database ≡ 0) }
     {
         self.database.is_empty()
     }
 
     /// The reports of the present round.
     pub fn database(&self) -> &LoadDb<A>
-        ensures { result.now ≡ self.now.database }
+        ensures value { result.now ≡ self.now.database }
     {
         &self.database
     }
 
-    /// The snapshot and the decision of each round that was decided, from round 1 on.
+    /// The snapshot and the decision of each round that was decided, from round 1 on. The clause `consistent` says
+    /// what holds of every board, for a caller that knows nothing else of this one.
     pub fn rounds(&self) -> &[(Snapshot<A>, Decision<A>)]
         ensures value { result.now ≡ self.now.rounds }
         ensures consistent { IsBoard self.now }
@@ -247,7 +248,7 @@ fn planned<A: Allocator + Copy>(
     requires some_pe { 0 < pes }
     requires few_pes { pes ≤ Limits.PES }
     requires placed { StandBelow pes database.now }
-    ensures told { MatchResult result (λ _. HasNextRound database.now) (RefusesDecision database.now) }
+    ensures answer { MatchResult result (λ _. HasNextRound database.now) (RefusesDecision database.now) }
     ensures reported { IfOk result (λ kept. IsSnapshotOf database.now database.now.round pes kept.0) }
     ensures decided { IfOk result (IsDecided (elements database.now) pes database.now.round) }
 {

@@ -1,6 +1,9 @@
 pub mod Coverings
 pub mod Duality
 pub mod Moves
+pub mod Prices
+pub mod Raises
 pub mod Rows
+pub mod Scans
 pub mod Sums
 pub mod Trees

@@ -1,86 +1,99 @@
 -- The blocks on the way to a free PE move on by one PE.
-use Rattle.std.proofs.Common.{◌≡◌, ◌≢◌, ℕ, ◌+◌, ◌<◌, ◌≤◌, inl, inr, List, length, set, slice_index, arith, ap, sym, ◌∙◌, subst, refl}
+use Rattle.std.proofs.Common.{◌≡◌, ◌≢◌, ℕ, ◌+◌, ◌<◌, ◌≤◌, inl, inr, List, Option, Some, None, length, set, slice_index, slice_index_or, arith, ap, sym, ◌∙◌, subst, refl}
 use Rattle.std.proofs.lemmas.Bool.{cases_eq, cases_lt}
 use Rattle.std.proofs.lemmas.List.{get_or-set_same, get_or-set_other, length-set}
 use Rattle.block_assignment.specs.Table.{cost_at}
-use Rattle.block_assignment.specs.Search.{State, IsSized, IsFree, IsVisited, IsMatched, IsTree}
+use Rattle.block_assignment.specs.Search.{State, IsSized, IsFree, IsMatched, IsPath}
+use Rattle.block_assignment.proofs.Trees.{free_if_unheld}
 
-abbrev pub renamed : State → ℕ → List ℕ → State
-renamed s named names =
-    record { table = s.table; named = named; names = names; paid = s.paid; rebate = s.rebate; rank = s.rank; visited = s.visited; slack = s.slack; from = s.from }
+abbrev pub renamed : State → ℕ → List ℕ → List (Option ℕ) → State
+renamed s named names holders =
+    record { table = s.table; named = named; names = names; holders = holders; paid = s.paid; rebate = s.rebate; rank = s.rank; distance = s.distance; from = s.from }
 
--- A PE that no block holds is to be given to a block that reaches it. Blocks that joined no later than that one have
--- the names with which the walk began.
-pub record IsMoving (s : State) (names : List ℕ) (pe : ℕ) : Type 0 where
-  pub length_is : length names ≡ s.table.blocks
+-- A PE that no block holds is to be given to the block before it. Blocks whose PEs were scanned before it have the
+-- names with which the walk began.
+pub record IsMoving (s : State) (names : List ℕ) (holders : List (Option ℕ)) (pe : ℕ) : Type 0 where
+  pub names_length : length names ≡ s.table.blocks
+  pub holders_length : length holders ≡ s.table.blocks
   pub below : (b : ℕ) → b < s.named → slice_index names b < s.table.blocks
   pub apart : (a b : ℕ) → a < b → b < s.named → slice_index names a ≢ slice_index names b
+  pub known : (b : ℕ) → b < s.named → slice_index_or holders (slice_index names b) None ≡ Some b
+  pub held : (p b : ℕ) → p < s.table.blocks → p ≢ pe → slice_index_or holders p None ≡ Some b → (b < s.named) × (slice_index names b ≡ p)
   pub tight : (b : ℕ) → b < s.named → slice_index s.paid b ≡ cost_at s.table b (slice_index names b) + slice_index s.rebate (slice_index names b)
   pub free : (p : ℕ) → p < s.table.blocks → IsFree s.named names p → p ≢ pe → slice_index s.rebate p ≡ 0
   pub inside : pe < s.table.blocks
   pub not_held : IsFree s.named names pe
-  pub in_reach : slice_index s.slack pe ≡ 0
-  pub kept : (b : ℕ) → b < s.named → 0 < slice_index s.rank b → slice_index s.rank b ≤ slice_index s.rank (slice_index s.from pe) → slice_index names b ≡ slice_index s.names b
+  pub scanned : 0 < slice_index s.rank pe
+  pub kept : (b : ℕ) → b < s.named → slice_index s.rank (slice_index s.names b) < slice_index s.rank pe → slice_index names b ≡ slice_index s.names b
 
--- what the block pays that reaches a PE at no loss
-in_reach_tight : (next : ℕ) (s : State) (p : ℕ) → IsTree next s → p < s.table.blocks → slice_index s.slack p ≡ 0 → slice_index s.paid (slice_index s.from p) ≡ cost_at s.table (slice_index s.from p) p + slice_index s.rebate p
-in_reach_tight next s p tree inside none = omega (arith, tree.reached p inside, none)
-
-pub moving_starts : (next : ℕ) (s : State) (free : ℕ) → IsSized s → IsMatched s → IsTree next s → free < s.table.blocks → IsFree s.named s.names free → slice_index s.slack free ≡ 0 → IsMoving s s.names free
-moving_starts next s free sized matched tree inside is_free none =
+pub moving_starts : (s : State) (free : ℕ) → IsSized s → IsMatched s → free < s.table.blocks → slice_index_or s.holders free None ≡ None → 0 < slice_index s.rank free → IsMoving s s.names s.holders free
+moving_starts s free sized matched inside unheld scanned =
     record {
-      length_is = sized.names_length;
+      names_length = sized.names_length;
+      holders_length = sized.holders_length;
       below = matched.below;
       apart = matched.apart;
+      known = matched.known;
+      held = λ p b within other is. matched.held p b within is;
       tight = matched.tight;
       free = λ p within other _. matched.free p within other;
       inside = inside;
-      not_held = is_free;
-      in_reach = none;
-      kept = λ b named joined before. refl;
+      not_held = free_if_unheld s free matched unheld;
+      scanned = scanned;
+      kept = λ b named before. refl;
     }
 
--- the PE that the block held before is the next, and a block reaches it that joined earlier
-pub next_earlier : (next : ℕ) (s : State) (names : List ℕ) (pe b : ℕ) → IsTree next s → IsMoving s names pe → b ≡ slice_index s.from pe → b < s.named → (slice_index names b ≡ slice_index s.names b) × (slice_index s.rank (slice_index s.from (slice_index names b)) < slice_index s.rank b)
-next_earlier next s names pe b tree moving e named =
-    let joined : 0 < slice_index s.rank b = subst (λ k. 0 < slice_index s.rank k) (sym e) (tree.from_joined pe moving.inside) in
-    let same : slice_index names b ≡ slice_index s.names b = moving.kept b named joined (subst (λ k. slice_index s.rank b ≤ slice_index s.rank k) e (omega arith)) in
-    (same, subst (λ q. slice_index s.rank (slice_index s.from q) < slice_index s.rank b) (sym same) (tree.earlier b named joined))
+-- the PE that the block held before is the next, and was scanned earlier
+pub next_earlier : (s : State) (names : List ℕ) (holders : List (Option ℕ)) (pe b : ℕ) → IsPath s → IsMoving s names holders pe → b ≡ slice_index s.from pe → b < s.named → (slice_index names b ≡ slice_index s.names b) × (slice_index s.rank (slice_index names b) < slice_index s.rank pe) × (0 < slice_index s.rank (slice_index names b))
+next_earlier s names holders pe b path moving e named =
+    let before : slice_index s.from pe < s.named = omega (arith, e, named) in
+    let less : slice_index s.rank (slice_index s.names b) < slice_index s.rank pe = subst (λ k. slice_index s.rank (slice_index s.names k) < slice_index s.rank pe) (sym e) (path.earlier pe moving.inside moving.scanned before) in
+    let some : 0 < slice_index s.rank (slice_index s.names b) = subst (λ k. 0 < slice_index s.rank (slice_index s.names k)) (sym e) (path.scanned pe moving.inside moving.scanned before) in
+    let same : slice_index names b ≡ slice_index s.names b = moving.kept b named less in
+    (same, subst (λ q. slice_index s.rank q < slice_index s.rank pe) (sym same) less, subst (λ q. 0 < slice_index s.rank q) (sym same) some)
 
-pub moving_more : (next : ℕ) (s : State) (names : List ℕ) (pe b : ℕ) → s.named ≤ s.table.blocks → IsTree next s → IsMoving s names pe → b ≡ slice_index s.from pe → b < s.named → IsMoving s (set names b pe) (slice_index names b)
-moving_more next s names pe b few tree moving e named =
+-- what the block before a PE pays
+before_pays : (s : State) (names : List ℕ) (holders : List (Option ℕ)) (pe b : ℕ) → IsPath s → IsMoving s names holders pe → b ≡ slice_index s.from pe → slice_index s.paid b ≡ cost_at s.table b pe + slice_index s.rebate pe
+before_pays s names holders pe b path moving e =
+    subst (λ k. slice_index s.paid k ≡ cost_at s.table k pe + slice_index s.rebate pe) (sym e) (path.no_loss pe moving.inside moving.scanned)
+
+pub moving_more : (s : State) (names : List ℕ) (holders : List (Option ℕ)) (pe b : ℕ) → s.named ≤ s.table.blocks → IsPath s → IsMoving s names holders pe → b ≡ slice_index s.from pe → b < s.named → IsMoving s (set names b pe) (set holders pe (Some b)) (slice_index names b)
+moving_more s names holders pe b few path moving e named =
     record {
-      length_is = length-set names b pe ∙ moving.length_is;
+      names_length = length-set names b pe ∙ moving.names_length;
+      holders_length = length-set holders pe (Some b) ∙ moving.holders_length;
       below = λ k inside. elim (cases_eq k b) [
         | inl same ↦ omega (arith, moving.inside, here_at k same)
         | inr other ↦ omega (arith, moving.below k inside, there k other)
       ];
       apart = apart;
+      known = known;
+      held = held;
       tight = tight;
       free = free;
       inside = moving.below b named;
       not_held = not_held;
-      in_reach = tree.none_missing (slice_index names b) (moving.below b named) is_visited;
+      scanned = earlier.2;
       kept = kept;
     }
   where
-    earlier : (slice_index names b ≡ slice_index s.names b) × (slice_index s.rank (slice_index s.from (slice_index names b)) < slice_index s.rank b)
-    earlier = next_earlier next s names pe b tree moving e named
-
-    joined : 0 < slice_index s.rank b
-    joined = subst (λ k. 0 < slice_index s.rank k) (sym e) (tree.from_joined pe moving.inside)
-
-    is_visited : IsVisited s.visited (slice_index names b)
-    is_visited = subst (λ q. IsVisited s.visited q) (sym earlier.0) (tree.visits b named joined)
+    earlier : (slice_index names b ≡ slice_index s.names b) × (slice_index s.rank (slice_index names b) < slice_index s.rank pe) × (0 < slice_index s.rank (slice_index names b))
+    earlier = next_earlier s names holders pe b path moving e named
 
     here : slice_index (set names b pe) b ≡ pe
-    here = get_or-set_same names b pe 0 (omega (arith, moving.length_is, named, few))
+    here = get_or-set_same names b pe 0 (omega (arith, moving.names_length, named, few))
 
     here_at : (k : ℕ) → k ≡ b → slice_index (set names b pe) k ≡ pe
     here_at k same = ap (λ n. slice_index (set names b pe) n) same ∙ here
 
     there : (k : ℕ) → k ≢ b → slice_index (set names b pe) k ≡ slice_index names k
     there k other = get_or-set_other names b k pe 0 other
+
+    holder_here : slice_index_or (set holders pe (Some b)) pe None ≡ Some b
+    holder_here = get_or-set_same holders pe (Some b) None (omega (arith, moving.holders_length, moving.inside))
+
+    holder_there : (p : ℕ) → p ≢ pe → slice_index_or (set holders pe (Some b)) p None ≡ slice_index_or holders p None
+    holder_there p other = get_or-set_other holders pe p (Some b) None other
 
     apart : (i k : ℕ) → i < k → k < s.named → slice_index (set names b pe) i ≢ slice_index (set names b pe) k
     apart i k before inside =
@@ -92,10 +105,29 @@ moving_more next s names pe b few tree moving e named =
           ]
         ]
 
+    known : (k : ℕ) → k < s.named → slice_index_or (set holders pe (Some b)) (slice_index (set names b pe) k) None ≡ Some k
+    known k inside =
+        elim (cases_eq k b) [
+          | inl same ↦ ap (λ p. slice_index_or (set holders pe (Some b)) p None) (here_at k same) ∙ holder_here ∙ ap (λ n. Some n) (sym same)
+          | inr other ↦ ap (λ p. slice_index_or (set holders pe (Some b)) p None) (there k other) ∙ holder_there (slice_index names k) (moving.not_held k inside) ∙ moving.known k inside
+        ]
+
+    held : (p k : ℕ) → p < s.table.blocks → p ≢ slice_index names b → slice_index_or (set holders pe (Some b)) p None ≡ Some k → (k < s.named) × (slice_index (set names b pe) k ≡ p)
+    held p k inside other is =
+        elim (cases_eq p pe) [
+          | inl at ↦
+              let now : slice_index_or (set holders pe (Some b)) p None ≡ Some b = ap (λ q. slice_index_or (set holders pe (Some b)) q None) at ∙ holder_here in
+              let same : k ≡ b = cc in
+              (omega (arith, same, named), here_at k same ∙ sym at)
+          | inr away ↦
+              let before : (k < s.named) × (slice_index names k ≡ p) = moving.held p k inside away (sym (holder_there p away) ∙ is) in
+              (before.0, there k (λ same. other (sym before.1 ∙ ap (λ n. slice_index names n) same)) ∙ before.1)
+        ]
+
     tight : (k : ℕ) → k < s.named → slice_index s.paid k ≡ cost_at s.table k (slice_index (set names b pe) k) + slice_index s.rebate (slice_index (set names b pe) k)
     tight k inside =
         elim (cases_eq k b) [
-          | inl same ↦ subst (λ q. slice_index s.paid k ≡ cost_at s.table k q + slice_index s.rebate q) (sym (here_at k same)) (subst (λ n. slice_index s.paid n ≡ cost_at s.table n pe + slice_index s.rebate pe) (sym (same ∙ e)) (in_reach_tight next s pe tree moving.inside moving.in_reach))
+          | inl same ↦ subst (λ q. slice_index s.paid k ≡ cost_at s.table k q + slice_index s.rebate q) (sym (here_at k same)) (before_pays s names holders pe k path moving (same ∙ e))
           | inr other ↦ subst (λ q. slice_index s.paid k ≡ cost_at s.table k q + slice_index s.rebate q) (sym (there k other)) (moving.tight k inside)
         ]
 
@@ -116,14 +148,14 @@ moving_more next s names pe b few tree moving e named =
           ]
         ]
 
-    kept : (k : ℕ) → k < s.named → 0 < slice_index s.rank k → slice_index s.rank k ≤ slice_index s.rank (slice_index s.from (slice_index names b)) → slice_index (set names b pe) k ≡ slice_index s.names k
-    kept k inside positive before =
-        let other : k ≢ b = λ same. absurd (omega (arith, before, earlier.1, ap (λ n. slice_index s.rank n) same)) in
-        there k other ∙ moving.kept k inside positive (omega (arith, before, earlier.1, ap (λ n. slice_index s.rank n) e))
+    kept : (k : ℕ) → k < s.named → slice_index s.rank (slice_index s.names k) < slice_index s.rank (slice_index names b) → slice_index (set names b pe) k ≡ slice_index s.names k
+    kept k inside before =
+        let other : k ≢ b = λ same. absurd (omega (arith, before, ap (λ q. slice_index s.rank q) earlier.0, ap (λ n. slice_index s.rank (slice_index s.names n)) same)) in
+        there k other ∙ moving.kept k inside (omega (arith, before, earlier.1))
 
 -- the root takes the last
-pub moving_ends : (next : ℕ) (s : State) (names : List ℕ) (pe b : ℕ) → s.named < s.table.blocks → IsMatched s → IsTree next s → IsMoving s names pe → b ≡ slice_index s.from pe → s.named ≤ b → IsMatched (renamed s (s.named + 1) (set names s.named pe))
-moving_ends next s names pe b unnamed matched tree moving e past =
+pub moving_ends : (s : State) (names : List ℕ) (holders : List (Option ℕ)) (pe b : ℕ) → s.named < s.table.blocks → IsMatched s → IsPath s → IsMoving s names holders pe → b ≡ slice_index s.from pe → s.named ≤ b → IsMatched (renamed s (s.named + 1) (set names s.named pe) (set holders pe (Some s.named)))
+moving_ends s names holders pe b unnamed matched path moving e past =
     record {
       below = λ k inside. elim (cases_eq k s.named) [
         | inl last ↦ omega (arith, moving.inside, here_at k last)
@@ -133,22 +165,49 @@ moving_ends next s names pe b unnamed matched tree moving e past =
         | inl last ↦ λ same. moving.not_held i (omega arith) (sym (there i (omega arith)) ∙ same ∙ here_at k last)
         | inr other ↦ λ same. moving.apart i k before (omega arith) (sym (there i (omega arith)) ∙ same ∙ there k other)
       ];
+      known = known;
+      held = held;
       low = matched.low;
       tight = λ k inside. elim (cases_eq k s.named) [
-        | inl last ↦ subst (λ q. slice_index s.paid k ≡ cost_at s.table k q + slice_index s.rebate q) (sym (here_at k last)) (subst (λ n. slice_index s.paid n ≡ cost_at s.table n pe + slice_index s.rebate pe) (sym (last ∙ sym root ∙ e)) (in_reach_tight next s pe tree moving.inside moving.in_reach))
+        | inl last ↦ subst (λ q. slice_index s.paid k ≡ cost_at s.table k q + slice_index s.rebate q) (sym (here_at k last)) (before_pays s names holders pe k path moving (last ∙ sym root ∙ e))
         | inr other ↦ subst (λ q. slice_index s.paid k ≡ cost_at s.table k q + slice_index s.rebate q) (sym (there k other)) (moving.tight k (omega arith))
       ];
       free = λ p inside is_free. moving.free p inside (λ k within same. is_free k (omega arith) (there k (omega arith) ∙ same)) (λ same. is_free s.named (omega arith) (here ∙ sym same));
     }
   where
     root : b ≡ s.named
-    root = omega (arith, past, tree.joined b (subst (λ k. k < s.table.blocks) (sym e) (tree.from_below pe moving.inside)) (subst (λ k. 0 < slice_index s.rank k) (sym e) (tree.from_joined pe moving.inside)))
+    root = omega (arith, past, e, path.joined pe moving.inside moving.scanned)
 
     here : slice_index (set names s.named pe) s.named ≡ pe
-    here = get_or-set_same names s.named pe 0 (omega (arith, moving.length_is, unnamed))
+    here = get_or-set_same names s.named pe 0 (omega (arith, moving.names_length, unnamed))
 
     here_at : (k : ℕ) → k ≡ s.named → slice_index (set names s.named pe) k ≡ pe
     here_at k last = ap (λ n. slice_index (set names s.named pe) n) last ∙ here
 
     there : (k : ℕ) → k ≢ s.named → slice_index (set names s.named pe) k ≡ slice_index names k
     there k other = get_or-set_other names s.named k pe 0 other
+
+    holder_here : slice_index_or (set holders pe (Some s.named)) pe None ≡ Some s.named
+    holder_here = get_or-set_same holders pe (Some s.named) None (omega (arith, moving.holders_length, moving.inside))
+
+    holder_there : (p : ℕ) → p ≢ pe → slice_index_or (set holders pe (Some s.named)) p None ≡ slice_index_or holders p None
+    holder_there p other = get_or-set_other holders pe p (Some s.named) None other
+
+    known : (k : ℕ) → k < s.named + 1 → slice_index_or (set holders pe (Some s.named)) (slice_index (set names s.named pe) k) None ≡ Some k
+    known k inside =
+        elim (cases_eq k s.named) [
+          | inl last ↦ ap (λ p. slice_index_or (set holders pe (Some s.named)) p None) (here_at k last) ∙ holder_here ∙ ap (λ n. Some n) (sym last)
+          | inr other ↦ ap (λ p. slice_index_or (set holders pe (Some s.named)) p None) (there k other) ∙ holder_there (slice_index names k) (moving.not_held k (omega arith)) ∙ moving.known k (omega arith)
+        ]
+
+    held : (p k : ℕ) → p < s.table.blocks → slice_index_or (set holders pe (Some s.named)) p None ≡ Some k → (k < s.named + 1) × (slice_index (set names s.named pe) k ≡ p)
+    held p k inside is =
+        elim (cases_eq p pe) [
+          | inl at ↦
+              let now : slice_index_or (set holders pe (Some s.named)) p None ≡ Some s.named = ap (λ q. slice_index_or (set holders pe (Some s.named)) q None) at ∙ holder_here in
+              let same : k ≡ s.named = cc in
+              (omega (arith, same), here_at k same ∙ sym at)
+          | inr away ↦
+              let before : (k < s.named) × (slice_index names k ≡ p) = moving.held p k inside away (sym (holder_there p away) ∙ is) in
+              (omega (arith, before.0), there k (omega (arith, before.0)) ∙ before.1)
+        ]

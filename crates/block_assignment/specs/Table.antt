@@ -1,5 +1,5 @@
 -- What each block of a division costs on each PE, as a square table: an assignment problem.
-use Rattle.std.specs.Prelude.{◌≡◌, ℕ, ◌+◌, ◌-◌, ◌*◌, ◌^◌, ◌<◌, ◌≤◌, List, length, All, slice_index}
+use Rattle.std.specs.Prelude.{◌≡◌, ℕ, ◌+◌, ◌-◌, ◌*◌, ◌^◌, ◌<◌, ◌≤◌, List, [], ◌∷◌, length, All, slice_index, max, ℤ, pos, neg_ℤ, ◌≤ℤ◌}
 use Rattle.chare_index.specs.declared.limits.TheConstants.Limits.{PES}
 use Rattle.lb_certificates.specs.Naming.{block_cost}
 
@@ -23,3 +23,13 @@ pub record IsTable (t : Table) : Type 0 where
 pub record IsTableOf (sizes : List (ℕ × ℕ)) (cuts : List ℕ) (t : Table) : Type 0 where
   pub counted : t.blocks ≡ length cuts - 1
   pub exact : (b p : ℕ) → b < t.blocks → p < t.blocks → cost_at t b p ≡ block_cost sizes cuts b p
+
+-- the greatest of these costs, and 0 of none
+abbrev pub greatest : List ℕ → ℕ
+greatest [] = 0
+greatest (cost ∷ costs) = max cost (greatest costs)
+
+-- each price of a block is 0 to the bound, and each price of a PE 0 down to as much below 0
+pub record AreWithin (bound : ℕ) (u v : List ℤ) : Type 0 where
+  pub block_prices : All (λ price. (pos 0 ≤ℤ price) × (price ≤ℤ pos bound)) u
+  pub pe_prices : All (λ price. (neg_ℤ (pos bound) ≤ℤ price) × (price ≤ℤ pos 0)) v

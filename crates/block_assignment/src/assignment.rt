@@ -1,7 +1,7 @@
-ghost use Rattle.std.specs.Prelude.{◌≡◌, ℕ, ◌^◌, ◌<◌, ◌≤◌, List, All, IfOk, IfErr, length, slice_index, pos, neg_ℤ};
+ghost use Rattle.std.specs.Prelude.{◌≡◌, ℕ, ◌^◌, ◌<◌, ◌≤◌, List, IfOk, IfErr, length, slice_index, pos, neg_ℤ};
 ghost use Rattle.lb_certificates.specs.Naming.{IsNaming, Proves, naming_cost, price_at};
 ghost use Rattle.block_assignment.specs.declared.error.NameError.TheVariants.{OutOfMemory};
-ghost use Rattle.block_assignment.specs.Table.{cost_at};
+ghost use Rattle.block_assignment.specs.Table.{cost_at, greatest, AreWithin};
 
 use crate::error::NameError;
 use crate::search::Search;
@@ -10,6 +10,7 @@ use lb_certificates::{Naming, PriceList, Prices};
 use std::alloc::Allocator;
 
 /// The cheapest naming of the blocks of this table, with prices that prove it: no other naming of them costs less.
+/// Prices of blocks are 0 to the greatest cost of the table, and those of PEs 0 down to as much below 0.
 ///
 /// # Errors
 ///
@@ -21,6 +22,7 @@ pub fn name_blocks<A: Allocator + Copy, B: Allocator>(
     ensures naming { IfOk result (λ answer. IsNaming table.now.blocks answer.0) }
     ensures proved { IfOk result (λ answer. Proves table.now.blocks (cost_at table.now) (naming_cost table.now.blocks (cost_at table.now) answer.0) answer.1.u answer.1.v) }
     ensures cheapest { IfOk result (λ answer. (others : List ℕ) → IsNaming table.now.blocks others → naming_cost table.now.blocks (cost_at table.now) answer.0 ≤ naming_cost table.now.blocks (cost_at table.now) others) }
+    ensures bounded { IfOk result (λ answer. AreWithin (greatest table.now.costs) answer.1.u answer.1.v) }
     ensures only_memory { IfErr result (λ error. error ≡ OutOfMemory) }
 {
     let blocks = table.blocks();
@@ -43,7 +45,7 @@ pub fn name_blocks<A: Allocator + Copy, B: Allocator>(
 // The price of a block is what it pays.
 fn write_paid(paid: &[u64], prices: &mut [i64])
     requires counted { length prices.old ≡ length paid.now }
-    requires small { All (λ bytes. bytes ≤ 2 ^ 36) paid.now }
+    requires small { (b : ℕ) → b < length paid.now → slice_index paid.now b ≤ 2 ^ 36 }
     ensures { (b : ℕ) → b < length paid.now → price_at prices.new b ≡ pos (slice_index paid.now b) }
 {
     for b in 0..paid.len() {
@@ -54,7 +56,7 @@ fn write_paid(paid: &[u64], prices: &mut [i64])
 // The price of a PE is what it gives back, below 0.
 fn write_rebates(rebate: &[u64], prices: &mut [i64])
     requires counted { length prices.old ≡ length rebate.now }
-    requires small { All (λ bytes. bytes ≤ 2 ^ 36) rebate.now }
+    requires small { (p : ℕ) → p < length rebate.now → slice_index rebate.now p ≤ 2 ^ 36 }
     ensures { (p : ℕ) → p < length rebate.now → price_at prices.new p ≡ neg_ℤ (pos (slice_index rebate.now p)) }
 {
     for p in 0..rebate.len() {

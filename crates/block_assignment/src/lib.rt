@@ -7,6 +7,7 @@
 
 mod assignment;
 mod error;
+mod scan;
 mod search;
 mod table;
 

@@ -77,6 +77,16 @@ impl<A: Allocator> CostTable<A> {
         self.costs[b as usize * self.blocks() as usize + p as usize]
     }
 
+    // The costs of block `b`, on each PE.
+    pub(crate) fn row(&self, b: u32) -> &[u64]
+        requires { b < self.now.blocks }
+        ensures counted { length result.now ≡ self.now.blocks }
+        ensures costs { (p : ℕ) → p < self.now.blocks → slice_index result.now p ≡ cost_at self.now b p }
+    {
+        let start = b as usize * self.blocks() as usize;
+        &self.costs[start..start + self.blocks() as usize]
+    }
+
     /// The bytes that move where each block runs on the PE of its name.
     #[tactic(auto, using(crate::proofs::Sums::total_more))]
     pub fn cost_of(&self, names: &[u32]) -> u64

@@ -188,6 +188,33 @@ fn the_examples_are_planned(rt: HostRuntime) {
 }
 
 #[test]
+fn six_elements_are_planned_for_three(rt: HostRuntime) {
+    let elements = [
+        (1, 5, 0),
+        (1, 4, 1),
+        (1, 5, 0),
+        (1, 1, 1),
+        (1, 4, 1),
+        (1, 3, 2),
+    ];
+    let six = snapshot(&rt, 3, &elements);
+    let row = Row {
+        bottleneck: 2,
+        cuts: &[0, 2, 4, 6],
+        names: &[1, 0, 2],
+        moved: 10,
+        moves: &[(0, 0, 1), (3, 1, 0), (4, 1, 2)],
+    };
+    assert!(rt; plans(&rt, &six, 3, row), "six");
+    let decision = plan(rt.alloc(), &six, 3).expect(&rt, "out of memory");
+    let stops = match &decision.division.floor {
+        Floor::Fence(stops) => stops.as_slice(),
+        Floor::Zero => &[],
+    };
+    assert_eq!(rt; stops, [0, 1, 2, 3].as_slice());
+}
+
+#[test]
 fn the_example_is_planned_for_two_and_for_one(rt: HostRuntime) {
     let example = snapshot(&rt, 2, &[(1, 10, 0), (1, 9, 1), (2, 8, 0)]);
     let row = Row {

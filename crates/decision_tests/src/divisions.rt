@@ -45,6 +45,7 @@ fn the_examples_have_their_divisions(rt: HostRuntime) {
 #[test]
 fn blocks_of_equal_counts_are_heavier(rt: HostRuntime) {
     let five = loads(&rt, &[1, 2, 3, 4, 5]);
+    assert!(rt; five.len() == 5, "five loads");
     let halves = unfenced(&rt, 9, &[0, 2, 5]);
     assert_eq!(rt; five.load(2, 5), 12);
     assert_eq!(rt; check_division(&five, 2, &halves), Err(Flaw::Heavy(1)));

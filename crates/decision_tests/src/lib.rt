@@ -10,6 +10,8 @@ mod decisions;
 #[cfg(test)]
 mod divisions;
 #[cfg(test)]
+mod equal_costs;
+#[cfg(test)]
 mod fixtures;
 #[cfg(test)]
 mod limits;

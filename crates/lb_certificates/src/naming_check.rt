@@ -279,7 +279,7 @@ fn all_apart(names: &[u32]) -> bool
 
 // The sum of prices, which are too few to leave the range.
 fn sum_of(prices: &[i64]) -> i128
-    requires { length prices.now ≤ 256 }
+    requires { length prices.now ≤ Limits.PES }
     ensures value { result ≡ price_sum prices.now }
     ensures low { neg_ℤ (pos (2 ^ 71)) ≤ℤ result }
     ensures high { result ≤ℤ pos (2 ^ 71) }

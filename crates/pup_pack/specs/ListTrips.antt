@@ -9,8 +9,8 @@ use Rattle.std.proofs.Math.Seq.{drop-append_seam, take-append_seam}
 use Rattle.chare_index.specs.declared.limits.TheConstants.Limits.{STATE_BYTES}
 use Rattle.pup_pack.specs.declared.error.PupError.{PupError}
 use Rattle.pup_pack.specs.Pairs.{within-few, le_first, le_second}
-use Rattle.pup_pack.specs.Packing.{within, RoundTrip}
-use Rattle.pup_pack.specs.Lists.{pack_list, unpack_count, unpack_items, unpack_list, pack_bytes, unpack_front, unpack_bytes, IsCounted}
+use Rattle.pup_pack.specs.Packing.{RoundTrip}
+use Rattle.pup_pack.specs.Lists.{pack_list, unpack_count, unpack_items, unpack_list, pack_bytes, unpack_first, unpack_bytes, IsCounted}
 
 pub items_round_trip : {T : Type 0} (fits counted : T → Type 0) (pack : T → List ℕ) (item : List ℕ → Result (T × ℕ) PupError) → RoundTrip fits counted pack item
     → (xs : List T) (rest : List ℕ) → All fits xs → All counted xs → length (flat_map pack xs) ≤ STATE_BYTES
@@ -34,11 +34,11 @@ pub list_round_trip : {T : Type 0} (fits counted : T → Type 0) (pack : T → L
 list_round_trip fits counted pack item law xs rest f c count few =
     rw append_assoc (rw (count_round_trip (length xs) (flat_map pack xs ++ rest) count) (rw (items_round_trip fits counted pack item law xs rest f c (le_second (to_be_bytes w32 (length xs)) (flat_map pack xs) few)) (rw (count_more (length (flat_map pack xs))) (within-few xs (length (pack_list pack xs)) few))))
 
-pub front_round_trip : (bytes rest : List ℕ) → 4 + length bytes ≤ STATE_BYTES → unpack_front (length bytes) (bytes ++ rest) ≡ Ok (bytes, 4 + length bytes)
-front_round_trip bytes rest few =
+pub first_round_trip : (bytes rest : List ℕ) → 4 + length bytes ≤ STATE_BYTES → unpack_first (length bytes) (bytes ++ rest) ≡ Ok (bytes, 4 + length bytes)
+first_round_trip bytes rest few =
     let enough : nat_lt (length (bytes ++ rest)) (length bytes) ≡ false = grind (arith, nat_tests, length-append bytes rest) in
     rw (enough, take-append_seam bytes rest) (within-few bytes (4 + length bytes) few)
 
 pub bytes_round_trip : (bytes rest : List ℕ) → length (pack_bytes bytes) ≤ STATE_BYTES → unpack_bytes (pack_bytes bytes ++ rest) ≡ Ok (bytes, length (pack_bytes bytes))
 bytes_round_trip bytes rest few =
-    rw (count_round_trip (length bytes) (bytes ++ rest) (omega (arith, few))) (front_round_trip bytes rest (omega (arith, few)) ∙ ap (λ n. Ok (bytes, n)) (count_more (length bytes)))
+    rw (count_round_trip (length bytes) (bytes ++ rest) (omega (arith, few))) (first_round_trip bytes rest (omega (arith, few)) ∙ ap (λ n. Ok (bytes, n)) (count_more (length bytes)))

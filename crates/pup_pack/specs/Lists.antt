@@ -32,8 +32,8 @@ abbrev pub pack_bytes : List ℕ → List ℕ
 pack_bytes bytes = to_be_bytes w32 (length bytes) ++ bytes
 
 -- the first n bytes, where there are as many
-abbrev pub unpack_front : ℕ → List ℕ → Result (List ℕ × ℕ) PupError
-unpack_front n bytes = cond (nat_lt (length bytes) n) (Err Short) (within (take n bytes) (4 + n))
+abbrev pub unpack_first : ℕ → List ℕ → Result (List ℕ × ℕ) PupError
+unpack_first n bytes = cond (nat_lt (length bytes) n) (Err Short) (within (take n bytes) (4 + n))
 
 abbrev pub unpack_bytes : List ℕ → Result (List ℕ × ℕ) PupError
-unpack_bytes bytes = and_then (unpack_count bytes) (λ n. unpack_front n (drop 4 bytes))
+unpack_bytes bytes = and_then (unpack_count bytes) (λ n. unpack_first n (drop 4 bytes))

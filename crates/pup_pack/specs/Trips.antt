@@ -1,6 +1,6 @@
 -- The law of each type, as a value: that of a list is made from that of its items, and that of a struct from those
 -- of its fields, as the types are.
-use Rattle.std.specs.Prelude.{◌≡◌, ℕ, ◌<◌, ◌≤◌, ◌^◌, List, ◌++◌, length, All, Bool, true, Result, Ok, Err}
+use Rattle.std.specs.Prelude.{◌≡◌, ℕ, ◌<◌, ◌^◌, List, ◌++◌, length, All, Bool, true, Result, Ok}
 use Rattle.std.specs.Int.{w32, w64, to_be_bytes}
 use Rattle.std.proofs.Common.{subst}
 use Rattle.pup_pack.specs.declared.error.PupError.{PupError}

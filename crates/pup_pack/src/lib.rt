@@ -1,16 +1,21 @@
-//! Packed states: an element that moves between PEs moves as bytes.
+//! Packed states: an element that moves between PEs moves as bytes, and who unpacks them gets the value that was
+//! packed, whatever bytes follow.
 //!
-//! - [`Pup`]: what packs into bytes and is unpacked from them again, value for value.
+//! - [`Pup`]: a value that packs, with its law. It is given for `u32`, `u64`, [`Bytes`], [`Items`] and pairs, and
+//!   shows how to write it for a type of your own.
+//! - [`Bytes`]: a list of bytes. [`Items`]: a list of packed values.
+//! - [`Fields`]: the fields of a struct, packed one after another.
 //! - [`PupError`]: why a value is not packed, or bytes are not unpacked.
 #![tactic(auto)]
 
 mod bytes;
+mod eight_bytes;
 mod error;
 mod fields;
+mod four_bytes;
 mod items;
 mod lists;
 mod measure;
-mod numbers;
 mod pair;
 mod pup;
 

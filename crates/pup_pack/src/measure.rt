@@ -10,8 +10,6 @@ pub fn both_len(first: u32, second: u32) -> u32
     ensures len { first + second ≤ Limits.STATE_BYTES → result ≡ first + second }
     ensures over { Limits.STATE_BYTES < first + second → result ≡ Limits.STATE_BYTES + 1 }
 {
-    if first > Limits::STATE_BYTES || second > Limits::STATE_BYTES - first {
-        return Limits::STATE_BYTES + 1;
-    }
-    first + second
+    let both = first.saturating_add(second);
+    both.min(Limits::STATE_BYTES + 1)
 }

@@ -8,7 +8,55 @@ use chare_index::Limits;
 use std::alloc::Allocator;
 
 /// A value that packs into bytes and is unpacked from them again. `A` is the allocator of the bytes, and of what
-/// an unpacked value owns.
+/// an unpacked value owns. The name is that of the pack and unpack routine of a migratable object in Charm++
+/// (the Charm++ manual, on serialization).
+///
+/// # A type of your own
+///
+/// A state of several fields packs into its fields, one after another. They are a pair, or pairs within a pair, so
+/// every member and method hands on to it:
+///
+/// ```text
+/// #[derive(Drop)]
+/// struct Tally<A: Allocator = Global> {
+///     sum: u64,
+///     amounts: Items<u32, A>,
+///     pad: Bytes<A>,
+/// }
+///
+/// impl<A: Allocator + Copy> Pup<A> for Tally<A> {
+///     ghost use Rattle.std.specs.Prelude.{refl};
+///     ghost use Rattle.pup_pack.specs.Structs.{made};
+///     ghost use Rattle.pup_pack.specs.Trips.{bytes_trips, list_trips, pair_trips, struct_trips, u32_trips, u64_trips};
+///
+///     ghost fits = { λ t. ⟦<(u64, (Items<u32, A>, Bytes<A>)) as Pup<A>>⟧.fits (t.sum, (t.amounts, t.pad)) };
+///     ghost counted = { λ t. ⟦<(u64, (Items<u32, A>, Bytes<A>)) as Pup<A>>⟧.counted (t.sum, (t.amounts, t.pad)) };
+///     ghost pack = { λ t. ⟦<(u64, (Items<u32, A>, Bytes<A>)) as Pup<A>>⟧.pack (t.sum, (t.amounts, t.pad)) };
+///     ghost unpack = { λ bytes. made (λ x. record { sum = x.0; amounts = x.1.0; pad = x.1.1 })
+///         (⟦<(u64, (Items<u32, A>, Bytes<A>)) as Pup<A>>⟧.unpack bytes) };
+///     ghost round_trip = { (struct_trips (λ t. (t.sum, (t.amounts, t.pad)))
+///         (λ x. record { sum = x.0; amounts = x.1.0; pad = x.1.1 }) (λ _. refl)
+///         (pair_trips u64_trips (pair_trips (list_trips u32_trips) bytes_trips))).trip };
+///
+///     fn packed_len(&self) -> u32 {
+///         (&self.sum, (&self.amounts, &self.pad)).fields_len()
+///     }
+///
+///     fn pack_into(&self, out: &mut Vec<u8, A>) -> Result<(), PupError> {
+///         (&self.sum, (&self.amounts, &self.pad)).pack_fields(out)
+///     }
+///
+///     fn unpack(alloc: A, bytes: &[u8]) -> Result<(Tally<A>, usize), PupError> {
+///         let (fields, len) = <(u64, (Items<u32, A>, Bytes<A>)) as Pup<A>>::unpack(alloc, bytes)?;
+///         let (sum, (amounts, pad)) = fields;
+///         Ok((Tally { sum, amounts, pad }, len))
+///     }
+/// }
+/// ```
+///
+/// This needs no proof file. The law is put together as the type is: `pair_trips` of the laws of the fields, and
+/// `struct_trips` of how the struct is made of them. A type that some bytes are no value of tests what it unpacked,
+/// answers [`Bad`](PupError::Bad), and has `judged` and `judged_trips` in place of these.
 pub trait Pup<A: Allocator>: Sized {
     /// Holds of every value of the type: in the law below an integer is any natural number.
     ghost fits: { Self → Type 0 };

@@ -26,7 +26,8 @@ fn new_boards(rt: HostRuntime) -> Result<(), Fail> {
     Ok(())
 }
 
-// Two elements on two PEs, both of which have reported, or `None` where there is no memory for them.
+// Two elements on two PEs, both of which have reported, or `None` where there is no memory for them. A report that is
+// refused shows in what is decided.
 fn two_reported<'a>(
     alloc: &'a Refusing<Global>,
     first: Round,
@@ -35,8 +36,8 @@ fn two_reported<'a>(
     let mut board = Board::new(alloc, 2, 2).ok()?;
     for i in 0..2 {
         let place = places[i as usize];
-        if place.get() >= board.pes() || board.report(i, first, 3, 5, place).is_err() {
-            return None;
+        if place.get() < board.pes() {
+            let _taken = board.report(i, first, 3, 5, place).is_ok();
         }
     }
     Some(board)
@@ -73,5 +74,26 @@ fn decisions_of_a_board(rt: HostRuntime) -> Result<(), Fail> {
     let attempt = |alloc: &Refusing<Global>| decides_or_waits(alloc, first, [zero, one]);
     let refusals = each_refusal(rt.alloc(), MOST_TURNS, attempt)?;
     assert!(rt; refusals > 3, "more than those of the board");
+    Ok(())
+}
+
+#[test]
+fn no_other_call_takes_memory(rt: HostRuntime) -> Result<(), Fail> {
+    let (Some(first), Some(zero), Some(one)) = (Round::new(1), Pe::new(0), Pe::new(1)) else {
+        return Err(Fail::new("no such round or PE"));
+    };
+    let alloc = Refusing::new(rt.alloc(), 0);
+    let Some(mut board) = two_reported(&alloc, first, [zero, one]) else {
+        return Err(Fail::new("out of memory"));
+    };
+    assert_eq!(rt; alloc.requests(), 3, "those of the new board");
+    assert_eq!(rt; board.finish(0), Ok(()));
+    assert!(rt; board.is_complete() && !board.all_finished());
+    assert_eq!(rt; alloc.requests(), 3, "those of the new board");
+    assert_eq!(rt; board.decide(), Ok(first));
+    let decided = alloc.requests();
+    assert!(rt; board.decision_for(first).is_some());
+    assert_eq!(rt; board.into_rounds().len(), 1);
+    assert_eq!(rt; alloc.requests(), decided, "those of the decision");
     Ok(())
 }

@@ -16,4 +16,6 @@ mod fixtures;
 #[cfg(test)]
 mod no_memory;
 #[cfg(test)]
+mod packing;
+#[cfg(test)]
 mod refusing;

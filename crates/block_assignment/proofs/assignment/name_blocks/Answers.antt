@@ -1,10 +1,25 @@
-use Rattle.std.proofs.Common.{◌≡◌, ◌<◌, ℕ, length, slice_index, arith, sym, ◌∙◌, ap, pos, neg_ℤ}
+use Rattle.std.proofs.Common.{◌≡◌, ◌^◌, ◌<◌, ◌≤◌, ℕ, length, slice_index, arith, sym, ◌∙◌, ap, pos, neg_ℤ}
 use Rattle.lb_certificates.specs.Naming.{price_at}
-use Rattle.block_assignment.specs.Table.{Table, cost_at}
+use Rattle.block_assignment.specs.Table.{Table, cost_at, greatest}
 use Rattle.block_assignment.specs.Search.{State, IsSized}
 use Rattle.block_assignment.proofs.Trees.{written}
 use Rattle.block_assignment.proofs.Duality.{found, cheapest_from_prices}
+use Rattle.block_assignment.proofs.Prices.{greatest_small, prices_within}
 use Rattle.block_assignment.proofs.assignment.name_blocks.Goals as goal
+
+pub write_paid-requires-clause-small : goal.write_paid-requires-clause-small
+write_paid-requires-clause-small g c =
+    let s : State = c.loop.search in
+    let paid : c.deref.result.now ≡ s.paid = c.deref.ensures.value ∙ c.into_parts-names.ensures.paid in
+    let most : greatest s.table.costs ≤ 2 ^ 36 = greatest_small s.table.costs (2 ^ 36) c.loop.invariant.sized.is_table.small in
+    rw paid (λ b inside. omega (arith, most, c.loop.invariant.small.paid b (omega (arith, inside, c.loop.invariant.sized.paid_length))))
+
+pub write_rebates-requires-clause-small : goal.write_rebates-requires-clause-small
+write_rebates-requires-clause-small g c =
+    let s : State = c.loop.search in
+    let rebate : c.deref-2.result.now ≡ s.rebate = c.deref-2.ensures.value ∙ c.into_parts-names.ensures.rebate in
+    let most : greatest s.table.costs ≤ 2 ^ 36 = greatest_small s.table.costs (2 ^ 36) c.loop.invariant.sized.is_table.small in
+    rw rebate (λ p inside. omega (arith, most, c.loop.invariant.small.rebate p (omega (arith, inside, c.loop.invariant.sized.rebate_length))))
 
 pub returns-clause-proved : goal.returns-clause-proved
 returns-clause-proved g c =
@@ -25,6 +40,23 @@ returns-clause-proved g c =
     let facts = found s c.write_paid.new.prices c.write_rebates.new.prices sized c.loop.invariant.matched named u_length v_length pays gives in
     let there = rw (table, names, u, v) at facts in
     there.1
+
+pub returns-clause-bounded : goal.returns-clause-bounded
+returns-clause-bounded g c =
+    let s : State = c.loop.search in
+    let table : s.table ≡ c.args.table.now = c.loop.invariant.table in
+    let sized : IsSized s = c.loop.invariant.sized in
+    let blocks : s.table.blocks ≡ c.blocks-blocks.result = omega (arith, ap (λ (t : Table). t.blocks) table, c.blocks-blocks.ensures.value) in
+    let paid : c.deref.result.now ≡ s.paid = c.deref.ensures.value ∙ c.into_parts-names.ensures.paid in
+    let rebate : c.deref-2.result.now ≡ s.rebate = c.deref-2.ensures.value ∙ c.into_parts-names.ensures.rebate in
+    let u_length : length c.write_paid.new.prices ≡ s.table.blocks = omega (arith, blocks, c.write_paid.auto.prices, c.deref_mut.ensures.len, c.in_ok-u.ensures.len) in
+    let v_length : length c.write_rebates.new.prices ≡ s.table.blocks = omega (arith, blocks, c.write_rebates.auto.prices, c.deref_mut-2.ensures.len, c.in_ok-v.ensures.len) in
+    let u : c.write_paid.new.prices ≡ c.new-2.result = sym (c.new-2.ensures.value ∙ written _ _ _ (omega (arith, blocks, u_length, c.in_ok-u.ensures.len))) in
+    let v : c.write_rebates.new.prices ≡ c.new-3.result = sym (c.new-3.ensures.value ∙ written _ _ _ (omega (arith, blocks, v_length, c.in_ok-v.ensures.len))) in
+    let pays : (b : ℕ) → b < s.table.blocks → price_at c.write_paid.new.prices b ≡ pos (slice_index s.paid b) = λ b inside. (let h = rw paid at c.write_paid.ensures in h b (omega (arith, inside, sized.paid_length))) in
+    let gives : (p : ℕ) → p < s.table.blocks → price_at c.write_rebates.new.prices p ≡ neg_ℤ (pos (slice_index s.rebate p)) = λ p inside. (let h = rw rebate at c.write_rebates.ensures in h p (omega (arith, inside, sized.rebate_length))) in
+    let facts = prices_within s.table.blocks (greatest s.table.costs) c.write_paid.new.prices c.write_rebates.new.prices s.paid s.rebate u_length v_length pays gives c.loop.invariant.small.paid c.loop.invariant.small.rebate in
+    rw (table, u, v) at facts
 
 pub returns-clause-cheapest : goal.returns-clause-cheapest
 returns-clause-cheapest g c = λ others naming.

@@ -2,15 +2,15 @@ use Rattle.std.proofs.lemmas.Result.{err_from_is_err_and}
 use Rattle.at_sync.proofs.Rounds.{board_after, decides_from}
 use Rattle.at_sync.proofs.board.Board.decide.Goals as goal
 
-pub returns-in_err-kept-clause-told : goal.returns-in_err-kept-clause-told
-returns-in_err-kept-clause-told g c =
+pub returns-in_err-kept-clause-answer : goal.returns-in_err-kept-clause-answer
+returns-in_err-kept-clause-answer g c =
     let p = err_from_is_err_and c.from_residual.result c.from_residual.ensures.1 in
-    rw (p.1, p.2, ← c.self.view_is) c.in_err-kept.ensures.told
+    rw (p.1, p.2, ← c.self.view_is) c.in_err-kept.ensures.answer
 
-pub returns-in_err-keep-clause-told : goal.returns-in_err-keep-clause-told
-returns-in_err-keep-clause-told g c =
+pub returns-in_err-keep-clause-answer : goal.returns-in_err-keep-clause-answer
+returns-in_err-keep-clause-answer g c =
     let p = err_from_is_err_and c.from_residual-in_err-keep.result c.from_residual-in_err-keep.ensures.1 in
-    rw (p.1, p.2, ← c.self.view_is) c.in_ok-kept.ensures.told
+    rw (p.1, p.2, ← c.self.view_is) c.in_ok-kept.ensures.answer
 
 pub invariant_of-self-2 : goal.invariant_of-self-2
 invariant_of-self-2 g c =
@@ -36,4 +36,4 @@ returns-clause-ok g c =
       rounds = c.self.inside.rounds.items;
       finished = c.self.inside.finished.items;
     })
-    c.in_ok-kept.kept c.in_ok-kept.ensures.told c.in_ok-kept.ensures.reported c.in_ok-kept.ensures.decided)
+    c.in_ok-kept.kept c.in_ok-kept.ensures.answer c.in_ok-kept.ensures.reported c.in_ok-kept.ensures.decided)

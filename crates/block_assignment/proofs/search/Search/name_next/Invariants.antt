@@ -1,17 +1,18 @@
-use Rattle.std.proofs.Common.{◌≡◌, ◌+◌}
-use Rattle.block_assignment.specs.Search.{IsSized, IsMatched, IsTree, unvisited}
+use Rattle.std.proofs.Common.{◌≡◌, ℕ, ◌+◌, ◌<◌, MatchOption, slice_index}
+use Rattle.block_assignment.specs.Search.{IsSized, IsMatched, IsTree, IsNearest, unscanned}
 use Rattle.block_assignment.proofs.search.Search.name_next.Given as goal
 
-abbrev pub invariant-loop-pe : goal.invariant-loop-pe
-invariant-loop-pe g l =
+abbrev pub invariant-loop-nearest : goal.invariant-loop-nearest
+invariant-loop-nearest g l =
     record {
       sized : IsSized l.self;
       matched : IsMatched l.self;
       tree : IsTree l.rank l.self;
       table : l.self.table ≡ l.fn.self.table;
       named : l.self.named ≡ l.fn.self.named;
-      to_visit : l.rank + unvisited l.self.visited ≡ l.self.table.blocks + 2;
+      nearest : MatchOption l.nearest ((p : ℕ) → p < l.self.table.blocks → 0 < slice_index l.self.rank p) (IsNearest l.self.rank l.self.distance l.self.table.blocks);
+      to_scan : l.rank + unscanned l.self.rank ≡ l.self.table.blocks + 1;
     }
 
-abbrev pub decreases-loop-pe : goal.decreases-loop-pe
-decreases-loop-pe g l = unvisited l.self.visited
+abbrev pub decreases-loop-nearest : goal.decreases-loop-nearest
+decreases-loop-nearest g l = unscanned l.self.rank

@@ -1,0 +1,162 @@
+-- The prices are changed once, when the tree has reached a free PE.
+use Rattle.std.proofs.Common.{◌≡◌, ◌≢◌, ◌⊎◌, ℕ, ◌+◌, ◌<◌, ◌≤◌, inl, inr, List, None, set, slice_index, slice_index_or, arith, ap, sym, ◌∙◌, subst, refl}
+use Rattle.std.proofs.lemmas.Bool.{cases_eq, cases_lt}
+use Rattle.std.proofs.lemmas.List.{get_or-set_same, get_or-set_other}
+use Rattle.block_assignment.specs.Table.{cost_at}
+use Rattle.block_assignment.specs.Search.{State, IsSized, IsFree, IsMatched, IsAt, IsReached, IsTree, IsPath, IsNearest, IsRaised}
+use Rattle.block_assignment.proofs.Trees.{free_if_unheld}
+
+abbrev pub repriced : State → List ℕ → List ℕ → List ℕ → State
+repriced s rank paid rebate =
+    record { table = s.table; named = s.named; names = s.names; holders = s.holders; paid = paid; rebate = rebate; rank = rank; distance = s.distance; from = s.from }
+
+-- the nearest PE is free, and was scanned with the next rank
+pub record Reprices (next : ℕ) (s : State) (pe : ℕ) (paid rebate : List ℕ) : Type 0 where
+  pub inside : s.named < s.table.blocks
+  pub nearest : IsNearest s.rank s.distance s.table.blocks pe
+  pub free : slice_index_or s.holders pe None ≡ None
+  pub root : slice_index paid s.named ≡ slice_index s.paid s.named + slice_index s.distance pe
+  pub joined : (b : ℕ) → b < s.named → IsRaised (slice_index (set s.rank pe next) (slice_index s.names b)) (slice_index s.distance (slice_index s.names b)) (slice_index s.distance pe) (slice_index s.paid b) (slice_index paid b)
+  pub later : (b : ℕ) → s.named < b → slice_index paid b ≡ slice_index s.paid b
+  pub pes : (p : ℕ) → p < s.table.blocks → IsRaised (slice_index (set s.rank pe next) p) (slice_index s.distance p) (slice_index s.distance pe) (slice_index s.rebate p) (slice_index rebate p)
+
+-- no PE that was scanned is farther than the nearest
+pub none_farther : (next : ℕ) (s : State) (pe : ℕ) → IsTree next s → IsNearest s.rank s.distance s.table.blocks pe → (p : ℕ) → p < s.table.blocks → 0 < slice_index (set s.rank pe next) p → slice_index s.distance p ≤ slice_index s.distance pe
+none_farther next s pe tree nearest p inside scanned =
+    elim (cases_eq p pe) [
+      | inl here ↦ omega (arith, ap (λ q. slice_index s.distance q) here)
+      | inr other ↦ tree.nearer p pe inside nearest.inside (omega (arith, scanned, get_or-set_other s.rank pe p next 0 other)) nearest.apart
+    ]
+
+-- what a block of the tree pays then
+paid_at : (next : ℕ) (s : State) (pe : ℕ) (paid rebate : List ℕ) → IsSized s → IsMatched s → IsTree next s → Reprices next s pe paid rebate → (b far : ℕ) → IsAt s b far → slice_index paid b + far ≡ slice_index s.paid b + slice_index s.distance pe
+paid_at next s pe paid rebate sized matched tree new b far at =
+    elim at [
+      | inl root ↦ subst (λ k. slice_index paid k + far ≡ slice_index s.paid k + slice_index s.distance pe) (sym root.0) (omega (arith, root.1, new.root))
+      | inr joined ↦
+          let q : ℕ = slice_index s.names b in
+          let other : q ≢ pe = λ e. absurd (omega (arith, joined.1, new.nearest.apart, ap (λ p. slice_index s.rank p) e)) in
+          omega (arith, joined.2, (new.joined b joined.0).in_tree (omega (arith, joined.1, get_or-set_other s.rank pe q next 0 other)))
+    ]
+
+-- a block of the tree stands no farther than the nearest PE
+far_at : (next : ℕ) (s : State) (pe : ℕ) → IsMatched s → IsTree next s → IsNearest s.rank s.distance s.table.blocks pe → (b far : ℕ) → IsAt s b far → far ≤ slice_index s.distance pe
+far_at next s pe matched tree nearest b far at =
+    elim at [
+      | inl root ↦ omega (arith, root.1)
+      | inr joined ↦ omega (arith, joined.2, tree.nearer (slice_index s.names b) pe (matched.below b joined.0) nearest.inside joined.1 nearest.apart)
+    ]
+
+-- a block is in the tree, or pays what it paid
+in_tree_or_not : (next : ℕ) (s : State) (pe : ℕ) (paid rebate : List ℕ) → IsMatched s → Reprices next s pe paid rebate → (b : ℕ) → ((far : ℕ) × IsAt s b far) ⊎ (slice_index paid b ≡ slice_index s.paid b)
+in_tree_or_not next s pe paid rebate matched new b =
+    elim (cases_eq b s.named) [
+      | inl root ↦ inl (0, inl (root, refl))
+      | inr other ↦ elim (cases_lt b s.named) [
+        | inl named ↦ elim (cases_lt 0 (slice_index s.rank (slice_index s.names b))) [
+          | inl scanned ↦ inl (slice_index s.distance (slice_index s.names b), inr (named, scanned, refl))
+          | inr not_yet ↦
+              let apart : slice_index s.names b ≢ pe = λ e. free_if_unheld s pe matched new.free b named e in
+              inr ((new.joined b named).outside (omega (arith, not_yet, get_or-set_other s.rank pe (slice_index s.names b) next 0 apart)))
+        ]
+        | inr past ↦ inr (new.later b (omega arith))
+      ]
+    ]
+
+pub repriced_matched : (next : ℕ) (s : State) (pe : ℕ) (paid rebate : List ℕ) → IsSized s → IsMatched s → IsTree next s → Reprices next s pe paid rebate → IsMatched (repriced s (set s.rank pe next) paid rebate)
+repriced_matched next s pe paid rebate sized matched tree new =
+    record {
+      below = matched.below;
+      apart = matched.apart;
+      known = matched.known;
+      held = matched.held;
+      low = low;
+      tight = tight;
+      free = free;
+    }
+  where
+    none_gives_less : (p : ℕ) → p < s.table.blocks → slice_index s.rebate p ≤ slice_index rebate p
+    none_gives_less p inside =
+        elim (cases_lt 0 (slice_index (set s.rank pe next) p)) [
+          | inl scanned ↦ omega (arith, (new.pes p inside).in_tree scanned, none_farther next s pe tree new.nearest p inside scanned)
+          | inr not_yet ↦ omega (arith, (new.pes p inside).outside (omega arith))
+        ]
+
+    low : (b p : ℕ) → b < s.table.blocks → p < s.table.blocks → slice_index paid b ≤ cost_at s.table b p + slice_index rebate p
+    low b p block inside =
+        elim (in_tree_or_not next s pe paid rebate matched new b) [
+          | inr outside ↦ omega (arith, outside, matched.low b p block inside, none_gives_less p inside)
+          | inl at ↦ elim (cases_lt 0 (slice_index (set s.rank pe next) p)) [
+            | inl scanned ↦ omega (arith, tree.least b at.0 p at.1 inside, paid_at next s pe paid rebate sized matched tree new b at.0 at.1, (new.pes p inside).in_tree scanned)
+            | inr not_yet ↦
+                let other : p ≢ pe = λ e. absurd (omega (arith, not_yet, tree.some, ap (λ q. slice_index (set s.rank pe next) q) e, get_or-set_same s.rank pe next 0 (omega (arith, sized.rank_length, new.nearest.inside)))) in
+                let before : slice_index s.rank p ≡ 0 = omega (arith, not_yet, get_or-set_other s.rank pe p next 0 other) in
+                omega (arith, tree.least b at.0 p at.1 inside, paid_at next s pe paid rebate sized matched tree new b at.0 at.1, (new.pes p inside).outside (omega arith), new.nearest.least p inside before)
+          ]
+        ]
+
+    tight : (b : ℕ) → b < s.named → slice_index paid b ≡ cost_at s.table b (slice_index s.names b) + slice_index rebate (slice_index s.names b)
+    tight b named =
+        let p : ℕ = slice_index s.names b in
+        elim (cases_lt 0 (slice_index (set s.rank pe next) p)) [
+          | inl scanned ↦ omega (arith, matched.tight b named, (new.joined b named).in_tree scanned, (new.pes p (matched.below b named)).in_tree scanned, none_farther next s pe tree new.nearest p (matched.below b named) scanned)
+          | inr not_yet ↦ omega (arith, matched.tight b named, (new.joined b named).outside (omega arith), (new.pes p (matched.below b named)).outside (omega arith))
+        ]
+
+    free : (p : ℕ) → p < s.table.blocks → IsFree s.named s.names p → slice_index rebate p ≡ 0
+    free p inside is_free =
+        elim (cases_eq p pe) [
+          | inl here ↦
+              let rank_here : slice_index (set s.rank pe next) p ≡ next = ap (λ q. slice_index (set s.rank pe next) q) here ∙ get_or-set_same s.rank pe next 0 (omega (arith, sized.rank_length, new.nearest.inside)) in
+              omega (arith, matched.free p inside is_free, (new.pes p inside).in_tree (omega (arith, rank_here, tree.some)), ap (λ q. slice_index s.distance q) here)
+          | inr other ↦ elim (cases_lt 0 (slice_index (set s.rank pe next) p)) [
+            | inl scanned ↦ let held = tree.held p inside (omega (arith, scanned, get_or-set_other s.rank pe p next 0 other)) in absurd (is_free held.0 held.1 held.2)
+            | inr not_yet ↦ omega (arith, matched.free p inside is_free, (new.pes p inside).outside (omega arith))
+          ]
+        ]
+
+pub repriced_path : (next : ℕ) (s : State) (pe : ℕ) (paid rebate : List ℕ) → IsSized s → IsMatched s → IsTree next s → Reprices next s pe paid rebate → IsPath (repriced s (set s.rank pe next) paid rebate)
+repriced_path next s pe paid rebate sized matched tree new =
+    record {
+      joined = joined;
+      no_loss = no_loss;
+      scanned = scanned;
+      earlier = earlier;
+    }
+  where
+    joined : (p : ℕ) → p < s.table.blocks → 0 < slice_index (set s.rank pe next) p → slice_index s.from p ≤ s.named
+    joined p inside before =
+        elim (tree.reached p inside).joined [
+          | inl root ↦ omega (arith, root.0)
+          | inr block ↦ omega (arith, block.0)
+        ]
+
+    no_loss : (p : ℕ) → p < s.table.blocks → 0 < slice_index (set s.rank pe next) p → slice_index paid (slice_index s.from p) ≡ cost_at s.table (slice_index s.from p) p + slice_index rebate p
+    no_loss p inside before =
+        let way : IsReached s p = tree.reached p inside in
+        omega (arith, way.exact, paid_at next s pe paid rebate sized matched tree new (slice_index s.from p) way.far way.joined, (new.pes p inside).in_tree before, none_farther next s pe tree new.nearest p inside before)
+
+    -- a block before a PE holds one that was scanned before
+    of_before : (p : ℕ) → p < s.table.blocks → slice_index s.from p < s.named → 0 < slice_index s.rank (slice_index s.names (slice_index s.from p))
+    of_before p inside named =
+        elim (tree.reached p inside).joined [
+          | inl root ↦ absurd (omega (arith, root.0, named))
+          | inr block ↦ block.1
+        ]
+
+    rank_kept : (q : ℕ) → 0 < slice_index s.rank q → slice_index (set s.rank pe next) q ≡ slice_index s.rank q
+    rank_kept q before = get_or-set_other s.rank pe q next 0 (λ e. absurd (omega (arith, before, new.nearest.apart, ap (λ p. slice_index s.rank p) e)))
+
+    scanned : (p : ℕ) → p < s.table.blocks → 0 < slice_index (set s.rank pe next) p → slice_index s.from p < s.named → 0 < slice_index (set s.rank pe next) (slice_index s.names (slice_index s.from p))
+    scanned p inside before named =
+        omega (arith, of_before p inside named, rank_kept (slice_index s.names (slice_index s.from p)) (of_before p inside named))
+
+    earlier : (p : ℕ) → p < s.table.blocks → 0 < slice_index (set s.rank pe next) p → slice_index s.from p < s.named → slice_index (set s.rank pe next) (slice_index s.names (slice_index s.from p)) < slice_index (set s.rank pe next) p
+    earlier p inside before named =
+        let q : ℕ = slice_index s.names (slice_index s.from p) in
+        elim (cases_eq p pe) [
+          | inl here ↦
+              let rank_here : slice_index (set s.rank pe next) p ≡ next = ap (λ r. slice_index (set s.rank pe next) r) here ∙ get_or-set_same s.rank pe next 0 (omega (arith, sized.rank_length, new.nearest.inside)) in
+              omega (arith, rank_here, rank_kept q (of_before p inside named), tree.ranks q (matched.below (slice_index s.from p) named))
+          | inr other ↦ omega (arith, rank_kept q (of_before p inside named), get_or-set_other s.rank pe p next 0 other, tree.earlier p inside (omega (arith, before, get_or-set_other s.rank pe p next 0 other)) named)
+        ]

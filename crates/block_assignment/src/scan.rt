@@ -1,0 +1,68 @@
+//! One step of the search: one walk over the PEs that were not scanned.
+
+ghost use Rattle.std.specs.Prelude.{◌≡◌, ℕ, ◌+◌, ◌^◌, ◌<◌, ◌≤◌, length, slice_index, MatchBool, MatchOption};
+ghost use Rattle.block_assignment.specs.Search.{IsNearest, IsRelaxed};
+
+/// A block that joins the tree of a search.
+#[derive(Clone, Copy)]
+pub(crate) struct Joining {
+    /// Its number.
+    pub(crate) block: u32,
+    /// What it pays.
+    pub(crate) paid: u64,
+    /// How far it is from the root.
+    pub(crate) distance: u64,
+}
+
+/// Brings PEs that were not scanned nearer by way of a block that joins, whose costs are this row, and tells the
+/// nearest of them. A free PE is taken before others that are as near, so that equal costs do not let the tree grow.
+pub(crate) fn scan(
+    joining: Joining,
+    row: &[u64],
+    rebate: &[u64],
+    rank: &[u32],
+    holders: &[Option<u32>],
+    distance: &mut [u64],
+    from: &mut [u32],
+) -> Option<u32>
+    requires few { length row.now < 2 ^ 32 }
+    requires rebates { length rebate.now ≡ length row.now }
+    requires ranks { length rank.now ≡ length row.now }
+    requires held { length holders.now ≡ length row.now }
+    requires distances { length distance.old ≡ length row.now }
+    requires froms { length from.old ≡ length row.now }
+    requires near { joining.distance ≤ 2 ^ 38 }
+    requires small { (p : ℕ) → p < length row.now → slice_index row.now p + slice_index rebate.now p ≤ 2 ^ 38 }
+    requires low { (p : ℕ) → p < length row.now → joining.paid ≤ slice_index row.now p + slice_index rebate.now p }
+    ensures relaxed { (p : ℕ) → p < length row.now → slice_index rank.now p ≡ 0 → IsRelaxed joining.distance (slice_index row.now p) joining.paid (slice_index rebate.now p) joining.block (slice_index distance.old p) (slice_index from.old p) (slice_index distance.new p) (slice_index from.new p) }
+    ensures kept_distance { (p : ℕ) → 0 < slice_index rank.now p → slice_index distance.new p ≡ slice_index distance.old p }
+    ensures kept_from { (p : ℕ) → 0 < slice_index rank.now p → slice_index from.new p ≡ slice_index from.old p }
+    ensures nearest { MatchOption result ((p : ℕ) → p < length row.now → 0 < slice_index rank.now p) (IsNearest rank.now distance.new (length row.now)) }
+{
+    let mut nearest = None;
+    let mut least = u64::MAX;
+    let mut held = true;
+    for p in 0..row.len() {
+        if rank[p] == 0 {
+            let far = joining.distance + row[p] + rebate[p] - joining.paid;
+            if far < distance[p] {
+                distance[p] = far;
+                from[p] = joining.block;
+            }
+            if comes_first(distance[p], holders[p].is_some(), least, held) {
+                nearest = Some(p as u32);
+                least = distance[p];
+                held = holders[p].is_some();
+            }
+        }
+    }
+    nearest
+}
+
+// Whether a PE is to be scanned before the nearest of those before it: it is nearer, or the first free one of those
+// that are as near.
+fn comes_first(far: u64, held: bool, least: u64, least_held: bool) -> bool
+    ensures { MatchBool result (far ≤ least) (least ≤ far) }
+{
+    far < least || (far == least && !held && least_held)
+}

@@ -1,0 +1,4 @@
+pub mod Balance
+pub mod Refusals
+pub mod Seats
+pub mod Whereabouts

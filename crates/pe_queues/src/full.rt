@@ -1,0 +1,3 @@
+/// A value for which a queue had no room.
+#[derive(Clone, Debug, Drop, PartialEq, Eq)]
+pub struct Full<T>(pub T);

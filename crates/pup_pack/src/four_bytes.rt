@@ -1,0 +1,49 @@
+//! Numbers of four bytes, the highest byte first.
+
+ghost use Rattle.std.specs.Prelude.{◌≡◌, ◌≤◌, length, IfOk};
+ghost use Rattle.pup_pack.specs.Numbers.{unpack_u32};
+ghost use Rattle.pup_pack.specs.Packing.{UnpackAnswer};
+
+use crate::error::PupError;
+use crate::pup::Pup;
+use std::alloc::Allocator;
+
+impl<A: Allocator> Pup<A> for u32 {
+    ghost use Rattle.std.specs.Prelude.{◌<◌, ◌^◌};
+    ghost use Rattle.std.specs.Int.{w32, to_be_bytes};
+    ghost use Rattle.pup_pack.specs.Numbers.{unpack_u32};
+    ghost use Rattle.pup_pack.specs.Trips.{u32_trips};
+
+    ghost fits = { λ n. n < 2 ^ 32 };
+
+    ghost counted = { λ _. Unit {0} };
+
+    ghost pack = { to_be_bytes w32 };
+
+    ghost unpack = { unpack_u32 };
+
+    ghost round_trip = { u32_trips.trip };
+
+    fn packed_len(&self) -> u32 {
+        let _value = *self;
+        4
+    }
+
+    fn pack_into(&self, out: &mut Vec<u8, A>) -> Result<(), PupError> {
+        Ok(out.extend_from_slice(&self.to_be_bytes())?)
+    }
+
+    fn unpack(_: A, bytes: &[u8]) -> Result<(u32, usize), PupError>
+        ensures answer { UnpackAnswer (unpack_u32 bytes.now) result }
+        ensures exact { result ≡ unpack_u32 bytes.now }
+        ensures within { IfOk result (λ r. r.1 ≤ length bytes.now) }
+    {
+        if bytes.len() < 4 {
+            return Err(PupError::Short);
+        }
+        Ok((
+            u32::from_be_bytes([bytes[0], bytes[1], bytes[2], bytes[3]]),
+            4,
+        ))
+    }
+}

@@ -1,0 +1,97 @@
+//! Words that say where elements are, on one thread and on two.
+
+ghost use Rattle.std.specs.Prelude.{◌≡◌, ◌<◌, IfOk, All};
+
+use crate::seats::pe;
+use chare_index::{Index, Pe};
+use pe_queues::{Locations, PeCount};
+use std::alloc::{AllocError, Global};
+use std::marker::Brand;
+use std::test::Fail;
+use std::thread::{self, Threads};
+
+// Elements 0 to 3 on two PEs, two on each.
+fn four_elements<P: PeCount>(alloc: Global, pes: u32) -> Result<Locations<P>, AllocError>
+    requires { (pes ≡ P.pes) × (pes ≡ 2) }
+    ensures { IfOk result (λ made. (made.elements ≡ 4) × (made.pes ≡ 2)) }
+{
+    Locations::new(alloc, &[pe(0), pe(0), pe(1), pe(1)], pes)
+}
+
+// Where element 2 is, before and after it is set to PE 0, and where its neighbors are then.
+fn moved<P: PeCount>(alloc: Global, pes: u32) -> Result<[u32; 4], Fail>
+    requires { (pes ≡ P.pes) × (pes ≡ 2) }
+{
+    let places = four_elements::<P>(alloc, pes)?;
+    let (Some(one), Some(two), Some(three)) = (Index::new(1), Index::new(2), Index::new(3)) else {
+        return Err(Fail::new("no such element"));
+    };
+    let before = places.look(two).get();
+    places.set(two, pe(0));
+    Ok([
+        before,
+        places.look(one).get(),
+        places.look(two).get(),
+        places.look(three).get(),
+    ])
+}
+
+#[test]
+fn an_element_is_looked_up_where_it_was_set(rt: HostRuntime) -> Result<(), Fail> {
+    let found = moved::<Brand>(rt.alloc(), 2)?;
+    assert_eq!(rt; found.as_slice(), [1, 0, 0, 1].as_slice());
+    Ok(())
+}
+
+// Sets one word again and again, and looks another one up: whether all that was found is one of two places.
+fn set_and_look<P: PeCount>(
+    places: &Locations<P>,
+    mine: Index,
+    place: Pe,
+    other: Index,
+    either: (Pe, Pe),
+) -> bool
+    requires known { (mine < places.now.elements) × (other < places.now.elements) }
+    requires in_range { place < places.now.pes }
+{
+    let mut so_far = true;
+    for _ in 0..10_000 {
+        places.set(mine, place);
+        let found = places.look(other);
+        so_far = so_far && (found == either.0 || found == either.1);
+    }
+    so_far
+}
+
+// Two threads set a word each, and look up that of the other. On three PEs, element 0 moves from 0 to 2, and element 1
+// from 1 to 0.
+fn two_threads<P: PeCount + Send + Sync, R: Threads + Sync>(
+    rt: &R,
+    alloc: Global,
+    pes: u32,
+) -> Result<(bool, bool, Pe, Pe), Fail>
+    requires { (pes ≡ P.pes) × (pes ≡ 3) }
+{
+    let places = Locations::<P>::new(alloc, &[pe(0), pe(1)], pes)?;
+    let (Some(zero), Some(one)) = (Index::new(0), Index::new(1)) else {
+        return Err(Fail::new("no such element"));
+    };
+    let shared = &places;
+    let (first, second) = thread::join(
+        rt,
+        || -> bool
+            requires { (zero < shared.now.elements) × (one < shared.now.elements) × (2 < shared.now.pes) }
+        { set_and_look(shared, zero, pe(2), one, (pe(1), pe(0))) },
+        || -> bool
+            requires { (zero < shared.now.elements) × (one < shared.now.elements) × (2 < shared.now.pes) }
+        { set_and_look(shared, one, pe(0), zero, (pe(0), pe(2))) },
+    );
+    Ok((first, second, places.look(zero), places.look(one)))
+}
+
+#[test]
+fn what_is_found_was_set_or_was_there(rt: HostRuntime) -> Result<(), Fail> {
+    let found = two_threads::<Brand, _>(&rt, rt.alloc(), 3)?;
+    assert_eq!(rt; found, (true, true, pe(2), pe(0)));
+    Ok(())
+}

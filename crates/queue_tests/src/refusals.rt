@@ -1,0 +1,79 @@
+//! Memory: refused where posts and locations are made, one request after the other, and taken nowhere else.
+
+ghost use Rattle.std.specs.Prelude.{◌≡◌, IfOk};
+
+use crate::seats::{pe, two_seats};
+use pe_queues::{Full, Locations, PeCount, Post, PostError};
+use refusing_alloc::{Outcome, Refusing, each_refusal};
+use std::alloc::{AllocError, Allocator, Global};
+use std::marker::Brand;
+use std::sync::Wait;
+use std::test::Fail;
+
+// No call here makes as many requests.
+const MOST_TURNS: u64 = 40;
+
+// What a post with so many queues and seats comes to.
+fn opens(alloc: &Refusing<Global>, pes: u32, seats: u32) -> Outcome {
+    match Post::<u32, _>::new(alloc, pes, seats, 4) {
+        Ok((post, given)) if post.pes() == pes && given.len() == seats as usize => Outcome::Right,
+        Err(PostError::OutOfMemory) => Outcome::Refused,
+        _ => Outcome::Wrong,
+    }
+}
+
+#[test]
+fn posts(rt: HostRuntime) -> Result<(), Fail> {
+    for (pes, seats, requests) in [(1, 1, 9), (1, 2, 10), (2, 1, 14)] {
+        let attempt = |alloc: &Refusing<Global>| opens(alloc, pes, seats);
+        let refusals = each_refusal(rt.alloc(), MOST_TURNS, attempt)?;
+        assert_eq!(rt; refusals, requests, "{pes} {seats}");
+    }
+    Ok(())
+}
+
+// Where three elements are, on a run of so many PEs.
+fn locates<P: PeCount>(alloc: &Refusing<Global>, pes: u32) -> Outcome
+    requires { (pes ≡ P.pes) × (pes ≡ 2) }
+{
+    match Locations::<P, _>::new(alloc, &[pe(0), pe(1), pe(1)], pes) {
+        Ok(places) if places.len() == 3 && places.pes() == 2 => Outcome::Right,
+        Ok(_) => Outcome::Wrong,
+        Err(AllocError) => Outcome::Refused,
+    }
+}
+
+// The same on two PEs.
+fn locates_on_two(alloc: &Refusing<Global>) -> Outcome {
+    locates::<Brand>(alloc, 2)
+}
+
+#[test]
+fn locations(rt: HostRuntime) -> Result<(), Fail> {
+    let refusals = each_refusal(rt.alloc(), MOST_TURNS, |alloc| locates_on_two(alloc))?;
+    assert_eq!(rt; refusals, 1, "the words");
+    Ok(())
+}
+
+// What is left in the one queue, after a value was put, one was refused and one was taken.
+fn uses<A: Allocator + Copy, R: Wait>(rt: &R, alloc: A) -> Result<bool, PostError> {
+    let (post, mut first, mut second) = two_seats(alloc, 2)?;
+    let all_put = post.put(rt, &mut first, pe(0), 1u32).is_ok()
+        && post.put(rt, &mut second, pe(0), 2).is_ok()
+        && post.put(rt, &mut first, pe(0), 3) == Err(Full(3))
+        && post.take(rt, &mut second, pe(0)) == Some(1);
+    let all = post.join(first, second);
+    let left = post.settle(rt, all).map_err(|unsettled| unsettled.cause)?;
+    Ok(all_put && left.len() == 1 && left[0].as_slice() == [2].as_slice())
+}
+
+// How many requests are made until a post and its seats are there, and how many until it is settled.
+#[test]
+fn nothing_but_new_takes_memory(rt: HostRuntime) -> Result<(), Fail> {
+    let made = Refusing::new(rt.alloc(), 0);
+    assert!(rt; two_seats::<u32, _>(&made, 2).is_ok());
+    let used = Refusing::new(rt.alloc(), 0);
+    assert_eq!(rt; uses(&rt, &used), Ok(true));
+    assert_eq!(rt; used.requests(), made.requests());
+    Ok(())
+}

@@ -1,0 +1,46 @@
+//! The seats of a post, as the tests use them.
+
+ghost use Rattle.std.specs.Prelude.{◌≡◌, ◌<◌, All, IfOk, IfSome, length};
+ghost use Rattle.pe_queues.specs.Seats.{pes};
+
+use chare_index::Pe;
+use pe_queues::{Post, PostError, Seat};
+use std::alloc::Allocator;
+use std::test::Fail;
+
+/// The next seat that was not given out yet.
+pub fn next<T: Drop, A: Allocator>(
+    post: &Post<T, A>,
+    seats: &mut Vec<Seat<T, A>, A>,
+) -> Option<Seat<T, A>>
+    requires { All (λ seat. seat.post ≡ post.now) seats.old.items }
+    ensures own { IfSome result (λ seat. seat.post ≡ post.now) }
+    ensures rest { All (λ seat. seat.post ≡ post.now) seats.new.items }
+{
+    seats.pop()
+}
+
+/// A post with one queue, and its two seats.
+pub fn two_seats<T: Drop, A: Allocator + Copy>(
+    alloc: A,
+    capacity: u32,
+) -> Result<(Post<T, A>, Seat<T, A>, Seat<T, A>), PostError>
+    ensures one { IfOk result (λ made. pes made.0 ≡ 1) }
+    ensures own { IfOk result (λ made. (made.1.post ≡ made.0) × (made.2.post ≡ made.0)) }
+{
+    let (post, mut seats) = Post::new(alloc, 1, 2, capacity)?;
+    let first = next(&post, &mut seats);
+    let second = next(&post, &mut seats);
+    match (first, second) {
+        (Some(first), Some(second)) => Ok((post, first, second)),
+        _ => Err(PostError::SeatsOut),
+    }
+}
+
+/// The PE of this number.
+pub fn pe(number: u32) -> Pe
+    requires { number < 256 }
+    ensures { result ≡ number }
+{
+    Pe::new(number).unwrap()
+}
