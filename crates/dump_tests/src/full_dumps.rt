@@ -64,8 +64,8 @@ fn fed_byte_by_byte(rt: HostRuntime) {
 #[test]
 fn one_byte_too_few_or_too_many(rt: HostRuntime) {
     let mut text = full_text(&rt);
-    let short = decode(rt.alloc(), &text[..786_447]);
-    assert!(rt; short == Err(DumpError::Short(786_447)));
-    text.push(0).expect(&rt, "out of memory");
+    assert!(rt; text.pop().is_some());
+    assert!(rt; decode(rt.alloc(), &text) == Err(DumpError::Short(786_447)));
+    text.extend_from_slice(&[0, 0]).expect(&rt, "out of memory");
     assert!(rt; decode(rt.alloc(), &text) == Err(DumpError::Trailing));
 }
