@@ -67,7 +67,7 @@ fn cost_tables(rt: HostRuntime) {
 // What a naming of the example's blocks comes to.
 fn names<A: Allocator + Copy>(alloc: A, table: &CostTable) -> Outcome {
     match name_blocks(alloc, table) {
-        Ok((naming, _)) if naming.as_slice() == [1, 0].as_slice() => Outcome::Right,
+        Ok(answer) if answer.0.as_slice() == [1, 0].as_slice() => Outcome::Right,
         Err(NameError::OutOfMemory) => Outcome::Refused,
         _ => Outcome::Wrong,
     }
