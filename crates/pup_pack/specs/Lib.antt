@@ -1,0 +1,5 @@
+pub mod Packing
+pub mod Numbers
+pub mod Pairs
+pub mod Lists
+pub mod ListTrips

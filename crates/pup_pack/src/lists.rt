@@ -1,0 +1,85 @@
+//! What lists and byte lists have in common, and the items of a list.
+
+ghost use Rattle.std.specs.Prelude.{◌≡◌, ◌+◌, ◌<◌, ◌≤◌, ◌++◌, All, Err, IfOk, length, flat_map, OnErr, OnOk, vec_capacity, vec_len};
+ghost use Rattle.pup_pack.specs.Lists.{unpack_count, unpack_items};
+ghost use Rattle.pup_pack.specs.Packing.{PackAnswer, UnpackAnswer};
+
+use crate::error::PupError;
+use crate::items::Items;
+use crate::measure::both_len;
+use crate::pup::Pup;
+use chare_index::Limits;
+use std::alloc::Allocator;
+
+/// The count that a packed list begins with.
+pub fn unpack_count(bytes: &[u8]) -> Result<u32, PupError>
+    ensures value { result ≡ unpack_count bytes.now }
+    ensures whole { OnOk result (4 ≤ length bytes.now) }
+{
+    if bytes.len() < 4 {
+        return Err(PupError::Short);
+    }
+    let count = u32::from_be_bytes([bytes[0], bytes[1], bytes[2], bytes[3]]);
+    if count > Limits::STATE_BYTES {
+        return Err(PupError::TooLong);
+    }
+    Ok(count)
+}
+
+/// The packed length of a list of these items, as [`Pup::packed_len`] gives it.
+pub fn list_len<A: Allocator, T: Pup<A>>(items: &[T]) -> u32
+    ensures len { 4 + length (flat_map T.pack items.now) ≤ Limits.STATE_BYTES → result ≡ 4 + length (flat_map T.pack items.now) }
+    ensures over { Limits.STATE_BYTES < 4 + length (flat_map T.pack items.now) → result ≡ Limits.STATE_BYTES + 1 }
+    ensures fits { All T.fits items.now }
+{
+    let mut len = 4;
+    for item in items {
+        len = both_len(len, item.packed_len());
+    }
+    len
+}
+
+/// Appends the packs of these items, which are known to be few enough bytes.
+pub fn pack_items<A: Allocator, T: Pup<A>>(
+    items: &[T],
+    out: &mut Vec<u8, A>,
+) -> Result<(), PupError>
+    requires few { length (flat_map T.pack items.now) ≤ Limits.STATE_BYTES }
+    ensures appended { OnOk result (out.new.items ≡ out.old.items ++ flat_map T.pack items.now) }
+    ensures answer { PackAnswer (All T.counted items.now) (length (flat_map T.pack items.now)) result }
+    ensures full { result ≡ Err PupError.OutOfMemory → vec_capacity out.old < vec_len out.old + length (flat_map T.pack items.now) }
+    ensures unchanged { OnErr result (out.new.items ≡ out.old.items) }
+    ensures capacity { vec_capacity out.old ≤ vec_capacity out.new }
+{
+    let before = out.len();
+    for item in items {
+        match item.pack_into(out) {
+            Ok(()) => {}
+            Err(refusal) => {
+                out.truncate(before);
+                return Err(refusal);
+            }
+        }
+    }
+    Ok(())
+}
+
+/// The items whose packs the bytes begin with, and how many bytes these packs have. Memory is asked for as items
+/// are found, so a count that the bytes do not bear out costs none.
+pub fn unpack_items<A: Allocator + Copy, T: Pup<A> + Drop>(
+    alloc: A,
+    count: u32,
+    bytes: &[u8],
+) -> Result<(Items<T, A>, usize), PupError>
+    ensures answer { UnpackAnswer (unpack_items T.unpack count bytes.now) result }
+    ensures within { IfOk result (λ r. r.1 ≤ length bytes.now) }
+{
+    let mut items = Items::new(Vec::new(alloc));
+    let mut end = 0;
+    for _ in 0..count {
+        let (item, len) = T::unpack(alloc, &bytes[end..])?;
+        items.push(item)?;
+        end += len;
+    }
+    Ok((items, end))
+}

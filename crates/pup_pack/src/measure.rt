@@ -1,0 +1,17 @@
+//! Lengths of packs.
+
+ghost use Rattle.std.specs.Prelude.{◌≡◌, ◌+◌, ◌<◌, ◌≤◌};
+
+use chare_index::Limits;
+
+/// The packed length of two parts together, by what each part says: their sum, or 1,048,577 where that is more
+/// than 1,048,576.
+pub fn both_len(first: u32, second: u32) -> u32
+    ensures len { first + second ≤ Limits.STATE_BYTES → result ≡ first + second }
+    ensures over { Limits.STATE_BYTES < first + second → result ≡ Limits.STATE_BYTES + 1 }
+{
+    if first > Limits::STATE_BYTES || second > Limits::STATE_BYTES - first {
+        return Limits::STATE_BYTES + 1;
+    }
+    first + second
+}
