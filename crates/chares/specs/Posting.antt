@@ -15,12 +15,13 @@ abbrev pub Out : Type 0 → Type 0
 Out P = Addressed (Carried LetterView P)
 
 -- a PE as a handler on it sees it: its number, how many elements there are, how many letters it has posted, its
--- outbox, and where reports are wanted the reports of the event so far
+-- outbox, whether a place of that is to stay free, and where reports are wanted the reports of the event so far
 pub record Posting (P : Type 0) : Type 0 where
   pub me : ℕ
   pub n : ℕ
   pub count : ℕ
   pub outbox : List (Out P)
+  pub spare : Bool
   pub reporting : Bool
   pub reports : List Report
 
@@ -50,6 +51,7 @@ posted p sends =
       n = p.n;
       count = p.count + length sends;
       outbox = p.outbox ++ letters_of p.me p.count sends;
+      spare = p.spare;
       reporting = p.reporting;
       reports = reported p.reporting p.reports (posts_of p.me p.count sends);
     }

@@ -2,6 +2,7 @@
 
 ghost use Rattle.std.specs.Prelude.{◌≡◌, ℕ, ◌+◌, ◌∷◌, ◌++◌, [], ◌<◌, ◌≤◌, length, take, true, false, IfOk, IfErr, OnOk, OnErr, MatchResult, vec_len, vec_capacity, if◌then◌else◌};
 ghost use Rattle.chare_index.specs.declared.limits.TheConstants.Limits.{LETTERS};
+ghost use Rattle.std.specs.VecDeque.{deque_len, deque_capacity};
 ghost use Rattle.chares.specs.declared.sends.SendError.TheVariants.{OutOfMemory};
 ghost use Rattle.chares.specs.Posting.{Posting, posted, reported, IsPost, RefusesPut};
 
@@ -59,21 +60,24 @@ pub struct Sends<P, A: Allocator = Global> {
     n: u32,
     count: u64,
     outbox: VecDeque<Out<P, A>, A>,
+    // Whether one place of the outbox stays free, for a parcel that may come back.
+    spare: bool,
     reporting: bool,
     reports: Vec<Report, A>,
     alloc: A,
 }
 
 impl<P, A: Allocator> Model for Sends<P, A> {
-    ghost use Rattle.std.specs.Prelude.{◌≤◌};
+    ghost use Rattle.std.specs.Prelude.{◌≡◌, ◌<◌, ◌≤◌, true};
+    ghost use Rattle.std.specs.VecDeque.{deque_len, deque_capacity};
     ghost use Rattle.chare_index.specs.declared.limits.TheConstants.Limits.{LETTERS};
     ghost use Rattle.chares.specs.Posting.{Posting};
 
     ghost Value = { Posting P };
 
-    ghost view = { λ s. record { me = s.me; n = s.n; count = s.count; outbox = s.outbox.items; reporting = s.reporting; reports = s.reports.items } };
+    ghost view = { λ s. record { me = s.me; n = s.n; count = s.count; outbox = s.outbox.items; spare = s.spare; reporting = s.reporting; reports = s.reports.items } };
 
-    ghost invariant = { λ s. s.count ≤ LETTERS };
+    ghost invariant = { λ s. (s.count ≤ LETTERS) × (s.spare ≡ true → deque_len s.outbox < deque_capacity s.outbox) };
 }
 
 impl<P: Drop, A: Allocator> Sends<P, A> {
@@ -101,6 +105,7 @@ impl<P: Drop, A: Allocator> Sends<P, A> {
         }
         let body = Vec::from_slice(self.alloc, body)?;
         room_for_report(&mut self.reports, self.reporting)?;
+        self.outbox.reserve(2)?;
         let number = self.count as u32;
         let posted = Report::Posted((self.me, number), to);
         let letter = Letter::new((self.me, number), to, body);
@@ -108,7 +113,7 @@ impl<P: Drop, A: Allocator> Sends<P, A> {
             parcel: Carried::Letter(letter),
             address: None,
         };
-        self.outbox.push_back(out)?;
+        self.outbox.push_back_reserved(out);
         add_report(&mut self.reports, self.reporting, posted);
         self.count += 1;
         Ok(())
@@ -135,17 +140,20 @@ impl<P: Drop, A: Allocator> Sends<P, A> {
         n: u32,
         count: u64,
         outbox: VecDeque<Out<P, A>, A>,
+        spare: bool,
         reporting: bool,
         reports: Vec<Report, A>,
     ) -> Self
-        requires { count ≤ LETTERS }
-        ensures { result ≡ record { me = me; n = n; count = count; outbox = outbox.items; reporting = reporting; reports = reports.items } }
+        requires numbered { count ≤ LETTERS }
+        requires room { spare ≡ true → deque_len outbox < deque_capacity outbox }
+        ensures { result ≡ record { me = me; n = n; count = count; outbox = outbox.items; spare = spare; reporting = reporting; reports = reports.items } }
     {
         Sends {
             me,
             n,
             count,
             outbox,
+            spare,
             reporting,
             reports,
             alloc,
@@ -157,6 +165,7 @@ impl<P: Drop, A: Allocator> Sends<P, A> {
         ensures count { result.0 ≡ self.count }
         ensures few { self.count ≤ LETTERS }
         ensures outbox { result.1.items ≡ self.outbox }
+        ensures room { self.spare ≡ true → deque_len result.1 < deque_capacity result.1 }
         ensures reports { result.2.items ≡ self.reports }
     {
         let Sends {
@@ -164,6 +173,7 @@ impl<P: Drop, A: Allocator> Sends<P, A> {
             n: _,
             count,
             outbox,
+            spare: _,
             reporting: _,
             reports,
             alloc: _,
