@@ -29,6 +29,10 @@ pub record Posting (P : Type 0) : Type 0 where
 abbrev pub reported : Bool → List Report → List Report → List Report
 reported reporting reports more = if reporting then reports ++ more else reports
 
+-- with one more report
+abbrev pub with_report : {P : Type 0} → Posting P → Report → Posting P
+with_report p new = record p { reports = reported p.reporting p.reports (new ∷ []) }
+
 -- the letter that is posted to an element as number k of a PE
 abbrev pub letter_to : ℕ → ℕ → ℕ → List ℕ → LetterView
 letter_to pe k to body = record { id = (pe, k); to = to; body = body; hops = 0 }

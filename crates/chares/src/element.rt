@@ -5,7 +5,8 @@ ghost use Rattle.chare_index.specs.declared.limits.TheConstants.Limits.{ROUND};
 ghost use Rattle.chares.specs.declared.entry.Entry.{Entry};
 ghost use Rattle.chares.specs.declared.sends.SendError.TheVariants.{OutOfMemory};
 ghost use Rattle.chares.specs.Elements.{ElementView, opening_element, outcome_of, note_of, ran, IsHistory};
-ghost use Rattle.chares.specs.Posting.{posted};
+ghost use Rattle.chares.specs.declared.report.Report.{Report};
+ghost use Rattle.chares.specs.Posting.{posted, with_report};
 ghost use Rattle.chares.specs.Progressing.{note_at, synced_mark};
 
 use crate::chare::{Chare, Here, Openings};
@@ -13,6 +14,7 @@ use crate::entry::Entry;
 use crate::letter::Letter;
 use crate::note::{Mark, Note};
 use crate::progress::{Ending, Progress};
+use crate::report::Report;
 use crate::sends::{SendError, Sends};
 use chare_index::{Gate, Index, Limits, Pe, Round};
 use std::alloc::{Allocator, Global};
@@ -63,8 +65,10 @@ impl<C: Chare<A>, H: Openings<C>, A: Allocator> Element<C, H, A> {
     }
 
     /// Its index.
+    #[tactic(auto, using(crate::proofs::Histories::history_within))]
     pub fn index(&self) -> Index
-        ensures { result ≡ self.now.index }
+        ensures value { result ≡ self.now.index }
+        ensures within { result < length H.opened }
     {
         self.index
     }
@@ -153,10 +157,9 @@ pub struct Unread<A: Allocator = Global> {
 }
 
 impl<C: Chare<A>, H: Openings<C>, A: Allocator> Element<C, H, A> {
-    /// Executes a letter, on this PE, and returns the note that is owed for it. The outbox that is lent keeps what the
-    /// handler has posted. On a refusal the letter comes back and the element is unchanged; what the handler posted
-    /// before it was refused is still in the outbox.
-    #[tactic(auto, using(crate::proofs::Histories::history_within))]
+    /// Executes a letter, on this PE, reports it, and returns the note that is owed for it. On a refusal the letter
+    /// comes back, the element is unchanged, and what the handler posted before it was refused is taken back.
+    #[tactic(auto, using(crate::proofs::Histories::history_within, crate::proofs::Postings::rewound, crate::proofs::Postings::rewound_reports))]
     pub fn execute<G: Gate, P: Drop>(
         &mut self,
         gate: &G,
@@ -168,13 +171,18 @@ impl<C: Chare<A>, H: Openings<C>, A: Allocator> Element<C, H, A> {
         requires few { length H.opened ≤ Limits.ELEMENTS }
         ensures element { OnOk result (self.new ≡ ran C.step C.pack self.old (length H.opened) pe (Entry.Letter letter)) }
         ensures note { IfOk result (λ note. note ≡ note_of C.step C.pack self.old (length H.opened) pe (Entry.Letter letter)) }
-        ensures sends { OnOk result (sends.new ≡ posted sends.old (outcome_of C.step C.pack self.old (length H.opened) (Entry.Letter letter)).sends) }
+        ensures sends { OnOk result (sends.new ≡ posted (with_report sends.old (Report.Executed letter.id letter.to)) (outcome_of C.step C.pack self.old (length H.opened) (Entry.Letter letter)).sends) }
         ensures err { OnErr result (self.new ≡ self.old) }
         ensures letter { IfErr result (λ unread. unread.letter ≡ letter) }
         ensures refused { IfErr result (λ unread. unread.error ≢ OutOfMemory → C.refuses self.old.chare self.old.index (length H.opened) sends.old.count (Entry.Letter letter.body) unread.error) }
-        ensures only_posts { (out : List (ℕ × List ℕ)) × (sends.new ≡ posted sends.old out) }
+        ensures taken_back { OnErr result (sends.new ≡ sends.old) }
     {
         if self.journal.reserve(1).is_err() || self.marks.reserve(1).is_err() {
+            let error = SendError::OutOfMemory;
+            return Err(Unread { letter, error });
+        }
+        let (count, waiting, told) = (sends.count(), sends.waiting(), sends.told());
+        if sends.tell(Report::Executed(letter.id(), letter.to())).is_err() {
             let error = SendError::OutOfMemory;
             return Err(Unread { letter, error });
         }
@@ -186,7 +194,10 @@ impl<C: Chare<A>, H: Openings<C>, A: Allocator> Element<C, H, A> {
         let answer = self.chare.on_letter(&here, letter.body(), sends);
         let effect = match answer {
             Ok(effect) => effect,
-            Err(error) => return Err(Unread { letter, error }),
+            Err(error) => {
+                sends.rewind(count, waiting, told);
+                return Err(Unread { letter, error });
+            }
         };
         let progress = self.progress.charged(effect.units);
         let ending = progress.ending(effect);
@@ -199,10 +210,9 @@ impl<C: Chare<A>, H: Openings<C>, A: Allocator> Element<C, H, A> {
         Ok(note)
     }
 
-    /// Goes on after this round, or starts where it is 0, on this PE, and returns the note that is owed for it. The
-    /// outbox that is lent keeps what the handler has posted. On a refusal the element is unchanged; what the handler
-    /// posted before it was refused is still in the outbox.
-    #[tactic(auto, using(crate::proofs::Histories::history_within))]
+    /// Goes on after this round, or starts where it is 0, on this PE, reports it, and returns the note that is owed for
+    /// it. On a refusal the element is unchanged, and what the handler posted before it was refused is taken back.
+    #[tactic(auto, using(crate::proofs::Histories::history_within, crate::proofs::Postings::rewound, crate::proofs::Postings::rewound_reports))]
     pub fn resume<G: Gate, P: Drop>(
         &mut self,
         gate: &G,
@@ -215,19 +225,27 @@ impl<C: Chare<A>, H: Openings<C>, A: Allocator> Element<C, H, A> {
         requires before_last_round { round < Limits.ROUND }
         ensures element { OnOk result (self.new ≡ ran C.step C.pack self.old (length H.opened) pe (Entry.Resumption round)) }
         ensures note { IfOk result (λ note. note ≡ note_of C.step C.pack self.old (length H.opened) pe (Entry.Resumption round)) }
-        ensures sends { OnOk result (sends.new ≡ posted sends.old (outcome_of C.step C.pack self.old (length H.opened) (Entry.Resumption round)).sends) }
+        ensures sends { OnOk result (sends.new ≡ posted (with_report sends.old (Report.Resumed self.old.index round)) (outcome_of C.step C.pack self.old (length H.opened) (Entry.Resumption round)).sends) }
         ensures err { OnErr result (self.new ≡ self.old) }
         ensures refused { IfErr result (λ error. error ≢ OutOfMemory → C.refuses self.old.chare self.old.index (length H.opened) sends.old.count (Entry.Resumption round) error) }
-        ensures only_posts { (out : List (ℕ × List ℕ)) × (sends.new ≡ posted sends.old out) }
+        ensures taken_back { OnErr result (sends.new ≡ sends.old) }
     {
         self.journal.reserve(1)?;
         self.marks.reserve(2)?;
+        let (count, waiting, told) = (sends.count(), sends.waiting(), sends.told());
+        sends.tell(Report::Resumed(self.index, round))?;
         let here = Here {
             me: self.index,
             n: sends.n(),
             gate,
         };
-        let effect = self.chare.on_resume(&here, round, sends)?;
+        let effect = match self.chare.on_resume(&here, round, sends) {
+            Ok(effect) => effect,
+            Err(error) => {
+                sends.rewind(count, waiting, told);
+                return Err(error);
+            }
+        };
         let progress = self.progress.resumed(round).charged(effect.units);
         let ending = progress.ending(effect);
         let note = owed(&self.chare, &progress, ending, self.index, pe);

@@ -4,7 +4,7 @@ ghost use Rattle.std.specs.Prelude.{◌≡◌, ℕ, ◌+◌, ◌∷◌, ◌++◌
 ghost use Rattle.chare_index.specs.declared.limits.TheConstants.Limits.{LETTERS};
 ghost use Rattle.std.specs.VecDeque.{deque_len, deque_capacity};
 ghost use Rattle.chares.specs.declared.sends.SendError.TheVariants.{OutOfMemory};
-ghost use Rattle.chares.specs.Posting.{Posting, posted, reported, IsPost, RefusesPut};
+ghost use Rattle.chares.specs.Posting.{Posting, posted, reported, with_report, IsPost, RefusesPut};
 
 use crate::carried::{Addressed, Carried};
 use crate::letter::Letter;
@@ -117,6 +117,40 @@ impl<P: Drop, A: Allocator> Sends<P, A> {
         add_report(&mut self.reports, self.reporting, posted);
         self.count += 1;
         Ok(())
+    }
+
+    /// Adds a report, where reports are wanted.
+    pub(crate) fn tell(&mut self, new: Report) -> Result<(), AllocError>
+        ensures ok { OnOk result (self.new ≡ with_report self.old new) }
+        ensures err { OnErr result (self.new ≡ self.old) }
+    {
+        room_for_report(&mut self.reports, self.reporting)?;
+        add_report(&mut self.reports, self.reporting, new);
+        Ok(())
+    }
+
+    /// How many parcels wait in the outbox.
+    pub(crate) fn waiting(&self) -> usize
+        ensures { result ≡ length self.now.outbox }
+    {
+        self.outbox.len()
+    }
+
+    /// How many reports there are so far.
+    pub(crate) fn told(&self) -> usize
+        ensures { result ≡ length self.now.reports }
+    {
+        self.reports.len()
+    }
+
+    /// Takes back what was posted and reported since.
+    pub(crate) fn rewind(&mut self, count: u64, waiting: usize, told: usize)
+        requires { count ≤ self.old.count }
+        ensures { self.new ≡ record self.old { count = count; outbox = take waiting self.old.outbox; reports = take told self.old.reports } }
+    {
+        self.outbox.truncate(waiting);
+        self.reports.truncate(told);
+        self.count = count;
     }
 
     /// How many elements there are.
