@@ -1,0 +1,13 @@
+use Rattle.chares.proofs.Histories.{history_unpacked}
+use Rattle.chares.proofs.packed.PackedElement.unpack.Goals as goal
+
+pub returns-in-Ok-clause-history : goal.returns-in-Ok-clause-history
+returns-in-Ok-clause-history g c =
+    let u = rw (c.as_slice.ensures.value, c.deref.ensures) at c.in-Ok.ensures.answer in
+    rw (← c.self.view_is)
+    (history_unpacked g.C.Chare.step g.C.Pup.fits g.C.Pup.counted g.C.Pup.pack g.C.Pup.unpack g.H.Openings.opened _ c.in-Ok.chare c.in-Ok.field-0-1 g.met.C.Pup.round_trip g.met.C.Chare.packs c.self.invariant.1 u)
+
+pub returns-in-Ok-clause-unpacks : goal.returns-in-Ok-clause-unpacks
+returns-in-Ok-clause-unpacks g c =
+    let u = rw (c.as_slice.ensures.value, c.deref.ensures) at c.in-Ok.ensures.answer in
+    rw (← c.self.view_is) (c.in-Ok.field-0-1, u)

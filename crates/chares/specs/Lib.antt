@@ -1,0 +1,5 @@
+pub mod Elements
+pub mod Letters
+pub mod Posting
+pub mod Progressing
+pub mod Steps

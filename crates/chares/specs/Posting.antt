@@ -1,0 +1,74 @@
+-- What a PE has posted and not yet put into a queue, and how a handler adds to it.
+use Rattle.std.specs.Prelude.{◌≡◌, ℕ, ◌+◌, ◌<◌, ◌≤◌, List, [], ◌∷◌, ◌++◌, length, Option, None, Some, Bool, true, false, if◌then◌else◌}
+use Rattle.chare_index.specs.declared.limits.TheConstants.Limits.{BODY_BYTES, LETTERS}
+use Rattle.chares.specs.declared.carried.Addressed.{Addressed}
+use Rattle.chares.specs.declared.carried.Carried.{Carried}
+use Rattle.chares.specs.declared.carried.Carried.TheVariants.{Letter}
+use Rattle.chares.specs.declared.report.Report.{Report}
+use Rattle.chares.specs.declared.report.Report.TheVariants.{Posted}
+use Rattle.chares.specs.declared.sends.SendError.{SendError}
+use Rattle.chares.specs.declared.sends.SendError.TheVariants.{Stranger, TooLong, Worn, OutOfMemory}
+use Rattle.chares.specs.Letters.{LetterView}
+
+-- what waits in an outbox: a letter, or an element that P stands for, perhaps with the PE that it goes to
+abbrev pub Out : Type 0 → Type 0
+Out P = Addressed (Carried LetterView P)
+
+-- a PE as a handler on it sees it: its number, how many elements there are, how many letters it has posted, its
+-- outbox, whether a place of that is to stay free, and where reports are wanted the reports of the event so far
+pub record Posting (P : Type 0) : Type 0 where
+  pub me : ℕ
+  pub n : ℕ
+  pub count : ℕ
+  pub outbox : List (Out P)
+  pub spare : Bool
+  pub reporting : Bool
+  pub reports : List Report
+
+-- more reports, where they are wanted
+abbrev pub reported : Bool → List Report → List Report → List Report
+reported reporting reports more = if reporting then reports ++ more else reports
+
+-- with one more report
+abbrev pub with_report : {P : Type 0} → Posting P → Report → Posting P
+with_report p new = record p { reports = reported p.reporting p.reports (new ∷ []) }
+
+-- the letter that is posted to an element as number k of a PE
+abbrev pub letter_to : ℕ → ℕ → ℕ → List ℕ → LetterView
+letter_to pe k to body = record { id = (pe, k); to = to; body = body; hops = 0 }
+
+-- the letters of these sends, numbered upwards from k, without an address
+abbrev pub letters_of : {P : Type 0} → ℕ → ℕ → List (ℕ × List ℕ) → List (Out P)
+letters_of pe k [] = []
+letters_of pe k (send ∷ sends) = record { parcel = Letter (letter_to pe k send.0 send.1); address = None } ∷ letters_of pe (k + 1) sends
+
+-- their reports
+abbrev pub posts_of : ℕ → ℕ → List (ℕ × List ℕ) → List Report
+posts_of pe k [] = []
+posts_of pe k (send ∷ sends) = Posted (pe, k) send.0 ∷ posts_of pe (k + 1) sends
+
+-- with these sends posted
+abbrev pub posted : {P : Type 0} → Posting P → List (ℕ × List ℕ) → Posting P
+posted p sends =
+    record {
+      me = p.me;
+      n = p.n;
+      count = p.count + length sends;
+      outbox = p.outbox ++ letters_of p.me p.count sends;
+      spare = p.spare;
+      reporting = p.reporting;
+      reports = reported p.reporting p.reports (posts_of p.me p.count sends);
+    }
+
+-- a letter is posted to an element of the array, with a body within the limit, while a letter number is left
+pub record IsPost {P : Type 0} (p : Posting P) (to : ℕ) (body : List ℕ) : Type 0 where
+  pub known : to < p.n
+  pub short : length body ≤ BODY_BYTES
+  pub numbered : p.count < LETTERS
+
+-- any other is refused for the first of these that it is not
+abbrev pub RefusesPut : {P : Type 0} → Posting P → ℕ → List ℕ → SendError → Type 0
+RefusesPut p to body Stranger = p.n ≤ to
+RefusesPut p to body TooLong = (to < p.n) × (BODY_BYTES < length body)
+RefusesPut p to body Worn = (to < p.n) × (length body ≤ BODY_BYTES) × (p.count ≡ LETTERS)
+RefusesPut p to body OutOfMemory = IsPost p to body

@@ -1,0 +1,300 @@
+//! An element at rest in its room.
+
+ghost use Rattle.std.specs.Prelude.{◌≡◌, ◌≢◌, ℕ, List, ◌+◌, ◌∷◌, ◌++◌, [], ◌<◌, ◌≤◌, length, false, true, IfOk, IfErr, OnOk, OnErr, Some, None, slice_get, vec_len, vec_capacity};
+ghost use Rattle.chare_index.specs.declared.limits.TheConstants.Limits.{ROUND};
+ghost use Rattle.chares.specs.declared.entry.Entry.{Entry};
+ghost use Rattle.chares.specs.declared.sends.SendError.TheVariants.{OutOfMemory};
+ghost use Rattle.chares.specs.Elements.{ElementView, opening_element, outcome_of, note_of, ran, IsHistory};
+ghost use Rattle.chares.specs.declared.report.Report.{Report};
+ghost use Rattle.chares.specs.Posting.{posted, with_report};
+ghost use Rattle.chares.specs.Progressing.{note_at, synced_mark};
+
+use crate::chare::{Chare, Here, Openings};
+use crate::entry::Entry;
+use crate::letter::Letter;
+use crate::note::{Mark, Note};
+use crate::progress::{Ending, Progress};
+use crate::report::Report;
+use crate::sends::{SendError, Sends};
+use chare_index::{Gate, Index, Limits, Pe, Round};
+use std::alloc::{Allocator, Global};
+use std::marker::{Model, PhantomData};
+
+/// A chare with what it has done. Contracts see it as the record `ElementView`. It is what its journal says: the
+/// chare that the array opened with, after each entry in turn.
+#[derive(Drop)]
+pub struct Element<C: Chare<A>, H: Openings<C>, A: Allocator = Global> {
+    index: Index,
+    chare: C,
+    journal: Vec<Entry<Letter<A>>, A>,
+    progress: Progress,
+    marks: Vec<Mark, A>,
+    of: PhantomData<H>,
+}
+
+impl<C: Chare<A>, H: Openings<C>, A: Allocator> Model for Element<C, H, A> {
+    ghost use Rattle.std.specs.Prelude.{◌<◌};
+    ghost use Rattle.chare_index.specs.declared.limits.TheConstants.Limits.{ROUND};
+    ghost use Rattle.chares.specs.Elements.{ElementView, IsHistory};
+
+    ghost Value = { ElementView C };
+
+    ghost view = { λ e. record { index = e.index; chare = e.chare; journal = e.journal.items; progress = e.progress; marks = e.marks.items } };
+
+    ghost invariant = { λ e.
+        (e.progress.round < ROUND)
+        × IsHistory C.step C.pack H.opened (record { index = e.index; chare = e.chare; journal = e.journal.items; progress = e.progress; marks = e.marks.items }) };
+}
+
+impl<C: Chare<A>, H: Openings<C>, A: Allocator> Element<C, H, A> {
+    /// The element with this index, as the array opens.
+    pub fn new(alloc: A, index: Index, chare: C) -> Self
+    where
+        A: Copy,
+        requires { slice_get H.opened index ≡ Some chare }
+        ensures { result ≡ opening_element index chare }
+    {
+        Element {
+            index,
+            chare,
+            journal: Vec::new(alloc),
+            progress: Progress::opening(),
+            marks: Vec::new(alloc),
+            of: PhantomData,
+        }
+    }
+
+    /// Its index.
+    #[tactic(auto, using(crate::proofs::Histories::history_within))]
+    pub fn index(&self) -> Index
+        ensures value { result ≡ self.now.index }
+        ensures within { result < length H.opened }
+    {
+        self.index
+    }
+
+    /// Its chare.
+    pub fn chare(&self) -> &C
+        ensures { result.now ≡ self.now.chare }
+    {
+        &self.chare
+    }
+
+    /// The letters and resumptions that it has handled, in order.
+    pub fn journal(&self) -> &[Entry<Letter<A>>]
+        ensures { result.now ≡ self.now.journal }
+    {
+        self.journal.as_slice()
+    }
+
+    /// How far it has come.
+    pub fn progress(&self) -> Progress
+        ensures value { result ≡ self.now.progress }
+        ensures before_last_round { result.round < Limits.ROUND }
+    {
+        self.progress
+    }
+
+    /// Its marks of the rounds that it has seen.
+    pub fn marks(&self) -> &[Mark]
+        ensures { result.now ≡ self.now.marks }
+    {
+        self.marks.as_slice()
+    }
+}
+
+impl<C: Chare<A>, H: Openings<C>, A: Allocator> Element<C, H, A> {
+    /// All but its chare, which is given up.
+    pub(crate) fn into_parts(self) -> (Index, Vec<Entry<Letter<A>>, A>, Progress, Vec<Mark, A>)
+        ensures index { result.0 ≡ self.index }
+        ensures journal { result.1.items ≡ self.journal }
+        ensures progress { result.2 ≡ self.progress }
+        ensures marks { result.3.items ≡ self.marks }
+        ensures before_last_round { self.progress.round < ROUND }
+        ensures history { IsHistory C.step C.pack H.opened self }
+    {
+        let Element {
+            index,
+            chare: _,
+            journal,
+            progress,
+            marks,
+            of: _,
+        } = self;
+        (index, journal, progress, marks)
+    }
+
+    /// An element of these parts.
+    pub(crate) fn from_parts(
+        index: Index,
+        chare: C,
+        journal: Vec<Entry<Letter<A>>, A>,
+        progress: Progress,
+        marks: Vec<Mark, A>,
+    ) -> Self
+        requires before_last_round { progress.round < ROUND }
+        requires history { IsHistory C.step C.pack H.opened (record { index = index; chare = chare; journal = journal.items; progress = progress; marks = marks.items }) }
+        ensures { result ≡ record { index = index; chare = chare; journal = journal.items; progress = progress; marks = marks.items } }
+    {
+        Element {
+            index,
+            chare,
+            journal,
+            progress,
+            marks,
+            of: PhantomData,
+        }
+    }
+}
+
+/// A letter whose handler was refused, with the reason.
+#[derive(Drop)]
+pub struct Unread<A: Allocator = Global> {
+    /// The letter.
+    pub letter: Letter<A>,
+    /// Why.
+    pub error: SendError,
+}
+
+impl<C: Chare<A>, H: Openings<C>, A: Allocator> Element<C, H, A> {
+    /// Executes a letter, on this PE, reports it, and returns the note that is owed for it. On a refusal the letter
+    /// comes back, the element is unchanged, and what the handler posted before it was refused is taken back.
+    #[tactic(auto, using(crate::proofs::Histories::history_within, crate::proofs::Postings::rewound, crate::proofs::Postings::rewound_reports))]
+    pub fn execute<G: Gate, P: Drop>(
+        &mut self,
+        gate: &G,
+        pe: Pe,
+        letter: Letter<A>,
+        sends: &mut Sends<P, A>,
+    ) -> Result<Option<Note>, Unread<A>>
+        requires same_array { sends.old.n ≡ length H.opened }
+        requires few { length H.opened ≤ Limits.ELEMENTS }
+        ensures element { OnOk result (self.new ≡ ran C.step C.pack self.old (length H.opened) pe (Entry.Letter letter)) }
+        ensures note { IfOk result (λ note. note ≡ note_of C.step C.pack self.old (length H.opened) pe (Entry.Letter letter)) }
+        ensures sends { OnOk result (sends.new ≡ posted (with_report sends.old (Report.Executed letter.id letter.to)) (outcome_of C.step C.pack self.old (length H.opened) (Entry.Letter letter)).sends) }
+        ensures err { OnErr result (self.new ≡ self.old) }
+        ensures letter { IfErr result (λ unread. unread.letter ≡ letter) }
+        ensures refused { IfErr result (λ unread. unread.error ≢ OutOfMemory → C.refuses self.old.chare self.old.index (length H.opened) sends.old.count (Entry.Letter letter.body) unread.error) }
+        ensures taken_back { OnErr result (sends.new ≡ sends.old) }
+    {
+        if self.journal.reserve(1).is_err() || self.marks.reserve(1).is_err() {
+            let error = SendError::OutOfMemory;
+            return Err(Unread { letter, error });
+        }
+        let (count, waiting, told) = (sends.count(), sends.waiting(), sends.told());
+        if sends.tell(Report::Executed(letter.id(), letter.to())).is_err() {
+            let error = SendError::OutOfMemory;
+            return Err(Unread { letter, error });
+        }
+        let here = Here {
+            me: self.index,
+            n: sends.n(),
+            gate,
+        };
+        let answer = self.chare.on_letter(&here, letter.body(), sends);
+        let effect = match answer {
+            Ok(effect) => effect,
+            Err(error) => {
+                sends.rewind(count, waiting, told);
+                return Err(Unread { letter, error });
+            }
+        };
+        let progress = self.progress.charged(effect.units);
+        let ending = progress.ending(effect);
+        let note = owed(&self.chare, &progress, ending, self.index, pe);
+        self.progress = progress.ended(ending);
+        let Ok(()) = self.journal.push(Entry::Letter(letter)) else {
+            unreachable!()
+        };
+        mark(&mut self.marks, &note);
+        Ok(note)
+    }
+
+    /// Goes on after this round, or starts where it is 0, on this PE, reports it, and returns the note that is owed for
+    /// it. On a refusal the element is unchanged, and what the handler posted before it was refused is taken back.
+    #[tactic(auto, using(crate::proofs::Histories::history_within, crate::proofs::Postings::rewound, crate::proofs::Postings::rewound_reports))]
+    pub fn resume<G: Gate, P: Drop>(
+        &mut self,
+        gate: &G,
+        pe: Pe,
+        round: Round,
+        sends: &mut Sends<P, A>,
+    ) -> Result<Option<Note>, SendError>
+        requires same_array { sends.old.n ≡ length H.opened }
+        requires few { length H.opened ≤ Limits.ELEMENTS }
+        requires before_last_round { round < Limits.ROUND }
+        ensures element { OnOk result (self.new ≡ ran C.step C.pack self.old (length H.opened) pe (Entry.Resumption round)) }
+        ensures note { IfOk result (λ note. note ≡ note_of C.step C.pack self.old (length H.opened) pe (Entry.Resumption round)) }
+        ensures sends { OnOk result (sends.new ≡ posted (with_report sends.old (Report.Resumed self.old.index round)) (outcome_of C.step C.pack self.old (length H.opened) (Entry.Resumption round)).sends) }
+        ensures err { OnErr result (self.new ≡ self.old) }
+        ensures refused { IfErr result (λ error. error ≢ OutOfMemory → C.refuses self.old.chare self.old.index (length H.opened) sends.old.count (Entry.Resumption round) error) }
+        ensures taken_back { OnErr result (sends.new ≡ sends.old) }
+    {
+        self.journal.reserve(1)?;
+        self.marks.reserve(2)?;
+        let (count, waiting, told) = (sends.count(), sends.waiting(), sends.told());
+        sends.tell(Report::Resumed(self.index, round))?;
+        let here = Here {
+            me: self.index,
+            n: sends.n(),
+            gate,
+        };
+        let effect = match self.chare.on_resume(&here, round, sends) {
+            Ok(effect) => effect,
+            Err(error) => {
+                sends.rewind(count, waiting, told);
+                return Err(error);
+            }
+        };
+        let progress = self.progress.resumed(round).charged(effect.units);
+        let ending = progress.ending(effect);
+        let note = owed(&self.chare, &progress, ending, self.index, pe);
+        self.progress = progress.ended(ending);
+        let Ok(()) = self.journal.push(Entry::Resumption(round)) else {
+            unreachable!()
+        };
+        let Ok(()) = self.marks.push(Mark::Resumed(round, pe)) else {
+            unreachable!()
+        };
+        mark(&mut self.marks, &note);
+        Ok(note)
+    }
+}
+
+// The note that is owed for an element after an answer.
+fn owed<C: Chare<A>, A: Allocator>(
+    chare: &C,
+    progress: &Progress,
+    ending: Ending,
+    index: Index,
+    pe: Pe,
+) -> Option<Note>
+    requires { progress.now.round < ROUND }
+    ensures { result ≡ note_at progress.now index (length (C.pack chare.now)) pe ending }
+{
+    match ending {
+        Ending::Runs => None,
+        Ending::Syncs => {
+            let round = Round::new(progress.round.get() + 1).unwrap();
+            let bytes = chare.packed_len();
+            Some(Note::Sync(index, round, progress.load, bytes, pe))
+        }
+        Ending::Finishes => Some(Note::Finish(index)),
+    }
+}
+
+// Marks that an element waits, where that is the note.
+fn mark<A: Allocator>(marks: &mut Vec<Mark, A>, note: &Option<Note>)
+    requires { vec_len marks.old < vec_capacity marks.old }
+    ensures { marks.new.items ≡ marks.old.items ++ synced_mark note.now }
+{
+    let Some(note) = note else {
+        return;
+    };
+    if note.is_finish() {
+        return;
+    }
+    let Ok(()) = marks.push(Mark::Synced(*note)) else {
+        unreachable!()
+    };
+}

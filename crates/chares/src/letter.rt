@@ -1,0 +1,76 @@
+ghost use Rattle.std.specs.Prelude.{◌≡◌, ℕ, ◌+◌, min};
+ghost use Rattle.chares.specs.Letters.{LetterView, hopped};
+
+use chare_index::{Index, Pe};
+use std::alloc::{Allocator, Global};
+use std::marker::Model;
+
+/// The number of a letter: the PE that posted it, and how many letters that PE had posted before.
+pub type LetterId = (Pe, u32);
+
+/// A letter to an element. Only [`Sends::put`](crate::Sends::put) makes one, and there is no second copy of it.
+/// Contracts see it as the record `LetterView`.
+#[derive(Drop)]
+pub struct Letter<A: Allocator = Global> {
+    id: LetterId,
+    to: Index,
+    body: Vec<u8, A>,
+    hops: u32,
+}
+
+impl<A: Allocator> Model for Letter<A> {
+    ghost use Rattle.chares.specs.Letters.{LetterView};
+
+    ghost Value = { LetterView };
+
+    ghost view = { λ l. record { id = l.id; to = l.to; body = l.body.items; hops = l.hops } };
+}
+
+impl<A: Allocator> Letter<A> {
+    /// A letter that nobody has forwarded.
+    pub(crate) fn new(id: LetterId, to: Index, body: Vec<u8, A>) -> Self
+        ensures { result ≡ record { id = id; to = to; body = body.items; hops = 0 } }
+    {
+        Letter {
+            id,
+            to,
+            body,
+            hops: 0,
+        }
+    }
+
+    /// Its number.
+    pub fn id(&self) -> LetterId
+        ensures { result ≡ self.now.id }
+    {
+        self.id
+    }
+
+    /// The element that it is for.
+    pub fn to(&self) -> Index
+        ensures { result ≡ self.now.to }
+    {
+        self.to
+    }
+
+    /// What it says.
+    pub fn body(&self) -> &[u8]
+        ensures { result.now ≡ self.now.body }
+    {
+        self.body.as_slice()
+    }
+
+    /// How often it was forwarded. The count stops at 4,294,967,295.
+    pub fn hops(&self) -> u32
+        ensures { result ≡ self.now.hops }
+    {
+        self.hops
+    }
+
+    /// Counts one more hop.
+    pub fn hop(&mut self)
+        ensures { self.new ≡ hopped self.old }
+    {
+        self.hops = self.hops.saturating_add(1);
+    }
+}
