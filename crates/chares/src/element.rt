@@ -182,7 +182,10 @@ impl<C: Chare<A>, H: Openings<C>, A: Allocator> Element<C, H, A> {
             return Err(Unread { letter, error });
         }
         let (count, waiting, told) = (sends.count(), sends.waiting(), sends.told());
-        if sends.tell(Report::Executed(letter.id(), letter.to())).is_err() {
+        if sends
+            .tell(Report::Executed(letter.id(), letter.to()))
+            .is_err()
+        {
             let error = SendError::OutOfMemory;
             return Err(Unread { letter, error });
         }
