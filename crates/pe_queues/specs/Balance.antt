@@ -43,7 +43,8 @@ pub record Balanced {T : Type 0} (items : List T) (passes : List (Traffic T)) : 
   pub balance : (weight : T → ℕ) → sum_by (λ (v : Traffic T). sum_by weight v.puts) passes ≡ sum_by (λ (v : Traffic T). sum_by weight v.takes) passes + sum_by weight items
   pub spent : (pass : ℕ) (v : Traffic T) → get_elem? passes pass ≡ some v → v.seats ≡ 0 → v ≡ no_traffic
 
--- at some moment the queue held these values, and the rule held of them and of all passes, one of which had this traffic
+-- the rule holds of these values and of some passes, one of which has this traffic: what is known of a queue from one
+-- pass at some moment
 pub record Seen {T : Type 0} (v : Traffic T) (items : List T) : Type 0 where
   pub passes : List (Traffic T)
   pub pass : ℕ

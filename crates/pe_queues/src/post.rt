@@ -69,7 +69,7 @@ impl<T: Drop, A: Allocator> Post<T, A> {
     ) -> Result<(Self, Vec<Seat<T, A>, A>), PostError>
     where
         A: Copy,
-        ensures told { MatchResult result (λ _. IsWithin pes seats capacity) (RefusesNew pes seats capacity) }
+        ensures answer { MatchResult result (λ _. IsWithin pes seats capacity) (RefusesNew pes seats capacity) }
         ensures sized { IfOk result (λ made. (length made.0.queues ≡ pes) × (made.0.capacity ≡ capacity)) }
         ensures count { IfOk result (λ made. length made.1.items ≡ seats) }
         ensures fresh { IfOk result (λ made. All (λ seat. seat ≡ new_seat made.0 seat.seats) made.1.items) }
@@ -149,7 +149,7 @@ impl<T: Drop, A: Allocator> Post<T, A> {
         seat: Seat<T, A>,
     ) -> Result<Vec<Vec<T, A>, A>, Unsettled<T, A>>
         requires own { seat.post ≡ self }
-        ensures told { MatchResult result (λ _. IsAllSeats seat) (λ unsettled. (seat.seats ≢ SEATS) × (unsettled.cause ≡ SeatsOut)) }
+        ensures answer { MatchResult result (λ _. IsAllSeats seat) (λ unsettled. (seat.seats ≢ SEATS) × (unsettled.cause ≡ SeatsOut)) }
         ensures back { IfErr result (λ unsettled. (unsettled.post ≡ self) × (unsettled.seat ≡ seat)) }
         ensures left { IfOk result (λ left. AreLeft seat left.items) }
     {

@@ -73,7 +73,11 @@ fn decisions_of_a_board(rt: HostRuntime) -> Result<(), Fail> {
     };
     let attempt = |alloc: &Refusing<Global>| decides_or_waits(alloc, first, [zero, one]);
     let refusals = each_refusal(rt.alloc(), MOST_TURNS, attempt)?;
-    assert!(rt; refusals > 3, "more than those of the board");
+    assert_eq!(rt;
+        refusals,
+        19,
+        "those of the board, of one plan and of the pair that is kept"
+    );
     Ok(())
 }
 

@@ -57,6 +57,35 @@ fn packs_and_their_values(rt: HostRuntime) -> Result<(), Fail> {
     Ok(())
 }
 
+type Lent<'a> = &'a Refusing<Global>;
+
+#[test]
+fn a_list_packs_into_room_taken_at_once(rt: HostRuntime) {
+    let alloc = Refusing::new(rt.alloc(), 0);
+    let numbers = vec![in &alloc; 7_u32; 100].expect(&rt, "out of memory");
+    let list: Items<u32, Lent<'_>> = Items::new(numbers);
+    let mut out = Vec::new(&alloc);
+    assert_eq!(rt; list.pack_into(&mut out), Ok(()));
+    assert_eq!(rt; alloc.requests(), 2, "the list and the room of its pack");
+}
+
+// Five numbers, each of them 1.
+const FIVE: [u8; 24] = [
+    0, 0, 0, 5, 0, 0, 0, 1, 0, 0, 0, 1, 0, 0, 0, 1, 0, 0, 0, 1, 0, 0, 0, 1,
+];
+
+#[test]
+fn a_list_is_unpacked_into_room_for_what_was_found(rt: HostRuntime) {
+    let alloc = Refusing::new(rt.alloc(), 0);
+    let answer = <Items<u32, Lent<'_>> as Pup<Lent<'_>>>::unpack(&alloc, &FIVE);
+    assert!(rt; answer.is_ok(), "five numbers");
+    assert_eq!(rt;
+        alloc.requests(),
+        2,
+        "room for four items, and then for eight"
+    );
+}
+
 #[test]
 fn lengths_and_claims_take_no_memory(rt: HostRuntime) -> Result<(), Fail> {
     let alloc = Refusing::new(rt.alloc(), 1);
