@@ -1,7 +1,7 @@
 //! Equality is of whole values: any part that differs makes a difference.
 
 use crate::fixtures::{
-    DIVISION, MOVING, NAMING, decision, fenced, loads, sizes, snapshot, unfenced,
+    DIVISION, MOVING, NAMING, decision, decision_with, fenced, loads, sizes, snapshot, unfenced,
 };
 use lb_certificates::{Division, Snapshot};
 use lb_strategy::Decision;
@@ -48,11 +48,9 @@ fn other_moves_make_another_decision(rt: HostRuntime) {
     }
 }
 
-// The example's decision, with another division.
+// The example's decision with this division.
 fn divided(rt: &(impl Abort + AllocGlobal), division: Division) -> Decision {
-    let mut decision = decision(rt, DIVISION, NAMING, MOVING);
-    decision.division = division;
-    decision
+    decision_with(rt, division, NAMING, MOVING)
 }
 
 #[test]

@@ -109,6 +109,22 @@ pub fn moves(rt: &(impl Abort + AllocGlobal), rows: &[(u32, u32, u32)]) -> Moves
     Moves::new(moves)
 }
 
+/// The decision with this division, these names and prices, bytes moved and moves.
+pub fn decision_with(
+    rt: &(impl Abort + AllocGlobal),
+    division: Division,
+    names: (&[u32], &[i64], &[i64]),
+    moving: (u64, &[(u32, u32, u32)]),
+) -> Decision {
+    Decision {
+        division,
+        naming: naming(rt, names.0),
+        prices: prices(rt, names.1, names.2),
+        moved: moving.0,
+        moves: moves(rt, moving.1),
+    }
+}
+
 /// The decision with bottleneck 2 and these cuts and stops, names and prices, bytes moved and moves.
 pub fn decision(
     rt: &(impl Abort + AllocGlobal),
@@ -116,13 +132,7 @@ pub fn decision(
     names: (&[u32], &[i64], &[i64]),
     moving: (u64, &[(u32, u32, u32)]),
 ) -> Decision {
-    Decision {
-        division: fenced(rt, 2, division.0, division.1),
-        naming: naming(rt, names.0),
-        prices: prices(rt, names.1, names.2),
-        moved: moving.0,
-        moves: moves(rt, moving.1),
-    }
+    decision_with(rt, fenced(rt, 2, division.0, division.1), names, moving)
 }
 
 /// The cuts and the stops of the example's decision.
