@@ -1,3 +1,5 @@
 pub mod Bottlenecks
 pub mod GreedyCuts
-pub mod GreedyWalks
+pub mod Ranges
+pub mod RunningSums
+pub mod Walks

@@ -1,15 +1,19 @@
 //! The least division of a chain: of all ways to cut the elements into at most so many consecutive blocks, one
 //! whose heaviest block is lightest, with the certificate that a checker accepts.
 //!
-//! - [`probe`]: whether blocks within a limit can hold all elements, as a [`Probe`].
+//! - [`Prefix`]: the running sums of the loads.
+//! - [`probe`], and [`probe_on`] running sums: whether blocks within a limit can hold all elements, as a [`Probe`].
 //! - [`divide`]: the least division.
 #![tactic(auto)]
 
 mod division;
 mod outcome;
+mod prefix;
 mod probing;
+mod search;
 mod walk;
 
 pub use division::divide;
 pub use outcome::Probe;
-pub use probing::probe;
+pub use prefix::Prefix;
+pub use probing::{probe, probe_on};

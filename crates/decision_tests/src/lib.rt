@@ -20,3 +20,5 @@ mod naming_checks;
 #[cfg(test)]
 mod namings;
 pub mod reference;
+#[cfg(test)]
+mod walks;
