@@ -151,6 +151,25 @@ pub narrowed_below : (xs : List ℕ) (p low high next : ℕ) → Enclose xs p lo
 narrowed_below xs p low high next h stops =
     record { stops = stops; fits = h.fits; small = h.small }
 
+-- of two limits that hold all elements the lesser does, and below the greater of two bounds none does
+pub lesser_fits : (xs : List ℕ) (p a b : ℕ) → CanFit xs p a → CanFit xs p b → CanFit xs p (min a b)
+lesser_fits xs p a b h k =
+    elim (cases_lt a b) [
+      | inl below ↦
+          let e : a ≡ min a b = omega arith in
+          subst (λ n. CanFit xs p n) e h
+      | inr above ↦
+          let e : b ≡ min a b = omega arith in
+          subst (λ n. CanFit xs p n) e k
+    ]
+
+pub greater_stops : (xs : List ℕ) (p a b : ℕ) → StopBelow xs p a → StopBelow xs p b → StopBelow xs p (max a b)
+greater_stops xs p a b h k limit below =
+    elim (cases_lt limit a) [
+      | inl here ↦ h limit here
+      | inr behind ↦ k limit (omega arith)
+    ]
+
 -- up to each cut, the element stands behind it, or a block has it
 behind_cut : (xs : List ℕ) (p i : ℕ) (cuts : List ℕ) → IsDivision 0 (length xs) p cuts → i < length xs → (k : ℕ) → k ≤ p → (slice_index cuts k ≤ i) ⊎ (get_or xs i 0 ≤ peak xs cuts)
 behind_cut xs p i cuts division within zero inside = inl (omega (arith, division.starts))

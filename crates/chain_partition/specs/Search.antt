@@ -14,6 +14,10 @@ abbrev pub Tells : List ℕ → ℕ → ℕ → Bound → Type 0
 Tells loads blocks limit (Fits heaviest) = (heaviest ≤ limit) × CanFit loads blocks heaviest
 Tells loads blocks limit (Stops next) = (limit < next) × StopBelow loads blocks next
 
+-- what a walk within some limit from low on and below high tells
+abbrev pub WasTried : List ℕ → ℕ → ℕ → ℕ → Bound → Type 0
+WasTried loads blocks low high bound = (limit : ℕ) × (low ≤ limit) × (limit < high) × Tells loads blocks limit bound
+
 -- the least bottleneck is low, high or between them; sums with either stay in range
 pub record Enclose (loads : List ℕ) (blocks low high : ℕ) : Type 0 where
   pub stops : StopBelow loads blocks low

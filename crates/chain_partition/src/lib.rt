@@ -3,7 +3,7 @@
 //!
 //! - [`Prefix`]: the running sums of the loads.
 //! - [`probe`], and [`probe_on`] running sums: whether blocks within a limit can hold all elements, as a [`Probe`].
-//! - [`divide`]: the least division.
+//! - [`divide`]: the least division, and [`divide_with`] several threads.
 #![tactic(auto)]
 
 mod division;
@@ -11,9 +11,11 @@ mod outcome;
 mod prefix;
 mod probing;
 mod search;
+mod threads;
 mod walk;
 
 pub use division::divide;
 pub use outcome::Probe;
 pub use prefix::Prefix;
 pub use probing::{probe, probe_on};
+pub use threads::divide_with;
