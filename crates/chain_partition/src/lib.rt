@@ -3,7 +3,21 @@
 //!
 //! - [`Prefix`]: the running sums of the loads.
 //! - [`probe`], and [`probe_on`] running sums: whether blocks within a limit can hold all elements, as a [`Probe`].
-//! - [`divide`]: the least division, and [`divide_with`] several threads.
+//! - [`divide`]: the least division; [`divide_with`] finds it with several threads.
+//!
+//! ```
+//! use chain_partition::divide;
+//! use lb_certificates::Loads;
+//! use std::alloc::{AllocError, Allocator};
+//!
+//! // The heaviest block's load, where five elements are divided into two blocks: 9, of the blocks 1 2 3 and 4 5.
+//! fn heaviest_of_two<A: Allocator + Copy>(alloc: A) -> Result<Option<u64>, AllocError> {
+//!     let Some(loads) = Loads::new(vec![in alloc; 1, 2, 3, 4, 5]?) else {
+//!         return Ok(None);
+//!     };
+//!     Ok(Some(divide(alloc, &loads, 2)?.bottleneck))
+//! }
+//! ```
 #![tactic(auto)]
 
 mod division;

@@ -22,3 +22,5 @@ mod namings;
 pub mod reference;
 #[cfg(test)]
 mod walks;
+#[cfg(test)]
+mod workers;

@@ -43,8 +43,8 @@ pub fn plan<A: Allocator + Copy, B: Allocator>(
     complete(alloc, snapshot, pes, division)
 }
 
-/// The same decision as that of [`plan`], but for the names and prices, of which any cheapest ones may be given: its
-/// division is found by 1 to 64 workers, as [`divide_with`] does, each of which calls the gate with its number.
+/// Decides as [`plan`] does. The division, which is the same, is found by 1 to 64 workers, as [`divide_with`] does: in
+/// each of its probes a worker calls the gate with its number, and a thread that cannot be started is done without.
 ///
 /// # Errors
 ///
