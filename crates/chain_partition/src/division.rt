@@ -46,7 +46,7 @@ pub(crate) fn division_at<A: Allocator + Copy>(
     requires valid { IsPrefix sums.now }
     requires few_pes { pes ≤ Limits.PES }
     requires least { IsLeastPeak (loads_of sums.now) 0 pes bottleneck }
-    ensures { IfOk result (IsChosen (loads_of sums.now) pes) }
+    ensures chosen { IfOk result (IsChosen (loads_of sums.now) pes) }
 {
     let cuts = Cuts::new(greedy_ends(alloc, sums, pes, bottleneck)?);
     let floor = least_floor(alloc, sums, pes, bottleneck)?;
@@ -67,7 +67,7 @@ fn least_floor<A: Allocator>(
     requires valid { IsPrefix sums.now }
     requires few_pes { pes ≤ Limits.PES }
     requires least { IsLeastPeak (loads_of sums.now) 0 pes bottleneck }
-    ensures { IfOk result (IsLeastFloor (loads_of sums.now) pes bottleneck) }
+    ensures floor { IfOk result (IsLeastFloor (loads_of sums.now) pes bottleneck) }
 {
     if bottleneck == 0 {
         return Ok(Floor::Zero);

@@ -86,7 +86,7 @@ pub(crate) fn load_between(sums: &[u64], first: usize, end: usize) -> u64
     requires valid { IsPrefix sums.now }
     requires ordered { first ≤ end }
     requires within { end ≤ length (loads_of sums.now) }
-    ensures { result ≡ load (loads_of sums.now) first end }
+    ensures value { result ≡ load (loads_of sums.now) first end }
 {
     sums[end] - sums[first]
 }

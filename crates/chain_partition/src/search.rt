@@ -33,7 +33,7 @@ pub(crate) fn least_bottleneck(sums: &[u64], pes: u32, bounds: Bounds) -> u64
     requires valid { IsPrefix sums.now }
     requires some_pe { 1 ≤ pes }
     requires enclosed { Enclose (loads_of sums.now) pes bounds.low bounds.high }
-    ensures { IsLeastPeak (loads_of sums.now) 0 pes result }
+    ensures least { IsLeastPeak (loads_of sums.now) 0 pes result }
 {
     let mut low = bounds.low;
     let mut high = bounds.high;
@@ -54,7 +54,7 @@ pub(crate) fn tell(sums: &[u64], pes: u32, limit: u64) -> Bound
     requires valid { IsPrefix sums.now }
     requires some_pe { 1 ≤ pes }
     requires below { limit < 2 ^ 64 - 1 }
-    ensures { Tells (loads_of sums.now) pes limit result }
+    ensures tells { Tells (loads_of sums.now) pes limit result }
 {
     let all = sums.len() - 1;
     let mut first = 0;
@@ -78,7 +78,7 @@ pub(crate) fn tell(sums: &[u64], pes: u32, limit: u64) -> Bound
 pub(crate) fn opening<A: Allocator>(loads: &Loads<A>, total: u64, pes: u32) -> Bounds
     requires some_pe { 1 ≤ pes }
     requires all { total ≡ load loads.now 0 (length loads.now) }
-    ensures { Enclose loads.now pes result.low result.high }
+    ensures enclosed { Enclose loads.now pes result.low result.high }
 {
     let greatest = u64::from(greatest(loads.as_slice()));
     let pes = u64::from(pes);

@@ -61,7 +61,7 @@ fn least_tried<R: Threads + Sync, G: Gate + Sync>(
     requires some_worker { 1 ≤ workers }
     requires few_workers { workers ≤ Limits.PROBE_WORKERS }
     requires enclosed { Enclose (loads_of sums.now) pes bounds.low bounds.high }
-    ensures { IsLeastPeak (loads_of sums.now) 0 pes result }
+    ensures least { IsLeastPeak (loads_of sums.now) 0 pes result }
 {
     let mut told = [Bound::Stops(0); 64];
     let told = &mut told[..workers];
@@ -88,7 +88,7 @@ fn try_all<R: Threads + Sync, G: Gate + Sync>(
     requires few_workers { length told.old ≤ Limits.PROBE_WORKERS }
     requires apart { bounds.low < bounds.high }
     requires small { bounds.high < 2 ^ 57 }
-    ensures { (i : ℕ) (d : Bound) → i < length told.old → WasTried (loads_of sums.now) pes bounds.low bounds.high (slice_index_or told.new i d) }
+    ensures tried { (i : ℕ) (d : Bound) → i < length told.old → WasTried (loads_of sums.now) pes bounds.low bounds.high (slice_index_or told.new i d) }
 {
     let workers = told.len();
     let probe = move |worker: usize, place: &mut Bound|
@@ -113,7 +113,7 @@ fn try_limit<G: Gate>(
     requires few_workers { workers ≤ Limits.PROBE_WORKERS }
     requires apart { bounds.low < bounds.high }
     requires small { bounds.high < 2 ^ 57 }
-    ensures { WasTried (loads_of sums.now) pes bounds.low bounds.high result }
+    ensures tried { WasTried (loads_of sums.now) pes bounds.low bounds.high result }
 {
     gate.pass(worker as u32);
     tell(sums, pes, limit_of(bounds, worker as u64, workers as u64))

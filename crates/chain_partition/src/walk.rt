@@ -19,7 +19,7 @@ pub(crate) fn greedy_ends<A: Allocator>(
 ) -> Result<Vec<u32, A>, AllocError>
     requires valid { IsPrefix sums.now }
     requires few_pes { pes ≤ Limits.PES }
-    ensures { IfOk result (λ ends. IsGreedy (loads_of sums.now) pes limit ends.items) }
+    ensures greedy { IfOk result (λ ends. IsGreedy (loads_of sums.now) pes limit ends.items) }
 {
     let mut ends = Vec::with_capacity(alloc, pes as usize + 1)?;
     ends.push_reserved(0);

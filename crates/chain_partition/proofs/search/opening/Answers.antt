@@ -11,4 +11,4 @@ returns g c =
     let above : All (λ w. w ≤ c.greatest.result) c.args.loads.now = subst (λ xs. All (λ w. w ≤ c.greatest.result) xs) c.as_slice.ensures.value c.greatest.ensures.bounds in
     let ceil : c.div_ceil.result ≡ c.args.total / c.args.pes + min 1 (c.args.total % c.args.pes) = rw (← c.from-pes.ensures) c.div_ceil.ensures in
     let low : c.max.result ≡ max c.greatest.result (c.args.total / c.args.pes + min 1 (c.args.total % c.args.pes)) = search rules in
-    rw (low, c.from-pes.ensures, c.from-greatest.ensures) (opening_encloses c.args.loads.now c.args.pes c.greatest.result c.args.total (omega arith) c.as_slice.ensures.within_limits (omega arith) above (λ limit all. c.greatest.ensures.least limit (rw c.as_slice.ensures.value all)) c.requires.all)
+    record { enclosed = rw (low, c.from-pes.ensures, c.from-greatest.ensures) (opening_encloses c.args.loads.now c.args.pes c.greatest.result c.args.total (omega arith) c.as_slice.ensures.within_limits (omega arith) above (λ limit all. c.greatest.ensures.least limit (rw c.as_slice.ensures.value all)) c.requires.all) }

@@ -8,7 +8,7 @@ pub returns-then-end-all : goal.returns-then-end-all
 returns-then-end-all c =
     let all : c.end_of_block-end.result ≡ length (loads_of c.args.sums.now) = omega (arith, c.requires.valid.summed.counted) in
     let heavier : c.max-heaviest.result ≡ max c.loop.heaviest (load (loads_of c.args.sums.now) c.loop.first c.end_of_block-end.result) = search rules in
-    rw heavier (walk_fits (loads_of c.args.sums.now) c.loop.counter c.args.pes c.args.limit c.loop.heaviest c.loop.least c.loop.first c.end_of_block-end.result c.loop.invariant c.end_of_block-end.ensures.greatest all (omega arith))
+    record { tells = rw heavier (walk_fits (loads_of c.args.sums.now) c.loop.counter c.args.pes c.args.limit c.loop.heaviest c.loop.least c.loop.first c.end_of_block-end.result c.loop.invariant c.end_of_block-end.ensures.greatest all (omega arith)) }
 
 pub loop-preserved : goal.loop-preserved
 loop-preserved c =
@@ -20,4 +20,4 @@ pub returns : goal.returns
 returns c =
     let all : c.loop.counter ≡ c.args.pes = omega arith in
     let walked : Walked (loads_of c.args.sums.now) c.args.pes c.args.limit c.loop.heaviest c.loop.least c.loop.first = subst (λ k. Walked (loads_of c.args.sums.now) k c.args.limit c.loop.heaviest c.loop.least c.loop.first) all c.loop.invariant in
-    walk_stops (loads_of c.args.sums.now) c.args.pes c.args.limit c.loop.heaviest c.loop.least c.loop.first walked (omega arith)
+    record { tells = walk_stops (loads_of c.args.sums.now) c.args.pes c.args.limit c.loop.heaviest c.loop.least c.loop.first walked (omega arith) }

@@ -9,4 +9,4 @@ pub returns : goal.returns
 returns g c =
     let enclosed = c.loop-bounds.invariant.enclosed in
     let met : c.loop-bounds.bounds.low ≡ c.loop-bounds.bounds.high = omega (arith, bounds_ordered (loads_of c.args.sums.now) c.args.pes c.loop-bounds.bounds.low c.loop-bounds.bounds.high enclosed.stops enclosed.fits) in
-    least_from_bounds (loads_of c.args.sums.now) c.args.pes c.loop-bounds.bounds.high enclosed.fits (subst (λ n. StopBelow (loads_of c.args.sums.now) c.args.pes n) met enclosed.stops)
+    record { least = least_from_bounds (loads_of c.args.sums.now) c.args.pes c.loop-bounds.bounds.high enclosed.fits (subst (λ n. StopBelow (loads_of c.args.sums.now) c.args.pes n) met enclosed.stops) }
