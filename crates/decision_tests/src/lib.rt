@@ -22,3 +22,7 @@ mod naming_checks;
 #[cfg(test)]
 mod namings;
 pub mod reference;
+#[cfg(test)]
+mod walks;
+#[cfg(test)]
+mod workers;
