@@ -1,7 +1,7 @@
 ghost use Rattle.std.specs.Prelude.{◌≡◌, ◌<◌, ◌≤◌, ℕ, length, IfOk, IfErr};
 ghost use Rattle.chain_partition.specs.Chosen.{IsChosen};
 ghost use Rattle.lb_certificates.specs.Chain.{IsLeastDivision};
-ghost use Rattle.lb_certificates.specs.Naming.{IsCheapest};
+ghost use Rattle.lb_certificates.specs.Naming.{IsCheapest, IsLeastNaming};
 ghost use Rattle.lb_strategy.specs.Decisions.{IsRight};
 ghost use Rattle.lb_strategy.specs.Moves.{HasPlace};
 ghost use Rattle.lb_strategy.specs.declared.error.PlanError.TheVariants.{OutOfMemory};
@@ -16,7 +16,8 @@ use lb_certificates::{Loads, Sizes, Snapshot};
 use std::alloc::Allocator;
 
 /// Decides where each element of this snapshot runs next, on `pes` PEs, 1 to 256, which may be more or fewer than
-/// those of the run: its blocks are those of [`divide`], named so that the fewest bytes move.
+/// those of the run: its blocks are those of [`divide`], named so that the fewest bytes move, and of all such namings it
+/// takes the first in dictionary order. So all of the decision but its prices is determined by the snapshot and `pes`.
 /// [`check`](crate::check) accepts the decision.
 ///
 /// # Errors
@@ -34,6 +35,7 @@ pub fn plan<A: Allocator + Copy, B: Allocator>(
     ensures chosen { IfOk result (λ d. IsChosen snapshot.now.loads pes d.division) }
     ensures least { IfOk result (λ d. IsLeastDivision snapshot.now.loads pes d.division.bottleneck d.division.cuts) }
     ensures cheapest { IfOk result (λ d. IsCheapest snapshot.now.sizes d.division.cuts pes d.naming) }
+    ensures least_naming { IfOk result (λ d. IsLeastNaming snapshot.now.sizes d.division.cuts pes d.naming) }
     ensures places { IfOk result (λ d. (i : ℕ) → i < length snapshot.now.sizes → HasPlace d.division.cuts d.naming i) }
     ensures only_memory { IfErr result (λ error. error ≡ OutOfMemory) }
 {
@@ -53,6 +55,7 @@ fn decide<A: Allocator + Copy, B: Allocator>(
     requires few_pes { pes ≤ Limits.PES }
     ensures chosen { IfOk result (λ d. IsChosen loads.now pes d.division) }
     ensures right { IfOk result (IsRight loads.now sizes.now pes) }
+    ensures least_naming { IfOk result (λ d. IsLeastNaming sizes.now d.division.cuts pes d.naming) }
     ensures places { IfOk result (λ d. (i : ℕ) → i < length sizes.now → HasPlace d.division.cuts d.naming i) }
     ensures only_memory { IfErr result (λ error. error ≡ OutOfMemory) }
 {

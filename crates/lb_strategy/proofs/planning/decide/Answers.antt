@@ -1,7 +1,7 @@
 use Rattle.std.proofs.Common.{◌≡◌, length, arith, rules}
 use Rattle.lb_certificates.specs.Certificate.{IsCertified}
 use Rattle.lb_certificates.specs.Naming.{AreBlocks}
-use Rattle.lb_strategy.proofs.RightDecisions.{blocks_from_certified, place_from_right, right_from_table}
+use Rattle.lb_strategy.proofs.RightDecisions.{blocks_from_certified, least_by_table, place_from_right, right_from_table}
 use Rattle.lb_strategy.specs.Moves.{moves_below}
 use Rattle.lb_strategy.proofs.planning.decide.Goals as goal
 
@@ -23,3 +23,9 @@ returns-clause-right g c =
 pub returns-clause-places : goal.returns-clause-places
 returns-clause-places g c =
     place_from_right c.args.loads.now c.args.sizes.now c.args.pes _ (returns-clause-right g c)
+
+pub returns-clause-least_naming : goal.returns-clause-least_naming
+returns-clause-least_naming g c =
+    let division : IsCertified c.args.loads.now c.args.pes c.in_ok-division.division = c.in_ok-division.ensures.certified in
+    let blocks : AreBlocks c.args.sizes.now c.in_ok-division.division.cuts = blocks_from_certified c.args.loads.now c.args.sizes.now c.args.pes c.in_ok-division.division division c.requires.counted c.requires.some_pe c.requires.few_pes in
+    least_by_table c.args.sizes.now c.in_ok-division.division.cuts c.in_ok-naming.naming c.args.pes c.in_ok-table.table (omega (arith, division.divides.counted)) blocks c.in_ok-table.ensures.table c.in_ok-naming.ensures.least_naming
