@@ -6,10 +6,13 @@
 #![tactic(auto)]
 
 mod assignment;
+mod block_set;
 mod error;
+mod least;
 mod scan;
 mod search;
 mod table;
+mod takers;
 
 pub use assignment::name_blocks;
 pub use error::NameError;

@@ -2,7 +2,7 @@ ghost use Rattle.std.specs.Prelude.{◌≡◌, ◌<◌, ◌≤◌, ℕ, length, 
 ghost use Rattle.chain_partition.specs.Chosen.{IsChosen};
 ghost use Rattle.lb_certificates.specs.Certificate.{IsCertified};
 ghost use Rattle.lb_certificates.specs.Chain.{IsLeastDivision};
-ghost use Rattle.lb_certificates.specs.Naming.{IsCheapest};
+ghost use Rattle.lb_certificates.specs.Naming.{IsCheapest, IsLeastNaming};
 ghost use Rattle.lb_strategy.specs.Decisions.{IsRight};
 ghost use Rattle.lb_strategy.specs.Moves.{HasPlace};
 ghost use Rattle.lb_strategy.specs.declared.error.PlanError.TheVariants.{OutOfMemory};
@@ -18,7 +18,8 @@ use std::alloc::Allocator;
 use std::thread::Threads;
 
 /// Decides where each element of this snapshot runs next, on `pes` PEs, 1 to 256, which may be more or fewer than
-/// those of the run: its blocks are those of [`divide`], named so that the fewest bytes move.
+/// those of the run: its blocks are those of [`divide`], named so that the fewest bytes move, and of all such namings it
+/// takes the first in dictionary order. So all of the decision but its prices is determined by the snapshot and `pes`.
 /// [`check`](crate::check) accepts the decision.
 ///
 /// # Errors
@@ -36,6 +37,7 @@ pub fn plan<A: Allocator + Copy, B: Allocator>(
     ensures chosen { IfOk result (λ d. IsChosen snapshot.now.loads pes d.division) }
     ensures least { IfOk result (λ d. IsLeastDivision snapshot.now.loads pes d.division.bottleneck d.division.cuts) }
     ensures cheapest { IfOk result (λ d. IsCheapest snapshot.now.sizes d.division.cuts pes d.naming) }
+    ensures least_naming { IfOk result (λ d. IsLeastNaming snapshot.now.sizes d.division.cuts pes d.naming) }
     ensures places { IfOk result (λ d. (i : ℕ) → i < length snapshot.now.sizes → HasPlace d.division.cuts d.naming i) }
     ensures only_memory { IfErr result (λ error. error ≡ OutOfMemory) }
 {
@@ -66,6 +68,7 @@ pub fn plan_with<R: Threads + Sync, G: Gate + Sync, A: Allocator + Copy, B: Allo
     ensures chosen { IfOk result (λ d. IsChosen snapshot.now.loads pes d.division) }
     ensures least { IfOk result (λ d. IsLeastDivision snapshot.now.loads pes d.division.bottleneck d.division.cuts) }
     ensures cheapest { IfOk result (λ d. IsCheapest snapshot.now.sizes d.division.cuts pes d.naming) }
+    ensures least_naming { IfOk result (λ d. IsLeastNaming snapshot.now.sizes d.division.cuts pes d.naming) }
     ensures places { IfOk result (λ d. (i : ℕ) → i < length snapshot.now.sizes → HasPlace d.division.cuts d.naming i) }
     ensures only_memory { IfErr result (λ error. error ≡ OutOfMemory) }
 {
@@ -87,6 +90,7 @@ fn complete<A: Allocator + Copy, B: Allocator>(
     requires certified { IsCertified snapshot.now.loads pes division }
     ensures chosen { IfOk result (λ d. IsChosen snapshot.now.loads pes d.division) }
     ensures right { IfOk result (IsRight snapshot.now.loads snapshot.now.sizes pes) }
+    ensures least_naming { IfOk result (λ d. IsLeastNaming snapshot.now.sizes d.division.cuts pes d.naming) }
     ensures places { IfOk result (λ d. (i : ℕ) → i < length snapshot.now.sizes → HasPlace d.division.cuts d.naming i) }
     ensures only_memory { IfErr result (λ error. error ≡ OutOfMemory) }
 {
