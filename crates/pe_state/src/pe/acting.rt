@@ -1,0 +1,358 @@
+//! What a PE does with the parcel in its hand.
+
+ghost use Rattle.std.specs.Prelude.{◌≡◌, ℕ, ◌++◌, ◌∷◌, [], ◌<◌, ◌≤◌, List, length, IfOk, IfErr, OnOk, OnErr, IfSome, IsSome, Ok, None, Some, true};
+ghost use Rattle.std.specs.VecDeque.{deque_len, deque_capacity};
+ghost use Rattle.chares.specs.Posting.{reported};
+ghost use Rattle.pe_state.specs.Pes.{PeView, acting, acted_of, pe_after, reports_of, on_letter, on_element, held, handled, handler_posts, passing, shelving, forwarding, installed};
+ghost use Rattle.pe_state.specs.Refusals.{RefusesStep, RefusesAct, RefusesParcel};
+ghost use Rattle.pe_state.specs.Rooms.{found};
+ghost use Rattle.pe_state.specs.Standing.{IsBelow};
+ghost use Rattle.chares.specs.Elements.{unpacked, IsHistory};
+ghost use Rattle.chares.specs.declared.carried.Carried.{Carried};
+ghost use Rattle.chares.specs.declared.entry.Entry.{Entry};
+ghost use Rattle.chares.specs.declared.report.Report.{Report};
+ghost use Rattle.pe_state.specs.declared.error.StepError.TheVariants.{OutOfMemory};
+
+use crate::acted::Acted;
+use crate::error::StepError;
+use crate::lent;
+use crate::pe::{Parcel, PeState};
+use crate::shelf::unshelve;
+use chare_index::{Gate, Index, Pe};
+use chares::{
+    Addressed, Carried, Chare, Letter, Openings, PackedElement, Report, Unread, add_report,
+    room_for_report,
+};
+use std::alloc::{AllocError, AllocFailed, Allocator, Global};
+use std::mem::replace;
+
+impl<C: Chare<A>, H: Openings<C>, A: Allocator + Copy> PeState<C, H, A> {
+    /// Acts on the parcel in its hand. An element is unpacked into the room, and its letters leave the shelf for the
+    /// back of the outbox, addressed to this PE. A letter is executed, where its element stands here and has started.
+    /// Where it does not stand here, a letter with a look goes to the shelf if that names this PE, and otherwise, with
+    /// one hop more, to the back of the outbox, addressed to the PE that it names. In all other cases it returns `None`
+    /// and nothing changes: with an empty hand, with a letter whose element has not started, or that wants a look, and
+    /// with an element where one with its index stands already.
+    ///
+    /// # Errors
+    ///
+    /// The PE is as it was on any of them, and the parcel stays in its hand. [`OutOfMemory`](StepError::OutOfMemory), or
+    /// what the handler answers.
+    pub fn act<G: Gate>(&mut self, gate: &G) -> Result<Option<Acted>, StepError>
+        ensures answer { IfOk result (λ acted. acted ≡ acted_of (acting C.step C.pack C.unpack self.old)) }
+        ensures ok { OnOk result (self.new ≡ pe_after self.old (acting C.step C.pack C.unpack self.old)) }
+        ensures err { OnErr result (self.new ≡ self.old) }
+        ensures enabled { OnErr result (IsSome (acting C.step C.pack C.unpack self.old)) }
+        ensures refused { IfErr result (RefusesStep (RefusesAct C.refuses self.old)) }
+    {
+        let mut reports = Vec::new(self.alloc);
+        self.act_with(gate, false, &mut reports)
+    }
+
+    /// Acts, and adds what is to be reported.
+    pub fn act_reporting<G: Gate>(
+        &mut self,
+        gate: &G,
+        reports: &mut Vec<Report, A>,
+    ) -> Result<Option<Acted>, StepError>
+        ensures answer { IfOk result (λ acted. acted ≡ acted_of (acting C.step C.pack C.unpack self.old)) }
+        ensures ok { OnOk result (self.new ≡ pe_after self.old (acting C.step C.pack C.unpack self.old)) }
+        ensures err { OnErr result (self.new ≡ self.old) }
+        ensures enabled { OnErr result (IsSome (acting C.step C.pack C.unpack self.old)) }
+        ensures refused { IfErr result (RefusesStep (RefusesAct C.refuses self.old)) }
+        ensures reports { OnOk result (reports.new.items ≡ reports.old.items ++ reports_of (acting C.step C.pack C.unpack self.old)) }
+        ensures same_reports { OnErr result (reports.new.items ≡ reports.old.items) }
+    {
+        self.act_with(gate, true, reports)
+    }
+
+    // Acts, and adds what is to be reported where that is wanted.
+    fn act_with<G: Gate>(
+        &mut self,
+        gate: &G,
+        reporting: bool,
+        reports: &mut Vec<Report, A>,
+    ) -> Result<Option<Acted>, StepError>
+        ensures answer { IfOk result (λ acted. acted ≡ acted_of (acting C.step C.pack C.unpack self.old)) }
+        ensures ok { OnOk result (self.new ≡ pe_after self.old (acting C.step C.pack C.unpack self.old)) }
+        ensures err { OnErr result (self.new ≡ self.old) }
+        ensures enabled { OnErr result (IsSome (acting C.step C.pack C.unpack self.old)) }
+        ensures refused { IfErr result (RefusesStep (RefusesAct C.refuses self.old)) }
+        ensures reports { OnOk result (reports.new.items ≡ reported reporting reports.old.items (reports_of (acting C.step C.pack C.unpack self.old))) }
+        ensures same_reports { OnErr result (reports.new.items ≡ reports.old.items) }
+    {
+        let Some(Addressed { parcel, address }) = self.hand.take() else {
+            return Ok(None);
+        };
+        match parcel {
+            Carried::Letter(letter) => {
+                self.act_on_letter(gate, letter, address, reporting, reports)
+            }
+            Carried::Element(element) => {
+                self.act_on_element(element, address, reporting, reports)
+            }
+        }
+    }
+}
+
+impl<C: Chare<A>, H: Openings<C>, A: Allocator + Copy> PeState<C, H, A> {
+    // Acts on a letter that was taken from the hand.
+    fn act_on_letter<G: Gate>(
+        &mut self,
+        gate: &G,
+        letter: Letter<A>,
+        look: Option<Pe>,
+        reporting: bool,
+        reports: &mut Vec<Report, A>,
+    ) -> Result<Option<Acted>, StepError>
+        requires empty { self.old.hand ≡ None }
+        requires below { IsBelow H.pes look }
+        ensures answer { IfOk result (λ acted. acted ≡ acted_of (on_letter C.step C.pack self.old letter look (found letter.to self.old.room))) }
+        ensures ok { OnOk result (self.new ≡ pe_after (held self.old (Carried.Letter letter) look) (on_letter C.step C.pack self.old letter look (found letter.to self.old.room))) }
+        ensures err { OnErr result (self.new ≡ held self.old (Carried.Letter letter) look) }
+        ensures enabled { OnErr result (IsSome (on_letter C.step C.pack self.old letter look (found letter.to self.old.room))) }
+        ensures refused { IfErr result (RefusesStep (RefusesParcel C.refuses self.old (Carried.Letter letter))) }
+        ensures reports { OnOk result (reports.new.items ≡ reported reporting reports.old.items (reports_of (on_letter C.step C.pack self.old letter look (found letter.to self.old.room)))) }
+        ensures same_reports { OnErr result (reports.new.items ≡ reports.old.items) }
+    {
+        let Some(element) = self.room.element(letter.to()) else {
+            return self.pass_on(letter, look, reporting, reports);
+        };
+        if !element.progress().started {
+            self.hold(Carried::Letter(letter), look);
+            return Ok(None);
+        }
+        self.execute(gate, letter, look, reporting, reports)?;
+        Ok(Some(Acted::Executed))
+    }
+
+    // Puts a parcel back into the hand.
+    fn hold(&mut self, parcel: Parcel<C, H, A>, look: Option<Pe>)
+        requires below { IsBelow H.pes look }
+        ensures ok { self.new ≡ held self.old parcel look }
+    {
+        self.hand = Some(Addressed {
+            parcel,
+            address: look,
+        });
+    }
+
+    // Executes a letter by its element, which stands here and has started.
+    fn execute<G: Gate>(
+        &mut self,
+        gate: &G,
+        letter: Letter<A>,
+        look: Option<Pe>,
+        reporting: bool,
+        reports: &mut Vec<Report, A>,
+    ) -> Result<(), StepError>
+        requires empty { self.old.hand ≡ None }
+        requires below { IsBelow H.pes look }
+        requires stands { IsSome (found letter.to self.old.room) }
+        ensures ok { OnOk result (IfSome (found letter.to self.old.room) (λ el. self.new ≡ handled C.step C.pack self.old letter.to el (Entry.Letter letter) None)) }
+        ensures err { OnErr result (self.new ≡ held self.old (Carried.Letter letter) look) }
+        ensures refused { IfErr result (RefusesStep (RefusesParcel C.refuses self.old (Carried.Letter letter))) }
+        ensures reports { OnOk result (IfSome (found letter.to self.old.room) (λ el. reports.new.items ≡ reported reporting reports.old.items (Report.Executed letter.id letter.to ∷ handler_posts C.step C.pack self.old el (Entry.Letter letter)))) }
+        ensures same_reports { OnErr result (reports.new.items ≡ reports.old.items) }
+    {
+        if self.notes.reserve(1).is_err() {
+            self.hold(Carried::Letter(letter), look);
+            return Err(StepError::OutOfMemory);
+        }
+        let answer = lent::execute(
+            self.alloc,
+            gate,
+            self.me,
+            self.n,
+            letter,
+            &mut self.room,
+            &mut self.outbox,
+            &mut self.count,
+            self.kept.is_some(),
+            reporting,
+            reports,
+        );
+        match answer {
+            Ok(note) => {
+                if let Some(note) = note {
+                    self.notes.push_back_reserved(note);
+                }
+                self.kept = None;
+                Ok(())
+            }
+            Err(unread) => {
+                let Unread { letter, error } = unread;
+                self.hold(Carried::Letter(letter), look);
+                Err(StepError::from(error))
+            }
+        }
+    }
+
+    // Acts on a letter whose element does not stand here.
+    fn pass_on(
+        &mut self,
+        letter: Letter<A>,
+        look: Option<Pe>,
+        reporting: bool,
+        reports: &mut Vec<Report, A>,
+    ) -> Result<Option<Acted>, StepError>
+        requires empty { self.old.hand ≡ None }
+        requires below { IsBelow H.pes look }
+        ensures answer { IfOk result (λ acted. acted ≡ acted_of (passing self.old letter look)) }
+        ensures ok { OnOk result (self.new ≡ pe_after (held self.old (Carried.Letter letter) look) (passing self.old letter look)) }
+        ensures err { OnErr result (self.new ≡ held self.old (Carried.Letter letter) look) }
+        ensures enabled { OnErr result (IsSome (passing self.old letter look)) }
+        ensures only_memory { IfErr result (λ error. error ≡ OutOfMemory) }
+        ensures reports { OnOk result (reports.new.items ≡ reported reporting reports.old.items (reports_of (passing self.old letter look))) }
+        ensures same_reports { OnErr result (reports.new.items ≡ reports.old.items) }
+    {
+        let Some(to) = look else {
+            self.hold(Carried::Letter(letter), look);
+            return Ok(None);
+        };
+        if to == self.me {
+            self.shelve(letter, to, reporting, reports)?;
+            return Ok(Some(Acted::Shelved));
+        }
+        self.forward(letter, to, reporting, reports)?;
+        Ok(Some(Acted::Forwarded))
+    }
+
+    // Puts a letter to the shelf.
+    fn shelve(
+        &mut self,
+        letter: Letter<A>,
+        look: Pe,
+        reporting: bool,
+        reports: &mut Vec<Report, A>,
+    ) -> Result<(), AllocError>
+        requires empty { self.old.hand ≡ None }
+        requires below { look < H.pes }
+        ensures ok { OnOk result (self.new ≡ (shelving self.old letter).pe) }
+        ensures err { OnErr result (self.new ≡ held self.old (Carried.Letter letter) (Some look)) }
+        ensures reports { OnOk result (reports.new.items ≡ reported reporting reports.old.items (shelving self.old letter).reports) }
+        ensures same_reports { OnErr result (reports.new.items ≡ reports.old.items) }
+    {
+        if room_for_report(reports, reporting).is_err() {
+            self.hold(Carried::Letter(letter), Some(look));
+            return Err(AllocError);
+        }
+        let id = letter.id();
+        if let Err(refused) = self.shelf.push(letter) {
+            self.hold(Carried::Letter(refused.value), Some(look));
+            return Err(AllocError);
+        }
+        add_report(reports, reporting, Report::Shelved(id));
+        self.kept = None;
+        Ok(())
+    }
+
+    // Sends a letter on to the PE where its element was looked for.
+    fn forward(
+        &mut self,
+        mut letter: Letter<A>,
+        to: Pe,
+        reporting: bool,
+        reports: &mut Vec<Report, A>,
+    ) -> Result<(), AllocError>
+        requires empty { self.old.hand ≡ None }
+        requires below { to < H.pes }
+        ensures ok { OnOk result (self.new ≡ (forwarding self.old letter to).pe) }
+        ensures err { OnErr result (self.new ≡ held self.old (Carried.Letter letter) (Some to)) }
+        ensures reports { OnOk result (reports.new.items ≡ reported reporting reports.old.items (forwarding self.old letter to).reports) }
+        ensures same_reports { OnErr result (reports.new.items ≡ reports.old.items) }
+    {
+        if room_for_report(reports, reporting).is_err() {
+            self.hold(Carried::Letter(letter), Some(to));
+            return Err(AllocError);
+        }
+        if self.outbox.reserve(1).is_err() {
+            self.hold(Carried::Letter(letter), Some(to));
+            return Err(AllocError);
+        }
+        add_report(reports, reporting, Report::Forwarded(letter.id()));
+        letter.hop();
+        self.outbox.push_back_reserved(Addressed {
+            parcel: Carried::Letter(letter),
+            address: Some(to),
+        });
+        self.kept = None;
+        Ok(())
+    }
+}
+
+impl<C: Chare<A>, H: Openings<C>, A: Allocator + Copy> PeState<C, H, A> {
+    // Acts on an element that was taken from the hand.
+    fn act_on_element(
+        &mut self,
+        element: PackedElement<C, H, A>,
+        look: Option<Pe>,
+        reporting: bool,
+        reports: &mut Vec<Report, A>,
+    ) -> Result<Option<Acted>, StepError>
+        requires empty { self.old.hand ≡ None }
+        requires below { IsBelow H.pes look }
+        ensures answer { IfOk result (λ acted. acted ≡ acted_of (on_element C.step C.pack C.unpack self.old element (found element.index self.old.room))) }
+        ensures ok { OnOk result (self.new ≡ pe_after (held self.old (Carried.Element element) look) (on_element C.step C.pack C.unpack self.old element (found element.index self.old.room))) }
+        ensures err { OnErr result (self.new ≡ held self.old (Carried.Element element) look) }
+        ensures enabled { OnErr result (IsSome (on_element C.step C.pack C.unpack self.old element (found element.index self.old.room))) }
+        ensures only_memory { IfErr result (λ error. error ≡ OutOfMemory) }
+        ensures reports { OnOk result (reports.new.items ≡ reported reporting reports.old.items (reports_of (on_element C.step C.pack C.unpack self.old element (found element.index self.old.room)))) }
+        ensures same_reports { OnErr result (reports.new.items ≡ reports.old.items) }
+    {
+        if self.room.element(element.index()).is_some() {
+            self.hold(Carried::Element(element), look);
+            return Ok(None);
+        }
+        let Ok(chare) = element.unpack(self.alloc) else {
+            self.hold(Carried::Element(element), look);
+            return Err(StepError::OutOfMemory);
+        };
+        self.install(element, chare, look, reporting, reports)?;
+        Ok(Some(Acted::Installed))
+    }
+}
+
+impl<C: Chare<A>, H: Openings<C>, A: Allocator + Copy> PeState<C, H, A> {
+    // Takes in an element with the chare that its bytes unpacked to, and lets its letters leave the shelf.
+    fn install(
+        &mut self,
+        element: PackedElement<C, H, A>,
+        chare: C,
+        look: Option<Pe>,
+        reporting: bool,
+        reports: &mut Vec<Report, A>,
+    ) -> Result<(), AllocError>
+        requires empty { self.old.hand ≡ None }
+        requires below { IsBelow H.pes look }
+        requires lacks { found element.index self.old.room ≡ None }
+        requires history { IsHistory C.step C.pack H.opened (unpacked element chare) }
+        ensures ok { OnOk result (self.new ≡ installed self.old element chare) }
+        ensures err { OnErr result (self.new ≡ held self.old (Carried.Element element) look) }
+        ensures reports { OnOk result (reports.new.items ≡ reported reporting reports.old.items (Report.Installed element.index ∷ [])) }
+        ensures same_reports { OnErr result (reports.new.items ≡ reports.old.items) }
+    {
+        if room_for_report(reports, reporting).is_err() {
+            self.hold(Carried::Element(element), look);
+            return Err(AllocError);
+        }
+        if self.outbox.reserve(self.shelf.len()).is_err() {
+            self.hold(Carried::Element(element), look);
+            return Err(AllocError);
+        }
+        let Ok(rest) = Vec::with_capacity(self.alloc, self.shelf.len()) else {
+            self.hold(Carried::Element(element), look);
+            return Err(AllocError);
+        };
+        let index = element.index();
+        if let Err(refused) = self.room.install(element, chare) {
+            self.hold(Carried::Element(refused.value), look);
+            return Err(AllocError);
+        }
+        add_report(reports, reporting, Report::Installed(index));
+        let shelf = replace(&mut self.shelf, rest);
+        unshelve(index, self.me, shelf, &mut self.shelf, &mut self.outbox);
+        self.kept = None;
+        Ok(())
+    }
+}
