@@ -3,7 +3,7 @@
 -- is forwarded. That a letter which comes before its element waits on a shelf is this project's choice.
 use Rattle.std.specs.Prelude.{◌≡◌, ℕ, zero, suc, ◌+◌, ◌==◌, List, [], ◌∷◌, ◌++◌, length, map, drop, Option, None, Some, Bool, true, false, not, ◌&&◌, if◌then◌else◌, Result, Ok, Err, is_some}
 use Rattle.std.specs.List.{filter}
-use Rattle.std.specs.Option.{option_map, option_or, option_to_list}
+use Rattle.std.specs.Option.{option_map, option_map_or, option_or, option_to_list}
 use Rattle.chares.specs.declared.carried.Addressed.{Addressed}
 use Rattle.chares.specs.declared.carried.Carried.{Carried}
 use Rattle.chares.specs.declared.carried.Carried.TheVariants.{Letter, Element}
@@ -12,14 +12,14 @@ use Rattle.chares.specs.declared.note.Note.{Note}
 use Rattle.chares.specs.declared.progress.Progress.{Progress}
 use Rattle.chares.specs.declared.report.Report.{Report}
 use Rattle.chares.specs.declared.report.Report.TheVariants as Tells
-use Rattle.chares.specs.Elements.{ElementView, PackedView, opening_element, outcome_of, note_of, ran, packed, unpacked}
+use Rattle.chares.specs.Elements.{ElementView, PackedView, opening_element, packed, unpacked}
 use Rattle.chares.specs.Letters.{LetterView, Done, hopped}
 use Rattle.chares.specs.Posting.{Out, letters_of, posts_of}
 use Rattle.chares.specs.Steps.{Step}
 use Rattle.pup_pack.specs.declared.error.PupError.{PupError}
 use Rattle.pe_state.specs.declared.acted.Acted.{Acted}
 use Rattle.pe_state.specs.declared.acted.Acted.TheVariants.{Executed, Shelved, Forwarded, Installed}
-use Rattle.pe_state.specs.Rooms.{found, changed, joined, without}
+use Rattle.pe_state.specs.Rooms.{found, joined, without, ran_in, sends_in, note_in}
 
 -- what is carried from PE to PE
 abbrev pub Parcel : Type 0
@@ -50,6 +50,10 @@ at_pe q x = record { parcel = x.parcel; address = Some q }
 -- a letter with an address
 abbrev pub letter_at : ℕ → LetterView → Item
 letter_at q l = record { parcel = Letter l; address = Some q }
+
+-- an element with an address
+abbrev pub element_at : ℕ → PackedView → Item
+element_at q p = record { parcel = Element p; address = Some q }
 
 -- the element of a letter that has no address
 abbrev pub unaddressed : Parcel → Option ℕ → Option ℕ
@@ -132,11 +136,6 @@ module _ {C : Type 0} where
   abbrev pub noted : PeView C → PeView C
   noted pe = record pe { notes = drop 1 pe.notes; kept = None }
 
--- What a call of a PE comes to that may run a handler: the PE after it, and its reports in order.
-pub record After (C : Type 0) : Type 0 where
-  pub pe : PeView C
-  pub reports : List Report
-
 -- What Act comes to: which of its four cases it is, and what after it.
 pub record Acting (C : Type 0) : Type 0 where
   pub acted : Acted
@@ -179,69 +178,55 @@ module _ {C : Type 0} where
       }
 
 module _ {C : Type 0} (pack : C → List ℕ) where
-  -- Depart, but for the word: the element, packed, goes to the back of the outbox
-  abbrev pub departed_in : PeView C → ℕ → ℕ → Option (ElementView C) → PeView C
-  departed_in pe e q None = pe
-  departed_in pe e q (Some el) =
+  -- Depart, but for the word: an element that stands in the room is packed and goes to the back of the outbox
+  abbrev pub departed : PeView C → ℕ → ℕ → PeView C
+  departed pe e q =
       record pe {
         room = without e pe.room;
-        outbox = pe.outbox ++ record { parcel = Element (packed pack el); address = Some q } ∷ [];
+        outbox = pe.outbox ++ option_to_list (option_map (element_at q) (option_map (packed pack) (found e pe.room)));
         kept = None;
       }
 
-  abbrev pub departed : PeView C → ℕ → ℕ → PeView C
-  departed pe e q = departed_in pe e q (found e pe.room)
-
 module _ {C : Type 0} (step : Step C) (pack : C → List ℕ) where
-  -- the sends of an element's handler for this entry
-  abbrev pub sends_of : PeView C → ElementView C → Done → List (ℕ × List ℕ)
-  sends_of pe el done = (outcome_of step pack el pe.n done).sends
-
-  -- The PE after the handler of element e, which stands in its room as el, with this entry and this hand: the element
-  -- has run, its sends are letters at the back of the outbox, and the note that is owed, if any, is the last one.
-  abbrev pub handled : PeView C → ℕ → ElementView C → Done → Option Item → PeView C
-  handled pe e el done hand =
+  -- The PE after the handler of an element that stands in its room, with this entry and this hand: the element has run,
+  -- its sends are letters at the back of the outbox, and the note that is owed, if any, is the last one.
+  abbrev pub handled : PeView C → ℕ → Done → Option Item → PeView C
+  handled pe e done hand =
       record {
         me = pe.me;
         n = pe.n;
-        room = changed e (ran step pack el pe.n pe.me done) pe.room;
+        room = ran_in step pack pe.room e pe.n pe.me done;
         hand = hand;
         shelf = pe.shelf;
-        outbox = pe.outbox ++ letters_of pe.me pe.count (sends_of pe el done);
-        notes = pe.notes ++ option_to_list (note_of step pack el pe.n pe.me done);
-        count = pe.count + length (sends_of pe el done);
+        outbox = pe.outbox ++ letters_of pe.me pe.count (sends_in step pack pe.room e pe.n done);
+        notes = pe.notes ++ option_to_list (note_in step pack pe.room e pe.n pe.me done);
+        count = pe.count + length (sends_in step pack pe.room e pe.n done);
         kept = None;
       }
 
   -- the reports of what that handler posted
-  abbrev pub handler_posts : PeView C → ElementView C → Done → List Report
-  handler_posts pe el done = posts_of pe.me pe.count (sends_of pe el done)
+  abbrev pub handler_posts : PeView C → ℕ → Done → List Report
+  handler_posts pe e done = posts_of pe.me pe.count (sends_in step pack pe.room e pe.n done)
 
-  -- Start, where the round is 0, and Resume: the element runs with its resumption
-  abbrev pub resumed_in : PeView C → ℕ → ℕ → Option (ElementView C) → After C
-  resumed_in pe e round None = record { pe = pe; reports = [] }
-  resumed_in pe e round (Some el) =
-      record {
-        pe = handled pe e el (Resumption round) pe.hand;
-        reports = Tells.Resumed e round ∷ handler_posts pe el (Resumption round);
-      }
+  -- Start, where the round is 0, and Resume: an element that stands in the room runs with its resumption
+  abbrev pub resumed : PeView C → ℕ → ℕ → PeView C
+  resumed pe e round = handled pe e (Resumption round) pe.hand
 
-  abbrev pub resumed : PeView C → ℕ → ℕ → After C
-  resumed pe e round = resumed_in pe e round (found e pe.room)
+  -- the reports of that
+  abbrev pub resume_reports : PeView C → ℕ → ℕ → List Report
+  resume_reports pe e round = Tells.Resumed e round ∷ handler_posts pe e (Resumption round)
 
   -- Act on a letter whose element is in the room: it executes the letter, if it has started
-  abbrev pub executing : PeView C → LetterView → ElementView C → Option (Acting C)
-  executing pe l el =
-      if el.progress.started
-      then Some (record {
+  abbrev pub executed : PeView C → LetterView → Acting C
+  executed pe l =
+      record {
         acted = Executed;
-        pe = handled pe l.to el (OfLetter l) None;
-        reports = Tells.Executed l.id l.to ∷ handler_posts pe el (OfLetter l);
-      })
-      else None
+        pe = handled pe l.to (OfLetter l) None;
+        reports = Tells.Executed l.id l.to ∷ handler_posts pe l.to (OfLetter l);
+      }
 
   abbrev pub on_letter : PeView C → LetterView → Option ℕ → Option (ElementView C) → Option (Acting C)
-  on_letter pe l look (Some el) = executing pe l el
+  on_letter pe l look (Some el) = if el.progress.started then Some (executed pe l) else None
   on_letter pe l look None = passing pe l look
 
   module _ (unpack : List ℕ → Result (C × ℕ) PupError) where
@@ -280,6 +265,14 @@ abbrev pub reports_of : {C : Type 0} → Option (Acting C) → List Report
 reports_of None = []
 reports_of (Some a) = a.reports
 
--- whether an element starts, where the round is 0, or may be resumed after this round, since it waits for its end
-abbrev pub is_due : Progress → ℕ → Bool
-is_due p round = if round == 0 then not p.started else (p.synced && (p.round + 1 == round))
+-- whether an element starts, where the round is 0, or else waits for the end of this round
+abbrev pub is_due : ℕ → Progress → Bool
+is_due round p = if round == 0 then not p.started else (p.synced && (p.round + 1 == round))
+
+-- whether such an element stands in the room of a PE
+abbrev pub may_resume : {C : Type 0} → PeView C → ℕ → ℕ → Bool
+may_resume pe e round = option_map_or (λ el. is_due round el.progress) (found e pe.room) false
+
+-- whether an element stands in the room of a PE that waits for the end of its round
+abbrev pub may_depart : {C : Type 0} → PeView C → ℕ → Bool
+may_depart pe e = option_map_or (λ el. el.progress.synced) (found e pe.room) false

@@ -1,5 +1,5 @@
 -- That what a PE holds is addressed to PEs that there are.
-use Rattle.std.specs.Prelude.{ℕ, ◌<◌, List, All, Option, IfSome}
+use Rattle.std.specs.Prelude.{ℕ, ◌<◌, List, [], ◌∷◌, Option, IfSome}
 use Rattle.pe_state.specs.Pes.{Item}
 
 -- a PE, if there is one, is one of the first `pes`
@@ -8,7 +8,8 @@ IsBelow pes address = IfSome address (λ q. q < pes)
 
 -- so is the address of each parcel of an outbox
 abbrev pub AreBelow : ℕ → List Item → Type 0
-AreBelow pes outbox = All (λ x. IsBelow pes x.address) outbox
+AreBelow pes [] = Unit {0}
+AreBelow pes (x ∷ xs) = IsBelow pes x.address × AreBelow pes xs
 
 -- so is the look of a parcel in a hand
 abbrev pub IsHandBelow : ℕ → Option Item → Type 0

@@ -1,9 +1,8 @@
 //! A PE.
 
-ghost use Rattle.std.specs.Prelude.{◌≡◌, ◌≢◌, ℕ, ◌+◌, ◌++◌, ◌∷◌, [], ◌<◌, ◌≤◌, List, length, IfOk, IfErr, OnOk, OnErr, IfSome, IsSome, IsTrue, ◌↔◌, Ok, None, Some, slice_get, true, false};
+ghost use Rattle.std.specs.Prelude.{◌≡◌, ◌≢◌, ℕ, ◌+◌, ◌++◌, ◌∷◌, [], ◌<◌, ◌≤◌, List, length, IfOk, IfErr, OnOk, OnErr, IfSome, IsSome, None, Some, slice_get, true, false};
 ghost use Rattle.std.specs.Option.{option_copied};
-ghost use Rattle.pe_state.specs.Pes.{PeView, new_pe, placed, received, wanted, hand_wants, looked, unaddressed, is_due, front_parcel, front_address, gave_up, handed_back, noted, resumed, departed, acting, acted_of, pe_after, reports_of};
-ghost use Rattle.pe_state.specs.Refusals.{RefusesStep, RefusesAct, RefusesResume, CanResume, CanDepart};
+ghost use Rattle.pe_state.specs.Pes.{PeView, new_pe, placed, received, wanted, hand_wants, looked, front_at, unaddressed, is_due, front_parcel, front_address, gave_up, handed_back, noted, may_resume, may_depart, departed};
 ghost use Rattle.pe_state.specs.Rooms.{found};
 ghost use Rattle.pe_state.specs.declared.error.StepError.TheVariants.{OutOfMemory};
 
@@ -40,7 +39,7 @@ pub struct PeState<C: Chare<A>, H: Openings<C>, A: Allocator = Global> {
     // What was taken from the queue last, with the PE that a look gave.
     hand: Option<Item<C, H, A>>,
     // Letters that came before their element, in the order in which they came.
-    shelf: Vec<Letter<A>, A>,
+    shelf: VecDeque<Letter<A>, A>,
     // What leaves this PE, the first first.
     outbox: VecDeque<Item<C, H, A>, A>,
     // What it owes the board, the first first.
@@ -115,10 +114,10 @@ impl<C: Chare<A>, H: Openings<C>, A: Allocator> PeState<C, H, A> {
     }
 
     /// The letters that came before their element, in the order in which they came.
-    pub fn shelf(&self) -> &[Letter<A>]
-        ensures value { result.now ≡ self.now.shelf }
+    pub fn shelf(&self) -> &VecDeque<Letter<A>, A>
+        ensures value { result.now.items ≡ self.now.shelf }
     {
-        self.shelf.as_slice()
+        &self.shelf
     }
 
     /// The parcels that leave this PE, the first first, with the PEs that they go to.
@@ -163,6 +162,7 @@ impl<C: Chare<A>, H: Openings<C>, A: Allocator> PeState<C, H, A> {
     }
 
     /// The PE that the front of the outbox goes to, or `None` where it has no address yet or there is none.
+    #[tactic(auto, using(crate::proofs::Below::front_below))]
     pub fn front_out(&self) -> Option<Pe>
         ensures value { result ≡ front_address self.now.outbox }
         ensures below { IfSome result (λ to. to < H.pes) }
@@ -175,12 +175,13 @@ impl<C: Chare<A>, H: Openings<C>, A: Allocator> PeState<C, H, A> {
     pub fn next_note(&self) -> Option<Note>
         ensures value { result ≡ slice_get self.now.notes 0 }
     {
-        self.notes.front().copied()
+        let note = self.notes.front()?;
+        Some(*note)
     }
 
     /// Whether an element stands here that may be resumed after this round, or started where that is 0.
-    pub fn can_resume(&self, index: Index, round: Round) -> bool
-        ensures value { IsTrue result ↔ CanResume self.now index round }
+    pub fn may_resume(&self, index: Index, round: Round) -> bool
+        ensures value { result ≡ may_resume self.now index round }
     {
         let Some(element) = self.room.element(index) else {
             return false;
@@ -189,8 +190,8 @@ impl<C: Chare<A>, H: Openings<C>, A: Allocator> PeState<C, H, A> {
     }
 
     /// Whether an element stands here that waits for the end of its round, and so may depart.
-    pub fn can_depart(&self, index: Index) -> bool
-        ensures value { IsTrue result ↔ CanDepart self.now index }
+    pub fn may_depart(&self, index: Index) -> bool
+        ensures value { result ≡ may_depart self.now index }
     {
         let Some(element) = self.room.element(index) else {
             return false;
@@ -213,6 +214,24 @@ impl<C: Chare<A>, H: Openings<C>, A: Allocator> PeState<C, H, A> {
     }
 }
 
+impl<C: Chare<A>, H: Openings<C>, A: Allocator> PeState<C, H, A> {
+    // Gives the front of the outbox, if there is one, this address.
+    #[tactic(auto, using(crate::proofs::Below::rest_below))]
+    fn address_front(&mut self, to: Pe)
+        requires known { to < H.pes }
+        requires no_address { self.old.kept ≡ None }
+        ensures ok { self.new ≡ record self.old { outbox = front_at to self.old.outbox } }
+    {
+        let Some(Addressed { parcel, address: _ }) = self.outbox.pop_front() else {
+            return;
+        };
+        self.outbox.push_front_reserved(Addressed {
+            parcel,
+            address: Some(to),
+        });
+    }
+}
+
 impl<C: Chare<A>, H: Openings<C>, A: Allocator + Copy> PeState<C, H, A> {
     /// PE `me` of `pes`, as an array of `n` elements opens, before any is placed.
     pub fn new(alloc: A, me: Pe, pes: u32, n: u32) -> Self
@@ -228,7 +247,7 @@ impl<C: Chare<A>, H: Openings<C>, A: Allocator + Copy> PeState<C, H, A> {
             n,
             room: Room::new(alloc),
             hand: None,
-            shelf: Vec::new(alloc),
+            shelf: VecDeque::new(alloc),
             outbox: VecDeque::new(alloc),
             notes: VecDeque::new(alloc),
             count: 0,
@@ -268,17 +287,22 @@ impl<C: Chare<A>, H: Openings<C>, A: Allocator + Copy> PeState<C, H, A> {
         requires known { believed < H.pes }
         ensures ok { self.new ≡ looked self.old believed }
     {
-        if self.hand_wants().is_some() {
-            if let Some(item) = &mut self.hand {
-                item.address = Some(believed);
-            }
-        } else if let Some(front) = self.outbox.front_mut() {
-            front.address = Some(believed);
-        }
         self.kept = None;
+        let Some(_) = self.hand_wants() else {
+            self.address_front(believed);
+            return;
+        };
+        let Some(Addressed { parcel, address: _ }) = self.hand.take() else {
+            unreachable!()
+        };
+        self.hand = Some(Addressed {
+            parcel,
+            address: Some(believed),
+        });
     }
 
     /// Gives up the front of the outbox, which has an address, and keeps that.
+    #[tactic(auto, using(crate::proofs::Below::first_below, crate::proofs::Below::rest_below))]
     pub fn sent(&mut self) -> Parcel<C, H, A>
         requires addressed { IsSome (front_address self.old.outbox) }
         ensures value { front_parcel self.old.outbox ≡ Some result }
@@ -314,8 +338,9 @@ impl<C: Chare<A>, H: Openings<C>, A: Allocator + Copy> PeState<C, H, A> {
     /// to the PE where it is to be. Where its round is decided and gives it this place the caller has seen; it stores
     /// the element's location word next, before any other step of this PE. The only refusal is
     /// [`OutOfMemory`](StepError::OutOfMemory).
+    #[tactic(auto, using(crate::proofs::Below::last_below))]
     pub fn depart(&mut self, index: Index, to: Pe) -> Result<(), StepError>
-        requires waits { CanDepart self.old index }
+        requires waits { may_depart self.old index ≡ true }
         requires known { to < H.pes }
         ensures ok { OnOk result (self.new ≡ departed C.pack self.old index to) }
         ensures err { OnErr result (self.new ≡ self.old) }
@@ -347,7 +372,7 @@ fn unaddressed<C: Chare<A>, H: Openings<C>, A: Allocator>(item: &Item<C, H, A>) 
 
 // Whether an element starts, where the round is 0, or waits for the end of this round.
 fn is_due(progress: Progress, round: Round) -> bool
-    ensures value { result ≡ is_due progress round }
+    ensures value { result ≡ is_due round progress }
 {
     if round.get() == 0 {
         return !progress.started;

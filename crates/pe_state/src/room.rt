@@ -1,13 +1,13 @@
 //! The elements that stand on a PE.
 
-ghost use Rattle.std.specs.Prelude.{◌≡◌, ◌≢◌, ℕ, ◌<◌, ◌≤◌, [], List, length, IfOk, IfErr, OnOk, OnErr, IfSome, IsSome, None, Some, slice_get, true};
-ghost use Rattle.std.specs.Option.{option_copied};
+ghost use Rattle.std.specs.Prelude.{◌≡◌, ◌≢◌, ℕ, ◌<◌, ◌≤◌, [], List, length, IfOk, IfErr, OnOk, OnErr, IfSome, IsSome, IsTrue, ◌↔◌, None, Some, slice_get, true};
+ghost use Rattle.std.specs.Option.{option_copied, option_map};
 ghost use Rattle.chares.specs.declared.entry.Entry.{Entry};
 ghost use Rattle.chares.specs.declared.report.Report.{Report};
 ghost use Rattle.chares.specs.declared.sends.SendError.TheVariants.{OutOfMemory};
-ghost use Rattle.chares.specs.Elements.{ElementView, opening_element, outcome_of, note_of, ran, packed, unpacked, IsHistory};
+ghost use Rattle.chares.specs.Elements.{ElementView, opening_element, packed, unpacked, IsHistory};
 ghost use Rattle.chares.specs.Posting.{posted, with_report};
-ghost use Rattle.pe_state.specs.Rooms.{found, changed, joined, without, IsKeyed};
+ghost use Rattle.pe_state.specs.Rooms.{found, joined, without, ran_in, sends_in, note_in, RefusesIn};
 
 use chare_index::{Gate, Index, Limits, Pe, Round};
 use chares::{
@@ -47,7 +47,7 @@ impl<C: Chare<A>, H: Openings<C>, A: Allocator> Room<C, H, A> {
 
     /// Whether no element stands in it.
     pub fn is_empty(&self) -> bool
-        ensures value { result ≡ (length self.now == 0) }
+        ensures value { IsTrue result ↔ (length self.now ≡ 0) }
     {
         self.map.is_empty()
     }
@@ -93,6 +93,7 @@ impl<C: Chare<A>, H: Openings<C>, A: Allocator + Copy> Room<C, H, A> {
     }
 
     /// Executes a letter by its element, which stands here.
+    #[tactic(auto, using(std::proofs::lemmas::Map::Steps::set_value_same))]
     pub(crate) fn execute<G: Gate, P: Drop>(
         &mut self,
         gate: &G,
@@ -103,12 +104,12 @@ impl<C: Chare<A>, H: Openings<C>, A: Allocator + Copy> Room<C, H, A> {
         requires stands { IsSome (found letter.to self.old) }
         requires same_array { sends.old.n ≡ length H.opened }
         requires few { length H.opened ≤ Limits.ELEMENTS }
-        ensures room { OnOk result (IfSome (found letter.to self.old) (λ el. self.new ≡ changed letter.to (ran C.step C.pack el (length H.opened) pe (Entry.Letter letter)) self.old)) }
-        ensures note { IfOk result (λ note. IfSome (found letter.to self.old) (λ el. note ≡ note_of C.step C.pack el (length H.opened) pe (Entry.Letter letter))) }
-        ensures sends { OnOk result (IfSome (found letter.to self.old) (λ el. sends.new ≡ posted (with_report sends.old (Report.Executed letter.id letter.to)) (outcome_of C.step C.pack el (length H.opened) (Entry.Letter letter)).sends)) }
+        ensures room { OnOk result (self.new ≡ ran_in C.step C.pack self.old letter.to (length H.opened) pe (Entry.Letter letter)) }
+        ensures note { IfOk result (λ note. note ≡ note_in C.step C.pack self.old letter.to (length H.opened) pe (Entry.Letter letter)) }
+        ensures sends { OnOk result (sends.new ≡ posted (with_report sends.old (Report.Executed letter.id letter.to)) (sends_in C.step C.pack self.old letter.to (length H.opened) (Entry.Letter letter))) }
         ensures err { OnErr result (self.new ≡ self.old) }
         ensures letter { IfErr result (λ unread. unread.letter ≡ letter) }
-        ensures refused { IfErr result (λ unread. unread.error ≢ OutOfMemory → IfSome (found letter.to self.old) (λ el. C.refuses el.chare el.index (length H.opened) sends.old.count (Entry.Letter letter.body) unread.error)) }
+        ensures refused { IfErr result (λ unread. unread.error ≢ OutOfMemory → RefusesIn C.refuses self.old letter.to (length H.opened) sends.old.count (Entry.Letter letter.body) unread.error) }
         ensures taken_back { OnErr result (sends.new ≡ sends.old) }
     {
         let Some(element) = self.map.get_mut(&letter.to().get()) else {
@@ -118,6 +119,7 @@ impl<C: Chare<A>, H: Openings<C>, A: Allocator + Copy> Room<C, H, A> {
     }
 
     /// Resumes an element after this round, or starts it where that is 0. It stands here.
+    #[tactic(auto, using(std::proofs::lemmas::Map::Steps::set_value_same))]
     pub(crate) fn resume<G: Gate, P: Drop>(
         &mut self,
         gate: &G,
@@ -130,11 +132,11 @@ impl<C: Chare<A>, H: Openings<C>, A: Allocator + Copy> Room<C, H, A> {
         requires same_array { sends.old.n ≡ length H.opened }
         requires few { length H.opened ≤ Limits.ELEMENTS }
         requires before_last_round { round < Limits.ROUND }
-        ensures room { OnOk result (IfSome (found index self.old) (λ el. self.new ≡ changed index (ran C.step C.pack el (length H.opened) pe (Entry.Resumption round)) self.old)) }
-        ensures note { IfOk result (λ note. IfSome (found index self.old) (λ el. note ≡ note_of C.step C.pack el (length H.opened) pe (Entry.Resumption round))) }
-        ensures sends { OnOk result (IfSome (found index self.old) (λ el. sends.new ≡ posted (with_report sends.old (Report.Resumed index round)) (outcome_of C.step C.pack el (length H.opened) (Entry.Resumption round)).sends)) }
+        ensures room { OnOk result (self.new ≡ ran_in C.step C.pack self.old index (length H.opened) pe (Entry.Resumption round)) }
+        ensures note { IfOk result (λ note. note ≡ note_in C.step C.pack self.old index (length H.opened) pe (Entry.Resumption round)) }
+        ensures sends { OnOk result (sends.new ≡ posted (with_report sends.old (Report.Resumed index round)) (sends_in C.step C.pack self.old index (length H.opened) (Entry.Resumption round))) }
         ensures err { OnErr result (self.new ≡ self.old) }
-        ensures refused { IfErr result (λ error. error ≢ OutOfMemory → IfSome (found index self.old) (λ el. C.refuses el.chare el.index (length H.opened) sends.old.count (Entry.Resumption round) error)) }
+        ensures refused { IfErr result (λ error. error ≢ OutOfMemory → RefusesIn C.refuses self.old index (length H.opened) sends.old.count (Entry.Resumption round) error) }
         ensures taken_back { OnErr result (sends.new ≡ sends.old) }
     {
         let Some(element) = self.map.get_mut(&index.get()) else {
@@ -145,6 +147,7 @@ impl<C: Chare<A>, H: Openings<C>, A: Allocator + Copy> Room<C, H, A> {
 
     /// Takes in an element that was packed, with the chare that its bytes unpacked to, where none with its index
     /// stands. Where no memory is left it comes back.
+    #[tactic(auto, using(crate::proofs::Keyed::keyed_joined))]
     pub(crate) fn install(
         &mut self,
         packed: PackedElement<C, H, A>,
@@ -170,7 +173,7 @@ impl<C: Chare<A>, H: Openings<C>, A: Allocator + Copy> Room<C, H, A> {
         index: Index,
     ) -> Result<PackedElement<C, H, A>, AllocError>
         requires stands { IsSome (found index self.old) }
-        ensures value { IfOk result (λ element. IfSome (found index self.old) (λ el. element ≡ packed C.pack el)) }
+        ensures value { IfOk result (λ element. option_map (packed C.pack) (found index self.old) ≡ Some element) }
         ensures ok { OnOk result (self.new ≡ without index self.old) }
         ensures err { OnErr result (self.new ≡ self.old) }
     {

@@ -3,7 +3,7 @@
 ghost use Rattle.std.specs.Prelude.{◌≡◌, ℕ, ◌++◌, ◌∷◌, [], ◌<◌, ◌≤◌, List, length, IfOk, IfErr, OnOk, OnErr, IfSome, IsSome, Ok, None, Some, true};
 ghost use Rattle.std.specs.VecDeque.{deque_len, deque_capacity};
 ghost use Rattle.chares.specs.Posting.{reported};
-ghost use Rattle.pe_state.specs.Pes.{PeView, acting, acted_of, pe_after, reports_of, on_letter, on_element, held, handled, handler_posts, passing, shelving, forwarding, installed};
+ghost use Rattle.pe_state.specs.Pes.{PeView, acting, acted_of, pe_after, reports_of, on_letter, on_element, held, executed, passing, shelving, forwarding, installed};
 ghost use Rattle.pe_state.specs.Refusals.{RefusesStep, RefusesAct, RefusesParcel};
 ghost use Rattle.pe_state.specs.Rooms.{found};
 ghost use Rattle.pe_state.specs.Standing.{IsBelow};
@@ -24,7 +24,7 @@ use chares::{
     room_for_report,
 };
 use std::alloc::{AllocError, AllocFailed, Allocator, Global};
-use std::mem::replace;
+use std::collections::VecDeque;
 
 impl<C: Chare<A>, H: Openings<C>, A: Allocator + Copy> PeState<C, H, A> {
     /// Acts on the parcel in its hand. An element is unpacked into the room, and its letters leave the shelf for the
@@ -67,6 +67,7 @@ impl<C: Chare<A>, H: Openings<C>, A: Allocator + Copy> PeState<C, H, A> {
     }
 
     // Acts, and adds what is to be reported where that is wanted.
+    #[tactic(auto, using(crate::proofs::Reports::reported_none))]
     fn act_with<G: Gate>(
         &mut self,
         gate: &G,
@@ -86,10 +87,12 @@ impl<C: Chare<A>, H: Openings<C>, A: Allocator + Copy> PeState<C, H, A> {
         };
         match parcel {
             Carried::Letter(letter) => {
-                self.act_on_letter(gate, letter, address, reporting, reports)
+                let acted = self.act_on_letter(gate, letter, address, reporting, reports)?;
+                Ok(acted)
             }
             Carried::Element(element) => {
-                self.act_on_element(element, address, reporting, reports)
+                let acted = self.act_on_element(element, address, reporting, reports)?;
+                Ok(acted)
             }
         }
     }
@@ -97,6 +100,7 @@ impl<C: Chare<A>, H: Openings<C>, A: Allocator + Copy> PeState<C, H, A> {
 
 impl<C: Chare<A>, H: Openings<C>, A: Allocator + Copy> PeState<C, H, A> {
     // Acts on a letter that was taken from the hand.
+    #[tactic(auto, using(crate::proofs::Reports::reported_none))]
     fn act_on_letter<G: Gate>(
         &mut self,
         gate: &G,
@@ -116,7 +120,8 @@ impl<C: Chare<A>, H: Openings<C>, A: Allocator + Copy> PeState<C, H, A> {
         ensures same_reports { OnErr result (reports.new.items ≡ reports.old.items) }
     {
         let Some(element) = self.room.element(letter.to()) else {
-            return self.pass_on(letter, look, reporting, reports);
+            let acted = self.pass_on(letter, look, reporting, reports)?;
+            return Ok(acted);
         };
         if !element.progress().started {
             self.hold(Carried::Letter(letter), look);
@@ -138,6 +143,7 @@ impl<C: Chare<A>, H: Openings<C>, A: Allocator + Copy> PeState<C, H, A> {
     }
 
     // Executes a letter by its element, which stands here and has started.
+    #[tactic(auto, using(crate::proofs::Below::posted_below, crate::proofs::Reasons::same_reason))]
     fn execute<G: Gate>(
         &mut self,
         gate: &G,
@@ -149,16 +155,20 @@ impl<C: Chare<A>, H: Openings<C>, A: Allocator + Copy> PeState<C, H, A> {
         requires empty { self.old.hand ≡ None }
         requires below { IsBelow H.pes look }
         requires stands { IsSome (found letter.to self.old.room) }
-        ensures ok { OnOk result (IfSome (found letter.to self.old.room) (λ el. self.new ≡ handled C.step C.pack self.old letter.to el (Entry.Letter letter) None)) }
+        ensures ok { OnOk result (self.new ≡ (executed C.step C.pack self.old letter).pe) }
         ensures err { OnErr result (self.new ≡ held self.old (Carried.Letter letter) look) }
         ensures refused { IfErr result (RefusesStep (RefusesParcel C.refuses self.old (Carried.Letter letter))) }
-        ensures reports { OnOk result (IfSome (found letter.to self.old.room) (λ el. reports.new.items ≡ reported reporting reports.old.items (Report.Executed letter.id letter.to ∷ handler_posts C.step C.pack self.old el (Entry.Letter letter)))) }
+        ensures reports { OnOk result (reports.new.items ≡ reported reporting reports.old.items (executed C.step C.pack self.old letter).reports) }
         ensures same_reports { OnErr result (reports.new.items ≡ reports.old.items) }
     {
-        if self.notes.reserve(1).is_err() {
+        let Ok(()) = self.notes.reserve(1) else {
             self.hold(Carried::Letter(letter), look);
             return Err(StepError::OutOfMemory);
-        }
+        };
+        let Ok(()) = self.outbox.reserve(1) else {
+            self.hold(Carried::Letter(letter), look);
+            return Err(StepError::OutOfMemory);
+        };
         let answer = lent::execute(
             self.alloc,
             gate,
@@ -168,27 +178,24 @@ impl<C: Chare<A>, H: Openings<C>, A: Allocator + Copy> PeState<C, H, A> {
             &mut self.room,
             &mut self.outbox,
             &mut self.count,
-            self.kept.is_some(),
             reporting,
             reports,
         );
-        match answer {
-            Ok(note) => {
-                if let Some(note) = note {
-                    self.notes.push_back_reserved(note);
-                }
-                self.kept = None;
-                Ok(())
-            }
+        let note = match answer {
+            Ok(note) => note,
             Err(unread) => {
                 let Unread { letter, error } = unread;
                 self.hold(Carried::Letter(letter), look);
-                Err(StepError::from(error))
+                return Err(StepError::from(error));
             }
-        }
+        };
+        lent::owe(&mut self.notes, note);
+        self.kept = None;
+        Ok(())
     }
 
     // Acts on a letter whose element does not stand here.
+    #[tactic(auto, using(crate::proofs::Reports::reported_none))]
     fn pass_on(
         &mut self,
         letter: Letter<A>,
@@ -233,12 +240,12 @@ impl<C: Chare<A>, H: Openings<C>, A: Allocator + Copy> PeState<C, H, A> {
         ensures reports { OnOk result (reports.new.items ≡ reported reporting reports.old.items (shelving self.old letter).reports) }
         ensures same_reports { OnErr result (reports.new.items ≡ reports.old.items) }
     {
-        if room_for_report(reports, reporting).is_err() {
+        let Ok(()) = room_for_report(reports, reporting) else {
             self.hold(Carried::Letter(letter), Some(look));
             return Err(AllocError);
-        }
+        };
         let id = letter.id();
-        if let Err(refused) = self.shelf.push(letter) {
+        if let Err(refused) = self.shelf.push_back(letter) {
             self.hold(Carried::Letter(refused.value), Some(look));
             return Err(AllocError);
         }
@@ -248,6 +255,7 @@ impl<C: Chare<A>, H: Openings<C>, A: Allocator + Copy> PeState<C, H, A> {
     }
 
     // Sends a letter on to the PE where its element was looked for.
+    #[tactic(auto, using(crate::proofs::Below::last_below))]
     fn forward(
         &mut self,
         mut letter: Letter<A>,
@@ -262,14 +270,14 @@ impl<C: Chare<A>, H: Openings<C>, A: Allocator + Copy> PeState<C, H, A> {
         ensures reports { OnOk result (reports.new.items ≡ reported reporting reports.old.items (forwarding self.old letter to).reports) }
         ensures same_reports { OnErr result (reports.new.items ≡ reports.old.items) }
     {
-        if room_for_report(reports, reporting).is_err() {
+        let Ok(()) = room_for_report(reports, reporting) else {
             self.hold(Carried::Letter(letter), Some(to));
             return Err(AllocError);
-        }
-        if self.outbox.reserve(1).is_err() {
+        };
+        let Ok(()) = self.outbox.reserve(1) else {
             self.hold(Carried::Letter(letter), Some(to));
             return Err(AllocError);
-        }
+        };
         add_report(reports, reporting, Report::Forwarded(letter.id()));
         letter.hop();
         self.outbox.push_back_reserved(Addressed {
@@ -283,6 +291,7 @@ impl<C: Chare<A>, H: Openings<C>, A: Allocator + Copy> PeState<C, H, A> {
 
 impl<C: Chare<A>, H: Openings<C>, A: Allocator + Copy> PeState<C, H, A> {
     // Acts on an element that was taken from the hand.
+    #[tactic(auto, using(crate::proofs::Reports::reported_none))]
     fn act_on_element(
         &mut self,
         element: PackedElement<C, H, A>,
@@ -315,6 +324,7 @@ impl<C: Chare<A>, H: Openings<C>, A: Allocator + Copy> PeState<C, H, A> {
 
 impl<C: Chare<A>, H: Openings<C>, A: Allocator + Copy> PeState<C, H, A> {
     // Takes in an element with the chare that its bytes unpacked to, and lets its letters leave the shelf.
+    #[tactic(auto, using(crate::proofs::Below::unshelved))]
     fn install(
         &mut self,
         element: PackedElement<C, H, A>,
@@ -332,15 +342,15 @@ impl<C: Chare<A>, H: Openings<C>, A: Allocator + Copy> PeState<C, H, A> {
         ensures reports { OnOk result (reports.new.items ≡ reported reporting reports.old.items (Report.Installed element.index ∷ [])) }
         ensures same_reports { OnErr result (reports.new.items ≡ reports.old.items) }
     {
-        if room_for_report(reports, reporting).is_err() {
+        let Ok(()) = room_for_report(reports, reporting) else {
             self.hold(Carried::Element(element), look);
             return Err(AllocError);
-        }
-        if self.outbox.reserve(self.shelf.len()).is_err() {
+        };
+        let Ok(()) = self.outbox.reserve(self.shelf.len()) else {
             self.hold(Carried::Element(element), look);
             return Err(AllocError);
-        }
-        let Ok(rest) = Vec::with_capacity(self.alloc, self.shelf.len()) else {
+        };
+        let Ok(mut rest) = VecDeque::with_capacity(self.alloc, self.shelf.len()) else {
             self.hold(Carried::Element(element), look);
             return Err(AllocError);
         };
@@ -350,8 +360,8 @@ impl<C: Chare<A>, H: Openings<C>, A: Allocator + Copy> PeState<C, H, A> {
             return Err(AllocError);
         }
         add_report(reports, reporting, Report::Installed(index));
-        let shelf = replace(&mut self.shelf, rest);
-        unshelve(index, self.me, shelf, &mut self.shelf, &mut self.outbox);
+        unshelve(index, self.me, &mut self.shelf, &mut rest, &mut self.outbox);
+        self.shelf = rest;
         self.kept = None;
         Ok(())
     }

@@ -2,8 +2,8 @@
 
 ghost use Rattle.std.specs.Prelude.{◌≡◌, ℕ, ◌++◌, ◌∷◌, [], ◌<◌, ◌≤◌, List, length, IfOk, IfErr, OnOk, OnErr, IfSome, IsSome, Ok, None, Some, true};
 ghost use Rattle.chares.specs.Posting.{reported};
-ghost use Rattle.pe_state.specs.Pes.{PeView, resumed};
-ghost use Rattle.pe_state.specs.Refusals.{RefusesStep, RefusesResume, CanResume};
+ghost use Rattle.pe_state.specs.Pes.{may_resume, resumed, resume_reports};
+ghost use Rattle.pe_state.specs.Refusals.{RefusesStep, RefusesResume};
 
 use crate::error::StepError;
 use crate::lent;
@@ -20,9 +20,9 @@ impl<C: Chare<A>, H: Openings<C>, A: Allocator + Copy> PeState<C, H, A> {
     ///
     /// The PE is as it was on any of them: [`OutOfMemory`](StepError::OutOfMemory), or what the handler answers.
     pub fn resume<G: Gate>(&mut self, gate: &G, index: Index, round: Round) -> Result<(), StepError>
-        requires due { CanResume self.old index round }
+        requires due { may_resume self.old index round ≡ true }
         requires before_last_round { round < Limits.ROUND }
-        ensures ok { OnOk result (self.new ≡ (resumed C.step C.pack self.old index round).pe) }
+        ensures ok { OnOk result (self.new ≡ resumed C.step C.pack self.old index round) }
         ensures err { OnErr result (self.new ≡ self.old) }
         ensures refused { IfErr result (RefusesStep (RefusesResume C.refuses self.old index round)) }
     {
@@ -38,18 +38,19 @@ impl<C: Chare<A>, H: Openings<C>, A: Allocator + Copy> PeState<C, H, A> {
         round: Round,
         reports: &mut Vec<Report, A>,
     ) -> Result<(), StepError>
-        requires due { CanResume self.old index round }
+        requires due { may_resume self.old index round ≡ true }
         requires before_last_round { round < Limits.ROUND }
-        ensures ok { OnOk result (self.new ≡ (resumed C.step C.pack self.old index round).pe) }
+        ensures ok { OnOk result (self.new ≡ resumed C.step C.pack self.old index round) }
         ensures err { OnErr result (self.new ≡ self.old) }
         ensures refused { IfErr result (RefusesStep (RefusesResume C.refuses self.old index round)) }
-        ensures reports { OnOk result (reports.new.items ≡ reports.old.items ++ (resumed C.step C.pack self.old index round).reports) }
+        ensures reports { OnOk result (reports.new.items ≡ reports.old.items ++ resume_reports C.step C.pack self.old index round) }
         ensures same_reports { OnErr result (reports.new.items ≡ reports.old.items) }
     {
         self.resume_with(gate, index, round, true, reports)
     }
 
     // Resumes, and adds what is to be reported where that is wanted.
+    #[tactic(auto, using(crate::proofs::Below::posted_below, crate::proofs::Reasons::same_reason))]
     fn resume_with<G: Gate>(
         &mut self,
         gate: &G,
@@ -58,15 +59,16 @@ impl<C: Chare<A>, H: Openings<C>, A: Allocator + Copy> PeState<C, H, A> {
         reporting: bool,
         reports: &mut Vec<Report, A>,
     ) -> Result<(), StepError>
-        requires due { CanResume self.old index round }
+        requires due { may_resume self.old index round ≡ true }
         requires before_last_round { round < Limits.ROUND }
-        ensures ok { OnOk result (self.new ≡ (resumed C.step C.pack self.old index round).pe) }
+        ensures ok { OnOk result (self.new ≡ resumed C.step C.pack self.old index round) }
         ensures err { OnErr result (self.new ≡ self.old) }
         ensures refused { IfErr result (RefusesStep (RefusesResume C.refuses self.old index round)) }
-        ensures reports { OnOk result (reports.new.items ≡ reported reporting reports.old.items (resumed C.step C.pack self.old index round).reports) }
+        ensures reports { OnOk result (reports.new.items ≡ reported reporting reports.old.items (resume_reports C.step C.pack self.old index round)) }
         ensures same_reports { OnErr result (reports.new.items ≡ reports.old.items) }
     {
         self.notes.reserve(1)?;
+        self.outbox.reserve(1)?;
         let note = lent::resume(
             self.alloc,
             gate,
@@ -77,13 +79,10 @@ impl<C: Chare<A>, H: Openings<C>, A: Allocator + Copy> PeState<C, H, A> {
             &mut self.room,
             &mut self.outbox,
             &mut self.count,
-            self.kept.is_some(),
             reporting,
             reports,
         )?;
-        if let Some(note) = note {
-            self.notes.push_back_reserved(note);
-        }
+        lent::owe(&mut self.notes, note);
         self.kept = None;
         Ok(())
     }
