@@ -1,14 +1,14 @@
 -- What is addressed to PEs that there are stays so.
-use Rattle.std.proofs.Common.{◌≡◌, ℕ, ◌+◌, ◌<◌, List, [], ◌∷◌, ◌++◌, map, Option, Some, None, subst, sym}
+use Rattle.std.proofs.Common.{◌≡◌, ℕ, ◌+◌, ◌<◌, List, [], ◌∷◌, ◌++◌, map, Option, Some, None, length, slice_index_or, subst, sym, arith}
 use Rattle.chares.specs.Letters.{LetterView}
 use Rattle.chares.specs.Posting.{letters_of}
 use Rattle.pe_state.specs.Pes.{Item, front_address, letter_at}
 use Rattle.pe_state.specs.Standing.{IsBelow, AreBelow}
 
 -- the first parcel of an outbox, and the others
-pub front_below : (pes : ℕ) (outbox : List Item) → AreBelow pes outbox → IsBelow pes (front_address outbox)
-front_below pes [] h = tt
-front_below pes (x ∷ xs) h = h.0
+pub front_below : (pes : ℕ) (outbox : List Item) (x : Item) → x ≡ slice_index_or outbox 0 x → 0 < length outbox → AreBelow pes outbox → IsBelow pes x.address
+front_below pes [] x e h k = absurd (omega arith)
+front_below pes (y ∷ ys) x e h k = subst (λ (v : Item). IsBelow pes v.address) (sym e) k.0
 
 pub first_below : (pes : ℕ) (outbox xs : List Item) (x : Item) → outbox ≡ x ∷ xs → AreBelow pes outbox → IsBelow pes x.address
 first_below pes outbox xs x e h = (subst (λ (v : List Item). AreBelow pes v) e h).0

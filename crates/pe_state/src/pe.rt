@@ -2,8 +2,9 @@
 
 ghost use Rattle.std.specs.Prelude.{◌≡◌, ◌≢◌, ℕ, ◌+◌, ◌++◌, ◌∷◌, [], ◌<◌, ◌≤◌, List, length, IfOk, IfErr, OnOk, OnErr, IfSome, IsSome, None, Some, slice_get, true, false};
 ghost use Rattle.std.specs.Option.{option_copied};
-ghost use Rattle.pe_state.specs.Pes.{PeView, new_pe, placed, received, wanted, hand_wants, looked, front_at, unaddressed, is_due, front_parcel, front_address, gave_up, handed_back, noted, may_resume, may_depart, departed};
+ghost use Rattle.pe_state.specs.Pes.{PeView, new_pe, placed, received, wanted, hand_wants, looked, front_at, unaddressed, is_due, front_parcel, front_address, gave_up, handed_back, noted, held, may_resume, may_depart, departed};
 ghost use Rattle.pe_state.specs.Rooms.{found};
+ghost use Rattle.pe_state.specs.Standing.{IsBelow};
 ghost use Rattle.pe_state.specs.declared.error.StepError.TheVariants.{OutOfMemory};
 
 use crate::error::StepError;
@@ -162,7 +163,6 @@ impl<C: Chare<A>, H: Openings<C>, A: Allocator> PeState<C, H, A> {
     }
 
     /// The PE that the front of the outbox goes to, or `None` where it has no address yet or there is none.
-    #[tactic(auto, using(crate::proofs::Below::front_below))]
     pub fn front_out(&self) -> Option<Pe>
         ensures value { result ≡ front_address self.now.outbox }
         ensures below { IfSome result (λ to. to < H.pes) }
@@ -215,6 +215,17 @@ impl<C: Chare<A>, H: Openings<C>, A: Allocator> PeState<C, H, A> {
 }
 
 impl<C: Chare<A>, H: Openings<C>, A: Allocator> PeState<C, H, A> {
+    // Holds a parcel in the hand, perhaps with a look.
+    fn hold(&mut self, parcel: Parcel<C, H, A>, look: Option<Pe>)
+        requires below { IsBelow H.pes look }
+        ensures ok { self.new ≡ held self.old parcel look }
+    {
+        self.hand = Some(Addressed {
+            parcel,
+            address: look,
+        });
+    }
+
     // Gives the front of the outbox, if there is one, this address.
     #[tactic(auto, using(crate::proofs::Below::rest_below))]
     fn address_front(&mut self, to: Pe)
@@ -295,10 +306,7 @@ impl<C: Chare<A>, H: Openings<C>, A: Allocator + Copy> PeState<C, H, A> {
         let Some(Addressed { parcel, address: _ }) = self.hand.take() else {
             unreachable!()
         };
-        self.hand = Some(Addressed {
-            parcel,
-            address: Some(believed),
-        });
+        self.hold(parcel, Some(believed));
     }
 
     /// Gives up the front of the outbox, which has an address, and keeps that.

@@ -131,17 +131,6 @@ impl<C: Chare<A>, H: Openings<C>, A: Allocator + Copy> PeState<C, H, A> {
         Ok(Some(Acted::Executed))
     }
 
-    // Puts a parcel back into the hand.
-    fn hold(&mut self, parcel: Parcel<C, H, A>, look: Option<Pe>)
-        requires below { IsBelow H.pes look }
-        ensures ok { self.new ≡ held self.old parcel look }
-    {
-        self.hand = Some(Addressed {
-            parcel,
-            address: look,
-        });
-    }
-
     // Executes a letter by its element, which stands here and has started.
     #[tactic(auto, using(crate::proofs::Below::posted_below, crate::proofs::Reasons::same_reason))]
     fn execute<G: Gate>(
