@@ -1,8 +1,8 @@
 //! A PE.
 
 ghost use Rattle.std.specs.Prelude.{◌≡◌, ◌≢◌, ℕ, ◌+◌, ◌++◌, ◌∷◌, [], ◌<◌, ◌≤◌, List, length, IfOk, IfErr, OnOk, OnErr, IfSome, IsSome, None, Some, slice_get, true, false};
-ghost use Rattle.std.specs.Option.{option_copied};
-ghost use Rattle.pe_state.specs.Pes.{PeView, new_pe, placed, received, wanted, hand_wants, looked, front_at, unaddressed, is_due, front_parcel, front_address, gave_up, handed_back, noted, held, may_resume, may_depart, departed};
+ghost use Rattle.std.specs.Option.{option_copied, option_map};
+ghost use Rattle.pe_state.specs.Pes.{PeView, new_pe, placed, received, wanted, hand_wants, looked, at_pe, front_at, unaddressed, is_due, front_parcel, front_address, gave_up, handed_back, noted, held, may_resume, may_depart, departed};
 ghost use Rattle.pe_state.specs.Rooms.{found};
 ghost use Rattle.pe_state.specs.Standing.{IsBelow};
 ghost use Rattle.pe_state.specs.declared.error.StepError.TheVariants.{OutOfMemory};
@@ -226,13 +226,25 @@ impl<C: Chare<A>, H: Openings<C>, A: Allocator> PeState<C, H, A> {
         });
     }
 
+    // Gives the parcel in the hand, if there is one, this look.
+    fn look_for_hand(&mut self, to: Pe)
+        requires known { to < H.pes }
+        ensures ok { self.new ≡ record self.old { hand = option_map (at_pe to) self.old.hand; kept = None } }
+    {
+        self.kept = None;
+        let Some(Addressed { parcel, address: _ }) = self.hand.take() else {
+            return;
+        };
+        self.hold(parcel, Some(to));
+    }
+
     // Gives the front of the outbox, if there is one, this address.
     #[tactic(auto, using(crate::proofs::Below::rest_below))]
-    fn address_front(&mut self, to: Pe)
+    fn look_for_front(&mut self, to: Pe)
         requires known { to < H.pes }
-        requires no_address { self.old.kept ≡ None }
-        ensures ok { self.new ≡ record self.old { outbox = front_at to self.old.outbox } }
+        ensures ok { self.new ≡ record self.old { outbox = front_at to self.old.outbox; kept = None } }
     {
+        self.kept = None;
         let Some(Addressed { parcel, address: _ }) = self.outbox.pop_front() else {
             return;
         };
@@ -298,15 +310,11 @@ impl<C: Chare<A>, H: Openings<C>, A: Allocator + Copy> PeState<C, H, A> {
         requires known { believed < H.pes }
         ensures ok { self.new ≡ looked self.old believed }
     {
-        self.kept = None;
         let Some(_) = self.hand_wants() else {
-            self.address_front(believed);
+            self.look_for_front(believed);
             return;
         };
-        let Some(Addressed { parcel, address: _ }) = self.hand.take() else {
-            unreachable!()
-        };
-        self.hold(parcel, Some(believed));
+        self.look_for_hand(believed);
     }
 
     /// Gives up the front of the outbox, which has an address, and keeps that.
