@@ -1,6 +1,6 @@
 //! An element on its way.
 
-ghost use Rattle.std.specs.Prelude.{◌≡◌, ℕ, ◌<◌, ◌≤◌, [], Ok, IfOk, IfErr, OnErr};
+ghost use Rattle.std.specs.Prelude.{◌≡◌, ℕ, ◌<◌, ◌≤◌, [], Ok, IsOk, IfOk, IfErr, OnErr};
 ghost use Rattle.chare_index.specs.declared.limits.TheConstants.Limits.{ROUND};
 ghost use Rattle.chares.specs.Elements.{ElementView, PackedView, packed, unpacked, IsHistory, IsPackedHistory};
 
@@ -84,10 +84,11 @@ impl<C: Chare<A>, H: Openings<C>, A: Allocator> PackedElement<C, H, A> {
         self.luggage.marks.as_slice()
     }
 
-    /// Its chare again.
+    /// Its chare again. Its bytes always unpack, so the only refusal is out of memory.
     pub fn unpack(&self, alloc: A) -> Result<C, AllocError>
         ensures history { IfOk result (λ chare. IsHistory C.step C.pack H.opened (unpacked self.now chare)) }
         ensures unpacks { IfOk result (λ chare. (k : ℕ) × (C.unpack self.now.bytes ≡ Ok (chare, k))) }
+        ensures whole { IsOk (C.unpack self.now.bytes) }
     {
         match C::unpack(alloc, self.luggage.bytes.as_slice()) {
             Ok((chare, _)) => Ok(chare),
