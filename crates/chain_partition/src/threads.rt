@@ -15,6 +15,9 @@ use lb_certificates::{Division, Loads};
 use std::alloc::{AllocError, Allocator};
 use std::thread::{self, Threads};
 
+// As many places as there may be workers.
+const MOST_WORKERS: usize = Limits::PROBE_WORKERS as usize;
+
 /// The same division as that of [`divide`](crate::divide), found by 1 to 64 workers: each round of the search gives
 /// each of them a limit of its own, and keeps what lies between the greatest limit that stops and the least that
 /// fits. Inside each probe a worker calls the gate's [`pass`](Gate::pass) with its number, from 0. A thread that
@@ -63,7 +66,7 @@ fn least_tried<R: Threads + Sync, G: Gate + Sync>(
     requires enclosed { Enclose (loads_of sums.now) pes bounds.low bounds.high }
     ensures least { IsLeastPeak (loads_of sums.now) 0 pes result }
 {
-    let mut told = [Bound::Stops(0); 64];
+    let mut told = [Bound::Stops(0); MOST_WORKERS];
     let told = &mut told[..workers];
     let mut bounds = bounds;
     while bounds.low < bounds.high {
