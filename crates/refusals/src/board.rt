@@ -75,7 +75,7 @@ fn decisions_of_a_board(rt: HostRuntime) -> Result<(), Fail> {
     let refusals = each_refusal(rt.alloc(), MOST_TURNS, attempt)?;
     assert_eq!(rt;
         refusals,
-        19,
+        21,
         "those of the board, of one plan and of the pair that is kept"
     );
     Ok(())

@@ -10,8 +10,8 @@ use refusing_alloc::{Outcome, Refusing};
 use std::alloc::{AllocError, Allocator, Global};
 use std::process::Abort;
 
-// The requests of the search for names on two blocks.
-const NAMING: u64 = 9;
+// The requests of the search for names: two lists of prices, seven of the search, and two of the exchange.
+const NAMING: u64 = 11;
 
 // Whether five fit in two blocks within 9, and stop within 8, as they should.
 fn probes_five<A: Allocator>(alloc: A, five: &Loads, limit: u64) -> Result<bool, AllocError> {
