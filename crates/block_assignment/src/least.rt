@@ -4,10 +4,10 @@
 //! such a chain is found by one search, backward from the block. These are alternating paths: C. Berge, "Two theorems
 //! in graph theory", Proceedings of the National Academy of Sciences 43(9), 1957.
 
-ghost use Rattle.std.specs.Prelude.{◌≡◌, ◌≢◌, ℕ, false, ◌+◌, ◌*◌, ◌<◌, ◌≤◌, List, length, slice_index, MatchBool};
+ghost use Rattle.std.specs.Prelude.{◌≡◌, ℕ, false, ◌<◌, ◌≤◌, length, slice_index};
 ghost use Rattle.chare_index.specs.declared.limits.TheConstants.Limits.{PES};
 ghost use Rattle.lb_certificates.specs.Naming.{IsNaming};
-ghost use Rattle.block_assignment.specs.Least.{member, may_have, IsAllowed, IsClosed, IsLeastAt, IsFound, IsTrail};
+ghost use Rattle.block_assignment.specs.Least.{member, may_have, IsAllowed, IsClosed, IsFound, IsLeastAt, IsTrail};
 
 use crate::block_set::{BlockSet, NO_BLOCK, first_common, has, insert, remove};
 
@@ -83,8 +83,8 @@ fn later_blocks(b: u32, blocks: u32) -> BlockSet
     set
 }
 
-// The later blocks that cannot be reached from block `b`, where one block is reached from another whose PE it may
-// have; and for each block that can, the next on its way back.
+// The later blocks that the search from block `b` leaves. It finds a block where that may have the PE of `b`, or of a
+// block that was found before, which is then the next on its way back to `b`.
 fn left_by(b: u32, takers: &[BlockSet], names: &[u32], next: &mut [u32]) -> BlockSet
     requires inside { b < length takers.now }
     requires few { length takers.now ≤ PES }
@@ -111,7 +111,7 @@ fn left_by(b: u32, takers: &[BlockSet], names: &[u32], next: &mut [u32]) -> Bloc
     }
 }
 
-// Of the blocks that were reached, and whose PE block `b` may have, the one with the least PE.
+// Of the blocks that were found, and whose PE block `b` may have, the one with the least PE.
 fn choose(b: u32, takers: &[BlockSet], names: &[u32], left: &BlockSet) -> u32
     requires inside { b < length takers.now }
     requires few { length takers.now ≤ PES }
