@@ -112,8 +112,8 @@ fn numbered(code: u32, blocks: u32) -> [u32; 5]
 {
     let mut names = [0; 5];
     let mut rest = code;
-    for b in (0..blocks as usize).rev() {
-        names[b] = rest % blocks;
+    for k in 0..blocks {
+        names[(blocks - 1 - k) as usize] = rest % blocks;
         rest /= blocks;
     }
     names
@@ -183,7 +183,7 @@ fn table_of_bits(rt: &(impl Abort + AllocGlobal), blocks: u32, bits: u32) -> Cos
 fn all_tables_of_two_costs(rt: HostRuntime) {
     for blocks in 1..=4u32 {
         let namings = all_namings(&rt, blocks);
-        for bits in 0..2u32.saturating_pow(blocks * blocks) {
+        for bits in 0..2u32.saturating_pow(blocks.saturating_mul(blocks)) {
             let table = table_of_bits(&rt, blocks, bits);
             assert!(rt; is_first(&rt, &table, &namings), "{blocks} blocks, {bits}");
         }
