@@ -3,7 +3,7 @@ use Rattle.std.proofs.Common.{◌≡◌, ◌≢◌, ◌⊎◌, ℕ, ◌<◌, ◌
 use Rattle.std.proofs.lemmas.Bool.{cases_eq, cond-true, cond-false, eq-eqb, ne_eqb}
 use Rattle.std.proofs.lemmas.List.Edits.{Swapped}
 use Rattle.lb_certificates.specs.Naming.{total, IsNaming}
-use Rattle.block_assignment.specs.Least.{may_have, IsAllowed, IsReached, IsTrail}
+use Rattle.block_assignment.specs.Least.{may_have, IsAllowed, IsFound, IsTrail}
 use Rattle.block_assignment.proofs.Namings.{same_block, exchanged, total_less}
 
 -- The holder has the PE that block b had, and is to have the one of the block whose PE is taken next. All other blocks
@@ -14,12 +14,12 @@ pub record IsPassing (takers : List (List ℕ)) (old : List ℕ) (b chosen : ℕ
   pub holds : slice_index names holder ≡ slice_index old b
   pub others : (k : ℕ) → k < length takers → k ≢ holder → may_have takers k (slice_index names k) ≡ 1
   pub wants : may_have takers holder (slice_index old taken) ≡ 1
-  pub reached : IsReached (length takers) b left taken
+  pub reached : IsFound (length takers) b left taken
   pub kept : (k : ℕ) → b < k → k < length takers → trail.rank k ≤ trail.rank taken → slice_index names k ≡ slice_index old k
   pub start : ((holder ≡ b) × (taken ≡ chosen)) ⊎ ((b < holder) × (trail.rank taken < trail.rank holder) × (slice_index names b ≡ slice_index old chosen))
   pub before : (k : ℕ) → k < b → slice_index names k ≡ slice_index old k
 
-pub passing_starts : (takers : List (List ℕ)) (old : List ℕ) (b chosen : ℕ) (left next : List ℕ) (trail : IsTrail takers old b left next) → IsNaming (length takers) old → IsAllowed takers old → b < length takers → IsReached (length takers) b left chosen → may_have takers b (slice_index old chosen) ≡ 1 → IsPassing takers old b chosen left next trail old b chosen
+pub passing_starts : (takers : List (List ℕ)) (old : List ℕ) (b chosen : ℕ) (left next : List ℕ) (trail : IsTrail takers old b left next) → IsNaming (length takers) old → IsAllowed takers old → b < length takers → IsFound (length takers) b left chosen → may_have takers b (slice_index old chosen) ≡ 1 → IsPassing takers old b chosen left next trail old b chosen
 passing_starts takers old b chosen left next trail naming allowed inside reached wants =
     record {
       naming = naming;

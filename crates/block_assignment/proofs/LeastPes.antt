@@ -4,7 +4,7 @@ use Rattle.std.proofs.lemmas.Bool.{cases_eq, cases_lt}
 use Rattle.std.proofs.lemmas.Nat.Bits.{bit_at-lt}
 use Rattle.lb_certificates.specs.Naming.{total, IsNaming}
 use Rattle.lb_certificates.proofs.Totals.{total_named}
-use Rattle.block_assignment.specs.Least.{member, may_have, IsAllowed, IsClosed, IsLeastAt, IsReached}
+use Rattle.block_assignment.specs.Least.{member, may_have, IsAllowed, IsClosed, IsLeastAt, IsFound}
 use Rattle.block_assignment.proofs.Namings.{same_block, place, place_of, total_less}
 
 -- a set has a block or not
@@ -69,11 +69,11 @@ module _ (takers : List (List ℕ)) (names others : List ℕ) (b : ℕ) (naming 
           ]
 
 -- the chosen block has the least PE that block b can have
-pub least_chosen : (takers : List (List ℕ)) (names left : List ℕ) (b chosen : ℕ) → IsNaming (length takers) names → b < length takers → member left b ≡ 0 → IsClosed takers names b left → ((j : ℕ) → IsReached (length takers) b left j → may_have takers b (slice_index names j) ≡ 1 → slice_index names chosen ≤ slice_index names j) → (others : List ℕ) → IsNaming (length takers) others → IsAllowed takers others → ((k : ℕ) → k < b → slice_index others k ≡ slice_index names k) → slice_index names chosen ≤ slice_index others b
+pub least_chosen : (takers : List (List ℕ)) (names left : List ℕ) (b chosen : ℕ) → IsNaming (length takers) names → b < length takers → member left b ≡ 0 → IsClosed takers names b left → ((j : ℕ) → IsFound (length takers) b left j → may_have takers b (slice_index names j) ≡ 1 → slice_index names chosen ≤ slice_index names j) → (others : List ℕ) → IsNaming (length takers) others → IsAllowed takers others → ((k : ℕ) → k < b → slice_index others k ≡ slice_index names k) → slice_index names chosen ≤ slice_index others b
 least_chosen takers names left b chosen naming inside taken closed least others other allowed same =
     let j : ℕ = holder takers names others b naming other same inside b in
     let here : slice_index names j ≡ slice_index others b = holds takers names others b naming other same inside b inside in
-    let reached : IsReached (length takers) b left j = record {
+    let reached : IsFound (length takers) b left j = record {
       from = not_before takers names others b naming other same inside b (omega arith) inside;
       inside = holder_in takers names others b naming other same inside b inside;
       taken = held_by_reached takers names others b naming other same inside left allowed taken closed;

@@ -3,7 +3,7 @@ use Rattle.std.proofs.Common.{◌≡◌, ◌≢◌, ℕ, ◌+◌, ◌*◌, ◌<�
 use Rattle.std.proofs.lemmas.Bool.{cases_eq}
 use Rattle.std.proofs.lemmas.List.{get_or-set_same, get_or-set_other}
 use Rattle.lb_certificates.specs.Naming.{total}
-use Rattle.block_assignment.specs.Least.{member, may_have, IsClosed, IsReached, IsTrail}
+use Rattle.block_assignment.specs.Least.{member, may_have, IsClosed, IsFound, IsTrail}
 use Rattle.block_assignment.proofs.Coverings.{changed, changed_here, changed_apart}
 use Rattle.block_assignment.proofs.LeastPes.{member_or_not}
 use Rattle.block_assignment.proofs.Namings.{total_taken}
@@ -12,14 +12,14 @@ use Rattle.block_assignment.proofs.Namings.{total_taken}
 pub record IsSearching (takers : List (List ℕ)) (names : List ℕ) (b i : ℕ) (left waiting next : List ℕ) : Type 0 where
   pub rank : ℕ → ℕ
   pub top : ℕ
-  pub here : IsReached (length takers) b left i
+  pub here : IsFound (length takers) b left i
   pub later : (j : ℕ) → member left j ≡ 1 → (b < j) × (j < length takers)
-  pub opened : (j : ℕ) → member waiting j ≡ 1 → IsReached (length takers) b left j
-  pub ranks : (j : ℕ) → IsReached (length takers) b left j → rank j < top
-  pub reached : (j : ℕ) → b < j → IsReached (length takers) b left j → IsReached (length takers) b left (slice_index next j)
-  pub allowed : (j : ℕ) → b < j → IsReached (length takers) b left j → may_have takers j (slice_index names (slice_index next j)) ≡ 1
-  pub nearer : (j : ℕ) → b < j → IsReached (length takers) b left j → rank (slice_index next j) < rank j
-  pub closed : (k j : ℕ) → IsReached (length takers) b left k → member waiting k ≡ 0 → k ≢ i → b < j → j < length takers → may_have takers j (slice_index names k) ≡ 1 → member left j ≡ 0
+  pub opened : (j : ℕ) → member waiting j ≡ 1 → IsFound (length takers) b left j
+  pub ranks : (j : ℕ) → IsFound (length takers) b left j → rank j < top
+  pub reached : (j : ℕ) → b < j → IsFound (length takers) b left j → IsFound (length takers) b left (slice_index next j)
+  pub allowed : (j : ℕ) → b < j → IsFound (length takers) b left j → may_have takers j (slice_index names (slice_index next j)) ≡ 1
+  pub nearer : (j : ℕ) → b < j → IsFound (length takers) b left j → rank (slice_index next j) < rank j
+  pub closed : (k j : ℕ) → IsFound (length takers) b left k → member waiting k ≡ 0 → k ≢ i → b < j → j < length takers → may_have takers j (slice_index names k) ≡ 1 → member left j ≡ 0
 
 -- what is left is not reached
 not_both : (set : List ℕ) (j k : ℕ) → member set j ≡ 1 → member set k ≡ 0 → k ≢ j
@@ -55,7 +55,7 @@ search_joins takers names b i j left waiting next new_left new_waiting search co
       here = still i search.here;
       later = λ k has. search.later k (sym (left_same k (not_left k has)) ∙ has);
       opened = λ k has. elim (cases_eq k j) [
-        | inl at ↦ subst (λ m. IsReached (length takers) b new_left m) (sym at) joined
+        | inl at ↦ subst (λ m. IsFound (length takers) b new_left m) (sym at) joined
         | inr other ↦ still k (search.opened k (sym (waiting_same k other) ∙ has))
       ];
       ranks = λ k at. elim (cases_eq k j) [
@@ -63,8 +63,8 @@ search_joins takers names b i j left waiting next new_left new_waiting search co
         | inr other ↦ omega (arith, changed_apart search.rank j search.top k other, search.ranks k (before k other at))
       ];
       reached = λ k after at. elim (cases_eq k j) [
-        | inl same ↦ subst (λ m. IsReached (length takers) b new_left m) (sym (next_here k same)) (still i search.here)
-        | inr other ↦ subst (λ m. IsReached (length takers) b new_left m) (sym (next_other k other)) (still (slice_index next k) (search.reached k after (before k other at)))
+        | inl same ↦ subst (λ m. IsFound (length takers) b new_left m) (sym (next_here k same)) (still i search.here)
+        | inr other ↦ subst (λ m. IsFound (length takers) b new_left m) (sym (next_other k other)) (still (slice_index next k) (search.reached k after (before k other at)))
       ];
       allowed = λ k after at. elim (cases_eq k j) [
         | inl same ↦ ap (λ m. may_have takers k (slice_index names m)) (next_here k same) ∙ ap (λ m. may_have takers m (slice_index names i)) same ∙ takes
@@ -86,16 +86,16 @@ search_joins takers names b i j left waiting next new_left new_waiting search co
     not_left : (k : ℕ) → member new_left k ≡ 1 → k ≢ j
     not_left k has same = absurd (omega (arith, has, gone, ap (λ m. member new_left m) same))
 
-    apart : (k : ℕ) → IsReached (length takers) b left k → k ≢ j
+    apart : (k : ℕ) → IsFound (length takers) b left k → k ≢ j
     apart k at = not_both left j k left_here at.taken
 
-    still : (k : ℕ) → IsReached (length takers) b left k → IsReached (length takers) b new_left k
+    still : (k : ℕ) → IsFound (length takers) b left k → IsFound (length takers) b new_left k
     still k at = record { from = at.from; inside = at.inside; taken = left_same k (apart k at) ∙ at.taken }
 
-    before : (k : ℕ) → k ≢ j → IsReached (length takers) b new_left k → IsReached (length takers) b left k
+    before : (k : ℕ) → k ≢ j → IsFound (length takers) b new_left k → IsFound (length takers) b left k
     before k other at = record { from = at.from; inside = at.inside; taken = sym (left_same k other) ∙ at.taken }
 
-    joined : IsReached (length takers) b new_left j
+    joined : IsFound (length takers) b new_left j
     joined = record { from = omega (arith, (search.later j left_here).0); inside = (search.later j left_here).1; taken = gone }
 
     next_here : (k : ℕ) → k ≡ j → slice_index (set next j i) k ≡ i
@@ -104,7 +104,7 @@ search_joins takers names b i j left waiting next new_left new_waiting search co
     next_other : (k : ℕ) → k ≢ j → slice_index (set next j i) k ≡ slice_index next k
     next_other k other = get_or-set_other next j k i 0 other
 
-    kept : (k : ℕ) → IsReached (length takers) b left k → rank k ≡ search.rank k
+    kept : (k : ℕ) → IsFound (length takers) b left k → rank k ≡ search.rank k
     kept k at = changed_apart search.rank j search.top k (apart k at)
 
 -- what joins is no longer left, and waits
@@ -133,7 +133,7 @@ search_moves takers names b i j left waiting next new_waiting search none waits 
       closed = λ k m at out other after inside has. closed_at takers names b i left waiting next search none k m at (sym (waiting_same k other) ∙ out) after inside has;
     }
   where
-    closed_at : (takers : List (List ℕ)) (names : List ℕ) (b i : ℕ) (left waiting next : List ℕ) → IsSearching takers names b i left waiting next → ((k : ℕ) → k < length takers → member left k ≡ 1 → may_have takers k (slice_index names i) ≡ 0) → (k m : ℕ) → IsReached (length takers) b left k → member waiting k ≡ 0 → b < m → m < length takers → may_have takers m (slice_index names k) ≡ 1 → member left m ≡ 0
+    closed_at : (takers : List (List ℕ)) (names : List ℕ) (b i : ℕ) (left waiting next : List ℕ) → IsSearching takers names b i left waiting next → ((k : ℕ) → k < length takers → member left k ≡ 1 → may_have takers k (slice_index names i) ≡ 0) → (k m : ℕ) → IsFound (length takers) b left k → member waiting k ≡ 0 → b < m → m < length takers → may_have takers m (slice_index names k) ≡ 1 → member left m ≡ 0
     closed_at takers names b i left waiting next search none k m at out after inside has =
         elim (cases_eq k i) [
           | inl same ↦ elim (member_or_not left m) [

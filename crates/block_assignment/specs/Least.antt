@@ -21,22 +21,21 @@ abbrev pub IsLeastAt : List (List ℕ) → List ℕ → ℕ → Type 0
 IsLeastAt takers names b =
     (others : List ℕ) → IsNaming (length takers) others → IsAllowed takers others → ((k : ℕ) → k < b → slice_index others k ≡ slice_index names k) → slice_index names b ≤ slice_index others b
 
--- Block j was reached from block b: it is b or a later block, and no longer left.
-pub record IsReached (blocks b : ℕ) (left : List ℕ) (j : ℕ) : Type 0 where
+-- The search from block b found block j: it is b or a later block, and no longer left.
+pub record IsFound (blocks b : ℕ) (left : List ℕ) (j : ℕ) : Type 0 where
   pub from : b ≤ j
   pub inside : j < blocks
   pub taken : member left j ≡ 0
 
--- Each block that was reached from b may have the PE of the block after it on its way back to b. Ranks fall on the
--- way.
+-- Each block that was found may have the PE of the block after it on its way back to b. Ranks fall on the way.
 pub record IsTrail (takers : List (List ℕ)) (names : List ℕ) (b : ℕ) (left next : List ℕ) : Type 0 where
   pub rank : ℕ → ℕ
   pub later : (j : ℕ) → member left j ≡ 1 → (b < j) × (j < length takers)
-  pub reached : (j : ℕ) → b < j → IsReached (length takers) b left j → IsReached (length takers) b left (slice_index next j)
-  pub allowed : (j : ℕ) → b < j → IsReached (length takers) b left j → may_have takers j (slice_index names (slice_index next j)) ≡ 1
-  pub nearer : (j : ℕ) → b < j → IsReached (length takers) b left j → rank (slice_index next j) < rank j
+  pub reached : (j : ℕ) → b < j → IsFound (length takers) b left j → IsFound (length takers) b left (slice_index next j)
+  pub allowed : (j : ℕ) → b < j → IsFound (length takers) b left j → may_have takers j (slice_index names (slice_index next j)) ≡ 1
+  pub nearer : (j : ℕ) → b < j → IsFound (length takers) b left j → rank (slice_index next j) < rank j
 
--- every later block that may have the PE of a block that was reached was reached
+-- every later block that may have the PE of a block that was found was found
 abbrev pub IsClosed : List (List ℕ) → List ℕ → ℕ → List ℕ → Type 0
 IsClosed takers names b left =
-    (i j : ℕ) → IsReached (length takers) b left i → b < j → j < length takers → may_have takers j (slice_index names i) ≡ 1 → member left j ≡ 0
+    (i j : ℕ) → IsFound (length takers) b left i → b < j → j < length takers → may_have takers j (slice_index names i) ≡ 1 → member left j ≡ 0

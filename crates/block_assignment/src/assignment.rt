@@ -13,9 +13,9 @@ use crate::takers::write_takers;
 use lb_certificates::{Naming, PriceList, Prices};
 use std::alloc::{AllocError, Allocator};
 
-/// The least naming of the blocks of this table, which is of the cheapest ones the first in dictionary order, with
-/// prices that prove it cheapest: no other naming of the blocks costs less. Which names are given is so determined by
-/// the table; which prices is left open. Prices of blocks are 0 to the greatest cost of the table, and those of PEs 0 down to as much below 0.
+/// The least naming of the blocks of this table: of the cheapest namings the first in dictionary order, with prices
+/// that prove it cheapest. So the table determines the names; which prices prove them is left open. Prices of blocks
+/// are 0 to the greatest cost of the table, and those of PEs 0 down to as much below 0.
 ///
 /// # Errors
 ///

@@ -1,6 +1,6 @@
 //! Sets of blocks, one bit for each: bit `b % 64` of word `b / 64`.
 
-ghost use Rattle.std.specs.Prelude.{◌≡◌, ◌≢◌, ℕ, ◌<◌, length, MatchBool, MatchOption, min};
+ghost use Rattle.std.specs.Prelude.{◌≡◌, ◌≢◌, ℕ, ◌<◌, MatchBool, MatchOption};
 ghost use Rattle.block_assignment.specs.Least.{member};
 
 /// A set of blocks, each below 256.

@@ -4,10 +4,10 @@
 //! such a chain is found by one search, backward from the block. These are alternating paths: C. Berge, "Two theorems
 //! in graph theory", Proceedings of the National Academy of Sciences 43(9), 1957.
 
-ghost use Rattle.std.specs.Prelude.{◌≡◌, ◌≢◌, ℕ, false, ◌+◌, ◌*◌, ◌<◌, ◌≤◌, List, length, slice_index, MatchBool};
+ghost use Rattle.std.specs.Prelude.{◌≡◌, ℕ, false, ◌<◌, ◌≤◌, length, slice_index};
 ghost use Rattle.chare_index.specs.declared.limits.TheConstants.Limits.{PES};
 ghost use Rattle.lb_certificates.specs.Naming.{IsNaming};
-ghost use Rattle.block_assignment.specs.Least.{member, may_have, IsAllowed, IsClosed, IsLeastAt, IsReached, IsTrail};
+ghost use Rattle.block_assignment.specs.Least.{member, may_have, IsAllowed, IsClosed, IsFound, IsLeastAt, IsTrail};
 
 use crate::block_set::{BlockSet, NO_BLOCK, first_common, has, insert, remove};
 
@@ -28,6 +28,8 @@ pub(crate) fn make_least(takers: &[BlockSet], next: &mut [u32], names: &mut [u32
 }
 
 // Gives block `b` the least PE with which the later blocks can still be named, and leaves the blocks before it theirs.
+// The block that had this PE gets that of the next on its way back to `b`, and so on, until one gets the PE that `b`
+// had.
 fn settle(b: u32, takers: &[BlockSet], next: &mut [u32], names: &mut [u32])
     requires inside { b < length takers.now }
     requires few { length takers.now ≤ PES }
@@ -43,8 +45,13 @@ fn settle(b: u32, takers: &[BlockSet], next: &mut [u32], names: &mut [u32])
         return;
     }
     let left = left_by(b, takers, names, next);
-    let chosen = choose(b, takers, names, &left);
-    pass_on(b, chosen, takers, &left, next, names);
+    let mut holder = b;
+    let mut taken = choose(b, takers, names, &left);
+    while taken != b {
+        names.swap(holder as usize, taken as usize);
+        holder = taken;
+        taken = next[taken as usize];
+    }
 }
 
 // Whether block `b` may have a lesser PE that a later block has. Most blocks may not, and need no search.
@@ -76,8 +83,8 @@ fn later_blocks(b: u32, blocks: u32) -> BlockSet
     set
 }
 
-// The later blocks that cannot be reached from block `b`, where one block is reached from another whose PE it may
-// have; and for each block that can, the next on its way back.
+// The later blocks that the search from block `b` leaves. It finds a block where that may have the PE of `b`, or of a
+// block that was found before, which is then the next on its way back to `b`.
 fn left_by(b: u32, takers: &[BlockSet], names: &[u32], next: &mut [u32]) -> BlockSet
     requires inside { b < length takers.now }
     requires few { length takers.now ≤ PES }
@@ -104,16 +111,16 @@ fn left_by(b: u32, takers: &[BlockSet], names: &[u32], next: &mut [u32]) -> Bloc
     }
 }
 
-// Of the blocks that were reached, and whose PE block `b` may have, the one with the least PE.
+// Of the blocks that were found, and whose PE block `b` may have, the one with the least PE.
 fn choose(b: u32, takers: &[BlockSet], names: &[u32], left: &BlockSet) -> u32
     requires inside { b < length takers.now }
     requires few { length takers.now ≤ PES }
     requires naming { IsNaming (length takers.now) names.now }
     requires allowed { may_have takers.now b (slice_index names.now b) ≡ 1 }
     requires taken { member left.now b ≡ 0 }
-    ensures reached { IsReached (length takers.now) b left.now result }
+    ensures reached { IsFound (length takers.now) b left.now result }
     ensures allowed { may_have takers.now b (slice_index names.now result) ≡ 1 }
-    ensures least { (j : ℕ) → IsReached (length takers.now) b left.now j → may_have takers.now b (slice_index names.now j) ≡ 1 → slice_index names.now result ≤ slice_index names.now j }
+    ensures least { (j : ℕ) → IsFound (length takers.now) b left.now j → may_have takers.now b (slice_index names.now j) ≡ 1 → slice_index names.now result ≤ slice_index names.now j }
 {
     let mut chosen = b;
     for j in b + 1..takers.len() as u32 {
@@ -123,35 +130,4 @@ fn choose(b: u32, takers: &[BlockSet], names: &[u32], left: &BlockSet) -> u32
         }
     }
     chosen
-}
-
-// Gives block `b` the PE of the chosen block, that block the PE of the next on its way back, and so on, until one
-// takes the PE that `b` had.
-fn pass_on(
-    b: u32,
-    chosen: u32,
-    takers: &[BlockSet],
-    left: &BlockSet,
-    next: &[u32],
-    names: &mut [u32],
-)
-    requires inside { b < length takers.now }
-    requires next { length next.now ≡ length takers.now }
-    requires naming { IsNaming (length takers.now) names.old }
-    requires allowed { IsAllowed takers.now names.old }
-    requires trail { IsTrail takers.now names.old b left.now next.now }
-    requires reached { IsReached (length takers.now) b left.now chosen }
-    requires may_have { may_have takers.now b (slice_index names.old chosen) ≡ 1 }
-    ensures naming { IsNaming (length takers.now) names.new }
-    ensures allowed { IsAllowed takers.now names.new }
-    ensures before { (k : ℕ) → k < b → slice_index names.new k ≡ slice_index names.old k }
-    ensures here { slice_index names.new b ≡ slice_index names.old chosen }
-{
-    let mut holder = b;
-    let mut taken = chosen;
-    while taken != b {
-        names.swap(holder as usize, taken as usize);
-        holder = taken;
-        taken = next[taken as usize];
-    }
 }

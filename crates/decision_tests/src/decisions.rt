@@ -205,6 +205,37 @@ fn the_example_is_planned_for_two_and_for_one(rt: HostRuntime) {
 }
 
 #[test]
+fn the_first_of_the_cheapest_namings_is_planned(rt: HostRuntime) {
+    let two = snapshot(&rt, 2, &[(1, 8, 0), (1, 8, 0)]);
+    let row = Row {
+        bottleneck: 1,
+        cuts: &[0, 1, 2],
+        names: &[0, 1],
+        moved: 8,
+        moves: &[(1, 0, 1)],
+    };
+    assert!(rt; plans(&rt, &two, 2, row), "two");
+    let four = snapshot(&rt, 4, &[(5, 8, 3), (7, 8, 3)]);
+    let row = Row {
+        bottleneck: 7,
+        cuts: &[0, 1, 2, 2, 2],
+        names: &[0, 3, 1, 2],
+        moved: 8,
+        moves: &[(0, 3, 0)],
+    };
+    assert!(rt; plans(&rt, &four, 4, row), "four");
+}
+
+#[test]
+fn each_cheapest_naming_is_accepted(rt: HostRuntime) {
+    let two = snapshot(&rt, 2, &[(1, 8, 0), (1, 8, 0)]);
+    let mut decision = plan(rt.alloc(), &two, 2).expect(&rt, "out of memory");
+    decision.naming = naming(&rt, &[1, 0]);
+    decision.moves = moves(&rt, &[(0, 0, 1)]);
+    assert_eq!(rt; check(&two, 2, &decision), Ok(()));
+}
+
+#[test]
 fn no_elements_are_planned(rt: HostRuntime) {
     let none = snapshot(&rt, 3, &[]);
     let row = Row {

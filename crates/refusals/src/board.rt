@@ -76,7 +76,7 @@ fn decisions_of_a_board(rt: HostRuntime) -> Result<(), Fail> {
     let refusals = each_refusal(rt.alloc(), MOST_TURNS, attempt)?;
     assert_eq!(rt;
         refusals,
-        20,
+        22,
         "those of the board, of one plan and of the pair that is kept"
     );
     Ok(())
@@ -109,7 +109,7 @@ fn decisions_by_three_workers(rt: HostRuntime) -> Result<(), Fail> {
     };
     let attempt = |alloc: &Refusing<Global>| three_decide(&rt, alloc, first, [zero, one]);
     let refusals = each_refusal(rt.alloc(), MOST_TURNS, attempt)?;
-    assert_eq!(rt; refusals, 20, "those of a decision by one");
+    assert_eq!(rt; refusals, 22, "those of a decision by one");
     Ok(())
 }
 

@@ -14,8 +14,8 @@ use std::thread::Threads;
 // The requests of a division.
 const DIVIDING: u64 = 3;
 
-// The requests of the search for names on two blocks.
-const NAMING: u64 = 9;
+// The requests of the search for names: two lists of prices, seven of the search, and two of the exchange.
+const NAMING: u64 = 11;
 
 // Whether the answer is that of a probe of five, which fit in two blocks within 9 and stop within 8.
 fn is_of_five<A: Allocator>(answer: &Probe<A>, limit: u64) -> bool {

@@ -13,7 +13,7 @@ use std::test::Fail;
 const TO_READ: u64 = 5;
 
 // The requests of the search for names on two blocks.
-const NAMING: u64 = 9;
+const NAMING: u64 = 11;
 
 // The requests of a whole replay: to read; for the division, the cost table, the names and the moves; and each growth of
 // the text.
