@@ -361,6 +361,7 @@ impl<C: Chare<A>, H: Openings<C>, A: Allocator + Copy> PeState<C, H, A> {
         ensures ok { OnOk result (self.new ≡ departed C.pack self.old index to) }
         ensures err { OnErr result (self.new ≡ self.old) }
         ensures only_memory { IfErr result (λ error. error ≡ OutOfMemory) }
+        ensures fits { OnOk result (IfSome (found index self.old.room) (λ el. C.fits el.chare)) }
     {
         self.outbox.reserve(1)?;
         let element = self.room.depart(self.alloc, index)?;
