@@ -1,8 +1,8 @@
 -- What is addressed to PEs that there are stays so.
-use Rattle.std.proofs.Common.{◌≡◌, ℕ, ◌+◌, ◌<◌, List, [], ◌∷◌, ◌++◌, map, Option, Some, None, length, slice_index_or, subst, sym, arith}
+use Rattle.std.proofs.Common.{◌≡◌, ℕ, ◌+◌, ◌<◌, List, [], ◌∷◌, ◌++◌, map, length, slice_index_or, subst, sym, arith}
 use Rattle.chares.specs.Letters.{LetterView}
 use Rattle.chares.specs.Posting.{letters_of}
-use Rattle.pe_state.specs.Pes.{Item, front_address, letter_at}
+use Rattle.pe_state.specs.Pes.{Item, letter_at}
 use Rattle.pe_state.specs.Standing.{IsBelow, AreBelow}
 
 -- the first parcel of an outbox, and the others

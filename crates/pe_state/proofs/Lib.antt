@@ -2,4 +2,3 @@ pub mod Below
 pub mod Keyed
 pub mod Reasons
 pub mod Reports
-pub mod Shelved

@@ -1,5 +1,5 @@
 -- The reason of a step is that of its handler.
-use Rattle.std.proofs.Common.{◌≡◌, ◌≢◌, refl, sym, subst}
+use Rattle.std.proofs.Common.{◌≡◌, ◌≢◌, sym, subst}
 use Rattle.chares.specs.declared.sends.SendError.{SendError}
 use Rattle.chares.specs.declared.sends.SendError.TheVariants as Send
 use Rattle.pe_state.specs.declared.error.StepError.{StepError}

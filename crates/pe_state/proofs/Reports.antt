@@ -1,5 +1,5 @@
 -- Reports, one after another.
-use Rattle.std.proofs.Common.{◌≡◌, List, [], ◌∷◌, ◌++◌, Bool, true, false, refl, sym, append_assoc, append-nil}
+use Rattle.std.proofs.Common.{◌≡◌, List, [], ◌∷◌, Bool, true, false, refl, sym, append_assoc, append-nil}
 use Rattle.chares.specs.Posting.{reported}
 use Rattle.chares.specs.declared.report.Report.{Report}
 

@@ -1,10 +1,9 @@
 -- What one PE holds, and what each of its calls makes of that. Source: the Charm++ manual on chare arrays and load
 -- balancing, where a PE handles one message after another, and a message that reaches a PE which its element has left
 -- is forwarded. That a letter which comes before its element waits on a shelf is this project's choice.
-use Rattle.std.specs.Prelude.{◌≡◌, ℕ, zero, suc, ◌+◌, ◌==◌, List, [], ◌∷◌, ◌++◌, length, map, drop, Option, None, Some, Bool, true, false, not, ◌&&◌, if◌then◌else◌, Result, Ok, Err, is_some}
+use Rattle.std.specs.Prelude.{ℕ, ◌+◌, ◌==◌, List, [], ◌∷◌, ◌++◌, length, map, drop, Option, None, Some, Bool, false, not, ◌&&◌, if◌then◌else◌, Result, Ok, Err, is_some}
 use Rattle.std.specs.List.{filter}
 use Rattle.std.specs.Option.{option_map, option_map_or, option_or, option_to_list}
-use Rattle.chares.specs.declared.carried.Addressed.{Addressed}
 use Rattle.chares.specs.declared.carried.Carried.{Carried}
 use Rattle.chares.specs.declared.carried.Carried.TheVariants.{Letter, Element}
 use Rattle.chares.specs.declared.entry.Entry.TheVariants.{Letter as OfLetter, Resumption}

@@ -1,5 +1,5 @@
 -- Why a call of a PE may be refused.
-use Rattle.std.specs.Prelude.{◌≡◌, ℕ, List, Option, None, Some, MatchOption}
+use Rattle.std.specs.Prelude.{ℕ, MatchOption}
 use Rattle.chares.specs.declared.carried.Carried.TheVariants.{Letter, Element}
 use Rattle.chares.specs.declared.entry.Entry.TheVariants.{Letter as OfLetter, Resumption}
 use Rattle.chares.specs.declared.sends.SendError.{SendError}

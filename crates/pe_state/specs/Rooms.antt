@@ -1,5 +1,5 @@
 -- The elements that stand on a PE: each beside its index, in the order of these.
-use Rattle.std.specs.Prelude.{◌≡◌, ℕ, List, [], Option, None, Some, IfSome, MatchOption}
+use Rattle.std.specs.Prelude.{◌≡◌, ℕ, List, [], Option, None, IfSome, MatchOption}
 use Rattle.std.specs.Ordering.{nat_cmp}
 use Rattle.std.specs.Map.{lookup, set_value, remove_entry}
 use Rattle.std.specs.BTreeMap.{is_at, insert_entry}

@@ -1,4 +1,5 @@
-//! Handlers, with the outbox of their PE lent to them. A place of the outbox stays free.
+//! Handlers, with the outbox of their PE lent to them. A place of the outbox stays free throughout, for a parcel that
+//! may come back.
 
 ghost use Rattle.std.specs.Prelude.{◌≡◌, ◌≢◌, ◌+◌, ◌++◌, ◌∷◌, ◌<◌, ◌≤◌, length, IfOk, IfErr, OnOk, OnErr, IsSome};
 ghost use Rattle.std.specs.Option.{option_to_list};

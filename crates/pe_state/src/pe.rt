@@ -331,7 +331,8 @@ impl<C: Chare<A>, H: Openings<C>, A: Allocator + Copy> PeState<C, H, A> {
         parcel
     }
 
-    /// Puts a parcel back to the front of the outbox, with the address that was kept. This takes no memory.
+    /// Puts a parcel back to the front of the outbox, with the address that was kept. This takes no memory. See "What
+    /// `hand_back` is for" in docs/EVENTS.md.
     pub fn hand_back(&mut self, parcel: Parcel<C, H, A>)
         requires kept { IsSome self.old.kept }
         ensures ok { self.new ≡ handed_back self.old parcel }
@@ -352,8 +353,8 @@ impl<C: Chare<A>, H: Openings<C>, A: Allocator + Copy> PeState<C, H, A> {
 
     /// Packs an element, which stands here and waits for the end of its round, and puts it into the outbox, addressed
     /// to the PE where it is to be. Where its round is decided and gives it this place the caller has seen; it stores
-    /// the element's location word next, before any other step of this PE. The only refusal is
-    /// [`OutOfMemory`](StepError::OutOfMemory).
+    /// the element's location word next, before any other step of this PE: see "Why the word is stored before the parcel
+    /// leaves" in docs/EVENTS.md. The only refusal is [`OutOfMemory`](StepError::OutOfMemory).
     #[tactic(auto, using(crate::proofs::Below::last_below))]
     pub fn depart(&mut self, index: Index, to: Pe) -> Result<(), StepError>
         requires waits { may_depart self.old index ≡ true }
@@ -361,6 +362,7 @@ impl<C: Chare<A>, H: Openings<C>, A: Allocator + Copy> PeState<C, H, A> {
         ensures ok { OnOk result (self.new ≡ departed C.pack self.old index to) }
         ensures err { OnErr result (self.new ≡ self.old) }
         ensures only_memory { IfErr result (λ error. error ≡ OutOfMemory) }
+        ensures fits { OnOk result (IfSome (found index self.old.room) (λ el. C.fits el.chare)) }
     {
         self.outbox.reserve(1)?;
         let element = self.room.depart(self.alloc, index)?;

@@ -174,6 +174,7 @@ impl<C: Chare<A>, H: Openings<C>, A: Allocator + Copy> Room<C, H, A> {
     ) -> Result<PackedElement<C, H, A>, AllocError>
         requires stands { IsSome (found index self.old) }
         ensures value { IfOk result (λ element. option_map (packed C.pack) (found index self.old) ≡ Some element) }
+        ensures fits { OnOk result (IfSome (found index self.old) (λ el. C.fits el.chare)) }
         ensures ok { OnOk result (self.new ≡ without index self.old) }
         ensures err { OnErr result (self.new ≡ self.old) }
     {

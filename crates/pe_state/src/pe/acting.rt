@@ -49,7 +49,8 @@ impl<C: Chare<A>, H: Openings<C>, A: Allocator + Copy> PeState<C, H, A> {
         self.act_with(gate, false, &mut reports)
     }
 
-    /// Acts, and adds what is to be reported.
+    /// Acts as [`act`](PeState::act) does, and appends what the event reports, in order: an execution before what it
+    /// posted. On a refusal, and where nothing is done, nothing is appended.
     pub fn act_reporting<G: Gate>(
         &mut self,
         gate: &G,
@@ -214,7 +215,7 @@ impl<C: Chare<A>, H: Openings<C>, A: Allocator + Copy> PeState<C, H, A> {
         Ok(Some(Acted::Forwarded))
     }
 
-    // Puts a letter to the shelf.
+    // Puts a letter to the shelf: see "Why a letter that names its own PE is kept" in docs/EVENTS.md.
     fn shelve(
         &mut self,
         letter: Letter<A>,

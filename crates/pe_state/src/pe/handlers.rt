@@ -30,7 +30,8 @@ impl<C: Chare<A>, H: Openings<C>, A: Allocator + Copy> PeState<C, H, A> {
         self.resume_with(gate, index, round, false, &mut reports)
     }
 
-    /// Resumes, and adds what is to be reported.
+    /// Resumes as [`resume`](PeState::resume) does, and appends what the event reports, in order: the resumption before
+    /// what it posted. On a refusal nothing is appended.
     pub fn resume_reporting<G: Gate>(
         &mut self,
         gate: &G,
