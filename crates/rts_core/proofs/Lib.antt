@@ -1,2 +1,4 @@
+pub mod Histories
 pub mod Notes
 pub mod Places
+pub mod Steps

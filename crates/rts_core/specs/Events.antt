@@ -86,6 +86,12 @@ module _ {C : Type 0} where
     front ← where_true (is_none pe.hand) (front_of queue)
     Some (received pe front.0, front.1)
 
+  abbrev pub delivered_from : PeView C → List (List Parcel) → ℕ → Option (PeView C × List (List Parcel))
+  delivered_from pe queues p = do
+    queue ← slice_get queues p
+    after ← delivered pe queue
+    Some (after.0, slice_set queues p after.1)
+
   -- Report: a note is owed; the first one goes to the board
   abbrev pub handed_in : {A : Type 0} → PeView C → BoardState A → Option (PeView C × BoardState A × List Report)
   handed_in pe b = do
@@ -149,9 +155,8 @@ module _ {C A : Type 0} (step : Step C) (pack : C → List ℕ) (unpack : List �
     after ← flushed d.pe d.queues
     Some (record d { pe = after.0; queues = after.1 }, [])
   at_desk (Deliver p) d = do
-    queue ← slice_get d.queues p
-    after ← delivered d.pe queue
-    Some (record d { pe = after.0; queues = slice_set d.queues p after.1 }, [])
+    after ← delivered_from d.pe d.queues p
+    Some (record d { pe = after.0; queues = after.1 }, [])
   at_desk (Act p) d = do
     after ← acted step pack unpack d.pe
     Some (record d { pe = after.0 }, after.1)

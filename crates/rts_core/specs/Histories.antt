@@ -1,5 +1,6 @@
 -- That every element of a world is what its journal says, wherever it is.
 use Rattle.std.specs.Prelude.{◌≡◌, ◌<◌, ℕ, List, length, All, IfSome}
+use Rattle.std.specs.Map.{values_of}
 use Rattle.chares.specs.declared.carried.Carried.TheVariants.{Letter, Element}
 use Rattle.chares.specs.Elements.{IsHistory, IsPackedHistory}
 use Rattle.chares.specs.Steps.{Step}
@@ -17,7 +18,7 @@ module _ {C : Type 0} (step : Step C) (fits : C → Type 0) (pack : C → List �
   -- a PE is one of a run that opened with these chares, and so is each element in its room, its hand and its outbox
   pub record HasHistories (pe : PeView C) : Type 0 where
     pub same_array : pe.n ≡ length opened
-    pub room : All (λ x. IsHistory step pack opened x.1) pe.room
+    pub room : All (IsHistory step pack opened) (values_of pe.room)
     pub hand : IfSome pe.hand (λ x. IsParcelHistory x.parcel)
     pub outbox : All (λ x. IsParcelHistory x.parcel) pe.outbox
 
@@ -30,8 +31,6 @@ module _ {C : Type 0} (step : Step C) (fits : C → Type 0) (pack : C → List �
   pub record IsDesk {A : Type 0} (pes : ℕ) (d : Desk C A) : Type 0 where
     pub histories : HasHistories d.pe
     pub parcels : All (All IsParcelHistory) d.queues
-    pub queues_counted : length d.queues ≡ pes
-    pub words_counted : length d.words ≡ length opened
     pub words_name : All (λ q. q < pes) d.words
     pub board_counted : elements d.board.database ≡ length opened
     pub board_pes : d.board.pes ≡ pes

@@ -1,6 +1,6 @@
 //! The events between a PE and the board.
 
-ghost use Rattle.std.specs.Prelude.{◌≡◌, ◌<◌, ℕ, List, [], ◌∷◌, length, IfOk, IfErr, OnOk, OnErr, IfSome, IsSome, None, Some, MatchBool, slice_get};
+ghost use Rattle.std.specs.Prelude.{◌≡◌, ◌<◌, ℕ, List, [], ◌∷◌, length, IfOk, IfErr, OnOk, OnErr, IfSome, IsSome, None, Some, MatchBool, All, slice_get};
 ghost use Rattle.lb_database.specs.Measuring.{elements};
 ghost use Rattle.chares.specs.declared.report.Report.{Report};
 ghost use Rattle.chares.specs.declared.note.Note.{Note};
@@ -133,12 +133,16 @@ pub(crate) fn depart<C: Chare<A>, H: Openings<C>, A: Allocator + Copy>(
     requires same_array { elements board.now.database ≡ length H.opened }
     requires same_pes { board.now.pes ≡ H.pes }
     requires worded { length words.old ≡ length H.opened }
+    requires named { All (λ q. q < H.pes) words.old }
     ensures ok { IfOk result (λ reports. (pe.new, words.new, reports.items) ≡ or_same (pe.old, words.old, []) (left C.step C.pack p pe.old words.old board.now e)) }
     ensures err { OnErr result (pe.new ≡ pe.old) }
     ensures same_words { OnErr result (words.new ≡ words.old) }
     ensures enabled { OnErr result (IsSome (left C.step C.pack p pe.old words.old board.now e)) }
     ensures only_memory { IfErr result (λ error. error ≡ OutOfMemory) }
+    ensures named { All (λ q. q < H.pes) words.new }
+    ensures fits { IfSome (found e pe.old.room) (λ el. C.fits el.chare) }
 {
+    meet_chare(pe, e);
     let mut reports = Vec::new(alloc);
     let Some((_, place)) = due_at(pe, board, e) else {
         return Ok(reports);
@@ -153,4 +157,14 @@ pub(crate) fn depart<C: Chare<A>, H: Openings<C>, A: Allocator + Copy>(
         unreachable!()
     };
     Ok(reports)
+}
+
+// The chare of an element is a value of its type, as its trait says where it tells the length of its pack.
+fn meet_chare<C: Chare<A>, H: Openings<C>, A: Allocator>(pe: &PeState<C, H, A>, e: Index)
+    ensures { IfSome (found e pe.now.room) (λ el. C.fits el.chare) }
+{
+    let Some(element) = pe.room().element(e) else {
+        return;
+    };
+    let _len = element.chare().packed_len();
 }

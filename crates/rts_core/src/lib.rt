@@ -6,6 +6,7 @@ mod event;
 mod passing;
 mod queue;
 mod reports;
+mod stepping;
 mod working;
 
 pub use event::Event;

@@ -2,7 +2,7 @@
 
 ghost use Rattle.std.specs.Prelude.{◌≡◌, ◌<◌, ℕ, List, OnOk, OnErr, IsSome, All};
 ghost use Rattle.pe_state.specs.Pes.{PeView, Parcel};
-ghost use Rattle.rts_core.specs.Events.{looked_up, flushed, delivered};
+ghost use Rattle.rts_core.specs.Events.{looked_up, flushed, delivered, delivered_from};
 ghost use Rattle.rts_core.specs.Parts.{or_same};
 
 use crate::queue::Queue;
@@ -65,4 +65,20 @@ pub(crate) fn deliver<C: Chare<A>, H: Openings<C>, A: Allocator + Copy>(
         return;
     };
     pe.receive(parcel);
+}
+
+/// Deliver, where there is such a queue.
+#[tactic(auto, using(std::proofs::lemmas::Option::gets, crate::proofs::Steps::delivered_at))]
+pub(crate) fn deliver_at<C: Chare<A>, H: Openings<C>, A: Allocator + Copy>(
+    pe: &mut PeState<C, H, A>,
+    queues: &mut [Queue<C, H, A>],
+    p: Pe,
+)
+    ensures { (pe.new, queues.new) ≡ or_same (pe.old, queues.old) (delivered_from pe.old queues.old p) }
+{
+    let q = p.get() as usize;
+    if queues.len() <= q {
+        return;
+    }
+    deliver(pe, &mut queues[q]);
 }
