@@ -91,7 +91,7 @@ impl<A: Allocator> Board<A> {
         bytes: u32,
         pe: Pe,
     ) -> Result<(), BoardError>
-        requires { pe < self.old.pes }
+        requires below_pes { pe < self.old.pes }
         ensures answer { MatchResult result (λ _. IsReport self.old.database i round bytes)
             (λ error. RefusesReport self.old.database i round bytes (database_error_of error)) }
         ensures ok { OnOk result (self.new ≡ after_report self.old i units bytes pe) }

@@ -12,6 +12,8 @@ mod divisions;
 #[cfg(test)]
 mod equal_costs;
 #[cfg(test)]
+mod equality;
+#[cfg(test)]
 mod fixtures;
 #[cfg(test)]
 mod limits;

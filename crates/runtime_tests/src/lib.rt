@@ -6,3 +6,5 @@
 mod board;
 #[cfg(test)]
 mod packing;
+#[cfg(test)]
+mod tally;

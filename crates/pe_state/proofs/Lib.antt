@@ -1,0 +1,5 @@
+pub mod Below
+pub mod Keyed
+pub mod Reasons
+pub mod Reports
+pub mod Shelved
