@@ -11,6 +11,7 @@ ghost use Rattle.rts_core.specs.Events.{handed_in, board_after, note_reports, le
 ghost use Rattle.rts_core.specs.Parts.{or_same};
 ghost use Rattle.rts_core.specs.Refusals.{RefusesDecide};
 
+use crate::reports::Reports;
 use crate::working::due_at;
 use at_sync::Board;
 use chare_index::{Index, Limits, Pe, Round};
@@ -24,32 +25,32 @@ pub(crate) fn hand_in<C: Chare<A>, H: Openings<C>, A: Allocator + Copy>(
     alloc: A,
     pe: &mut PeState<C, H, A>,
     board: &mut Board<A>,
-) -> Result<Vec<Report, A>, AllocError>
-    ensures ok { IfOk result (λ reports. (pe.new, board.new, reports.items) ≡ or_same (pe.old, board.old, []) (handed_in pe.old board.old)) }
+) -> Result<Reports<A>, AllocError>
+    ensures ok { IfOk result (λ reports. (pe.new, board.new, reports) ≡ or_same (pe.old, board.old, []) (handed_in pe.old board.old)) }
     ensures err { OnErr result (pe.new ≡ pe.old) }
     ensures same_board { OnErr result (board.new ≡ board.old) }
     ensures enabled { OnErr result (IsSome (slice_get pe.old.notes 0)) }
 {
     let Some(note) = pe.next_note() else {
-        return Ok(Vec::new(alloc));
+        return Ok(Reports::none(alloc));
     };
     let reports = reports_of_note(alloc, &note)?;
     if !take_note(board, &note) {
-        return Ok(Vec::new(alloc));
+        return Ok(Reports::none(alloc));
     }
     pe.note_done();
     Ok(reports)
 }
 
 // What is reported of a note.
-fn reports_of_note<A: Allocator>(alloc: A, note: &Note) -> Result<Vec<Report, A>, AllocError>
-    ensures { IfOk result (λ reports. reports.items ≡ note_reports note.now) }
+fn reports_of_note<A: Allocator>(alloc: A, note: &Note) -> Result<Reports<A>, AllocError>
+    ensures { IfOk result (λ reports. reports ≡ note_reports note.now) }
 {
     let mut reports = Vec::new(alloc);
     if let Note::Sync(e, round, _, _, _) = note {
         reports.push(Report::Synced(*e, *round))?;
     }
-    Ok(reports)
+    Ok(Reports::of(reports))
 }
 
 // Hands a note to the board, and returns whether the board takes it.
@@ -97,8 +98,8 @@ fn take_finish<A: Allocator>(board: &mut Board<A>, e: Index) -> bool
 pub(crate) fn decide<A: Allocator + Copy>(
     alloc: A,
     board: &mut Board<A>,
-) -> Result<Vec<Report, A>, StepError>
-    ensures ok { IfOk result (λ reports. MayDecide board.old board.new reports.items) }
+) -> Result<Reports<A>, StepError>
+    ensures ok { IfOk result (λ reports. MayDecide board.old board.new reports) }
     ensures err { OnErr result (board.new ≡ board.old) }
     ensures refused { IfErr result (RefusesDecide board.old.database) }
     ensures counted { elements board.new.database ≡ elements board.old.database }
@@ -106,7 +107,7 @@ pub(crate) fn decide<A: Allocator + Copy>(
 {
     let mut reports = Vec::new(alloc);
     if !board.is_complete() {
-        return Ok(reports);
+        return Ok(Reports::of(reports));
     }
     if board.database().round().get() == Limits::ROUND {
         return Err(StepError::Worn);
@@ -118,7 +119,7 @@ pub(crate) fn decide<A: Allocator + Copy>(
     let Ok(()) = reports.push(Report::Decided(round)) else {
         unreachable!()
     };
-    Ok(reports)
+    Ok(Reports::of(reports))
 }
 
 /// Depart: an element leaves for its place, and its word names that.
@@ -129,12 +130,12 @@ pub(crate) fn depart<C: Chare<A>, H: Openings<C>, A: Allocator + Copy>(
     words: &mut [Pe],
     board: &Board<A>,
     e: Index,
-) -> Result<Vec<Report, A>, StepError>
+) -> Result<Reports<A>, StepError>
     requires same_array { elements board.now.database ≡ length H.opened }
     requires same_pes { board.now.pes ≡ H.pes }
     requires worded { length words.old ≡ length H.opened }
     requires named { All (λ q. q < H.pes) words.old }
-    ensures ok { IfOk result (λ reports. (pe.new, words.new, reports.items) ≡ or_same (pe.old, words.old, []) (left C.step C.pack p pe.old words.old board.now e)) }
+    ensures ok { IfOk result (λ reports. (pe.new, words.new, reports) ≡ or_same (pe.old, words.old, []) (left C.step C.pack p pe.old words.old board.now e)) }
     ensures err { OnErr result (pe.new ≡ pe.old) }
     ensures same_words { OnErr result (words.new ≡ words.old) }
     ensures enabled { OnErr result (IsSome (left C.step C.pack p pe.old words.old board.now e)) }
@@ -145,10 +146,10 @@ pub(crate) fn depart<C: Chare<A>, H: Openings<C>, A: Allocator + Copy>(
     meet_chare(pe, e);
     let mut reports = Vec::new(alloc);
     let Some((_, place)) = due_at(pe, board, e) else {
-        return Ok(reports);
+        return Ok(Reports::of(reports));
     };
     if place == p {
-        return Ok(reports);
+        return Ok(Reports::of(reports));
     }
     reports.reserve(1)?;
     pe.depart(e, place)?;
@@ -156,7 +157,7 @@ pub(crate) fn depart<C: Chare<A>, H: Openings<C>, A: Allocator + Copy>(
     let Ok(()) = reports.push(Report::Departed(e)) else {
         unreachable!()
     };
-    Ok(reports)
+    Ok(Reports::of(reports))
 }
 
 // The chare of an element is a value of its type, as its trait says where it tells the length of its pack.

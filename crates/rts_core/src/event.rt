@@ -1,3 +1,6 @@
+ghost use Rattle.std.specs.Prelude.{◌≡◌};
+ghost use Rattle.rts_core.specs.Events.{pe_of};
+
 use chare_index::{Index, Pe};
 
 /// What may happen in a world, one step of one PE, or of the board.
@@ -21,4 +24,23 @@ pub enum Event {
     Depart(Pe, Index),
     /// An element that stands at its place, on this PE, goes on.
     Resume(Pe, Index),
+}
+
+impl Event {
+    /// The PE that makes the step, or `None` where the board decides.
+    pub fn pe(&self) -> Option<Pe>
+        ensures value { result ≡ pe_of self.now }
+    {
+        match self {
+            Event::Start(p, _)
+            | Event::Look(p)
+            | Event::Flush(p)
+            | Event::Deliver(p)
+            | Event::Act(p)
+            | Event::Report(p)
+            | Event::Depart(p, _)
+            | Event::Resume(p, _) => Some(*p),
+            Event::Decide => None,
+        }
+    }
 }

@@ -3,13 +3,16 @@
 
 mod balancing;
 mod event;
+mod opening;
 mod passing;
 mod queue;
 mod reports;
 mod stepping;
 mod working;
+mod world;
 
 pub use event::Event;
 pub use pe_state::{Acted, Item, Parcel, PeState, Room, StepError};
 pub use queue::Queue;
 pub use reports::Reports;
+pub use world::World;

@@ -9,9 +9,10 @@ ghost use Rattle.rts_core.specs.Events.{started, due, went_on, acted, place_in};
 ghost use Rattle.rts_core.specs.Parts.{or_same};
 ghost use Rattle.rts_core.specs.Refusals.{RefusesStart, RefusesGoingOn};
 
+use crate::reports::Reports;
 use at_sync::Board;
 use chare_index::{Index, Limits, NoGate, Pe, Round};
-use chares::{Chare, Openings, Report};
+use chares::{Chare, Openings};
 use pe_state::{PeState, StepError};
 use std::alloc::Allocator;
 
@@ -20,36 +21,36 @@ pub(crate) fn start<C: Chare<A>, H: Openings<C>, A: Allocator + Copy>(
     alloc: A,
     pe: &mut PeState<C, H, A>,
     e: Index,
-) -> Result<Vec<Report, A>, StepError>
-    ensures ok { IfOk result (λ reports. (pe.new, reports.items) ≡ or_same (pe.old, []) (started C.step C.pack pe.old e)) }
+) -> Result<Reports<A>, StepError>
+    ensures ok { IfOk result (λ reports. (pe.new, reports) ≡ or_same (pe.old, []) (started C.step C.pack pe.old e)) }
     ensures err { OnErr result (pe.new ≡ pe.old) }
     ensures refused { IfErr result (RefusesStart C.step C.pack C.refuses pe.old e) }
 {
     let mut reports = Vec::new(alloc);
     let Some(element) = pe.room().element(e) else {
-        return Ok(reports);
+        return Ok(Reports::of(reports));
     };
     if element.progress().started {
-        return Ok(reports);
+        return Ok(Reports::of(reports));
     }
     let round = Round::new(0).unwrap();
     pe.resume_reporting(&NoGate, e, round, &mut reports)?;
-    Ok(reports)
+    Ok(Reports::of(reports))
 }
 
 /// Act: what the hand holds is installed, executed, shelved or forwarded.
 pub(crate) fn act<C: Chare<A>, H: Openings<C>, A: Allocator + Copy>(
     alloc: A,
     pe: &mut PeState<C, H, A>,
-) -> Result<Vec<Report, A>, StepError>
-    ensures ok { IfOk result (λ reports. (pe.new, reports.items) ≡ or_same (pe.old, []) (acted C.step C.pack C.unpack pe.old)) }
+) -> Result<Reports<A>, StepError>
+    ensures ok { IfOk result (λ reports. (pe.new, reports) ≡ or_same (pe.old, []) (acted C.step C.pack C.unpack pe.old)) }
     ensures err { OnErr result (pe.new ≡ pe.old) }
     ensures enabled { OnErr result (IsSome (acting C.step C.pack C.unpack pe.old)) }
     ensures refused { IfErr result (RefusesStep (RefusesAct C.refuses pe.old)) }
 {
     let mut reports = Vec::new(alloc);
     let _acted = pe.act_reporting(&NoGate, &mut reports)?;
-    Ok(reports)
+    Ok(Reports::of(reports))
 }
 
 /// Resume: an element that stands at its place goes on.
@@ -59,21 +60,21 @@ pub(crate) fn resume<C: Chare<A>, H: Openings<C>, A: Allocator + Copy>(
     pe: &mut PeState<C, H, A>,
     board: &Board<A>,
     e: Index,
-) -> Result<Vec<Report, A>, StepError>
+) -> Result<Reports<A>, StepError>
     requires same_array { elements board.now.database ≡ length H.opened }
-    ensures ok { IfOk result (λ reports. (pe.new, reports.items) ≡ or_same (pe.old, []) (went_on C.step C.pack p pe.old board.now e)) }
+    ensures ok { IfOk result (λ reports. (pe.new, reports) ≡ or_same (pe.old, []) (went_on C.step C.pack p pe.old board.now e)) }
     ensures err { OnErr result (pe.new ≡ pe.old) }
     ensures refused { IfErr result (RefusesGoingOn C.step C.pack C.refuses p pe.old board.now e) }
 {
     let mut reports = Vec::new(alloc);
     let Some((round, place)) = due_at(pe, board, e) else {
-        return Ok(reports);
+        return Ok(Reports::of(reports));
     };
     if place != p {
-        return Ok(reports);
+        return Ok(Reports::of(reports));
     }
     pe.resume_reporting(&NoGate, e, round, &mut reports)?;
-    Ok(reports)
+    Ok(Reports::of(reports))
 }
 
 /// The round for whose end an element of the PE waits, and its place in that round's decision.
