@@ -259,6 +259,40 @@ fn nothing_happens<H: Openings<Tally>>(rt: &(impl Abort + AllocGlobal), chares: 
     }
 }
 
+// A letter to an element that has not started stays in the hand until it starts.
+fn before_the_start<H: Openings<Tally>>(rt: &(impl Abort + AllocGlobal), chares: Vec<Tally>)
+    requires few { length chares.items ≤ Limits.ELEMENTS }
+    requires opened { chares.items ≡ H.opened }
+    requires pes { 3 ≡ H.pes }
+{
+    let mut world = self::world::<H>(rt, chares);
+    let world = &mut world;
+    happens(
+        rt,
+        world,
+        start(rt, 2, 2),
+        &[resumed(rt, 2, 0), posted(rt, 2, 0, 0)],
+    );
+    happens(rt, world, look(rt, 2), &[]);
+    happens(rt, world, flush(rt, 2), &[]);
+    happens(rt, world, deliver(rt, 0), &[]);
+    happens(rt, world, act(rt, 0), &[]);
+    happens(rt, world, look(rt, 0), &[]);
+    happens(rt, world, act(rt, 0), &[]);
+    happens(
+        rt,
+        world,
+        start(rt, 0, 0),
+        &[resumed(rt, 0, 0), posted(rt, 0, 0, 1)],
+    );
+    happens(rt, world, act(rt, 0), &[executed(rt, 2, 0, 0)]);
+}
+
+#[test]
+fn a_letter_before_the_start_of_its_element(rt: HostRuntime) {
+    before_the_start::<Brand>(&rt, three(&rt));
+}
+
 #[test]
 fn a_letter_before_its_element(rt: HostRuntime) {
     before_its_element::<Brand>(&rt, three(&rt));
