@@ -7,4 +7,6 @@ mod board;
 #[cfg(test)]
 mod packing;
 #[cfg(test)]
+mod scripts;
+#[cfg(test)]
 mod tally;

@@ -1,0 +1,102 @@
+-- Where elements open.
+use Rattle.std.proofs.Common.{◌≡◌, ℕ, zero, suc, ◌+◌, ◌*◌, ◌/◌, ◌<◌, ◌≤◌, List, [], ◌∷◌, ◌++◌, length, map, drop, Option, Some, None, Result, Ok, Err, refl, sym, ap, subst, add-one, zero-add, arith}
+use Rattle.std.proofs.Math.Nat.{div-lt_iff_lt-mul, mul_comm, mul-lt-mul_of_pos_left}
+use Rattle.std.specs.Prelude.{All, OnOk, slice_get, slice_set}
+use Rattle.std.specs.List.{range_with_len}
+use Rattle.std.specs.Map.{keys_of}
+use Rattle.std.specs.Ordering.{nat_cmp}
+use Rattle.std.specs.declared.cmp.Ordering.{Ordering}
+use Rattle.std.specs.declared.cmp.Ordering.TheVariants.{Less, Equal, Greater}
+use Rattle.std.proofs.lemmas.List.Elements.{All-nil, All-head, All-tail, All-set, All-weaker}
+use Rattle.std.proofs.lemmas.List.FromFn.{map-range_with_len_more}
+use Rattle.std.proofs.lemmas.Map.Lookups.{exact_unsigned}
+use Rattle.std.proofs.lemmas.Map.Views.{All-keys-insert_entry, All-values-insert_entry}
+use Rattle.chares.specs.Elements.{opening_element, IsHistory}
+use Rattle.chares.specs.Steps.{Step}
+use Rattle.pe_state.specs.Pes.{PeView, Item, new_pe, placed}
+use Rattle.pe_state.specs.Rooms.{found}
+use Rattle.rts_core.specs.Histories.{HasHistories, IsParcelHistory}
+use Rattle.rts_core.specs.Worlds.{home, placed_on}
+
+-- on one of the PEs
+pub home_below : (e n pes : ℕ) → e < n → 1 ≤ pes → home e n pes < pes
+home_below e n pes inside some =
+    let some_element : 0 < n = omega arith in
+    let some_pe : 0 < pes = omega arith in
+    let k : pes * e < pes * n = mul-lt-mul_of_pos_left {m = e} {n = n} {k = pes} inside some_pe in
+    let h : e * pes < pes * n = rw (mul_comm e pes) k in
+    (div-lt_iff_lt-mul {k = n} {x = e * pes} {y = pes} some_element).1 h
+
+-- one more of a list that is made number by number
+pub list_more : {X : Type 0} (f : ℕ → X) (n : ℕ) → map f (range_with_len 0 (n + 1)) ≡ map f (range_with_len 0 n) ++ f n ∷ []
+list_more f n = map-range_with_len_more f 0 n n (zero-add n)
+
+-- the front of what is left of a list, and the rest
+pub drop_next : {X : Type 0} (zs : List X) (e : ℕ) (x : X) (ys : List X) → x ∷ ys ≡ drop e zs → (ys ≡ drop (e + 1) zs) × (slice_get zs e ≡ Some x)
+drop_next [] zero x ys h = absurd (cc)
+drop_next [] (suc e) x ys h = absurd (cc)
+drop_next (z ∷ zs) zero x ys h = let a : ys ≡ zs = cc in let b : z ≡ x = cc in (a, ap Some b)
+drop_next (z ∷ zs) (suc e) x ys h =
+    let r = drop_next zs e x ys h in
+    let a : ys ≡ drop (suc e) zs = rw add-one at r.0 in
+    (rw add-one a, r.1)
+
+-- where all keys are below a number there is none with it
+pub lacks_at : {X : Type 0} (e : ℕ) (room : List (ℕ × X)) → All (λ k. k < e) (keys_of room) → found e room ≡ None
+lacks_at e [] all = refl
+lacks_at {X} e (p ∷ ps) all = by (nat_cmp e p.0) refl
+  where
+    below : p.0 < e
+    below = All-head (λ (k : ℕ). k < e) p.0 (keys_of ps) all
+
+    later : found e ps ≡ None
+    later = lacks_at e ps (All-tail (λ (k : ℕ). k < e) p.0 (keys_of ps) all)
+
+    by : (r : Ordering) → nat_cmp e p.0 ≡ r → found e (p ∷ ps) ≡ None
+    by Less m = rw m later
+    by Equal m = let same : e ≡ p.0 = exact_unsigned e p.0 m in absurd (omega (arith, below, same))
+    by Greater m = rw m later
+
+module _ {C : Type 0} (step : Step C) (fits : C → Type 0) (pack : C → List ℕ) (opened : List C) where
+  -- a PE as it opens, and with one more element placed
+  pub new_holds : (me n : ℕ) → n ≡ length opened → HasHistories step fits pack opened (new_pe me n)
+  new_holds me n same =
+      record {
+        same_array = same;
+        room = All-nil (IsHistory step pack opened);
+        hand = tt;
+        outbox = All-nil (λ (x : Item). IsParcelHistory step fits pack opened x.parcel);
+      }
+
+  pub placed_holds : (pe : PeView C) (e : ℕ) (chare : C) → HasHistories step fits pack opened pe → slice_get opened e ≡ Some chare → HasHistories step fits pack opened (placed pe e chare)
+  placed_holds pe e chare h at =
+      record {
+        same_array = h.same_array;
+        room = All-values-insert_entry nat_cmp e (opening_element e chare) (IsHistory step pack opened) pe.room h.room (record { opening = chare; opens = at; entries = []; is_lived = refl; is_journal = refl });
+        hand = h.hand;
+        outbox = h.outbox;
+      }
+
+  -- after a call that places it, unless it is refused
+  pub placed_ok : {V E : Type 0} (pes : List (PeView C)) (q e : ℕ) (chare : C) (pe pe' : PeView C) (r : Result V E) → slice_get pes q ≡ Some pe → OnOk r (pe' ≡ placed pe e chare) → OnOk r (slice_set pes q pe' ≡ placed_on pes q e chare (slice_get pes q))
+  placed_ok pes q e chare pe pe' (Ok v) at ok = rw at (ap (slice_set pes q) ok)
+  placed_ok pes q e chare pe pe' (Err error) at ok = tt
+
+  pub placed_histories : {V E : Type 0} (pes : List (PeView C)) (q e : ℕ) (chare : C) (pe pe' : PeView C) (r : Result V E) → HasHistories step fits pack opened pe → slice_get opened e ≡ Some chare → All (HasHistories step fits pack opened) pes → OnOk r (pe' ≡ placed pe e chare) → OnOk r (All (HasHistories step fits pack opened) (slice_set pes q pe'))
+  placed_histories pes q e chare pe pe' (Ok v) h at all ok =
+      All-set (HasHistories step fits pack opened) pes q pe' (subst (HasHistories step fits pack opened) (sym ok) (placed_holds pe e chare h at)) all
+  placed_histories pes q e chare pe pe' (Err error) h at all ok = tt
+
+-- all keys of a PE's room are below a number
+abbrev pub KeysBelow : {C : Type 0} → ℕ → PeView C → Type 0
+KeysBelow e pe = All (λ k. k < e) (keys_of pe.room)
+
+keys_more : {C : Type 0} (e : ℕ) (pe : PeView C) → KeysBelow e pe → KeysBelow (e + 1) pe
+keys_more e pe h = All-weaker (λ (k : ℕ). k < e) (λ (k : ℕ). k < e + 1) (λ k below. omega (arith, below)) (keys_of pe.room) h
+
+pub placed_before : {C V E : Type 0} (pes : List (PeView C)) (q e : ℕ) (chare : C) (pe pe' : PeView C) (r : Result V E) → KeysBelow e pe → All (KeysBelow e) pes → OnOk r (pe' ≡ placed pe e chare) → OnOk r (All (KeysBelow (e + 1)) (slice_set pes q pe'))
+placed_before {C} pes q e chare pe pe' (Ok v) h all ok =
+    All-set (KeysBelow (e + 1)) pes q pe'
+    (subst (KeysBelow (e + 1)) (sym ok) (All-keys-insert_entry nat_cmp e (opening_element e chare) (λ (k : ℕ). k < e + 1) pe.room (keys_more e pe h) (omega arith)))
+    (All-weaker (KeysBelow {C = C} e) (KeysBelow (e + 1)) (keys_more e) pes all)
+placed_before pes q e chare pe pe' (Err error) h all ok = tt
