@@ -1,1 +1,2 @@
+pub mod Couriers
 pub mod Tallies

@@ -1,309 +1,262 @@
-//! The core on three elements that send to each other, event by event: a round with its decision, an element that moves
-//! before a letter to it arrives and one that a letter chases, and events that are not enabled.
+//! Worlds of three tallies, event by event: a letter that comes before its element, and one that follows it.
 
-ghost use Rattle.std.specs.Prelude.{◌≡◌, ◌≤◌, length};
-ghost use Rattle.chare_index.specs.declared.limits.TheConstants.Limits.{ELEMENTS};
+ghost use Rattle.std.specs.Prelude.{◌≡◌};
 
+use crate::fixtures::{elements, pes, round, tally};
+use crate::steps::{account, opened, take};
 use crate::tally::Tally;
-use at_sync::Board;
-use chare_index::{Index, Limits, Pe, Round};
 use chares::{Openings, Report};
-use pup_pack::{Bytes, Items};
+use lb_certificates::Floor;
+use refusing_alloc::Refusing;
 use rts_core::{Event, World};
+use std::alloc::{AllocError, Allocator, Global};
 use std::marker::Brand;
 use std::process::Abort;
 
-fn pe(rt: &impl Abort, number: u32) -> Pe {
-    Pe::new(number).expect(rt, "no such PE")
+// The three tallies of the scripts, of 32, 40 and 32 bytes.
+fn three_tallies<A: Allocator + Copy>(alloc: A) -> Result<Vec<Tally<A>, A>, AllocError> {
+    let mut tallies = Vec::with_capacity(alloc, 3)?;
+    for (first, pad) in [(1, 0), (1, 8), (0, 0)] {
+        let next = tally(alloc, &[first, 0], pad)?;
+        if tallies.push(next).is_err() {
+            return Err(AllocError);
+        }
+    }
+    Ok(tallies)
 }
 
-fn index(rt: &impl Abort, place: u32) -> Index {
-    Index::new(place).expect(rt, "no such element")
-}
-
-fn round(rt: &impl Abort, number: u32) -> Round {
-    Round::new(number).expect(rt, "no such round")
-}
-
-// What may happen, by the number of a PE and of an element.
-fn start(rt: &impl Abort, p: u32, e: u32) -> Event {
-    Event::Start(pe(rt, p), index(rt, e))
-}
-
-fn look(rt: &impl Abort, p: u32) -> Event {
-    Event::Look(pe(rt, p))
-}
-
-fn flush(rt: &impl Abort, p: u32) -> Event {
-    Event::Flush(pe(rt, p))
-}
-
-fn deliver(rt: &impl Abort, p: u32) -> Event {
-    Event::Deliver(pe(rt, p))
-}
-
-fn act(rt: &impl Abort, p: u32) -> Event {
-    Event::Act(pe(rt, p))
-}
-
-fn report(rt: &impl Abort, p: u32) -> Event {
-    Event::Report(pe(rt, p))
-}
-
-fn depart(rt: &impl Abort, p: u32, e: u32) -> Event {
-    Event::Depart(pe(rt, p), index(rt, e))
-}
-
-fn resume(rt: &impl Abort, p: u32, e: u32) -> Event {
-    Event::Resume(pe(rt, p), index(rt, e))
-}
-
-// What is reported, by numbers.
-fn posted(rt: &impl Abort, p: u32, k: u32, to: u32) -> Report {
-    Report::Posted((pe(rt, p), k), index(rt, to))
-}
-
-fn executed(rt: &impl Abort, p: u32, k: u32, e: u32) -> Report {
-    Report::Executed((pe(rt, p), k), index(rt, e))
-}
-
-fn resumed(rt: &impl Abort, e: u32, r: u32) -> Report {
-    Report::Resumed(index(rt, e), round(rt, r))
-}
-
-fn shelved(rt: &impl Abort, p: u32, k: u32) -> Report {
-    Report::Shelved((pe(rt, p), k))
-}
-
-fn forwarded(rt: &impl Abort, p: u32, k: u32) -> Report {
-    Report::Forwarded((pe(rt, p), k))
-}
-
-fn installed(rt: &impl Abort, e: u32) -> Report {
-    Report::Installed(index(rt, e))
-}
-
-fn departed(rt: &impl Abort, e: u32) -> Report {
-    Report::Departed(index(rt, e))
-}
-
-fn synced(rt: &impl Abort, e: u32, r: u32) -> Report {
-    Report::Synced(index(rt, e), round(rt, r))
-}
-
-fn tally(rt: &(impl Abort + AllocGlobal), first: u32, second: u32, pad: usize) -> Tally {
-    let mut amounts = Vec::new(rt.alloc());
-    amounts.push(first).expect(rt, "out of memory");
-    amounts.push(second).expect(rt, "out of memory");
-    let mut zeros = Vec::new(rt.alloc());
-    zeros.resize(pad, 0).expect(rt, "out of memory");
-    Tally::new(Items::new(amounts), Bytes::new(zeros)).expect(rt, "no tally")
-}
-
-// Three elements with the amounts 1 0, 1 0 and 0 0 for two rounds, which pack into 32, 40 and 32 bytes.
-fn three(rt: &(impl Abort + AllocGlobal)) -> Vec<Tally> {
-    let mut chares = Vec::new(rt.alloc());
-    chares.push(tally(rt, 1, 0, 0)).expect(rt, "out of memory");
-    chares.push(tally(rt, 1, 0, 8)).expect(rt, "out of memory");
-    chares.push(tally(rt, 0, 0, 0)).expect(rt, "out of memory");
-    chares
-}
-
-// The event happens, with these reports.
-fn happens<H: Openings<Tally>>(
+// Each tally starts on its PE, and posts its first amount to its neighbor.
+fn start<H: Openings<Tally<A>>, A: Allocator + Copy>(
     rt: &impl Abort,
-    world: &mut World<Tally, H>,
-    event: Event,
-    want: &[Report],
+    world: &mut World<Tally<A>, H, A>,
+) -> bool {
+    let ((p0, p1, p2), (e0, e1, e2)) = (pes(rt), elements(rt));
+    let r0 = round(rt, 0);
+    let mut refused = take(
+        rt,
+        world,
+        &[
+            (
+                Event::Start(p0, e0),
+                &[Report::Resumed(e0, r0), Report::Posted((p0, 0), e1)],
+            ),
+            (
+                Event::Start(p1, e1),
+                &[Report::Resumed(e1, r0), Report::Posted((p1, 0), e2)],
+            ),
+            (
+                Event::Start(p2, e2),
+                &[Report::Resumed(e2, r0), Report::Posted((p2, 0), e0)],
+            ),
+        ],
+    );
+    for p in [p0, p1, p2] {
+        refused |= take(rt, world, &[(Event::Look(p), &[]), (Event::Flush(p), &[])]);
+    }
+    refused
+}
+
+// The first amounts arrive.
+fn execute<H: Openings<Tally<A>>, A: Allocator + Copy>(
+    rt: &impl Abort,
+    world: &mut World<Tally<A>, H, A>,
+) -> bool {
+    let ((p0, p1, p2), (e0, e1, e2)) = (pes(rt), elements(rt));
+    let refused = take(
+        rt,
+        world,
+        &[
+            (Event::Deliver(p0), &[]),
+            (Event::Act(p0), &[Report::Executed((p2, 0), e0)]),
+            (Event::Deliver(p1), &[]),
+            (Event::Act(p1), &[Report::Executed((p0, 0), e1)]),
+            (Event::Deliver(p2), &[]),
+            (Event::Act(p2), &[Report::Executed((p1, 0), e2)]),
+        ],
+    );
+    assert_eq!(rt; account(world), (3, 3, 0));
+    refused
+}
+
+// The first round is decided, and the tally that stays where it is goes on.
+fn decide<H: Openings<Tally<A>>, A: Allocator + Copy>(
+    rt: &impl Abort,
+    world: &mut World<Tally<A>, H, A>,
+) -> bool {
+    let ((p0, p1, p2), (e0, e1, e2)) = (pes(rt), elements(rt));
+    let r1 = round(rt, 1);
+    take(
+        rt,
+        world,
+        &[
+            (Event::Report(p0), &[Report::Synced(e0, r1)]),
+            (Event::Report(p1), &[Report::Synced(e1, r1)]),
+            (Event::Report(p2), &[Report::Synced(e2, r1)]),
+            (Event::Decide, &[Report::Decided(r1)]),
+            (
+                Event::Resume(p2, e2),
+                &[Report::Resumed(e2, r1), Report::Posted((p2, 1), e0)],
+            ),
+        ],
+    )
+}
+
+// The decision of the first round.
+fn decided<H: Openings<Tally<A>>, A: Allocator + Copy>(
+    rt: &impl Abort,
+    world: &World<Tally<A>, H, A>,
 ) {
-    let reports = world.step(event).expect(rt, "refused");
-    assert_eq!(rt; reports.as_slice(), want);
-}
-
-// The first round of the three elements on three PEs, up to the resumption of the one that stays.
-fn first_round<H: Openings<Tally>>(rt: &impl Abort, world: &mut World<Tally, H>) {
-    happens(
-        rt,
-        world,
-        start(rt, 0, 0),
-        &[resumed(rt, 0, 0), posted(rt, 0, 0, 1)],
-    );
-    happens(
-        rt,
-        world,
-        start(rt, 1, 1),
-        &[resumed(rt, 1, 0), posted(rt, 1, 0, 2)],
-    );
-    happens(
-        rt,
-        world,
-        start(rt, 2, 2),
-        &[resumed(rt, 2, 0), posted(rt, 2, 0, 0)],
-    );
-    for p in 0..3 {
-        happens(rt, world, look(rt, p), &[]);
-        happens(rt, world, flush(rt, p), &[]);
-    }
-    happens(rt, world, deliver(rt, 0), &[]);
-    happens(rt, world, act(rt, 0), &[executed(rt, 2, 0, 0)]);
-    happens(rt, world, deliver(rt, 1), &[]);
-    happens(rt, world, act(rt, 1), &[executed(rt, 0, 0, 1)]);
-    happens(rt, world, deliver(rt, 2), &[]);
-    happens(rt, world, act(rt, 2), &[executed(rt, 1, 0, 2)]);
-    for p in 0..3 {
-        happens(rt, world, report(rt, p), &[synced(rt, p, 1)]);
-    }
-    happens(rt, world, Event::Decide, &[Report::Decided(round(rt, 1))]);
-    assert!(rt; is_decided(rt, world.board()));
-    happens(
-        rt,
-        world,
-        resume(rt, 2, 2),
-        &[resumed(rt, 2, 1), posted(rt, 2, 1, 0)],
-    );
-}
-
-// Whether round 1 is decided as it should be: element 0 moves to PE 1 and element 1 to PE 2, or the like.
-fn is_decided(rt: &impl Abort, board: &Board) -> bool {
-    let decision = board
+    let decision = world
+        .board()
         .decision_for(round(rt, 1))
-        .expect(rt, "round 1 is not decided");
-    decision.division.bottleneck == 1
-        && decision.division.cuts.as_slice() == [0, 2, 3, 3].as_slice()
-        && decision.naming.as_slice() == [1, 2, 0].as_slice()
-        && decision.moved == 32
+        .expect(rt, "not decided");
+    assert_eq!(rt; (decision.division.bottleneck, decision.moved), (1, 32));
+    assert_eq!(rt; decision.division.cuts.as_slice(), [0, 2, 3, 3].as_slice());
+    assert_eq!(rt; decision.naming.as_slice(), [1, 2, 0].as_slice());
+    let stops = match &decision.division.floor {
+        Floor::Fence(stops) => stops.as_slice(),
+        Floor::Zero => &[],
+    };
+    assert_eq!(rt; stops, [0, 1, 1, 1].as_slice());
 }
 
-// A world of these chares on three PEs.
-fn world<H: Openings<Tally>>(rt: &(impl Abort + AllocGlobal), chares: Vec<Tally>) -> World<Tally, H>
-    requires few { length chares.items ≤ Limits.ELEMENTS }
-    requires opened { chares.items ≡ H.opened }
-    requires pes { 3 ≡ H.pes }
-{
-    World::new(rt.alloc(), 3, chares).expect(rt, "out of memory")
+// The opening of both scripts. Returns whether a step was refused.
+fn open<H: Openings<Tally<A>>, A: Allocator + Copy>(
+    rt: &impl Abort,
+    world: &mut World<Tally<A>, H, A>,
+) -> bool {
+    assert_eq!(rt; account(world), (0, 0, 0));
+    let mut refused = start(rt, world);
+    refused |= execute(rt, world);
+    refused |= decide(rt, world);
+    decided(rt, world);
+    refused
 }
 
-// Element 0 leaves before a letter to it is looked for, and arrives after the letter.
-fn before_its_element<H: Openings<Tally>>(rt: &(impl Abort + AllocGlobal), chares: Vec<Tally>)
-    requires few { length chares.items ≤ Limits.ELEMENTS }
-    requires opened { chares.items ≡ H.opened }
-    requires pes { 3 ≡ H.pes }
-{
-    let mut world = self::world::<H>(rt, chares);
-    let world = &mut world;
-    first_round(rt, world);
-    happens(rt, world, depart(rt, 0, 0), &[departed(rt, 0)]);
-    happens(rt, world, look(rt, 2), &[]);
-    happens(rt, world, flush(rt, 2), &[]);
-    happens(rt, world, deliver(rt, 1), &[]);
-    happens(rt, world, look(rt, 1), &[]);
-    happens(rt, world, act(rt, 1), &[shelved(rt, 2, 1)]);
-    happens(rt, world, flush(rt, 0), &[]);
-    happens(rt, world, deliver(rt, 1), &[]);
-    happens(rt, world, act(rt, 1), &[installed(rt, 0)]);
-    happens(rt, world, flush(rt, 1), &[]);
-    happens(rt, world, deliver(rt, 1), &[]);
-    happens(rt, world, act(rt, 1), &[executed(rt, 2, 1, 0)]);
+// A letter to element 0 is looked for after that has departed, and comes before it.
+fn come_before<H: Openings<Tally<A>>, A: Allocator + Copy>(
+    rt: &impl Abort,
+    world: &mut World<Tally<A>, H, A>,
+) -> bool {
+    let ((p0, p1, p2), (e0, _, _)) = (pes(rt), elements(rt));
+    let refused = take(
+        rt,
+        world,
+        &[
+            (Event::Depart(p0, e0), &[Report::Departed(e0)]),
+            (Event::Look(p2), &[]),
+            (Event::Flush(p2), &[]),
+            (Event::Deliver(p1), &[]),
+            (Event::Look(p1), &[]),
+            (Event::Act(p1), &[Report::Shelved((p2, 1))]),
+            (Event::Flush(p0), &[]),
+            (Event::Deliver(p1), &[]),
+            (Event::Act(p1), &[Report::Installed(e0)]),
+            (Event::Flush(p1), &[]),
+            (Event::Deliver(p1), &[]),
+            (Event::Act(p1), &[Report::Executed((p2, 1), e0)]),
+        ],
+    );
+    assert_eq!(rt; account(world), (4, 4, 0));
+    refused
 }
 
-// A letter to element 0 is looked for before that leaves, and is forwarded behind it.
-fn behind_its_element<H: Openings<Tally>>(rt: &(impl Abort + AllocGlobal), chares: Vec<Tally>)
-    requires few { length chares.items ≤ Limits.ELEMENTS }
-    requires opened { chares.items ≡ H.opened }
-    requires pes { 3 ≡ H.pes }
-{
-    let mut world = self::world::<H>(rt, chares);
-    let world = &mut world;
-    first_round(rt, world);
-    happens(rt, world, look(rt, 2), &[]);
-    happens(rt, world, depart(rt, 0, 0), &[departed(rt, 0)]);
-    happens(rt, world, flush(rt, 2), &[]);
-    happens(rt, world, deliver(rt, 0), &[]);
-    happens(rt, world, look(rt, 0), &[]);
-    happens(rt, world, act(rt, 0), &[forwarded(rt, 2, 1)]);
-    happens(rt, world, flush(rt, 0), &[]);
-    happens(rt, world, flush(rt, 0), &[]);
-    happens(rt, world, deliver(rt, 1), &[]);
-    happens(rt, world, act(rt, 1), &[installed(rt, 0)]);
-    happens(rt, world, deliver(rt, 1), &[]);
-    happens(rt, world, act(rt, 1), &[executed(rt, 2, 1, 0)]);
+// A letter to element 0 is looked for before that departs, and follows it.
+fn follow<H: Openings<Tally<A>>, A: Allocator + Copy>(
+    rt: &impl Abort,
+    world: &mut World<Tally<A>, H, A>,
+) -> bool {
+    let ((p0, p1, p2), (e0, _, _)) = (pes(rt), elements(rt));
+    let refused = take(
+        rt,
+        world,
+        &[
+            (Event::Look(p2), &[]),
+            (Event::Depart(p0, e0), &[Report::Departed(e0)]),
+            (Event::Flush(p2), &[]),
+            (Event::Deliver(p0), &[]),
+            (Event::Look(p0), &[]),
+            (Event::Act(p0), &[Report::Forwarded((p2, 1))]),
+            (Event::Flush(p0), &[]),
+            (Event::Flush(p0), &[]),
+            (Event::Deliver(p1), &[]),
+            (Event::Act(p1), &[Report::Installed(e0)]),
+            (Event::Deliver(p1), &[]),
+            (Event::Act(p1), &[Report::Executed((p2, 1), e0)]),
+        ],
+    );
+    assert_eq!(rt; account(world), (4, 4, 0));
+    refused
 }
 
-// Nothing happens at a PE or to an element that is not there, nor where nothing is to be done.
-fn nothing_happens<H: Openings<Tally>>(rt: &(impl Abort + AllocGlobal), chares: Vec<Tally>)
-    requires few { length chares.items ≤ Limits.ELEMENTS }
+fn comes_before<H: Openings<Tally>>(rt: &(impl Abort + AllocGlobal), chares: Vec<Tally>)
+    requires run { H.pes ≡ 3 }
     requires opened { chares.items ≡ H.opened }
-    requires pes { 3 ≡ H.pes }
 {
-    let mut world = self::world::<H>(rt, chares);
-    let world = &mut world;
-    happens(rt, world, start(rt, 3, 0), &[]);
-    happens(rt, world, look(rt, 3), &[]);
-    happens(rt, world, flush(rt, 3), &[]);
-    happens(rt, world, deliver(rt, 3), &[]);
-    happens(rt, world, act(rt, 3), &[]);
-    happens(rt, world, report(rt, 3), &[]);
-    happens(rt, world, depart(rt, 3, 0), &[]);
-    happens(rt, world, resume(rt, 3, 0), &[]);
-    happens(rt, world, start(rt, 0, 3), &[]);
-    happens(rt, world, start(rt, 0, 1), &[]);
-    happens(rt, world, depart(rt, 0, 0), &[]);
-    happens(rt, world, resume(rt, 0, 0), &[]);
-    happens(rt, world, Event::Decide, &[]);
-    for p in 0..3 {
-        happens(rt, world, look(rt, p), &[]);
-        happens(rt, world, flush(rt, p), &[]);
-        happens(rt, world, deliver(rt, p), &[]);
-        happens(rt, world, act(rt, p), &[]);
-        happens(rt, world, report(rt, p), &[]);
+    let world = opened::<Tally, H, Global>(rt, rt.alloc(), 3, chares);
+    let mut world = world.expect(rt, "out of memory");
+    assert!(rt;
+        !open(rt, &mut world) && !come_before(rt, &mut world),
+        "refused"
+    );
+}
+
+fn follows<H: Openings<Tally>>(rt: &(impl Abort + AllocGlobal), chares: Vec<Tally>)
+    requires run { H.pes ≡ 3 }
+    requires opened { chares.items ≡ H.opened }
+{
+    let world = opened::<Tally, H, Global>(rt, rt.alloc(), 3, chares);
+    let mut world = world.expect(rt, "out of memory");
+    assert!(rt; !open(rt, &mut world) && !follow(rt, &mut world), "refused");
+}
+
+#[test]
+fn a_letter_that_comes_before_its_element(rt: HostRuntime) {
+    let chares = three_tallies(rt.alloc()).expect(&rt, "out of memory");
+    comes_before::<Brand>(&rt, chares);
+}
+
+#[test]
+fn a_letter_that_follows_its_element(rt: HostRuntime) {
+    let chares = three_tallies(rt.alloc()).expect(&rt, "out of memory");
+    follows::<Brand>(&rt, chares);
+}
+
+// The first script over an allocator that refuses one request. Returns whether a call was refused.
+fn refused_once<'a, H: Openings<Tally<&'a Refusing<Global>>>>(
+    rt: &impl Abort,
+    alloc: &'a Refusing<Global>,
+    chares: Vec<Tally<&'a Refusing<Global>>, &'a Refusing<Global>>,
+) -> bool
+    requires run { H.pes ≡ 3 }
+    requires opened { chares.items ≡ H.opened }
+{
+    let Ok(mut world) = opened::<Tally<&Refusing<Global>>, H, &Refusing<Global>>(
+        rt, alloc, 3, chares,
+    ) else {
+        return true;
+    };
+    open(rt, &mut world) | come_before(rt, &mut world)
+}
+
+// The same, where the chares are made of that memory too.
+fn script(rt: &impl Abort, alloc: &Refusing<Global>) -> bool {
+    let Ok(chares) = three_tallies(alloc) else {
+        return true;
+    };
+    refused_once::<Brand>(rt, alloc, chares)
+}
+
+#[test]
+fn each_request_of_a_script_refused(rt: HostRuntime) {
+    for turn in 1..400 {
+        let alloc = Refusing::new(rt.alloc(), turn);
+        let refused = script(&rt, &alloc);
+        assert_eq!(rt; refused, alloc.has_refused(), "request {turn}");
+        if !refused {
+            assert!(rt; turn > 60, "the script makes more requests");
+            return;
+        }
     }
-}
-
-// A letter to an element that has not started stays in the hand until it starts.
-fn before_the_start<H: Openings<Tally>>(rt: &(impl Abort + AllocGlobal), chares: Vec<Tally>)
-    requires few { length chares.items ≤ Limits.ELEMENTS }
-    requires opened { chares.items ≡ H.opened }
-    requires pes { 3 ≡ H.pes }
-{
-    let mut world = self::world::<H>(rt, chares);
-    let world = &mut world;
-    happens(
-        rt,
-        world,
-        start(rt, 2, 2),
-        &[resumed(rt, 2, 0), posted(rt, 2, 0, 0)],
-    );
-    happens(rt, world, look(rt, 2), &[]);
-    happens(rt, world, flush(rt, 2), &[]);
-    happens(rt, world, deliver(rt, 0), &[]);
-    happens(rt, world, act(rt, 0), &[]);
-    happens(rt, world, look(rt, 0), &[]);
-    happens(rt, world, act(rt, 0), &[]);
-    happens(
-        rt,
-        world,
-        start(rt, 0, 0),
-        &[resumed(rt, 0, 0), posted(rt, 0, 0, 1)],
-    );
-    happens(rt, world, act(rt, 0), &[executed(rt, 2, 0, 0)]);
-}
-
-#[test]
-fn a_letter_before_the_start_of_its_element(rt: HostRuntime) {
-    before_the_start::<Brand>(&rt, three(&rt));
-}
-
-#[test]
-fn a_letter_before_its_element(rt: HostRuntime) {
-    before_its_element::<Brand>(&rt, three(&rt));
-}
-
-#[test]
-fn a_letter_behind_its_element(rt: HostRuntime) {
-    behind_its_element::<Brand>(&rt, three(&rt));
-}
-
-#[test]
-fn events_that_are_not_enabled(rt: HostRuntime) {
-    nothing_happens::<Brand>(&rt, three(&rt));
+    assert!(rt; false, "the script makes fewer requests");
 }
