@@ -1,5 +1,5 @@
 -- Where elements open.
-use Rattle.std.proofs.Common.{◌≡◌, ℕ, zero, suc, ◌+◌, ◌*◌, ◌/◌, ◌<◌, ◌≤◌, List, [], ◌∷◌, ◌++◌, length, map, drop, Option, Some, None, Result, Ok, Err, refl, sym, ap, subst, add-one, zero-add, arith}
+use Rattle.std.proofs.Common.{◌≡◌, ℕ, zero, suc, ◌+◌, ◌*◌, ◌/◌, ◌<◌, ◌≤◌, List, [], ◌∷◌, ◌++◌, length, map, drop, Option, Some, None, Result, Ok, Err, refl, sym, ap, subst, ◌∙◌, get_or, replicate, add-one, zero-add, arith}
 use Rattle.std.proofs.Math.Nat.{div-lt_iff_lt-mul, mul_comm, mul-lt-mul_of_pos_left}
 use Rattle.std.specs.Prelude.{All, OnOk, slice_get, slice_set}
 use Rattle.std.specs.List.{range_with_len}
@@ -7,16 +7,19 @@ use Rattle.std.specs.Map.{keys_of}
 use Rattle.std.specs.Ordering.{nat_cmp}
 use Rattle.std.specs.declared.cmp.Ordering.{Ordering}
 use Rattle.std.specs.declared.cmp.Ordering.TheVariants.{Less, Equal, Greater}
-use Rattle.std.proofs.lemmas.List.Elements.{All-nil, All-head, All-tail, All-set, All-weaker}
-use Rattle.std.proofs.lemmas.List.FromFn.{map-range_with_len_more}
+use Rattle.std.proofs.lemmas.List.Elements.{All-nil, All-head, All-tail, All-set, All-weaker, All-map, All-replicate}
+use Rattle.std.proofs.lemmas.List.FromFn.{map-range_with_len_more, length-map-range_with_len}
+use Rattle.std.proofs.lemmas.List.{length-replicate}
 use Rattle.std.proofs.lemmas.Map.Lookups.{exact_unsigned}
 use Rattle.std.proofs.lemmas.Map.Views.{All-keys-insert_entry, All-values-insert_entry}
 use Rattle.chares.specs.Elements.{opening_element, IsHistory}
 use Rattle.chares.specs.Steps.{Step}
 use Rattle.pe_state.specs.Pes.{PeView, Item, new_pe, placed}
 use Rattle.pe_state.specs.Rooms.{found}
-use Rattle.rts_core.specs.Histories.{HasHistories, IsParcelHistory}
-use Rattle.rts_core.specs.Worlds.{home, placed_on}
+use Rattle.at_sync.specs.Boards.{BoardState, new_board}
+use Rattle.chare_index.specs.declared.limits.TheConstants.Limits.{ELEMENTS, PES}
+use Rattle.rts_core.specs.Histories.{HasHistories, AreHistories, IsParcelHistory}
+use Rattle.rts_core.specs.Worlds.{IsWorld, home, placed_on}
 
 -- on one of the PEs
 pub home_below : (e n pes : ℕ) → e < n → 1 ≤ pes → home e n pes < pes
@@ -100,3 +103,35 @@ placed_before {C} pes q e chare pe pe' (Ok v) h all ok =
     (subst (KeysBelow (e + 1)) (sym ok) (All-keys-insert_entry nat_cmp e (opening_element e chare) (λ (k : ℕ). k < e + 1) pe.room (keys_more e pe h) (omega arith)))
     (All-weaker (KeysBelow {C = C} e) (KeysBelow (e + 1)) (keys_more e) pes all)
 placed_before pes q e chare pe pe' (Err error) h all ok = tt
+
+-- the PEs as they open, before any element is placed
+pub opening_keys : (C : Type 0) (n pes : ℕ) → All (KeysBelow {C = C} 0) (map (λ (q : ℕ). new_pe q n) (range_with_len 0 pes))
+opening_keys C n pes =
+    All-map (KeysBelow {C = C} 0) (λ (q : ℕ). new_pe {C = C} q n) (range_with_len 0 pes) (λ k d inside. All-nil (λ (e : ℕ). e < 0))
+
+pub opening_histories : {C : Type 0} (step : Step C) (fits : C → Type 0) (pack : C → List ℕ) (opened : List C) (n pes : ℕ) → n ≡ length opened → All (HasHistories step fits pack opened) (map (λ (q : ℕ). new_pe q n) (range_with_len 0 pes))
+opening_histories {C} step fits pack opened n pes same =
+    All-map (HasHistories step fits pack opened) (λ (q : ℕ). new_pe {C = C} q n) (range_with_len 0 pes)
+    (λ k d inside. new_holds step fits pack opened (get_or (range_with_len 0 pes) k d) n same)
+
+-- the opening is a world, and of the run that it opens
+pub opening_is_world : {C A : Type 0} (n pes : ℕ) (states : List (PeView C)) (words : List ℕ) → 1 ≤ pes → pes ≤ PES → n ≤ ELEMENTS → length states ≡ pes → words ≡ map (λ e. home e n pes) (range_with_len 0 n) → All (λ q. q < pes) words → IsWorld {C = C} {A = A} n pes (record { pes = states; queues = replicate pes []; words = words; board = new_board n pes })
+opening_is_world n pes states words some few_pes few counted made named =
+    record {
+      some_pe = some;
+      few_pes = few_pes;
+      few = few;
+      pes_counted = counted;
+      queues_counted = length-replicate pes [];
+      words_counted = ap length made ∙ length-map-range_with_len (λ (e : ℕ). home e n pes) 0 n;
+      words_name = named;
+      board_counted = length-replicate n 0;
+      board_pes = refl;
+    }
+
+pub opening_run : {C A : Type 0} (step : Step C) (fits : C → Type 0) (pack : C → List ℕ) (opened : List C) (pes : ℕ) (states : List (PeView C)) (words : List ℕ) (b : BoardState A) → All (HasHistories step fits pack opened) states → AreHistories step fits pack opened (record { pes = states; queues = replicate pes []; words = words; board = b })
+opening_run step fits pack opened pes states words b h =
+    record {
+      pes = h;
+      queues = All-replicate (All (IsParcelHistory step fits pack opened)) pes [] (All-nil (IsParcelHistory step fits pack opened));
+    }
