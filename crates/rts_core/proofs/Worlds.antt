@@ -1,7 +1,10 @@
 -- A world after the step of one of its PEs.
 use Rattle.std.proofs.Common.{◌≡◌, ℕ, ◌+◌, ◌<◌, List, [], ◌++◌, length, take, drop, Option, Some, None, Result, Ok, Err, refl, sym, ap, ◌∙◌, length-set}
 use Rattle.std.specs.Prelude.{All, IfOk, OnErr, slice_get, slice_set}
-use Rattle.std.specs.Option.{option_and_then}
+use Rattle.std.specs.Option.{option_and_then, option_copied}
+use denote.Ref.{Bor}
+use Rattle.std.specs.Slice.{IsItemAt}
+use Rattle.std.proofs.lemmas.Option.{slice_get_past, slice_get_read}
 use Rattle.std.proofs.Math.Seq.{take-append_seam}
 use Rattle.std.proofs.lemmas.List.Elements.{All-set}
 use Rattle.pup_pack.specs.declared.error.PupError.{PupError}
@@ -110,3 +113,10 @@ decided_alone (Err e) w b ok = tt
 pub board_same : {C A V E : Type 0} (r : Result V E) (w : WorldView C A) (b : BoardState A) → OnErr r (b ≡ w.board) → OnErr r (◌≡◌ {A = WorldView C A} (record { pes = w.pes; queues = w.queues; words = w.words; board = b }) w)
 board_same (Ok v) w b err = tt
 board_same {C} {A} (Err e) w b err = ap (λ (x : BoardState A). record { pes = w.pes; queues = w.queues; words = w.words; board = x }) err
+
+-- what `get` lends is the item at that place, if there is one
+pub lent_at : {X : Type 0} (items : List X) (i : ℕ) (lent : Option (Bor X)) → IsItemAt items i lent → option_copied lent ≡ slice_get items i
+lent_at items i None found = sym (slice_get_past items i found.3)
+lent_at items i (Some item) found =
+    let inside : i < length items = found.3.0 in
+    sym (slice_get_read items (length items) i item.now refl inside found.1)

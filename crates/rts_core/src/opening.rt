@@ -1,6 +1,6 @@
 //! The opening of a world.
 
-ghost use Rattle.std.specs.Prelude.{◌≡◌, ◌+◌, ◌<◌, ◌≤◌, ℕ, List, [], length, Some, map, replicate, IfOk, OnOk, None, All, slice_get};
+ghost use Rattle.std.specs.Prelude.{◌≡◌, ◌+◌, ◌∷◌, ◌<◌, ◌≤◌, ℕ, List, [], length, Some, MatchOption, map, replicate, IfOk, OnOk, None, All, slice_get};
 ghost use Rattle.std.specs.List.{range_with_len};
 ghost use Rattle.std.specs.Map.{keys_of};
 ghost use Rattle.chare_index.specs.declared.limits.TheConstants.Limits.{ELEMENTS, PES};
@@ -30,10 +30,18 @@ pub(crate) fn opening_pes<C: Chare<A>, H: Openings<C>, A: Allocator + Copy>(
 {
     let mut made = Vec::new(alloc);
     for q in 0..pes {
-        let me = Pe::new(q).unwrap();
+        let me = pe_at(q);
         made.push(PeState::new(alloc, me, pes, n))?;
     }
     Ok(made)
+}
+
+// The PE with this number.
+fn pe_at(q: u32) -> Pe
+    requires { q < Limits.PES }
+    ensures value { result ≡ q }
+{
+    Pe::new(q).unwrap()
 }
 
 /// A queue for each PE.
@@ -90,12 +98,27 @@ pub(crate) fn settle<C: Chare<A>, H: Openings<C>, A: Allocator + Copy>(
 {
     let mut left = VecDeque::from_vec(chares);
     let mut e = 0;
-    while let Some(chare) = left.pop_front() {
-        let index = Index::new(e).unwrap();
+    while let Some(chare) = take_next(&mut left) {
+        let index = index_at(e);
         place_home(pes, n, index, chare)?;
         e += 1;
     }
     Ok(())
+}
+
+// The element at this place.
+fn index_at(e: u32) -> Index
+    requires { e < Limits.ELEMENTS }
+    ensures value { result ≡ e }
+{
+    Index::new(e).unwrap()
+}
+
+// The first of what is left.
+fn take_next<C: Drop, A: Allocator>(left: &mut VecDeque<C, A>) -> Option<C>
+    ensures taken { MatchOption result ((left.old.items ≡ []) × (left.new.items ≡ [])) (λ chare. left.old.items ≡ chare ∷ left.new.items) }
+{
+    left.pop_front()
 }
 
 // Places a chare as an element of n, where only elements before it were placed.
