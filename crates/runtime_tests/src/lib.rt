@@ -1,5 +1,5 @@
-//! Tests of the runtime: packed states, what elements report, what is decided for them, and worlds event by event.
-//! They use public calls only, on worked examples whose answers come from outside, and on full sizes.
+//! Tests of the runtime: packed states, PEs call by call, worlds event by event, what elements report, and what is
+//! decided for them. They use public calls only, on worked examples whose answers come from outside, and on full sizes.
 #![tactic(auto)]
 
 #[cfg(test)]
@@ -10,6 +10,8 @@ mod courier;
 mod fixtures;
 #[cfg(test)]
 mod packing;
+#[cfg(test)]
+mod pe;
 #[cfg(test)]
 mod scripts;
 #[cfg(test)]
