@@ -90,7 +90,7 @@ pub fn opened<C: Chare<A>, H: Openings<C>, A: Allocator + Copy>(
 }
 
 // Letters counted one by one. So few are posted here that no count wraps.
-#[derive(Default)]
+#[derive(Default, Drop)]
 struct Count {
     posted: u64,
     executed: u64,
