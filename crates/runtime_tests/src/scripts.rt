@@ -2,7 +2,6 @@
 //! before a letter to it arrives and one that a letter chases, and events that are not enabled.
 
 ghost use Rattle.std.specs.Prelude.{◌≡◌, ◌≤◌, length};
-ghost use Rattle.chare_index.specs.declared.limits.TheConstants.Limits.{ELEMENTS};
 
 use crate::tally::Tally;
 use at_sync::Board;
@@ -101,7 +100,9 @@ fn tally(rt: &(impl Abort + AllocGlobal), first: u32, second: u32, pad: usize) -
 }
 
 // Three elements with the amounts 1 0, 1 0 and 0 0 for two rounds, which pack into 32, 40 and 32 bytes.
-fn three(rt: &(impl Abort + AllocGlobal)) -> Vec<Tally> {
+fn three(rt: &(impl Abort + AllocGlobal)) -> Vec<Tally>
+    ensures { length result.items ≡ 3 }
+{
     let mut chares = Vec::new(rt.alloc());
     chares.push(tally(rt, 1, 0, 0)).expect(rt, "out of memory");
     chares.push(tally(rt, 1, 0, 8)).expect(rt, "out of memory");
