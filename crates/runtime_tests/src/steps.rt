@@ -16,11 +16,11 @@ pub type Step<'a> = (Event, &'a [Report]);
 fn take_one<C: Chare<A>, H: Openings<C>, A: Allocator + Copy>(
     rt: &impl Abort,
     world: &mut World<C, H, A>,
-    event: Event,
+    event: &Event,
     want: &[Report],
 ) -> bool {
     let before = account(world);
-    let refused = match world.step(event) {
+    let refused = match world.step(*event) {
         Ok(reports) => {
             assert_eq!(rt; reports.as_slice(), want);
             return false;
@@ -29,7 +29,7 @@ fn take_one<C: Chare<A>, H: Openings<C>, A: Allocator + Copy>(
     };
     assert_eq!(rt; refused, StepError::OutOfMemory);
     assert_eq!(rt; account(world), before);
-    let reports = world.step(event).expect(rt, "refused again");
+    let reports = world.step(*event).expect(rt, "refused again");
     assert_eq!(rt; reports.as_slice(), want);
     true
 }
@@ -42,8 +42,8 @@ pub fn take<C: Chare<A>, H: Openings<C>, A: Allocator + Copy>(
 ) -> bool {
     let mut refused = false;
     for i in 0..steps.len() {
-        let (event, want) = steps[i];
-        refused |= take_one(rt, world, event, want);
+        let (event, want) = &steps[i];
+        refused |= take_one(rt, world, event, *want);
     }
     refused
 }
@@ -62,8 +62,8 @@ pub fn account<C: Chare<A>, H: Openings<C>, A: Allocator + Copy>(
     world: &World<C, H, A>,
 ) -> (u64, u64, u64) {
     let mut count = Count::default();
-    for p in 0..world.pes() {
-        let Some(p) = Pe::new(p as u32) else {
+    for p in 0..256 {
+        let Some(p) = Pe::new(p) else {
             continue;
         };
         if let (Some(pe), Some(queue)) = (world.pe(p), world.queue(p)) {
