@@ -28,22 +28,26 @@ hand_holds g k hand x parcel h p = rw h (ap (of_parcel g k) p)
 
 module _ {C : Type 0} (step : Step C) (pack : C → List ℕ) where
   pub shelving_moved : (pe : PeView C) (x : Item) (l : LetterView) → pe.hand ≡ Some x → x.parcel ≡ Letter l → Acts step pe (shelving pe l)
-  shelving_moved pe x l h p =
-      (None, quiet step pe (shelving pe l).pe (shelving pe l).reports [] []
-          (λ g k.
-              let a : of_hand g k pe.hand ≡ weigh g l = hand_holds g k pe.hand x (Letter l) h p in
-              let b : sum_by (weigh g) (pe.shelf ++ l ∷ []) ≡ sum_by (weigh g) pe.shelf + weigh g l = sum_by_push (weigh g) pe.shelf l in
-              omega (arith, a, b))
-          refl refl refl refl refl)
+  shelving_moved pe x l h p = (
+    None,
+    quiet step pe (shelving pe l).pe (shelving pe l).reports [] []
+        (λ g k.
+        let a : of_hand g k pe.hand ≡ weigh g l = hand_holds g k pe.hand x (Letter l) h p in
+        let b : sum_by (weigh g) (pe.shelf ++ l ∷ []) ≡ sum_by (weigh g) pe.shelf + weigh g l = sum_by_push (weigh g) pe.shelf l in
+        omega (arith, a, b))
+        refl refl refl refl refl,
+  )
 
   pub forwarding_moved : (pe : PeView C) (x : Item) (l : LetterView) (q : ℕ) → pe.hand ≡ Some x → x.parcel ≡ Letter l → Acts step pe (forwarding pe l q)
-  forwarding_moved pe x l q h p =
-      (None, quiet step pe (forwarding pe l q).pe (forwarding pe l q).reports [] []
-          (λ g k.
-              let a : of_hand g k pe.hand ≡ weigh g l = hand_holds g k pe.hand x (Letter l) h p in
-              let b : sum_by (of_item g k) (pe.outbox ++ letter_at q (hopped l) ∷ []) ≡ sum_by (of_item g k) pe.outbox + weigh g l = sum_by_push (of_item g k) pe.outbox (letter_at q (hopped l)) in
-              omega (arith, a, b))
-          refl refl refl refl refl)
+  forwarding_moved pe x l q h p = (
+    None,
+    quiet step pe (forwarding pe l q).pe (forwarding pe l q).reports [] []
+        (λ g k.
+        let a : of_hand g k pe.hand ≡ weigh g l = hand_holds g k pe.hand x (Letter l) h p in
+        let b : sum_by (of_item g k) (pe.outbox ++ letter_at q (hopped l) ∷ []) ≡ sum_by (of_item g k) pe.outbox + weigh g l = sum_by_push (of_item g k) pe.outbox (letter_at q (hopped l)) in
+        omega (arith, a, b))
+        refl refl refl refl refl,
+  )
 
   pub passing_moved : (pe : PeView C) (x : Item) (l : LetterView) (look : Option ℕ) (a : Acting C) → pe.hand ≡ Some x → x.parcel ≡ Letter l → passing pe l look ≡ Some a → Acts step pe a
   passing_moved pe x l None a h p e = cc
@@ -56,13 +60,15 @@ module _ {C : Type 0} (step : Step C) (pack : C → List ℕ) where
       by false = forwarding_moved pe x l q h p
 
   pub executed_moved : (pe : PeView C) (x : Item) (l : LetterView) (el : ElementView C) → pe.hand ≡ Some x → x.parcel ≡ Letter l → found l.to pe.room ≡ Some el → Acts step pe (executed step pack pe l)
-  executed_moved pe x l el h p f =
-      (Some (el, OfLetter l), handled_moved step pack pe l.to (OfLetter l) None el (Tells.Executed l.id l.to) f
-          (λ g k.
-              let a : of_hand g k pe.hand ≡ weigh g l = hand_holds g k pe.hand x (Letter l) h p in
-              let b : sum_by (weigh g) (l ∷ []) ≡ weigh g l + 0 = sum_by-cons (weigh g) l [] in
-              omega (arith, a, b))
-          refl refl)
+  executed_moved pe x l el h p f = (
+    Some (el, OfLetter l),
+    handled_moved step pack pe l.to (OfLetter l) None el (Tells.Executed l.id l.to) f
+        (λ g k.
+        let a : of_hand g k pe.hand ≡ weigh g l = hand_holds g k pe.hand x (Letter l) h p in
+        let b : sum_by (weigh g) (l ∷ []) ≡ weigh g l + 0 = sum_by-cons (weigh g) l [] in
+        omega (arith, a, b))
+        refl refl,
+  )
 
   pub on_letter_moved : (pe : PeView C) (x : Item) (l : LetterView) (look : Option ℕ) (o : Option (ElementView C)) (a : Acting C)
       → pe.hand ≡ Some x → x.parcel ≡ Letter l → found l.to pe.room ≡ o → on_letter step pack pe l look o ≡ Some a → Acts step pe a
@@ -75,18 +81,20 @@ module _ {C : Type 0} (step : Step C) (pack : C → List ℕ) where
 
   pub installed_moved : (pe : PeView C) (x : Item) (p : PackedView) (chare : C) → pe.hand ≡ Some x → x.parcel ≡ Element p → found p.index pe.room ≡ None
       → Acts step pe (record { acted = IsInstalled; pe = installed pe p chare; reports = Tells.Installed p.index ∷ [] })
-  installed_moved pe x p chare h is f =
-      (None, quiet step pe (installed pe p chare) (Tells.Installed p.index ∷ []) [] []
-          (λ g k.
-              let mine : List LetterView = filter (is_for p.index) pe.shelf in
-              let others : List LetterView = filter (λ l. not (is_for p.index l)) pe.shelf in
-              let a : of_hand g k pe.hand ≡ k (p.index, p.journal) = hand_holds g k pe.hand x (Element p) h is in
-              let b : sum_by (weigh g) mine + sum_by (weigh g) others ≡ sum_by (weigh g) pe.shelf = sum_by-filter_both (is_for p.index) (λ l. not (is_for p.index l)) (λ l. refl) (weigh g) pe.shelf in
-              let c : sum_by (of_item g k) (pe.outbox ++ map (letter_at pe.me) mine) ≡ sum_by (of_item g k) pe.outbox + sum_by (of_item g k) (map (letter_at pe.me) mine) = sum_by-append (of_item g k) pe.outbox (map (letter_at pe.me) mine) in
-              let d : sum_by (of_item g k) (map (letter_at pe.me) mine) ≡ sum_by (weigh g) mine = sum_by-map (of_item g k) (letter_at pe.me) mine in
-              let r : of_room g k (joined p.index (unpacked p chare) pe.room) ≡ of_room g k pe.room + k (p.index, p.journal) = sum_joined (of_element g k) pe.room p.index (unpacked p chare) f in
-              omega (arith, a, b, c, d, r))
-          refl refl refl refl refl)
+  installed_moved pe x p chare h is f = (
+    None,
+    quiet step pe (installed pe p chare) (Tells.Installed p.index ∷ []) [] []
+        (λ g k.
+        let mine : List LetterView = filter (is_for p.index) pe.shelf in
+        let others : List LetterView = filter (λ l. not (is_for p.index l)) pe.shelf in
+        let a : of_hand g k pe.hand ≡ k (p.index, p.journal) = hand_holds g k pe.hand x (Element p) h is in
+        let b : sum_by (weigh g) mine + sum_by (weigh g) others ≡ sum_by (weigh g) pe.shelf = sum_by-filter_both (is_for p.index) (λ l. not (is_for p.index l)) (λ l. refl) (weigh g) pe.shelf in
+        let c : sum_by (of_item g k) (pe.outbox ++ map (letter_at pe.me) mine) ≡ sum_by (of_item g k) pe.outbox + sum_by (of_item g k) (map (letter_at pe.me) mine) = sum_by-append (of_item g k) pe.outbox (map (letter_at pe.me) mine) in
+        let d : sum_by (of_item g k) (map (letter_at pe.me) mine) ≡ sum_by (weigh g) mine = sum_by-map (of_item g k) (letter_at pe.me) mine in
+        let r : of_room g k (joined p.index (unpacked p chare) pe.room) ≡ of_room g k pe.room + k (p.index, p.journal) = sum_joined (of_element g k) pe.room p.index (unpacked p chare) f in
+        omega (arith, a, b, c, d, r))
+        refl refl refl refl refl,
+  )
 
   module _ (unpack : List ℕ → Result (C × ℕ) PupError) where
     pub installing_moved : (pe : PeView C) (x : Item) (p : PackedView) (u : Result (C × ℕ) PupError) (a : Acting C)

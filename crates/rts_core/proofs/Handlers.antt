@@ -53,7 +53,7 @@ module _ {C : Type 0} (step : Step C) (pack : C → List ℕ) where
       → found e pe.room ≡ Some el
       → of_hand g k hand + sum_by (weigh g) (letters_of_entry done) ≡ of_hand g k pe.hand
       → of_pe g k (handled step pack pe e done hand) + (sum_by (weigh g) (letters_of_entry done) + (k (life_of el) + 0))
-          ≡ of_pe g k pe + (sum_by (weigh g) (numbered pe.me pe.count (outcome_of step pack el pe.n done).sends) + (k (el.index, el.journal ++ done ∷ []) + 0))
+      ≡ of_pe g k pe + (sum_by (weigh g) (numbered pe.me pe.count (outcome_of step pack el pe.n done).sends) + (k (el.index, el.journal ++ done ∷ []) + 0))
   handled_weighs g k pe e done hand el h hands =
       let ss : List (ℕ × List ℕ) = (outcome_of step pack el pe.n done).sends in
       let a : sum_by (of_item g k) (pe.outbox ++ letters_of pe.me pe.count ss) ≡ sum_by (of_item g k) pe.outbox + sum_by (of_item g k) (letters_of pe.me pe.count ss) = sum_by-append (of_item g k) pe.outbox (letters_of pe.me pe.count ss) in
@@ -73,14 +73,14 @@ module _ {C : Type 0} (step : Step C) (pack : C → List ℕ) where
         weighs = λ g k. handled_weighs g k pe e done hand el h (hands g k);
         stood = (e, h);
         tells_posts = λ r.
-          let p : posts (first ∷ posts_of pe.me pe.count ss) ≡ posts (first ∷ []) ++ posts (posts_of pe.me pe.count ss) = cases_posts first (posts_of pe.me pe.count ss) in
-          rw h (rw (p, no_post) (posts_told r pe.me pe.count ss));
+            let p : posts (first ∷ posts_of pe.me pe.count ss) ≡ posts (first ∷ []) ++ posts (posts_of pe.me pe.count ss) = cases_posts first (posts_of pe.me pe.count ss) in
+            rw h (rw (p, no_post) (posts_told r pe.me pe.count ss));
         tells_executions = λ r.
-          let p : executions (first ∷ posts_of pe.me pe.count ss) ≡ executions (first ∷ []) ++ executions (posts_of pe.me pe.count ss) = cases_executions first (posts_of pe.me pe.count ss) in
-          let n : executions (posts_of pe.me pe.count ss) ≡ [] = posts_execute_nothing pe.me pe.count ss in
-          let a : sum_by r (map (λ l. (l.id, l.to)) (letters_of_entry done) ++ []) ≡ sum_by r (map (λ l. (l.id, l.to)) (letters_of_entry done)) + sum_by r [] = sum_by-append r (map (λ l. (l.id, l.to)) (letters_of_entry done)) [] in
-          let b = sum_by-map r (λ (l : LetterView). (l.id, l.to)) (letters_of_entry done) in
-          rw h (rw (p, execution, n) (omega (arith, a, b)));
+            let p : executions (first ∷ posts_of pe.me pe.count ss) ≡ executions (first ∷ []) ++ executions (posts_of pe.me pe.count ss) = cases_executions first (posts_of pe.me pe.count ss) in
+            let n : executions (posts_of pe.me pe.count ss) ≡ [] = posts_execute_nothing pe.me pe.count ss in
+            let a : sum_by r (map (λ l. (l.id, l.to)) (letters_of_entry done) ++ []) ≡ sum_by r (map (λ l. (l.id, l.to)) (letters_of_entry done)) + sum_by r [] = sum_by-append r (map (λ l. (l.id, l.to)) (letters_of_entry done)) [] in
+            let b = sum_by-map r (λ (l : LetterView). (l.id, l.to)) (letters_of_entry done) in
+            rw h (rw (p, execution, n) (omega (arith, a, b)));
         same_me = refl;
         same_n = refl;
         counted = rw h refl;
@@ -130,8 +130,8 @@ module _ {C : Type 0} (step : Step C) (pack : C → List ℕ) where
   departed_moved pe e q =
       quiet step pe (departed pack pe e q) (Tells.Departed e ∷ []) [] []
       (λ g k.
-          let out : List Item = option_to_list (option_map (element_at q) (option_map (packed pack) (found e pe.room))) in
-          let a = departed_weighs g k pe e q (found e pe.room) refl in
-          let b : sum_by (of_item g k) (pe.outbox ++ out) ≡ sum_by (of_item g k) pe.outbox + sum_by (of_item g k) out = sum_by-append (of_item g k) pe.outbox out in
-          omega (arith, a, b))
+      let out : List Item = option_to_list (option_map (element_at q) (option_map (packed pack) (found e pe.room))) in
+      let a = departed_weighs g k pe e q (found e pe.room) refl in
+      let b : sum_by (of_item g k) (pe.outbox ++ out) ≡ sum_by (of_item g k) pe.outbox + sum_by (of_item g k) out = sum_by-append (of_item g k) pe.outbox out in
+      omega (arith, a, b))
       refl refl refl refl refl

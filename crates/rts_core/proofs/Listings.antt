@@ -10,6 +10,7 @@ use Rattle.chares.specs.Letters.{LetterView}
 use Rattle.pe_state.specs.Pes.{PeView, Parcel, Item}
 use Rattle.rts_core.specs.Places.{Life, life_of, letters_in, lives_in, items_at, letters_at, lives_at, letters, lives, letters_of_life, journaled}
 use Rattle.rts_core.specs.Worlds.{WorldView}
+use Rattle.rts_core.proofs.Moves.{Work, before, after}
 use Rattle.rts_core.proofs.Weights.{Weight, weigh, of_parcel, of_item, of_hand, of_element, of_room, of_pe, of_queue, of_world, sum_by-flat_map, sum_by-map, sum_by-same}
 
 abbrev pub no_life : Life → ℕ
@@ -17,6 +18,14 @@ no_life x = 0
 
 abbrev pub no_letter : Weight
 no_letter id to body = 0
+
+pub before_none : {C : Type 0} (work : Option (Work C)) → before no_life work ≡ 0
+before_none None = refl
+before_none (Some x) = refl
+
+pub after_none : {C : Type 0} (work : Option (Work C)) → after no_life work ≡ 0
+after_none None = refl
+after_none (Some x) = refl
 
 pub sum_zero : {X : Type 0} (xs : List X) → sum_by (λ x. 0) xs ≡ 0
 sum_zero [] = refl

@@ -121,6 +121,6 @@ pub handed_back_moved : {C : Type 0} (step : Step C) (pe : PeView C) (parcel : P
 handed_back_moved step pe parcel =
     quiet step pe (handed_back pe parcel) [] (parcel ∷ []) []
     (λ g k.
-        let b : sum_by (of_item g k) (record { parcel = parcel; address = pe.kept } ∷ pe.outbox) ≡ of_parcel g k parcel + sum_by (of_item g k) pe.outbox = sum_by-cons (of_item g k) (record { parcel = parcel; address = pe.kept }) pe.outbox in
-        omega (arith, b, sum_by-cons (of_parcel g k) parcel []))
+    let b : sum_by (of_item g k) (record { parcel = parcel; address = pe.kept } ∷ pe.outbox) ≡ of_parcel g k parcel + sum_by (of_item g k) pe.outbox = sum_by-cons (of_item g k) (record { parcel = parcel; address = pe.kept }) pe.outbox in
+    omega (arith, b, sum_by-cons (of_parcel g k) parcel []))
     refl refl refl refl refl

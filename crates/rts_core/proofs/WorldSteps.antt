@@ -90,9 +90,13 @@ numbered_says h me count (s ∷ ss) =
 
 -- ---- one step of a world
 
--- each PE has the number of its place, and is of n elements
-abbrev pub Sound : {C A : Type 0} → ℕ → WorldView C A → Type 0
-Sound {C} n w = (p : ℕ) (pe : PeView C) → slice_get w.pes p ≡ Some pe → (pe.me ≡ p) × (pe.n ≡ n)
+-- each PE is of n elements
+abbrev pub AreOf : {C A : Type 0} → ℕ → WorldView C A → Type 0
+AreOf {C} n w = (p : ℕ) (pe : PeView C) → slice_get w.pes p ≡ Some pe → pe.n ≡ n
+
+-- each PE has the number of its place
+abbrev pub Numbered : {C A : Type 0} → WorldView C A → Type 0
+Numbered {C} w = (p : ℕ) (pe : PeView C) → slice_get w.pes p ≡ Some pe → pe.me ≡ p
 
 -- whether the PE, if it is there, has posted number j
 abbrev pub known : {C : Type 0} → ℕ → Option (PeView C) → ℕ
@@ -113,14 +117,15 @@ pub record Stepped {C A : Type 0} (step : Step C) (n : ℕ) (w w' : WorldView C 
   pub says : (h : ℕ × List ℕ → ℕ) → sum_by (λ l. h (l.to, l.body)) new ≡ sum_by h (work_sends step n work)
   pub tells_posts : (r : Said → ℕ) → sum_by r (posts rs) ≡ sum_by (λ l. r (l.id, l.to)) new
   pub tells_executions : (r : Said → ℕ) → sum_by r (executions rs) ≡ sum_by (λ l. r (l.id, l.to)) (work_letters work)
-  pub sound : Sound n w'
-  pub numbers : (q j : ℕ) → sum_by (number_at q j) new + known j (slice_get w.pes q) ≡ known j (slice_get w'.pes q)
+  pub same_array : AreOf n w'
+  pub same_numbers : Numbered w → Numbered w'
+  pub numbers : Numbered w → (q j : ℕ) → sum_by (number_at q j) new + known j (slice_get w.pes q) ≡ known j (slice_get w'.pes q)
   pub counts : posted_count w' ≡ posted_count w + sum_by (λ l. 1) new
 
 pub stays : {C A : Type 0} (step : Step C) (n : ℕ) (w : WorldView C A) (words : List ℕ) (board : BoardState A) (rs : List Report)
-    → Sound n w → posts rs ≡ [] → executions rs ≡ []
+    → AreOf n w → posts rs ≡ [] → executions rs ≡ []
     → Stepped step n w (record { pes = w.pes; queues = w.queues; words = words; board = board }) rs
-stays step n w words board rs sound p x =
+stays step n w words board rs are p x =
     record {
       work = None;
       new = [];
@@ -129,23 +134,24 @@ stays step n w words board rs sound p x =
       says = λ h. refl;
       tells_posts = λ r. rw p refl;
       tells_executions = λ r. rw x refl;
-      sound = sound;
-      numbers = λ q j. zero-add _;
+      same_array = are;
+      same_numbers = λ numbered. numbered;
+      numbers = λ numbered q j. zero-add _;
       counts = sym (add-zero _);
     }
 
-module _ {C : Type 0} (n : ℕ) (pes : List (PeView C)) (p : ℕ) (pe pe' : PeView C) (at : slice_get pes p ≡ Some pe) where
-  pub sound_set : ((q : ℕ) (x : PeView C) → slice_get pes q ≡ Some x → (x.me ≡ q) × (x.n ≡ n)) → pe'.me ≡ pe.me → pe'.n ≡ pe.n
-      → (q : ℕ) (x : PeView C) (b : Bool) → nat_eq q p ≡ b → slice_get (slice_set pes p pe') q ≡ Some x → (x.me ≡ q) × (x.n ≡ n)
-  sound_set sound me all q x true t h =
+module _ {C : Type 0} (pes : List (PeView C)) (p : ℕ) (pe pe' : PeView C) (at : slice_get pes p ≡ Some pe) where
+  -- what holds of each PE at its place still does where it holds of the new one
+  pub each_set : (P : ℕ → PeView C → Type 0) → ((q : ℕ) (x : PeView C) → slice_get pes q ≡ Some x → P q x) → P p pe'
+      → (q : ℕ) (x : PeView C) (b : Bool) → nat_eq q p ≡ b → slice_get (slice_set pes p pe') q ≡ Some x → P q x
+  each_set P all new q x true t h =
       let e : q ≡ p = grind (arith, nat_tests) in
       let here : slice_get (slice_set pes p pe') p ≡ Some pe' = get_set_same pes p pe pe' at in
       let s : pe' ≡ x = cc in
-      let m = sound p pe at in
-      subst (λ (v : PeView C). (v.me ≡ q) × (v.n ≡ n)) s (me ∙ (m.0 ∙ sym e), all ∙ m.1)
-  sound_set sound me all q x false t h =
+      subst (λ (v : PeView C). P q v) s (subst (λ (i : ℕ). P i pe') (sym e) new)
+  each_set P all new q x false t h =
       let e : q ≢ p = grind (arith, nat_tests) in
-      sound q x (sym (get_set_other pes p q pe' e) ∙ h)
+      all q x (sym (get_set_other pes p q pe' e) ∙ h)
 
   pub numbers_set : (new : List LetterView) → pe.me ≡ p
       → ((j : ℕ) → sum_by (number_at pe.me j) new + below j pe.count ≡ below j pe'.count)
@@ -164,33 +170,33 @@ module _ {C : Type 0} (n : ℕ) (pes : List (PeView C)) (p : ℕ) (pe pe' : PeVi
 
 -- a step of one PE, where its parcels come from queues and go to them
 pub stepped : {C A : Type 0} (step : Step C) (n : ℕ) (w : WorldView C A) (p : ℕ) (pe pe' : PeView C) (queues : List (List Parcel)) (words : List ℕ) (board : BoardState A) (rs : List Report) (work : Option (Work C)) (came gone : List Parcel)
-    → Sound n w → slice_get w.pes p ≡ Some pe → Moved step pe pe' rs work came gone
+    → AreOf n w → slice_get w.pes p ≡ Some pe → Moved step pe pe' rs work came gone
     → ((g : Weight) (k : Life → ℕ) → sum_by (of_queue g k) queues + of_queue g k came ≡ sum_by (of_queue g k) w.queues + of_queue g k gone)
     → Stepped step n w (record { pes = slice_set w.pes p pe'; queues = queues; words = words; board = board }) rs
-stepped {C} step n w p pe pe' queues words board rs work came gone sound at m passes =
-    let here = sound p pe at in
+stepped {C} step n w p pe pe' queues words board rs work came gone are at m passes =
     record {
       work = work;
       new = posted step pe work;
       weighs = λ g k.
-        let a = sum_at (of_pe g k) w.pes p pe pe' at in
-        let b = m.weighs g k in
-        let c = passes g k in
-        omega (arith, a, b, c);
+          let a = sum_at (of_pe g k) w.pes p pe pe' at in
+          let b = m.weighs g k in
+          let c = passes g k in
+          omega (arith, a, b, c);
       stood = stands work m.stood;
-      says = λ h. subst (λ (v : ℕ). sum_by (λ (l : LetterView). h (l.to, l.body)) (posted step pe work) ≡ sum_by h (work_sends step v work)) here.1 (numbered_says h pe.me pe.count (work_sends step pe.n work));
+      says = λ h. subst (λ (v : ℕ). sum_by (λ (l : LetterView). h (l.to, l.body)) (posted step pe work) ≡ sum_by h (work_sends step v work)) (are p pe at) (numbered_says h pe.me pe.count (work_sends step pe.n work));
       tells_posts = m.tells_posts;
       tells_executions = m.tells_executions;
-      sound = λ q x. sound_set n w.pes p pe pe' at sound m.same_me m.same_n q x (nat_eq q p) refl;
-      numbers = λ q j. numbers_set n w.pes p pe pe' at (posted step pe work) here.0
+      same_array = λ q x. each_set w.pes p pe pe' at (λ i v. v.n ≡ n) are (m.same_n ∙ are p pe at) q x (nat_eq q p) refl;
+      same_numbers = λ numbered q x. each_set w.pes p pe pe' at (λ i v. v.me ≡ i) numbered (m.same_me ∙ numbered p pe at) q x (nat_eq q p) refl;
+      numbers = λ numbered q j. numbers_set w.pes p pe pe' at (posted step pe work) (numbered p pe at)
           (λ i. subst (λ (v : ℕ). sum_by (number_at pe.me i) (posted step pe work) + below i pe.count ≡ below i v) (sym m.counted) (numbers_own pe.me pe.count i (work_sends step pe.n work)))
           (λ r i ne. numbers_other pe.me pe.count r i (work_sends step pe.n work) ne)
           q j (nat_eq q p) refl;
       counts =
-        let a = sum_at (λ (x : PeView C). x.count) w.pes p pe pe' at in
-        let b = numbered_many pe.me pe.count (work_sends step pe.n work) in
-        let c = m.counted in
-        omega (arith, a, b, c);
+          let a = sum_at (λ (x : PeView C). x.count) w.pes p pe pe' at in
+          let b = numbered_many pe.me pe.count (work_sends step pe.n work) in
+          let c = m.counted in
+          omega (arith, a, b, c);
     }
   where
     stands : (o : Option (Work C)) → IfSome o (λ x. (e : ℕ) × (found e pe.room ≡ Some x.0)) → IfSome o (λ x. Stands w x.0)

@@ -65,3 +65,14 @@ AreSent step opened w =
 -- how many letters the PEs of a world have posted
 abbrev pub posted_count : {C A : Type 0} → WorldView C A → ℕ
 posted_count w = sum_by (λ pe. pe.count) w.pes
+
+-- how many letters were executed, and how many are held in places
+abbrev pub executed_count : {C A : Type 0} → WorldView C A → ℕ
+executed_count w = length (journaled w)
+
+abbrev pub held_count : {C A : Type 0} → WorldView C A → ℕ
+held_count w = length (letters w)
+
+-- every letter that the PEs of a world have posted is held, or was executed
+abbrev pub IsCounted : {C A : Type 0} → WorldView C A → Type 0
+IsCounted w = posted_count w ≡ executed_count w + held_count w
