@@ -20,7 +20,7 @@ use Rattle.rts_core.proofs.Weights.{Weight, weigh, of_world, sum_by-flat_map}
 use Rattle.rts_core.proofs.WorldSteps.{known, below, Stepped}
 use Rattle.rts_core.proofs.EventSteps.{happens_good}
 use Rattle.rts_core.proofs.Listings.{no_life, no_letter, sum_zero, world_letters, world_lives, world_journals}
-use Rattle.rts_core.proofs.Openings.{opened_lives, opening_of, opening_numbered, opening_knows, opening_weighs, opening_counts, one_at, opened_once}
+use Rattle.rts_core.proofs.OpeningWeights.{opened_lives, opening_of, opening_numbered, opening_knows, opening_weighs, opening_counts, one_at, opened_once}
 use Rattle.rts_core.proofs.RunLaws.{by_said, by_index, number_said, Kept, step_keeps, kept_join, run_keeps}
 use Rattle.rts_core.proofs.Sent.{by_message, each_one, length_sum, histories_of, sends_weight, sent_step, counted_step}
 
