@@ -1,23 +1,22 @@
 -- The account of every list of events.
-use Rattle.std.proofs.Common.{◌≡◌, ℕ, ◌+◌, ◌<◌, ◌≤◌, List, [], ◌∷◌, ◌++◌, length, Option, Some, None, Bool, sum_by, arith, refl, sym, ◌∙◌, ap, zero-add}
-use Rattle.std.specs.Prelude.{Result, slice_get, nat_lt, ◌==◌, if◌then◌else◌}
+use Rattle.std.proofs.Common.{◌≡◌, ℕ, ◌+◌, ◌≤◌, List, [], ◌∷◌, ◌++◌, length, Option, Some, None, sum_by, arith, refl, sym, ◌∙◌}
+use Rattle.std.specs.Prelude.{Result, slice_get, ◌==◌, if◌then◌else◌}
 use Rattle.std.specs.Option.{option_map_or}
 use Rattle.std.proofs.lemmas.Bool.Decides.{nat_tests}
 use Rattle.std.proofs.lemmas.List.Sums.{sum_by-cons}
 use Rattle.chares.specs.declared.report.Report.{Report}
-use Rattle.chares.specs.Letters.{LetterView}
 use Rattle.chares.specs.Steps.{Step}
 use Rattle.pup_pack.specs.declared.error.PupError.{PupError}
 use Rattle.pe_state.specs.Pes.{PeView}
 use Rattle.rts_core.specs.declared.event.Event.{Event}
-use Rattle.rts_core.specs.Accounts.{Said, times, posts, executions, is_number, says_number, says_both, Accounted, message, AreSent, IsCounted}
+use Rattle.rts_core.specs.Accounts.{times, is_number, says_both, Accounted, message, AreSent, IsCounted}
 use Rattle.rts_core.specs.Events.{After, Happens}
 use Rattle.rts_core.specs.Histories.{AreHistories}
 use Rattle.rts_core.specs.Places.{Life, letters, lives, journaled, letters_of_life, sent_over, sends_of, sends}
 use Rattle.rts_core.specs.Runs.{Leads}
 use Rattle.rts_core.specs.Worlds.{WorldView, opening_world}
 use Rattle.rts_core.proofs.Weights.{Weight, weigh, of_world, sum_by-flat_map}
-use Rattle.rts_core.proofs.WorldSteps.{known, below, Stepped}
+use Rattle.rts_core.proofs.WorldSteps.{known, below}
 use Rattle.rts_core.proofs.EventSteps.{happens_good}
 use Rattle.rts_core.proofs.Listings.{no_life, no_letter, sum_zero, world_letters, world_lives, world_journals}
 use Rattle.rts_core.proofs.OpeningWeights.{opened_lives, opening_of, opening_numbered, opening_knows, opening_weighs, opening_counts, one_at, opened_once}

@@ -1,5 +1,5 @@
 -- What Act keeps, in each of its cases.
-use Rattle.std.proofs.Common.{◌≡◌, ℕ, ◌+◌, List, [], ◌∷◌, ◌++◌, map, Option, Some, None, Bool, true, false, sum_by, arith, refl, sym, ap, subst}
+use Rattle.std.proofs.Common.{◌≡◌, ℕ, ◌+◌, List, [], ◌∷◌, ◌++◌, map, Option, Some, None, Bool, true, false, sum_by, arith, refl, ap, subst}
 use Rattle.std.specs.Prelude.{Result, Ok, Err, not, ◌==◌, if◌then◌else◌}
 use Rattle.std.specs.List.{filter}
 use Rattle.std.proofs.lemmas.List.Sums.{sum_by-cons, sum_by-append, sum_by_push}
@@ -14,8 +14,8 @@ use Rattle.pup_pack.specs.declared.error.PupError.{PupError}
 use Rattle.pe_state.specs.Pes.{PeView, Parcel, Item, letter_at, is_for, executed, on_letter, passing, shelving, forwarding, installed, installing, on_element, on_parcel, acting_on, acting, Acting}
 use Rattle.pe_state.specs.Rooms.{found, joined}
 use Rattle.pe_state.specs.declared.acted.Acted.TheVariants.{Installed as IsInstalled}
-use Rattle.rts_core.specs.Places.{Life, life_of}
-use Rattle.rts_core.proofs.Weights.{Weight, weigh, of_parcel, of_item, of_hand, of_element, of_room, of_pe, sum_by-map, sum_joined}
+use Rattle.rts_core.specs.Places.{Life}
+use Rattle.rts_core.proofs.Weights.{Weight, weigh, of_parcel, of_item, of_hand, of_element, of_room, sum_by-map, sum_joined}
 use Rattle.rts_core.proofs.Moves.{Work, Moved, quiet}
 use Rattle.rts_core.proofs.Handlers.{handled_moved}
 

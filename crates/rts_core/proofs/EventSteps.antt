@@ -1,6 +1,6 @@
 -- What each event keeps.
 use Rattle.std.proofs.Common.{◌≡◌, ℕ, ◌+◌, List, [], ◌∷◌, ◌++◌, Option, Some, None, Bool, true, false, sum_by, arith, refl, sym, ◌∙◌, ap, subst, inl, inr}
-use Rattle.std.specs.Prelude.{Result, slice_get, slice_set, not, is_none, ◌==◌, ◌⊎◌, MatchOption}
+use Rattle.std.specs.Prelude.{Result, slice_get, slice_set, not, is_none, ◌==◌, MatchOption}
 use Rattle.std.specs.Option.{option_map, option_and_then}
 use Rattle.std.proofs.lemmas.Option.{option_and_then_some}
 use Rattle.std.proofs.lemmas.List.Sums.{sum_by-cons, sum_by_push}
@@ -18,7 +18,7 @@ use Rattle.pe_state.specs.Rooms.{found}
 use Rattle.rts_core.specs.declared.event.Event.{Event}
 use Rattle.rts_core.specs.declared.event.Event.TheVariants.{Start, Look, Flush, Deliver, Act, Report as Hand, Decide, Depart, Resume}
 use Rattle.rts_core.specs.Accounts.{posts, executions}
-use Rattle.rts_core.specs.Events.{After, where_true, front_of, waits_for, place_in, due, board_after, note_reports, looked_up, flushed, delivered, delivered_from, handed_in, started, left, went_on, acted, Desk, pe_of, at_desk, desk, with_desk, or_nothing, enabled, Happens, MayDecide, IsDecision, IsTooEarly}
+use Rattle.rts_core.specs.Events.{After, where_true, front_of, waits_for, place_in, due, board_after, note_reports, looked_up, flushed, delivered, delivered_from, handed_in, started, left, went_on, acted, Desk, pe_of, at_desk, desk, with_desk, or_nothing, enabled, Happens, MayDecide}
 use Rattle.rts_core.specs.Worlds.{WorldView}
 use Rattle.rts_core.proofs.Weights.{Weight, of_parcel, of_queue}
 use Rattle.rts_core.proofs.Moves.{Work, Moved, looked_moved, gave_up_moved, received_moved, noted_moved}

@@ -1,29 +1,25 @@
 -- What a handler keeps, and each case of Act and Depart.
-use Rattle.std.proofs.Common.{◌≡◌, ℕ, zero, suc, ◌+◌, List, [], ◌∷◌, ◌++◌, length, map, Option, Some, None, Bool, true, false, sum_by, arith, refl, sym, ◌∙◌, ap, subst}
-use Rattle.std.specs.Prelude.{IfSome, Result, Ok, Err, not, unwrap_or, ◌==◌, if◌then◌else◌}
-use Rattle.std.specs.List.{filter}
+use Rattle.std.proofs.Common.{◌≡◌, ℕ, ◌+◌, List, [], ◌∷◌, ◌++◌, map, Option, Some, None, sum_by, arith, refl}
+use Rattle.std.specs.Prelude.{unwrap_or}
 use Rattle.std.specs.Option.{option_map, option_to_list}
-use Rattle.std.specs.Map.{values_of, lookup, remove_entry, set_value}
 use Rattle.std.specs.BTreeMap.{is_at}
 use Rattle.std.specs.Ordering.{nat_cmp}
-use Rattle.std.proofs.lemmas.List.Sums.{sum_by-cons, sum_by-append, sum_by_push}
-use Rattle.std.proofs.lemmas.List.Filters.{sum_by-filter_both}
+use Rattle.std.proofs.lemmas.List.Sums.{sum_by-cons, sum_by-append}
 use Rattle.std.proofs.lemmas.Map.Entries.{sum_by-set_value, sum_by-remove_entry}
-use Rattle.chares.specs.declared.carried.Carried.TheVariants.{Letter, Element}
-use Rattle.chares.specs.declared.entry.Entry.TheVariants.{Letter as OfLetter, Resumption}
+use Rattle.chares.specs.declared.carried.Carried.TheVariants.{Letter}
+use Rattle.chares.specs.declared.entry.Entry.TheVariants.{Resumption}
 use Rattle.chares.specs.declared.report.Report.{Report}
 use Rattle.chares.specs.declared.report.Report.TheVariants as Tells
-use Rattle.chares.specs.Elements.{ElementView, PackedView, ran, outcome_of, packed, unpacked}
-use Rattle.chares.specs.Letters.{LetterView, Done, told_of, hopped}
-use Rattle.chares.specs.Posting.{Out, letter_to, letters_of, posts_of}
+use Rattle.chares.specs.Elements.{ElementView, ran, outcome_of, packed}
+use Rattle.chares.specs.Letters.{LetterView, Done}
+use Rattle.chares.specs.Posting.{letter_to, letters_of, posts_of}
 use Rattle.chares.specs.Steps.{Step}
-use Rattle.pup_pack.specs.declared.error.PupError.{PupError}
-use Rattle.pe_state.specs.Pes.{PeView, Parcel, Item, letter_at, element_at, is_for, departed, handled, handler_posts, resumed, resume_reports, executed, on_letter, passing, shelving, forwarding, installed, installing, on_element, on_parcel, acting_on, acting, Acting}
-use Rattle.pe_state.specs.Rooms.{found, changed, joined, without, ran_in, sends_in}
+use Rattle.pe_state.specs.Pes.{PeView, Item, element_at, departed, handled, handler_posts, resumed, resume_reports}
+use Rattle.pe_state.specs.Rooms.{found, changed, without}
 use Rattle.rts_core.specs.Places.{Life, life_of, letters_of_entry}
 use Rattle.rts_core.specs.Accounts.{Said, posts, executions}
-use Rattle.rts_core.proofs.Weights.{Weight, weigh, of_parcel, of_item, of_hand, of_element, of_room, of_pe, of_queue, sum_by-map, sum_joined}
-use Rattle.rts_core.proofs.Moves.{Work, numbered, work_letters, before, after, work_sends, posted, Moved, quiet}
+use Rattle.rts_core.proofs.Weights.{Weight, weigh, of_item, of_hand, of_element, of_room, of_pe, sum_by-map}
+use Rattle.rts_core.proofs.Moves.{numbered, Moved, quiet}
 
 -- the letters that are posted weigh what the outbox gains, and are those of the reports
 pub box_gains : (g : Weight) (k : Life → ℕ) (me count : ℕ) (ss : List (ℕ × List ℕ)) → sum_by (of_item g k) (letters_of me count ss) ≡ sum_by (weigh g) (numbered me count ss)

@@ -1,17 +1,16 @@
 -- The lists of a world's letters and elements weigh what the world does.
-use Rattle.std.proofs.Common.{◌≡◌, ℕ, ◌+◌, List, [], ◌∷◌, ◌++◌, length, map, Option, Some, None, sum_by, arith, refl, sym, ◌∙◌, ap}
+use Rattle.std.proofs.Common.{◌≡◌, ℕ, ◌+◌, List, [], ◌∷◌, ◌++◌, map, Option, Some, None, sum_by, arith, refl, ◌∙◌}
 use Rattle.std.specs.List.{flat_map}
 use Rattle.std.specs.Map.{values_of}
 use Rattle.std.specs.Option.{option_to_list}
 use Rattle.std.proofs.lemmas.List.Sums.{sum_by-cons, sum_by-append}
 use Rattle.chares.specs.declared.carried.Carried.TheVariants.{Letter, Element}
 use Rattle.chares.specs.Elements.{ElementView}
-use Rattle.chares.specs.Letters.{LetterView}
 use Rattle.pe_state.specs.Pes.{PeView, Parcel, Item}
-use Rattle.rts_core.specs.Places.{Life, life_of, letters_in, lives_in, items_at, letters_at, lives_at, letters, lives, letters_of_life, journaled}
+use Rattle.rts_core.specs.Places.{Life, life_of, letters_in, lives_in, letters_at, lives_at, letters, lives, letters_of_life, journaled}
 use Rattle.rts_core.specs.Worlds.{WorldView}
 use Rattle.rts_core.proofs.Moves.{Work, before, after}
-use Rattle.rts_core.proofs.Weights.{Weight, weigh, of_parcel, of_item, of_hand, of_element, of_room, of_pe, of_queue, of_world, sum_by-flat_map, sum_by-map, sum_by-same}
+use Rattle.rts_core.proofs.Weights.{Weight, weigh, of_parcel, of_item, of_hand, of_room, of_pe, of_queue, of_world, sum_by-flat_map, sum_by-map, sum_by-same}
 
 abbrev pub no_life : Life → ℕ
 no_life x = 0

@@ -10,7 +10,6 @@ use Rattle.chares.specs.declared.entry.Entry.TheVariants.{Resumption}
 use Rattle.chares.specs.declared.report.Report.TheVariants as Tells
 use Rattle.chares.specs.Elements.{ElementView}
 use Rattle.chares.specs.Letters.{LetterView}
-use Rattle.chares.specs.Posting.{letter_to}
 use Rattle.chares.specs.Steps.{Step}
 use Rattle.pup_pack.specs.declared.error.PupError.{PupError}
 use Rattle.pe_state.specs.Pes.{PeView, Parcel, Acting, front_parcel, received, looked, gave_up, handed_back, noted, departed, resumed, resume_reports, acting}
@@ -72,6 +71,14 @@ pub numbered_ids : (me count : ℕ) (ss : List (ℕ × List ℕ)) → map (λ l.
 numbered_ids me count [] = refl
 numbered_ids me count (s ∷ ss) = ap (λ (v : List (ℕ × ℕ)). (me, count) ∷ v) (numbered_ids me (count + 1) ss)
 
+-- numbers go on from the count
+pub ids_join : (me count : ℕ) (old : List LetterView) (ss : List (ℕ × List ℕ)) → map (λ l. l.id) old ≡ map (λ k. (me, k)) (range_with_len 0 count)
+    → map (λ l. l.id) (old ++ numbered me count ss) ≡ map (λ k. (me, k)) (range_with_len 0 (count + length ss))
+ids_join me count old ss h =
+    let z : 0 + count ≡ count = omega arith in
+    let d : range_with_len 0 (count + length ss) ≡ range_with_len 0 count ++ range_with_len (0 + count) (length ss) = range_split 0 count (length ss) in
+    rw (d, z) (rw (map-append, h, numbered_ids me count ss) (sym (map-append (λ (k : ℕ). (me, k)) (range_with_len 0 count) (range_with_len count (length ss)))))
+
 module _ {C : Type 0} (step : Step C) where
   -- a step of the PE keeps the account
   pub balance_moved : (pe pe' : PeView C) (rs : List Report) (work : Option (Work C)) (came gone : List Parcel) (ledger : Ledger) → Moved step pe pe' rs work came gone → IsBalanced pe ledger → IsBalanced pe' (entered_in ledger came gone (posted step pe work))
@@ -80,7 +87,7 @@ module _ {C : Type 0} (step : Step C) where
         balance = λ g.
             let a = m.weighs g no_life in
             let b = m.weighs no_letter (in_journal g) in
-            let c = work_journal g work in
+            let c : after (in_journal g) work ≡ before (in_journal g) work + sum_by (weigh g) (work_letters work) = work_journal g work in
             let d : sum_by (weigh g) (all_letters_at pe) + sum_by (weigh g) (flat_map all_letters_in ledger.gone) ≡ sum_by (weigh g) (flat_map all_letters_in ledger.came) + sum_by (weigh g) ledger.posted = h.balance g in
             let e = pe_all g pe in
             let f = pe_all g pe' in
@@ -93,16 +100,9 @@ module _ {C : Type 0} (step : Step C) where
             let y : sum_by (weigh no_letter) (work_letters work) ≡ 0 = sum_zero (work_letters work) in
             omega (arith, a, b, c, d, e, f, i, j, k, l, o, z, y, before_none work, after_none work);
         numbered =
-            let ss : List (ℕ × List ℕ) = work_sends step pe.n work in
-            let a : map (λ l. l.id) (ledger.posted ++ numbered pe.me pe.count ss) ≡ map (λ l. l.id) ledger.posted ++ map (λ l. l.id) (numbered pe.me pe.count ss) = map-append (λ (l : LetterView). l.id) ledger.posted (numbered pe.me pe.count ss) in
-            let b : map (λ l. l.id) ledger.posted ++ map (λ l. l.id) (numbered pe.me pe.count ss) ≡ map (λ k. (pe.me, k)) (range_with_len 0 pe.count) ++ map (λ k. (pe.me, k)) (range_with_len pe.count (length ss)) = rw (h.numbered, numbered_ids pe.me pe.count ss) refl in
-            let c : map (λ k. (pe.me, k)) (range_with_len 0 pe.count ++ range_with_len pe.count (length ss)) ≡ map (λ k. (pe.me, k)) (range_with_len 0 pe.count) ++ map (λ k. (pe.me, k)) (range_with_len pe.count (length ss)) = map-append (λ (k : ℕ). (pe.me, k)) (range_with_len 0 pe.count) (range_with_len pe.count (length ss)) in
-            let z : 0 + pe.count ≡ pe.count = omega arith in
-            let d : range_with_len 0 (pe.count + length ss) ≡ range_with_len 0 pe.count ++ range_with_len pe.count (length ss) = subst (λ (v : ℕ). range_with_len 0 (pe.count + length ss) ≡ range_with_len 0 pe.count ++ range_with_len v (length ss)) z (range_split 0 pe.count (length ss)) in
-            let e : map (λ k. (pe.me, k)) (range_with_len 0 (pe.count + length ss)) ≡ map (λ k. (pe.me, k)) (range_with_len 0 pe.count) ++ map (λ k. (pe.me, k)) (range_with_len pe.count (length ss)) = ap (map (λ (k : ℕ). (pe.me, k))) d ∙ c in
-            let f : map (λ l. l.id) (ledger.posted ++ numbered pe.me pe.count ss) ≡ map (λ k. (pe.me, k)) (range_with_len 0 (pe.count + length ss)) = a ∙ (b ∙ sym e) in
-            subst (λ (v : ℕ). map (λ l. l.id) (ledger.posted ++ numbered pe.me pe.count ss) ≡ map (λ k. (v, k)) (range_with_len 0 pe'.count)) (sym m.same_me)
-            (subst (λ (v : ℕ). map (λ l. l.id) (ledger.posted ++ numbered pe.me pe.count ss) ≡ map (λ k. (pe.me, k)) (range_with_len 0 v)) (sym m.counted) f);
+            subst (λ (v : ℕ). map (λ l. l.id) (ledger.posted ++ posted step pe work) ≡ map (λ k. (v, k)) (range_with_len 0 pe'.count)) (sym m.same_me)
+            (subst (λ (v : ℕ). map (λ l. l.id) (ledger.posted ++ posted step pe work) ≡ map (λ k. (pe.me, k)) (range_with_len 0 v)) (sym m.counted)
+            (ids_join pe.me pe.count ledger.posted (work_sends step pe.n work) h.numbered));
       }
 
   -- ---- each call

@@ -1,28 +1,19 @@
 -- What one step of a PE keeps: what it holds, received and posted weighs what it holds after it, gave away and executed,
 -- however letters and elements are weighed.
-use Rattle.std.proofs.Common.{◌≡◌, ℕ, zero, suc, ◌+◌, List, [], ◌∷◌, ◌++◌, length, map, Option, Some, None, Bool, true, false, sum_by, arith, refl, sym, ◌∙◌, ap, subst}
-use Rattle.std.specs.Prelude.{IfSome, Result, Ok, Err, filter, not, drop, unwrap_or, ◌==◌, if◌then◌else◌}
-use Rattle.std.specs.Option.{option_map, option_to_list}
-use Rattle.std.specs.Map.{values_of, lookup, remove_entry, set_value}
-use Rattle.std.specs.BTreeMap.{is_at}
-use Rattle.std.specs.Ordering.{nat_cmp}
-use Rattle.std.proofs.lemmas.List.Sums.{sum_by-cons, sum_by-append, sum_by_push}
-use Rattle.std.proofs.lemmas.List.Filters.{sum_by-filter_both}
-use Rattle.std.proofs.lemmas.Map.Entries.{sum_by-set_value, sum_by-remove_entry}
-use Rattle.chares.specs.declared.carried.Carried.TheVariants.{Letter, Element}
-use Rattle.chares.specs.declared.entry.Entry.TheVariants.{Letter as OfLetter, Resumption}
+use Rattle.std.proofs.Common.{◌≡◌, ℕ, ◌+◌, List, [], ◌∷◌, ◌++◌, length, Option, Some, None, sum_by, arith, refl, ap}
+use Rattle.std.specs.Prelude.{IfSome, drop}
+use Rattle.std.specs.Option.{option_map}
+use Rattle.std.proofs.lemmas.List.Sums.{sum_by-cons}
 use Rattle.chares.specs.declared.report.Report.{Report}
-use Rattle.chares.specs.declared.report.Report.TheVariants as Tells
-use Rattle.chares.specs.Elements.{ElementView, PackedView, ran, outcome_of, packed, unpacked}
-use Rattle.chares.specs.Letters.{LetterView, Done, told_of, hopped}
-use Rattle.chares.specs.Posting.{letter_to, letters_of, posts_of}
+use Rattle.chares.specs.Elements.{ElementView}
+use Rattle.chares.specs.Letters.{LetterView, Done, told_of}
+use Rattle.chares.specs.Posting.{letter_to}
 use Rattle.chares.specs.Steps.{Step}
-use Rattle.pup_pack.specs.declared.error.PupError.{PupError}
-use Rattle.pe_state.specs.Pes.{PeView, Parcel, Item, letter_at, is_for, front_parcel, front_at, received, looked, looked_in, hand_wants, gave_up, handed_back, noted, departed, handled, handler_posts, resumed, resume_reports, executed, on_letter, passing, shelving, forwarding, installed, installing, on_element, on_parcel, acting_on, acting, Acting}
-use Rattle.pe_state.specs.Rooms.{found, ran_in, sends_in}
+use Rattle.pe_state.specs.Pes.{PeView, Parcel, Item, front_parcel, front_at, received, looked, looked_in, hand_wants, gave_up, handed_back, noted}
+use Rattle.pe_state.specs.Rooms.{found}
 use Rattle.rts_core.specs.Places.{Life, life_of, letters_of_entry}
 use Rattle.rts_core.specs.Accounts.{Said, posts, executions}
-use Rattle.rts_core.proofs.Weights.{Weight, weigh, of_parcel, of_item, of_hand, of_element, of_room, of_pe, of_queue, sum_by-map, sum_joined}
+use Rattle.rts_core.proofs.Weights.{Weight, weigh, of_parcel, of_item, of_hand, of_pe, of_queue}
 
 -- what a handler has to do: an element, and the entry that it handles
 abbrev pub Work : Type 0 → Type 0

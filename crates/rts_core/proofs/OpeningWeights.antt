@@ -1,25 +1,22 @@
 -- What an opening world holds: each element once, and no letter.
-use Rattle.std.proofs.Common.{◌≡◌, ◌≢◌, ℕ, zero, suc, ◌+◌, ◌*◌, ◌/◌, ◌<◌, ◌≤◌, List, [], ◌∷◌, ◌++◌, length, map, Option, Some, None, Bool, true, false, sum_by, arith, refl, sym, ◌∙◌, ap, subst, length-set, zero-add}
-use Rattle.std.specs.Prelude.{All, slice_get, slice_set, replicate, nat_eq, nat_lt, cond, ◌==◌, if◌then◌else◌}
+use Rattle.std.proofs.Common.{◌≡◌, ◌≢◌, ℕ, zero, suc, ◌+◌, ◌*◌, ◌<◌, ◌≤◌, List, [], ◌∷◌, length, map, Option, Some, None, Bool, true, false, sum_by, arith, refl, sym, ◌∙◌, subst, length-set, zero-add}
+use Rattle.std.specs.Prelude.{All, slice_get, replicate, nat_eq, nat_lt, ◌==◌, if◌then◌else◌}
 use Rattle.std.specs.List.{range_with_len}
-use Rattle.std.specs.Map.{keys_of, values_of, lookup}
-use Rattle.std.specs.BTreeMap.{is_at, insert_entry}
+use Rattle.std.specs.Map.{keys_of}
 use Rattle.std.specs.Ordering.{nat_cmp, is_eq}
 use Rattle.std.proofs.lemmas.Bool.Decides.{nat_tests}
 use Rattle.std.proofs.lemmas.List.Elements.{All-head, All-tail, All-nil}
 use Rattle.std.proofs.lemmas.List.FromFn.{length-map-range_with_len}
-use Rattle.std.proofs.lemmas.List.Folds.{sum_by-replicate}
 use Rattle.std.proofs.lemmas.List.Sums.{sum_by-cons}
 use Rattle.std.proofs.lemmas.Map.Views.{All-keys-insert_entry}
 use Rattle.std.proofs.Math.Nat.{div-lt_iff_lt-mul}
 use Rattle.chares.specs.Elements.{opening_element}
-use Rattle.pe_state.specs.Pes.{PeView, Parcel, new_pe, placed}
+use Rattle.pe_state.specs.Pes.{PeView, new_pe, placed}
 use Rattle.pe_state.specs.Rooms.{found, joined}
 use Rattle.rts_core.specs.Places.{Life}
 use Rattle.rts_core.specs.Worlds.{WorldView, home, placed_on, settled, opening_world}
-use Rattle.rts_core.proofs.Weights.{Weight, of_pe, of_queue, of_room, of_element, of_world, sum_by-map, sum_joined}
-use Rattle.rts_core.proofs.WorldSteps.{AreOf, Numbered, known, sum_at, each_set, get_set_same}
-use Rattle.rts_core.proofs.Listings.{sum_zero}
+use Rattle.rts_core.proofs.Weights.{Weight, of_pe, of_queue, of_room, of_element, of_world, sum_joined}
+use Rattle.rts_core.proofs.WorldSteps.{AreOf, Numbered, known, sum_at, each_set}
 
 -- no element of a room with lower indices is there
 pub absent_step : (e i : ℕ) → i < e → is_eq (nat_cmp e i) ≡ false

@@ -2,7 +2,6 @@
 use Rattle.std.proofs.Common.{◌≡◌, ℕ, ◌+◌, List, [], ◌∷◌, ◌++◌, length, map, Option, Some, None, sum_by, arith, refl, sym, ◌∙◌, ap, subst}
 use Rattle.std.specs.Prelude.{All, IfSome, slice_get}
 use Rattle.std.specs.List.{flat_map}
-use Rattle.std.specs.Map.{values_of}
 use Rattle.std.specs.BTreeMap.{is_at}
 use Rattle.std.specs.Ordering.{nat_cmp}
 use Rattle.std.proofs.lemmas.List.Sums.{sum_by-cons, sum_by-append}
@@ -13,9 +12,8 @@ use Rattle.chares.specs.declared.report.Report.{Report}
 use Rattle.chares.specs.Elements.{ElementView, ran, lived, opening_element, IsHistory}
 use Rattle.chares.specs.Letters.{LetterView, Done, told_of}
 use Rattle.chares.specs.Steps.{Step}
-use Rattle.pe_state.specs.Pes.{PeView}
 use Rattle.pe_state.specs.Rooms.{found}
-use Rattle.rts_core.specs.Accounts.{message, AreSent, IsCounted, posted_count}
+use Rattle.rts_core.specs.Accounts.{message, AreSent, IsCounted}
 use Rattle.rts_core.specs.Histories.{HasHistories, AreHistories}
 use Rattle.rts_core.specs.Places.{Life, life_of, letters, lives, letters_of_entry, letters_of_life, journaled, folded, sent_over, sends_of, sends}
 use Rattle.rts_core.specs.Worlds.{WorldView}

@@ -1,7 +1,6 @@
 -- What one step of a PE keeps in its world, and what an event that is not enabled does.
-use Rattle.std.proofs.Common.{◌≡◌, ◌≢◌, ℕ, zero, suc, ◌+◌, ◌<◌, List, [], ◌∷◌, ◌++◌, length, get_or, set, Option, Some, None, Bool, true, false, sum_by, arith, refl, sym, ◌∙◌, ap, subst, zero-add, add-zero}
-use Rattle.std.specs.Prelude.{IfSome, Result, slice_get, slice_set, nat_lt, nat_eq, ◌==◌, ◌&&◌, if◌then◌else◌}
-use Rattle.std.specs.Option.{option_and_then}
+use Rattle.std.proofs.Common.{◌≡◌, ◌≢◌, ℕ, zero, suc, ◌+◌, ◌<◌, List, [], ◌∷◌, length, get_or, set, Option, Some, None, Bool, true, false, sum_by, arith, refl, sym, ◌∙◌, ap, subst, zero-add, add-zero}
+use Rattle.std.specs.Prelude.{IfSome, slice_get, slice_set, nat_lt, nat_eq, if◌then◌else◌}
 use Rattle.std.proofs.lemmas.Bool.Decides.{nat_tests}
 use Rattle.std.proofs.lemmas.Option.{slice_get_within, get_or_from_slice_get}
 use Rattle.std.proofs.lemmas.List.Sums.{sum_by-cons, sum_by-set}
@@ -11,14 +10,12 @@ use Rattle.chares.specs.Letters.{LetterView}
 use Rattle.chares.specs.Posting.{letter_to}
 use Rattle.chares.specs.Steps.{Step}
 use Rattle.at_sync.specs.Boards.{BoardState}
-use Rattle.pup_pack.specs.declared.error.PupError.{PupError}
 use Rattle.pe_state.specs.Pes.{PeView, Parcel}
 use Rattle.pe_state.specs.Rooms.{found}
-use Rattle.rts_core.specs.Accounts.{Said, times, is_number, says_number, posts, executions, posted_count}
-use Rattle.rts_core.specs.Events.{After, or_nothing}
-use Rattle.rts_core.specs.Places.{Life, life_of}
+use Rattle.rts_core.specs.Accounts.{Said, is_number, posts, executions, posted_count}
+use Rattle.rts_core.specs.Places.{Life}
 use Rattle.rts_core.specs.Worlds.{WorldView}
-use Rattle.rts_core.proofs.Weights.{Weight, weigh, of_parcel, of_pe, of_queue, of_world}
+use Rattle.rts_core.proofs.Weights.{Weight, weigh, of_pe, of_queue, of_world}
 use Rattle.rts_core.proofs.Moves.{Work, numbered, work_letters, work_sends, before, after, posted, Moved}
 
 -- one member of a list is replaced

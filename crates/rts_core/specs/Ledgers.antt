@@ -1,5 +1,5 @@
 -- The local account of one PE, over all calls so far: what it has received and given away, and what it has posted.
-use Rattle.std.specs.Prelude.{◌≡◌, ℕ, ◌+◌, List, [], ◌∷◌, ◌++◌, map, sum_by}
+use Rattle.std.specs.Prelude.{◌≡◌, ℕ, ◌+◌, List, [], ◌++◌, map, sum_by}
 use Rattle.std.specs.List.{flat_map, range_with_len}
 use Rattle.chares.specs.Letters.{LetterView}
 use Rattle.pe_state.specs.Pes.{PeView, Parcel}

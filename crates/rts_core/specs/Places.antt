@@ -2,7 +2,7 @@
 -- outboxes of the PEs; an element stands in a room, or is a parcel in a queue, a hand or an outbox. A letter in the
 -- journal of an element was executed, and is in no place. Source: the Charm++ manual, where a message waits in the
 -- queue of a PE until its handler runs, and an object that migrates is packed into a message.
-use Rattle.std.specs.Prelude.{ℕ, List, [], ◌∷◌, ◌++◌, length, map, Option, Some, None, slice_get}
+use Rattle.std.specs.Prelude.{ℕ, List, [], ◌∷◌, ◌++◌, length, map, slice_get}
 use Rattle.std.specs.List.{flat_map}
 use Rattle.std.specs.Map.{values_of}
 use Rattle.std.specs.Option.{option_map_or, option_to_list}
