@@ -8,12 +8,13 @@ ghost use Rattle.at_sync.specs.Boards.{AreDecided, Decides, IsDecided, HaveFinis
 ghost use Rattle.at_sync.specs.Refusals.{RefusesDecision, RefusesFinish, database_error_of};
 
 use crate::error::BoardError;
-use chare_index::{Limits, Pe, Round};
+use chare_index::{Gate, Limits, Pe, Round};
 use lb_certificates::{Snapshot, Units};
 use lb_database::LoadDb;
-use lb_strategy::{Decision, plan};
+use lb_strategy::{Decision, plan, plan_with};
 use std::alloc::{AllocError, Allocator, Global};
 use std::marker::Model;
+use std::thread::Threads;
 
 /// Where the reports of a chare array meet, where the decision of each round is kept, and who has finished. It has at
 /// most [`Limits::ELEMENTS`] elements, which run on 1 to [`Limits::PES`] PEs. It takes memory where it is made and
@@ -91,7 +92,7 @@ impl<A: Allocator> Board<A> {
         bytes: u32,
         pe: Pe,
     ) -> Result<(), BoardError>
-        requires { pe < self.old.pes }
+        requires below_pes { pe < self.old.pes }
         ensures answer { MatchResult result (λ _. IsReport self.old.database i round bytes)
             (λ error. RefusesReport self.old.database i round bytes (database_error_of error)) }
         ensures ok { OnOk result (self.new ≡ after_report self.old i units bytes pe) }
@@ -128,6 +129,34 @@ impl<A: Allocator> Board<A> {
         let kept = planned(*self.rounds.allocator(), &self.database, self.pes)?;
         let round = self.database.round();
         keep(&mut self.database, &mut self.rounds, kept)?;
+        Ok(round)
+    }
+
+    /// Decides the present round as [`decide`](Board::decide) does, by [`plan_with`](lb_strategy::plan_with) with 1 to 64
+    /// workers, each of which calls the gate with its number. A thread that cannot be started is done without.
+    ///
+    /// # Errors
+    ///
+    /// Those of [`decide`](Board::decide), in their order.
+    pub fn decide_with<R: Threads + Sync, G: Gate + Sync>(
+        &mut self,
+        rt: &R,
+        workers: u32,
+        gate: &G,
+    ) -> Result<Round, BoardError>
+    where
+        A: Copy,
+        requires some_worker { 1 ≤ workers }
+        requires few_workers { workers ≤ Limits.PROBE_WORKERS }
+        ensures answer { IfErr result (RefusesDecision self.old.database) }
+        ensures round { IfOk result (λ round. round ≡ self.old.database.round) }
+        ensures ok { OnOk result (Decides self.old self.new) }
+        ensures err { OnErr result (self.new ≡ self.old) }
+    {
+        let alloc = *self.rounds.allocator();
+        let best = planned_with(rt, alloc, &self.database, self.pes, workers, gate)?;
+        let round = self.database.round();
+        keep(&mut self.database, &mut self.rounds, best)?;
         Ok(round)
     }
 
@@ -252,6 +281,42 @@ fn planned<A: Allocator + Copy>(
     ensures reported { IfOk result (λ kept. IsSnapshotOf database.now database.now.round pes kept.0) }
     ensures decided { IfOk result (IsDecided (elements database.now) pes database.now.round) }
 {
+    let snapshot = measured(database, pes)?;
+    let decision = plan(alloc, &snapshot, pes)?;
+    Ok((snapshot, decision))
+}
+
+// The same, planned by several workers.
+fn planned_with<R: Threads + Sync, G: Gate + Sync, A: Allocator + Copy>(
+    rt: &R,
+    alloc: A,
+    database: &LoadDb<A>,
+    pes: u32,
+    workers: u32,
+    gate: &G,
+) -> Result<(Snapshot<A>, Decision<A>), BoardError>
+    requires some_pe { 0 < pes }
+    requires few_pes { pes ≤ Limits.PES }
+    requires some_worker { 1 ≤ workers }
+    requires few_workers { workers ≤ Limits.PROBE_WORKERS }
+    requires placed { StandBelow pes database.now }
+    ensures answer { MatchResult result (λ _. HasNextRound database.now) (RefusesDecision database.now) }
+    ensures reported { IfOk result (λ kept. IsSnapshotOf database.now database.now.round pes kept.0) }
+    ensures decided { IfOk result (IsDecided (elements database.now) pes database.now.round) }
+{
+    let snapshot = measured(database, pes)?;
+    let decision = plan_with(rt, alloc, &snapshot, pes, workers, gate)?;
+    Ok((snapshot, decision))
+}
+
+// The snapshot of the round, which has to be complete and not the last.
+fn measured<A: Allocator + Copy>(database: &LoadDb<A>, pes: u32) -> Result<Snapshot<A>, BoardError>
+    requires some_pe { 0 < pes }
+    requires few_pes { pes ≤ Limits.PES }
+    requires placed { StandBelow pes database.now }
+    ensures answer { MatchResult result (λ _. HasNextRound database.now) (RefusesDecision database.now) }
+    ensures reported { IfOk result (IsSnapshotOf database.now database.now.round pes) }
+{
     if !database.is_complete() {
         return Err(BoardError::Incomplete);
     }
@@ -259,9 +324,7 @@ fn planned<A: Allocator + Copy>(
     if round == Limits::ROUND {
         return Err(BoardError::Worn);
     }
-    let snapshot = database.snapshot(round, pes)?;
-    let decision = plan(alloc, &snapshot, pes)?;
-    Ok((snapshot, decision))
+    Ok(database.snapshot(round, pes)?)
 }
 
 // Adds what is to be kept of the round that was measured, and then begins the next one.

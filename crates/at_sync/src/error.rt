@@ -42,7 +42,7 @@ impl From<AllocError> for BoardError {
     }
 }
 
-/// A plan is refused for want of memory alone.
+/// Planning fails only where memory runs out.
 impl From<PlanError> for BoardError {
     ghost from_gives = { λ _ e. e ≡ OutOfMemory };
 

@@ -1,7 +1,8 @@
--- Finite lists of numbers that reach others: the pigeonhole principle, and sums over a permutation.
+-- Finite lists of numbers that reach others: the pigeonhole principle, and a sum with one term changed.
 use Rattle.std.proofs.Common.{◌≡◌, ◌≢◌, ℕ, suc, zero, ◌+◌, ◌-◌, ◌<◌, ◌≤◌, ◌==◌, cond, ◌⊎◌, inl, inr, List, slice_index, arith, ap, sym, ◌∙◌, refl}
 use Rattle.std.proofs.lemmas.Bool.{cases_eq, cond-true, cond-false, eq-eqb, ne_eqb}
 use Rattle.lb_certificates.specs.Naming.{total}
+use Rattle.lb_certificates.proofs.Totals.{total_same}
 use Rattle.block_assignment.specs.Search.{IsFree}
 
 -- a PE is held by a block, or free
@@ -68,12 +69,6 @@ some_free n m names fewer =
           ]
         ]
 
--- equal terms, equal sums
-pub total_same : (n : ℕ) (f g : ℕ → ℕ) → ((k : ℕ) → k < n → f k ≡ g k) → total n f ≡ total n g
-total_same zero f g same = refl
-total_same (suc n) f g same =
-    omega (arith, total_same n f g (λ k inside. same k (omega arith)), same n (omega arith))
-
 -- one term is another
 pub total_changed : (n : ℕ) (f : ℕ → ℕ) (q x : ℕ) → q < n → total n (changed f q x) + f q ≡ total n f + x
 total_changed zero f q x inside = absurd (omega arith)
@@ -84,56 +79,4 @@ total_changed (suc n) f q x inside =
           omega (arith, before, changed_here f q x n (sym last), ap f last)
       | inr before ↦
           omega (arith, total_changed n f q x (omega arith), changed_apart f q x n (λ e. before (sym e)))
-    ]
-
--- the number n under the name q
-abbrev relabelled : ℕ → ℕ → ℕ → ℕ
-relabelled n q x = cond (x == n) q x
-
-relabelled_here : (n q x : ℕ) → x ≡ n → relabelled n q x ≡ q
-relabelled_here n q x e = cond-true (x == n) q x (eq-eqb x n e)
-
-relabelled_kept : (n q x : ℕ) → x ≢ n → relabelled n q x ≡ x
-relabelled_kept n q x apart = cond-false (x == n) q x (ne_eqb x n apart)
-
-relabelled_same : (n q : ℕ) (f : ℕ → ℕ) (x : ℕ) → x ≢ q → changed f q (f n) (relabelled n q x) ≡ f x
-relabelled_same n q f x apart =
-    elim (cases_eq x n) [
-      | inl here ↦ changed_here f q (f n) (relabelled n q x) (relabelled_here n q x here) ∙ ap f (sym here)
-      | inr kept ↦ ap (changed f q (f n)) (relabelled_kept n q x kept) ∙ changed_apart f q (f n) x apart
-    ]
-
-relabelled_below : (n q x : ℕ) → q < suc n → x < suc n → x ≢ q → relabelled n q x < n
-relabelled_below n q x small inside apart =
-    elim (cases_eq x n) [
-      | inl here ↦ omega (arith, relabelled_here n q x here)
-      | inr kept ↦ omega (arith, relabelled_kept n q x kept)
-    ]
-
-relabelled_apart : (n q x y : ℕ) → x ≢ y → x ≢ q → y ≢ q → relabelled n q x ≢ relabelled n q y
-relabelled_apart n q x y apart left right e =
-    elim (cases_eq x n) [
-      | inl here ↦ absurd (omega (arith, e, relabelled_here n q x here, relabelled_kept n q y (λ other. apart (here ∙ sym other))))
-      | inr kept ↦ elim (cases_eq y n) [
-        | inl here ↦ absurd (omega (arith, e, relabelled_here n q y here, relabelled_kept n q x kept))
-        | inr other ↦ absurd (omega (arith, e, relabelled_kept n q x kept, relabelled_kept n q y other))
-      ]
-    ]
-
--- a sum over different numbers below their count is the sum over all of them
-pub total_permuted : (n : ℕ) (f names : ℕ → ℕ) → ((b : ℕ) → b < n → names b < n) → ((a b : ℕ) → a < b → b < n → names a ≢ names b) → total n (λ b. f (names b)) ≡ total n f
-total_permuted zero f names below apart = refl
-total_permuted (suc n) f names below apart =
-    let q : ℕ = names n in
-    let same : total n (λ b. f (names b)) ≡ total n (λ b. changed f q (f n) (relabelled n q (names b))) =
-    total_same n (λ b. f (names b)) (λ b. changed f q (f n) (relabelled n q (names b))) (λ b inside. sym (relabelled_same n q f (names b) (λ e. apart b n inside (omega arith) e))) in
-    let rest : total n (λ b. changed f q (f n) (relabelled n q (names b))) ≡ total n (changed f q (f n)) =
-    total_permuted n (changed f q (f n)) (λ b. relabelled n q (names b))
-    (λ b inside. relabelled_below n q (names b) (below n (omega arith)) (below b (omega arith)) (apart b n inside (omega arith)))
-    (λ a b before inside. relabelled_apart n q (names a) (names b) (apart a b before (omega arith)) (apart a n (omega arith) (omega arith)) (apart b n inside (omega arith))) in
-    elim (cases_eq q n) [
-      | inl last ↦
-          let kept : total n (changed f q (f n)) ≡ total n f = total_same n (changed f q (f n)) f (λ k inside. changed_apart f q (f n) k (omega arith)) in
-          omega (arith, same, rest, kept, ap f last)
-      | inr before ↦ omega (arith, same, rest, total_changed n f q (f n) (omega (arith, before, below n (omega arith))))
     ]

@@ -1,9 +1,15 @@
+pub mod BlockBits
 pub mod Coverings
 pub mod Duality
+pub mod Exchanges
+pub mod LeastPes
 pub mod Moves
+pub mod Namings
 pub mod Prices
 pub mod Raises
+pub mod Reaches
 pub mod Rows
 pub mod Scans
 pub mod Sums
+pub mod Tight
 pub mod Trees

@@ -1,24 +1,13 @@
 -- The costs of one block, and of the blocks before it.
-use Rattle.std.proofs.Common.{◌≡◌, ℕ, ◌+◌, ◌-◌, ◌*◌, ◌^◌, ◌<◌, ◌≤◌, ◌==◌, inl, inr, List, ◌++◌, All, length, take, drop, get_or, slice_index, sum_by, arith, ap, sym, ◌∙◌, subst}
+use Rattle.std.proofs.Common.{◌≡◌, ℕ, ◌+◌, ◌-◌, ◌*◌, ◌^◌, ◌<◌, ◌≤◌, ◌==◌, inl, inr, List, ◌++◌, All, length, drop, get_or, slice_index, sum_by, arith, ap, sym, ◌∙◌, subst}
 use Rattle.std.proofs.lemmas.Bool.{cases_lt, cond_both}
 use Rattle.std.proofs.lemmas.List.{get_or_append_left, get_or-append_right, length-drop, length-append, get_or_default}
 use Rattle.std.proofs.lemmas.List.Elements.{All-drop, All-append}
-use Rattle.std.proofs.lemmas.List.Sums.{sum_by-le, sum_by_more_le, sum_by-take-le}
+use Rattle.std.proofs.lemmas.List.Sums.{sum_by-le, sum_by-take-le}
 use Rattle.std.proofs.lemmas.Nat.{mul-add-lt}
-use Rattle.std.proofs.Math.Nat.{mul-le-mul_right}
 use Rattle.chare_index.specs.declared.limits.TheConstants.Limits.{STATE_BYTES}
 use Rattle.lb_certificates.specs.Measured.{IsSizes}
 use Rattle.lb_certificates.specs.Naming.{moved_bytes, block_cost}
-
--- the bytes of elements are far below 2^64
-pub bytes_small : (pairs : List (ℕ × ℕ)) → IsSizes pairs → sum_by (λ size. size.0) pairs ≤ 2 ^ 36
-bytes_small pairs h =
-    omega (arith, sum_by-le (λ (size : ℕ × ℕ). size.0) STATE_BYTES pairs h.small, mul-le-mul_right STATE_BYTES h.few)
-
--- one more element fits
-pub bytes_fit : (pairs : List (ℕ × ℕ)) (i : ℕ) (d : ℕ × ℕ) → IsSizes pairs → i < length pairs → sum_by (λ size. size.0) (take i pairs) + (get_or pairs i d).0 < 2 ^ 64
-bytes_fit pairs i d h inside =
-    omega (arith, bytes_small pairs h, sum_by_more_le (λ (size : ℕ × ℕ). size.0) pairs i d inside)
 
 -- no more bytes of an element move than it has
 moved_le : (size : ℕ × ℕ) (p : ℕ) → moved_bytes size p ≤ size.0
@@ -33,17 +22,6 @@ block_cost_small sizes cuts b p h =
     let part : block_cost sizes cuts b p ≤ sum_by (λ size. moved_bytes size p) (drop first sizes) =
     sum_by-take-le (λ size. moved_bytes size p) (drop first sizes) (slice_index cuts (b + 1) - first) in
     omega (arith, whole, part, length-drop first sizes, h.few)
-
--- after the first i elements of a block each entry of its row is the bytes of all, less those of the first i that
--- stand on its PE
-abbrev pub Stands : List (ℕ × ℕ) → ℕ → List ℕ → Type 0
-Stands pairs i row =
-    (p : ℕ) → p < length row → slice_index row p + sum_by (λ size. size.0) (take i pairs) ≡ sum_by (λ size. size.0) pairs + sum_by (λ size. moved_bytes size p) (take i pairs)
-
--- what stands on a PE can be taken off its entry
-pub taken_off : (pairs : List (ℕ × ℕ)) (i : ℕ) (row : List ℕ) (p : ℕ) (d : ℕ × ℕ) → Stands pairs i row → p < length row → i < length pairs → (get_or pairs i d).0 ≤ slice_index row p
-taken_off pairs i row p d stands inside before =
-    omega (arith, stands p inside, sum_by_more_le (λ (size : ℕ × ℕ). size.0) pairs i d before)
 
 -- the rows of the first b blocks
 pub record HasRows (sizes : List (ℕ × ℕ)) (cuts : List ℕ) (blocks b : ℕ) (costs : List ℕ) : Type 0 where

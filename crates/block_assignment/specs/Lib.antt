@@ -1,2 +1,3 @@
-pub mod Table
+pub mod Least
 pub mod Search
+pub mod Table

@@ -2,6 +2,7 @@
 -- Hall 1993, section 12.4: reduced costs that are not below 0, and 0 along the names; and sections 4.5 and 9.7: a
 -- tree of shortest ways, by reduced costs.
 use Rattle.std.specs.Prelude.{◌≡◌, ◌≢◌, ℕ, ◌+◌, ◌<◌, ◌≤◌, ◌==◌, ◌⊎◌, List, length, slice_index, slice_index_or, count_by, Option, Some, None}
+use Rattle.lb_certificates.specs.Naming.{IsNaming}
 use Rattle.block_assignment.specs.Table.{Table, IsTable, cost_at, greatest}
 
 -- The table, how many blocks have names, the names, the block that holds each PE, what each block pays and each PE
@@ -43,6 +44,13 @@ pub record IsMatched (s : State) : Type 0 where
   pub low : (b p : ℕ) → b < s.table.blocks → p < s.table.blocks → slice_index s.paid b ≤ cost_at s.table b p + slice_index s.rebate p
   pub tight : (b : ℕ) → b < s.named → slice_index s.paid b ≡ cost_at s.table b (slice_index s.names b) + slice_index s.rebate (slice_index s.names b)
   pub free : (p : ℕ) → p < s.table.blocks → IsFree s.named s.names p → slice_index s.rebate p ≡ 0
+
+-- A naming of all blocks: no block pays more than it costs and what the PE gives back, and on its own PE it pays just
+-- that.
+pub record IsTight (blocks : ℕ) (cost : ℕ → ℕ → ℕ) (paid rebate names : List ℕ) : Type 0 where
+  pub naming : IsNaming blocks names
+  pub low : (b p : ℕ) → b < blocks → p < blocks → slice_index paid b ≤ cost b p + slice_index rebate p
+  pub tight : (b : ℕ) → b < blocks → slice_index paid b ≡ cost b (slice_index names b) + slice_index rebate (slice_index names b)
 
 -- Block b is in the tree, so far from the root: it is the root, the first block that has no name, or it is as far as
 -- its PE, which was scanned.

@@ -1,20 +1,25 @@
-ghost use Rattle.std.specs.Prelude.{◌≡◌, ℕ, ◌^◌, ◌<◌, ◌≤◌, List, IfOk, IfErr, length, slice_index, pos, neg_ℤ};
-ghost use Rattle.lb_certificates.specs.Naming.{IsNaming, Proves, naming_cost, price_at};
+ghost use Rattle.std.specs.Prelude.{◌≡◌, ℕ, ◌^◌, ◌<◌, ◌≤◌, List, IfOk, IfErr, OnOk, length, slice_index, pos, neg_ℤ};
+ghost use Rattle.lb_certificates.specs.Naming.{IsFirstCheapest, IsNaming, Proves, naming_cost, price_at};
 ghost use Rattle.block_assignment.specs.declared.error.NameError.TheVariants.{OutOfMemory};
+ghost use Rattle.block_assignment.specs.Search.{IsTight};
 ghost use Rattle.block_assignment.specs.Table.{cost_at, greatest, AreWithin};
 
+use crate::block_set::NO_BLOCK;
 use crate::error::NameError;
+use crate::least::make_least;
 use crate::search::Search;
 use crate::table::CostTable;
+use crate::takers::write_takers;
 use lb_certificates::{Naming, PriceList, Prices};
-use std::alloc::Allocator;
+use std::alloc::{AllocError, Allocator};
 
-/// The cheapest naming of the blocks of this table, with prices that prove it: no other naming of them costs less.
-/// Prices of blocks are 0 to the greatest cost of the table, and those of PEs 0 down to as much below 0.
+/// The least naming of the blocks of this table: of the cheapest namings the first in dictionary order, with prices
+/// that prove it cheapest. So the table determines the names; which prices prove them is left open. Prices of blocks
+/// are 0 to the greatest cost of the table, and those of PEs 0 down to as much below 0.
 ///
 /// # Errors
 ///
-/// [`OutOfMemory`](NameError::OutOfMemory) where a list was refused, before the search begins.
+/// [`OutOfMemory`](NameError::OutOfMemory) where a list was refused.
 pub fn name_blocks<A: Allocator + Copy, B: Allocator>(
     alloc: A,
     table: &CostTable<B>,
@@ -22,6 +27,7 @@ pub fn name_blocks<A: Allocator + Copy, B: Allocator>(
     ensures naming { IfOk result (λ answer. IsNaming table.now.blocks answer.0) }
     ensures proved { IfOk result (λ answer. Proves table.now.blocks (cost_at table.now) (naming_cost table.now.blocks (cost_at table.now) answer.0) answer.1.u answer.1.v) }
     ensures cheapest { IfOk result (λ answer. (others : List ℕ) → IsNaming table.now.blocks others → naming_cost table.now.blocks (cost_at table.now) answer.0 ≤ naming_cost table.now.blocks (cost_at table.now) others) }
+    ensures least_naming { IfOk result (λ answer. IsFirstCheapest table.now.blocks (naming_cost table.now.blocks (cost_at table.now)) answer.0) }
     ensures bounded { IfOk result (λ answer. AreWithin (greatest table.now.costs) answer.1.u answer.1.v) }
     ensures only_memory { IfErr result (λ error. error ≡ OutOfMemory) }
 {
@@ -32,7 +38,8 @@ pub fn name_blocks<A: Allocator + Copy, B: Allocator>(
     for _ in 0..blocks {
         search.name_next();
     }
-    let (names, paid, rebate) = search.into_parts();
+    let (mut names, paid, rebate) = search.into_parts();
+    rename(alloc, table, &paid, &rebate, &mut names)?;
     write_paid(&paid, &mut u);
     write_rebates(&rebate, &mut v);
     let prices = Prices {
@@ -40,6 +47,31 @@ pub fn name_blocks<A: Allocator + Copy, B: Allocator>(
         v: PriceList::new(v),
     };
     Ok((Naming::new(names), prices))
+}
+
+// Of all cheapest namings, the first in dictionary order. The prices stay as they are: the cheapest namings are those
+// that use only pairs whose prices add up to their cost.
+#[tactic(auto, using(crate::proofs::Tight::allowed_if_tight))]
+fn rename<A: Allocator + Copy, B: Allocator>(
+    alloc: A,
+    table: &CostTable<B>,
+    paid: &[u64],
+    rebate: &[u64],
+    names: &mut [u32],
+) -> Result<(), AllocError>
+    requires tight { IsTight table.now.blocks (cost_at table.now) paid.now rebate.now names.old }
+    requires paid { length paid.now ≡ table.now.blocks }
+    requires rebates { length rebate.now ≡ table.now.blocks }
+    requires small { (p : ℕ) → p < length rebate.now → slice_index rebate.now p ≤ 2 ^ 36 }
+    ensures tight { OnOk result (IsTight table.now.blocks (cost_at table.now) paid.now rebate.now names.new) }
+    ensures least_naming { OnOk result (IsFirstCheapest table.now.blocks (naming_cost table.now.blocks (cost_at table.now)) names.new) }
+{
+    let blocks = table.blocks() as usize;
+    let mut takers = vec![in alloc; NO_BLOCK; blocks]?;
+    let mut next = vec![in alloc; 0; blocks]?;
+    write_takers(table, paid, rebate, &mut takers);
+    make_least(&takers, &mut next, names);
+    Ok(())
 }
 
 // The price of a block is what it pays.

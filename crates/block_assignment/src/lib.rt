@@ -1,15 +1,36 @@
 //! On which PE each block of a division runs so that the fewest bytes move, with the prices that prove it.
 //!
 //! - [`CostTable`]: the bytes that move where a block runs on a PE.
-//! - [`name_blocks`]: the cheapest [`Naming`](lb_certificates::Naming) and its
+//! - [`name_blocks`]: the first of the cheapest [`Naming`](lb_certificates::Naming)s with its
 //!   [`Prices`](lb_certificates::Prices), or a [`NameError`].
+//!
+//! ```
+//! use block_assignment::{CostTable, name_blocks};
+//! use chare_index::Pe;
+//! use lb_certificates::{Cuts, Sizes, check_naming};
+//!
+//! // Three elements in two blocks: the bytes and the PE of each, and the cuts.
+//! let (zero, one) = (Pe::new(0)?, Pe::new(1)?);
+//! let sizes = Sizes::new(vec![in alloc; (10, zero), (9, one), (8, zero)]?)?;
+//! let cuts = Cuts::new(vec![in alloc; 0, 2, 3]?);
+//!
+//! let table = CostTable::of(alloc, &sizes, &cuts)?;
+//! assert_eq!((table.cost(0, 0), table.cost(0, 1)), (9, 10));
+//! assert_eq!((table.cost(1, 0), table.cost(1, 1)), (0, 8));
+//! let (naming, prices) = name_blocks(alloc, &table)?;
+//! assert_eq!(naming.as_slice(), [1, 0].as_slice());
+//! assert_eq!(check_naming(&sizes, &cuts, &naming, &prices), Ok(10));
+//! ```
 #![tactic(auto)]
 
 mod assignment;
+mod block_set;
 mod error;
+mod least;
 mod scan;
 mod search;
 mod table;
+mod takers;
 
 pub use assignment::name_blocks;
 pub use error::NameError;

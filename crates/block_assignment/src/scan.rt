@@ -16,6 +16,7 @@ pub(crate) struct Joining {
 
 /// Brings PEs that were not scanned nearer by way of a block that joins, whose costs are this row, and tells the
 /// nearest of them. A free PE is taken before others that are as near, so that equal costs do not let the tree grow.
+#[inline(never)]
 pub(crate) fn scan(
     joining: Joining,
     row: &[u64],
@@ -44,14 +45,16 @@ pub(crate) fn scan(
     let mut held = true;
     for p in 0..row.len() {
         if rank[p] == 0 {
-            let far = joining.distance + row[p] + rebate[p] - joining.paid;
-            if far < distance[p] {
-                distance[p] = far;
+            let way = joining.distance + row[p] + rebate[p] - joining.paid;
+            let mut far = distance[p];
+            if way < far {
+                far = way;
+                distance[p] = way;
                 from[p] = joining.block;
             }
-            if comes_first(distance[p], &holders[p], least, held) {
+            if comes_first(far, &holders[p], least, held) {
                 nearest = Some(p as u32);
-                least = distance[p];
+                least = far;
                 held = holders[p].is_some();
             }
         }

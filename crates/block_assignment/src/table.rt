@@ -35,7 +35,7 @@ impl<A: Allocator + Copy> CostTable<A> {
     ///
     /// # Errors
     ///
-    /// Want of memory, where the list of the costs or one row of it was refused.
+    /// Out of memory, where the list of the costs or one row of it was refused.
     pub fn of<B: Allocator, C: Allocator>(
         alloc: A,
         sizes: &Sizes<B>,
@@ -90,7 +90,7 @@ impl<A: Allocator> CostTable<A> {
     /// The bytes that move where each block runs on the PE of its name.
     #[tactic(auto, using(crate::proofs::Sums::total_more))]
     pub fn cost_of(&self, names: &[u32]) -> u64
-        requires { IsNaming self.now.blocks names.now }
+        requires naming { IsNaming self.now.blocks names.now }
         ensures value { result ≡ naming_cost self.now.blocks (cost_at self.now) names.now }
     {
         let mut total = 0;
@@ -110,7 +110,7 @@ impl<A: Allocator> CostTable<A> {
 }
 
 // What the block of these elements costs on each PE: its bytes, less those that stand there.
-#[tactic(auto, using(crate::proofs::Rows::taken_off))]
+#[tactic(auto, using(lb_certificates::proofs::BlockCosts::taken_off))]
 fn fill_row(row: &mut [u64], pairs: &[(u32, Pe)])
     requires { IsSizes pairs.now }
     ensures { (p : ℕ) → p < length row.new → slice_index row.new p ≡ sum_by (λ size. moved_bytes size p) pairs.now }
@@ -125,7 +125,7 @@ fn fill_row(row: &mut [u64], pairs: &[(u32, Pe)])
 }
 
 // The bytes of these elements.
-#[tactic(auto, using(crate::proofs::Rows::bytes_fit))]
+#[tactic(auto, using(lb_certificates::proofs::BlockCosts::bytes_fit))]
 fn bytes(pairs: &[(u32, Pe)]) -> u64
     requires { IsSizes pairs.now }
     ensures { result ≡ sum_by (λ size. size.0) pairs.now }

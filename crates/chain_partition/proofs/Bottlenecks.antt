@@ -1,7 +1,11 @@
--- The least limit within which the blocks can hold all tasks.
-use Rattle.std.proofs.Common.{◌≡◌, ◌≢◌, ℕ, suc, zero, ◌+◌, ◌-◌, ◌*◌, ◌/◌, ◌^◌, ◌<◌, ◌≤◌, inl, inr, List, All, length, get_or, slice_index, arith, add-one, ap, sym, ◌∙◌, subst}
+-- The least limit within which the blocks can hold all elements.
+use Rattle.std.proofs.Common.{◌≡◌, ◌≢◌, ℕ, suc, zero, ◌+◌, ◌-◌, ◌*◌, ◌/◌, ◌%◌, ◌^◌, ◌<◌, ◌≤◌, ◌⊎◌, min, max, inl, inr, List, All, length, get_or, slice_index, arith, add-one, ap, sym, ◌∙◌, subst}
 use Rattle.std.proofs.lemmas.Bool.{cases_lt, cases_eq}
-use Rattle.std.proofs.Math.Nat.{div-le_self, lt-mul-div-succ}
+use Rattle.std.proofs.Math.Nat.{div-le_self, lt-mul-div-succ, mul-le-mul_left, mul-le-mul_right}
+use Rattle.std.proofs.lemmas.Grind.{div_ceil_times}
+use Rattle.std.proofs.lemmas.List.{get_or_default}
+use Rattle.std.proofs.lemmas.List.Sums.{sum_by-take-le}
+use Rattle.lb_certificates.proofs.LoadSums.{sum_small}
 use Rattle.lb_certificates.specs.Chain.{load, peak, IsDivision, IsLeastPeak}
 use Rattle.lb_certificates.specs.Certificate.{IsFence, MatchFloor, HoldsFor, IsCertified}
 use Rattle.lb_certificates.specs.declared.division.Division.{Division}
@@ -12,8 +16,9 @@ use Rattle.lb_certificates.proofs.Chains.{load_after, load_wider, block_load-le-
 use Rattle.lb_certificates.proofs.LeastDivisions.{heavy_at}
 use Rattle.chain_partition.specs.Chosen.{IsChosen}
 use Rattle.chain_partition.specs.Greedy.{CanFit, IsGreatestEnd, IsGreedy, FitsAll, IsLeastFence}
-use Rattle.chain_partition.proofs.GreedyWalks.{load_more, load_small}
-use Rattle.chain_partition.proofs.GreedyCuts.{load_nothing, greedy_full, greedy_short, EndsAt, ends_none, ends_more, ends_inside, ends_fit}
+use Rattle.chain_partition.specs.Search.{StopBelow, Enclose}
+use Rattle.chain_partition.proofs.Ranges.{load_nothing, load_more}
+use Rattle.chain_partition.proofs.GreedyCuts.{greedy_full, greedy_short, EndsAt, ends_none, ends_more, ends_inside, ends_fit}
 
 -- what fits within a limit fits within a greater one
 pub can_fit_wider : (xs : List ℕ) (p limit wider : ℕ) → limit ≤ wider → CanFit xs p limit → CanFit xs p wider
@@ -30,7 +35,7 @@ least_from_bounds xs p bottleneck fit stops =
       | inr heavy ↦ heavy
     ]
 
--- within the least peak the greedy cuts place all tasks
+-- within the least peak the greedy cuts place all elements
 pub greedy_at_least : (xs : List ℕ) (p bottleneck : ℕ) (ends : List ℕ) → IsLeastPeak xs 0 p bottleneck → IsGreedy xs p bottleneck ends → FitsAll xs p bottleneck ends
 greedy_at_least xs p bottleneck ends least greedy =
     elim (cases_eq (slice_index ends p) (length xs)) [
@@ -62,7 +67,7 @@ certified_from_chosen xs p d h =
       floor_holds = floor_holds xs p d.bottleneck d.floor h.floor;
     }
 
--- the greatest end of a block: the first candidate from the last task down that fits
+-- the greatest end of a block: the first candidate from the last element down that fits
 end_below : (xs : List ℕ) (first limit k : ℕ) → first ≤ k → k ≤ length xs → ((other : ℕ) → other ≤ length xs → load xs first other ≤ limit → other ≤ k) → (end : ℕ) × IsGreatestEnd xs first limit end
 end_below xs first limit zero onward inside tried =
     let e : first ≡ 0 = omega arith in (
@@ -110,7 +115,7 @@ fence_weight xs stops p share greatest small fence (suc i) inside =
     let block = load_after xs (slice_index stops i) (slice_index stops (i + 1)) rises in
     rw (← add-one i) (omega (arith, before, heavy, last, one, whole, front, block))
 
--- a limit of an even share and the greatest load holds all tasks
+-- a limit of an even share and the greatest load holds all elements
 pub even_share : (xs : List ℕ) (p greatest : ℕ) → 0 < p → All (λ w. w ≤ greatest) xs → CanFit xs p (load xs 0 (length xs) / p + greatest)
 even_share xs p greatest positive small =
     let share : ℕ = load xs 0 (length xs) / p in
@@ -125,6 +130,100 @@ even_share xs p greatest positive small =
     ]
 
 -- that limit is far below 2^64
-pub share_fits : (xs : List ℕ) (p greatest : ℕ) → IsLoads xs → greatest < 2 ^ 32 → load xs 0 (length xs) / p + greatest < 2 ^ 64
-share_fits xs p greatest small low =
-    omega (arith, load_small xs 0 (length xs) small (omega arith), div-le_self (load xs 0 (length xs)) p)
+pub share_small : (xs : List ℕ) (p greatest : ℕ) → IsLoads xs → greatest < 2 ^ 32 → load xs 0 (length xs) / p + greatest < 2 ^ 57
+share_small xs p greatest small low =
+    omega (arith, load_after xs 0 (length xs) (omega arith), sum_by-take-le (λ x. x) xs (length xs), sum_small xs small, div-le_self (load xs 0 (length xs)) p)
+
+-- where nothing fits below one limit and another fits, the other is no lower
+pub bounds_ordered : (xs : List ℕ) (p low high : ℕ) → StopBelow xs p low → CanFit xs p high → low ≤ high
+bounds_ordered xs p low high stops fits =
+    elim (cases_lt high low) [
+      | inl below ↦ absurd (stops high below fits)
+      | inr ordered ↦ ordered
+    ]
+
+-- what a walk tells narrows them
+pub narrowed_above : (xs : List ℕ) (p low high heaviest : ℕ) → Enclose xs p low high → heaviest ≤ high → CanFit xs p heaviest → Enclose xs p low heaviest
+narrowed_above xs p low high heaviest h below fits =
+    record { stops = h.stops; fits = fits; small = omega (arith, h.small) }
+
+pub narrowed_below : (xs : List ℕ) (p low high next : ℕ) → Enclose xs p low high → StopBelow xs p next → Enclose xs p next high
+narrowed_below xs p low high next h stops =
+    record { stops = stops; fits = h.fits; small = h.small }
+
+-- of two limits that hold all elements the lesser does, and below the greater of two bounds none does
+pub lesser_fits : (xs : List ℕ) (p a b : ℕ) → CanFit xs p a → CanFit xs p b → CanFit xs p (min a b)
+lesser_fits xs p a b h k =
+    elim (cases_lt a b) [
+      | inl below ↦
+          let e : a ≡ min a b = omega arith in
+          subst (λ n. CanFit xs p n) e h
+      | inr above ↦
+          let e : b ≡ min a b = omega arith in
+          subst (λ n. CanFit xs p n) e k
+    ]
+
+pub greater_stops : (xs : List ℕ) (p a b : ℕ) → StopBelow xs p a → StopBelow xs p b → StopBelow xs p (max a b)
+greater_stops xs p a b h k limit below =
+    elim (cases_lt limit a) [
+      | inl here ↦ h limit here
+      | inr behind ↦ k limit (omega arith)
+    ]
+
+-- up to each cut, the element stands behind it, or a block has it
+behind_cut : (xs : List ℕ) (p i : ℕ) (cuts : List ℕ) → IsDivision 0 (length xs) p cuts → i < length xs → (k : ℕ) → k ≤ p → (slice_index cuts k ≤ i) ⊎ (get_or xs i 0 ≤ peak xs cuts)
+behind_cut xs p i cuts division within zero inside = inl (omega (arith, division.starts))
+behind_cut xs p i cuts division within (suc k) inside =
+    elim (behind_cut xs p i cuts division within k (omega arith)) [
+      | inl before ↦ elim (cases_lt i (slice_index cuts (suc k))) [
+        | inl here ↦
+            let block : load xs (slice_index cuts k) (slice_index cuts (suc k)) ≤ peak xs cuts = rw (← add-one k) (block_load-le-peak xs cuts k (omega (arith, division.counted))) in
+            let one : load xs i (i + 1) ≤ load xs (slice_index cuts k) (slice_index cuts (suc k)) = load_wider xs i (i + 1) (slice_index cuts k) (slice_index cuts (suc k)) before (omega arith) (omega arith) in
+            inr (omega (arith, block, one, load_more xs i i 0 (omega arith) within, load_nothing xs i))
+        | inr behind ↦ inl behind
+      ]
+      | inr heavy ↦ inr heavy
+    ]
+
+-- a limit that can hold all elements can hold each
+each_fits : (xs : List ℕ) (p limit : ℕ) → CanFit xs p limit → All (λ w. w ≤ limit) xs
+each_fits xs p limit fit i d inside =
+    elim (behind_cut xs p i fit.0 fit.1 inside p (omega arith)) [
+      | inl before ↦ absurd (omega (arith, before, inside, fit.1.ends))
+      | inr heavy ↦ omega (arith, heavy, fit.2, get_or_default xs i d 0 inside)
+    ]
+
+-- so many blocks weigh at most so many peaks
+blocks_weight : (xs : List ℕ) (p : ℕ) (cuts : List ℕ) → IsDivision 0 (length xs) p cuts → (k : ℕ) → k ≤ p → load xs 0 (slice_index cuts k) ≤ k * peak xs cuts
+blocks_weight xs p cuts division zero inside =
+    omega (arith, ap (λ n. load xs 0 n) division.starts, load_nothing xs 0)
+blocks_weight xs p cuts division (suc k) inside =
+    let before : load xs 0 (slice_index cuts k) ≤ k * peak xs cuts = blocks_weight xs p cuts division k (omega arith) in
+    let rises : slice_index cuts k ≤ slice_index cuts (suc k) = division.ordered k (suc k) 0 (omega arith) (omega (arith, division.counted)) in
+    let block : load xs (slice_index cuts k) (slice_index cuts (suc k)) ≤ peak xs cuts = rw (← add-one k) (block_load-le-peak xs cuts k (omega (arith, division.counted))) in
+    let whole = load_after xs 0 (slice_index cuts (suc k)) (omega arith) in
+    let front = load_after xs 0 (slice_index cuts k) (omega arith) in
+    let last = load_after xs (slice_index cuts k) (slice_index cuts (suc k)) rises in
+    omega (arith, before, block, whole, front, last)
+
+-- so many limits that can hold all elements are no less than their total
+total_fits : (xs : List ℕ) (p limit : ℕ) → CanFit xs p limit → load xs 0 (length xs) ≤ p * limit
+total_fits xs p limit fit =
+    omega (arith, subst (λ n. load xs 0 n ≤ p * peak xs fit.0) fit.1.ends (blocks_weight xs p fit.0 fit.1 p (omega arith)), mul-le-mul_left p fit.2)
+
+-- no limit below an even share rounded up holds all elements
+share_below : (total p limit : ℕ) → 0 < p → total ≤ p * limit → total / p + min 1 (total % p) ≤ limit
+share_below total p limit positive within =
+    elim (cases_lt limit (total / p + min 1 (total % p))) [
+      | inl below ↦ absurd (omega (arith, within, (div_ceil_times total p positive).1, mul-le-mul_right p below))
+      | inr fine ↦ fine
+    ]
+
+-- a search begins with limits that enclose the least bottleneck
+pub opening_encloses : (xs : List ℕ) (p greatest total : ℕ) → 0 < p → IsLoads xs → greatest < 2 ^ 32 → All (λ w. w ≤ greatest) xs → ((limit : ℕ) → All (λ w. w ≤ limit) xs → greatest ≤ limit) → total ≡ load xs 0 (length xs) → Enclose xs p (max greatest (total / p + min 1 (total % p))) (total / p + greatest)
+opening_encloses xs p greatest total positive small low above least whole =
+    record {
+      stops = λ limit below fit. absurd (omega (arith, below, least limit (each_fits xs p limit fit), share_below total p limit positive (omega (arith, whole, total_fits xs p limit fit))));
+      fits = rw whole (even_share xs p greatest positive above);
+      small = rw whole (share_small xs p greatest small low);
+    }

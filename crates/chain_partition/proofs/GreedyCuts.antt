@@ -1,18 +1,15 @@
--- A list of greedy ends either divides all tasks or is a fence.
-use Rattle.std.proofs.Common.{◌≡◌, ◌≢◌, ℕ, suc, zero, ◌+◌, ◌-◌, ◌<◌, ◌≤◌, false, eqb, IsTrue, ◌↔◌, inl, inr, List, [], ◌∷◌, ◌++◌, length, slice_index, arith, add-one, refl, sym, ◌∙◌, subst, length-append}
+-- A list of greedy ends either divides all elements or is a fence.
+use Rattle.std.proofs.Common.{◌≡◌, ◌≢◌, ℕ, suc, zero, ◌+◌, ◌-◌, ◌<◌, ◌≤◌, inl, inr, List, [], ◌∷◌, ◌++◌, length, slice_index, arith, add-one, refl, sym, ◌∙◌, subst, length-append}
 use Rattle.std.proofs.lemmas.Bool.{cases_lt}
-use Rattle.std.proofs.lemmas.Bool.Decides.{eqb_tells}
 use Rattle.std.proofs.lemmas.List.{get_or_append_left, get_or_default, get_or_push}
 use Rattle.std.proofs.lemmas.List.Sorted.{IsNonDecreasingBy-from_all_adjacent}
 use Rattle.std.specs.List.Sorted.{IsNonDecreasing}
 use Rattle.lb_certificates.specs.Chain.{load, peak, IsDivision}
 use Rattle.lb_certificates.specs.Certificate.{IsFence}
-use Rattle.lb_certificates.proofs.Chains.{load_after, load_wider, peak-le}
+use Rattle.lb_certificates.proofs.Chains.{load_wider, peak-le}
 use Rattle.lb_certificates.proofs.LeastDivisions.{fence_below}
+use Rattle.chain_partition.proofs.Ranges.{load_nothing}
 use Rattle.chain_partition.specs.Greedy.{CanFit, IsGreatestEnd, IsGreedy, FitsAll, IsLeastStop, IsLeastFence}
-
-pub load_nothing : (xs : List ℕ) (first : ℕ) → load xs first first ≡ 0
-load_nothing xs first = omega (arith, load_after xs first first (omega arith))
 
 -- before the first block
 pub greedy_none : (xs : List ℕ) (limit : ℕ) → IsGreedy xs 0 limit (0 ∷ [])
@@ -38,7 +35,7 @@ greedy_push xs k limit ends next so_far last =
       ];
     }
 
--- no end is past the tasks
+-- no end is past the elements
 pub greedy_inside : (xs : List ℕ) (blocks limit : ℕ) (ends : List ℕ) → IsGreedy xs blocks limit ends → (b : ℕ) → b ≤ blocks → slice_index ends b ≤ length xs
 greedy_inside xs blocks limit ends h zero inside = omega (arith, h.starts)
 greedy_inside xs blocks limit ends h (suc b) inside =
@@ -59,7 +56,7 @@ greedy_ordered xs blocks limit ends h =
       greedy_onward xs blocks limit ends h k (omega (arith, h.counted)),
     ))
 
--- ends that reach the last task divide all tasks within the limit
+-- ends that reach the last element divide all elements within the limit
 pub greedy_full : (xs : List ℕ) (blocks limit : ℕ) (ends : List ℕ) → IsGreedy xs blocks limit ends → slice_index ends blocks ≡ length xs → CanFit xs blocks limit × FitsAll xs blocks limit ends
 greedy_full xs blocks limit ends h full =
     let division : IsDivision 0 (length xs) blocks ends = record {
@@ -82,7 +79,7 @@ greedy_short xs blocks limit ends h short =
     ends_inside : slice_index ends blocks < length xs
     ends_inside = omega (arith, short, greedy_inside xs blocks limit ends h blocks (omega arith))
 
-    -- the task behind a block does not fit into it
+    -- the element behind a block does not fit into it
     heavy : (b : ℕ) → b < blocks → limit + 1 ≤ load xs (slice_index ends b) (slice_index ends (b + 1) + 1)
     heavy b inside =
         let below : slice_index ends (b + 1) ≤ slice_index ends blocks = ordered (b + 1) blocks 0 (omega arith) (omega (arith, h.counted)) in
@@ -125,7 +122,7 @@ pub record EndsAt (xs : List ℕ) (k limit end : ℕ) : Type 0 where
 pub ends_none : (xs : List ℕ) (limit : ℕ) → EndsAt xs 0 limit 0
 ends_none xs limit = record { ends = 0 ∷ []; greedy = greedy_none xs limit; last = refl }
 
-pub ends_more : (xs : List ℕ) (k limit end next : ℕ) → EndsAt xs k limit end → IsGreatestEnd xs end limit next → EndsAt xs (k + 1) limit next
+abbrev pub ends_more : (xs : List ℕ) (k limit end next : ℕ) → EndsAt xs k limit end → IsGreatestEnd xs end limit next → EndsAt xs (k + 1) limit next
 ends_more xs k limit end next h step =
     record {
       ends = h.ends ++ next ∷ [];
@@ -137,23 +134,7 @@ pub ends_inside : (xs : List ℕ) (k limit end : ℕ) → EndsAt xs k limit end 
 ends_inside xs k limit end h =
     omega (arith, h.last, greedy_inside xs k limit h.ends h.greedy k (omega arith))
 
--- blocks fit exactly where the greedy ones reach the last task
+-- blocks can hold all elements where the greedy ones reach the last
 pub ends_fit : (xs : List ℕ) (k limit end : ℕ) → EndsAt xs k limit end → end ≡ length xs → CanFit xs k limit
 ends_fit xs k limit end h full =
     (greedy_full xs k limit h.ends h.greedy (h.last ∙ full)).0
-
-pub ends_short : (xs : List ℕ) (k limit end : ℕ) → EndsAt xs k limit end → end ≢ length xs → ¬ (CanFit xs k limit)
-ends_short xs k limit end h short =
-    (greedy_short xs k limit h.ends h.greedy (λ e. short (sym h.last ∙ e))).0
-
--- the test whether the last of the blocks ends with the last task
-pub ends_decide : (xs : List ℕ) (k blocks limit end n : ℕ) → EndsAt xs k limit end → k ≡ blocks → n ≡ length xs → IsTrue (eqb end n) ↔ CanFit xs blocks limit
-ends_decide xs k blocks limit end n h last all =
-    let h' : EndsAt xs blocks limit end = subst (λ b. EndsAt xs b limit end) last h in
-    elim (eqb_tells end n) [
-      | inl same ↦ (λ _. ends_fit xs blocks limit end h' (same.1 ∙ all), λ _. same.0)
-      | inr apart ↦ (
-        λ full. let differ : eqb end n ≡ false = apart.0 in cc,
-        λ fit. absurd (ends_short xs blocks limit end h' (λ e. apart.1 (e ∙ sym all)) fit),
-      )
-    ]

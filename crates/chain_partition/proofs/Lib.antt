@@ -1,3 +1,7 @@
 pub mod Bottlenecks
+pub mod ChosenOnce
 pub mod GreedyCuts
-pub mod GreedyWalks
+pub mod Limits
+pub mod Ranges
+pub mod RunningSums
+pub mod Walks

@@ -25,3 +25,7 @@ pub record IsChosen {A : Type 0} (loads : List ℕ) (blocks : ℕ) (d : Division
   pub least_peak : IsLeastPeak loads 0 blocks d.bottleneck
   pub cuts : FitsAll loads blocks d.bottleneck d.cuts
   pub floor : IsLeastFloor loads blocks d.bottleneck d.floor
+
+-- no other division is the chosen one
+abbrev pub IsTheOnly : {A : Type 0} → List ℕ → ℕ → Division A → Type 0
+IsTheOnly loads blocks d = (other : Division _) → IsChosen loads blocks other → other ≡ d

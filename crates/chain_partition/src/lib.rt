@@ -1,15 +1,35 @@
 //! The least division of a chain: of all ways to cut the elements into at most so many consecutive blocks, one
 //! whose heaviest block is lightest, with the certificate that a checker accepts.
 //!
-//! - [`probe`]: whether blocks within a limit can hold all elements, as a [`Probe`].
-//! - [`divide`]: the least division.
+//! - [`Prefix`]: the running sums of the loads.
+//! - [`probe`], and [`probe_on`] running sums: whether blocks within a limit can hold all elements, as a [`Probe`].
+//! - [`divide`]: the least division; [`divide_with`] finds it with several threads.
+//!
+//! ```
+//! use chain_partition::divide;
+//! use lb_certificates::Loads;
+//! use std::alloc::{AllocError, Allocator};
+//!
+//! // The heaviest block's load, where five elements are divided into two blocks: 9, of the blocks 1 2 3 and 4 5.
+//! fn heaviest_of_two<A: Allocator + Copy>(alloc: A) -> Result<Option<u64>, AllocError> {
+//!     let Some(loads) = Loads::new(vec![in alloc; 1, 2, 3, 4, 5]?) else {
+//!         return Ok(None);
+//!     };
+//!     Ok(Some(divide(alloc, &loads, 2)?.bottleneck))
+//! }
+//! ```
 #![tactic(auto)]
 
 mod division;
 mod outcome;
+mod prefix;
 mod probing;
+mod search;
+mod threads;
 mod walk;
 
 pub use division::divide;
 pub use outcome::Probe;
-pub use probing::probe;
+pub use prefix::Prefix;
+pub use probing::{probe, probe_on};
+pub use threads::divide_with;

@@ -1,19 +1,21 @@
-ghost use Rattle.std.specs.Prelude.{◌≤◌, IfOk};
+ghost use Rattle.std.specs.Prelude.{◌≡◌, ◌≤◌, IfOk};
 ghost use Rattle.chain_partition.specs.Chosen.{IsProbe};
 
 use crate::outcome::Probe;
+use crate::prefix::Prefix;
 use crate::walk::greedy_ends;
 use chare_index::Limits;
 use lb_certificates::{Cuts, Loads, Stops};
 use std::alloc::{AllocError, Allocator};
 
 /// Fills `pes` blocks in order, each with as many elements as fit within the limit: the probe of A. Pinar and
-/// C. Aykanat, JPDC 64(8), 2004. `pes` is 1 to 256, and the limit any number.
+/// C. Aykanat, JPDC 64(8), 2004. `pes` is 1 to 256, and the limit any number. Who tries several limits makes the
+/// running sums once and calls [`probe_on`].
 ///
 /// # Errors
 ///
-/// Want of memory, where the one list of `pes + 1` numbers was refused.
-pub fn probe<A: Allocator, B: Allocator>(
+/// Out of memory, where the running sums or the list of `pes + 1` numbers were refused.
+pub fn probe<A: Allocator + Copy, B: Allocator>(
     alloc: A,
     loads: &Loads<B>,
     pes: u32,
@@ -23,8 +25,27 @@ pub fn probe<A: Allocator, B: Allocator>(
     requires few_pes { pes ≤ Limits.PES }
     ensures probed { IfOk result (IsProbe loads.now pes limit) }
 {
-    let ends = greedy_ends(alloc, loads, pes, limit)?;
-    if ends[pes as usize] as usize == loads.len() {
+    let prefix = Prefix::of(alloc, loads)?;
+    probe_on(alloc, &prefix, pes, limit)
+}
+
+/// The same as [`probe`], on running sums: each block's end is found by binary search.
+///
+/// # Errors
+///
+/// Out of memory, where the one list of `pes + 1` numbers was refused.
+pub fn probe_on<A: Allocator, B: Allocator>(
+    alloc: A,
+    prefix: &Prefix<B>,
+    pes: u32,
+    limit: u64,
+) -> Result<Probe<A>, AllocError>
+    requires some_pe { 1 ≤ pes }
+    requires few_pes { pes ≤ Limits.PES }
+    ensures probed { IfOk result (IsProbe prefix.now pes limit) }
+{
+    let ends = greedy_ends(alloc, prefix.sums(), pes, limit)?;
+    if ends[pes as usize] as usize == prefix.len() {
         Ok(Probe::Fits(Cuts::new(ends)))
     } else {
         Ok(Probe::Stops(Stops::new(ends)))

@@ -1,5 +1,5 @@
 -- What an element has done, over one more entry, and over a pack.
-use Rattle.std.proofs.Common.{◌≡◌, ℕ, ◌<◌, ◌≤◌, List, [], ◌∷◌, ◌++◌, length, map, Some, Ok, Result, refl, sym, ◌∙◌, ap, subst, append-nil}
+use Rattle.std.proofs.Common.{◌≡◌, ℕ, ◌<◌, ◌≤◌, List, [], ◌∷◌, ◌++◌, length, map, Some, Ok, IsOk, Result, refl, sym, ◌∙◌, ap, subst, append-nil}
 use Rattle.std.proofs.lemmas.List.{map-append}
 use Rattle.std.proofs.lemmas.Option.{slice_get_within}
 use Rattle.chares.specs.Elements.{ElementView, PackedView, ran, lived, packed, unpacked, opening_element, IsHistory, IsPackedHistory}
@@ -64,6 +64,19 @@ history_unpacked {C} step fits counted pack unpack opened p chare k trip packs h
     let f : unpack p.bytes ≡ Ok (h.chare, length (pack h.chare)) = subst (λ (v : List ℕ). unpack v ≡ Ok (h.chare, length (pack h.chare))) b e in
     let s : h.chare ≡ chare = same_value (sym f ∙ u) in
     subst (λ (v : C). IsHistory step pack opened (unpacked p v)) s h.is_history
+
+-- the bytes of a packed element unpack
+pub packed_whole : {C : Type 0} (step : Step C) (fits counted : C → Type 0) (pack : C → List ℕ) (unpack : List ℕ → Result (C × ℕ) PupError) (opened : List C) (p : PackedView)
+    → ((s : C) (rest : List ℕ) → fits s → counted s → length (pack s) ≤ STATE_BYTES → unpack (pack s ++ rest) ≡ Ok (s, length (pack s)))
+    → ((s : C) → fits s → counted s × (length (pack s) ≤ STATE_BYTES))
+    → IsPackedHistory step fits pack opened p
+    → IsOk (unpack p.bytes)
+packed_whole {C} step fits counted pack unpack opened p trip packs h =
+    let law = packs h.chare h.is_value in
+    let e : unpack (pack h.chare ++ []) ≡ Ok (h.chare, length (pack h.chare)) = trip h.chare [] h.is_value law.0 law.1 in
+    let b : pack h.chare ++ [] ≡ p.bytes = append-nil (pack h.chare) ∙ h.is_pack in
+    let f : unpack p.bytes ≡ Ok (h.chare, length (pack h.chare)) = subst (λ (v : List ℕ). unpack v ≡ Ok (h.chare, length (pack h.chare))) b e in
+    subst (λ (v : Result (C × ℕ) PupError). IsOk v) (sym f) refl
 
 -- an element, packed, is still what its journal says
 pub history_packed : {C : Type 0} (step : Step C) (fits : C → Type 0) (pack : C → List ℕ) (opened : List C) (el : ElementView C) (p : PackedView)

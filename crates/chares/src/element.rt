@@ -51,8 +51,8 @@ impl<C: Chare<A>, H: Openings<C>, A: Allocator> Element<C, H, A> {
     pub fn new(alloc: A, index: Index, chare: C) -> Self
     where
         A: Copy,
-        requires { slice_get H.opened index ≡ Some chare }
-        ensures { result ≡ opening_element index chare }
+        requires opening { slice_get H.opened index ≡ Some chare }
+        ensures value { result ≡ opening_element index chare }
     {
         Element {
             index,
@@ -75,14 +75,14 @@ impl<C: Chare<A>, H: Openings<C>, A: Allocator> Element<C, H, A> {
 
     /// Its chare.
     pub fn chare(&self) -> &C
-        ensures { result.now ≡ self.now.chare }
+        ensures value { result.now ≡ self.now.chare }
     {
         &self.chare
     }
 
     /// The letters and resumptions that it has handled, in order.
     pub fn journal(&self) -> &[Entry<Letter<A>>]
-        ensures { result.now ≡ self.now.journal }
+        ensures value { result.now ≡ self.now.journal }
     {
         self.journal.as_slice()
     }
@@ -97,7 +97,7 @@ impl<C: Chare<A>, H: Openings<C>, A: Allocator> Element<C, H, A> {
 
     /// Its marks of the rounds that it has seen.
     pub fn marks(&self) -> &[Mark]
-        ensures { result.now ≡ self.now.marks }
+        ensures value { result.now ≡ self.now.marks }
     {
         self.marks.as_slice()
     }
@@ -134,7 +134,7 @@ impl<C: Chare<A>, H: Openings<C>, A: Allocator> Element<C, H, A> {
     ) -> Self
         requires before_last_round { progress.round < ROUND }
         requires history { IsHistory C.step C.pack H.opened (record { index = index; chare = chare; journal = journal.items; progress = progress; marks = marks.items }) }
-        ensures { result ≡ record { index = index; chare = chare; journal = journal.items; progress = progress; marks = marks.items } }
+        ensures value { result ≡ record { index = index; chare = chare; journal = journal.items; progress = progress; marks = marks.items } }
     {
         Element {
             index,

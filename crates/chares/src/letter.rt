@@ -29,7 +29,7 @@ impl<A: Allocator> Model for Letter<A> {
 impl<A: Allocator> Letter<A> {
     /// A letter that nobody has forwarded.
     pub(crate) fn new(id: LetterId, to: Index, body: Vec<u8, A>) -> Self
-        ensures { result ≡ record { id = id; to = to; body = body.items; hops = 0 } }
+        ensures value { result ≡ record { id = id; to = to; body = body.items; hops = 0 } }
     {
         Letter {
             id,
@@ -41,35 +41,35 @@ impl<A: Allocator> Letter<A> {
 
     /// Its number.
     pub fn id(&self) -> LetterId
-        ensures { result ≡ self.now.id }
+        ensures value { result ≡ self.now.id }
     {
         self.id
     }
 
     /// The element that it is for.
     pub fn to(&self) -> Index
-        ensures { result ≡ self.now.to }
+        ensures value { result ≡ self.now.to }
     {
         self.to
     }
 
     /// What it says.
     pub fn body(&self) -> &[u8]
-        ensures { result.now ≡ self.now.body }
+        ensures value { result.now ≡ self.now.body }
     {
         self.body.as_slice()
     }
 
     /// How often it was forwarded. The count stops at 4,294,967,295.
     pub fn hops(&self) -> u32
-        ensures { result ≡ self.now.hops }
+        ensures value { result ≡ self.now.hops }
     {
         self.hops
     }
 
     /// Counts one more hop.
     pub fn hop(&mut self)
-        ensures { self.new ≡ hopped self.old }
+        ensures ok { self.new ≡ hopped self.old }
     {
         self.hops = self.hops.saturating_add(1);
     }

@@ -16,7 +16,7 @@ pub enum Note {
 impl Note {
     /// Whether it is that the element has finished.
     pub fn is_finish(&self) -> bool
-        ensures { result ≡ is_finish self.now }
+        ensures value { result ≡ is_finish self.now }
     {
         matches!(self, Note::Finish(_))
     }

@@ -1,6 +1,6 @@
 //! An element on its way.
 
-ghost use Rattle.std.specs.Prelude.{◌≡◌, ℕ, ◌<◌, ◌≤◌, [], Ok, IfOk, IfErr, OnErr};
+ghost use Rattle.std.specs.Prelude.{◌≡◌, ℕ, ◌<◌, ◌≤◌, [], Ok, IsOk, IfOk, IfErr, OnErr};
 ghost use Rattle.chare_index.specs.declared.limits.TheConstants.Limits.{ROUND};
 ghost use Rattle.chares.specs.Elements.{ElementView, PackedView, packed, unpacked, IsHistory, IsPackedHistory};
 
@@ -51,43 +51,44 @@ impl<C: Chare<A>, H: Openings<C>, A: Allocator> Model for PackedElement<C, H, A>
 impl<C: Chare<A>, H: Openings<C>, A: Allocator> PackedElement<C, H, A> {
     /// Its index.
     pub fn index(&self) -> Index
-        ensures { result ≡ self.now.index }
+        ensures value { result ≡ self.now.index }
     {
         self.luggage.index
     }
 
     /// The pack of its chare.
     pub fn bytes(&self) -> &[u8]
-        ensures { result.now ≡ self.now.bytes }
+        ensures value { result.now ≡ self.now.bytes }
     {
         self.luggage.bytes.as_slice()
     }
 
     /// The letters and resumptions that it has handled, in order.
     pub fn journal(&self) -> &[Entry<Letter<A>>]
-        ensures { result.now ≡ self.now.journal }
+        ensures value { result.now ≡ self.now.journal }
     {
         self.luggage.journal.as_slice()
     }
 
     /// How far it has come.
     pub fn progress(&self) -> Progress
-        ensures { result ≡ self.now.progress }
+        ensures value { result ≡ self.now.progress }
     {
         self.luggage.progress
     }
 
     /// Its marks of the rounds that it has seen.
     pub fn marks(&self) -> &[Mark]
-        ensures { result.now ≡ self.now.marks }
+        ensures value { result.now ≡ self.now.marks }
     {
         self.luggage.marks.as_slice()
     }
 
-    /// Its chare again.
+    /// Its chare again. Its bytes always unpack, so the only refusal is out of memory.
     pub fn unpack(&self, alloc: A) -> Result<C, AllocError>
         ensures history { IfOk result (λ chare. IsHistory C.step C.pack H.opened (unpacked self.now chare)) }
         ensures unpacks { IfOk result (λ chare. (k : ℕ) × (C.unpack self.now.bytes ≡ Ok (chare, k))) }
+        ensures whole { IsOk (C.unpack self.now.bytes) }
     {
         match C::unpack(alloc, self.luggage.bytes.as_slice()) {
             Ok((chare, _)) => Ok(chare),
@@ -150,7 +151,7 @@ impl<A: Allocator> Packing<A> {
     ) -> PackedElement<C, H, A>
         requires pack { self ≡ C.pack element.chare }
         requires value { C.fits element.chare }
-        ensures { result ≡ packed C.pack element }
+        ensures value { result ≡ packed C.pack element }
     {
         let Packing { mut luggage } = self;
         let (index, journal, progress, marks) = element.into_parts();
@@ -169,8 +170,8 @@ impl<A: Allocator> Packing<A> {
 impl<C: Chare<A>, H: Openings<C>, A: Allocator> PackedElement<C, H, A> {
     /// The element at rest again, with the chare that its bytes unpacked to.
     pub fn open(self, chare: C) -> Element<C, H, A>
-        requires { IsHistory C.step C.pack H.opened (unpacked self chare) }
-        ensures { result ≡ unpacked self chare }
+        requires history { IsHistory C.step C.pack H.opened (unpacked self chare) }
+        ensures value { result ≡ unpacked self chare }
     {
         let PackedElement {
             luggage,

@@ -37,7 +37,7 @@ pub enum Ending {
 impl Progress {
     /// Of an element that has not started.
     pub fn opening() -> Self
-        ensures { result ≡ record { round = 0; started = false; synced = false; finished = false; load = 0 } }
+        ensures value { result ≡ record { round = 0; started = false; synced = false; finished = false; load = 0 } }
     {
         Progress {
             round: Round::new(0).unwrap(),
@@ -50,7 +50,7 @@ impl Progress {
 
     /// As a resumption after this round begins.
     pub fn resumed(&self, round: Round) -> Self
-        ensures { result ≡ begun self.now round }
+        ensures value { result ≡ begun self.now round }
     {
         Progress {
             round,
@@ -63,7 +63,7 @@ impl Progress {
 
     /// With the units of one more handler, which are counted up to the limit of a load.
     pub fn charged(&self, units: Units) -> Self
-        ensures { result ≡ charged self.now units }
+        ensures value { result ≡ charged self.now units }
     {
         Progress {
             load: self.load.saturating_add(units).min(Limits::LOAD),
@@ -73,7 +73,7 @@ impl Progress {
 
     /// What the answer of a handler comes to here.
     pub fn ending(&self, effect: Effect) -> Ending
-        ensures { result ≡ ending self.now effect }
+        ensures value { result ≡ ending self.now effect }
     {
         if effect.finished {
             return if self.finished {
@@ -90,7 +90,7 @@ impl Progress {
 
     /// After such an answer.
     pub fn ended(&self, ending: Ending) -> Self
-        ensures { result ≡ ended self.now ending }
+        ensures value { result ≡ ended self.now ending }
     {
         match ending {
             Ending::Runs => *self,

@@ -90,7 +90,7 @@ impl<P: Drop, A: Allocator> Sends<P, A> {
     pub fn put(&mut self, to: Index, body: &[u8]) -> Result<(), SendError>
     where
         A: Copy,
-        ensures told { MatchResult result (λ _. IsPost self.old to body.now) (RefusesPut self.old to body.now) }
+        ensures answer { MatchResult result (λ _. IsPost self.old to body.now) (RefusesPut self.old to body.now) }
         ensures ok { OnOk result (self.new ≡ posted self.old ((to, body.now) ∷ [])) }
         ensures err { OnErr result (self.new ≡ self.old) }
     {
@@ -131,22 +131,22 @@ impl<P: Drop, A: Allocator> Sends<P, A> {
 
     /// How many parcels wait in the outbox.
     pub(crate) fn waiting(&self) -> usize
-        ensures { result ≡ length self.now.outbox }
+        ensures value { result ≡ length self.now.outbox }
     {
         self.outbox.len()
     }
 
     /// How many reports there are so far.
     pub(crate) fn told(&self) -> usize
-        ensures { result ≡ length self.now.reports }
+        ensures value { result ≡ length self.now.reports }
     {
         self.reports.len()
     }
 
     /// Takes back what was posted and reported since.
     pub(crate) fn rewind(&mut self, count: u64, waiting: usize, told: usize)
-        requires { count ≤ self.old.count }
-        ensures { self.new ≡ record self.old { count = count; outbox = take waiting self.old.outbox; reports = take told self.old.reports } }
+        requires fewer { count ≤ self.old.count }
+        ensures ok { self.new ≡ record self.old { count = count; outbox = take waiting self.old.outbox; reports = take told self.old.reports } }
     {
         self.outbox.truncate(waiting);
         self.reports.truncate(told);
@@ -155,14 +155,14 @@ impl<P: Drop, A: Allocator> Sends<P, A> {
 
     /// How many elements there are.
     pub fn n(&self) -> u32
-        ensures { result ≡ self.now.n }
+        ensures value { result ≡ self.now.n }
     {
         self.n
     }
 
     /// How many letters the PE has posted.
     pub fn count(&self) -> u64
-        ensures { result ≡ self.now.count }
+        ensures value { result ≡ self.now.count }
     {
         self.count
     }
@@ -180,7 +180,7 @@ impl<P: Drop, A: Allocator> Sends<P, A> {
     ) -> Self
         requires numbered { count ≤ LETTERS }
         requires room { spare ≡ true → deque_len outbox < deque_capacity outbox }
-        ensures { result ≡ record { me = me; n = n; count = count; outbox = outbox.items; spare = spare; reporting = reporting; reports = reports.items } }
+        ensures value { result ≡ record { me = me; n = n; count = count; outbox = outbox.items; spare = spare; reporting = reporting; reports = reports.items } }
     {
         Sends {
             me,
@@ -233,8 +233,8 @@ pub fn room_for_report<A: Allocator>(
 
 /// Adds a report, where reports are wanted, in the room that was made for it.
 pub fn add_report<A: Allocator>(reports: &mut Vec<Report, A>, reporting: bool, report: Report)
-    requires { reporting ≡ true → vec_len reports.old < vec_capacity reports.old }
-    ensures { reports.new.items ≡ reported reporting reports.old.items (report ∷ []) }
+    requires room { reporting ≡ true → vec_len reports.old < vec_capacity reports.old }
+    ensures added { reports.new.items ≡ reported reporting reports.old.items (report ∷ []) }
 {
     if !reporting {
         return;

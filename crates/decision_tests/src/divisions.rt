@@ -4,7 +4,7 @@ ghost use Rattle.std.specs.Prelude.{◌≤◌};
 
 use crate::fixtures::{loads, unfenced};
 use crate::reference;
-use chain_partition::{Probe, divide, probe};
+use chain_partition::{Prefix, Probe, divide, probe, probe_on};
 use lb_certificates::{Division, Flaw, Floor, Loads, Units, check_division};
 use std::process::Abort;
 
@@ -51,9 +51,19 @@ fn blocks_of_equal_counts_are_heavier(rt: HostRuntime) {
     assert_eq!(rt; check_division(&five, 2, &halves), Err(Flaw::Heavy(1)));
 }
 
+// Whether it fits, and its cuts or stops.
+fn parts(answer: Probe) -> (bool, Vec<u32>) {
+    match answer {
+        Probe::Fits(cuts) => (true, cuts.into_vec()),
+        Probe::Stops(stops) => (false, stops.into_vec()),
+    }
+}
+
 #[test]
 fn probes_fit_or_stop(rt: HostRuntime) {
     let five = loads(&rt, &[1, 2, 3, 4, 5]);
+    let prefix = Prefix::of(rt.alloc(), &five).expect(&rt, "out of memory");
+    assert_eq!(rt; prefix.len(), 5);
     let rows: [(u64, bool, &[u32]); 4] = [
         (9, true, &[0, 3, 5]),
         (8, false, &[0, 3, 4]),
@@ -61,13 +71,22 @@ fn probes_fit_or_stop(rt: HostRuntime) {
         (u64::MAX, true, &[0, 5, 5]),
     ];
     for (limit, fits, list) in rows {
-        let answer = probe(rt.alloc(), &five, 2, limit);
-        let (fitted, ends) = match answer.expect(&rt, "out of memory") {
-            Probe::Fits(cuts) => (true, cuts.into_vec()),
-            Probe::Stops(stops) => (false, stops.into_vec()),
-        };
-        assert_eq!(rt; fitted, fits, "limit {limit}");
-        assert_eq!(rt; ends.as_slice(), list, "limit {limit}");
+        let answer = probe(rt.alloc(), &five, 2, limit).expect(&rt, "out of memory");
+        let again = probe_on(rt.alloc(), &prefix, 2, limit).expect(&rt, "out of memory");
+        for (fitted, ends) in [parts(answer), parts(again)] {
+            assert_eq!(rt; fitted, fits, "limit {limit}");
+            assert_eq!(rt; ends.as_slice(), list, "limit {limit}");
+        }
+    }
+}
+
+#[test]
+fn loads_of_ranges_by_running_sums(rt: HostRuntime) {
+    let five = loads(&rt, &[1, 2, 3, 4, 5]);
+    let prefix = Prefix::of(rt.alloc(), &five).expect(&rt, "out of memory");
+    assert!(rt; prefix.len() == 5 && !prefix.is_empty());
+    for (first, end, load) in [(0, 0, 0), (0, 5, 15), (2, 5, 12), (4, 5, 5), (5, 5, 0)] {
+        assert_eq!(rt; prefix.load(first, end), load, "{first}..{end}");
     }
 }
 

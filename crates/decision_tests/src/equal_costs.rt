@@ -1,4 +1,4 @@
-//! Full tables with equal costs, and small tables with many equal costs beside every naming.
+//! Tables with many equal costs: full ones, and small ones beside every naming.
 
 ghost use Rattle.std.specs.Prelude.{◌≡◌, ◌≤◌, length};
 ghost use Rattle.lb_certificates.specs.Naming.{IsNaming};
@@ -22,10 +22,22 @@ fn table_of(
     table(rt, &sizes(rt, pairs), &cuts)
 }
 
-// What the names cost that are found.
-fn least(rt: &(impl Abort + AllocGlobal), table: &CostTable) -> Option<u64> {
+// The names that are found.
+fn names_of(rt: &(impl Abort + AllocGlobal), table: &CostTable) -> Vec<u32>
+    ensures { IsNaming table.now.blocks result.items }
+{
     let (naming, _) = name_blocks(rt.alloc(), table).expect(rt, "out of memory");
-    cost_of(table, naming.as_slice())
+    naming.into_vec()
+}
+
+// Whether each block has its own number for its name.
+fn are_numbers(names: &[u32]) -> bool {
+    for b in 0..names.len() {
+        if names[b] as usize != b {
+            return false;
+        }
+    }
+    true
 }
 
 // What these names cost, if each is used once.
@@ -50,7 +62,9 @@ fn equal_costs(rt: HostRuntime) {
         pairs.push((1, i % 256)).expect(&rt, "out of memory");
     }
     let table = table_of(&rt, &pairs, 256, 256);
-    assert_eq!(rt; least(&rt, &table), Some(256 * 255));
+    let names = names_of(&rt, &table);
+    assert_eq!(rt; table.cost_of(&names), 256 * 255);
+    assert!(rt; are_numbers(&names));
 }
 
 #[test]
@@ -60,7 +74,9 @@ fn costs_of_zero(rt: HostRuntime) {
         pairs.push((0, i)).expect(&rt, "out of memory");
     }
     let table = table_of(&rt, &pairs, 256, 1);
-    assert_eq!(rt; least(&rt, &table), Some(0));
+    let names = names_of(&rt, &table);
+    assert_eq!(rt; table.cost_of(&names), 0);
+    assert!(rt; are_numbers(&names));
 }
 
 #[test]
@@ -70,30 +86,108 @@ fn all_blocks_cheapest_on_one_pe(rt: HostRuntime) {
         pairs.push((i + 1, 77)).expect(&rt, "out of memory");
     }
     let table = table_of(&rt, &pairs, 256, 1);
-    assert_eq!(rt; least(&rt, &table), Some(255 * 256 / 2));
+    let names = names_of(&rt, &table);
+    assert_eq!(rt; table.cost_of(&names), 255 * 256 / 2);
 }
 
-// The least cost of all namings of at most five blocks, each of them tried.
-fn least_of_all(table: &CostTable) -> Option<u64>
+// Blocks 2 k and 2 k + 1 have an element each on PEs 254 - 2 k and 255 - 2 k, so they cost the same there.
+#[test]
+fn pairs_of_equal_blocks(rt: HostRuntime) {
+    let mut pairs = Vec::new(rt.alloc());
+    for i in 0..512u32 {
+        pairs
+            .push((1, 254 - i / 4 * 2 + i % 2))
+            .expect(&rt, "out of memory");
+    }
+    let names = names_of(&rt, &table_of(&rt, &pairs, 256, 2));
+    for b in 0..256u32 {
+        let name = names.get(b as usize).copied();
+        assert_eq!(rt; name, Some(254 - b / 2 * 2 + b % 2), "block {b}");
+    }
+}
+
+// The naming of this number, in dictionary order of all lists of names of so many blocks, at most five.
+fn numbered(code: u32, blocks: u32) -> [u32; 5]
+    requires { blocks ≤ 5 }
+{
+    let mut names = [0; 5];
+    let mut rest = code;
+    for k in 0..blocks {
+        names[(blocks - 1 - k) as usize] = rest % blocks;
+        rest /= blocks;
+    }
+    names
+}
+
+// All namings of so many blocks, at most five, in dictionary order.
+fn all_namings(rt: &(impl Abort + AllocGlobal), blocks: u32) -> Vec<[u32; 5]>
+    requires { blocks ≤ 5 }
+{
+    let mut namings = Vec::new(rt.alloc());
+    for code in 0..blocks.saturating_pow(blocks) {
+        let names = numbered(code, blocks);
+        if are_apart(&names[..blocks as usize]) {
+            namings.push(names).expect(rt, "out of memory");
+        }
+    }
+    namings
+}
+
+fn are_apart(names: &[u32]) -> bool {
+    for b in 0..names.len() {
+        if names[..b].contains(&names[b]) {
+            return false;
+        }
+    }
+    true
+}
+
+// The first of these namings of at most five blocks that costs the least of them.
+fn first_of(table: &CostTable, namings: &[[u32; 5]]) -> [u32; 5]
     requires { table.now.blocks ≤ 5 }
 {
-    let mut least = None;
-    for code in 0..3_125u32 {
-        let names = [
-            code % 5,
-            code / 5 % 5,
-            code / 25 % 5,
-            code / 125 % 5,
-            code / 625,
-        ];
-        let cost = cost_of(table, &names[..table.blocks() as usize]);
-        least = match (least, cost) {
-            (None, cost) => cost,
-            (Some(least), None) => Some(least),
-            (Some(least), Some(cost)) => Some(least.min(cost)),
+    let mut least = u64::MAX;
+    let mut first = [0; 5];
+    for &names in namings {
+        let Some(cost) = cost_of(table, &names[..table.blocks() as usize]) else {
+            continue;
         };
+        if cost < least {
+            least = cost;
+            first = names;
+        }
     }
-    least
+    first
+}
+
+// Whether the names that are found are the first of all.
+fn is_first(rt: &(impl Abort + AllocGlobal), table: &CostTable, namings: &[[u32; 5]]) -> bool {
+    assert!(rt; table.blocks() <= 5, "too many blocks");
+    names_of(rt, table).as_slice() == &first_of(table, namings)[..table.blocks() as usize]
+}
+
+// A table whose costs differ by 0 or 1, by the bits of a number: an element for each block and PE.
+fn table_of_bits(rt: &(impl Abort + AllocGlobal), blocks: u32, bits: u32) -> CostTable {
+    let mut pairs = Vec::new(rt.alloc());
+    let mut rest = bits;
+    for _ in 0..blocks {
+        for p in 0..blocks {
+            pairs.push((rest % 2, p)).expect(rt, "out of memory");
+            rest /= 2;
+        }
+    }
+    table_of(rt, &pairs, blocks, blocks)
+}
+
+#[test]
+fn all_tables_of_two_costs(rt: HostRuntime) {
+    for blocks in 1..=4u32 {
+        let namings = all_namings(&rt, blocks);
+        for bits in 0..2u32.saturating_pow(blocks.saturating_mul(blocks)) {
+            let table = table_of_bits(&rt, blocks, bits);
+            assert!(rt; is_first(&rt, &table, &namings), "{blocks} blocks, {bits}");
+        }
+    }
 }
 
 // The elements of this number of blocks, three in each, with sizes of 0 to 2 on PEs 0 to 4.
@@ -110,11 +204,14 @@ fn elements(rt: &(impl Abort + AllocGlobal), blocks: u32, number: u32) -> Vec<(u
 
 #[test]
 fn small_tables_with_many_equal_costs(rt: HostRuntime) {
-    for number in 0..200u32 {
-        let blocks = number % 5 + 1;
-        let table = table_of(&rt, &elements(&rt, blocks, number), blocks, 3);
-        assert!(rt; table.blocks() <= 5, "too many blocks");
-        let cost = least(&rt, &table);
-        assert_eq!(rt; cost, least_of_all(&table), "table {number}");
+    for blocks in 1..=5u32 {
+        let namings = all_namings(&rt, blocks);
+        for number in 0..200u32 {
+            let table = table_of(&rt, &elements(&rt, blocks, number), blocks, 3);
+            assert!(rt;
+                is_first(&rt, &table, &namings),
+                "{blocks} blocks, {number}"
+            );
+        }
     }
 }

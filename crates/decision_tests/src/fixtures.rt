@@ -5,6 +5,7 @@ use chare_index::{Index, Pe};
 use lb_certificates::{
     Cuts, Division, Floor, Loads, Naming, PriceList, Prices, Sizes, Snapshot, Stops, Units,
 };
+use lb_strategy::{Decision, Moves};
 use std::process::Abort;
 
 pub fn list<T: Copy>(rt: &(impl Abort + AllocGlobal), items: &[T]) -> Vec<T> {
@@ -97,3 +98,48 @@ pub fn table(rt: &(impl Abort + AllocGlobal), sizes: &Sizes, ends: &[u32]) -> Co
     assert!(rt; cuts.divides(sizes.len()), "no division");
     CostTable::of(rt.alloc(), sizes, &cuts).expect(rt, "out of memory")
 }
+
+/// The moves with these numbers: of an element, its present PE and its planned one.
+pub fn moves(rt: &(impl Abort + AllocGlobal), rows: &[(u32, u32, u32)]) -> Moves {
+    let mut moves = Vec::new(rt.alloc());
+    for &(moved, present, planned) in rows {
+        let step = (index(rt, moved), pe(rt, present), pe(rt, planned));
+        moves.push(step).expect(rt, "out of memory");
+    }
+    Moves::new(moves)
+}
+
+/// The decision with this division, these names and prices, bytes moved and moves.
+pub fn decision_with(
+    rt: &(impl Abort + AllocGlobal),
+    division: Division,
+    names: (&[u32], &[i64], &[i64]),
+    moving: (u64, &[(u32, u32, u32)]),
+) -> Decision {
+    Decision {
+        division,
+        naming: naming(rt, names.0),
+        prices: prices(rt, names.1, names.2),
+        moved: moving.0,
+        moves: moves(rt, moving.1),
+    }
+}
+
+/// The decision with bottleneck 2 and these cuts and stops, names and prices, bytes moved and moves.
+pub fn decision(
+    rt: &(impl Abort + AllocGlobal),
+    division: (&[u32], &[u32]),
+    names: (&[u32], &[i64], &[i64]),
+    moving: (u64, &[(u32, u32, u32)]),
+) -> Decision {
+    decision_with(rt, fenced(rt, 2, division.0, division.1), names, moving)
+}
+
+/// The cuts and the stops of the example's decision.
+pub const DIVISION: (&[u32], &[u32]) = (&[0, 2, 3], &[0, 1, 2]);
+
+/// Its names, and its prices of blocks and of PEs.
+pub const NAMING: (&[u32], &[i64], &[i64]) = (&[1, 0], &[10, 1], &[-1, 0]);
+
+/// Its bytes moved, and its moves.
+pub const MOVING: (u64, &[(u32, u32, u32)]) = (10, &[(0, 0, 1)]);

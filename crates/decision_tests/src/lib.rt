@@ -12,6 +12,8 @@ mod divisions;
 #[cfg(test)]
 mod equal_costs;
 #[cfg(test)]
+mod equality;
+#[cfg(test)]
 mod fixtures;
 #[cfg(test)]
 mod limits;
@@ -20,3 +22,7 @@ mod naming_checks;
 #[cfg(test)]
 mod namings;
 pub mod reference;
+#[cfg(test)]
+mod walks;
+#[cfg(test)]
+mod workers;

@@ -3,6 +3,7 @@ pub mod BlockSums
 pub mod Chains
 pub mod Duality
 pub mod LeastDivisions
+pub mod LeastNamings
 pub mod LoadSums
 pub mod Made
 pub mod MovedBytes

@@ -1,7 +1,7 @@
 -- On which PE each block of a division runs, so that the fewest bytes move: an assignment problem. Prices of blocks
 -- and PEs, its dual, prove a naming cheapest. Source: R. K. Ahuja, T. L. Magnanti and J. B. Orlin, "Network Flows",
 -- Prentice Hall 1993, chapter 12; or any textbook of linear programming, under assignment and duality.
-use Rattle.std.specs.Prelude.{◌≡◌, ◌≢◌, ℕ, zero, suc, ◌+◌, ◌-◌, ◌<◌, ◌≤◌, ◌==◌, nat_lt, if◌then◌else◌, List, length, slice_index, slice_index_or, slice_range, sum_by, fold, ℤ, pos, ◌+ℤ◌, ◌≤ℤ◌}
+use Rattle.std.specs.Prelude.{◌≡◌, ◌≢◌, ◌⊎◌, ℕ, zero, suc, ◌+◌, ◌-◌, ◌<◌, ◌≤◌, ◌==◌, nat_lt, if◌then◌else◌, List, length, slice_index, slice_index_or, slice_range, sum_by, fold, ℤ, pos, ◌+ℤ◌, ◌≤ℤ◌}
 use Rattle.std.specs.List.{position_or_len}
 use Rattle.chare_index.specs.declared.limits.TheConstants.Limits.{PES}
 use Rattle.lb_certificates.specs.Chain.{IsDivision}
@@ -40,6 +40,23 @@ pub record IsNaming (blocks : ℕ) (names : List ℕ) : Type 0 where
 pub record IsCheapest (sizes : List (ℕ × ℕ)) (cuts : List ℕ) (blocks : ℕ) (names : List ℕ) : Type 0 where
   pub naming : IsNaming blocks names
   pub cheapest : (others : List ℕ) → IsNaming blocks others → bytes_moved sizes cuts names ≤ bytes_moved sizes cuts others
+
+-- at the first block where the two namings differ, this one has the lesser PE
+pub record ComesBefore (blocks : ℕ) (names others : List ℕ) : Type 0 where
+  pub block : ℕ
+  pub inside : block < blocks
+  pub same : (b : ℕ) → b < block → slice_index names b ≡ slice_index others b
+  pub less : slice_index names block < slice_index others block
+
+-- Of the namings that move the fewest bytes this is the first in dictionary order. What each moves is told by moved.
+pub record IsFirstCheapest (blocks : ℕ) (moved : List ℕ → ℕ) (names : List ℕ) : Type 0 where
+  pub naming : IsNaming blocks names
+  pub cheapest : (others : List ℕ) → IsNaming blocks others → moved names ≤ moved others
+  pub first : (others : List ℕ) → IsNaming blocks others → moved others ≤ moved names → (names ≡ others) ⊎ ComesBefore blocks names others
+
+-- the least naming: the first in dictionary order of the cheapest ones
+abbrev pub IsLeastNaming : List (ℕ × ℕ) → List ℕ → ℕ → List ℕ → Type 0
+IsLeastNaming sizes cuts blocks names = IsFirstCheapest blocks (bytes_moved sizes cuts) names
 
 -- the bytes of block b whose present PE is not p
 abbrev pub block_cost : List (ℕ × ℕ) → List ℕ → ℕ → ℕ → ℕ

@@ -13,15 +13,25 @@ use crate::prices::Prices;
 use crate::sizes::Sizes;
 use chare_index::{Limits, Pe};
 use std::alloc::Allocator;
+use std::marker::Model;
 
-// What is claimed: these names of the blocks between these cuts, with prices of blocks and of PEs.
-#[derive(Clone, Copy)]
+// What is claimed: these names of the blocks between these cuts, with prices of blocks and of PEs. Contracts see it as
+// the record of the five lists.
+#[derive(Drop)]
 struct Claim<'a> {
     sizes: &'a [(u32, Pe)],
     cuts: &'a [u32],
     names: &'a [u32],
     u: &'a [i64],
     v: &'a [i64],
+}
+
+impl<'a> Model for Claim<'a> {
+    ghost use Rattle.lb_certificates.specs.Internal.{Claimed};
+
+    ghost Value = { Claimed };
+
+    ghost view = { λ c. record { sizes = c.sizes.now; cuts = c.cuts.now; names = c.names.now; u = c.u.now; v = c.v.now } };
 }
 
 /// Checks a naming of the blocks between these cuts by its prices, whoever made it, and returns the bytes moved.
@@ -57,15 +67,15 @@ pub fn check_naming<A: Allocator, B: Allocator>(
         u: prices.u.as_slice(),
         v: prices.v.as_slice(),
     };
-    check_cuts(claim)?;
-    check_names(claim)?;
-    check_prices(claim)
+    check_cuts(&claim)?;
+    check_names(&claim)?;
+    check_prices(&claim)
 }
 
 // The flaws of the list of cuts itself.
-fn check_cuts(claim: Claim<'_>) -> Result<(), Flaw>
-    ensures blocks { OnOk result (AreBlocks claim.entry.sizes.now claim.entry.cuts.now) }
-    ensures first_flaw { IfErr result (IsFirst (HasNamingFlaw claim.entry.sizes.now claim.entry.cuts.now claim.entry.names.now claim.entry.u.now claim.entry.v.now)) }
+fn check_cuts(claim: &Claim<'_>) -> Result<(), Flaw>
+    ensures blocks { OnOk result (AreBlocks claim.now.sizes claim.now.cuts) }
+    ensures first_flaw { IfErr result (IsFirst (HasNamingFlaw claim.now.sizes claim.now.cuts claim.now.names claim.now.u claim.now.v)) }
 {
     let cuts = claim.cuts;
     if cuts.len() < 2 || cuts.len() > Limits::PES as usize + 1 {
@@ -84,10 +94,10 @@ fn check_cuts(claim: Claim<'_>) -> Result<(), Flaw>
 }
 
 // The flaws of the list of names.
-fn check_names(claim: Claim<'_>) -> Result<(), Flaw>
-    requires { AreBlocks claim.sizes.now claim.cuts.now }
-    ensures naming { OnOk result (IsNaming (blocks_between claim.entry.cuts.now) claim.entry.names.now) }
-    ensures first_flaw { IfErr result (IsFirst (HasNamingFlaw claim.entry.sizes.now claim.entry.cuts.now claim.entry.names.now claim.entry.u.now claim.entry.v.now)) }
+fn check_names(claim: &Claim<'_>) -> Result<(), Flaw>
+    requires { AreBlocks claim.now.sizes claim.now.cuts }
+    ensures naming { OnOk result (IsNaming (blocks_between claim.now.cuts) claim.now.names) }
+    ensures first_flaw { IfErr result (IsFirst (HasNamingFlaw claim.now.sizes claim.now.cuts claim.now.names claim.now.u claim.now.v)) }
 {
     let blocks = claim.cuts.len() as u32 - 1;
     if claim.names.len() != blocks as usize {
@@ -103,13 +113,13 @@ fn check_names(claim: Claim<'_>) -> Result<(), Flaw>
 }
 
 // The first flaw of the prices or, where there is none, the bytes moved.
-fn check_prices(claim: Claim<'_>) -> Result<u64, Flaw>
-    requires sizes { IsSizes claim.sizes.now }
-    requires blocks { AreBlocks claim.sizes.now claim.cuts.now }
-    requires naming { IsNaming (blocks_between claim.cuts.now) claim.names.now }
-    ensures moved { IfOk result (λ moved. moved ≡ bytes_moved claim.entry.sizes.now claim.entry.cuts.now claim.entry.names.now) }
-    ensures proved { OnOk result (Proves (blocks_between claim.entry.cuts.now) (block_cost claim.entry.sizes.now claim.entry.cuts.now) (bytes_moved claim.entry.sizes.now claim.entry.cuts.now claim.entry.names.now) claim.entry.u.now claim.entry.v.now) }
-    ensures first_flaw { IfErr result (IsFirst (HasNamingFlaw claim.entry.sizes.now claim.entry.cuts.now claim.entry.names.now claim.entry.u.now claim.entry.v.now)) }
+fn check_prices(claim: &Claim<'_>) -> Result<u64, Flaw>
+    requires sizes { IsSizes claim.now.sizes }
+    requires blocks { AreBlocks claim.now.sizes claim.now.cuts }
+    requires naming { IsNaming (blocks_between claim.now.cuts) claim.now.names }
+    ensures moved { IfOk result (λ moved. moved ≡ bytes_moved claim.now.sizes claim.now.cuts claim.now.names) }
+    ensures proved { OnOk result (Proves (blocks_between claim.now.cuts) (block_cost claim.now.sizes claim.now.cuts) (bytes_moved claim.now.sizes claim.now.cuts claim.now.names) claim.now.u claim.now.v) }
+    ensures first_flaw { IfErr result (IsFirst (HasNamingFlaw claim.now.sizes claim.now.cuts claim.now.names claim.now.u claim.now.v)) }
 {
     let blocks = claim.cuts.len() as u32 - 1;
     if claim.u.len() != blocks as usize || claim.v.len() != blocks as usize {
@@ -126,15 +136,15 @@ fn check_prices(claim: Claim<'_>) -> Result<u64, Flaw>
 }
 
 // The first pair of a block and a PE, by block and then PE, whose prices add up to too much.
-fn first_high(claim: Claim<'_>, blocks: u32) -> Option<(u32, u32)>
-    requires sizes { IsSizes claim.sizes.now }
+fn first_high(claim: &Claim<'_>, blocks: u32) -> Option<(u32, u32)>
+    requires sizes { IsSizes claim.now.sizes }
     requires few_blocks { blocks ≤ Limits.PES }
-    requires divides { IsDivision 0 (length claim.sizes.now) blocks claim.cuts.now }
-    requires block_prices { length claim.u.now ≡ blocks }
-    requires pe_prices { length claim.v.now ≡ blocks }
+    requires divides { IsDivision 0 (length claim.now.sizes) blocks claim.now.cuts }
+    requires block_prices { length claim.now.u ≡ blocks }
+    requires pe_prices { length claim.now.v ≡ blocks }
     ensures { MatchOption result
-        ((b p : ℕ) → b < blocks → p < blocks → IsLow claim.entry.sizes.now claim.entry.cuts.now claim.entry.u.now claim.entry.v.now b p)
-        (IsFirstHigh claim.entry.sizes.now claim.entry.cuts.now claim.entry.u.now claim.entry.v.now blocks) }
+        ((b p : ℕ) → b < blocks → p < blocks → IsLow claim.now.sizes claim.now.cuts claim.now.u claim.now.v b p)
+        (IsFirstHigh claim.now.sizes claim.now.cuts claim.now.u claim.now.v blocks) }
 {
     for b in 0..blocks {
         if let Some(p) = first_high_pe(claim, blocks, b) {
@@ -145,17 +155,17 @@ fn first_high(claim: Claim<'_>, blocks: u32) -> Option<(u32, u32)>
 }
 
 // The first PE whose price with that of the block is too much.
-fn first_high_pe(claim: Claim<'_>, blocks: u32, b: u32) -> Option<u32>
-    requires sizes { IsSizes claim.sizes.now }
+fn first_high_pe(claim: &Claim<'_>, blocks: u32, b: u32) -> Option<u32>
+    requires sizes { IsSizes claim.now.sizes }
     requires few_blocks { blocks ≤ Limits.PES }
-    requires divides { IsDivision 0 (length claim.sizes.now) blocks claim.cuts.now }
-    requires block_prices { length claim.u.now ≡ blocks }
-    requires pe_prices { length claim.v.now ≡ blocks }
+    requires divides { IsDivision 0 (length claim.now.sizes) blocks claim.now.cuts }
+    requires block_prices { length claim.now.u ≡ blocks }
+    requires pe_prices { length claim.now.v ≡ blocks }
     requires inside { b < blocks }
     ensures { MatchOption result
-        ((p : ℕ) → p < blocks → IsLow claim.entry.sizes.now claim.entry.cuts.now claim.entry.u.now claim.entry.v.now b p)
-        (λ p. (p < blocks) × IsHigh claim.entry.sizes.now claim.entry.cuts.now claim.entry.u.now claim.entry.v.now b p
-        × ((q : ℕ) → q < p → IsLow claim.entry.sizes.now claim.entry.cuts.now claim.entry.u.now claim.entry.v.now b q)) }
+        ((p : ℕ) → p < blocks → IsLow claim.now.sizes claim.now.cuts claim.now.u claim.now.v b p)
+        (λ p. (p < blocks) × IsHigh claim.now.sizes claim.now.cuts claim.now.u claim.now.v b p
+        × ((q : ℕ) → q < p → IsLow claim.now.sizes claim.now.cuts claim.now.u claim.now.v b q)) }
 {
     let mut costs = [0; Limits::PES as usize];
     write_block(claim, blocks, b, &mut costs);
@@ -163,11 +173,11 @@ fn first_high_pe(claim: Claim<'_>, blocks: u32, b: u32) -> Option<u32>
 }
 
 // Writes what a block costs on each PE.
-fn write_block(claim: Claim<'_>, blocks: u32, b: u32, costs: &mut [u64])
-    requires sizes { IsSizes claim.sizes.now }
-    requires divides { IsDivision 0 (length claim.sizes.now) blocks claim.cuts.now }
+fn write_block(claim: &Claim<'_>, blocks: u32, b: u32, costs: &mut [u64])
+    requires sizes { IsSizes claim.now.sizes }
+    requires divides { IsDivision 0 (length claim.now.sizes) blocks claim.now.cuts }
     requires inside { b < blocks }
-    ensures { (p : ℕ) → p < length costs.new → slice_index costs.new p ≡ block_cost claim.entry.sizes.now claim.entry.cuts.now b p }
+    ensures { (p : ℕ) → p < length costs.new → slice_index costs.new p ≡ block_cost claim.now.sizes claim.now.cuts b p }
 {
     let first = claim.cuts[b as usize] as usize;
     let end = claim.cuts[b as usize + 1] as usize;
@@ -175,19 +185,19 @@ fn write_block(claim: Claim<'_>, blocks: u32, b: u32, costs: &mut [u64])
 }
 
 // The first PE whose price with that of the block is above what the block costs there.
-fn first_above(claim: Claim<'_>, blocks: u32, b: u32, costs: &[u64]) -> Option<u32>
-    requires block_prices { length claim.u.now ≡ blocks }
-    requires pe_prices { length claim.v.now ≡ blocks }
+fn first_above(claim: &Claim<'_>, blocks: u32, b: u32, costs: &[u64]) -> Option<u32>
+    requires block_prices { length claim.now.u ≡ blocks }
+    requires pe_prices { length claim.now.v ≡ blocks }
     requires inside { b < blocks }
     requires counted { blocks ≤ length costs.now }
-    requires costs { (p : ℕ) → p < length costs.now → slice_index costs.now p ≡ block_cost claim.sizes.now claim.cuts.now b p }
+    requires costs { (p : ℕ) → p < length costs.now → slice_index costs.now p ≡ block_cost claim.now.sizes claim.now.cuts b p }
     ensures { MatchOption result
-        ((p : ℕ) → p < blocks → IsLow claim.entry.sizes.now claim.entry.cuts.now claim.entry.u.now claim.entry.v.now b p)
-        (λ p. (p < blocks) × IsHigh claim.entry.sizes.now claim.entry.cuts.now claim.entry.u.now claim.entry.v.now b p
-        × ((q : ℕ) → q < p → IsLow claim.entry.sizes.now claim.entry.cuts.now claim.entry.u.now claim.entry.v.now b q)) }
+        ((p : ℕ) → p < blocks → IsLow claim.now.sizes claim.now.cuts claim.now.u claim.now.v b p)
+        (λ p. (p < blocks) × IsHigh claim.now.sizes claim.now.cuts claim.now.u claim.now.v b p
+        × ((q : ℕ) → q < p → IsLow claim.now.sizes claim.now.cuts claim.now.u claim.now.v b q)) }
 {
     for p in 0..blocks {
-        let price = i128::from(price(claim.u, b)) + i128::from(price(claim.v, p));
+        let price = i128::from(block_price(claim, b)) + i128::from(pe_price(claim, p));
         if price > i128::from(costs[p as usize]) {
             return Some(p);
         }
@@ -195,21 +205,29 @@ fn first_above(claim: Claim<'_>, blocks: u32, b: u32, costs: &[u64]) -> Option<u
     None
 }
 
-// The price at a place.
-fn price(prices: &[i64], place: u32) -> i64
-    requires { place < length prices.now }
-    ensures { result ≡ price_at prices.now place }
+// The price of a block.
+fn block_price(claim: &Claim<'_>, b: u32) -> i64
+    requires { b < length claim.now.u }
+    ensures { result ≡ price_at claim.now.u b }
 {
-    prices[place as usize]
+    claim.u[b as usize]
+}
+
+// The price of a PE.
+fn pe_price(claim: &Claim<'_>, p: u32) -> i64
+    requires { p < length claim.now.v }
+    ensures { result ≡ price_at claim.now.v p }
+{
+    claim.v[p as usize]
 }
 
 // The bytes of a block whose present PE is another.
-fn block_bytes(claim: Claim<'_>, blocks: u32, b: u32, p: u32) -> u64
-    requires sizes { IsSizes claim.sizes.now }
-    requires divides { IsDivision 0 (length claim.sizes.now) blocks claim.cuts.now }
+fn block_bytes(claim: &Claim<'_>, blocks: u32, b: u32, p: u32) -> u64
+    requires sizes { IsSizes claim.now.sizes }
+    requires divides { IsDivision 0 (length claim.now.sizes) blocks claim.now.cuts }
     requires inside { b < blocks }
-    ensures value { result ≡ block_cost claim.entry.sizes.now claim.entry.cuts.now b p }
-    ensures small { result + slice_index claim.entry.cuts.now b * Limits.STATE_BYTES ≤ slice_index claim.entry.cuts.now (b + 1) * Limits.STATE_BYTES }
+    ensures value { result ≡ block_cost claim.now.sizes claim.now.cuts b p }
+    ensures small { result + slice_index claim.now.cuts b * Limits.STATE_BYTES ≤ slice_index claim.now.cuts (b + 1) * Limits.STATE_BYTES }
 {
     let first = claim.cuts[b as usize] as usize;
     let end = claim.cuts[b as usize + 1] as usize;
@@ -218,11 +236,11 @@ fn block_bytes(claim: Claim<'_>, blocks: u32, b: u32, p: u32) -> u64
 
 // The bytes of all blocks that move to their names.
 #[tactic(auto, using(crate::proofs::BlockSums::moved_is_cost))]
-fn moved_by(claim: Claim<'_>, blocks: u32) -> u64
-    requires sizes { IsSizes claim.sizes.now }
-    requires divides { IsDivision 0 (length claim.sizes.now) blocks claim.cuts.now }
-    requires named { length claim.names.now ≡ blocks }
-    ensures { result ≡ bytes_moved claim.entry.sizes.now claim.entry.cuts.now claim.entry.names.now }
+fn moved_by(claim: &Claim<'_>, blocks: u32) -> u64
+    requires sizes { IsSizes claim.now.sizes }
+    requires divides { IsDivision 0 (length claim.now.sizes) blocks claim.now.cuts }
+    requires named { length claim.now.names ≡ blocks }
+    ensures { result ≡ bytes_moved claim.now.sizes claim.now.cuts claim.now.names }
 {
     let mut moved = 0;
     for b in 0..blocks {

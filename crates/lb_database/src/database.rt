@@ -49,7 +49,7 @@ impl<A: Allocator> LoadDb<A> {
     pub fn new(alloc: A, n: u32) -> Result<Self, DbError>
     where
         A: Copy,
-        requires { n ≤ Limits.ELEMENTS }
+        requires few { n ≤ Limits.ELEMENTS }
         ensures made { IfOk result (λ d. d ≡ opening 1 n) }
         ensures refused { IfErr result (RefusesNew n) }
     {

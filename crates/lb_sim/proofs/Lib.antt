@@ -1,4 +1,5 @@
 pub mod BlockLines
 pub mod Endings
+pub mod OneTexts
 pub mod RightTexts
 pub mod Sends

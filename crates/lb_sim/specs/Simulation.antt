@@ -2,6 +2,7 @@
 use Rattle.std.specs.Prelude.{◌≡◌, ℕ, ◌≤◌, ◌⊎◌, List, length, take, Option, IfSome, unwrap_or}
 use Rattle.std.specs.Io.KnownBytes.{Appends, Consumes, IsAtEnd}
 use Rattle.lb_certificates.specs.Measured.{Taken}
+use Rattle.lb_certificates.specs.Naming.{IsLeastNaming}
 use Rattle.chain_partition.specs.Chosen.{IsChosen}
 use Rattle.lb_dump.specs.Faults.{IsFault, IsGood}
 use Rattle.lb_dump.specs.Format.{IsText}
@@ -20,10 +21,11 @@ use Rattle.lb_sim.specs.declared.fault.Fault.TheVariants.{Dump, Plan}
 abbrev pub blocks_of : Option ℕ → Taken → ℕ
 blocks_of procs s = unwrap_or procs s.procs
 
--- this is the text of a right decision on the snapshot, of the chosen division
+-- this is the text of a right decision on the snapshot, of the chosen division and the least naming
 pub record IsPlanned (A : Type 0) (s : Taken) (blocks : ℕ) (text : List ℕ) : Type 0 where
   pub decision : Decision A
   pub chosen : IsChosen s.loads blocks decision.division
+  pub least : IsLeastNaming s.sizes decision.division.cuts blocks decision.naming
   pub right : IsRight s.loads s.sizes blocks decision
   pub printed : text ≡ decision_text s blocks decision
 

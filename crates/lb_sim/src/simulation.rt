@@ -24,6 +24,8 @@ use std::io::{self, Read, Write};
 /// dump has, and writes the text of the decision, or the one line of a fault, and nothing else.
 ///
 /// Out of memory is a fault of the dump while that is read, and then one of the plan. The line is the same.
+///
+/// What is printed is one function of the bytes read and the number of PEs: the clause `one_text`.
 pub fn simulate<A: Allocator + Copy, R: Read, W: Write>(
     alloc: A,
     reader: &mut R,
@@ -33,6 +35,7 @@ pub fn simulate<A: Allocator + Copy, R: Read, W: Write>(
     requires some_pe { ForSome procs (λ p. 1 ≤ p) }
     requires few_pes { ForSome procs (λ p. p ≤ Limits.PES) }
     ensures ends { EndsReplay A (R.remaining reader.old) (R.remaining reader.new) procs (W.contents writer.old) (W.contents writer.new) result }
+    ensures one_text { (bytes text other : List ℕ) → IsReplay A (Some bytes) procs text → IsReplay A (Some bytes) procs other → text ≡ other }
 {
     match replay(alloc, reader, procs) {
         Ok(text) if write_out(writer, text.as_bytes()) => Ended::Printed,

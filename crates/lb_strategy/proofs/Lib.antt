@@ -1,2 +1,3 @@
 pub mod MoveLists
+pub mod OneDecisions
 pub mod RightDecisions

@@ -7,9 +7,10 @@ use Rattle.lb_certificates.specs.Certificate.{IsCertified}
 use Rattle.lb_certificates.specs.Chain.{IsDivision, IsLeastDivision}
 use Rattle.lb_certificates.specs.declared.division.Division.{Division}
 use Rattle.chare_index.specs.declared.limits.TheConstants.Limits.{PES}
-use Rattle.lb_certificates.specs.Naming.{block_cost, block_of, blocks_between, bytes_moved, naming_cost, AreBlocks, price_at, IsCheapest, IsNaming, Proves}
+use Rattle.lb_certificates.specs.Naming.{block_cost, block_of, blocks_between, bytes_moved, naming_cost, AreBlocks, price_at, IsCheapest, IsFirstCheapest, IsLeastNaming, IsNaming, Proves}
 use Rattle.lb_certificates.proofs.BlockSums.{cheapest_from_named, moved_is_cost}
 use Rattle.lb_certificates.proofs.LeastDivisions.{least_from_certified}
+use Rattle.lb_certificates.proofs.LeastNamings.{least_by}
 use Rattle.lb_certificates.proofs.Totals.{total_same}
 use Rattle.block_assignment.specs.Table.{Table, cost_at, IsTableOf}
 use Rattle.lb_strategy.specs.declared.decision.Decision.{Decision}
@@ -73,6 +74,12 @@ moved_by_table : (sizes : List (ℕ × ℕ)) (cuts names : List ℕ) (t : Table)
 moved_by_table sizes cuts names t blocks table naming =
     let by_block : naming_cost t.blocks (cost_at t) names ≡ naming_cost t.blocks (block_cost sizes cuts) names = total_same t.blocks (λ b. cost_at t b (slice_index names b)) (λ b. block_cost sizes cuts b (slice_index names b)) (λ b inside. table.exact b (slice_index names b) inside (naming.below b inside)) in
     by_block ∙ ap (λ n. naming_cost n (block_cost sizes cuts) names) table.counted ∙ sym (moved_is_cost sizes cuts names (blocks_between cuts) blocks.divides)
+
+-- the least naming by the table of the blocks is the least naming of the blocks
+pub least_by_table : (sizes : List (ℕ × ℕ)) (cuts names : List ℕ) (p : ℕ) (t : Table) → blocks_between cuts ≡ p → AreBlocks sizes cuts → IsTableOf sizes cuts t → IsFirstCheapest t.blocks (naming_cost t.blocks (cost_at t)) names → IsLeastNaming sizes cuts p names
+least_by_table sizes cuts names p t counted blocks table least =
+    let there : IsFirstCheapest t.blocks (bytes_moved sizes cuts) names = least_by t.blocks (bytes_moved sizes cuts) (naming_cost t.blocks (cost_at t)) names (λ others naming. moved_by_table sizes cuts others t blocks table naming) least in
+    subst (λ n. IsFirstCheapest n (bytes_moved sizes cuts) names) (table.counted ∙ counted) there
 
 -- prices that prove a naming by the table of its blocks prove what it moves
 proved_by_table : (sizes : List (ℕ × ℕ)) (cuts names : List ℕ) (u v : List ℤ) (t : Table) → AreBlocks sizes cuts → IsTableOf sizes cuts t → IsNaming t.blocks names → Proves t.blocks (cost_at t) (naming_cost t.blocks (cost_at t) names) u v → Proves (blocks_between cuts) (block_cost sizes cuts) (bytes_moved sizes cuts names) u v

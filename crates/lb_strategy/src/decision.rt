@@ -32,7 +32,7 @@ impl<A: Allocator> Decision<A> {
     /// decision that [`check`](crate::check) accepts. The block is found by binary search, so that the time grows with
     /// the logarithm of the number of blocks.
     pub fn place_of(&self, index: Index) -> Pe
-        requires { HasPlace self.now.division.cuts self.now.naming index }
+        requires placed { HasPlace self.now.division.cuts self.now.naming index }
         ensures value { result ≡ planned_pe self.now.division.cuts self.now.naming index }
     {
         let block = block_at(self.division.cuts.as_slice(), index.get());

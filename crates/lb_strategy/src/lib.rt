@@ -3,7 +3,7 @@
 //!
 //! - [`Decision`], with its [`Moves`]: what a step decides.
 //! - [`check`]: accepts a decision exactly where every part of it is right.
-//! - [`plan`]: decides, or returns a [`PlanError`].
+//! - [`plan`]: decides, or returns a [`PlanError`]; [`plan_with`] does so with several threads.
 //!
 //! ```
 //! use chare_index::{Index, Pe};
@@ -34,4 +34,4 @@ pub use checking::check;
 pub use decision::Decision;
 pub use error::PlanError;
 pub use moves::Moves;
-pub use planning::plan;
+pub use planning::{plan, plan_with};

@@ -1,7 +1,8 @@
 ghost use Rattle.std.specs.Prelude.{◌≡◌, ◌<◌, ◌≤◌, ℕ, length, IfOk, IfErr};
 ghost use Rattle.chain_partition.specs.Chosen.{IsChosen};
+ghost use Rattle.lb_certificates.specs.Certificate.{IsCertified};
 ghost use Rattle.lb_certificates.specs.Chain.{IsLeastDivision};
-ghost use Rattle.lb_certificates.specs.Naming.{IsCheapest};
+ghost use Rattle.lb_certificates.specs.Naming.{IsCheapest, IsLeastNaming};
 ghost use Rattle.lb_strategy.specs.Decisions.{IsRight};
 ghost use Rattle.lb_strategy.specs.Moves.{HasPlace};
 ghost use Rattle.lb_strategy.specs.declared.error.PlanError.TheVariants.{OutOfMemory};
@@ -10,13 +11,15 @@ use crate::decision::Decision;
 use crate::error::PlanError;
 use crate::moves::moves_of;
 use block_assignment::{CostTable, name_blocks};
-use chain_partition::divide;
-use chare_index::Limits;
-use lb_certificates::{Loads, Sizes, Snapshot};
+use chain_partition::{divide, divide_with};
+use chare_index::{Gate, Limits};
+use lb_certificates::{Division, Snapshot};
 use std::alloc::Allocator;
+use std::thread::Threads;
 
 /// Decides where each element of this snapshot runs next, on `pes` PEs, 1 to 256, which may be more or fewer than
-/// those of the run: its blocks are those of [`divide`], named so that the fewest bytes move.
+/// those of the run: its blocks are those of [`divide`], named so that the fewest bytes move, and of all such namings it
+/// takes the first in dictionary order. So all of the decision but its prices is determined by the snapshot and `pes`.
 /// [`check`](crate::check) accepts the decision.
 ///
 /// # Errors
@@ -34,29 +37,64 @@ pub fn plan<A: Allocator + Copy, B: Allocator>(
     ensures chosen { IfOk result (λ d. IsChosen snapshot.now.loads pes d.division) }
     ensures least { IfOk result (λ d. IsLeastDivision snapshot.now.loads pes d.division.bottleneck d.division.cuts) }
     ensures cheapest { IfOk result (λ d. IsCheapest snapshot.now.sizes d.division.cuts pes d.naming) }
+    ensures least_naming { IfOk result (λ d. IsLeastNaming snapshot.now.sizes d.division.cuts pes d.naming) }
     ensures places { IfOk result (λ d. (i : ℕ) → i < length snapshot.now.sizes → HasPlace d.division.cuts d.naming i) }
     ensures only_memory { IfErr result (λ error. error ≡ OutOfMemory) }
 {
-    decide(alloc, snapshot.loads(), snapshot.sizes(), pes)
+    let division = divide(alloc, snapshot.loads(), pes)?;
+    complete(alloc, snapshot, pes, division)
 }
 
-// The decision on these loads and sizes.
-#[tactic(auto, using(crate::proofs::RightDecisions::blocks_from_certified))]
-fn decide<A: Allocator + Copy, B: Allocator>(
+/// Decides as [`plan`] does. The division, which is the same, is found by 1 to 64 workers, as [`divide_with`] does: in
+/// each of its probes a worker calls the gate with its number, and a thread that cannot be started is done without.
+///
+/// # Errors
+///
+/// [`OutOfMemory`](PlanError::OutOfMemory) where a list was refused.
+#[tactic(auto, using(crate::proofs::RightDecisions::least_from_right, crate::proofs::RightDecisions::cheapest_from_right))]
+pub fn plan_with<R: Threads + Sync, G: Gate + Sync, A: Allocator + Copy, B: Allocator>(
+    rt: &R,
     alloc: A,
-    loads: &Loads<B>,
-    sizes: &Sizes<B>,
+    snapshot: &Snapshot<B>,
     pes: u32,
+    workers: u32,
+    gate: &G,
 ) -> Result<Decision<A>, PlanError>
-    requires counted { length loads.now ≡ length sizes.now }
     requires some_pe { 1 ≤ pes }
     requires few_pes { pes ≤ Limits.PES }
-    ensures chosen { IfOk result (λ d. IsChosen loads.now pes d.division) }
-    ensures right { IfOk result (IsRight loads.now sizes.now pes) }
-    ensures places { IfOk result (λ d. (i : ℕ) → i < length sizes.now → HasPlace d.division.cuts d.naming i) }
+    requires some_worker { 1 ≤ workers }
+    requires few_workers { workers ≤ Limits.PROBE_WORKERS }
+    ensures right { IfOk result (IsRight snapshot.now.loads snapshot.now.sizes pes) }
+    ensures chosen { IfOk result (λ d. IsChosen snapshot.now.loads pes d.division) }
+    ensures least { IfOk result (λ d. IsLeastDivision snapshot.now.loads pes d.division.bottleneck d.division.cuts) }
+    ensures cheapest { IfOk result (λ d. IsCheapest snapshot.now.sizes d.division.cuts pes d.naming) }
+    ensures least_naming { IfOk result (λ d. IsLeastNaming snapshot.now.sizes d.division.cuts pes d.naming) }
+    ensures places { IfOk result (λ d. (i : ℕ) → i < length snapshot.now.sizes → HasPlace d.division.cuts d.naming i) }
     ensures only_memory { IfErr result (λ error. error ≡ OutOfMemory) }
 {
-    let division = divide(alloc, loads, pes)?;
+    let found = divide_with(rt, alloc, snapshot.loads(), pes, workers, gate)?;
+    complete(alloc, snapshot, pes, found)
+}
+
+// The decision whose division was found.
+#[tactic(auto, using(crate::proofs::RightDecisions::blocks_from_certified))]
+fn complete<A: Allocator + Copy, B: Allocator>(
+    alloc: A,
+    snapshot: &Snapshot<B>,
+    pes: u32,
+    division: Division<A>,
+) -> Result<Decision<A>, PlanError>
+    requires some_pe { 1 ≤ pes }
+    requires few_pes { pes ≤ Limits.PES }
+    requires chosen { IsChosen snapshot.now.loads pes division }
+    requires certified { IsCertified snapshot.now.loads pes division }
+    ensures chosen { IfOk result (λ d. IsChosen snapshot.now.loads pes d.division) }
+    ensures right { IfOk result (IsRight snapshot.now.loads snapshot.now.sizes pes) }
+    ensures least_naming { IfOk result (λ d. IsLeastNaming snapshot.now.sizes d.division.cuts pes d.naming) }
+    ensures places { IfOk result (λ d. (i : ℕ) → i < length snapshot.now.sizes → HasPlace d.division.cuts d.naming i) }
+    ensures only_memory { IfErr result (λ error. error ≡ OutOfMemory) }
+{
+    let sizes = snapshot.sizes();
     let table = CostTable::of(alloc, sizes, &division.cuts)?;
     let (naming, prices) = name_blocks(alloc, &table)?;
     let moved = table.cost_of(naming.as_slice());

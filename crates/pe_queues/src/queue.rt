@@ -47,7 +47,7 @@ impl<T: Drop, A: Allocator> Queue<T, A> {
     pub fn new(alloc: A, capacity: usize) -> Result<(Self, Ticket<T>), AllocError>
     where
         A: Clone,
-        requires { 0 < capacity }
+        requires some_room { 0 < capacity }
         ensures capacity { IfOk result (λ made. made.0.capacity ≡ capacity) }
         ensures ticket { IfOk result (λ made. made.1 ≡ ticket made.0.id all_traffic) }
     {
@@ -59,7 +59,7 @@ impl<T: Drop, A: Allocator> Queue<T, A> {
     pub fn push<R: Wait>(&self, rt: &R, mine: &mut Ticket<T>, value: T) -> Result<(), Full<T>>
         requires own { mine.old.queue ≡ self.now.id }
         requires seated { 0 < mine.old.traffic.seats }
-        ensures { MatchResult result
+        ensures answer { MatchResult result
             (λ _. mine.new ≡ record mine.old { traffic = with_put mine.old.traffic value })
             (λ full. (full.0 ≡ value) × (mine.new ≡ mine.old) × Held self.now.capacity (Seen mine.old.traffic)) }
     {
@@ -72,7 +72,7 @@ impl<T: Drop, A: Allocator> Queue<T, A> {
     pub fn pop<R: Wait>(&self, rt: &R, mine: &mut Ticket<T>) -> Option<T>
         requires own { mine.old.queue ≡ self.now.id }
         requires seated { 0 < mine.old.traffic.seats }
-        ensures { MatchOption result
+        ensures answer { MatchOption result
             ((mine.new ≡ mine.old) × Held 0 (Seen mine.old.traffic))
             (λ value. mine.new ≡ record mine.old { traffic = with_take mine.old.traffic value }) }
     {
@@ -109,7 +109,7 @@ impl<T: Drop, A: Allocator> Queue<T, A> {
         requires all { mine.old.traffic.seats ≡ SEATS }
         requires empty { room.old.items ≡ [] }
         requires wide { self.now.capacity ≤ vec_capacity room.old }
-        ensures { Balances mine.old.traffic.puts mine.old.traffic.takes room.new.items }
+        ensures balanced { Balances mine.old.traffic.puts mine.old.traffic.takes room.new.items }
     {
         pop_all(rt, &self.ring, &mut mine.pass, room);
     }

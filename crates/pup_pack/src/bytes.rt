@@ -39,7 +39,7 @@ impl<A: Allocator> Bytes<A> {
 
     /// The bytes as a vector.
     pub fn into_vec(self) -> Vec<u8, A>
-        ensures items { result.items ≡ self }
+        ensures value { result.items ≡ self }
     {
         self.all
     }

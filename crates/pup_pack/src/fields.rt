@@ -31,7 +31,7 @@ pub trait Fields<A: Allocator> {
         ensures appended { OnOk result (out.new.items ≡ out.old.items ++ pack self.now) }
         ensures answer { PackAnswer (counted self.now) (length (pack self.now)) result }
         ensures full { result ≡ Err PupError.OutOfMemory → vec_capacity out.old < vec_len out.old + length (pack self.now) }
-        ensures unchanged { OnErr result (out.new.items ≡ out.old.items) }
+        ensures err { OnErr result (out.new.items ≡ out.old.items) }
         ensures capacity { vec_capacity out.old ≤ vec_capacity out.new };
 }
 

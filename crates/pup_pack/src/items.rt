@@ -40,15 +40,15 @@ impl<T, A: Allocator> Items<T, A> {
     /// Appends an item, which is handed back where no memory is left.
     pub fn push(&mut self, item: T) -> Result<(), AllocFailed<T>>
         ensures appended { OnOk result (self.new ≡ self.old ++ item ∷ []) }
-        ensures unchanged { OnErr result (self.new ≡ self.old) }
-        ensures handed_back { IfErr result (λ failed. failed.value ≡ item) }
+        ensures err { OnErr result (self.new ≡ self.old) }
+        ensures back { IfErr result (λ failed. failed.value ≡ item) }
     {
         self.all.push(item)
     }
 
     /// The items as a vector.
     pub fn into_vec(self) -> Vec<T, A>
-        ensures items { result.items ≡ self }
+        ensures value { result.items ≡ self }
     {
         self.all
     }

@@ -48,7 +48,7 @@ pub fn pack_items<A: Allocator, T: Pup<A>>(
     ensures appended { OnOk result (out.new.items ≡ out.old.items ++ flat_map T.pack items.now) }
     ensures answer { PackAnswer (All T.counted items.now) (length (flat_map T.pack items.now)) result }
     ensures full { result ≡ Err PupError.OutOfMemory → vec_capacity out.old < vec_len out.old + length (flat_map T.pack items.now) }
-    ensures unchanged { OnErr result (out.new.items ≡ out.old.items) }
+    ensures err { OnErr result (out.new.items ≡ out.old.items) }
     ensures capacity { vec_capacity out.old ≤ vec_capacity out.new }
 {
     let before = out.len();

@@ -91,7 +91,7 @@ pub trait Pup<A: Allocator>: Sized {
         ensures appended { OnOk result (out.new.items ≡ out.old.items ++ pack self.now) }
         ensures answer { PackAnswer (counted self.now) (length (pack self.now)) result }
         ensures full { result ≡ Err PupError.OutOfMemory → vec_capacity out.old < vec_len out.old + length (pack self.now) }
-        ensures unchanged { OnErr result (out.new.items ≡ out.old.items) }
+        ensures err { OnErr result (out.new.items ≡ out.old.items) }
         ensures capacity { vec_capacity out.old ≤ vec_capacity out.new };
 
     /// The value whose pack the bytes begin with, and how many bytes that pack has.

@@ -139,3 +139,21 @@ fn as_large_as_may_be(rt: HostRuntime) -> Result<(), Fail> {
     assert_eq!(rt; left[255].as_slice(), [7].as_slice());
     Ok(())
 }
+
+#[test]
+fn each_number_of_pes_has_its_post(rt: HostRuntime) -> Result<(), Fail> {
+    for pes in 1..=256 {
+        let (post, seats) = Post::<char>::new(rt.alloc(), pes, 2, 1)?;
+        assert_eq!(rt; (post.pes(), seats.len()), (pes, 2));
+    }
+    Ok(())
+}
+
+#[test]
+fn each_number_of_seats_has_its_post(rt: HostRuntime) -> Result<(), Fail> {
+    for wanted in 1..=256 {
+        let (post, seats) = Post::<char>::new(rt.alloc(), 1, wanted, 1)?;
+        assert_eq!(rt; (post.pes(), seats.len()), (1, wanted as usize));
+    }
+    Ok(())
+}

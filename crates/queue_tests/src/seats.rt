@@ -13,7 +13,7 @@ pub fn next<T: Drop, A: Allocator>(
     post: &Post<T, A>,
     seats: &mut Vec<Seat<T, A>, A>,
 ) -> Option<Seat<T, A>>
-    requires { All (λ seat. seat.post ≡ post.now) seats.old.items }
+    requires of_post { All (λ seat. seat.post ≡ post.now) seats.old.items }
     ensures own { IfSome result (λ seat. seat.post ≡ post.now) }
     ensures rest { All (λ seat. seat.post ≡ post.now) seats.new.items }
 {
@@ -39,8 +39,8 @@ pub fn two_seats<T: Drop, A: Allocator + Copy>(
 
 /// The PE of this number.
 pub fn pe(number: u32) -> Pe
-    requires { number < 256 }
-    ensures { result ≡ number }
+    requires below_limit { number < 256 }
+    ensures value { result ≡ number }
 {
     Pe::new(number).unwrap()
 }

@@ -1,10 +1,11 @@
 //! The calls of a board.
 
 use at_sync::{Board, BoardError};
-use chare_index::{Pe, Round};
+use chare_index::{NoGate, Pe, Round};
 use refusing_alloc::{Outcome, Refusing, each_refusal};
 use std::alloc::{AllocError, Global};
 use std::test::Fail;
+use std::thread::Threads;
 
 // No call here makes as many requests.
 const MOST_TURNS: u64 = 40;
@@ -75,9 +76,40 @@ fn decisions_of_a_board(rt: HostRuntime) -> Result<(), Fail> {
     let refusals = each_refusal(rt.alloc(), MOST_TURNS, attempt)?;
     assert_eq!(rt;
         refusals,
-        19,
+        22,
         "those of the board, of one plan and of the pair that is kept"
     );
+    Ok(())
+}
+
+// The same of a decision by three workers.
+fn three_decide<R: Threads + Sync>(
+    rt: &R,
+    alloc: &Refusing<Global>,
+    first: Round,
+    places: [Pe; 2],
+) -> Outcome {
+    let Some(mut board) = two_reported(alloc, first, places) else {
+        return Outcome::Refused;
+    };
+    match board.decide_with(rt, 3, &NoGate) {
+        Ok(round) if round == first && board.rounds().len() == 1 => Outcome::Right,
+        Err(BoardError::OutOfMemory)
+            if board.is_complete()
+                && board.decision_for(first).is_none()
+                && decides(&mut board, first) => { Outcome::Refused }
+        _ => Outcome::Wrong,
+    }
+}
+
+#[test]
+fn decisions_by_three_workers(rt: HostRuntime) -> Result<(), Fail> {
+    let (Some(first), Some(zero), Some(one)) = (Round::new(1), Pe::new(0), Pe::new(1)) else {
+        return Err(Fail::new("no such round or PE"));
+    };
+    let attempt = |alloc: &Refusing<Global>| three_decide(&rt, alloc, first, [zero, one]);
+    let refusals = each_refusal(rt.alloc(), MOST_TURNS, attempt)?;
+    assert_eq!(rt; refusals, 22, "those of a decision by one");
     Ok(())
 }
 

@@ -2,44 +2,98 @@
 
 use crate::fixtures::{example, five, pe, requests, three};
 use block_assignment::{CostTable, NameError, name_blocks};
-use chain_partition::{Probe, divide, probe};
-use chare_index::{Index, Pe};
-use lb_certificates::{Cuts, Floor, Loads, Sizes, Snapshot};
-use lb_strategy::{Decision, PlanError, check, plan};
+use chain_partition::{Prefix, Probe, divide, divide_with, probe, probe_on};
+use chare_index::{Index, NoGate, Pe};
+use lb_certificates::{Cuts, Division, Floor, Loads, Sizes, Snapshot};
+use lb_strategy::{Decision, PlanError, check, plan, plan_with};
 use refusing_alloc::{Outcome, Refusing};
 use std::alloc::{AllocError, Allocator, Global};
 use std::process::Abort;
+use std::thread::Threads;
 
-// The requests of the search for names on two blocks.
-const NAMING: u64 = 9;
+// The requests of a division.
+const DIVIDING: u64 = 3;
 
-// Whether five fit in two blocks within 9, and stop within 8, as they should.
-fn probes_five<A: Allocator>(alloc: A, five: &Loads, limit: u64) -> Result<bool, AllocError> {
-    Ok(match probe(alloc, five, 2, limit)? {
+// The requests of the search for names: two lists of prices, seven of the search, and two of the exchange.
+const NAMING: u64 = 11;
+
+// Whether the answer is that of a probe of five, which fit in two blocks within 9 and stop within 8.
+fn is_of_five<A: Allocator>(answer: &Probe<A>, limit: u64) -> bool {
+    match answer {
         Probe::Fits(cuts) => limit == 9 && cuts.as_slice() == [0, 3, 5].as_slice(),
         Probe::Stops(stops) => limit == 8 && stops.as_slice() == [0, 3, 4].as_slice(),
-    })
+    }
 }
 
-// Whether five are divided into two blocks as they should be.
-fn divides_five<A: Allocator + Copy>(alloc: A, five: &Loads) -> Result<bool, AllocError> {
-    let division = divide(alloc, five, 2)?;
+// Whether five are probed as they should be.
+fn probes_five<A: Allocator + Copy>(
+    alloc: A,
+    five: &Loads,
+    limit: u64,
+) -> Result<bool, AllocError> {
+    Ok(is_of_five(&probe(alloc, five, 2, limit)?, limit))
+}
+
+// Whether they are on running sums that were made before.
+fn probes_on<A: Allocator>(alloc: A, five: &Prefix, limit: u64) -> Result<bool, AllocError> {
+    Ok(is_of_five(&probe_on(alloc, five, 2, limit)?, limit))
+}
+
+// Whether five have their running sums.
+fn sums_five<A: Allocator>(alloc: A, five: &Loads) -> Result<bool, AllocError> {
+    let prefix = Prefix::of(alloc, five)?;
+    Ok(prefix.len() == 5 && prefix.load(0, 5) == 15 && prefix.load(2, 5) == 12)
+}
+
+// Whether it is the division of five into two blocks.
+fn divides_five<A: Allocator>(division: &Division<A>) -> bool {
     let Floor::Fence(stops) = &division.floor else {
-        return Ok(false);
+        return false;
     };
     let same = division.bottleneck == 9 && stops.as_slice() == [0, 3, 4].as_slice();
-    Ok(same && division.cuts.as_slice() == [0, 3, 5].as_slice())
+    same && division.cuts.as_slice() == [0, 3, 5].as_slice()
+}
+
+// Whether one divides five as they should be.
+fn one_divides<A: Allocator + Copy>(alloc: A, five: &Loads) -> Result<bool, AllocError> {
+    Ok(divides_five(&divide(alloc, five, 2)?))
+}
+
+// Whether two workers do.
+fn two_divide<R: Threads + Sync, A: Allocator + Copy>(
+    rt: &R,
+    alloc: A,
+    five: &Loads,
+) -> Result<bool, AllocError> {
+    Ok(divides_five(&divide_with(rt, alloc, five, 2, 2, &NoGate)?))
 }
 
 #[test]
 fn probes_and_divisions(rt: HostRuntime) {
     let five = five(&rt);
+    let attempt = |alloc: &Refusing<Global>| Outcome::from(sums_five(alloc, &five));
+    assert_eq!(rt; requests(&rt, attempt), 1, "the running sums");
     for limit in [9, 8] {
         let attempt = |alloc: &Refusing<Global>| Outcome::from(probes_five(alloc, &five, limit));
+        assert_eq!(rt; requests(&rt, attempt), 2, "limit {limit}");
+    }
+    let attempt = |alloc: &Refusing<Global>| Outcome::from(one_divides(alloc, &five));
+    assert_eq!(rt;
+        requests(&rt, attempt),
+        DIVIDING,
+        "the running sums, the cuts and the fence"
+    );
+    let attempt = |alloc: &Refusing<Global>| Outcome::from(two_divide(&rt, alloc, &five));
+    assert_eq!(rt; requests(&rt, attempt), DIVIDING, "none for the workers");
+}
+
+#[test]
+fn probes_on_running_sums(rt: HostRuntime) {
+    let prefix = Prefix::of(rt.alloc(), &five(&rt)).expect(&rt, "out of memory");
+    for limit in [9, 8] {
+        let attempt = |alloc: &Refusing<Global>| Outcome::from(probes_on(alloc, &prefix, limit));
         assert_eq!(rt; requests(&rt, attempt), 1, "limit {limit}");
     }
-    let attempt = |alloc: &Refusing<Global>| Outcome::from(divides_five(alloc, &five));
-    assert_eq!(rt; requests(&rt, attempt), 2, "the cuts and the fence");
 }
 
 fn cuts(rt: &(impl Abort + AllocGlobal)) -> Cuts {
@@ -102,8 +156,12 @@ fn is_decided<A: Allocator>(
 }
 
 // What a plan for the example comes to.
-fn plans<A: Allocator + Copy>(alloc: A, example: &Snapshot, moves: &[(Index, Pe, Pe)]) -> Outcome {
-    match plan(alloc, example, 2) {
+fn plans<A: Allocator>(
+    answer: Result<Decision<A>, PlanError>,
+    example: &Snapshot,
+    moves: &[(Index, Pe, Pe)],
+) -> Outcome {
+    match answer {
         Ok(decision) if is_decided(example, &decision, moves) => Outcome::Right,
         Err(PlanError::OutOfMemory) => Outcome::Refused,
         _ => Outcome::Wrong,
@@ -115,7 +173,20 @@ fn whole_decisions(rt: HostRuntime) {
     let example = example(&rt, rt.alloc());
     let first = Index::new(0).expect(&rt, "no such element");
     let moves = [(first, pe(&rt, 0), pe(&rt, 1))];
-    let attempt = |alloc: &Refusing<Global>| plans(alloc, &example, &moves);
+    let attempt = |alloc: &Refusing<Global>| plans(plan(alloc, &example, 2), &example, &moves);
     // Those of `divide`, `CostTable::of` and `name_blocks`, and the moves.
-    assert_eq!(rt; requests(&rt, attempt), 2 + 2 + NAMING + 1);
+    assert_eq!(rt; requests(&rt, attempt), DIVIDING + 2 + NAMING + 1);
+}
+
+#[test]
+fn whole_decisions_by_three_workers(rt: HostRuntime) {
+    let example = example(&rt, rt.alloc());
+    let first = Index::new(0).expect(&rt, "no such element");
+    let moves = [(first, pe(&rt, 0), pe(&rt, 1))];
+    let attempt = |alloc: &Refusing<Global>| plans(
+        plan_with(&rt, alloc, &example, 2, 3, &NoGate),
+        &example,
+        &moves,
+    );
+    assert_eq!(rt; requests(&rt, attempt), DIVIDING + 2 + NAMING + 1);
 }

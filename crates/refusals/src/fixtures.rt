@@ -22,7 +22,7 @@ pub fn pe(rt: &impl Abort, number: u32) -> Pe {
 }
 
 pub fn round(rt: &impl Abort, number: u32) -> Round
-    ensures { result ≡ number }
+    ensures value { result ≡ number }
 {
     Round::new(number).expect(rt, "no such round")
 }
@@ -61,7 +61,7 @@ pub fn requests<F: Fn(&Refusing<Global>) -> Outcome>(
     rt: &(impl Abort + AllocGlobal),
     attempt: F,
 ) -> u64
-    requires { F.IsAlwaysCallable attempt }
+    requires callable { F.IsAlwaysCallable attempt }
 {
     let refusals = each_refusal(rt.alloc(), MOST_TURNS, attempt);
     refusals.expect(rt, "a refusal was not told")

@@ -2,8 +2,9 @@
 
 use crate::fixtures::{EXAMPLE, example, pe, round, three};
 use block_assignment::CostTable;
+use chain_partition::Prefix;
 use chare_index::{Index, Pe, Round};
-use lb_certificates::{Cuts, Snapshot, check_division, check_naming};
+use lb_certificates::{Cuts, Loads, Snapshot, check_division, check_naming};
 use lb_database::{DbError, LoadDb};
 use lb_dump::{DumpReader, write_to};
 use lb_strategy::{check, plan};
@@ -116,4 +117,15 @@ fn a_place_that_is_read(rt: HostRuntime) {
     let snapshot = example(&rt, rt.alloc());
     let last = Index::new(2).expect(&rt, "no such element");
     assert_eq!(rt; place(&rt, &alloc, &snapshot, last), (pe(&rt, 0), true));
+}
+
+#[test]
+fn loads_by_running_sums(rt: HostRuntime) {
+    let alloc = Refusing::new(rt.alloc(), 0);
+    let units = Vec::from_slice(rt.alloc(), &[1, 2, 3]).expect(&rt, "out of memory");
+    let loads = Loads::new(units).expect(&rt, "too many loads");
+    let prefix = Prefix::of(&alloc, &loads).expect(&rt, "out of memory");
+    let made = alloc.requests();
+    assert!(rt; prefix.len() == 3 && !prefix.is_empty() && prefix.load(1, 3) == 5);
+    assert_eq!(rt; alloc.requests(), made);
 }

@@ -84,7 +84,7 @@ pub fn each_refusal<B: Allocator + Copy, F: Fn(&Refusing<B>) -> Outcome>(
     most_turns: u64,
     attempt: F,
 ) -> Result<u64, Failure>
-    requires { F.IsAlwaysCallable attempt }
+    requires callable { F.IsAlwaysCallable attempt }
     ensures within { IfOk result (λ refusals. refusals < most_turns) }
     ensures passes { IfOk result (Passes (F.post attempt) inner) }
     ensures fails { IfErr result (Fails (F.post attempt) inner most_turns) }

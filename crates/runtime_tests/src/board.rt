@@ -3,7 +3,7 @@
 ghost use Rattle.std.specs.Prelude.{◌≤◌};
 
 use at_sync::{Board, BoardError};
-use chare_index::{Limits, Pe, Round};
+use chare_index::{Limits, NoGate, Pe, Round};
 use lb_certificates::Units;
 use lb_strategy::{Decision, check};
 use std::process::Abort;
@@ -76,6 +76,21 @@ fn two_elements_stay(rt: HostRuntime) {
     assert!(rt; board.decision_for(round(&rt, 0)).is_none());
     assert!(rt; board.decision_for(round(&rt, 2)).is_none());
     assert_eq!(rt; board.finish(2), Err(BoardError::Stranger));
+}
+
+#[test]
+fn three_workers_decide_the_same(rt: HostRuntime) {
+    let mut board = self::board(&rt, 2, 2);
+    assert_eq!(rt; report(&rt, &mut board, 0, 1, 3, 5, 0), Ok(()));
+    assert_eq!(rt;
+        board.decide_with(&rt, 3, &NoGate),
+        Err(BoardError::Incomplete)
+    );
+    assert_eq!(rt; report(&rt, &mut board, 1, 1, 3, 5, 1), Ok(()));
+    assert_eq!(rt; board.decide_with(&rt, 3, &NoGate), Ok(round(&rt, 1)));
+    assert!(rt; !board.is_complete());
+    assert_eq!(rt; board.decision_for(round(&rt, 1)).map(stays), Some(true));
+    assert!(rt; board.decision_for(round(&rt, 2)).is_none());
 }
 
 #[test]

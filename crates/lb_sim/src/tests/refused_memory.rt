@@ -13,11 +13,11 @@ use std::test::Fail;
 const TO_READ: u64 = 5;
 
 // The requests of the search for names on two blocks.
-const NAMING: u64 = 9;
+const NAMING: u64 = 11;
 
 // The requests of a whole replay: to read; for the division, the cost table, the names and the moves; and each growth of
 // the text.
-const IN_ALL: u64 = TO_READ + (2 + 2 + NAMING + 1) + 5;
+const IN_ALL: u64 = TO_READ + (3 + 2 + NAMING + 1) + 5;
 
 // What a replay of the example comes to, over an allocator that may refuse.
 fn attempted(alloc: &Refusing<Global>, written: &mut Vec<u8>) -> Outcome {

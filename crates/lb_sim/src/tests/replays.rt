@@ -85,6 +85,15 @@ fn no_elements_and_one_block(rt: HostRuntime) {
 }
 
 #[test]
+fn the_first_of_the_cheapest_namings_is_printed(rt: HostRuntime) {
+    let two = b"LBD1\0\0\0\0\0\0\0\x02\0\0\0\x02\
+        \0\0\0\x01\0\0\0\x08\0\0\0\0\0\0\0\x01\0\0\0\x08\0\0\0\0";
+    let text = "step 0 procs 2 elements 2\nbottleneck 1\nfence 0 0 0\n\
+        block 0 0..1 load 1 pe 0\nblock 1 1..2 load 1 pe 1\nmoved 8\n";
+    assert_eq!(rt; replays(&rt, two, text), Ended::Printed);
+}
+
+#[test]
 fn the_most_blocks_are_printed(rt: HostRuntime) -> Result<(), Fail> {
     let empty = b"LBD1\0\0\0\0\0\0\x01\0\0\0\0\0";
     let mut text = String::new(rt.alloc());

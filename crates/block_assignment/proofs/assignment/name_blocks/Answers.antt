@@ -1,58 +1,68 @@
 use Rattle.std.proofs.Common.{◌≡◌, ◌^◌, ◌<◌, ◌≤◌, ℕ, length, slice_index, arith, sym, ◌∙◌, ap, pos, neg_ℤ}
 use Rattle.lb_certificates.specs.Naming.{price_at}
+use Rattle.lb_certificates.proofs.Duality.{price_below}
 use Rattle.block_assignment.specs.Table.{Table, cost_at, greatest}
-use Rattle.block_assignment.specs.Search.{State, IsSized}
+use Rattle.block_assignment.specs.Search.{State, IsSized, IsTight}
 use Rattle.block_assignment.proofs.Trees.{written}
-use Rattle.block_assignment.proofs.Duality.{found, cheapest_from_prices}
+use Rattle.block_assignment.proofs.Duality.{found}
 use Rattle.block_assignment.proofs.Prices.{greatest_small, prices_within}
 use Rattle.block_assignment.proofs.assignment.name_blocks.Goals as goal
+
+pub rename-requires-clause-small : goal.rename-requires-clause-small
+rename-requires-clause-small g c =
+    let s : State = c.loop.search in
+    let rebate : c.deref-2.result.now ≡ s.rebate = c.deref-2.ensures.value ∙ c.into_parts-names.ensures.rebate in
+    let most : greatest s.table.costs ≤ 2 ^ 36 = greatest_small s.table.costs (2 ^ 36) c.loop.invariant.sized.is_table.small in
+    rw rebate (λ p inside. omega (arith, most, c.loop.invariant.small.rebate p (omega (arith, inside, c.loop.invariant.sized.rebate_length))))
 
 pub write_paid-requires-clause-small : goal.write_paid-requires-clause-small
 write_paid-requires-clause-small g c =
     let s : State = c.loop.search in
-    let paid : c.deref.result.now ≡ s.paid = c.deref.ensures.value ∙ c.into_parts-names.ensures.paid in
+    let paid : c.deref-3.result.now ≡ s.paid = c.deref-3.ensures.value ∙ c.into_parts-names.ensures.paid in
     let most : greatest s.table.costs ≤ 2 ^ 36 = greatest_small s.table.costs (2 ^ 36) c.loop.invariant.sized.is_table.small in
     rw paid (λ b inside. omega (arith, most, c.loop.invariant.small.paid b (omega (arith, inside, c.loop.invariant.sized.paid_length))))
 
 pub write_rebates-requires-clause-small : goal.write_rebates-requires-clause-small
 write_rebates-requires-clause-small g c =
     let s : State = c.loop.search in
-    let rebate : c.deref-2.result.now ≡ s.rebate = c.deref-2.ensures.value ∙ c.into_parts-names.ensures.rebate in
+    let rebate : c.deref-4.result.now ≡ s.rebate = c.deref-4.ensures.value ∙ c.into_parts-names.ensures.rebate in
     let most : greatest s.table.costs ≤ 2 ^ 36 = greatest_small s.table.costs (2 ^ 36) c.loop.invariant.sized.is_table.small in
     rw rebate (λ p inside. omega (arith, most, c.loop.invariant.small.rebate p (omega (arith, inside, c.loop.invariant.sized.rebate_length))))
 
 pub returns-clause-proved : goal.returns-clause-proved
 returns-clause-proved g c =
     let s : State = c.loop.search in
-    let table : s.table ≡ c.args.table.now = c.loop.invariant.table in
+    let t : Table = c.args.table.now in
     let sized : IsSized s = c.loop.invariant.sized in
-    let blocks : s.table.blocks ≡ c.blocks-blocks.result = omega (arith, ap (λ (t : Table). t.blocks) table, c.blocks-blocks.ensures.value) in
-    let named : s.named ≡ s.table.blocks = omega (arith, blocks, c.loop.invariant.named, c.loop-test.false) in
-    let names : s.names ≡ c.new-4.result = sym (c.new-4.ensures.value ∙ c.into_parts-names.ensures.names) in
-    let paid : c.deref.result.now ≡ s.paid = c.deref.ensures.value ∙ c.into_parts-names.ensures.paid in
-    let rebate : c.deref-2.result.now ≡ s.rebate = c.deref-2.ensures.value ∙ c.into_parts-names.ensures.rebate in
-    let u_length : length c.write_paid.new.prices ≡ s.table.blocks = omega (arith, blocks, c.write_paid.auto.prices, c.deref_mut.ensures.len, c.in_ok-u.ensures.len) in
-    let v_length : length c.write_rebates.new.prices ≡ s.table.blocks = omega (arith, blocks, c.write_rebates.auto.prices, c.deref_mut-2.ensures.len, c.in_ok-v.ensures.len) in
-    let u : c.write_paid.new.prices ≡ c.new-2.result = sym (c.new-2.ensures.value ∙ written _ _ _ (omega (arith, blocks, u_length, c.in_ok-u.ensures.len))) in
-    let v : c.write_rebates.new.prices ≡ c.new-3.result = sym (c.new-3.ensures.value ∙ written _ _ _ (omega (arith, blocks, v_length, c.in_ok-v.ensures.len))) in
-    let pays : (b : ℕ) → b < s.table.blocks → price_at c.write_paid.new.prices b ≡ pos (slice_index s.paid b) = λ b inside. (let h = rw paid at c.write_paid.ensures in h b (omega (arith, inside, sized.paid_length))) in
-    let gives : (p : ℕ) → p < s.table.blocks → price_at c.write_rebates.new.prices p ≡ neg_ℤ (pos (slice_index s.rebate p)) = λ p inside. (let h = rw rebate at c.write_rebates.ensures in h p (omega (arith, inside, sized.rebate_length))) in
-    let facts = found s c.write_paid.new.prices c.write_rebates.new.prices sized c.loop.invariant.matched named u_length v_length pays gives in
-    let there = rw (table, names, u, v) at facts in
-    there.1
+    let same : s.table.blocks ≡ t.blocks = ap (λ (x : Table). x.blocks) c.loop.invariant.table in
+    let paid : c.deref-3.result.now ≡ s.paid = c.deref-3.ensures.value ∙ c.into_parts-names.ensures.paid in
+    let rebate : c.deref-4.result.now ≡ s.rebate = c.deref-4.ensures.value ∙ c.into_parts-names.ensures.rebate in
+    let paid_there : c.deref.result.now ≡ s.paid = c.deref.ensures.value ∙ c.into_parts-names.ensures.paid in
+    let rebate_there : c.deref-2.result.now ≡ s.rebate = c.deref-2.ensures.value ∙ c.into_parts-names.ensures.rebate in
+    let tight : IsTight t.blocks (cost_at t) s.paid s.rebate c.rename.new.names = (let h = rw (paid_there, rebate_there) at c.in_ok-rename.ensures.tight in h) in
+    let u_length : length c.write_paid.new.prices ≡ t.blocks = omega (arith, c.blocks-blocks.ensures.value, c.write_paid.auto.prices, c.deref_mut-2.ensures.len, c.in_ok-u.ensures.len) in
+    let v_length : length c.write_rebates.new.prices ≡ t.blocks = omega (arith, c.blocks-blocks.ensures.value, c.write_rebates.auto.prices, c.deref_mut-3.ensures.len, c.in_ok-v.ensures.len) in
+    let names : c.rename.new.names ≡ c.new-4.result = sym (c.new-4.ensures.value ∙ written _ _ _ (omega (arith, c.rename.auto.names, c.deref_mut.ensures.len))) in
+    let u : c.write_paid.new.prices ≡ c.new-2.result = sym (c.new-2.ensures.value ∙ written _ _ _ (omega (arith, c.blocks-blocks.ensures.value, u_length, c.in_ok-u.ensures.len))) in
+    let v : c.write_rebates.new.prices ≡ c.new-3.result = sym (c.new-3.ensures.value ∙ written _ _ _ (omega (arith, c.blocks-blocks.ensures.value, v_length, c.in_ok-v.ensures.len))) in
+    let pays : (b : ℕ) → b < t.blocks → price_at c.write_paid.new.prices b ≡ pos (slice_index s.paid b) = λ b inside. (let h = rw paid at c.write_paid.ensures in h b (omega (arith, inside, same, sized.paid_length))) in
+    let gives : (p : ℕ) → p < t.blocks → price_at c.write_rebates.new.prices p ≡ neg_ℤ (pos (slice_index s.rebate p)) = λ p inside. (let h = rw rebate at c.write_rebates.ensures in h p (omega (arith, inside, same, sized.rebate_length))) in
+    let facts = found t.blocks (cost_at t) s.paid s.rebate c.rename.new.names c.write_paid.new.prices c.write_rebates.new.prices tight u_length v_length pays gives in
+    rw (names, u, v) at facts
 
 pub returns-clause-bounded : goal.returns-clause-bounded
 returns-clause-bounded g c =
     let s : State = c.loop.search in
-    let table : s.table ≡ c.args.table.now = c.loop.invariant.table in
+    let t : Table = c.args.table.now in
+    let table : s.table ≡ t = c.loop.invariant.table in
+    let same : s.table.blocks ≡ t.blocks = ap (λ (x : Table). x.blocks) table in
     let sized : IsSized s = c.loop.invariant.sized in
-    let blocks : s.table.blocks ≡ c.blocks-blocks.result = omega (arith, ap (λ (t : Table). t.blocks) table, c.blocks-blocks.ensures.value) in
-    let paid : c.deref.result.now ≡ s.paid = c.deref.ensures.value ∙ c.into_parts-names.ensures.paid in
-    let rebate : c.deref-2.result.now ≡ s.rebate = c.deref-2.ensures.value ∙ c.into_parts-names.ensures.rebate in
-    let u_length : length c.write_paid.new.prices ≡ s.table.blocks = omega (arith, blocks, c.write_paid.auto.prices, c.deref_mut.ensures.len, c.in_ok-u.ensures.len) in
-    let v_length : length c.write_rebates.new.prices ≡ s.table.blocks = omega (arith, blocks, c.write_rebates.auto.prices, c.deref_mut-2.ensures.len, c.in_ok-v.ensures.len) in
-    let u : c.write_paid.new.prices ≡ c.new-2.result = sym (c.new-2.ensures.value ∙ written _ _ _ (omega (arith, blocks, u_length, c.in_ok-u.ensures.len))) in
-    let v : c.write_rebates.new.prices ≡ c.new-3.result = sym (c.new-3.ensures.value ∙ written _ _ _ (omega (arith, blocks, v_length, c.in_ok-v.ensures.len))) in
+    let paid : c.deref-3.result.now ≡ s.paid = c.deref-3.ensures.value ∙ c.into_parts-names.ensures.paid in
+    let rebate : c.deref-4.result.now ≡ s.rebate = c.deref-4.ensures.value ∙ c.into_parts-names.ensures.rebate in
+    let u_length : length c.write_paid.new.prices ≡ s.table.blocks = omega (arith, same, c.blocks-blocks.ensures.value, c.write_paid.auto.prices, c.deref_mut-2.ensures.len, c.in_ok-u.ensures.len) in
+    let v_length : length c.write_rebates.new.prices ≡ s.table.blocks = omega (arith, same, c.blocks-blocks.ensures.value, c.write_rebates.auto.prices, c.deref_mut-3.ensures.len, c.in_ok-v.ensures.len) in
+    let u : c.write_paid.new.prices ≡ c.new-2.result = sym (c.new-2.ensures.value ∙ written _ _ _ (omega (arith, same, c.blocks-blocks.ensures.value, u_length, c.in_ok-u.ensures.len))) in
+    let v : c.write_rebates.new.prices ≡ c.new-3.result = sym (c.new-3.ensures.value ∙ written _ _ _ (omega (arith, same, c.blocks-blocks.ensures.value, v_length, c.in_ok-v.ensures.len))) in
     let pays : (b : ℕ) → b < s.table.blocks → price_at c.write_paid.new.prices b ≡ pos (slice_index s.paid b) = λ b inside. (let h = rw paid at c.write_paid.ensures in h b (omega (arith, inside, sized.paid_length))) in
     let gives : (p : ℕ) → p < s.table.blocks → price_at c.write_rebates.new.prices p ≡ neg_ℤ (pos (slice_index s.rebate p)) = λ p inside. (let h = rw rebate at c.write_rebates.ensures in h p (omega (arith, inside, sized.rebate_length))) in
     let facts = prices_within s.table.blocks (greatest s.table.costs) c.write_paid.new.prices c.write_rebates.new.prices s.paid s.rebate u_length v_length pays gives c.loop.invariant.small.paid c.loop.invariant.small.rebate in
@@ -60,4 +70,4 @@ returns-clause-bounded g c =
 
 pub returns-clause-cheapest : goal.returns-clause-cheapest
 returns-clause-cheapest g c = λ others naming.
-    cheapest_from_prices c.args.table.now.blocks (cost_at c.args.table.now) _ c.new-2.result c.new-3.result others (returns-clause-proved g c) naming
+    price_below c.args.table.now.blocks (cost_at c.args.table.now) _ c.new-2.result c.new-3.result others (returns-clause-proved g c) naming

@@ -1,7 +1,7 @@
-use Rattle.std.proofs.Common.{◌≡◌, ◌≢◌, ℕ, Some, ◌+◌, ◌-◌, ◌^◌, ◌<◌, ◌≤◌, length, set, slice_index, arith, ap, ◌∙◌}
+use Rattle.std.proofs.Common.{sym, ◌≡◌, ◌≢◌, ℕ, Some, ◌+◌, ◌-◌, ◌^◌, ◌<◌, ◌≤◌, length, set, slice_index, arith, ap, ◌∙◌}
 use Rattle.std.proofs.lemmas.List.{get_or-set_same, get_or-set_other}
 use Rattle.block_assignment.proofs.Scans.{Walked, walked_by, walked_kept, walked_nearer, nearest_by, taken, left}
-use Rattle.block_assignment.proofs.scan.scan.Goals.{then-rank-p-eq0+then-comes_first, then-far-distance, else-far-distance, then-rank-p-eq0+else-comes_first, else-rank-p-eq0}
+use Rattle.block_assignment.proofs.scan.scan.Goals.{then-rank-p-eq0+then-comes_first, then-way-far, else-way-far, then-rank-p-eq0+else-comes_first, else-rank-p-eq0}
 use Rattle.block_assignment.proofs.scan.scan.Goals as goal
 
 pub loop-p-preserved : goal.loop-p-preserved
@@ -15,55 +15,59 @@ loop-p-preserved c =
     let in_from : k < length c.loop-p.from = omega arith in
     elim c.if-rank-p-eq0.branch [
       | then-rank-p-eq0+then-comes_first w ↦
-          let d : c.if-rank-p-eq0.distance ≡ w.if-far-distance.distance = w.distance-is in
-          let f : c.if-rank-p-eq0.from ≡ w.if-far-distance.from = w.from-is in
+          let d : c.if-rank-p-eq0.distance ≡ w.if-way-far.distance = w.distance-is in
+          let f : c.if-rank-p-eq0.from ≡ w.if-way-far.from = w.from-is in
           let n : c.if-rank-p-eq0.nearest ≡ Some k = w.nearest-is in
-          let near : slice_index w.if-far-distance.distance k ≤ c.loop-p.least = (let h = rw w.if-comes_first.true at w.comes_first.ensures in h) in
-          elim w.if-far-distance.branch [
-            | then-far-distance v ↦
-                let d2 : w.if-far-distance.distance ≡ set c.loop-p.distance k there = v.distance-is in
-                let f2 : w.if-far-distance.from ≡ set c.loop-p.from k c.args.joining.block = v.from-is in
-                let walked : Walked c.args.joining.distance c.args.joining.paid c.args.joining.block c.args.row.now c.args.rebate.now c.args.rank.now c.args.distance.now c.args.from.now (set c.loop-p.distance k there) (set c.loop-p.from k c.args.joining.block) (k + 1) = walked_nearer _ _ _ _ _ _ _ _ _ _ k there c.loop-p.invariant.walked w.if-rank-p-eq0.true in_distance in_from exact v.if-far-distance.true in
-                let same : (p : ℕ) → p ≢ k → slice_index w.if-far-distance.distance p ≡ slice_index c.loop-p.distance p = λ p other. ap (λ xs. slice_index xs p) d2 ∙ get_or-set_other c.loop-p.distance k p there 0 other in
+          let near : w.if-way-far.far ≤ c.loop-p.least = (let h = rw w.if-comes_first.true at w.comes_first.ensures in h) in
+          elim w.if-way-far.branch [
+            | then-way-far v ↦
+                let d2 : w.if-way-far.distance ≡ set c.loop-p.distance k there = v.distance-is in
+                let f2 : w.if-way-far.from ≡ set c.loop-p.from k c.args.joining.block = v.from-is in
+                let here : slice_index w.if-way-far.distance k ≡ w.if-way-far.far = ap (λ xs. slice_index xs k) d2 ∙ get_or-set_same c.loop-p.distance k there 0 in_distance ∙ sym v.far-is in
+                let walked : Walked c.args.joining.distance c.args.joining.paid c.args.joining.block c.args.row.now c.args.rebate.now c.args.rank.now c.args.distance.now c.args.from.now (set c.loop-p.distance k there) (set c.loop-p.from k c.args.joining.block) (k + 1) = walked_nearer _ _ _ _ _ _ _ _ _ _ k there c.loop-p.invariant.walked w.if-rank-p-eq0.true in_distance in_from exact v.if-way-far.true in
+                let same : (p : ℕ) → p ≢ k → slice_index w.if-way-far.distance p ≡ slice_index c.loop-p.distance p = λ p other. ap (λ xs. slice_index xs p) d2 ∙ get_or-set_other c.loop-p.distance k p there 0 other in
                 record {
                   walked = rw (d, f, d2, f2) walked;
-                  nearest = rw (d, n, w.least-is) (taken c.args.rank.now c.loop-p.distance w.if-far-distance.distance c.loop-p.nearest c.loop-p.least k c.loop-p.invariant.nearest same w.if-rank-p-eq0.true near);
+                  nearest = rw (d, n, w.least-is, sym here) (taken c.args.rank.now c.loop-p.distance w.if-way-far.distance c.loop-p.nearest c.loop-p.least k c.loop-p.invariant.nearest same w.if-rank-p-eq0.true (omega (arith, here, near)));
                 }
-            | else-far-distance v ↦
-                let d2 : w.if-far-distance.distance ≡ c.loop-p.distance = v.distance-is in
-                let f2 : w.if-far-distance.from ≡ c.loop-p.from = v.from-is in
-                let walked : Walked c.args.joining.distance c.args.joining.paid c.args.joining.block c.args.row.now c.args.rebate.now c.args.rank.now c.args.distance.now c.args.from.now c.loop-p.distance c.loop-p.from (k + 1) = walked_kept _ _ _ _ _ _ _ _ _ _ k there c.loop-p.invariant.walked exact v.if-far-distance.false in
-                let same : (p : ℕ) → p ≢ k → slice_index w.if-far-distance.distance p ≡ slice_index c.loop-p.distance p = λ p other. ap (λ xs. slice_index xs p) d2 in
+            | else-way-far v ↦
+                let d2 : w.if-way-far.distance ≡ c.loop-p.distance = v.distance-is in
+                let f2 : w.if-way-far.from ≡ c.loop-p.from = v.from-is in
+                let here : slice_index w.if-way-far.distance k ≡ w.if-way-far.far = ap (λ xs. slice_index xs k) d2 ∙ sym v.far-is in
+                let walked : Walked c.args.joining.distance c.args.joining.paid c.args.joining.block c.args.row.now c.args.rebate.now c.args.rank.now c.args.distance.now c.args.from.now c.loop-p.distance c.loop-p.from (k + 1) = walked_kept _ _ _ _ _ _ _ _ _ _ k there c.loop-p.invariant.walked exact v.if-way-far.false in
+                let same : (p : ℕ) → p ≢ k → slice_index w.if-way-far.distance p ≡ slice_index c.loop-p.distance p = λ p other. ap (λ xs. slice_index xs p) d2 in
                 record {
                   walked = rw (d, f, d2, f2) walked;
-                  nearest = rw (d, n, w.least-is) (taken c.args.rank.now c.loop-p.distance w.if-far-distance.distance c.loop-p.nearest c.loop-p.least k c.loop-p.invariant.nearest same w.if-rank-p-eq0.true near);
+                  nearest = rw (d, n, w.least-is, sym here) (taken c.args.rank.now c.loop-p.distance w.if-way-far.distance c.loop-p.nearest c.loop-p.least k c.loop-p.invariant.nearest same w.if-rank-p-eq0.true (omega (arith, here, near)));
                 }
           ]
       | then-rank-p-eq0+else-comes_first w ↦
-          let d : c.if-rank-p-eq0.distance ≡ w.if-far-distance.distance = w.distance-is in
-          let f : c.if-rank-p-eq0.from ≡ w.if-far-distance.from = w.from-is in
+          let d : c.if-rank-p-eq0.distance ≡ w.if-way-far.distance = w.distance-is in
+          let f : c.if-rank-p-eq0.from ≡ w.if-way-far.from = w.from-is in
           let n : c.if-rank-p-eq0.nearest ≡ c.loop-p.nearest = w.nearest-is in
-          let near : c.loop-p.least ≤ slice_index w.if-far-distance.distance k = (let h = rw w.if-comes_first.false at w.comes_first.ensures in h) in
-          elim w.if-far-distance.branch [
-            | then-far-distance v ↦
-                let d2 : w.if-far-distance.distance ≡ set c.loop-p.distance k there = v.distance-is in
-                let f2 : w.if-far-distance.from ≡ set c.loop-p.from k c.args.joining.block = v.from-is in
-                let walked : Walked c.args.joining.distance c.args.joining.paid c.args.joining.block c.args.row.now c.args.rebate.now c.args.rank.now c.args.distance.now c.args.from.now (set c.loop-p.distance k there) (set c.loop-p.from k c.args.joining.block) (k + 1) = walked_nearer _ _ _ _ _ _ _ _ _ _ k there c.loop-p.invariant.walked w.if-rank-p-eq0.true in_distance in_from exact v.if-far-distance.true in
-                let same : (p : ℕ) → p ≢ k → slice_index w.if-far-distance.distance p ≡ slice_index c.loop-p.distance p = λ p other. ap (λ xs. slice_index xs p) d2 ∙ get_or-set_other c.loop-p.distance k p there 0 other in
-                let some : slice_index w.if-far-distance.distance k < 2 ^ 64 - 1 = omega (arith, small, ap (λ xs. slice_index xs k) d2, get_or-set_same c.loop-p.distance k there 0 in_distance) in
+          let near : c.loop-p.least ≤ w.if-way-far.far = (let h = rw w.if-comes_first.false at w.comes_first.ensures in h) in
+          elim w.if-way-far.branch [
+            | then-way-far v ↦
+                let d2 : w.if-way-far.distance ≡ set c.loop-p.distance k there = v.distance-is in
+                let f2 : w.if-way-far.from ≡ set c.loop-p.from k c.args.joining.block = v.from-is in
+                let here : slice_index w.if-way-far.distance k ≡ w.if-way-far.far = ap (λ xs. slice_index xs k) d2 ∙ get_or-set_same c.loop-p.distance k there 0 in_distance ∙ sym v.far-is in
+                let walked : Walked c.args.joining.distance c.args.joining.paid c.args.joining.block c.args.row.now c.args.rebate.now c.args.rank.now c.args.distance.now c.args.from.now (set c.loop-p.distance k there) (set c.loop-p.from k c.args.joining.block) (k + 1) = walked_nearer _ _ _ _ _ _ _ _ _ _ k there c.loop-p.invariant.walked w.if-rank-p-eq0.true in_distance in_from exact v.if-way-far.true in
+                let same : (p : ℕ) → p ≢ k → slice_index w.if-way-far.distance p ≡ slice_index c.loop-p.distance p = λ p other. ap (λ xs. slice_index xs p) d2 ∙ get_or-set_other c.loop-p.distance k p there 0 other in
+                let some : slice_index w.if-way-far.distance k < 2 ^ 64 - 1 = omega (arith, small, ap (λ xs. slice_index xs k) d2, get_or-set_same c.loop-p.distance k there 0 in_distance) in
                 record {
                   walked = rw (d, f, d2, f2) walked;
-                  nearest = rw (d, n, w.least-is) (left c.args.rank.now c.loop-p.distance w.if-far-distance.distance c.loop-p.nearest c.loop-p.least k c.loop-p.invariant.nearest same w.if-rank-p-eq0.true some near);
+                  nearest = rw (d, n, w.least-is) (left c.args.rank.now c.loop-p.distance w.if-way-far.distance c.loop-p.nearest c.loop-p.least k c.loop-p.invariant.nearest same w.if-rank-p-eq0.true some (omega (arith, here, near)));
                 }
-            | else-far-distance v ↦
-                let d2 : w.if-far-distance.distance ≡ c.loop-p.distance = v.distance-is in
-                let f2 : w.if-far-distance.from ≡ c.loop-p.from = v.from-is in
-                let walked : Walked c.args.joining.distance c.args.joining.paid c.args.joining.block c.args.row.now c.args.rebate.now c.args.rank.now c.args.distance.now c.args.from.now c.loop-p.distance c.loop-p.from (k + 1) = walked_kept _ _ _ _ _ _ _ _ _ _ k there c.loop-p.invariant.walked exact v.if-far-distance.false in
-                let same : (p : ℕ) → p ≢ k → slice_index w.if-far-distance.distance p ≡ slice_index c.loop-p.distance p = λ p other. ap (λ xs. slice_index xs p) d2 in
-                let some : slice_index w.if-far-distance.distance k < 2 ^ 64 - 1 = omega (arith, small, ap (λ xs. slice_index xs k) d2, v.if-far-distance.false) in
+            | else-way-far v ↦
+                let d2 : w.if-way-far.distance ≡ c.loop-p.distance = v.distance-is in
+                let f2 : w.if-way-far.from ≡ c.loop-p.from = v.from-is in
+                let here : slice_index w.if-way-far.distance k ≡ w.if-way-far.far = ap (λ xs. slice_index xs k) d2 ∙ sym v.far-is in
+                let walked : Walked c.args.joining.distance c.args.joining.paid c.args.joining.block c.args.row.now c.args.rebate.now c.args.rank.now c.args.distance.now c.args.from.now c.loop-p.distance c.loop-p.from (k + 1) = walked_kept _ _ _ _ _ _ _ _ _ _ k there c.loop-p.invariant.walked exact v.if-way-far.false in
+                let same : (p : ℕ) → p ≢ k → slice_index w.if-way-far.distance p ≡ slice_index c.loop-p.distance p = λ p other. ap (λ xs. slice_index xs p) d2 in
+                let some : slice_index w.if-way-far.distance k < 2 ^ 64 - 1 = omega (arith, small, ap (λ xs. slice_index xs k) d2, v.if-way-far.false) in
                 record {
                   walked = rw (d, f, d2, f2) walked;
-                  nearest = rw (d, n, w.least-is) (left c.args.rank.now c.loop-p.distance w.if-far-distance.distance c.loop-p.nearest c.loop-p.least k c.loop-p.invariant.nearest same w.if-rank-p-eq0.true some near);
+                  nearest = rw (d, n, w.least-is) (left c.args.rank.now c.loop-p.distance w.if-way-far.distance c.loop-p.nearest c.loop-p.least k c.loop-p.invariant.nearest same w.if-rank-p-eq0.true some (omega (arith, here, near)));
                 }
           ]
       | else-rank-p-eq0 w ↦ rw (w.distance-is, w.from-is, w.nearest-is, w.least-is) (record {

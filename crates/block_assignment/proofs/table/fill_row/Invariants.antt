@@ -1,4 +1,4 @@
-use Rattle.block_assignment.proofs.Rows.{Stands}
+use Rattle.lb_certificates.proofs.BlockCosts.{Stands}
 use Rattle.block_assignment.proofs.table.fill_row.Given as goal
 
 abbrev pub invariant-loop-size : goal.invariant-loop-size

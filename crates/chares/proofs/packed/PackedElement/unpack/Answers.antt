@@ -1,4 +1,4 @@
-use Rattle.chares.proofs.Histories.{history_unpacked}
+use Rattle.chares.proofs.Histories.{history_unpacked, packed_whole}
 use Rattle.chares.proofs.packed.PackedElement.unpack.Goals as goal
 
 pub returns-in-Ok-clause-history : goal.returns-in-Ok-clause-history
@@ -11,3 +11,8 @@ pub returns-in-Ok-clause-unpacks : goal.returns-in-Ok-clause-unpacks
 returns-in-Ok-clause-unpacks g c =
     let u = rw (c.as_slice.ensures.value, c.deref.ensures) at c.in-Ok.ensures.answer in
     rw (← c.self.view_is) (c.in-Ok.field-0-1, u)
+
+pub returns-in-Ok-clause-whole : goal.returns-in-Ok-clause-whole
+returns-in-Ok-clause-whole g c =
+    rw (← c.self.view_is)
+    (packed_whole g.C.Chare.step g.C.Pup.fits g.C.Pup.counted g.C.Pup.pack g.C.Pup.unpack g.H.Openings.opened _ g.met.C.Pup.round_trip g.met.C.Chare.packs c.self.invariant.1)

@@ -64,7 +64,7 @@ loop-k-preserved g c =
     record {
       tickets = length-set c.loop-k.tickets.items k c.drain.new.mine ∙ i.tickets;
       rooms = length-set c.loop-k.left.items k c.drain.new.room ∙ i.rooms;
-      done = below_more (λ j r. (e : TicketView _) → Balances (get_or ts j e).traffic.puts (get_or ts j e).traffic.takes r.items) c.loop-k.left.items k c.drain.new.room (omega arith) i.done (balance_here ts k c.index_mut.result.now c.drain.new.room.items (omega arith) at c.drain.ensures);
+      done = below_more (λ j r. (e : TicketView _) → Balances (get_or ts j e).traffic.puts (get_or ts j e).traffic.takes r.items) c.loop-k.left.items k c.drain.new.room (omega arith) i.done (balance_here ts k c.index_mut.result.now c.drain.new.room.items (omega arith) at c.drain.ensures.balanced);
       still = λ j d from. get_or-set_other c.loop-k.tickets.items k j c.drain.new.mine d (λ e. absurd (omega arith)) ∙ i.still j d (omega arith);
       empty = λ j d from. get_or-set_other c.loop-k.left.items k j c.drain.new.room d (λ e. absurd (omega arith)) ∙ i.empty j d (omega arith);
     }

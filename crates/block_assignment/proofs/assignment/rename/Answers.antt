@@ -1,0 +1,19 @@
+use Rattle.std.proofs.Common.{◌≡◌, ℕ, List, length, arith, sym, ◌∙◌, subst}
+use Rattle.lb_certificates.specs.Naming.{IsNaming}
+use Rattle.block_assignment.specs.Search.{IsTight}
+use Rattle.block_assignment.specs.Table.{cost_at}
+use Rattle.block_assignment.proofs.Tight.{IsExact, tight_if_allowed, first_from_least}
+use Rattle.block_assignment.proofs.Trees.{written}
+use Rattle.block_assignment.proofs.assignment.rename.Goals as goal
+
+pub returns-clause-least_naming : goal.returns-clause-least_naming
+returns-clause-least_naming g c =
+    let blocks : ℕ = c.args.table.now.blocks in
+    let cost : ℕ → ℕ → ℕ = cost_at c.args.table.now in
+    let takers : List (List ℕ) = c.deref.result.now in
+    let same : takers ≡ c.write_takers.new.takers = c.deref.ensures.value ∙ written _ _ _ (omega arith) in
+    let counted : length takers ≡ blocks = omega arith in
+    let exact : IsExact blocks cost c.args.paid.now c.args.rebate.now takers = subst (λ t. IsExact blocks cost c.args.paid.now c.args.rebate.now t) (sym same) c.write_takers.ensures.exact in
+    let naming : IsNaming blocks c.make_least.new.names = subst (λ n. IsNaming n c.make_least.new.names) counted c.make_least.ensures.naming in
+    let tight : IsTight blocks cost c.args.paid.now c.args.rebate.now c.make_least.new.names = tight_if_allowed blocks cost c.args.paid.now c.args.rebate.now c.args.names.now c.make_least.new.names takers counted exact c.requires.tight naming c.make_least.ensures.allowed in
+    first_from_least blocks cost c.args.paid.now c.args.rebate.now c.make_least.new.names takers counted exact tight c.make_least.ensures.least

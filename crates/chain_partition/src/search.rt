@@ -1,0 +1,97 @@
+//! The search for the least bottleneck: the exact bisection of A. Pinar and C. Aykanat, JPDC 64(8), 2004. Each walk
+//! tells more than whether its limit holds all elements, so half the walks serve.
+
+ghost use Rattle.std.specs.Prelude.{◌≡◌, ℕ, ◌-◌, ◌^◌, ◌<◌, ◌≤◌, All, length};
+ghost use Rattle.lb_certificates.specs.Chain.{IsLeastPeak, load};
+ghost use Rattle.chain_partition.specs.Search.{Enclose, Tells};
+ghost use Rattle.chain_partition.specs.Sums.{IsPrefix, loads_of};
+
+use crate::prefix::load_between;
+use crate::walk::end_of_block;
+use lb_certificates::{Loads, Units};
+use std::alloc::Allocator;
+
+/// What the walk within one limit tells of other limits.
+#[derive(Clone, Copy)]
+pub(crate) enum Bound {
+    /// It places all elements, and this is its heaviest block.
+    Fits(u64),
+    /// It does not, nor does a walk within any limit below this one, the least at which a block would take more.
+    Stops(u64),
+}
+
+/// Two limits: none below `low` can hold all elements, and `high` can.
+#[derive(Clone, Copy)]
+pub(crate) struct Bounds {
+    pub(crate) low: u64,
+    pub(crate) high: u64,
+}
+
+/// The least limit within which `pes` blocks can hold all elements, which lies within these bounds.
+#[tactic(auto, using(crate::proofs::Bottlenecks::least_from_bounds, crate::proofs::Bottlenecks::bounds_ordered))]
+pub(crate) fn least_bottleneck(sums: &[u64], pes: u32, bounds: Bounds) -> u64
+    requires valid { IsPrefix sums.now }
+    requires some_pe { 1 ≤ pes }
+    requires enclosed { Enclose (loads_of sums.now) pes bounds.low bounds.high }
+    ensures least { IsLeastPeak (loads_of sums.now) 0 pes result }
+{
+    let mut low = bounds.low;
+    let mut high = bounds.high;
+    let mut limit = low;
+    while low < high {
+        match tell(sums, pes, limit) {
+            Bound::Fits(heaviest) => high = heaviest,
+            Bound::Stops(next) => low = next,
+        }
+        limit = low + (high - low) / 2;
+    }
+    high
+}
+
+/// Fills up to `pes` blocks in order, each with as many elements as fit within the limit.
+#[tactic(auto, using(crate::proofs::RunningSums::length_prefix, crate::proofs::Walks::walk_none))]
+pub(crate) fn tell(sums: &[u64], pes: u32, limit: u64) -> Bound
+    requires valid { IsPrefix sums.now }
+    requires some_pe { 1 ≤ pes }
+    requires below { limit < 2 ^ 64 - 1 }
+    ensures tells { Tells (loads_of sums.now) pes limit result }
+{
+    let all = sums.len() - 1;
+    let mut first = 0;
+    let mut heaviest = 0;
+    let mut least = u64::MAX;
+    for _ in 0..pes {
+        let end = end_of_block(sums, first, limit);
+        heaviest = heaviest.max(load_between(sums, first, end));
+        if end == all {
+            return Bound::Fits(heaviest);
+        }
+        least = least.min(load_between(sums, first, end + 1));
+        first = end;
+    }
+    Bound::Stops(least)
+}
+
+/// Where a search begins. No block is lighter than the greatest load or all blocks lighter than an even share of the
+/// total; and a block that cannot take the next element weighs more than such a share.
+#[tactic(auto, using(crate::proofs::Bottlenecks::opening_encloses))]
+pub(crate) fn opening<A: Allocator>(loads: &Loads<A>, total: u64, pes: u32) -> Bounds
+    requires some_pe { 1 ≤ pes }
+    requires all { total ≡ load loads.now 0 (length loads.now) }
+    ensures enclosed { Enclose loads.now pes result.low result.high }
+{
+    let greatest = u64::from(greatest(loads.as_slice()));
+    let pes = u64::from(pes);
+    Bounds {
+        low: greatest.max(total.div_ceil(pes)),
+        high: total / pes + greatest,
+    }
+}
+
+// The greatest load, and 0 where there is none.
+fn greatest(units: &[Units]) -> Units
+    ensures bounds { All (λ load. load ≤ result) units.now }
+    ensures least { (limit : ℕ) → All (λ load. load ≤ limit) units.now → result ≤ limit }
+{
+    units.iter().copied().max().unwrap_or(0)
+}

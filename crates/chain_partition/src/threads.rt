@@ -1,0 +1,155 @@
+//! The same search with several limits tried at a time, each by a worker in a thread of its own.
+
+ghost use Rattle.std.specs.Prelude.{◌≡◌, ℕ, ◌-◌, ◌^◌, ◌<◌, ◌≤◌, IfOk, length, slice_index_or};
+ghost use Rattle.lb_certificates.specs.Chain.{IsLeastDivision, IsLeastPeak};
+ghost use Rattle.lb_certificates.specs.Certificate.{IsCertified};
+ghost use Rattle.chain_partition.specs.Chosen.{IsChosen, IsTheOnly};
+ghost use Rattle.chain_partition.specs.Search.{Enclose, Tells, WasTried};
+ghost use Rattle.chain_partition.specs.Sums.{IsPrefix, loads_of};
+
+use crate::division::division_at;
+use crate::prefix::Prefix;
+use crate::search::{Bound, Bounds, opening, tell};
+use chare_index::{Gate, Limits};
+use lb_certificates::{Division, Loads};
+use std::alloc::{AllocError, Allocator};
+use std::thread::{self, Threads};
+
+// As many places as there may be workers.
+const MOST_WORKERS: usize = Limits::PROBE_WORKERS as usize;
+
+/// The same division as that of [`divide`](crate::divide), found by 1 to 64 workers: each round of the search gives
+/// each of them a limit of its own, and keeps what lies between the greatest limit that stops and the least that
+/// fits. Inside each probe a worker calls the gate's [`pass`](Gate::pass) with its number, from 0. A thread that
+/// cannot be started is done without.
+///
+/// # Errors
+///
+/// Out of memory, where the running sums or one of the two lists of `pes + 1` numbers were refused.
+#[tactic(auto, using(crate::proofs::Bottlenecks::certified_from_chosen, crate::proofs::ChosenOnce::only_from_chosen, lb_certificates::proofs::LeastDivisions::least_from_certified))]
+pub fn divide_with<R: Threads + Sync, G: Gate + Sync, A: Allocator + Copy, B: Allocator>(
+    rt: &R,
+    alloc: A,
+    loads: &Loads<B>,
+    pes: u32,
+    workers: u32,
+    gate: &G,
+) -> Result<Division<A>, AllocError>
+    requires some_pe { 1 ≤ pes }
+    requires few_pes { pes ≤ Limits.PES }
+    requires some_worker { 1 ≤ workers }
+    requires few_workers { workers ≤ Limits.PROBE_WORKERS }
+    ensures as_divide { IfOk result (IsTheOnly loads.now pes) }
+    ensures chosen { IfOk result (IsChosen loads.now pes) }
+    ensures certified { IfOk result (IsCertified loads.now pes) }
+    ensures least { IfOk result (λ d. IsLeastDivision loads.now pes d.bottleneck d.cuts) }
+{
+    let prefix = Prefix::of(alloc, loads)?;
+    let bounds = opening(loads, prefix.load(0, prefix.len()), pes);
+    let bottleneck = least_tried(rt, prefix.sums(), pes, bounds, workers as usize, gate);
+    division_at(alloc, prefix.sums(), pes, bottleneck)
+}
+
+// The least limit within which `pes` blocks can hold all elements, which lies within these bounds.
+fn least_tried<R: Threads + Sync, G: Gate + Sync>(
+    rt: &R,
+    sums: &[u64],
+    pes: u32,
+    bounds: Bounds,
+    workers: usize,
+    gate: &G,
+) -> u64
+    requires valid { IsPrefix sums.now }
+    requires some_pe { 1 ≤ pes }
+    requires some_worker { 1 ≤ workers }
+    requires few_workers { workers ≤ Limits.PROBE_WORKERS }
+    requires enclosed { Enclose (loads_of sums.now) pes bounds.low bounds.high }
+    ensures least { IsLeastPeak (loads_of sums.now) 0 pes result }
+{
+    let mut told = [Bound::Stops(0); MOST_WORKERS];
+    let told = &mut told[..workers];
+    let mut bounds = bounds;
+    while bounds.low < bounds.high {
+        try_all(rt, sums, pes, bounds, gate, told);
+        bounds = narrowed(sums, pes, bounds, told);
+    }
+    bounds.high
+}
+
+// One round: a worker for each place, which leaves there what its walk told.
+fn try_all<R: Threads + Sync, G: Gate + Sync>(
+    rt: &R,
+    sums: &[u64],
+    pes: u32,
+    bounds: Bounds,
+    gate: &G,
+    told: &mut [Bound],
+)
+    requires valid { IsPrefix sums.now }
+    requires some_pe { 1 ≤ pes }
+    requires some_worker { 1 ≤ length told.old }
+    requires few_workers { length told.old ≤ Limits.PROBE_WORKERS }
+    requires apart { bounds.low < bounds.high }
+    requires small { bounds.high < 2 ^ 57 }
+    ensures tried { (i : ℕ) (d : Bound) → i < length told.old → WasTried (loads_of sums.now) pes bounds.low bounds.high (slice_index_or told.new i d) }
+{
+    let workers = told.len();
+    let probe = move |worker: usize, place: &mut Bound|
+        requires { IsPrefix sums.now × (1 ≤ pes) × (worker < workers) × (workers ≤ Limits.PROBE_WORKERS) × (bounds.low < bounds.high) × (bounds.high < 2 ^ 57) }
+        ensures { WasTried (loads_of sums.entry.now) pes bounds.low bounds.high place.exit.now }
+    { *place = try_limit(sums, pes, bounds, worker, workers, gate) };
+    thread::for_each_mut(rt, told, workers, &probe);
+}
+
+// The probe of one worker, whose limit is its share of the way from the low bound to the high one.
+fn try_limit<G: Gate>(
+    sums: &[u64],
+    pes: u32,
+    bounds: Bounds,
+    worker: usize,
+    workers: usize,
+    gate: &G,
+) -> Bound
+    requires valid { IsPrefix sums.now }
+    requires some_pe { 1 ≤ pes }
+    requires one_of { worker < workers }
+    requires few_workers { workers ≤ Limits.PROBE_WORKERS }
+    requires apart { bounds.low < bounds.high }
+    requires small { bounds.high < 2 ^ 57 }
+    ensures tried { WasTried (loads_of sums.now) pes bounds.low bounds.high result }
+{
+    gate.pass(worker as u32);
+    tell(sums, pes, limit_of(bounds, worker as u64, workers as u64))
+}
+
+// The limit of one of so many workers.
+#[tactic(auto, using(crate::proofs::Limits::share_inside, crate::proofs::Limits::product_fits))]
+fn limit_of(bounds: Bounds, worker: u64, workers: u64) -> u64
+    requires one_of { worker < workers }
+    requires few_workers { workers ≤ Limits.PROBE_WORKERS }
+    requires apart { bounds.low < bounds.high }
+    requires small { bounds.high < 2 ^ 57 }
+    ensures from { bounds.low ≤ result }
+    ensures below { result < bounds.high }
+{
+    bounds.low + (bounds.high - bounds.low) * (worker + 1) / (workers + 1)
+}
+
+// What the walks of one round leave of the bounds.
+fn narrowed(sums: &[u64], pes: u32, bounds: Bounds, told: &[Bound]) -> Bounds
+    requires some_worker { 1 ≤ length told.now }
+    requires enclosed { Enclose (loads_of sums.now) pes bounds.low bounds.high }
+    requires tried { (i : ℕ) (d : Bound) → i < length told.now → WasTried (loads_of sums.now) pes bounds.low bounds.high (slice_index_or told.now i d) }
+    ensures enclosed { Enclose (loads_of sums.now) pes result.low result.high }
+    ensures closer { result.high - result.low < bounds.high - bounds.low }
+{
+    let mut low = bounds.low;
+    let mut high = bounds.high;
+    for bound in told {
+        match bound {
+            Bound::Fits(heaviest) => high = high.min(*heaviest),
+            Bound::Stops(next) => low = low.max(*next),
+        }
+    }
+    Bounds { low, high }
+}

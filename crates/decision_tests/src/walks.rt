@@ -1,0 +1,78 @@
+//! Probes, which find the end of each block by binary search on running sums, beside a plain walk over the loads.
+
+ghost use Rattle.std.specs.Prelude.{◌≤◌};
+
+use crate::fixtures::{list, loads};
+use chain_partition::{Prefix, Probe, probe_on};
+use lb_certificates::Units;
+use std::process::Abort;
+
+// Where a block ends that begins at `first` and takes as many elements as fit, one after the other.
+fn plain_end(units: &[Units], first: usize, limit: u64) -> usize {
+    let mut load: u64 = 0;
+    for (end, &units) in units.iter().enumerate().skip(first) {
+        load = load.saturating_add(u64::from(units));
+        if load > limit {
+            return end;
+        }
+    }
+    units.len()
+}
+
+// Whether these are the ends of blocks that a plain walk fills.
+fn are_plain_ends(ends: &[u32], units: &[Units], limit: u64) -> bool {
+    let mut first = 0;
+    for &end in ends.iter().skip(1) {
+        if end as usize != plain_end(units, first, limit) {
+            return false;
+        }
+        first = end as usize;
+    }
+    ends.first() == Some(&0)
+}
+
+// The ends of a probe, which has to fit exactly where they reach the last element.
+fn probed_ends(rt: &(impl Abort + AllocGlobal), units: &[Units], pes: u32, limit: u64) -> Vec<u32>
+    requires some_pe { 1 ≤ pes }
+    requires few_pes { pes ≤ 256 }
+{
+    let prefix = Prefix::of(rt.alloc(), &loads(rt, units)).expect(rt, "out of memory");
+    let answer = probe_on(rt.alloc(), &prefix, pes, limit).expect(rt, "out of memory");
+    let (fits, ends) = match answer {
+        Probe::Fits(cuts) => (true, cuts.into_vec()),
+        Probe::Stops(stops) => (false, stops.into_vec()),
+    };
+    let all = ends.last().map(|&end| end as usize == units.len());
+    assert_eq!(rt; all, Some(fits), "loads {units:?} on {pes} within {limit}");
+    ends
+}
+
+// A number far from those of the seeds beside it.
+fn scattered(seed: u64) -> u64 {
+    seed.wrapping_add(1).wrapping_mul(0x9e37_79b9_7f4a_7c15) >> 33
+}
+
+// Up to 40 loads of 0 to 15, every third of them 0.
+fn some_units(rt: &(impl Abort + AllocGlobal), number: u64) -> Vec<Units> {
+    let mut units = list(rt, &[]);
+    for i in 0..number % 41 {
+        let load = scattered(number.wrapping_mul(64).wrapping_add(i)) % 16;
+        let load = if i % 3 == 0 { 0 } else { load as Units };
+        units.push(load).expect(rt, "out of memory");
+    }
+    units
+}
+
+#[test]
+fn blocks_end_where_a_plain_walk_ends(rt: HostRuntime) {
+    for number in 0u64..1000 {
+        let units = some_units(&rt, number);
+        let (pes, limit) = (1 + (number % 7) as u32, scattered(number) % 64);
+        let ends = probed_ends(&rt, &units, pes, limit);
+        assert_eq!(rt; ends.len(), pes as usize + 1);
+        assert!(rt;
+            are_plain_ends(&ends, &units, limit),
+            "loads {units:?} on {pes} within {limit}"
+        );
+    }
+}

@@ -1,0 +1,4 @@
+pub mod Below
+pub mod Keyed
+pub mod Reasons
+pub mod Reports

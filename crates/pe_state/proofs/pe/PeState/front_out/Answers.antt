@@ -1,0 +1,6 @@
+use Rattle.std.proofs.Common.{arith, refl}
+use Rattle.pe_state.proofs.Below.{front_below}
+use Rattle.pe_state.proofs.pe.PeState.front_out.Goals as goal
+
+pub returns-clause-below : goal.returns-clause-below
+returns-clause-below g c = front_below g.H.Openings.pes c.self.inside.outbox.items c.in_ok-front.front.now c.in_ok-front.ensures.lookup (omega (arith, c.in_ok-front.ensures.variant.0 refl)) c.self.invariant.6

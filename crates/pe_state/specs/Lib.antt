@@ -1,0 +1,4 @@
+pub mod Pes
+pub mod Refusals
+pub mod Rooms
+pub mod Standing

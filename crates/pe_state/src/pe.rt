@@ -1,0 +1,399 @@
+//! A PE.
+
+ghost use Rattle.std.specs.Prelude.{◌≡◌, ◌≢◌, ℕ, ◌+◌, ◌++◌, ◌∷◌, [], ◌<◌, ◌≤◌, List, length, IfOk, IfErr, OnOk, OnErr, IfSome, IsSome, None, Some, slice_get, true, false};
+ghost use Rattle.std.specs.Option.{option_copied, option_map};
+ghost use Rattle.pe_state.specs.Pes.{PeView, new_pe, placed, received, wanted, hand_wants, looked, at_pe, front_at, unaddressed, is_due, front_parcel, front_address, gave_up, handed_back, noted, held, may_resume, may_depart, departed};
+ghost use Rattle.pe_state.specs.Rooms.{found};
+ghost use Rattle.pe_state.specs.Standing.{IsBelow};
+ghost use Rattle.pe_state.specs.declared.error.StepError.TheVariants.{OutOfMemory};
+
+use crate::error::StepError;
+use crate::room::Room;
+use chare_index::{Index, Limits, Pe, Round};
+use chares::{Addressed, Carried, Chare, Letter, Note, Openings, PackedElement, Progress};
+use std::alloc::{AllocError, Allocator, Global};
+use std::collections::VecDeque;
+use std::marker::Model;
+
+mod acting;
+mod handlers;
+
+/// What is carried from PE to PE: a letter, or an element that was packed.
+pub type Parcel<C, H, A = Global> = Carried<Letter<A>, PackedElement<C, H, A>>;
+
+/// A parcel, perhaps with a PE: in an outbox the one that it goes to, in a hand the one that a look gave.
+pub type Item<C, H, A = Global> = Addressed<Parcel<C, H, A>>;
+
+/// A PE of a run: what it holds, and its part of each event. A call that is refused leaves it as it was. Contracts see
+/// it as the record `PeView`.
+///
+/// After [`sent`](PeState::sent) it keeps the address of the parcel that it gave up until the next call that changes
+/// it, so that [`hand_back`](PeState::hand_back) can put the parcel back.
+#[derive(Drop)]
+pub struct PeState<C: Chare<A>, H: Openings<C>, A: Allocator = Global> {
+    me: Pe,
+    // How many PEs there are, and how many elements.
+    pes: u32,
+    n: u32,
+    // The elements that stand here.
+    room: Room<C, H, A>,
+    // What was taken from the queue last, with the PE that a look gave.
+    hand: Option<Item<C, H, A>>,
+    // Letters that came before their element, in the order in which they came.
+    shelf: VecDeque<Letter<A>, A>,
+    // What leaves this PE, the first first.
+    outbox: VecDeque<Item<C, H, A>, A>,
+    // What it owes the board, the first first.
+    notes: VecDeque<Note, A>,
+    // How many letters it has posted.
+    count: u64,
+    // The address of the parcel that it has just given up. While it has one, a place of the outbox stays free.
+    kept: Option<Pe>,
+    alloc: A,
+}
+
+impl<C: Chare<A>, H: Openings<C>, A: Allocator> Model for PeState<C, H, A> {
+    ghost use Rattle.std.specs.Prelude.{◌≡◌, ◌<◌, ◌≤◌, length, IsSome};
+    ghost use Rattle.std.specs.VecDeque.{deque_len, deque_capacity};
+    ghost use Rattle.chare_index.specs.declared.limits.TheConstants.Limits.{ELEMENTS, LETTERS};
+    ghost use Rattle.pe_state.specs.Pes.{PeView};
+    ghost use Rattle.pe_state.specs.Standing.{IsHandBelow, AreBelow, IsBelow};
+
+    ghost Value = { PeView C };
+
+    ghost view = { λ p. record { me = p.me; n = p.n; room = p.room; hand = p.hand; shelf = p.shelf.items; outbox = p.outbox.items; notes = p.notes.items; count = p.count; kept = p.kept } };
+
+    ghost invariant = { λ p.
+        (p.n ≡ length H.opened)
+        × (p.n ≤ ELEMENTS)
+        × (p.pes ≡ H.pes)
+        × (p.me < H.pes)
+        × (p.count ≤ LETTERS)
+        × IsHandBelow H.pes p.hand
+        × AreBelow H.pes p.outbox.items
+        × IsBelow H.pes p.kept
+        × (IsSome p.kept → deque_len p.outbox < deque_capacity p.outbox) };
+}
+
+impl<C: Chare<A>, H: Openings<C>, A: Allocator> PeState<C, H, A> {
+    /// Its number.
+    pub fn me(&self) -> Pe
+        ensures value { result ≡ self.now.me }
+        ensures below { result < H.pes }
+    {
+        self.me
+    }
+
+    /// How many PEs there are.
+    pub fn pes(&self) -> u32
+        ensures value { result ≡ H.pes }
+    {
+        self.pes
+    }
+
+    /// How many elements there are on all PEs.
+    pub fn n(&self) -> u32
+        ensures value { result ≡ self.now.n }
+        ensures array { result ≡ length H.opened }
+        ensures few { result ≤ Limits.ELEMENTS }
+    {
+        self.n
+    }
+
+    /// The elements that stand here.
+    pub fn room(&self) -> &Room<C, H, A>
+        ensures value { result.now ≡ self.now.room }
+    {
+        &self.room
+    }
+
+    /// The parcel in its hand, with the PE that a look gave.
+    pub fn hand(&self) -> Option<&Item<C, H, A>>
+        ensures value { option_copied result ≡ self.now.hand }
+    {
+        self.hand.as_ref()
+    }
+
+    /// The letters that came before their element, in the order in which they came.
+    pub fn shelf(&self) -> &VecDeque<Letter<A>, A>
+        ensures value { result.now.items ≡ self.now.shelf }
+    {
+        &self.shelf
+    }
+
+    /// The parcels that leave this PE, the first first, with the PEs that they go to.
+    pub fn outbox(&self) -> &VecDeque<Item<C, H, A>, A>
+        ensures value { result.now.items ≡ self.now.outbox }
+    {
+        &self.outbox
+    }
+
+    /// What it owes the board, the first first.
+    pub fn notes(&self) -> &VecDeque<Note, A>
+        ensures value { result.now.items ≡ self.now.notes }
+    {
+        &self.notes
+    }
+
+    /// How many letters it has posted.
+    pub fn count(&self) -> u64
+        ensures value { result ≡ self.now.count }
+        ensures few { result ≤ Limits.LETTERS }
+    {
+        self.count
+    }
+
+    /// The address of the parcel that it has just given up, which may be handed back.
+    pub fn kept(&self) -> Option<Pe>
+        ensures value { result ≡ self.now.kept }
+    {
+        self.kept
+    }
+
+    /// The element that has to be looked for: that of a letter in the hand without a look, where it does not stand here,
+    /// or else that of a letter without an address at the front of the outbox.
+    pub fn wants(&self) -> Option<Index>
+        ensures value { result ≡ wanted self.now }
+    {
+        if let Some(index) = self.hand_wants() {
+            return Some(index);
+        }
+        let front = self.outbox.front()?;
+        unaddressed(front)
+    }
+
+    /// The PE that the front of the outbox goes to, or `None` where it has no address yet or there is none.
+    pub fn front_out(&self) -> Option<Pe>
+        ensures value { result ≡ front_address self.now.outbox }
+        ensures below { IfSome result (λ to. to < H.pes) }
+    {
+        let front = self.outbox.front()?;
+        front.address
+    }
+
+    /// What is owed to the board first.
+    pub fn next_note(&self) -> Option<Note>
+        ensures value { result ≡ slice_get self.now.notes 0 }
+    {
+        let note = self.notes.front()?;
+        Some(*note)
+    }
+
+    /// Whether an element stands here that may be resumed after this round, or started where that is 0.
+    pub fn may_resume(&self, index: Index, round: Round) -> bool
+        ensures value { result ≡ may_resume self.now index round }
+    {
+        let Some(element) = self.room.element(index) else {
+            return false;
+        };
+        is_due(element.progress(), round)
+    }
+
+    /// Whether an element stands here that waits for the end of its round, and so may depart.
+    pub fn may_depart(&self, index: Index) -> bool
+        ensures value { result ≡ may_depart self.now index }
+    {
+        let Some(element) = self.room.element(index) else {
+            return false;
+        };
+        element.progress().synced
+    }
+}
+
+impl<C: Chare<A>, H: Openings<C>, A: Allocator> PeState<C, H, A> {
+    // The element that the hand wants to be looked for.
+    fn hand_wants(&self) -> Option<Index>
+        ensures value { result ≡ hand_wants self.now }
+    {
+        let item = self.hand.as_ref()?;
+        let index = unaddressed(item)?;
+        if self.room.element(index).is_some() {
+            return None;
+        }
+        Some(index)
+    }
+}
+
+impl<C: Chare<A>, H: Openings<C>, A: Allocator> PeState<C, H, A> {
+    // Holds a parcel in the hand, perhaps with a look.
+    fn hold(&mut self, parcel: Parcel<C, H, A>, look: Option<Pe>)
+        requires below { IsBelow H.pes look }
+        ensures ok { self.new ≡ held self.old parcel look }
+    {
+        self.hand = Some(Addressed {
+            parcel,
+            address: look,
+        });
+    }
+
+    // Gives the parcel in the hand, if there is one, this look.
+    fn look_for_hand(&mut self, to: Pe)
+        requires known { to < H.pes }
+        ensures ok { self.new ≡ record self.old { hand = option_map (at_pe to) self.old.hand; kept = None } }
+    {
+        self.kept = None;
+        let Some(Addressed { parcel, address: _ }) = self.hand.take() else {
+            return;
+        };
+        self.hold(parcel, Some(to));
+    }
+
+    // Gives the front of the outbox, if there is one, this address.
+    #[tactic(auto, using(crate::proofs::Below::rest_below))]
+    fn look_for_front(&mut self, to: Pe)
+        requires known { to < H.pes }
+        ensures ok { self.new ≡ record self.old { outbox = front_at to self.old.outbox; kept = None } }
+    {
+        self.kept = None;
+        let Some(Addressed { parcel, address: _ }) = self.outbox.pop_front() else {
+            return;
+        };
+        self.outbox.push_front_reserved(Addressed {
+            parcel,
+            address: Some(to),
+        });
+    }
+}
+
+impl<C: Chare<A>, H: Openings<C>, A: Allocator + Copy> PeState<C, H, A> {
+    /// PE `me` of `pes`, as an array of `n` elements opens, before any is placed.
+    pub fn new(alloc: A, me: Pe, pes: u32, n: u32) -> Self
+        requires member { me < pes }
+        requires run { pes ≡ H.pes }
+        requires array { n ≡ length H.opened }
+        requires few { n ≤ Limits.ELEMENTS }
+        ensures value { result ≡ new_pe me n }
+    {
+        PeState {
+            me,
+            pes,
+            n,
+            room: Room::new(alloc),
+            hand: None,
+            shelf: VecDeque::new(alloc),
+            outbox: VecDeque::new(alloc),
+            notes: VecDeque::new(alloc),
+            count: 0,
+            kept: None,
+            alloc,
+        }
+    }
+
+    /// Places an element as the array opens, where none with its index stands. Where no memory is left the chare is
+    /// given up.
+    pub fn place(&mut self, index: Index, chare: C) -> Result<(), AllocError>
+        requires lacks { found index self.old.room ≡ None }
+        requires opening { slice_get H.opened index ≡ Some chare }
+        ensures ok { OnOk result (self.new ≡ placed self.old index chare) }
+        ensures err { OnErr result (self.new ≡ self.old) }
+    {
+        self.room.place(self.alloc, index, chare)?;
+        self.kept = None;
+        Ok(())
+    }
+
+    /// Takes a parcel into its hand, which is empty.
+    pub fn receive(&mut self, parcel: Parcel<C, H, A>)
+        requires empty { self.old.hand ≡ None }
+        ensures ok { self.new ≡ received self.old parcel }
+    {
+        self.hand = Some(Addressed {
+            parcel,
+            address: None,
+        });
+        self.kept = None;
+    }
+
+    /// The element that [`wants`](PeState::wants) names was looked for, and is believed to be on this PE.
+    pub fn look(&mut self, believed: Pe)
+        requires wanted { IsSome (wanted self.old) }
+        requires known { believed < H.pes }
+        ensures ok { self.new ≡ looked self.old believed }
+    {
+        let Some(_) = self.hand_wants() else {
+            self.look_for_front(believed);
+            return;
+        };
+        self.look_for_hand(believed);
+    }
+
+    /// Gives up the front of the outbox, which has an address, and keeps that.
+    #[tactic(auto, using(crate::proofs::Below::first_below, crate::proofs::Below::rest_below))]
+    pub fn sent(&mut self) -> Parcel<C, H, A>
+        requires addressed { IsSome (front_address self.old.outbox) }
+        ensures value { front_parcel self.old.outbox ≡ Some result }
+        ensures ok { self.new ≡ gave_up self.old }
+    {
+        let Some(Addressed { parcel, address }) = self.outbox.pop_front() else {
+            unreachable!()
+        };
+        self.kept = address;
+        parcel
+    }
+
+    /// Puts a parcel back to the front of the outbox, with the address that was kept. This takes no memory. See "What
+    /// `hand_back` is for" in docs/EVENTS.md.
+    pub fn hand_back(&mut self, parcel: Parcel<C, H, A>)
+        requires kept { IsSome self.old.kept }
+        ensures ok { self.new ≡ handed_back self.old parcel }
+    {
+        let address = self.kept.take();
+        self.outbox
+            .push_front_reserved(Addressed { parcel, address });
+    }
+
+    /// The board has the note that was owed first.
+    pub fn note_done(&mut self)
+        requires owed { IsSome (slice_get self.old.notes 0) }
+        ensures ok { self.new ≡ noted self.old }
+    {
+        let _note = self.notes.pop_front();
+        self.kept = None;
+    }
+
+    /// Packs an element, which stands here and waits for the end of its round, and puts it into the outbox, addressed
+    /// to the PE where it is to be. Where its round is decided and gives it this place the caller has seen; it stores
+    /// the element's location word next, before any other step of this PE: see "Why the word is stored before the parcel
+    /// leaves" in docs/EVENTS.md. The only refusal is [`OutOfMemory`](StepError::OutOfMemory).
+    #[tactic(auto, using(crate::proofs::Below::last_below))]
+    pub fn depart(&mut self, index: Index, to: Pe) -> Result<(), StepError>
+        requires waits { may_depart self.old index ≡ true }
+        requires known { to < H.pes }
+        ensures ok { OnOk result (self.new ≡ departed C.pack self.old index to) }
+        ensures err { OnErr result (self.new ≡ self.old) }
+        ensures only_memory { IfErr result (λ error. error ≡ OutOfMemory) }
+        ensures fits { OnOk result (IfSome (found index self.old.room) (λ el. C.fits el.chare)) }
+    {
+        self.outbox.reserve(1)?;
+        let element = self.room.depart(self.alloc, index)?;
+        self.outbox.push_back_reserved(Addressed {
+            parcel: Carried::Element(element),
+            address: Some(to),
+        });
+        self.kept = None;
+        Ok(())
+    }
+}
+
+// The element of a letter that has no address.
+fn unaddressed<C: Chare<A>, H: Openings<C>, A: Allocator>(item: &Item<C, H, A>) -> Option<Index>
+    ensures value { result ≡ unaddressed item.now.parcel item.now.address }
+{
+    let Carried::Letter(letter) = &item.parcel else {
+        return None;
+    };
+    if item.address.is_some() {
+        return None;
+    }
+    Some(letter.to())
+}
+
+// Whether an element starts, where the round is 0, or waits for the end of this round.
+fn is_due(progress: Progress, round: Round) -> bool
+    ensures value { result ≡ is_due round progress }
+{
+    if round.get() == 0 {
+        return !progress.started;
+    }
+    progress.synced && progress.round.get() + 1 == round.get()
+}

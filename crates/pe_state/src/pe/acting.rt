@@ -1,0 +1,358 @@
+//! What a PE does with the parcel in its hand.
+
+ghost use Rattle.std.specs.Prelude.{◌≡◌, ℕ, ◌++◌, ◌∷◌, [], ◌<◌, ◌≤◌, List, length, IfOk, IfErr, OnOk, OnErr, IfSome, IsSome, Ok, None, Some, true};
+ghost use Rattle.std.specs.VecDeque.{deque_len, deque_capacity};
+ghost use Rattle.chares.specs.Posting.{reported};
+ghost use Rattle.pe_state.specs.Pes.{PeView, acting, acted_of, pe_after, reports_of, on_letter, on_element, held, executed, passing, shelving, forwarding, installed};
+ghost use Rattle.pe_state.specs.Refusals.{RefusesStep, RefusesAct, RefusesParcel};
+ghost use Rattle.pe_state.specs.Rooms.{found};
+ghost use Rattle.pe_state.specs.Standing.{IsBelow};
+ghost use Rattle.chares.specs.Elements.{unpacked, IsHistory};
+ghost use Rattle.chares.specs.declared.carried.Carried.{Carried};
+ghost use Rattle.chares.specs.declared.entry.Entry.{Entry};
+ghost use Rattle.chares.specs.declared.report.Report.{Report};
+ghost use Rattle.pe_state.specs.declared.error.StepError.TheVariants.{OutOfMemory};
+
+use crate::acted::Acted;
+use crate::error::StepError;
+use crate::lent;
+use crate::pe::{Parcel, PeState};
+use crate::shelf::unshelve;
+use chare_index::{Gate, Index, Pe};
+use chares::{
+    Addressed, Carried, Chare, Letter, Openings, PackedElement, Report, Unread, add_report,
+    room_for_report,
+};
+use std::alloc::{AllocError, AllocFailed, Allocator, Global};
+use std::collections::VecDeque;
+
+impl<C: Chare<A>, H: Openings<C>, A: Allocator + Copy> PeState<C, H, A> {
+    /// Acts on the parcel in its hand. An element is unpacked into the room, and its letters leave the shelf for the
+    /// back of the outbox, addressed to this PE. A letter is executed, where its element stands here and has started.
+    /// Where it does not stand here, a letter with a look goes to the shelf if that names this PE, and otherwise, with
+    /// one hop more, to the back of the outbox, addressed to the PE that it names. In all other cases it returns `None`
+    /// and nothing changes: with an empty hand, with a letter whose element has not started, or that wants a look, and
+    /// with an element where one with its index stands already.
+    ///
+    /// # Errors
+    ///
+    /// The PE is as it was on any of them, and the parcel stays in its hand. [`OutOfMemory`](StepError::OutOfMemory), or
+    /// what the handler answers.
+    pub fn act<G: Gate>(&mut self, gate: &G) -> Result<Option<Acted>, StepError>
+        ensures answer { IfOk result (λ acted. acted ≡ acted_of (acting C.step C.pack C.unpack self.old)) }
+        ensures ok { OnOk result (self.new ≡ pe_after self.old (acting C.step C.pack C.unpack self.old)) }
+        ensures err { OnErr result (self.new ≡ self.old) }
+        ensures enabled { OnErr result (IsSome (acting C.step C.pack C.unpack self.old)) }
+        ensures refused { IfErr result (RefusesStep (RefusesAct C.refuses self.old)) }
+    {
+        let mut reports = Vec::new(self.alloc);
+        self.act_with(gate, false, &mut reports)
+    }
+
+    /// Acts as [`act`](PeState::act) does, and appends what the event reports, in order: an execution before what it
+    /// posted. On a refusal, and where nothing is done, nothing is appended.
+    pub fn act_reporting<G: Gate>(
+        &mut self,
+        gate: &G,
+        reports: &mut Vec<Report, A>,
+    ) -> Result<Option<Acted>, StepError>
+        ensures answer { IfOk result (λ acted. acted ≡ acted_of (acting C.step C.pack C.unpack self.old)) }
+        ensures ok { OnOk result (self.new ≡ pe_after self.old (acting C.step C.pack C.unpack self.old)) }
+        ensures err { OnErr result (self.new ≡ self.old) }
+        ensures enabled { OnErr result (IsSome (acting C.step C.pack C.unpack self.old)) }
+        ensures refused { IfErr result (RefusesStep (RefusesAct C.refuses self.old)) }
+        ensures reports { OnOk result (reports.new.items ≡ reports.old.items ++ reports_of (acting C.step C.pack C.unpack self.old)) }
+        ensures same_reports { OnErr result (reports.new.items ≡ reports.old.items) }
+    {
+        self.act_with(gate, true, reports)
+    }
+
+    // Acts, and adds what is to be reported where that is wanted.
+    #[tactic(auto, using(crate::proofs::Reports::reported_none))]
+    fn act_with<G: Gate>(
+        &mut self,
+        gate: &G,
+        reporting: bool,
+        reports: &mut Vec<Report, A>,
+    ) -> Result<Option<Acted>, StepError>
+        ensures answer { IfOk result (λ acted. acted ≡ acted_of (acting C.step C.pack C.unpack self.old)) }
+        ensures ok { OnOk result (self.new ≡ pe_after self.old (acting C.step C.pack C.unpack self.old)) }
+        ensures err { OnErr result (self.new ≡ self.old) }
+        ensures enabled { OnErr result (IsSome (acting C.step C.pack C.unpack self.old)) }
+        ensures refused { IfErr result (RefusesStep (RefusesAct C.refuses self.old)) }
+        ensures reports { OnOk result (reports.new.items ≡ reported reporting reports.old.items (reports_of (acting C.step C.pack C.unpack self.old))) }
+        ensures same_reports { OnErr result (reports.new.items ≡ reports.old.items) }
+    {
+        let Some(Addressed { parcel, address }) = self.hand.take() else {
+            return Ok(None);
+        };
+        match parcel {
+            Carried::Letter(letter) => {
+                let acted = self.act_on_letter(gate, letter, address, reporting, reports)?;
+                Ok(acted)
+            }
+            Carried::Element(element) => {
+                let acted = self.act_on_element(element, address, reporting, reports)?;
+                Ok(acted)
+            }
+        }
+    }
+}
+
+impl<C: Chare<A>, H: Openings<C>, A: Allocator + Copy> PeState<C, H, A> {
+    // Acts on a letter that was taken from the hand.
+    #[tactic(auto, using(crate::proofs::Reports::reported_none))]
+    fn act_on_letter<G: Gate>(
+        &mut self,
+        gate: &G,
+        letter: Letter<A>,
+        look: Option<Pe>,
+        reporting: bool,
+        reports: &mut Vec<Report, A>,
+    ) -> Result<Option<Acted>, StepError>
+        requires empty { self.old.hand ≡ None }
+        requires below { IsBelow H.pes look }
+        ensures answer { IfOk result (λ acted. acted ≡ acted_of (on_letter C.step C.pack self.old letter look (found letter.to self.old.room))) }
+        ensures ok { OnOk result (self.new ≡ pe_after (held self.old (Carried.Letter letter) look) (on_letter C.step C.pack self.old letter look (found letter.to self.old.room))) }
+        ensures err { OnErr result (self.new ≡ held self.old (Carried.Letter letter) look) }
+        ensures enabled { OnErr result (IsSome (on_letter C.step C.pack self.old letter look (found letter.to self.old.room))) }
+        ensures refused { IfErr result (RefusesStep (RefusesParcel C.refuses self.old (Carried.Letter letter))) }
+        ensures reports { OnOk result (reports.new.items ≡ reported reporting reports.old.items (reports_of (on_letter C.step C.pack self.old letter look (found letter.to self.old.room)))) }
+        ensures same_reports { OnErr result (reports.new.items ≡ reports.old.items) }
+    {
+        let Some(element) = self.room.element(letter.to()) else {
+            let acted = self.pass_on(letter, look, reporting, reports)?;
+            return Ok(acted);
+        };
+        if !element.progress().started {
+            self.hold(Carried::Letter(letter), look);
+            return Ok(None);
+        }
+        self.execute(gate, letter, look, reporting, reports)?;
+        Ok(Some(Acted::Executed))
+    }
+
+    // Executes a letter by its element, which stands here and has started.
+    #[tactic(auto, using(crate::proofs::Below::posted_below, crate::proofs::Reasons::same_reason))]
+    fn execute<G: Gate>(
+        &mut self,
+        gate: &G,
+        letter: Letter<A>,
+        look: Option<Pe>,
+        reporting: bool,
+        reports: &mut Vec<Report, A>,
+    ) -> Result<(), StepError>
+        requires empty { self.old.hand ≡ None }
+        requires below { IsBelow H.pes look }
+        requires stands { IsSome (found letter.to self.old.room) }
+        ensures ok { OnOk result (self.new ≡ (executed C.step C.pack self.old letter).pe) }
+        ensures err { OnErr result (self.new ≡ held self.old (Carried.Letter letter) look) }
+        ensures refused { IfErr result (RefusesStep (RefusesParcel C.refuses self.old (Carried.Letter letter))) }
+        ensures reports { OnOk result (reports.new.items ≡ reported reporting reports.old.items (executed C.step C.pack self.old letter).reports) }
+        ensures same_reports { OnErr result (reports.new.items ≡ reports.old.items) }
+    {
+        let Ok(()) = self.notes.reserve(1) else {
+            self.hold(Carried::Letter(letter), look);
+            return Err(StepError::OutOfMemory);
+        };
+        let Ok(()) = self.outbox.reserve(1) else {
+            self.hold(Carried::Letter(letter), look);
+            return Err(StepError::OutOfMemory);
+        };
+        let answer = lent::execute(
+            self.alloc,
+            gate,
+            self.me,
+            self.n,
+            letter,
+            &mut self.room,
+            &mut self.outbox,
+            &mut self.count,
+            reporting,
+            reports,
+        );
+        let note = match answer {
+            Ok(note) => note,
+            Err(unread) => {
+                let Unread { letter, error } = unread;
+                self.hold(Carried::Letter(letter), look);
+                return Err(StepError::from(error));
+            }
+        };
+        lent::owe(&mut self.notes, note);
+        self.kept = None;
+        Ok(())
+    }
+
+    // Acts on a letter whose element does not stand here.
+    #[tactic(auto, using(crate::proofs::Reports::reported_none))]
+    fn pass_on(
+        &mut self,
+        letter: Letter<A>,
+        look: Option<Pe>,
+        reporting: bool,
+        reports: &mut Vec<Report, A>,
+    ) -> Result<Option<Acted>, StepError>
+        requires empty { self.old.hand ≡ None }
+        requires below { IsBelow H.pes look }
+        ensures answer { IfOk result (λ acted. acted ≡ acted_of (passing self.old letter look)) }
+        ensures ok { OnOk result (self.new ≡ pe_after (held self.old (Carried.Letter letter) look) (passing self.old letter look)) }
+        ensures err { OnErr result (self.new ≡ held self.old (Carried.Letter letter) look) }
+        ensures enabled { OnErr result (IsSome (passing self.old letter look)) }
+        ensures only_memory { IfErr result (λ error. error ≡ OutOfMemory) }
+        ensures reports { OnOk result (reports.new.items ≡ reported reporting reports.old.items (reports_of (passing self.old letter look))) }
+        ensures same_reports { OnErr result (reports.new.items ≡ reports.old.items) }
+    {
+        let Some(to) = look else {
+            self.hold(Carried::Letter(letter), look);
+            return Ok(None);
+        };
+        if to == self.me {
+            self.shelve(letter, to, reporting, reports)?;
+            return Ok(Some(Acted::Shelved));
+        }
+        self.forward(letter, to, reporting, reports)?;
+        Ok(Some(Acted::Forwarded))
+    }
+
+    // Puts a letter to the shelf: see "Why a letter that names its own PE is kept" in docs/EVENTS.md.
+    fn shelve(
+        &mut self,
+        letter: Letter<A>,
+        look: Pe,
+        reporting: bool,
+        reports: &mut Vec<Report, A>,
+    ) -> Result<(), AllocError>
+        requires empty { self.old.hand ≡ None }
+        requires below { look < H.pes }
+        ensures ok { OnOk result (self.new ≡ (shelving self.old letter).pe) }
+        ensures err { OnErr result (self.new ≡ held self.old (Carried.Letter letter) (Some look)) }
+        ensures reports { OnOk result (reports.new.items ≡ reported reporting reports.old.items (shelving self.old letter).reports) }
+        ensures same_reports { OnErr result (reports.new.items ≡ reports.old.items) }
+    {
+        let Ok(()) = room_for_report(reports, reporting) else {
+            self.hold(Carried::Letter(letter), Some(look));
+            return Err(AllocError);
+        };
+        let id = letter.id();
+        if let Err(refused) = self.shelf.push_back(letter) {
+            self.hold(Carried::Letter(refused.value), Some(look));
+            return Err(AllocError);
+        }
+        add_report(reports, reporting, Report::Shelved(id));
+        self.kept = None;
+        Ok(())
+    }
+
+    // Sends a letter on to the PE where its element was looked for.
+    #[tactic(auto, using(crate::proofs::Below::last_below))]
+    fn forward(
+        &mut self,
+        mut letter: Letter<A>,
+        to: Pe,
+        reporting: bool,
+        reports: &mut Vec<Report, A>,
+    ) -> Result<(), AllocError>
+        requires empty { self.old.hand ≡ None }
+        requires below { to < H.pes }
+        ensures ok { OnOk result (self.new ≡ (forwarding self.old letter to).pe) }
+        ensures err { OnErr result (self.new ≡ held self.old (Carried.Letter letter) (Some to)) }
+        ensures reports { OnOk result (reports.new.items ≡ reported reporting reports.old.items (forwarding self.old letter to).reports) }
+        ensures same_reports { OnErr result (reports.new.items ≡ reports.old.items) }
+    {
+        let Ok(()) = room_for_report(reports, reporting) else {
+            self.hold(Carried::Letter(letter), Some(to));
+            return Err(AllocError);
+        };
+        let Ok(()) = self.outbox.reserve(1) else {
+            self.hold(Carried::Letter(letter), Some(to));
+            return Err(AllocError);
+        };
+        add_report(reports, reporting, Report::Forwarded(letter.id()));
+        letter.hop();
+        self.outbox.push_back_reserved(Addressed {
+            parcel: Carried::Letter(letter),
+            address: Some(to),
+        });
+        self.kept = None;
+        Ok(())
+    }
+}
+
+impl<C: Chare<A>, H: Openings<C>, A: Allocator + Copy> PeState<C, H, A> {
+    // Acts on an element that was taken from the hand.
+    #[tactic(auto, using(crate::proofs::Reports::reported_none))]
+    fn act_on_element(
+        &mut self,
+        element: PackedElement<C, H, A>,
+        look: Option<Pe>,
+        reporting: bool,
+        reports: &mut Vec<Report, A>,
+    ) -> Result<Option<Acted>, StepError>
+        requires empty { self.old.hand ≡ None }
+        requires below { IsBelow H.pes look }
+        ensures answer { IfOk result (λ acted. acted ≡ acted_of (on_element C.step C.pack C.unpack self.old element (found element.index self.old.room))) }
+        ensures ok { OnOk result (self.new ≡ pe_after (held self.old (Carried.Element element) look) (on_element C.step C.pack C.unpack self.old element (found element.index self.old.room))) }
+        ensures err { OnErr result (self.new ≡ held self.old (Carried.Element element) look) }
+        ensures enabled { OnErr result (IsSome (on_element C.step C.pack C.unpack self.old element (found element.index self.old.room))) }
+        ensures only_memory { IfErr result (λ error. error ≡ OutOfMemory) }
+        ensures reports { OnOk result (reports.new.items ≡ reported reporting reports.old.items (reports_of (on_element C.step C.pack C.unpack self.old element (found element.index self.old.room)))) }
+        ensures same_reports { OnErr result (reports.new.items ≡ reports.old.items) }
+    {
+        if self.room.element(element.index()).is_some() {
+            self.hold(Carried::Element(element), look);
+            return Ok(None);
+        }
+        let Ok(chare) = element.unpack(self.alloc) else {
+            self.hold(Carried::Element(element), look);
+            return Err(StepError::OutOfMemory);
+        };
+        self.install(element, chare, look, reporting, reports)?;
+        Ok(Some(Acted::Installed))
+    }
+}
+
+impl<C: Chare<A>, H: Openings<C>, A: Allocator + Copy> PeState<C, H, A> {
+    // Takes in an element with the chare that its bytes unpacked to, and lets its letters leave the shelf.
+    #[tactic(auto, using(crate::proofs::Below::unshelved))]
+    fn install(
+        &mut self,
+        element: PackedElement<C, H, A>,
+        chare: C,
+        look: Option<Pe>,
+        reporting: bool,
+        reports: &mut Vec<Report, A>,
+    ) -> Result<(), AllocError>
+        requires empty { self.old.hand ≡ None }
+        requires below { IsBelow H.pes look }
+        requires lacks { found element.index self.old.room ≡ None }
+        requires history { IsHistory C.step C.pack H.opened (unpacked element chare) }
+        ensures ok { OnOk result (self.new ≡ installed self.old element chare) }
+        ensures err { OnErr result (self.new ≡ held self.old (Carried.Element element) look) }
+        ensures reports { OnOk result (reports.new.items ≡ reported reporting reports.old.items (Report.Installed element.index ∷ [])) }
+        ensures same_reports { OnErr result (reports.new.items ≡ reports.old.items) }
+    {
+        let Ok(()) = room_for_report(reports, reporting) else {
+            self.hold(Carried::Element(element), look);
+            return Err(AllocError);
+        };
+        let Ok(()) = self.outbox.reserve(self.shelf.len()) else {
+            self.hold(Carried::Element(element), look);
+            return Err(AllocError);
+        };
+        let Ok(mut rest) = VecDeque::with_capacity(self.alloc, self.shelf.len()) else {
+            self.hold(Carried::Element(element), look);
+            return Err(AllocError);
+        };
+        let index = element.index();
+        if let Err(refused) = self.room.install(element, chare) {
+            self.hold(Carried::Element(refused.value), look);
+            return Err(AllocError);
+        }
+        add_report(reports, reporting, Report::Installed(index));
+        unshelve(index, self.me, &mut self.shelf, &mut rest, &mut self.outbox);
+        self.shelf = rest;
+        self.kept = None;
+        Ok(())
+    }
+}

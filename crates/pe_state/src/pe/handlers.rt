@@ -1,0 +1,90 @@
+//! The resumption of an element.
+
+ghost use Rattle.std.specs.Prelude.{◌≡◌, ℕ, ◌++◌, ◌∷◌, [], ◌<◌, ◌≤◌, List, length, IfOk, IfErr, OnOk, OnErr, IfSome, IsSome, Ok, None, Some, true};
+ghost use Rattle.chares.specs.Posting.{reported};
+ghost use Rattle.pe_state.specs.Pes.{may_resume, resumed, resume_reports};
+ghost use Rattle.pe_state.specs.Refusals.{RefusesStep, RefusesResume};
+
+use crate::error::StepError;
+use crate::lent;
+use crate::pe::PeState;
+use chare_index::{Gate, Index, Limits, Round};
+use chares::{Chare, Openings, Report};
+use std::alloc::{Allocator, Global};
+
+impl<C: Chare<A>, H: Openings<C>, A: Allocator + Copy> PeState<C, H, A> {
+    /// Resumes an element, which stands here and waits for the end of this round, or starts it where the round is 0 and
+    /// it has not started. That the round is decided and gives the element this place the caller has seen.
+    ///
+    /// # Errors
+    ///
+    /// The PE is as it was on any of them: [`OutOfMemory`](StepError::OutOfMemory), or what the handler answers.
+    pub fn resume<G: Gate>(&mut self, gate: &G, index: Index, round: Round) -> Result<(), StepError>
+        requires due { may_resume self.old index round ≡ true }
+        requires before_last_round { round < Limits.ROUND }
+        ensures ok { OnOk result (self.new ≡ resumed C.step C.pack self.old index round) }
+        ensures err { OnErr result (self.new ≡ self.old) }
+        ensures refused { IfErr result (RefusesStep (RefusesResume C.refuses self.old index round)) }
+    {
+        let mut reports = Vec::new(self.alloc);
+        self.resume_with(gate, index, round, false, &mut reports)
+    }
+
+    /// Resumes as [`resume`](PeState::resume) does, and appends what the event reports, in order: the resumption before
+    /// what it posted. On a refusal nothing is appended.
+    pub fn resume_reporting<G: Gate>(
+        &mut self,
+        gate: &G,
+        index: Index,
+        round: Round,
+        reports: &mut Vec<Report, A>,
+    ) -> Result<(), StepError>
+        requires due { may_resume self.old index round ≡ true }
+        requires before_last_round { round < Limits.ROUND }
+        ensures ok { OnOk result (self.new ≡ resumed C.step C.pack self.old index round) }
+        ensures err { OnErr result (self.new ≡ self.old) }
+        ensures refused { IfErr result (RefusesStep (RefusesResume C.refuses self.old index round)) }
+        ensures reports { OnOk result (reports.new.items ≡ reports.old.items ++ resume_reports C.step C.pack self.old index round) }
+        ensures same_reports { OnErr result (reports.new.items ≡ reports.old.items) }
+    {
+        self.resume_with(gate, index, round, true, reports)
+    }
+
+    // Resumes, and adds what is to be reported where that is wanted.
+    #[tactic(auto, using(crate::proofs::Below::posted_below, crate::proofs::Reasons::same_reason))]
+    fn resume_with<G: Gate>(
+        &mut self,
+        gate: &G,
+        index: Index,
+        round: Round,
+        reporting: bool,
+        reports: &mut Vec<Report, A>,
+    ) -> Result<(), StepError>
+        requires due { may_resume self.old index round ≡ true }
+        requires before_last_round { round < Limits.ROUND }
+        ensures ok { OnOk result (self.new ≡ resumed C.step C.pack self.old index round) }
+        ensures err { OnErr result (self.new ≡ self.old) }
+        ensures refused { IfErr result (RefusesStep (RefusesResume C.refuses self.old index round)) }
+        ensures reports { OnOk result (reports.new.items ≡ reported reporting reports.old.items (resume_reports C.step C.pack self.old index round)) }
+        ensures same_reports { OnErr result (reports.new.items ≡ reports.old.items) }
+    {
+        self.notes.reserve(1)?;
+        self.outbox.reserve(1)?;
+        let note = lent::resume(
+            self.alloc,
+            gate,
+            self.me,
+            self.n,
+            index,
+            round,
+            &mut self.room,
+            &mut self.outbox,
+            &mut self.count,
+            reporting,
+            reports,
+        )?;
+        lent::owe(&mut self.notes, note);
+        self.kept = None;
+        Ok(())
+    }
+}

@@ -1,0 +1,47 @@
+-- What the board makes of a note.
+use Rattle.std.proofs.Common.{◌≡◌, ◌≢◌, ℕ, ◌+◌, ◌<◌, ◌≤◌, Some, None, true, false, Bool, not, ◌&&◌, ◌==◌, nat_lt, refl, arith}
+use Rattle.std.specs.Prelude.{is_none, IsSome, IsNone}
+use Rattle.std.proofs.lemmas.Bool.Decides.{nat_tests}
+use Rattle.std.proofs.lemmas.Grind.{common_steps}
+use Rattle.chare_index.specs.declared.limits.TheConstants.Limits.{STATE_BYTES}
+use Rattle.chares.specs.declared.note.Note.{Note}
+use Rattle.chares.specs.declared.note.Note.TheVariants.{Sync, Finish}
+use Rattle.at_sync.specs.Boards.{BoardState, after_report, after_finish}
+use Rattle.at_sync.specs.Refusals.{RefusesFinish, database_error_of}
+use Rattle.at_sync.specs.declared.error.BoardError.{BoardError}
+use Rattle.at_sync.specs.declared.error.BoardError.TheVariants.{Stranger, WrongRound, Twice, TooLarge, Incomplete, OutOfMemory, Worn}
+use Rattle.lb_database.specs.Measuring.{elements, report_of}
+use Rattle.lb_database.specs.Refusals.{IsReport, RefusesReport}
+use Rattle.rts_core.specs.Events.{board_after}
+
+pub sync_taken : {A : Type 0} (b : BoardState A) (e round units bytes pe : ℕ) → pe < b.pes → IsReport b.database e round bytes → board_after b (Sync e round units bytes pe) ≡ Some (after_report b e units bytes pe)
+sync_taken b e round units bytes pe below h =
+    let a = h.known in
+    let r = h.for_round in
+    let f = h.first in
+    let s = h.fits in
+    grind (arith, nat_tests)
+
+pub sync_elsewhere : {A : Type 0} (b : BoardState A) (e round units bytes pe : ℕ) → b.pes ≤ pe → board_after b (Sync e round units bytes pe) ≡ None
+sync_elsewhere b e round units bytes pe h = grind (arith, nat_tests)
+
+pub sync_refused : {A : Type 0} (b : BoardState A) (e round units bytes pe : ℕ) (error : BoardError) → RefusesReport b.database e round bytes (database_error_of error) → board_after b (Sync e round units bytes pe) ≡ None
+sync_refused b e round units bytes pe Stranger h = grind (arith, nat_tests)
+sync_refused b e round units bytes pe WrongRound h = let n = h.1 in grind (arith, nat_tests)
+sync_refused b e round units bytes pe Twice h = let s = h.2 in grind (arith, nat_tests)
+sync_refused b e round units bytes pe TooLarge h = let s = h.3 in grind (arith, nat_tests)
+sync_refused b e round units bytes pe Incomplete h = absurd h
+sync_refused b e round units bytes pe OutOfMemory h = absurd h
+sync_refused b e round units bytes pe Worn h = absurd h
+
+pub finish_taken : {A : Type 0} (b : BoardState A) (e : ℕ) → e < elements b.database → board_after b (Finish e) ≡ Some (after_finish b e)
+finish_taken b e h = grind (arith, nat_tests)
+
+pub finish_refused : {A : Type 0} (b : BoardState A) (e : ℕ) (error : BoardError) → RefusesFinish b.database e error → board_after b (Finish e) ≡ None
+finish_refused b e Stranger h = grind (arith, nat_tests)
+finish_refused b e WrongRound h = absurd h
+finish_refused b e Twice h = absurd h
+finish_refused b e TooLarge h = absurd h
+finish_refused b e Incomplete h = absurd h
+finish_refused b e OutOfMemory h = absurd h
+finish_refused b e Worn h = absurd h

@@ -1,0 +1,20 @@
+//! The world of a run: PEs with their queues, a location word for each element, and the board, event by event.
+#![tactic(auto)]
+
+mod balancing;
+mod event;
+mod laws;
+mod opening;
+mod passing;
+mod queue;
+mod reports;
+mod stepping;
+mod working;
+mod world;
+
+pub use event::Event;
+pub use laws::account_laws;
+pub use pe_state::{Acted, Item, Parcel, PeState, Room, StepError};
+pub use queue::Queue;
+pub use reports::Reports;
+pub use world::World;

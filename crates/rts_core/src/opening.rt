@@ -1,0 +1,147 @@
+//! The opening of a world.
+
+ghost use Rattle.std.specs.Prelude.{◌≡◌, ◌+◌, ◌∷◌, ◌<◌, ◌≤◌, ℕ, List, [], length, Some, MatchOption, map, replicate, IfOk, OnOk, None, All, slice_get};
+ghost use Rattle.std.specs.List.{range_with_len};
+ghost use Rattle.std.specs.Map.{keys_of};
+ghost use Rattle.chare_index.specs.declared.limits.TheConstants.Limits.{ELEMENTS, PES};
+ghost use Rattle.pe_state.specs.Pes.{PeView, new_pe};
+ghost use Rattle.rts_core.specs.Histories.{HasHistories};
+ghost use Rattle.rts_core.specs.Worlds.{home, placed_on, settled};
+
+use crate::queue::Queue;
+use chare_index::{Index, Limits, Pe, opening_pe};
+use chares::{Chare, Openings};
+use pe_state::PeState;
+use std::alloc::{AllocError, Allocator};
+use std::collections::VecDeque;
+
+/// The PEs as a run opens, before any element is placed.
+#[tactic(auto, using(crate::proofs::Openings::list_more))]
+pub(crate) fn opening_pes<C: Chare<A>, H: Openings<C>, A: Allocator + Copy>(
+    alloc: A,
+    pes: u32,
+    n: u32,
+) -> Result<Vec<PeState<C, H, A>, A>, AllocError>
+    requires few_pes { pes ≤ Limits.PES }
+    requires run { pes ≡ H.pes }
+    requires array { n ≡ length H.opened }
+    requires few { n ≤ Limits.ELEMENTS }
+    ensures { IfOk result (λ made. made.items ≡ map (λ q. new_pe q n) (range_with_len 0 pes)) }
+{
+    let mut made = Vec::new(alloc);
+    for q in 0..pes {
+        let me = pe_at(q);
+        made.push(PeState::new(alloc, me, pes, n))?;
+    }
+    Ok(made)
+}
+
+// The PE with this number.
+fn pe_at(q: u32) -> Pe
+    requires { q < Limits.PES }
+    ensures value { result ≡ q }
+{
+    Pe::new(q).unwrap()
+}
+
+/// A queue for each PE.
+pub(crate) fn opening_queues<C: Chare<A>, H: Openings<C>, A: Allocator + Copy>(
+    alloc: A,
+    pes: u32,
+) -> Result<Vec<Queue<C, H, A>, A>, AllocError>
+    ensures { IfOk result (λ made. made.items ≡ replicate pes []) }
+{
+    let mut made = Vec::new(alloc);
+    for _q in 0..pes {
+        made.push(Queue::new(alloc))?;
+    }
+    Ok(made)
+}
+
+/// The word of each element: the PE on which it opens.
+#[tactic(auto, using(crate::proofs::Openings::home_below, crate::proofs::Openings::list_more))]
+pub(crate) fn opening_words<A: Allocator>(
+    alloc: A,
+    n: u32,
+    pes: u32,
+) -> Result<Vec<Pe, A>, AllocError>
+    requires few { n ≤ Limits.ELEMENTS }
+    requires some_pe { 1 ≤ pes }
+    requires few_pes { pes ≤ Limits.PES }
+    ensures value { IfOk result (λ words. words.items ≡ map (λ e. home e n pes) (range_with_len 0 n)) }
+    ensures named { IfOk result (λ words. All (λ q. q < pes) words.items) }
+{
+    let mut words = Vec::new(alloc);
+    for e in 0..n {
+        let index = Index::new(e).unwrap();
+        words.push(opening_pe(index, n, pes))?;
+    }
+    Ok(words)
+}
+
+/// Places each chare on the PE on which it opens.
+pub(crate) fn settle<C: Chare<A>, H: Openings<C>, A: Allocator + Copy>(
+    pes: &mut Vec<PeState<C, H, A>, A>,
+    n: u32,
+    chares: Vec<C, A>,
+) -> Result<(), AllocError>
+    requires few { n ≤ Limits.ELEMENTS }
+    requires array { n ≡ length H.opened }
+    requires opened { chares.items ≡ H.opened }
+    requires some_pe { 1 ≤ length pes.old.items }
+    requires few_pes { length pes.old.items ≤ Limits.PES }
+    requires histories { All (HasHistories C.step C.fits C.pack H.opened) pes.old.items }
+    requires empty { All (λ pe. All (λ k. k < 0) (keys_of pe.room)) pes.old.items }
+    ensures settled { OnOk result (pes.new.items ≡ settled n pes.old.items 0 chares.items) }
+    ensures counted { length pes.new.items ≡ length pes.old.items }
+    ensures histories { OnOk result (All (HasHistories C.step C.fits C.pack H.opened) pes.new.items) }
+{
+    let mut left = VecDeque::from_vec(chares);
+    let mut e = 0;
+    while let Some(chare) = take_next(&mut left) {
+        let index = index_at(e);
+        place_home(pes, n, index, chare)?;
+        e += 1;
+    }
+    Ok(())
+}
+
+// The element at this place.
+fn index_at(e: u32) -> Index
+    requires { e < Limits.ELEMENTS }
+    ensures value { result ≡ e }
+{
+    Index::new(e).unwrap()
+}
+
+// The first of what is left.
+fn take_next<C: Drop, A: Allocator>(left: &mut VecDeque<C, A>) -> Option<C>
+    ensures taken { MatchOption result ((left.old.items ≡ []) × (left.new.items ≡ [])) (λ chare. left.old.items ≡ chare ∷ left.new.items) }
+{
+    left.pop_front()
+}
+
+// Places a chare as an element of n, where only elements before it were placed.
+#[tactic(auto, using(crate::proofs::Openings::home_below, std::proofs::lemmas::Option::gets))]
+fn place_home<C: Chare<A>, H: Openings<C>, A: Allocator + Copy>(
+    pes: &mut Vec<PeState<C, H, A>, A>,
+    n: u32,
+    index: Index,
+    chare: C,
+) -> Result<(), AllocError>
+    requires few { n ≤ Limits.ELEMENTS }
+    requires element { index < n }
+    requires opens { slice_get H.opened index ≡ Some chare }
+    requires some_pe { 1 ≤ length pes.old.items }
+    requires few_pes { length pes.old.items ≤ Limits.PES }
+    requires histories { All (HasHistories C.step C.fits C.pack H.opened) pes.old.items }
+    requires before { All (λ pe. All (λ k. k < index) (keys_of pe.room)) pes.old.items }
+    ensures placed { OnOk result (pes.new.items ≡ placed_on pes.old.items (home index n (length pes.old.items)) index chare (slice_get pes.old.items (home index n (length pes.old.items)))) }
+    ensures counted { length pes.new.items ≡ length pes.old.items }
+    ensures histories { OnOk result (All (HasHistories C.step C.fits C.pack H.opened) pes.new.items) }
+    ensures before { OnOk result (All (λ pe. All (λ k. k < index + 1) (keys_of pe.room)) pes.new.items) }
+{
+    let home = opening_pe(index, n, pes.len() as u32);
+    let q = home.get() as usize;
+    pes[q].place(index, chare)
+}

@@ -1,0 +1,162 @@
+//! The world of a run.
+
+ghost use Rattle.std.specs.Prelude.{◌≡◌, ◌<◌, ◌≤◌, ℕ, List, [], length, OnOk, OnErr, IfOk, IfErr, IfSome, MatchOption, slice_get, All};
+ghost use Rattle.std.specs.Option.{option_copied};
+ghost use Rattle.lb_database.specs.Measuring.{elements};
+ghost use Rattle.pe_state.specs.Pes.{PeView};
+ghost use Rattle.rts_core.specs.Events.{Happens, MayDecide, or_nothing, enabled, desk};
+ghost use Rattle.rts_core.specs.Histories.{AreHistories};
+ghost use Rattle.rts_core.specs.Refusals.{RefusesAt, RefusesDecide, RefusesEvent};
+ghost use Rattle.rts_core.specs.Worlds.{IsWorld, opening_world};
+
+use crate::balancing::decide;
+use crate::event::Event;
+use crate::opening::{opening_pes, opening_queues, opening_words, settle};
+use crate::queue::Queue;
+use crate::reports::Reports;
+use crate::stepping::step_in;
+use at_sync::Board;
+use chare_index::{Index, Limits, Pe};
+use chares::{Chare, Openings};
+use pe_state::{PeState, StepError};
+use std::alloc::{AllocError, Allocator, Global};
+use std::marker::Model;
+
+/// The PEs of a run with a queue before each, the word of each element, and the board. A step that is refused leaves it
+/// as it was. Contracts see it as the record `WorldView`. Every element in it is what its journal says, wherever it is.
+#[derive(Drop)]
+pub struct World<C: Chare<A>, H: Openings<C>, A: Allocator = Global> {
+    pes: Vec<PeState<C, H, A>, A>,
+    queues: Vec<Queue<C, H, A>, A>,
+    // The PE on which each element is looked for.
+    words: Vec<Pe, A>,
+    board: Board<A>,
+    alloc: A,
+}
+
+impl<C: Chare<A>, H: Openings<C>, A: Allocator> Model for World<C, H, A> {
+    ghost use Rattle.std.specs.Prelude.{length};
+    ghost use Rattle.rts_core.specs.Worlds.{WorldView, IsWorld};
+    ghost use Rattle.rts_core.specs.Histories.{AreHistories};
+
+    ghost Value = { WorldView C A };
+
+    ghost view = { λ w. record { pes = w.pes.items; queues = w.queues.items; words = w.words.items; board = w.board } };
+
+    ghost invariant = { λ w.
+        IsWorld (length H.opened) H.pes (record { pes = w.pes.items; queues = w.queues.items; words = w.words.items; board = w.board })
+        × AreHistories C.step C.fits C.pack H.opened (record { pes = w.pes.items; queues = w.queues.items; words = w.words.items; board = w.board }) };
+}
+
+impl<C: Chare<A>, H: Openings<C>, A: Allocator + Copy> World<C, H, A> {
+    /// The opening of a run: element `i` of `n` stands, not started, on PE `i * pes / n`, rounded down, which is its
+    /// word, and all else is empty. There are 1 to 256 PEs and at most 65,536 chares, which are those that the run opens
+    /// with. Where no memory is left the chares are given up.
+    pub fn new(alloc: A, pes: u32, chares: Vec<C, A>) -> Result<Self, AllocError>
+        requires some_pe { 1 ≤ pes }
+        requires few_pes { pes ≤ Limits.PES }
+        requires few { length chares.items ≤ Limits.ELEMENTS }
+        requires run { pes ≡ H.pes }
+        requires opened { chares.items ≡ H.opened }
+        ensures made { IfOk result (λ world. world ≡ opening_world pes chares.items) }
+        ensures history { IfOk result (λ world. AreHistories C.step C.fits C.pack H.opened world) }
+    {
+        let n = chares.len() as u32;
+        let mut states = opening_pes(alloc, pes, n)?;
+        let queues = opening_queues(alloc, pes)?;
+        let words = opening_words(alloc, n, pes)?;
+        let board = Board::new(alloc, n, pes)?;
+        settle(&mut states, n, chares)?;
+        Ok(World {
+            pes: states,
+            queues,
+            words,
+            board,
+            alloc,
+        })
+    }
+
+    /// One event. It returns what is reported of it, in order. An event that is not enabled, or that names a PE or an
+    /// element that is not there, changes nothing and reports nothing.
+    ///
+    /// # Errors
+    ///
+    /// The world is as it was on any of them. [`Worn`](StepError::Worn) where the last round was to be decided;
+    /// otherwise [`OutOfMemory`](StepError::OutOfMemory), or what a handler answers.
+    pub fn step(&mut self, event: Event) -> Result<Reports<A>, StepError>
+        ensures ok { IfOk result (λ reports. Happens C.step C.pack C.unpack self.old event (self.new, reports)) }
+        ensures err { OnErr result (self.new ≡ self.old) }
+        ensures refused { IfErr result (RefusesEvent C.step C.pack C.refuses C.unpack self.old event) }
+        ensures history { AreHistories C.step C.fits C.pack H.opened self.new }
+    {
+        let Some(p) = event.pe() else {
+            return self.decide();
+        };
+        self.step_of(p, event)
+    }
+
+    // The step of a PE.
+    fn step_of(&mut self, p: Pe, event: Event) -> Result<Reports<A>, StepError>
+        ensures ok { IfOk result (λ reports. (self.new, reports) ≡ or_nothing self.old (enabled C.step C.pack C.unpack self.old event p)) }
+        ensures err { OnErr result (self.new ≡ self.old) }
+        ensures refused { IfErr result (λ error. MatchOption (slice_get self.old.pes p) ⊥ (λ pe. RefusesAt C.step C.pack C.refuses C.unpack event (desk self.old pe) error)) }
+        ensures history { AreHistories C.step C.fits C.pack H.opened self.new }
+    {
+        step_in(
+            self.alloc,
+            p,
+            event,
+            self.pes.as_mut_slice(),
+            self.queues.as_mut_slice(),
+            self.words.as_mut_slice(),
+            &mut self.board,
+        )
+    }
+
+    // The board decides its round.
+    fn decide(&mut self) -> Result<Reports<A>, StepError>
+        ensures ok { IfOk result (λ reports. MayDecide self.old.board self.new.board reports × (self.new ≡ record self.old { board = self.new.board })) }
+        ensures err { OnErr result (self.new ≡ self.old) }
+        ensures refused { IfErr result (RefusesDecide self.old.board.database) }
+        ensures history { AreHistories C.step C.fits C.pack H.opened self.new }
+    {
+        decide(self.alloc, &mut self.board)
+    }
+}
+
+impl<C: Chare<A>, H: Openings<C>, A: Allocator> World<C, H, A> {
+    /// How many PEs there are.
+    pub fn pes(&self) -> usize
+        ensures value { result ≡ length self.now.pes }
+    {
+        self.pes.len()
+    }
+
+    /// A PE, or `None` where there is no such PE.
+    pub fn pe(&self, p: Pe) -> Option<&PeState<C, H, A>>
+        ensures value { option_copied result ≡ slice_get self.now.pes p }
+    {
+        self.pes.get(p.get() as usize)
+    }
+
+    /// The parcels in the queue before a PE, the front first, or `None` where there is no such PE.
+    pub fn queue(&self, p: Pe) -> Option<&Queue<C, H, A>>
+        ensures value { option_copied result ≡ slice_get self.now.queues p }
+    {
+        self.queues.get(p.get() as usize)
+    }
+
+    /// The PE on which an element is looked for, or `None` where there is no such element.
+    pub fn word(&self, e: Index) -> Option<Pe>
+        ensures value { result ≡ slice_get self.now.words e }
+    {
+        self.words.get(e.get() as usize).copied()
+    }
+
+    /// The board.
+    pub fn board(&self) -> &Board<A>
+        ensures value { result.now ≡ self.now.board }
+    {
+        &self.board
+    }
+}

@@ -1,0 +1,62 @@
+//! What the tests are made of: numbers, chares and events. What can't be made ends the test.
+
+ghost use Rattle.std.specs.Prelude.{◌≡◌};
+
+use crate::courier::Courier;
+use crate::tally::Tally;
+use chare_index::{Index, Pe, Round};
+use pup_pack::{Bytes, Items};
+use std::alloc::{AllocError, Allocator};
+use std::process::Abort;
+
+pub fn pe(rt: &impl Abort, number: u32) -> Pe
+    ensures value { result ≡ number }
+{
+    Pe::new(number).expect(rt, "no such PE")
+}
+
+pub fn index(rt: &impl Abort, place: u32) -> Index
+    ensures value { result ≡ place }
+{
+    Index::new(place).expect(rt, "no such element")
+}
+
+pub fn round(rt: &impl Abort, number: u32) -> Round {
+    Round::new(number).expect(rt, "no such round")
+}
+
+fn bytes<A: Allocator>(alloc: A, len: usize) -> Result<Bytes<A>, AllocError> {
+    let mut zeros = Vec::new(alloc);
+    zeros.resize(len, 0)?;
+    Ok(Bytes::new(zeros))
+}
+
+/// A tally with these amounts, and so many bytes of padding.
+pub fn tally<A: Allocator + Copy>(
+    alloc: A,
+    amounts: &[u32],
+    pad: usize,
+) -> Result<Tally<A>, AllocError> {
+    let amounts = Items::new(Vec::from_slice(alloc, amounts)?);
+    Tally::new(amounts, bytes(alloc, pad)?).ok_or(AllocError)
+}
+
+/// A courier to this element, with a body of this length. It goes on where its send is refused if `goes_on` is 1.
+pub fn courier<A: Allocator>(
+    alloc: A,
+    to: u32,
+    goes_on: u32,
+    len: usize,
+) -> Result<Courier<A>, AllocError> {
+    Courier::new(to, goes_on, bytes(alloc, len)?).ok_or(AllocError)
+}
+
+/// The first three PEs.
+pub fn pes(rt: &impl Abort) -> (Pe, Pe, Pe) {
+    (pe(rt, 0), pe(rt, 1), pe(rt, 2))
+}
+
+/// The first three elements.
+pub fn elements(rt: &impl Abort) -> (Index, Index, Index) {
+    (index(rt, 0), index(rt, 1), index(rt, 2))
+}

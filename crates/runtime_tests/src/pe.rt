@@ -1,0 +1,268 @@
+//! Two PEs, call by call: a letter that comes before its element starts, one that is handed back, one that follows its
+//! element, and one that comes before it.
+
+ghost use Rattle.std.specs.Prelude.{◌≡◌, ◌∷◌, [], length, slice_get, Some};
+
+use crate::tally::Tally;
+use chare_index::{Index, NoGate, Pe, Round};
+use chares::{Mark, Note, Openings};
+use pe_state::{Acted, Parcel, PeState};
+use pup_pack::{Bytes, Items};
+use std::marker::Brand;
+use std::mem::size_of;
+use std::process::Abort;
+
+fn pe(rt: &impl Abort, number: u32) -> Pe
+    ensures { result ≡ number }
+{
+    Pe::new(number).expect(rt, "no such PE")
+}
+
+fn index(rt: &impl Abort, place: u32) -> Index
+    ensures { result ≡ place }
+{
+    Index::new(place).expect(rt, "no such element")
+}
+
+fn round(rt: &impl Abort, number: u32) -> Round {
+    Round::new(number).expect(rt, "no such round")
+}
+
+// A tally with these amounts, and no padding.
+fn tally(rt: &(impl Abort + AllocGlobal), amounts: &[u32]) -> Tally {
+    let amounts = Vec::from_slice(rt.alloc(), amounts).expect(rt, "out of memory");
+    let pad = Bytes::new(Vec::new(rt.alloc()));
+    Tally::new(Items::new(amounts), pad).expect(rt, "no tally")
+}
+
+// Resumes an element after a round, or starts it.
+fn resume<H: Openings<Tally>>(rt: &impl Abort, at: &mut PeState<Tally, H>, e: u32, number: u32) {
+    let (index, round) = (index(rt, e), round(rt, number));
+    assert!(rt; round.get() < 2);
+    assert!(rt; at.may_resume(index, round));
+    assert_eq!(rt; at.resume(&NoGate, index, round), Ok(()));
+    assert!(rt; !at.may_resume(index, round));
+}
+
+// Acts, and with no want of memory.
+fn act<H: Openings<Tally>>(rt: &impl Abort, at: &mut PeState<Tally, H>) -> Option<Acted> {
+    at.act(&NoGate).expect(rt, "refused")
+}
+
+// The element that is looked for is believed to be there.
+fn look<H: Openings<Tally>>(rt: &impl Abort, at: &mut PeState<Tally, H>, e: u32, believed: u32) {
+    let to = pe(rt, believed);
+    assert_eq!(rt; at.wants(), Some(index(rt, e)));
+    assert!(rt; at.wants().is_some());
+    assert!(rt; to.get() < at.pes());
+    at.look(to);
+}
+
+// Takes the front of one PE's outbox, which goes to the other one, into the hand of that.
+fn deliver<H: Openings<Tally>>(
+    rt: &impl Abort,
+    from: &mut PeState<Tally, H>,
+    to: &mut PeState<Tally, H>,
+) {
+    assert_eq!(rt; from.front_out(), Some(to.me()));
+    assert!(rt; from.front_out().is_some());
+    let parcel = from.sent();
+    assert!(rt; to.hand().is_none());
+    to.receive(parcel);
+    assert!(rt; to.hand().is_some());
+}
+
+// The same, where it goes to the PE itself.
+fn deliver_to_itself<H: Openings<Tally>>(rt: &impl Abort, at: &mut PeState<Tally, H>) {
+    assert_eq!(rt; at.front_out(), Some(at.me()));
+    assert!(rt; at.front_out().is_some());
+    let parcel = at.sent();
+    assert!(rt; at.hand().is_none());
+    at.receive(parcel);
+}
+
+// Lets an element go that waits for the end of its round.
+fn depart<H: Openings<Tally>>(rt: &impl Abort, at: &mut PeState<Tally, H>, e: u32, place: u32) {
+    let (index, to) = (index(rt, e), pe(rt, place));
+    assert!(rt; to.get() < at.pes());
+    assert!(rt; at.may_depart(index));
+    assert_eq!(rt; at.depart(index, to), Ok(()));
+    assert!(rt; !at.may_depart(index));
+}
+
+// Hands the first note in.
+fn hand_in<H: Openings<Tally>>(rt: &impl Abort, at: &mut PeState<Tally, H>) -> Note {
+    let note = at.next_note().expect(rt, "no note");
+    assert!(rt; at.next_note().is_some());
+    at.note_done();
+    note
+}
+
+// The front of the outbox is sent, and handed back.
+fn send_in_vain<H: Openings<Tally>>(rt: &impl Abort, at: &mut PeState<Tally, H>) {
+    let (address, waiting) = (at.front_out(), at.outbox().len());
+    assert!(rt; at.front_out().is_some());
+    let parcel = at.sent();
+    assert_eq!(rt; at.kept(), address);
+    assert_eq!(rt; at.outbox().len() + 1, waiting);
+    assert!(rt; at.kept().is_some());
+    at.hand_back(parcel);
+    assert_eq!(rt; at.kept(), None);
+    assert_eq!(rt; at.front_out(), address);
+    assert_eq!(rt; at.outbox().len(), waiting);
+}
+
+// A PE of two, with one tally.
+fn opened<H: Openings<Tally>>(
+    rt: &(impl Abort + AllocGlobal),
+    me: u32,
+    tally: Tally,
+) -> PeState<Tally, H>
+    requires pes { H.pes ≡ 2 }
+    requires two { length H.opened ≡ 2 }
+    requires opening { slice_get H.opened me ≡ Some tally }
+{
+    let number = pe(rt, me);
+    assert!(rt; me < 2);
+    let mut opened = PeState::new(rt.alloc(), number, 2, 2);
+    opened
+        .place(index(rt, me), tally)
+        .expect(rt, "out of memory");
+    assert_eq!(rt; (opened.room().len(), opened.count()), (1, 0));
+    assert_eq!(rt; act(rt, &mut opened), None);
+    opened
+}
+
+// Both elements start and send their first amounts to each other. Element 1 gets its letter before it starts; then it
+// waits for the end of round 1.
+fn both_started<H: Openings<Tally>>(
+    rt: &(impl Abort + AllocGlobal),
+    first: Tally,
+    second: Tally,
+) -> (PeState<Tally, H>, PeState<Tally, H>)
+    requires pes { H.pes ≡ 2 }
+    requires opening { H.opened ≡ first ∷ second ∷ [] }
+{
+    let mut low = opened::<H>(rt, 0, first);
+    let mut high = opened::<H>(rt, 1, second);
+    resume(rt, &mut low, 0, 0);
+    assert_eq!(rt; low.front_out(), None);
+    look(rt, &mut low, 1, 1);
+    send_in_vain(rt, &mut low);
+    deliver(rt, &mut low, &mut high);
+    assert_eq!(rt; act(rt, &mut high), None);
+    assert!(rt; high.hand().is_some());
+    resume(rt, &mut high, 1, 0);
+    assert_eq!(rt; act(rt, &mut high), Some(Acted::Executed));
+    assert!(rt; high.hand().is_none());
+    (low, high)
+}
+
+// Element 1 departs for PE 0, and its letter to element 0 before it arrives and ends the round of that one, which
+// sends its second amount to element 1.
+fn departed<H: Openings<Tally>>(
+    rt: &(impl Abort + AllocGlobal),
+    first: Tally,
+    second: Tally,
+) -> (PeState<Tally, H>, PeState<Tally, H>)
+    requires pes { H.pes ≡ 2 }
+    requires opening { H.opened ≡ first ∷ second ∷ [] }
+{
+    let (mut low, mut high) = both_started::<H>(rt, first, second);
+    depart(rt, &mut high, 1, 0);
+    assert!(rt; high.room().is_empty());
+    assert_eq!(rt; high.outbox().len(), 2);
+    look(rt, &mut high, 0, 0);
+    deliver(rt, &mut high, &mut low);
+    assert_eq!(rt; act(rt, &mut low), Some(Acted::Executed));
+    resume(rt, &mut low, 0, 1);
+    assert_eq!(rt; (low.count(), high.count()), (2, 1));
+    (low, high)
+}
+
+// Element 1 owes its note once it has started and executed its letter.
+fn starts<H: Openings<Tally>>(rt: &(impl Abort + AllocGlobal), first: Tally, second: Tally)
+    requires pes { H.pes ≡ 2 }
+    requires opening { H.opened ≡ first ∷ second ∷ [] }
+{
+    let (low, mut high) = both_started::<H>(rt, first, second);
+    assert_eq!(rt; (low.count(), high.count()), (1, 1));
+    let note = hand_in(rt, &mut high);
+    let owed = Note::Sync(index(rt, 1), round(rt, 1), 5, 32, pe(rt, 1));
+    assert_eq!(rt; note, owed);
+    assert!(rt; high.next_note().is_none());
+}
+
+#[test]
+fn a_letter_waits_for_its_element_to_start(rt: HostRuntime) {
+    let (first, second) = (tally(&rt, &[5, 6]), tally(&rt, &[7, 8]));
+    starts::<Brand>(&rt, first, second);
+}
+
+// The marks of element 1 after its move, and the sum that it took along.
+fn moved<H: Openings<Tally>>(rt: &impl Abort, at: &PeState<Tally, H>, sum: u64, entries: usize) {
+    let element = at.room().element(index(rt, 1)).expect(rt, "not here");
+    assert_eq!(rt; element.chare().sum(), sum);
+    assert_eq!(rt; element.journal().len(), entries);
+    let synced = Note::Sync(index(rt, 1), round(rt, 1), 5, 32, pe(rt, 1));
+    let marks = [Mark::Resumed(round(rt, 0), pe(rt, 1)), Mark::Synced(synced)];
+    assert_eq!(rt; element.marks(), marks.as_slice());
+}
+
+// The second letter to element 1 is forwarded behind it.
+fn follows<H: Openings<Tally>>(rt: &(impl Abort + AllocGlobal), first: Tally, second: Tally)
+    requires pes { H.pes ≡ 2 }
+    requires opening { H.opened ≡ first ∷ second ∷ [] }
+{
+    let (mut low, mut high) = departed::<H>(rt, first, second);
+    look(rt, &mut low, 1, 1);
+    deliver(rt, &mut low, &mut high);
+    assert_eq!(rt; act(rt, &mut high), None);
+    look(rt, &mut high, 1, 0);
+    assert_eq!(rt; act(rt, &mut high), Some(Acted::Forwarded));
+    deliver(rt, &mut high, &mut low);
+    assert_eq!(rt; act(rt, &mut low), Some(Acted::Installed));
+    moved(rt, &low, 5, 2);
+    deliver(rt, &mut high, &mut low);
+    assert_eq!(rt; act(rt, &mut low), Some(Acted::Executed));
+    moved(rt, &low, 11, 3);
+    assert_eq!(rt; low.room().len(), 2);
+}
+
+#[test]
+fn a_letter_follows_its_element(rt: HostRuntime) {
+    let (first, second) = (tally(&rt, &[5, 6]), tally(&rt, &[7, 8]));
+    follows::<Brand>(&rt, first, second);
+}
+
+// The second letter to element 1 is at its new place before it, and waits on the shelf.
+fn waits<H: Openings<Tally>>(rt: &(impl Abort + AllocGlobal), first: Tally, second: Tally)
+    requires pes { H.pes ≡ 2 }
+    requires opening { H.opened ≡ first ∷ second ∷ [] }
+{
+    let (mut low, mut high) = departed::<H>(rt, first, second);
+    look(rt, &mut low, 1, 0);
+    deliver_to_itself(rt, &mut low);
+    look(rt, &mut low, 1, 0);
+    assert_eq!(rt; act(rt, &mut low), Some(Acted::Shelved));
+    assert_eq!(rt; (low.shelf().len(), low.outbox().len()), (1, 0));
+    deliver(rt, &mut high, &mut low);
+    assert_eq!(rt; act(rt, &mut low), Some(Acted::Installed));
+    assert_eq!(rt; (low.shelf().len(), low.outbox().len()), (0, 1));
+    deliver_to_itself(rt, &mut low);
+    assert_eq!(rt; act(rt, &mut low), Some(Acted::Executed));
+    moved(rt, &low, 11, 3);
+    resume(rt, &mut low, 1, 1);
+    assert_eq!(rt; low.count(), 3);
+}
+
+#[test]
+fn a_letter_waits_for_its_element_to_arrive(rt: HostRuntime) {
+    let (first, second) = (tally(&rt, &[5, 6]), tally(&rt, &[7, 8]));
+    waits::<Brand>(&rt, first, second);
+}
+
+#[test]
+fn a_parcel_is_small(rt: HostRuntime) {
+    assert!(rt; size_of::<Parcel<Tally, Brand>>() <= 64);
+}

@@ -1,0 +1,196 @@
+//! The chare of the tests: it sends its amounts to its neighbor, one in each round, and adds up what comes.
+
+ghost use Rattle.std.specs.Prelude.{◌≡◌, ◌+◌, ◌<◌, ◌≤◌, length, slice_index, false, IfSome, IsNone, ◌↔◌};
+ghost use Rattle.std.specs.Int.{w32, to_be_bytes};
+ghost use Rattle.runtime_tests.specs.Tallies.{TallyView, amount_in, is_tally, of_parts};
+
+use chare_index::{Gate, Index, Round};
+use chares::{Chare, Effect, Here, SendError, Sends};
+use pup_pack::{Bytes, Fields, Items, Pup, PupError};
+use std::alloc::{Allocator, Global};
+use std::marker::Model;
+
+/// A chare that sends its amounts to its neighbor, one in each round, and adds up what comes. It has at most 1,000
+/// amounts and 65,536 bytes of padding.
+#[derive(Drop)]
+pub struct Tally<A: Allocator = Global> {
+    posted: u32,
+    got: u32,
+    sum: u64,
+    amounts: Items<u32, A>,
+    pad: Bytes<A>,
+}
+
+impl<A: Allocator> Model for Tally<A> {
+    ghost use Rattle.std.specs.Prelude.{◌≡◌, true};
+    ghost use Rattle.runtime_tests.specs.Tallies.{TallyView, is_tally};
+
+    ghost Value = { TallyView };
+
+    ghost view = { λ t. record { posted = t.posted; got = t.got; sum = t.sum; amounts = t.amounts; pad = t.pad } };
+
+    ghost invariant = { λ t. is_tally (record { posted = t.posted; got = t.got; sum = t.sum; amounts = t.amounts; pad = t.pad }) ≡ true };
+}
+
+/// The fields of a tally, as they are packed.
+type Parts<A> = (u32, (u32, (u64, (Items<u32, A>, Bytes<A>))));
+
+impl<A: Allocator> Tally<A> {
+    /// A tally that has posted and got nothing, or `None` past a limit.
+    pub fn new(amounts: Items<u32, A>, pad: Bytes<A>) -> Option<Self>
+        ensures value { IfSome result (λ t. t ≡ record { posted = 0; got = 0; sum = 0; amounts = amounts; pad = pad }) }
+    {
+        Tally::of_parts((0, (0, (0, (amounts, pad)))))
+    }
+
+    /// The sum of the amounts that it has got.
+    pub fn sum(&self) -> u64
+        ensures value { result ≡ self.now.sum }
+    {
+        self.sum
+    }
+
+    // The tally with these fields, or `None` past a limit.
+    fn of_parts(parts: Parts<A>) -> Option<Self>
+        ensures value { IfSome result (λ t. t ≡ of_parts parts) }
+        ensures refused { IsNone result ↔ (is_tally (of_parts parts) ≡ false) }
+    {
+        let (posted, (got, (sum, (amounts, pad)))) = parts;
+        if posted as usize > amounts.as_slice().len()
+            || amounts.as_slice().len() > 1_000
+            || pad.as_slice().len() > 65_536
+        {
+            return None;
+        }
+        Some(Tally {
+            posted,
+            got,
+            sum,
+            amounts,
+            pad,
+        })
+    }
+}
+
+// The amount in a body.
+fn amount_in(body: &[u8]) -> u32
+    ensures value { result ≡ amount_in body.now }
+{
+    if body.len() != 4 {
+        return 0;
+    }
+    u32::from_be_bytes([body[0], body[1], body[2], body[3]])
+}
+
+impl<A: Allocator + Copy> Pup<A> for Tally<A> {
+    ghost use Rattle.std.specs.Prelude.{◌≡◌, refl, true};
+    ghost use Rattle.pup_pack.specs.Structs.{made, judged};
+    ghost use Rattle.pup_pack.specs.Trips.{bytes_trips, judged_trips, list_trips, pair_trips, struct_trips, u32_trips, u64_trips};
+    ghost use Rattle.runtime_tests.specs.Tallies.{is_tally, of_parts, parts};
+
+    ghost fits = { λ t. ⟦<Parts<A> as Pup<A>>⟧.fits (parts t) × (is_tally t ≡ true) };
+
+    ghost counted = { λ t. ⟦<Parts<A> as Pup<A>>⟧.counted (parts t) };
+
+    ghost pack = { λ t. ⟦<Parts<A> as Pup<A>>⟧.pack (parts t) };
+
+    ghost unpack = { λ bytes. judged is_tally (made of_parts (⟦<Parts<A> as Pup<A>>⟧.unpack bytes)) };
+
+    ghost round_trip = { (judged_trips is_tally (struct_trips parts of_parts (λ _. refl) (pair_trips u32_trips (pair_trips u32_trips (pair_trips u64_trips (pair_trips (list_trips u32_trips) bytes_trips)))))).trip };
+
+    fn packed_len(&self) -> u32 {
+        (
+            &self.posted,
+            (&self.got, (&self.sum, (&self.amounts, &self.pad))),
+        )
+            .fields_len()
+    }
+
+    fn pack_into(&self, out: &mut Vec<u8, A>) -> Result<(), PupError> {
+        (
+            &self.posted,
+            (&self.got, (&self.sum, (&self.amounts, &self.pad))),
+        )
+            .pack_fields(out)
+    }
+
+    fn unpack(alloc: A, bytes: &[u8]) -> Result<(Tally<A>, usize), PupError> {
+        let (parts, len) = <Parts<A> as Pup<A>>::unpack(alloc, bytes)?;
+        let tally = Tally::of_parts(parts).ok_or(PupError::Bad)?;
+        Ok((tally, len))
+    }
+}
+
+impl<A: Allocator + Copy> Chare<A> for Tally<A> {
+    ghost use Rattle.runtime_tests.specs.Tallies.{TallyRefuses, tally_packs, tally_step};
+
+    ghost step = { tally_step };
+
+    ghost refuses = { TallyRefuses };
+
+    ghost packs = { λ t fit. tally_packs t fit.1 };
+
+    fn on_letter<G: Gate, P: Drop>(
+        &mut self,
+        _here: &Here<'_, G>,
+        body: &[u8],
+        _sends: &mut Sends<P, A>,
+    ) -> Result<Effect, SendError> {
+        let units = amount_in(body);
+        self.got = self.got.saturating_add(1);
+        self.sum = self.sum.saturating_add(u64::from(units));
+        Ok(Effect {
+            units,
+            at_sync: self.got == self.posted,
+            finished: false,
+        })
+    }
+
+    fn on_resume<G: Gate, P: Drop>(
+        &mut self,
+        here: &Here<'_, G>,
+        _round: Round,
+        sends: &mut Sends<P, A>,
+    ) -> Result<Effect, SendError> {
+        let Some(amount) = self.amounts.as_slice().get(self.posted as usize) else {
+            return Ok(Effect {
+                units: 0,
+                at_sync: false,
+                finished: true,
+            });
+        };
+        let neighbor = Index::new((here.me.get() + 1) % here.n).unwrap();
+        sends.put(neighbor, &amount.to_be_bytes())?;
+        self.posted += 1;
+        Ok(Effect {
+            units: 0,
+            at_sync: self.got >= self.posted,
+            finished: false,
+        })
+    }
+}
+
+// A tally with one of two amounts posted, one got, the sum 7, the amounts 5 and 6, and the padding 9.
+const PACKED: [u8; 33] = [
+    0, 0, 0, 1, 0, 0, 0, 1, 0, 0, 0, 0, 0, 0, 0, 7, 0, 0, 0, 2, 0, 0, 0, 5, 0, 0, 0, 6, 0, 0, 0, 1,
+    9,
+];
+
+#[test]
+fn a_tally_packs_and_unpacks(rt: HostRuntime) {
+    let (tally, len) = <Tally as Pup<Global>>::unpack(rt.alloc(), &PACKED).expect(&rt, "no tally");
+    assert_eq!(rt; (len, tally.packed_len(), tally.sum()), (33, 33, 7));
+    let mut out = Vec::new(rt.alloc());
+    assert_eq!(rt; tally.pack_into(&mut out), Ok(()));
+    assert_eq!(rt; out.as_slice(), PACKED.as_slice());
+}
+
+#[test]
+fn more_posted_than_there_are_is_no_tally(rt: HostRuntime) {
+    for (posted, want) in [(2, None), (3, Some(PupError::Bad))] {
+        let mut bytes = PACKED;
+        bytes[3] = posted;
+        let answer = <Tally as Pup<Global>>::unpack(rt.alloc(), &bytes);
+        assert_eq!(rt; answer.err(), want, "{posted} posted");
+    }
+}
