@@ -1,5 +1,4 @@
-use Rattle.std.proofs.Common.{◌≡◌, ℕ, List, ◌++◌, length, take, drop, arith}
-use Rattle.pe_state.specs.Pes.{PeView, Parcel}
+use Rattle.std.proofs.Common.{arith}
 use Rattle.rts_core.specs.Worlds.{WorldView}
 use Rattle.rts_core.proofs.WorldAccount.{sent_at, counted_at}
 use Rattle.rts_core.proofs.Worlds.{came_back, nothing_changed}
