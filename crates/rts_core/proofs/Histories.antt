@@ -1,8 +1,7 @@
 -- What a PE makes of the elements that it holds: each was what its journal says, and still is.
-use Rattle.std.proofs.Common.{◌≡◌, ℕ, ◌+◌, ◌≤◌, List, [], ◌∷◌, ◌++◌, length, map, drop, Bool, true, false, Option, Some, None, Result, Ok, Err, refl, sym, ap, subst, nat_eq, length-set}
+use Rattle.std.proofs.Common.{◌≡◌, ℕ, ◌+◌, ◌≤◌, List, [], ◌∷◌, ◌++◌, length, map, Bool, true, false, Option, Some, None, Result, Ok, Err, refl, sym, subst, nat_eq, length-set}
 use Rattle.std.specs.Prelude.{All, is_none, IfSome, OnErr, IfOk, if◌then◌else◌, slice_get, slice_set}
 use Rattle.std.specs.Option.{option_map, option_map_or, option_and_then, option_to_list}
-use Rattle.std.specs.List.{filter}
 use Rattle.std.specs.Map.{values_of}
 use Rattle.std.specs.Ordering.{nat_cmp}
 use Rattle.std.specs.BTreeMap.{is_at}
@@ -15,17 +14,16 @@ use Rattle.at_sync.specs.Boards.{BoardState, after_report, after_finish}
 use Rattle.lb_database.specs.Measuring.{elements}
 use Rattle.chares.specs.declared.note.Note.{Note}
 use Rattle.chares.specs.declared.note.Note.TheVariants.{Sync, Finish}
-use Rattle.chares.specs.declared.carried.Carried.{Carried}
 use Rattle.chares.specs.declared.carried.Carried.TheVariants.{Letter, Element}
 use Rattle.chares.specs.declared.entry.Entry.TheVariants.{Letter as OfLetter, Resumption}
 use Rattle.chares.specs.declared.report.Report.{Report}
-use Rattle.chares.specs.Elements.{ElementView, PackedView, packed, unpacked, opening_element, ran, IsHistory, IsPackedHistory}
+use Rattle.chares.specs.Elements.{ElementView, PackedView, packed, unpacked, ran, IsHistory, IsPackedHistory}
 use Rattle.chares.specs.Letters.{LetterView, Done}
-use Rattle.chares.specs.Posting.{Out, letters_of}
+use Rattle.chares.specs.Posting.{letters_of}
 use Rattle.chares.specs.Steps.{Step}
 use Rattle.chares.proofs.Histories.{history_ran, history_unpacked}
-use Rattle.pe_state.specs.Pes.{PeView, Parcel, Item, Acting, at_pe, letter_at, element_at, front_at, front_parcel, front_wants, front_address, wanted, hand_wants, looked, looked_in, received, gave_up, noted, placed, handled, resumed, executed, shelving, forwarding, passing, installed, installing, on_letter, on_element, on_parcel, acting_on, acting, departed, is_for}
-use Rattle.pe_state.specs.Rooms.{found, changed, joined, without, ran_in}
+use Rattle.pe_state.specs.Pes.{PeView, Parcel, Item, Acting, at_pe, letter_at, element_at, front_at, front_parcel, front_address, wanted, hand_wants, looked, looked_in, received, gave_up, noted, handled, resumed, executed, shelving, forwarding, passing, installed, installing, on_letter, on_element, on_parcel, acting_on, acting, departed}
+use Rattle.pe_state.specs.Rooms.{found, changed, ran_in}
 use Rattle.rts_core.specs.Events.{where_true, looked_up, flushed, delivered, delivered_from, handed_in, board_after, note_reports, started, left, went_on, acted, due, front_of}
 use Rattle.rts_core.specs.Histories.{IsParcelHistory, HasHistories}
 use Rattle.rts_core.specs.Parts.{or_same}

@@ -1,16 +1,12 @@
 -- What the board makes of a note.
-use Rattle.std.proofs.Common.{◌≡◌, ◌≢◌, ℕ, ◌+◌, ◌<◌, ◌≤◌, Some, None, true, false, Bool, not, ◌&&◌, ◌==◌, nat_lt, refl, arith}
-use Rattle.std.specs.Prelude.{is_none, IsSome, IsNone}
+use Rattle.std.proofs.Common.{◌≡◌, ℕ, ◌<◌, ◌≤◌, Some, None, arith}
 use Rattle.std.proofs.lemmas.Bool.Decides.{nat_tests}
-use Rattle.std.proofs.lemmas.Grind.{common_steps}
-use Rattle.chare_index.specs.declared.limits.TheConstants.Limits.{STATE_BYTES}
-use Rattle.chares.specs.declared.note.Note.{Note}
 use Rattle.chares.specs.declared.note.Note.TheVariants.{Sync, Finish}
 use Rattle.at_sync.specs.Boards.{BoardState, after_report, after_finish}
 use Rattle.at_sync.specs.Refusals.{RefusesFinish, database_error_of}
 use Rattle.at_sync.specs.declared.error.BoardError.{BoardError}
 use Rattle.at_sync.specs.declared.error.BoardError.TheVariants.{Stranger, WrongRound, Twice, TooLarge, Incomplete, OutOfMemory, Worn}
-use Rattle.lb_database.specs.Measuring.{elements, report_of}
+use Rattle.lb_database.specs.Measuring.{elements}
 use Rattle.lb_database.specs.Refusals.{IsReport, RefusesReport}
 use Rattle.rts_core.specs.Events.{board_after}
 

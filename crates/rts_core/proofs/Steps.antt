@@ -1,11 +1,9 @@
 -- Deliver at one of the queues.
-use Rattle.std.proofs.Common.{◌≡◌, ℕ, ◌<◌, List, [], ◌∷◌, ◌++◌, length, Option, Some, None, refl, sym, ap, subst, ◌∙◌}
-use Rattle.std.specs.Prelude.{All, IfSome, slice_get, slice_set}
+use Rattle.std.proofs.Common.{◌≡◌, ℕ, List, Option, Some, None, ap, ◌∙◌}
+use Rattle.std.specs.Prelude.{slice_get, slice_set}
 use Rattle.std.specs.Option.{option_and_then}
-use Rattle.chares.specs.declared.report.Report.{Report}
-use Rattle.at_sync.specs.Boards.{BoardState}
 use Rattle.pe_state.specs.Pes.{PeView, Parcel}
-use Rattle.rts_core.specs.Events.{Desk, delivered, delivered_from}
+use Rattle.rts_core.specs.Events.{delivered, delivered_from}
 use Rattle.rts_core.specs.Parts.{or_same}
 
 pub delivered_at : {C : Type 0} (pe pe' : PeView C) (queues : List (List Parcel)) (p : ℕ) (queue queue' : List Parcel)

@@ -1,6 +1,6 @@
 -- A world after the step of one of its PEs.
-use Rattle.std.proofs.Common.{◌≡◌, ℕ, ◌+◌, ◌<◌, List, [], ◌++◌, length, take, drop, Option, Some, None, Result, Ok, Err, refl, sym, ap, ◌∙◌, length-set}
-use Rattle.std.specs.Prelude.{All, IfOk, OnErr, slice_get, slice_set}
+use Rattle.std.proofs.Common.{◌≡◌, ℕ, ◌<◌, List, [], ◌++◌, length, take, drop, Option, Some, None, Result, Ok, Err, refl, sym, ap, ◌∙◌, length-set}
+use Rattle.std.specs.Prelude.{IfOk, OnErr, slice_get, slice_set}
 use Rattle.std.specs.Option.{option_and_then, option_copied}
 use denote.Ref.{Bor}
 use Rattle.std.specs.Slice.{IsItemAt}

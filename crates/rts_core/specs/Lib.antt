@@ -1,5 +1,9 @@
+pub mod Accounts
 pub mod Events
 pub mod Histories
+pub mod Ledgers
 pub mod Parts
+pub mod Places
 pub mod Refusals
+pub mod Runs
 pub mod Worlds

@@ -1,5 +1,5 @@
 -- When an event is refused, and why.
-use Rattle.std.specs.Prelude.{◌≡◌, ℕ, List, Option, IsSome, MatchOption, Result, slice_get}
+use Rattle.std.specs.Prelude.{◌≡◌, ℕ, List, IsSome, MatchOption, Result, slice_get}
 use Rattle.chare_index.specs.declared.limits.TheConstants.Limits.{ROUND}
 use Rattle.lb_database.specs.Measuring.{Measured, IsComplete}
 use Rattle.lb_database.specs.Refusals.{HasNextRound}

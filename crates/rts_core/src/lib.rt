@@ -3,6 +3,7 @@
 
 mod balancing;
 mod event;
+mod laws;
 mod opening;
 mod passing;
 mod queue;
@@ -12,6 +13,7 @@ mod working;
 mod world;
 
 pub use event::Event;
+pub use laws::account_laws;
 pub use pe_state::{Acted, Item, Parcel, PeState, Room, StepError};
 pub use queue::Queue;
 pub use reports::Reports;

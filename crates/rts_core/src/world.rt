@@ -1,10 +1,14 @@
 //! The world of a run.
 
-ghost use Rattle.std.specs.Prelude.{◌≡◌, ◌<◌, ◌≤◌, ℕ, List, [], length, OnOk, OnErr, IfOk, IfErr, IfSome, MatchOption, slice_get, All};
+ghost use Rattle.std.specs.Prelude.{◌++◌, ◌≡◌, ◌<◌, ◌≤◌, ℕ, List, [], length, OnOk, OnErr, IfOk, IfErr, IfSome, MatchOption, slice_get, All};
 ghost use Rattle.std.specs.Option.{option_copied};
 ghost use Rattle.lb_database.specs.Measuring.{elements};
 ghost use Rattle.pe_state.specs.Pes.{PeView};
 ghost use Rattle.rts_core.specs.Events.{Happens, MayDecide, or_nothing, enabled, desk};
+ghost use Rattle.chares.specs.declared.report.Report.{Report};
+ghost use Rattle.rts_core.specs.declared.event.Event.{Event};
+ghost use Rattle.rts_core.specs.Accounts.{Accounted, AreSent, IsCounted};
+ghost use Rattle.rts_core.specs.Runs.{Leads};
 ghost use Rattle.rts_core.specs.Histories.{AreHistories};
 ghost use Rattle.rts_core.specs.Refusals.{RefusesAt, RefusesDecide, RefusesEvent};
 ghost use Rattle.rts_core.specs.Worlds.{IsWorld, opening_world};
@@ -37,6 +41,7 @@ pub struct World<C: Chare<A>, H: Openings<C>, A: Allocator = Global> {
 impl<C: Chare<A>, H: Openings<C>, A: Allocator> Model for World<C, H, A> {
     ghost use Rattle.std.specs.Prelude.{length};
     ghost use Rattle.rts_core.specs.Worlds.{WorldView, IsWorld};
+    ghost use Rattle.rts_core.specs.Accounts.{AreSent, IsCounted};
     ghost use Rattle.rts_core.specs.Histories.{AreHistories};
 
     ghost Value = { WorldView C A };
@@ -45,7 +50,9 @@ impl<C: Chare<A>, H: Openings<C>, A: Allocator> Model for World<C, H, A> {
 
     ghost invariant = { λ w.
         IsWorld (length H.opened) H.pes (record { pes = w.pes.items; queues = w.queues.items; words = w.words.items; board = w.board })
-        × AreHistories C.step C.fits C.pack H.opened (record { pes = w.pes.items; queues = w.queues.items; words = w.words.items; board = w.board }) };
+        × AreHistories C.step C.fits C.pack H.opened (record { pes = w.pes.items; queues = w.queues.items; words = w.words.items; board = w.board })
+        × AreSent C.step H.opened (record { pes = w.pes.items; queues = w.queues.items; words = w.words.items; board = w.board })
+        × IsCounted (record { pes = w.pes.items; queues = w.queues.items; words = w.words.items; board = w.board }) };
 }
 
 impl<C: Chare<A>, H: Openings<C>, A: Allocator + Copy> World<C, H, A> {
@@ -88,6 +95,9 @@ impl<C: Chare<A>, H: Openings<C>, A: Allocator + Copy> World<C, H, A> {
         ensures err { OnErr result (self.new ≡ self.old) }
         ensures refused { IfErr result (RefusesEvent C.step C.pack C.refuses C.unpack self.old event) }
         ensures history { AreHistories C.step C.fits C.pack H.opened self.new }
+        ensures sent { AreSent C.step H.opened self.new }
+        ensures counted { IsCounted self.new }
+        ensures account { IfOk result (λ reports. (events : List Event) (trace : List Report) → Leads C.step C.pack C.unpack (opening_world H.pes H.opened) events (self.old, trace) → Accounted (length H.opened) self.new (trace ++ reports)) }
     {
         let Some(p) = event.pe() else {
             return self.decide();
@@ -101,6 +111,9 @@ impl<C: Chare<A>, H: Openings<C>, A: Allocator + Copy> World<C, H, A> {
         ensures err { OnErr result (self.new ≡ self.old) }
         ensures refused { IfErr result (λ error. MatchOption (slice_get self.old.pes p) ⊥ (λ pe. RefusesAt C.step C.pack C.refuses C.unpack event (desk self.old pe) error)) }
         ensures history { AreHistories C.step C.fits C.pack H.opened self.new }
+        ensures sent { AreSent C.step H.opened self.new }
+        ensures counted { IsCounted self.new }
+        ensures some_pe { 1 ≤ H.pes }
     {
         step_in(
             self.alloc,
@@ -119,6 +132,9 @@ impl<C: Chare<A>, H: Openings<C>, A: Allocator + Copy> World<C, H, A> {
         ensures err { OnErr result (self.new ≡ self.old) }
         ensures refused { IfErr result (RefusesDecide self.old.board.database) }
         ensures history { AreHistories C.step C.fits C.pack H.opened self.new }
+        ensures sent { AreSent C.step H.opened self.new }
+        ensures counted { IsCounted self.new }
+        ensures some_pe { 1 ≤ H.pes }
     {
         decide(self.alloc, &mut self.board)
     }

@@ -223,28 +223,26 @@ fn a_letter_that_follows_its_element(rt: HostRuntime) {
 }
 
 // The first script over an allocator that refuses one request. Returns whether a call was refused.
-fn refused_once<'a, H: Openings<Tally<&'a Refusing<Global>>>>(
+fn refused_once<H: Openings<Tally<A>>, A: Allocator + Copy>(
     rt: &impl Abort,
-    alloc: &'a Refusing<Global>,
-    chares: Vec<Tally<&'a Refusing<Global>>, &'a Refusing<Global>>,
+    alloc: A,
+    chares: Vec<Tally<A>, A>,
 ) -> bool
     requires run { H.pes ≡ 3 }
     requires opened { chares.items ≡ H.opened }
 {
-    let Ok(mut world) = opened::<Tally<&Refusing<Global>>, H, &Refusing<Global>>(
-        rt, alloc, 3, chares,
-    ) else {
+    let Ok(mut world) = opened::<Tally<A>, H, A>(rt, alloc, 3, chares) else {
         return true;
     };
     open(rt, &mut world) | come_before(rt, &mut world)
 }
 
 // The same, where the chares are made of that memory too.
-fn script(rt: &impl Abort, alloc: &Refusing<Global>) -> bool {
+fn script<A: Allocator + Copy>(rt: &impl Abort, alloc: A) -> bool {
     let Ok(chares) = three_tallies(alloc) else {
         return true;
     };
-    refused_once::<Brand>(rt, alloc, chares)
+    refused_once::<Brand, A>(rt, alloc, chares)
 }
 
 #[test]

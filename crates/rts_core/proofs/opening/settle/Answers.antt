@@ -1,7 +1,5 @@
 use Rattle.std.proofs.Common.{◌≡◌, ℕ, ◌+◌, ◌∷◌, length, sym, subst, ap, ◌∙◌, arith}
-use Rattle.std.specs.Prelude.{All, slice_get}
-use Rattle.std.proofs.Common.{Some}
-use Rattle.rts_core.specs.Worlds.{settled}
+use Rattle.std.specs.Prelude.{All}
 use Rattle.rts_core.proofs.Openings.{KeysBelow, drop_next, settle_step}
 use Rattle.rts_core.proofs.opening.settle.Goals as goal
 

@@ -1,4 +1,4 @@
-use Rattle.std.proofs.Common.{◌≡◌, ◌+◌, ◌≤◌, drop, length}
+use Rattle.std.proofs.Common.{◌≡◌, ◌+◌, drop, length}
 use Rattle.std.specs.Prelude.{All}
 use Rattle.rts_core.specs.Histories.{HasHistories}
 use Rattle.rts_core.specs.Worlds.{settled}

@@ -1,6 +1,6 @@
 use Rattle.std.proofs.Common.{sym, subst, ◌∙◌}
 use Rattle.pe_state.specs.Pes.{PeView}
-use Rattle.rts_core.specs.Events.{started, looked_up, flushed, delivered_from, acted, left, went_on}
+use Rattle.rts_core.specs.Events.{started, flushed, delivered_from, acted, left, went_on}
 use Rattle.rts_core.specs.Histories.{HasHistories}
 use Rattle.rts_core.proofs.Histories.{started_holds, looked_holds, flushed_holds, delivered_from_holds, acted_holds, left_holds, went_on_holds, pe_kept, words_kept, queues_kept, board_kept}
 use Rattle.rts_core.proofs.stepping.step_at.Goals as goal

@@ -1,0 +1,25 @@
+//! Laws of all runs.
+
+ghost use Rattle.std.specs.Prelude.{ℕ, ◌≤◌, List, length};
+ghost use Rattle.rts_core.specs.declared.event.Event.{Event};
+ghost use Rattle.rts_core.specs.Accounts.{Accounted, AreSent, IsCounted};
+ghost use Rattle.rts_core.specs.Events.{After, Happens};
+ghost use Rattle.rts_core.specs.Histories.{AreHistories};
+ghost use Rattle.rts_core.specs.Runs.{Leads};
+ghost use Rattle.rts_core.specs.Worlds.{WorldView, opening_world};
+
+use chares::Chare;
+use std::alloc::Allocator;
+
+/// The account of every list of events. The function does nothing: its clauses are the laws, of whatever chares and
+/// however many PEs, in any order of events, with stale looks and events that are not enabled among them. Each letter
+/// that was posted lies in exactly one place or was executed once, by the element that it was posted to, and each
+/// element is in exactly one place; as many letters were posted as are held and were executed. What the elements have
+/// sent is in places or in journals, with its target and its body, as a world opens, and after an event where it was
+/// so before.
+pub fn account_laws<C: Chare<A>, A: Allocator>()
+    ensures account { (pes : ℕ) (chares : List C) (events : List Event) (last : After C A) → 1 ≤ pes → Leads C.step C.pack C.unpack (opening_world pes chares) events last → Accounted (length chares) last.0 last.1 }
+    ensures counted { (pes : ℕ) (chares : List C) (events : List Event) (last : After C A) → 1 ≤ pes → Leads C.step C.pack C.unpack (opening_world pes chares) events last → IsCounted last.0 }
+    ensures opening_sent { (pes : ℕ) (chares : List C) → 1 ≤ pes → AreSent {A = A} C.step chares (opening_world pes chares) }
+    ensures still_sent { (opened : List C) (w : WorldView C A) (event : Event) (next : After C A) → AreHistories C.step C.fits C.pack opened w → AreSent C.step opened w → Happens C.step C.pack C.unpack w event next → AreSent C.step opened next.0 }
+{}
