@@ -1,5 +1,5 @@
 -- There is one chosen division.
-use Rattle.std.proofs.Common.{◌≡◌, ◌≢◌, ℕ, suc, zero, ◌+◌, ◌<◌, ◌≤◌, List, length, slice_index, arith, add-one, ap, subst, sym, ◌∙◌}
+use Rattle.std.proofs.Common.{◌≡◌, ◌≢◌, ℕ, suc, zero, ◌+◌, ◌≤◌, List, slice_index, arith, add-one, subst, sym, ◌∙◌}
 use Rattle.std.proofs.lemmas.Grind.{same_number_lists}
 use Rattle.lb_certificates.specs.Chain.{IsLeastPeak}
 use Rattle.lb_certificates.specs.Certificate.{MatchFloor}

@@ -1,5 +1,5 @@
 -- What is taken back of a refused handler.
-use Rattle.std.proofs.Common.{◌≡◌, ℕ, List, ◌++◌, length, take, Bool, true, false, append_assoc}
+use Rattle.std.proofs.Common.{◌≡◌, List, ◌++◌, length, take, Bool, true, false, append_assoc}
 use Rattle.std.proofs.Math.Seq.{take-append_seam, take-length}
 use Rattle.chares.specs.Posting.{reported}
 use Rattle.chares.specs.declared.report.Report.{Report}

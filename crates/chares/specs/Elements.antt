@@ -1,11 +1,10 @@
 -- An element of the chare array: a chare with what it has done.
-use Rattle.std.specs.Prelude.{◌≡◌, ℕ, List, [], ◌∷◌, ◌++◌, length, map, Option, Some, Bool, false, slice_get}
-use Rattle.chares.specs.declared.entry.Entry.{Entry}
+use Rattle.std.specs.Prelude.{◌≡◌, ℕ, List, [], ◌∷◌, ◌++◌, length, map, Option, Some, false, slice_get}
 use Rattle.chares.specs.declared.note.Mark.{Mark}
 use Rattle.chares.specs.declared.note.Note.{Note}
 use Rattle.chares.specs.declared.progress.Ending.{Ending}
 use Rattle.chares.specs.declared.progress.Progress.{Progress}
-use Rattle.chares.specs.Letters.{LetterView, Done, told_of}
+use Rattle.chares.specs.Letters.{Done, told_of}
 use Rattle.chares.specs.Progressing.{entered, charged, ending, ended, note_at, resumed_mark, synced_mark}
 use Rattle.chares.specs.Steps.{Outcome, Step}
 

@@ -1,5 +1,5 @@
 -- Letters, entries of a journal, and what is carried, as contracts see them.
-use Rattle.std.specs.Prelude.{◌≡◌, ℕ, ◌+◌, ◌<◌, ◌≤◌, min, List, length, Option}
+use Rattle.std.specs.Prelude.{ℕ, ◌+◌, min, List}
 use Rattle.chares.specs.declared.entry.Entry.{Entry}
 use Rattle.chares.specs.declared.entry.Entry.TheVariants.{Letter, Resumption}
 

@@ -1,5 +1,5 @@
 -- What a PE has posted and not yet put into a queue, and how a handler adds to it.
-use Rattle.std.specs.Prelude.{◌≡◌, ℕ, ◌+◌, ◌<◌, ◌≤◌, List, [], ◌∷◌, ◌++◌, length, Option, None, Some, Bool, true, false, if◌then◌else◌}
+use Rattle.std.specs.Prelude.{◌≡◌, ℕ, ◌+◌, ◌<◌, ◌≤◌, List, [], ◌∷◌, ◌++◌, length, None, Bool, if◌then◌else◌}
 use Rattle.chare_index.specs.declared.limits.TheConstants.Limits.{BODY_BYTES, LETTERS}
 use Rattle.chares.specs.declared.carried.Addressed.{Addressed}
 use Rattle.chares.specs.declared.carried.Carried.{Carried}

@@ -1,5 +1,5 @@
 -- There is one least naming.
-use Rattle.std.proofs.Common.{◌≡◌, ℕ, ◌<◌, ◌≤◌, inl, inr, List, slice_index, arith, ap, sym}
+use Rattle.std.proofs.Common.{◌≡◌, ℕ, inl, inr, List, slice_index, arith, ap, sym}
 use Rattle.std.proofs.lemmas.Bool.{cases_eq, cases_lt}
 use Rattle.lb_certificates.specs.Naming.{ComesBefore, IsFirstCheapest, IsNaming}
 

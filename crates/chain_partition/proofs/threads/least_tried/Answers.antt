@@ -1,5 +1,4 @@
-use Rattle.std.proofs.Common.{◌≡◌, ◌<◌, ℕ, arith, subst}
-use Rattle.chain_partition.specs.Greedy.{CanFit}
+use Rattle.std.proofs.Common.{◌≡◌, arith, subst}
 use Rattle.chain_partition.specs.Search.{StopBelow}
 use Rattle.chain_partition.specs.Sums.{loads_of}
 use Rattle.chain_partition.proofs.Bottlenecks.{bounds_ordered, least_from_bounds}

@@ -1,4 +1,4 @@
-use Rattle.std.proofs.Common.{◌≡◌, ◌-◌, length}
+use Rattle.std.proofs.Common.{◌-◌}
 use Rattle.chain_partition.specs.Search.{Enclose}
 use Rattle.chain_partition.specs.Sums.{loads_of}
 use Rattle.chain_partition.proofs.threads.least_tried.Given as goal

@@ -1,5 +1,5 @@
-use Rattle.std.proofs.Common.{◌≡◌, ◌≤◌, ◌<◌, ◌-◌, min, max, arith, rules, subst}
-use Rattle.chain_partition.specs.Search.{Enclose, WasTried}
+use Rattle.std.proofs.Common.{◌≡◌, min, max, arith, rules, subst}
+use Rattle.chain_partition.specs.Search.{WasTried}
 use Rattle.chain_partition.specs.Sums.{loads_of}
 use Rattle.chain_partition.specs.declared.search.Bound.TheVariants.{Fits, Stops}
 use Rattle.chain_partition.proofs.Bottlenecks.{narrowed_above, narrowed_below, lesser_fits, greater_stops}

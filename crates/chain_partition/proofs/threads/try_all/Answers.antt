@@ -1,4 +1,4 @@
-use Rattle.std.proofs.Common.{◌<◌, ◌≤◌, length, subst}
+use Rattle.std.proofs.Common.{subst}
 use Rattle.chain_partition.specs.Search.{WasTried}
 use Rattle.chain_partition.specs.Sums.{loads_of}
 use Rattle.chain_partition.proofs.threads.try_all.Goals as goal

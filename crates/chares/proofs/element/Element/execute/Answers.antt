@@ -1,6 +1,6 @@
-use Rattle.std.proofs.Common.{rules, arith, ◌<◌}
+use Rattle.std.proofs.Common.{rules, ◌<◌}
 use Rattle.chare_index.specs.declared.limits.TheConstants.Limits.{ROUND}
-use Rattle.chares.specs.declared.entry.Entry.TheVariants.{Letter, Resumption}
+use Rattle.chares.specs.declared.entry.Entry.TheVariants.{Letter}
 use Rattle.chares.proofs.Histories.{history_more, ended_before}
 use Rattle.chares.proofs.element.Element.execute.Goals as goal
 

@@ -1,7 +1,7 @@
 use Rattle.std.proofs.Common.{rules, arith, ◌<◌, append_assoc}
 use Rattle.std.proofs.lemmas.Grind.{common_steps}
 use Rattle.chare_index.specs.declared.limits.TheConstants.Limits.{ROUND}
-use Rattle.chares.specs.declared.entry.Entry.TheVariants.{Letter, Resumption}
+use Rattle.chares.specs.declared.entry.Entry.TheVariants.{Resumption}
 use Rattle.chares.proofs.Histories.{history_more, ended_before}
 use Rattle.chares.proofs.element.Element.resume.Goals as goal
 
