@@ -44,7 +44,7 @@ fn resume<H: Openings<Tally>>(rt: &impl Abort, at: &mut PeState<Tally, H>, e: u3
     assert!(rt; !at.may_resume(index, round));
 }
 
-// Acts, and with no want of memory.
+// Acts, with enough memory.
 fn act<H: Openings<Tally>>(rt: &impl Abort, at: &mut PeState<Tally, H>) -> Option<Acted> {
     at.act(&NoGate).expect(rt, "refused")
 }
