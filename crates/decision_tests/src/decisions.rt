@@ -2,9 +2,7 @@
 
 ghost use Rattle.std.specs.Prelude.{◌≤◌};
 
-use crate::fixtures::{
-    DIVISION, MOVING, NAMING, decision, index, moves, naming, pe, prices, snapshot,
-};
+use crate::fixtures::{DIVISION, MOVING, NAMING, decision, index, moves, naming, pe, snapshot};
 use block_assignment::NameError;
 use chare_index::{Index, Pe};
 use lb_certificates::{Flaw, Floor, Loads, Sizes, Snapshot};

@@ -3,30 +3,15 @@
 
 ghost use Rattle.std.specs.Prelude.{◌≡◌, ◌∷◌, [], length, slice_get, Some};
 
+use crate::fixtures::{index, pe, round};
 use crate::tally::Tally;
-use chare_index::{Index, NoGate, Pe, Round};
+use chare_index::NoGate;
 use chares::{Mark, Note, Openings};
 use pe_state::{Acted, Parcel, PeState};
 use pup_pack::{Bytes, Items};
 use std::marker::Brand;
 use std::mem::size_of;
 use std::process::Abort;
-
-fn pe(rt: &impl Abort, number: u32) -> Pe
-    ensures { result ≡ number }
-{
-    Pe::new(number).expect(rt, "no such PE")
-}
-
-fn index(rt: &impl Abort, place: u32) -> Index
-    ensures { result ≡ place }
-{
-    Index::new(place).expect(rt, "no such element")
-}
-
-fn round(rt: &impl Abort, number: u32) -> Round {
-    Round::new(number).expect(rt, "no such round")
-}
 
 // A tally with these amounts, and no padding.
 fn tally(rt: &(impl Abort + AllocGlobal), amounts: &[u32]) -> Tally {
