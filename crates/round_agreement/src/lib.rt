@@ -1,0 +1,2 @@
+//! How the reports on the board agree with the marks of the elements, in every world that a list of events leads to.
+#![tactic(auto)]
