@@ -33,6 +33,14 @@ pub if_some : {X : Type 0} (P : X → Type 0) (o : Option X) (x : X) → IfSome 
 if_some P None x h e = cc
 if_some P (Some y) x h e = subst P (some_is y x e) h
 
+front_agrees : (m : Measured) (outbox : List Item) → All (ItemAgrees m) outbox → IfSome (front_parcel outbox) (AgreesOn m)
+front_agrees m [] h = tt
+front_agrees m (x ∷ xs) h = All-head (ItemAgrees m) x xs h
+
+unshelved_agree : (m : Measured) (q : ℕ) (letters : List LetterView) → All (ItemAgrees m) (map (letter_at q) letters)
+unshelved_agree m q [] = All-nil (ItemAgrees m)
+unshelved_agree m q (l ∷ letters) = All-cons (ItemAgrees m) (letter_at q l) (map (letter_at q) letters) tt (unshelved_agree m q letters)
+
 module _ {C : Type 0} (m : Measured) where
   -- Look
   looked_in_agrees : (pe : PeView C) (q : ℕ) (o : Option ℕ) → AgreesAt m pe → AgreesAt m (looked_in pe q o)
@@ -61,10 +69,6 @@ module _ {C : Type 0} (m : Measured) where
   gave_up_agrees pe h =
       record { keyed = h.keyed; room = h.room; notes = h.notes; once = h.once; hand = h.hand; outbox = All-drop (ItemAgrees m) 1 pe.outbox h.outbox }
 
-  front_agrees : (outbox : List Item) → All (ItemAgrees m) outbox → IfSome (front_parcel outbox) (AgreesOn m)
-  front_agrees [] h = tt
-  front_agrees (x ∷ xs) h = All-head (ItemAgrees m) x xs h
-
   pub flushed_agrees : (pe : PeView C) (queues : List (List Parcel)) (a : PeView C × List (List Parcel)) → AgreesAt m pe → All (All (AgreesOn m)) queues → flushed pe queues ≡ Some a → AgreesAt m a.0 × All (All (AgreesOn m)) a.1
   flushed_agrees pe queues a h k s =
       option_and_then_some (λ q. option_and_then (λ parcel. option_and_then (λ queue. Some (gave_up pe, slice_set queues q (queue ++ parcel ∷ []))) (slice_get queues q)) (front_parcel pe.outbox)) (front_address pe.outbox) a s
@@ -76,7 +80,7 @@ module _ {C : Type 0} (m : Measured) where
       subst (λ (v : PeView C × List (List Parcel)). AgreesAt m v.0 × All (All (AgreesOn m)) v.1) (some_is (gave_up pe, slice_set queues q (queue ++ parcel ∷ [])) a u) (
         gave_up_agrees pe h,
         All-set (All (AgreesOn m)) queues q (queue ++ parcel ∷ [])
-            (All-push (AgreesOn m) queue parcel (if_some (All (AgreesOn m)) (slice_get queues q) queue (one_of_all (All (AgreesOn m)) queues q k) at) (if_some (AgreesOn m) (front_parcel pe.outbox) parcel (front_agrees pe.outbox h.outbox) front)) k,
+            (All-push (AgreesOn m) queue parcel (if_some (All (AgreesOn m)) (slice_get queues q) queue (one_of_all (All (AgreesOn m)) queues q k) at) (if_some (AgreesOn m) (front_parcel pe.outbox) parcel (front_agrees m pe.outbox h.outbox) front)) k,
       ))))
 
   -- Deliver
@@ -103,10 +107,6 @@ module _ {C : Type 0} (m : Measured) where
       (both.0, All-set (All (AgreesOn m)) queues p after.1 both.1 k)))
 
   -- Act, on an element that arrives
-  unshelved_agree : (q : ℕ) (letters : List LetterView) → All (ItemAgrees m) (map (letter_at q) letters)
-  unshelved_agree q [] = All-nil (ItemAgrees m)
-  unshelved_agree q (l ∷ letters) = All-cons (ItemAgrees m) (letter_at q l) (map (letter_at q) letters) tt (unshelved_agree q letters)
-
   -- one that is found is not the one that has just come
   still_owed_joined : (me : ℕ) (room : List (ℕ × ElementView C)) (e : ℕ) (x : ElementView C) → found e room ≡ None → (y : Note) → IsOwed m me room y → IsOwed m me (joined e x room) y
   still_owed_joined me room e x none y k f = by (k f).0 (k f).1 (k f).2 (nat_eq (k f).0.index e) refl
@@ -128,7 +128,7 @@ module _ {C : Type 0} (m : Measured) where
         notes = All-weaker (IsOwed m pe.me pe.room) (IsOwed m pe.me (joined p.index (unpacked p chare) pe.room)) (still_owed_joined pe.me pe.room p.index (unpacked p chare) none) pe.notes h.notes;
         once = h.once;
         hand = tt;
-        outbox = All-append (ItemAgrees m) pe.outbox _ h.outbox (unshelved_agree pe.me _);
+        outbox = All-append (ItemAgrees m) pe.outbox _ h.outbox (unshelved_agree m pe.me _);
       }
 
   -- Act, on a letter whose element is not here
