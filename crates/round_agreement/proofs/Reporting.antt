@@ -160,7 +160,7 @@ module _ (m : Measured) (i units bytes q : ℕ) where
   else_parcel (Letter l) h z = tt
   else_parcel (Element p) h z = (let k = h.0 in let c = told_counts in omega (arith, k, c), h.1, else_waits p.index p.progress (not_at i p.index z) h.2)
 
-  else_hand : (o : Option Item) → IfSome o (ItemAgrees m) → of_hand no_letter (by_index (one_at i)) o ≡ 0 → IfSome o (ItemAgrees next)
+  pub else_hand : (o : Option Item) → IfSome o (ItemAgrees m) → of_hand no_letter (by_index (one_at i)) o ≡ 0 → IfSome o (ItemAgrees next)
   else_hand None h z = tt
   else_hand (Some x) h z = else_parcel x.parcel h z
 
