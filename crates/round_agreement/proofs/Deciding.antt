@@ -1,6 +1,6 @@
 -- What a decision changes: all elements have reported, and then each waits for its place.
-use Rattle.std.proofs.Common.{◌≡◌, ℕ, zero, suc, ◌+◌, ◌<◌, ◌≤◌, List, [], ◌∷◌, ◌++◌, length, replicate, get_or, Option, Some, None, arith, refl, sym, ◌∙◌, ap, subst, inl, inr, length-append}
-use Rattle.std.specs.Prelude.{All, IfSome, IsSome, slice_get}
+use Rattle.std.proofs.Common.{◌≡◌, ℕ, zero, suc, ◌+◌, ◌<◌, List, [], ◌∷◌, length, replicate, get_or, Option, Some, None, arith, refl, sym, ◌∙◌, ap, subst, inl, inr, length-append}
+use Rattle.std.specs.Prelude.{All, IfSome, IsSome}
 use Rattle.std.specs.Map.{values_of}
 use Rattle.std.proofs.lemmas.List.{length-replicate, get_or-replicate}
 use Rattle.std.proofs.lemmas.List.Elements.{All-weaker}
@@ -12,9 +12,9 @@ use Rattle.chares.specs.declared.note.Note.{Note}
 use Rattle.chares.specs.declared.report.Report.{Report}
 use Rattle.chares.specs.Elements.{ElementView}
 use Rattle.pe_state.specs.Pes.{PeView, Parcel, Item}
-use Rattle.rts_core.specs.Events.{IsDecision, IsTooEarly, MayDecide}
+use Rattle.rts_core.specs.Events.{MayDecide}
 use Rattle.rts_core.specs.Worlds.{WorldView}
-use Rattle.round_agreement.specs.Agreement.{IsAtWork, Owes, OwesItsNote, HasReported, WaitsForPlace, IsSomehow, AgreesWith, AgreesOn, IsOwed, AgreesAt, IsOpenFor, Agrees}
+use Rattle.round_agreement.specs.Agreement.{HasReported, IsSomehow, AgreesWith, AgreesOn, IsOwed, AgreesAt, IsOpenFor, Agrees}
 use Rattle.round_agreement.proofs.Rooms.{of_found}
 use Rattle.round_agreement.proofs.Handlers.{ItemAgrees}
 

@@ -1,6 +1,6 @@
 -- A world and its board agree after every event, and after every list of events.
-use Rattle.std.proofs.Common.{◌≡◌, ℕ, ◌+◌, ◌<◌, ◌≤◌, List, [], ◌∷◌, ◌++◌, length, Option, Some, None, Result, sum_by, arith, refl, sym, ◌∙◌, subst}
-use Rattle.std.specs.Prelude.{All, slice_get, slice_set, MatchOption}
+use Rattle.std.proofs.Common.{◌≡◌, ℕ, ◌≤◌, List, [], ◌∷◌, length, Option, Some, None, Result, sum_by, arith, refl, sym, ◌∙◌, subst}
+use Rattle.std.specs.Prelude.{All, slice_get, MatchOption}
 use Rattle.std.specs.Option.{option_and_then}
 use Rattle.std.proofs.lemmas.List.Elements.{All-set}
 use Rattle.pup_pack.specs.declared.error.PupError.{PupError}
@@ -14,13 +14,11 @@ use Rattle.rts_core.specs.Events.{After, Desk, pe_of, at_desk, desk, with_desk, 
 use Rattle.rts_core.specs.Places.{Life}
 use Rattle.rts_core.specs.Runs.{Leads}
 use Rattle.rts_core.specs.Worlds.{WorldView, opening_world}
-use Rattle.rts_core.proofs.Account.{accounted}
 use Rattle.rts_core.proofs.EventSteps.{happens_good}
-use Rattle.rts_core.proofs.Listings.{no_letter, world_lives}
+use Rattle.rts_core.proofs.Listings.{no_letter}
 use Rattle.rts_core.proofs.OpeningWeights.{one_at, opened_lives, opened_once, opening_of, opening_weighs}
 use Rattle.rts_core.proofs.RunLaws.{by_index, Kept, step_keeps}
-use Rattle.rts_core.proofs.Weights.{of_world}
-use Rattle.rts_core.proofs.WorldSteps.{AreOf, Numbered, Stepped}
+use Rattle.rts_core.proofs.WorldSteps.{AreOf, Numbered}
 use Rattle.round_agreement.specs.Agreement.{AgreesOn, AgreesAt, Agrees}
 use Rattle.round_agreement.proofs.Turns.{some_is}
 use Rattle.round_agreement.proofs.Handlers.{started_agrees, went_on_agrees}

@@ -1,7 +1,6 @@
 -- A world and its board still agree after a PE has handed in a note.
-use Rattle.std.proofs.Common.{◌≡◌, ◌≢◌, ℕ, zero, suc, ◌+◌, ◌<◌, ◌≤◌, List, [], ◌∷◌, length, drop, Option, Some, None, Bool, true, false, sum_by, arith, refl, sym, ◌∙◌, ap, subst, nat_eq}
-use Rattle.std.specs.Prelude.{All, IfSome, IsTrue, slice_get, slice_set, slice_index_or, nat_lt, is_none, not, ◌&&◌, ◌==◌}
-use Rattle.std.specs.Map.{values_of}
+use Rattle.std.proofs.Common.{◌≡◌, ◌≢◌, ℕ, ◌+◌, ◌<◌, ◌≤◌, List, [], ◌∷◌, drop, Some, Bool, true, false, sum_by, arith, refl, sym, ◌∙◌, ap, subst, nat_eq}
+use Rattle.std.specs.Prelude.{All, slice_get, slice_set, slice_index_or, nat_lt, is_none, not, ◌&&◌, ◌==◌}
 use Rattle.std.specs.Option.{option_and_then}
 use Rattle.std.proofs.lemmas.Bool.Decides.{nat_tests}
 use Rattle.std.proofs.lemmas.List.Elements.{All-head, All-set}
@@ -13,19 +12,19 @@ use Rattle.chares.specs.declared.note.Note.{Note}
 use Rattle.chares.specs.declared.note.Note.TheVariants.{Sync, Finish}
 use Rattle.chares.specs.declared.report.Report.{Report}
 use Rattle.chares.specs.Elements.{ElementView}
-use Rattle.pe_state.specs.Pes.{PeView, Parcel, Item, noted}
+use Rattle.pe_state.specs.Pes.{PeView, Parcel, noted}
 use Rattle.pe_state.specs.Rooms.{found}
-use Rattle.rts_core.specs.Events.{where_true, board_after, note_reports, handed_in}
+use Rattle.rts_core.specs.Events.{board_after, note_reports, handed_in}
 use Rattle.rts_core.specs.Worlds.{WorldView}
 use Rattle.rts_core.proofs.EventSteps.{where_some}
 use Rattle.rts_core.proofs.Histories.{one_of_all}
 use Rattle.rts_core.proofs.Listings.{no_letter}
 use Rattle.rts_core.proofs.OpeningWeights.{one_at}
 use Rattle.rts_core.proofs.RunLaws.{by_index}
-use Rattle.rts_core.proofs.Weights.{of_parcel, of_item, of_hand, of_pe, of_queue, of_world, weigh}
+use Rattle.rts_core.proofs.Weights.{of_parcel, of_item, of_hand, of_pe, of_world, weigh}
 use Rattle.rts_core.proofs.WorldSteps.{Numbered, get_set_same, get_set_other}
 use Rattle.run_places.proofs.Alone.{each_zero, on_no_other_pe, in_no_queue, pe_le_one}
-use Rattle.round_agreement.specs.Agreement.{Owes, AgreesWith, AgreesOn, IsOwed, AgreesAt, IsOpenFor, Agrees}
+use Rattle.round_agreement.specs.Agreement.{Owes, AgreesWith, AgreesOn, IsOwed, AgreesAt, Agrees}
 use Rattle.round_agreement.proofs.Rooms.{of_found}
 use Rattle.round_agreement.proofs.Turns.{some_is, RoomAgrees}
 use Rattle.round_agreement.proofs.Handlers.{ItemAgrees, room_agrees}

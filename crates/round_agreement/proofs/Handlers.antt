@@ -1,13 +1,12 @@
 -- A PE and the board still agree after a handler: of an element that starts, that executes a letter or that is resumed.
-use Rattle.std.proofs.Common.{◌≡◌, ◌≢◌, ℕ, zero, suc, ◌+◌, ◌<◌, ◌≤◌, List, [], ◌∷◌, ◌++◌, length, Option, Some, None, Bool, true, false, arith, refl, sym, ◌∙◌, ap, subst, inl, inr, min}
-use Rattle.std.specs.Prelude.{All, IfSome, nat_eq, slice_get, ◌==◌, not, if◌then◌else◌, ◌⊎◌}
-use Rattle.std.specs.Map.{values_of}
+use Rattle.std.proofs.Common.{◌≡◌, ℕ, zero, suc, ◌+◌, ◌<◌, ◌≤◌, List, [], ◌∷◌, ◌++◌, length, Option, Some, None, Bool, true, false, arith, refl, sym, ◌∙◌, ap, subst, inl, inr, min}
+use Rattle.std.specs.Prelude.{All, IfSome, ◌==◌, not, if◌then◌else◌}
 use Rattle.std.specs.Option.{option_map, option_map_or, option_and_then, option_to_list}
 use Rattle.std.proofs.lemmas.Option.{option_and_then_some, slice_get_within}
 use Rattle.std.proofs.lemmas.List.Elements.{All-nil, All-cons, All-append}
 use Rattle.chare_index.specs.declared.limits.TheConstants.Limits.{LOAD}
 use Rattle.at_sync.specs.Boards.{BoardState, Kept, kept_of}
-use Rattle.lb_database.specs.Measuring.{Measured, elements, report_of}
+use Rattle.lb_database.specs.Measuring.{Measured}
 use Rattle.lb_strategy.specs.Moves.{planned_pe}
 use Rattle.chares.specs.declared.entry.Entry.TheVariants.{Letter as OfLetter, Resumption}
 use Rattle.chares.specs.declared.note.Note.{Note}
@@ -16,14 +15,14 @@ use Rattle.chares.specs.declared.report.Report.{Report}
 use Rattle.chares.specs.Elements.{ElementView, PackedView, outcome_of, worked, ending_of, note_of, ran}
 use Rattle.chares.specs.Letters.{LetterView, Done}
 use Rattle.chares.specs.Posting.{letters_of}
-use Rattle.chares.specs.Progressing.{begun, charged, ending, resumed_mark}
+use Rattle.chares.specs.Progressing.{resumed_mark}
 use Rattle.chares.specs.Steps.{Step}
-use Rattle.pe_state.specs.Pes.{PeView, Parcel, Item, handled, resumed, resume_reports}
+use Rattle.pe_state.specs.Pes.{PeView, Item, handled, resumed, resume_reports}
 use Rattle.pe_state.specs.Rooms.{found, changed, ran_in, sends_in, note_in}
 use Rattle.rts_core.specs.Events.{where_true, waits_for, place_in, due, started, went_on}
 use Rattle.rts_core.proofs.EventSteps.{where_some}
-use Rattle.round_agreement.specs.Agreement.{IsFresh, IsAtWork, Owes, OwesItsNote, HasReported, WaitsForPlace, IsSomehow, AgreesWith, AgreesOn, AgreesAt}
-use Rattle.round_agreement.proofs.Rooms.{of_found, found_index}
+use Rattle.round_agreement.specs.Agreement.{IsAtWork, Owes, WaitsForPlace, IsSomehow, AgreesWith, AgreesOn, AgreesAt}
+use Rattle.round_agreement.proofs.Rooms.{of_found}
 use Rattle.round_agreement.proofs.Turns.{some_is, Turn, RoomAgrees, turned, no_sync, true_not_false, turn_at_work, turn_waiting}
 
 -- a parcel in a hand or in an outbox

@@ -1,5 +1,5 @@
 -- No event but Decide reports that a round is decided.
-use Rattle.std.proofs.Common.{◌≡◌, ℕ, ◌+◌, List, [], ◌∷◌, ◌++◌, Option, Some, None, Bool, true, false, Result, Ok, Err, refl, sym, subst, nat_eq}
+use Rattle.std.proofs.Common.{◌≡◌, ℕ, ◌+◌, List, [], ◌∷◌, Option, Some, None, Bool, true, false, Result, Ok, Err, refl, subst, nat_eq}
 use Rattle.std.specs.Prelude.{All, Contains, IfSome, slice_get, slice_set, not, ◌==◌, if◌then◌else◌}
 use Rattle.std.specs.Option.{option_map, option_and_then}
 use Rattle.std.proofs.lemmas.List.Elements.{All-nil, All-cons, All-contains}
@@ -12,11 +12,11 @@ use Rattle.chares.specs.declared.note.Note.TheVariants.{Sync, Finish}
 use Rattle.chares.specs.declared.report.Report.{Report}
 use Rattle.chares.specs.declared.report.Report.TheVariants as Tells
 use Rattle.chares.specs.Elements.{ElementView, PackedView}
-use Rattle.chares.specs.Letters.{LetterView, Done}
+use Rattle.chares.specs.Letters.{LetterView}
 use Rattle.chares.specs.Posting.{posts_of}
 use Rattle.chares.specs.Steps.{Step}
-use Rattle.pe_state.specs.Pes.{PeView, Parcel, Item, Acting, noted, resumed, resume_reports, handler_posts, executed, shelving, forwarding, passing, installed, installing, on_letter, on_element, on_parcel, acting_on, acting, departed}
-use Rattle.pe_state.specs.Rooms.{found, sends_in}
+use Rattle.pe_state.specs.Pes.{PeView, Parcel, Item, Acting, noted, resumed, resume_reports, executed, shelving, forwarding, passing, installing, on_letter, on_element, on_parcel, acting_on, acting, departed}
+use Rattle.pe_state.specs.Rooms.{found}
 use Rattle.rts_core.specs.declared.event.Event.{Event}
 use Rattle.rts_core.specs.declared.event.Event.TheVariants.{Start, Look, Flush, Deliver, Act, Report as Hand, Decide, Depart, Resume}
 use Rattle.rts_core.specs.Events.{After, Desk, where_true, due, board_after, note_reports, started, left, went_on, acted, handed_in, looked_up, flushed, delivered_from, at_desk, desk, with_desk, or_nothing, enabled}

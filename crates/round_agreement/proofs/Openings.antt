@@ -1,6 +1,6 @@
 -- The board and the elements agree as a world opens: every element is at work in round 1, and nobody has reported.
-use Rattle.std.proofs.Common.{◌≡◌, ℕ, zero, suc, ◌+◌, ◌<◌, ◌≤◌, List, [], ◌∷◌, length, map, replicate, Option, Some, None, arith, refl, sym, ◌∙◌, subst, inl}
-use Rattle.std.specs.Prelude.{All, IfSome, slice_get, slice_set}
+use Rattle.std.proofs.Common.{◌≡◌, ℕ, ◌+◌, ◌<◌, ◌≤◌, List, [], ◌∷◌, length, map, Option, Some, None, arith, refl, sym, subst, inl}
+use Rattle.std.specs.Prelude.{All, IfSome, slice_get}
 use Rattle.std.specs.List.{range_with_len}
 use Rattle.std.specs.Map.{values_of}
 use Rattle.std.specs.Ordering.{nat_cmp}
@@ -9,13 +9,12 @@ use Rattle.std.proofs.lemmas.List.Elements.{All-nil, All-set, All-map, All-repli
 use Rattle.std.proofs.lemmas.Map.Views.{All-values-insert_entry}
 use Rattle.lb_database.specs.Measuring.{Measured, elements, opening}
 use Rattle.chares.specs.declared.note.Note.{Note}
-use Rattle.chares.specs.Elements.{ElementView, opening_element}
-use Rattle.pe_state.specs.Pes.{PeView, Parcel, Item, new_pe, placed}
-use Rattle.pe_state.specs.Rooms.{joined}
-use Rattle.rts_core.specs.Worlds.{WorldView, home, placed_on, settled, opening_world}
+use Rattle.chares.specs.Elements.{opening_element}
+use Rattle.pe_state.specs.Pes.{PeView, Item, new_pe, placed}
+use Rattle.rts_core.specs.Worlds.{home, placed_on, settled, opening_world}
 use Rattle.rts_core.proofs.Histories.{one_of_all}
 use Rattle.rts_core.proofs.OpeningWeights.{opening_numbered}
-use Rattle.round_agreement.specs.Agreement.{AgreesWith, AgreesOn, IsOwed, AgreesAt, IsOpenFor, Agrees}
+use Rattle.round_agreement.specs.Agreement.{AgreesWith, AgreesOn, IsOwed, AgreesAt, Agrees}
 use Rattle.round_agreement.proofs.Rooms.{AreKeyed, Key, places_joined}
 use Rattle.round_agreement.proofs.Handlers.{ItemAgrees}
 use Rattle.round_agreement.proofs.Deciding.{nobody, opens_for}

@@ -1,7 +1,6 @@
 -- A PE and the board still agree after a parcel has come, gone or been looked for.
-use Rattle.std.proofs.Common.{◌≡◌, ◌≢◌, ℕ, ◌+◌, ◌<◌, List, [], ◌∷◌, ◌++◌, length, drop, map, Option, Some, None, Bool, true, false, Result, Ok, Err, arith, refl, sym, ◌∙◌, ap, subst, inl, inr, nat_eq}
+use Rattle.std.proofs.Common.{◌≡◌, ◌≢◌, ℕ, ◌+◌, List, [], ◌∷◌, ◌++◌, length, map, Option, Some, None, Bool, true, false, Result, Ok, Err, arith, refl, sym, ◌∙◌, subst, inr, nat_eq}
 use Rattle.std.specs.Prelude.{All, IfSome, slice_get, slice_set, is_none, not, ◌==◌, if◌then◌else◌}
-use Rattle.std.specs.Map.{values_of}
 use Rattle.std.specs.Option.{option_map, option_and_then, option_to_list}
 use Rattle.std.specs.Ordering.{nat_cmp}
 use Rattle.std.specs.BTreeMap.{is_at}
@@ -11,7 +10,7 @@ use Rattle.std.proofs.lemmas.Map.Views.{All-values-insert_entry, All-map-remove_
 use Rattle.std.proofs.lemmas.Option.{option_and_then_some}
 use Rattle.pup_pack.specs.declared.error.PupError.{PupError}
 use Rattle.at_sync.specs.Boards.{BoardState}
-use Rattle.lb_database.specs.Measuring.{Measured, elements}
+use Rattle.lb_database.specs.Measuring.{Measured}
 use Rattle.chares.specs.declared.carried.Carried.TheVariants.{Letter, Element}
 use Rattle.chares.specs.declared.note.Note.{Note}
 use Rattle.chares.specs.declared.report.Report.{Report}
@@ -24,8 +23,8 @@ use Rattle.pe_state.specs.Rooms.{found, joined, without}
 use Rattle.rts_core.specs.Events.{where_true, front_of, looked_up, flushed, delivered, delivered_from, due, left, acted}
 use Rattle.rts_core.proofs.EventSteps.{where_some, front_is}
 use Rattle.rts_core.proofs.Histories.{one_of_all}
-use Rattle.round_agreement.specs.Agreement.{IsFresh, Owes, WaitsForPlace, AgreesWith, AgreesOn, IsOwed, AgreesAt}
-use Rattle.round_agreement.proofs.Rooms.{joined_other, without_other, places_joined, places_without, Key, found_index, of_found}
+use Rattle.round_agreement.specs.Agreement.{Owes, WaitsForPlace, AgreesWith, AgreesOn, IsOwed, AgreesAt}
+use Rattle.round_agreement.proofs.Rooms.{joined_other, without_other, places_joined, places_without, Key, of_found}
 use Rattle.round_agreement.proofs.Turns.{some_is}
 use Rattle.round_agreement.proofs.Handlers.{ItemAgrees, IsDue, due_waits, owes_none_decided, letter_agrees}
 

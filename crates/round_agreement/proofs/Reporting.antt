@@ -1,11 +1,11 @@
 -- What one report changes: the element that it is of has reported, and all others are as they were.
-use Rattle.std.proofs.Common.{◌≡◌, ◌≢◌, ℕ, zero, suc, ◌+◌, ◌<◌, ◌≤◌, List, [], ◌∷◌, ◌++◌, length, drop, Option, Some, None, Bool, true, false, sum_by, arith, refl, sym, ◌∙◌, ap, subst, inl, inr, nat_eq, length-set, get_or}
-use Rattle.std.specs.Prelude.{All, Contains, IfSome, slice_get, slice_set, slice_index_or, cond, ◌==◌, if◌then◌else◌}
+use Rattle.std.proofs.Common.{◌≡◌, ◌≢◌, ℕ, zero, suc, ◌+◌, ◌<◌, ◌≤◌, List, [], ◌∷◌, length, Option, Some, None, Bool, true, false, sum_by, arith, refl, sym, ◌∙◌, ap, subst, inl, inr, nat_eq, length-set, get_or}
+use Rattle.std.specs.Prelude.{All, Contains, IfSome, slice_get, slice_index_or, cond}
 use Rattle.std.specs.Map.{values_of}
 use Rattle.std.specs.Ordering.{nat_cmp, is_eq}
 use Rattle.std.proofs.lemmas.Bool.Decides.{nat_tests}
 use Rattle.std.proofs.lemmas.List.{get_or-set_same, get_or-set_other}
-use Rattle.std.proofs.lemmas.List.Elements.{All-nil, All-cons, All-head, All-tail, All-weaker}
+use Rattle.std.proofs.lemmas.List.Elements.{All-cons, All-head, All-tail, All-weaker}
 use Rattle.std.proofs.lemmas.List.Sums.{sum_by-cons}
 use Rattle.std.proofs.lemmas.Option.{get_or_from_slice_get}
 use Rattle.chare_index.specs.declared.limits.TheConstants.Limits.{LOAD}
@@ -24,10 +24,10 @@ use Rattle.rts_core.proofs.RunLaws.{by_index}
 use Rattle.rts_core.proofs.Weights.{of_parcel, of_item, of_hand, of_element, of_room, of_pe, weigh}
 use Rattle.rts_core.proofs.WorldSteps.{get_set_same, get_set_other}
 use Rattle.run_places.proofs.Alone.{each_zero}
-use Rattle.round_agreement.specs.Agreement.{IsFresh, IsAtWork, Owes, OwesItsNote, HasReported, WaitsForPlace, IsSomehow, AgreesWith, AgreesOn, IsOwed, AgreesAt, IsOpenFor, is_wait_of}
-use Rattle.round_agreement.proofs.Rooms.{same_is, is_same, of_found, AreKeyed, Key}
+use Rattle.round_agreement.specs.Agreement.{Owes, WaitsForPlace, IsSomehow, AgreesWith, AgreesOn, IsOwed, AgreesAt, IsOpenFor, is_wait_of}
+use Rattle.round_agreement.proofs.Rooms.{is_same, of_found, AreKeyed, Key}
 use Rattle.round_agreement.proofs.Turns.{wait_is, wait_of, one_if, RoomAgrees}
-use Rattle.round_agreement.proofs.Handlers.{ItemAgrees, room_agrees}
+use Rattle.round_agreement.proofs.Handlers.{ItemAgrees}
 
 -- what follows of each member from two properties that hold of each
 pub all_two : {X : Type 0} (P Q R : X → Type 0) → ((x : X) → P x → Q x → R x) → (xs : List X) → All P xs → All Q xs → All R xs

@@ -1,17 +1,16 @@
 -- What the snapshot of a decided round holds of each element of the world in which it is decided.
-use Rattle.std.proofs.Common.{◌≡◌, ℕ, zero, suc, ◌+◌, ◌<◌, ◌≤◌, List, [], ◌∷◌, ◌++◌, length, map, get_or, Option, Some, None, Bool, true, false, Result, sum_by, arith, refl, sym, ◌∙◌, ap, subst, add-one, inl, inr}
+use Rattle.std.proofs.Common.{◌≡◌, ℕ, zero, suc, ◌+◌, ◌<◌, ◌≤◌, List, [], ◌∷◌, ◌++◌, length, map, get_or, Option, Some, None, Bool, true, false, Result, sum_by, arith, refl, sym, ◌∙◌, ap, subst, inl, inr}
 use Rattle.std.specs.Prelude.{All, Contains, IfSome, MatchOption, cond, slice_get}
 use Rattle.std.specs.Map.{values_of}
 use Rattle.std.specs.Ordering.{nat_cmp, is_eq}
-use Rattle.std.proofs.lemmas.List.Elements.{All-head, All-tail, All-contains}
+use Rattle.std.proofs.lemmas.List.Elements.{All-head, All-tail}
 use Rattle.std.proofs.lemmas.List.Sums.{sum_by-cons}
 use Rattle.pup_pack.specs.declared.error.PupError.{PupError}
-use Rattle.at_sync.specs.Boards.{BoardState, Kept, kept_of, after_decision}
+use Rattle.at_sync.specs.Boards.{BoardState, Kept, kept_of}
 use Rattle.lb_certificates.specs.Measured.{Taken}
-use Rattle.lb_database.specs.Measuring.{Measured, IsComplete, IsSnapshotOf, elements, report_of}
+use Rattle.lb_database.specs.Measuring.{Measured, IsComplete, IsSnapshotOf, report_of}
 use Rattle.chares.specs.declared.carried.Carried.TheVariants.{Letter, Element}
 use Rattle.chares.specs.declared.note.Mark.TheVariants.{Synced}
-use Rattle.chares.specs.declared.note.Note.{Note}
 use Rattle.chares.specs.declared.note.Note.TheVariants.{Sync}
 use Rattle.chares.specs.declared.report.Report.{Report}
 use Rattle.chares.specs.declared.report.Report.TheVariants.{Decided}
@@ -20,16 +19,15 @@ use Rattle.chares.specs.Steps.{Step}
 use Rattle.pe_state.specs.Pes.{PeView, Parcel, Item}
 use Rattle.pe_state.specs.Rooms.{found}
 use Rattle.rts_core.specs.declared.event.Event.{Event}
-use Rattle.rts_core.specs.Events.{After, pe_of, or_nothing, enabled, Happens, IsDecision, IsTooEarly, MayDecide}
+use Rattle.rts_core.specs.Events.{After, pe_of, or_nothing, enabled, Happens, MayDecide}
 use Rattle.rts_core.specs.Runs.{Leads}
 use Rattle.rts_core.specs.Worlds.{WorldView, opening_world}
 use Rattle.rts_core.proofs.Listings.{no_letter, sum_zero}
 use Rattle.rts_core.proofs.OpeningWeights.{one_at, one_elsewhere}
 use Rattle.rts_core.proofs.RunLaws.{by_index}
-use Rattle.rts_core.proofs.Weights.{of_parcel, of_item, of_hand, of_element, of_pe, of_queue, of_world, weigh}
+use Rattle.rts_core.proofs.Weights.{of_parcel, of_item, of_hand, of_element, of_pe, of_queue, weigh}
 use Rattle.round_agreement.specs.Agreement.{HasReported, AgreesWith, AgreesOn, AgreesAt, Agrees, IsTakenOf}
-use Rattle.round_agreement.proofs.Rooms.{same_is, is_same, of_found, AreKeyed, Key, found_index}
-use Rattle.round_agreement.proofs.Turns.{some_is}
+use Rattle.round_agreement.proofs.Rooms.{is_same, of_found, AreKeyed, Key, found_index}
 use Rattle.round_agreement.proofs.Handlers.{ItemAgrees}
 use Rattle.round_agreement.proofs.Reporting.{count_in}
 use Rattle.round_agreement.proofs.HandedIn.{OnePlace, got_of_all}
@@ -175,10 +173,11 @@ module _ {C A : Type 0} (step : Step C) (pack : C → List ℕ) (unpack : List �
       nothing (k, lt, is) = omega (arith, lt)
   may_snap b reports r here (inl d) =
       let same : w.board.database.round ≡ r = decided_number w.board.database.round r (subst (λ (v : List Report). Contains v (Decided r)) d.told here) in
-      let k : kept_of (w.board.rounds ++ d.decides.kept ∷ []) r ≡ Some d.decides.kept = kept_next w.board.rounds d.decides.kept r (sym same ∙ s.agrees.numbered) in
-      (d.decides.kept,
-      subst (λ (v : BoardState A). kept_of v.rounds r ≡ Some d.decides.kept) (sym d.decides.next) k,
-      λ e lt. subst (λ (v : ℕ). IsTakenOf w d.decides.kept.0 e v) same (taken_of n w s.agrees s.one d.decides.complete e lt d.decides.kept.0 d.decides.reported))
+      let k : kept_of (w.board.rounds ++ d.decides.kept ∷ []) r ≡ Some d.decides.kept = kept_next w.board.rounds d.decides.kept r (sym same ∙ s.agrees.numbered) in (
+        d.decides.kept,
+        subst (λ (v : BoardState A). kept_of v.rounds r ≡ Some d.decides.kept) (sym d.decides.next) k,
+        λ e lt. subst (λ (v : ℕ). IsTakenOf w d.decides.kept.0 e v) same (taken_of n w s.agrees s.one d.decides.complete e lt d.decides.kept.0 d.decides.reported),
+      )
 
   pub event_snaps : (event : Event) (next : After C A) (r : ℕ) → Happens step pack unpack w event next → Contains next.1 (Decided r) → Snapped n w next.0.board r
   event_snaps event next r happens here = by (pe_of event) happens

@@ -1,6 +1,6 @@
 -- What a handler makes of the agreement of its element.
-use Rattle.std.proofs.Common.{◌≡◌, ◌≢◌, ℕ, ◌+◌, ◌<◌, ◌≤◌, List, [], ◌∷◌, ◌++◌, Option, Some, None, Bool, true, false, sum_by, arith, refl, sym, ◌∙◌, ap, subst, inl, inr, min}
-use Rattle.std.specs.Prelude.{All, Contains, IfSome, nat_eq, ◌==◌, ◌&&◌, not, if◌then◌else◌, ◌⊎◌}
+use Rattle.std.proofs.Common.{◌≡◌, ◌≢◌, ℕ, ◌+◌, ◌<◌, ◌≤◌, List, [], ◌∷◌, ◌++◌, Option, Some, None, Bool, true, false, arith, refl, sym, ◌∙◌, ap, subst, inl, inr}
+use Rattle.std.specs.Prelude.{All, nat_eq, ◌&&◌, not, if◌then◌else◌}
 use Rattle.std.specs.Map.{values_of}
 use Rattle.std.specs.Option.{option_to_list}
 use Rattle.std.specs.Ordering.{nat_cmp}
@@ -10,7 +10,7 @@ use Rattle.std.proofs.lemmas.List.Elements.{All-nil, All-cons, All-head, All-tai
 use Rattle.std.proofs.lemmas.List.Sums.{sum_by-cons, sum_by-append}
 use Rattle.std.proofs.lemmas.Map.Views.{All-values-set_value}
 use Rattle.chare_index.specs.declared.limits.TheConstants.Limits.{LOAD}
-use Rattle.lb_database.specs.Measuring.{Measured, elements, report_of}
+use Rattle.lb_database.specs.Measuring.{Measured, elements}
 use Rattle.chares.specs.declared.chare.Effect.{Effect}
 use Rattle.chares.specs.declared.note.Mark.{Mark}
 use Rattle.chares.specs.declared.note.Mark.TheVariants.{Synced}
@@ -24,7 +24,7 @@ use Rattle.chares.specs.Letters.{Done}
 use Rattle.chares.specs.Progressing.{ending, ended, note_at, synced_mark, is_finish}
 use Rattle.pe_state.specs.Rooms.{found, changed}
 use Rattle.rts_core.specs.Accounts.{times}
-use Rattle.round_agreement.specs.Agreement.{IsFresh, IsAtWork, Owes, OwesItsNote, HasReported, WaitsForPlace, IsSomehow, AgreesWith, IsOwed, is_wait_of}
+use Rattle.round_agreement.specs.Agreement.{IsFresh, IsAtWork, Owes, IsSomehow, AgreesWith, IsOwed, is_wait_of}
 use Rattle.round_agreement.proofs.Rooms.{found_changed, changed_other, places_changed, AreKeyed, Key, found_index}
 
 pub some_is : {X : Type 0} (x y : X) → Some x ≡ Some y → x ≡ y

@@ -2,7 +2,7 @@
 -- still at work in it, and who waits for the place that the last decision gives it. Source: the Charm++ manual on load
 -- balancing, where an element that reaches AtSync waits, and is counted once; that it keeps a mark of what it told the
 -- board is this project's choice.
-use Rattle.std.specs.Prelude.{◌≡◌, ℕ, ◌+◌, ◌<◌, ◌≤◌, List, length, All, Contains, Bool, true, false, ◌==◌, ◌⊎◌, Option, None, Some, IfSome, slice_get}
+use Rattle.std.specs.Prelude.{◌≡◌, ℕ, ◌+◌, ◌<◌, ◌≤◌, List, length, All, Contains, Bool, true, false, ◌==◌, ◌⊎◌, None, Some, IfSome, slice_get}
 use Rattle.std.specs.Map.{values_of}
 use Rattle.chare_index.specs.declared.limits.TheConstants.Limits.{LOAD}
 use Rattle.lb_certificates.specs.Measured.{Taken}
