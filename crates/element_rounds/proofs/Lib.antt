@@ -1,3 +1,4 @@
+pub mod Ends
 pub mod Notes
 pub mod Phases
 pub mod Turns

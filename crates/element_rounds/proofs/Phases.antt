@@ -79,13 +79,13 @@ module _ {C : Type 0} (step : Step C) (pack : C → List ℕ) (n e : ℕ) (chare
       ap (λ (v : List (Done × ℕ)). lived step pack (opening_element e chare) n v) a
       ∙ lived-push step pack (opening_element e chare) n (map f (take k journal)) done 0
 
-  units_here : (k : ℕ) (done : Done) (el : ElementView C) (ms : List Mark) → slice_get journal k ≡ Some done → stage step pack n e chare journal k ≡ record el { marks = ms }
+  pub units_here : (k : ℕ) (done : Done) (el : ElementView C) (ms : List Mark) → slice_get journal k ≡ Some done → stage step pack n e chare journal k ≡ record el { marks = ms }
       → units_at step pack n e chare journal k ≡ (outcome_of step pack el n done).effect.units
   units_here k done el ms is at =
       ap (λ (o : Option Done). option_map_or (λ d. (outcome_of step pack (stage step pack n e chare journal k) n d).effect.units) o 0) is
       ∙ ap (λ (v : ElementView C). (outcome_of step pack v n done).effect.units) at
 
-  reached_here : (k : ℕ) (done : Done) (el : ElementView C) (ms : List Mark) → slice_get journal k ≡ Some done → stage step pack n e chare journal k ≡ record el { marks = ms }
+  pub reached_here : (k : ℕ) (done : Done) (el : ElementView C) (ms : List Mark) → slice_get journal k ≡ Some done → stage step pack n e chare journal k ≡ record el { marks = ms }
       → ending_of step pack el n done ≡ Syncs → HasReached step pack n e chare journal k ((worked step pack el n done).round + 1)
   reached_here k done el ms is at syncs =
       record {
@@ -108,7 +108,7 @@ module _ {C : Type 0} (step : Step C) (pack : C → List ℕ) (n e : ℕ) (chare
 
   -- ---- one entry: it is entered, charged, and answered
 
-  due_begun : (p : Progress) (k round : ℕ) → Works p k → ((p.started ≡ false) × (round ≡ 0)) ⊎ ((p.synced ≡ true) × (round ≡ p.round + 1)) → due p ≡ round + 1
+  pub due_begun : (p : Progress) (k round : ℕ) → Works p k → ((p.started ≡ false) × (round ≡ 0)) ⊎ ((p.synced ≡ true) × (round ≡ p.round + 1)) → due p ≡ round + 1
   due_begun p k round w (inl h) =
       let f = w.fresh h.0 in
       let a = due_runs p f.1 in
@@ -117,13 +117,13 @@ module _ {C : Type 0} (step : Step C) (pack : C → List ℕ) (n e : ℕ) (chare
       let a = due_waits p h.0 in
       omega (arith, a, h.1)
 
-  works_entered : (p : Progress) (k pe : ℕ) (done : Done) (xs : List Mark) → Works p k → Follow p (map stop_of (resumed_mark pe done ++ xs)) → Works (entered p done) k × Follow (entered p done) (map stop_of xs)
+  pub works_entered : (p : Progress) (k pe : ℕ) (done : Done) (xs : List Mark) → Works p k → Follow p (map stop_of (resumed_mark pe done ++ xs)) → Works (entered p done) k × Follow (entered p done) (map stop_of xs)
   works_entered p k pe (Letter l) xs w turn = (w, turn)
   works_entered p k pe (Resumption round) xs w turn =
       let b : Begins step pack n e chare journal (round + 1) w.first = subst (λ (r : ℕ). Begins step pack n e chare journal r w.first) (due_begun p k round w turn.0) w.begins in
       (record { first = w.first; within = w.within; begins = b; loaded = w.loaded; fresh = λ is. absurd (cc) }, turn.1)
 
-  works_charged : (p : Progress) (k units : ℕ) → Works p k → units_at step pack n e chare journal k ≡ units → Works (charged p units) (k + 1)
+  pub works_charged : (p : Progress) (k units : ℕ) → Works p k → units_at step pack n e chare journal k ≡ units → Works (charged p units) (k + 1)
   works_charged p k units w is =
       let a : units_between step pack n e chare journal w.first (k + 1) ≡ units_between step pack n e chare journal w.first k + units =
       units_more w.first k w.within ∙ ap (λ (u : ℕ). units_between step pack n e chare journal w.first k + u) is in
@@ -148,7 +148,7 @@ module _ {C : Type 0} (step : Step C) (pack : C → List ℕ) (n e : ℕ) (chare
         fresh = λ is. absurd (cc);
       }
 
-  works_ended : (k index bytes pe : ℕ) (p : Progress) (en : Ending) (more : List Mark) → Works p (k + 1)
+  pub works_ended : (k index bytes pe : ℕ) (p : Progress) (en : Ending) (more : List Mark) → Works p (k + 1)
       → (en ≡ Syncs → HasReached step pack n e chare journal k (p.round + 1))
       → index ≡ e
       → bytes ≡ length (pack (stage step pack n e chare journal (k + 1)).chare)
