@@ -2,7 +2,7 @@
 -- before, up to the one with which it reaches AtSync for this round. Source: the Charm++ manual on load balancing, where
 -- the load of an object is what it did since it was balanced last. That what it does after AtSync counts for the next
 -- round is this project's choice.
-use Rattle.std.specs.Prelude.{◌≡◌, ℕ, ◌+◌, ◌-◌, min, List, length, map, take, sum, Some, slice_get, ◌⊎◌}
+use Rattle.std.specs.Prelude.{◌≡◌, ℕ, ◌+◌, ◌-◌, ◌≤◌, min, List, length, map, take, sum, Some, slice_get, ◌⊎◌}
 use Rattle.std.specs.List.{range_with_len}
 use Rattle.std.specs.Option.{option_map_or}
 use Rattle.chare_index.specs.declared.limits.TheConstants.Limits.{LOAD}
@@ -18,7 +18,7 @@ module _ {C : Type 0} (step : Step C) (pack : C → List ℕ) (n e : ℕ) (chare
   abbrev pub stage : ℕ → ElementView C
   stage k = lived step pack (opening_element e chare) n (map (λ done. (done, 0)) (take k journal))
 
-  -- the units of entry k, and of the entries from first up to, but not including, end
+  -- the units of entry k, counted from 0, and of the entries from first up to, but not including, end
   abbrev pub units_at : ℕ → ℕ
   units_at k = option_map_or (λ done. (outcome_of step pack (stage k) n done).effect.units) (slice_get journal k) 0
 
@@ -45,6 +45,7 @@ module _ {C : Type 0} (step : Step C) (pack : C → List ℕ) (n e : ℕ) (chare
     pub first : ℕ
     pub last : ℕ
     pub begins : Begins round first
+    pub within : first ≤ last
     pub ends : HasReached last round
     pub loaded : load ≡ min (units_between first (last + 1)) LOAD
     pub sized : bytes ≡ length (pack (stage (last + 1)).chare)
