@@ -1,0 +1,5 @@
+pub mod Boards
+pub mod Runs
+pub mod Stands
+pub mod Tallies
+pub mod Turns
