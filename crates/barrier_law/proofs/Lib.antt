@@ -1,4 +1,6 @@
 pub mod Boards
+pub mod Ordered
+pub mod Rooms
 pub mod Runs
 pub mod Stands
 pub mod Tallies

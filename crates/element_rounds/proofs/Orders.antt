@@ -144,17 +144,17 @@ module _ {C : Type 0} (step : Step C) (pack : C → List ℕ) (el : ElementView 
   resumption_in_order : (round : ℕ) → IsInOrder el.journal el.progress el.marks → ((el.progress.started ≡ false) × (round ≡ 0)) ⊎ ((el.progress.synced ≡ true) × (round ≡ el.progress.round + 1)) → RanInOrder (Resumption round)
   resumption_in_order round h (inl k) =
       subst (λ (v : ℕ). RanInOrder (Resumption v)) (sym k.1)
-      (in_order_ended (el.journal ++ Resumption 0 ∷ []) _ el.marks (Resumed 0 pe ∷ []) el.index _ pe _
+      (in_order_ended (el.journal ++ Resumption 0 ∷ []) _ el.marks (Resumed 0 pe ∷ []) el.index _ pe (outcome_of step pack el n (Resumption 0)).effect
       (going_start el.journal el.progress el.marks pe (outcome_of step pack el n (Resumption 0)).effect.units h k.0))
   resumption_in_order round h (inr k) =
       subst (λ (v : ℕ). RanInOrder (Resumption v)) (sym k.1)
-      (in_order_ended (el.journal ++ Resumption (el.progress.round + 1) ∷ []) _ el.marks (Resumed (el.progress.round + 1) pe ∷ []) el.index _ pe _
+      (in_order_ended (el.journal ++ Resumption (el.progress.round + 1) ∷ []) _ el.marks (Resumed (el.progress.round + 1) pe ∷ []) el.index _ pe (outcome_of step pack el n (Resumption (el.progress.round + 1))).effect
       (going_resumption el.journal el.progress el.marks pe (outcome_of step pack el n (Resumption (el.progress.round + 1))).effect.units
       (going_of el.journal el.progress el.marks h (waits_started el.journal el.progress el.marks h k.0)) k.0))
 
   -- after one more entry that the element may handle
   pub in_order_ran : (done : Done) → IsInOrder el.journal el.progress el.marks → MayHandle el.progress done → RanInOrder done
   in_order_ran (Letter l) h may =
-      in_order_ended (el.journal ++ Letter l ∷ []) _ el.marks [] el.index _ pe _
+      in_order_ended (el.journal ++ Letter l ∷ []) _ el.marks [] el.index _ pe (outcome_of step pack el n (Letter l)).effect
       (going_letter el.journal el.progress el.marks l (outcome_of step pack el n (Letter l)).effect.units (going_of el.journal el.progress el.marks h may))
   in_order_ran (Resumption round) h may = resumption_in_order round h may
