@@ -4,3 +4,4 @@ pub mod Phases
 pub mod Stages
 pub mod Turns
 pub mod Walks
+pub mod Orders
