@@ -1,0 +1,96 @@
+-- The barrier of every list of events.
+use Rattle.std.proofs.Common.{◌≡◌, ℕ, ◌+◌, ◌<◌, ◌≤◌, ◌⊎◌, inl, inr, List, [], ◌∷◌, ◌++◌, length, get_or, replicate, Option, None, Some, arith, refl, sym, ap, subst, ◌∙◌}
+use Rattle.std.specs.Prelude.{Result, Contains, IsSome, slice_get}
+use Rattle.std.proofs.lemmas.List.{length-replicate, get_or-replicate, append_assoc}
+use Rattle.chares.specs.declared.report.Report.{Report}
+use Rattle.chares.specs.declared.report.Report.TheVariants.{Resumed, Decided}
+use Rattle.chares.specs.Steps.{Step}
+use Rattle.at_sync.specs.Boards.{BoardState, new_board}
+use Rattle.pup_pack.specs.declared.error.PupError.{PupError}
+use Rattle.pe_state.specs.Pes.{PeView}
+use Rattle.rts_core.specs.declared.event.Event.{Event}
+use Rattle.rts_core.specs.Events.{After, Desk, Happens, desk, with_desk}
+use Rattle.rts_core.specs.Runs.{Leads}
+use Rattle.rts_core.specs.Worlds.{WorldView, opening_world}
+use Rattle.barrier_law.specs.Barrier.{is_decided, IsBarrier, StandsInItsPlace}
+use Rattle.barrier_law.proofs.Boards.{Tells, Keeps, tells_kept, tells_taken, tells_decided, unlike_decided, none_there}
+use Rattle.barrier_law.proofs.Stands.{Turned, Takes, each_turned, stands_at}
+use Rattle.barrier_law.proofs.Tallies.{only_member, no_member}
+use Rattle.barrier_law.proofs.Turns.{EachTurn, each_map, happens_so}
+
+module _ {C A : Type 0} (step : Step C) (pack : C → List ℕ) (unpack : List ℕ → Result (C × ℕ) PupError) where
+  -- an event
+  module _ (n : ℕ) (w : WorldView C A) (trace : List Report) (t : Tells n w.board trace) where
+    turn_tells : (p : ℕ) (pe : PeView C) (a : Desk C A × List Report) → Turned p (desk w pe) a → Tells n a.0.board (trace ++ a.1)
+    turn_tells p pe a turned = by turned.board
+      where
+        by : Keeps w.board a.0.board a.1 ⊎ Takes w.board a.0.board a.1 → Tells n a.0.board (trace ++ a.1)
+        by (inl k) = tells_kept n w.board a.0.board trace a.1 t k
+        by (inr k) = subst (λ (v : List Report). Tells n a.0.board (trace ++ v)) (sym k.told) (tells_taken n w.board a.0.board trace k.note t k.taken)
+
+    pub event_tells : (event : Event) (next : After C A) → Happens step pack unpack w event next → Tells n next.0.board (trace ++ next.1)
+    event_tells event next happens =
+        happens_so step pack unpack w (λ (v : After C A). Tells n v.0.board (trace ++ v.1))
+        (record {
+          same = tells_kept n w.board w.board trace [] t (record { same = refl; undecided = λ r. refl; placed = λ e r some there. absurd (no_member (Resumed e r) there) });
+          turn = λ p pe at. each_map step pack p (desk w pe) (Turned p (desk w pe)) (λ a. Tells n a.0.board (trace ++ a.1)) (turn_tells p pe) (each_turned step pack p (desk w pe));
+          decides = λ board d. tells_decided n w.board board trace t d;
+        })
+        event next happens
+
+  pub run_tells : (n : ℕ) (w : WorldView C A) (trace : List Report) (events : List Event) (last : After C A) → Tells n w.board trace → Leads step pack unpack w events last → Tells n last.0.board (trace ++ last.1)
+  run_tells n w trace [] last t run = subst (λ (v : After C A). Tells n v.0.board (trace ++ v.1)) (sym run) (event_same n w trace t)
+    where
+      event_same : (n : ℕ) (w : WorldView C A) (trace : List Report) → Tells n w.board trace → Tells n w.board (trace ++ [])
+      event_same n w trace t = tells_kept n w.board w.board trace [] t (record { same = refl; undecided = λ r. refl; placed = λ e r some there. absurd (no_member (Resumed e r) there) })
+  run_tells n w trace (event ∷ events) last t (first, rest, happens, leads, is) =
+      let a : Tells n first.0.board (trace ++ first.1) = event_tells n w trace t event first happens in
+      let b : Tells n rest.0.board ((trace ++ first.1) ++ rest.1) = run_tells n first.0 (trace ++ first.1) events rest a leads in
+      subst (λ (v : After C A). Tells n v.0.board (trace ++ v.1)) (sym is)
+      (subst (λ (v : List Report). Tells n rest.0.board v) (append_assoc trace first.1 rest.1) b)
+
+  -- a new board
+  pub opening_tells : (n pes : ℕ) → Tells {A = A} n (new_board n pes) []
+  opening_tells n pes =
+      record {
+        counted = length-replicate n 0;
+        reports_counted = length-replicate n None;
+        numbered = refl;
+        decided = λ r some lt. absurd (omega (arith, some, lt));
+        undecided = λ r le. refl;
+        synced = λ r x some lt inside. absurd (omega (arith, some, lt));
+        reported = λ x inside is. absurd (nothing x inside is);
+        barred = λ before after e r h some. absurd (no_split before after (Resumed e r) h);
+      }
+    where
+      nothing : (x : ℕ) → x < n → IsSome {T = ℕ × ℕ} (get_or (replicate n None) x None) → ⊥
+      nothing x inside is =
+          let none : get_or (replicate n None) x None ≡ None = get_or-replicate n x None None inside in
+          none_there (get_or (replicate n None) x None) none is
+
+      no_split : (before after : List Report) (x : Report) → [] ≡ before ++ x ∷ after → ⊥
+      no_split [] after x h = cc
+      no_split (y ∷ before) after x h = cc
+
+  -- the barrier holds of every list of events
+  pub barrier : (pes : ℕ) (chares : List C) (events : List Event) (last : After C A) → Leads step pack unpack (opening_world pes chares) events last → IsBarrier (length chares) last.1
+  barrier pes chares events last run =
+      let t : Tells (length chares) last.0.board last.1 = run_tells (length chares) (opening_world pes chares) [] events last (opening_tells (length chares) pes) run in
+      record {
+        all_synced = λ before after e r h some. (t.barred before after e r h some).synced;
+        decided_once = λ before after e r h some. (t.barred before after e r h some).decided;
+      }
+
+  -- and what an event resumes for a round stands in its place
+  pub stands : (w : WorldView C A) (event : Event) (next : After C A) (e r : ℕ) → Happens step pack unpack w event next → Contains next.1 (Resumed e r) → 1 ≤ r → StandsInItsPlace w e r × StandsInItsPlace next.0 e r
+  stands w event next e r happens there some =
+      happens_so step pack unpack w
+      (λ (v : After C A). Contains v.1 (Resumed e r) → StandsInItsPlace w e r × StandsInItsPlace v.0 e r)
+      (record {
+        same = λ k. absurd (no_member (Resumed e r) k);
+        turn = λ p pe at. each_map step pack p (desk w pe) (Turned p (desk w pe)) (λ a. Contains a.1 (Resumed e r) → StandsInItsPlace w e r × StandsInItsPlace (with_desk w p a.0) e r)
+            (λ a turned k. stands_at w p pe a.0 e r at (turned.stands e r some k))
+            (each_turned step pack p (desk w pe));
+        decides = λ board d k. absurd (unlike_decided w.board.database.round e r (only_member (Decided w.board.database.round) (Resumed e r) k));
+      })
+      event next happens there

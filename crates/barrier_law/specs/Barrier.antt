@@ -1,0 +1,37 @@
+-- The barrier of a round, over the trace of a run: no element goes on before every element has reported and the round
+-- was decided, and it goes on at its place in that decision. Source: the Charm++ manual on load balancing, where AtSync
+-- is a barrier over all elements of the array, and ResumeFromSync is called on each once objects have migrated.
+use Rattle.std.specs.Prelude.{◌≡◌, ℕ, ◌<◌, ◌≤◌, List, ◌∷◌, ◌++◌, Contains, Bool, false, ◌&&◌, ◌==◌, Some, slice_get}
+use Rattle.chares.specs.declared.report.Report.{Report}
+use Rattle.chares.specs.declared.report.Report.TheVariants.{Synced, Decided, Resumed}
+use Rattle.chares.specs.Elements.{ElementView}
+use Rattle.pe_state.specs.Pes.{PeView}
+use Rattle.pe_state.specs.Rooms.{found}
+use Rattle.rts_core.specs.Accounts.{times}
+use Rattle.rts_core.specs.Events.{place_in}
+use Rattle.rts_core.specs.Worlds.{WorldView}
+
+-- whether a report is that this round was decided
+abbrev pub is_decided : ℕ → Report → Bool
+is_decided r (Decided s) = s == r
+is_decided r x = false
+
+-- whether it is that this element was resumed for this round
+abbrev pub is_resumed : ℕ → ℕ → Report → Bool
+is_resumed e r (Resumed x s) = (x == e) && (s == r)
+is_resumed e r x = false
+
+-- The trace of n elements keeps the barrier: before an element is resumed for a round, of which the first is 1, every
+-- element has reported in it and it was decided, exactly once.
+pub record IsBarrier (n : ℕ) (trace : List Report) : Type 0 where
+  pub all_synced : (before after : List Report) (e r : ℕ) → trace ≡ before ++ Resumed e r ∷ after → 1 ≤ r → (x : ℕ) → x < n → Contains before (Synced x r)
+  pub decided_once : (before after : List Report) (e r : ℕ) → trace ≡ before ++ Resumed e r ∷ after → 1 ≤ r → times (is_decided r) before ≡ 1
+
+-- an element stands in the room of a PE that is its place in the decision of a round
+pub record StandsInItsPlace {C A : Type 0} (w : WorldView C A) (e r : ℕ) : Type 0 where
+  pub p : ℕ
+  pub pe : PeView C
+  pub el : ElementView C
+  pub at : slice_get w.pes p ≡ Some pe
+  pub stands : found e pe.room ≡ Some el
+  pub place : place_in w.board r e ≡ Some p
