@@ -10,7 +10,7 @@ use Rattle.chares.specs.declared.carried.Carried.TheVariants.{Letter, Element}
 use Rattle.chares.specs.Elements.{ElementView}
 use Rattle.chares.specs.Letters.{Done}
 use Rattle.chares.specs.Steps.{Step}
-use Rattle.element_rounds.specs.Orders.{resumptions, IsInOrder}
+use Rattle.element_rounds.specs.Orders.{resumptions}
 use Rattle.pup_pack.specs.declared.error.PupError.{PupError}
 use Rattle.pe_state.specs.Pes.{PeView, Parcel, Item}
 use Rattle.rts_core.specs.declared.event.Event.{Event}
@@ -21,9 +21,9 @@ use Rattle.rts_core.specs.Runs.{Leads}
 use Rattle.rts_core.specs.Worlds.{WorldView, opening_world}
 use Rattle.rts_core.proofs.Account.{unlived}
 use Rattle.rts_core.proofs.Listings.{no_letter}
-use Rattle.rts_core.proofs.OpeningWeights.{opened_lives, opening_of, opening_weighs, one_at, one_there, one_elsewhere, opened_later}
+use Rattle.rts_core.proofs.OpeningWeights.{opened_lives, opening_of, opening_weighs, one_at, opened_later}
 use Rattle.rts_core.proofs.RunLaws.{by_index, run_keeps}
-use Rattle.rts_core.proofs.Weights.{of_parcel, of_item, of_hand, of_element, of_room, of_pe, of_queue, of_world}
+use Rattle.rts_core.proofs.Weights.{of_parcel, of_item, of_hand, of_element, of_pe, of_queue, of_world}
 use Rattle.barrier_law.specs.Barrier.{is_resumed}
 use Rattle.barrier_law.specs.Orders.{IsElementInOrder, IsParcelInOrder, HasOrder, AreInOrder}
 use Rattle.barrier_law.proofs.Resumptions.{resumed_in}

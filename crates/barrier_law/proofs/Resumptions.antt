@@ -1,22 +1,19 @@
 -- Resumptions are in journals: what the step of a PE reports of them is what the journals of its elements gain.
-use Rattle.std.proofs.Common.{◌≡◌, ℕ, zero, suc, ◌+◌, ◌<◌, ◌≤◌, List, [], ◌∷◌, ◌++◌, Option, Some, None, Bool, true, false, sum_by, append-nil, arith, refl, sym, ap, subst, ◌∙◌}
-use Rattle.std.specs.Prelude.{slice_get, slice_set, ◌&&◌, ◌==◌, if◌then◌else◌}
-use Rattle.std.specs.List.{flat_map, range_with_len}
-use Rattle.std.proofs.lemmas.Bool.Decides.{nat_tests}
+use Rattle.std.proofs.Common.{◌≡◌, ℕ, ◌+◌, List, [], ◌∷◌, ◌++◌, Option, Some, None, Bool, true, false, sum_by, append-nil, arith, refl, ap, ◌∙◌}
+use Rattle.std.specs.Prelude.{slice_set, ◌&&◌, ◌==◌, if◌then◌else◌}
 use Rattle.std.proofs.lemmas.Grind.{flat_map-append}
 use Rattle.std.proofs.lemmas.List.Sums.{sum_by-cons, sum_by_push}
-use Rattle.chares.specs.declared.carried.Carried.TheVariants.{Letter, Element}
 use Rattle.chares.specs.declared.entry.Entry.TheVariants.{Letter as OfLetter, Resumption}
 use Rattle.chares.specs.declared.note.Note.{Note}
 use Rattle.chares.specs.declared.note.Note.TheVariants.{Sync, Finish}
 use Rattle.chares.specs.declared.report.Report.{Report}
 use Rattle.chares.specs.declared.report.Report.TheVariants as Told
-use Rattle.chares.specs.Elements.{ElementView, PackedView}
+use Rattle.chares.specs.Elements.{ElementView}
 use Rattle.chares.specs.Letters.{LetterView, Done}
 use Rattle.chares.specs.Posting.{posts_of}
 use Rattle.chares.specs.Steps.{Step}
 use Rattle.element_rounds.specs.Orders.{resumption_of, resumptions}
-use Rattle.pe_state.specs.Pes.{PeView, Parcel, Item, front_parcel, gave_up, received, looked, noted, departed, resumed, resume_reports, executed, shelving, forwarding, installed}
+use Rattle.pe_state.specs.Pes.{PeView, Parcel, gave_up, received, looked, noted, departed, resumed, resume_reports, executed, shelving, forwarding, installed}
 use Rattle.pe_state.specs.Rooms.{found, sends_in}
 use Rattle.rts_core.specs.Accounts.{times}
 use Rattle.rts_core.specs.Events.{Desk, note_reports}

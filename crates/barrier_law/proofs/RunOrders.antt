@@ -1,5 +1,5 @@
 -- After every list of events the rounds of all elements come in order, and journals have gained what was reported.
-use Rattle.std.proofs.Common.{◌≡◌, ℕ, ◌+◌, ◌≤◌, List, [], ◌∷◌, ◌++◌, length, map, replicate, Option, Some, None, sum_by, arith, refl, sym, subst}
+use Rattle.std.proofs.Common.{◌≡◌, ℕ, ◌+◌, List, [], ◌∷◌, length, map, Option, Some, None, arith, refl, sym, subst}
 use Rattle.std.specs.Prelude.{Result, All, IfSome, slice_get}
 use Rattle.std.specs.List.{range_with_len}
 use Rattle.std.proofs.lemmas.List.Elements.{All-nil, All-set, All-map, All-replicate, All-weaker}
@@ -9,7 +9,7 @@ use Rattle.chares.specs.Elements.{opening_element}
 use Rattle.chares.specs.Steps.{Step}
 use Rattle.element_rounds.proofs.Orders.{in_order_opening}
 use Rattle.pup_pack.specs.declared.error.PupError.{PupError}
-use Rattle.pe_state.specs.Pes.{PeView, Item, new_pe, placed}
+use Rattle.pe_state.specs.Pes.{PeView, new_pe, placed}
 use Rattle.rts_core.specs.declared.event.Event.{Event}
 use Rattle.rts_core.specs.Accounts.{times}
 use Rattle.rts_core.specs.Events.{After, Desk, Happens, desk, with_desk}
@@ -17,7 +17,7 @@ use Rattle.rts_core.specs.Runs.{Leads}
 use Rattle.rts_core.specs.Worlds.{WorldView, home, placed_on, settled, opening_world}
 use Rattle.rts_core.proofs.Histories.{one_of_all}
 use Rattle.rts_core.proofs.Listings.{no_letter}
-use Rattle.rts_core.proofs.Weights.{of_pe, of_queue, of_world}
+use Rattle.rts_core.proofs.Weights.{of_pe, of_world}
 use Rattle.rts_core.proofs.WorldSteps.{sum_at}
 use Rattle.barrier_law.specs.Barrier.{is_resumed}
 use Rattle.barrier_law.specs.Orders.{IsParcelInOrder, HasOrder, AreInOrder}
