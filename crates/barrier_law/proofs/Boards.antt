@@ -1,6 +1,6 @@
 -- What the trace of a run says of its board: of the reports that the board has, and of the rounds that it has decided.
-use Rattle.std.proofs.Common.{◌≡◌, ◌≢◌, ℕ, zero, suc, ◌+◌, ◌<◌, ◌≤◌, ◌⊎◌, inl, inr, List, [], ◌∷◌, ◌++◌, length, get_or, Option, None, Some, Bool, true, false, arith, refl, sym, ap, subst, ◌∙◌, length-set, replicate}
-use Rattle.std.specs.Prelude.{Contains, IsSome, slice_get, ◌&&◌, ◌==◌, nat_eq}
+use Rattle.std.proofs.Common.{◌≡◌, ◌≢◌, ℕ, zero, suc, ◌+◌, ◌<◌, ◌≤◌, ◌⊎◌, inl, inr, List, [], ◌∷◌, ◌++◌, length, get_or, Option, None, Some, Bool, true, false, arith, refl, sym, subst, ◌∙◌, length-set, replicate}
+use Rattle.std.specs.Prelude.{Contains, IsSome, slice_get, ◌&&◌, nat_eq}
 use Rattle.std.specs.Option.{option_map}
 use Rattle.std.proofs.lemmas.Bool.Decides.{nat_tests}
 use Rattle.std.proofs.lemmas.List.{length-replicate, get_or-replicate, get_or-set_other, length_push}
@@ -10,7 +10,7 @@ use Rattle.chares.specs.declared.note.Note.{Note}
 use Rattle.chares.specs.declared.note.Note.TheVariants.{Sync, Finish}
 use Rattle.chares.specs.declared.report.Report.{Report}
 use Rattle.chares.specs.declared.report.Report.TheVariants.{Synced, Decided, Resumed}
-use Rattle.at_sync.specs.Boards.{BoardState, Kept, Decides, after_report, after_finish, after_decision}
+use Rattle.at_sync.specs.Boards.{BoardState, Kept, Decides, after_report, after_finish}
 use Rattle.lb_database.specs.Measuring.{elements, report_of}
 use Rattle.lb_strategy.specs.Moves.{planned_pe}
 use Rattle.rts_core.specs.Accounts.{times}

@@ -1,6 +1,10 @@
+pub mod Acts
 pub mod Boards
+pub mod Once
 pub mod Ordered
+pub mod Resumptions
 pub mod Rooms
+pub mod RunOrders
 pub mod Runs
 pub mod Stands
 pub mod Tallies

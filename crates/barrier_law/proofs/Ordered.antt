@@ -1,10 +1,9 @@
 -- What the step of a PE makes of the elements that it holds: their rounds come in order, and still do.
-use Rattle.std.proofs.Common.{◌≡◌, ℕ, ◌+◌, ◌⊎◌, inl, inr, List, [], ◌∷◌, ◌++◌, map, Bool, true, false, Option, Some, None, refl, sym, ap, subst}
-use Rattle.std.specs.Prelude.{All, IfSome, slice_get, slice_set, if◌then◌else◌}
+use Rattle.std.proofs.Common.{◌≡◌, ℕ, ◌+◌, inl, inr, List, [], ◌∷◌, ◌++◌, map, Bool, true, false, Option, Some, None, refl, sym, subst}
+use Rattle.std.specs.Prelude.{All, IfSome, slice_get, if◌then◌else◌}
 use Rattle.std.specs.List.{filter}
-use Rattle.std.specs.Option.{option_map, option_map_or, option_to_list}
+use Rattle.std.specs.Option.{option_map, option_to_list}
 use Rattle.std.proofs.lemmas.List.Elements.{All-nil, All-cons, All-append, All-push, All-drop, All-head, All-tail, All-set}
-use Rattle.at_sync.specs.Boards.{BoardState}
 use Rattle.chares.specs.declared.carried.Carried.TheVariants.{Letter, Element}
 use Rattle.chares.specs.declared.entry.Entry.TheVariants.{Letter as OfLetter, Resumption}
 use Rattle.chares.specs.declared.report.Report.{Report}
@@ -14,7 +13,7 @@ use Rattle.chares.specs.Posting.{letters_of, letter_to}
 use Rattle.chares.specs.Steps.{Step}
 use Rattle.element_rounds.specs.Orders.{MayHandle}
 use Rattle.element_rounds.proofs.Orders.{in_order_ran}
-use Rattle.pe_state.specs.Pes.{PeView, Parcel, Item, at_pe, letter_at, element_at, front_at, front_parcel, is_for, hand_wants, looked, looked_in, received, gave_up, noted, handled, resumed, executed, shelving, forwarding, installed, departed}
+use Rattle.pe_state.specs.Pes.{PeView, Parcel, Item, at_pe, letter_at, element_at, front_at, front_parcel, is_for, hand_wants, looked_in, handled, installed, departed}
 use Rattle.pe_state.specs.Rooms.{found, changed, ran_in}
 use Rattle.rts_core.specs.Events.{Desk, waits_for}
 use Rattle.rts_core.proofs.Histories.{one_of_all}

@@ -1,22 +1,25 @@
 -- The barrier of every list of events.
-use Rattle.std.proofs.Common.{◌≡◌, ℕ, ◌+◌, ◌<◌, ◌≤◌, ◌⊎◌, inl, inr, List, [], ◌∷◌, ◌++◌, length, get_or, replicate, Option, None, Some, arith, refl, sym, ap, subst, ◌∙◌}
-use Rattle.std.specs.Prelude.{Result, Contains, IsSome, slice_get}
+use Rattle.std.proofs.Common.{◌≡◌, ℕ, ◌<◌, ◌≤◌, ◌⊎◌, inl, inr, List, [], ◌∷◌, ◌++◌, length, get_or, replicate, None, arith, refl, sym, subst}
+use Rattle.std.specs.Prelude.{Result, Contains, IsSome}
 use Rattle.std.proofs.lemmas.List.{length-replicate, get_or-replicate, append_assoc}
 use Rattle.chares.specs.declared.report.Report.{Report}
 use Rattle.chares.specs.declared.report.Report.TheVariants.{Resumed, Decided}
 use Rattle.chares.specs.Steps.{Step}
-use Rattle.at_sync.specs.Boards.{BoardState, new_board}
+use Rattle.at_sync.specs.Boards.{new_board}
 use Rattle.pup_pack.specs.declared.error.PupError.{PupError}
 use Rattle.pe_state.specs.Pes.{PeView}
 use Rattle.rts_core.specs.declared.event.Event.{Event}
 use Rattle.rts_core.specs.Events.{After, Desk, Happens, desk, with_desk}
 use Rattle.rts_core.specs.Runs.{Leads}
 use Rattle.rts_core.specs.Worlds.{WorldView, opening_world}
-use Rattle.barrier_law.specs.Barrier.{is_decided, IsBarrier, StandsInItsPlace}
+use Rattle.barrier_law.specs.Barrier.{IsBarrier, StandsInItsPlace}
+use Rattle.barrier_law.specs.Orders.{AreInOrder}
 use Rattle.barrier_law.proofs.Boards.{Tells, Keeps, tells_kept, tells_taken, tells_decided, unlike_decided, none_there}
+use Rattle.barrier_law.proofs.Once.{resumed_once}
+use Rattle.barrier_law.proofs.RunOrders.{are_in_order, run_ordered, opening_ordered}
 use Rattle.barrier_law.proofs.Stands.{Turned, Takes, each_turned, stands_at}
 use Rattle.barrier_law.proofs.Tallies.{only_member, no_member}
-use Rattle.barrier_law.proofs.Turns.{EachTurn, each_map, happens_so}
+use Rattle.barrier_law.proofs.Turns.{each_map, happens_so}
 
 module _ {C A : Type 0} (step : Step C) (pack : C → List ℕ) (unpack : List ℕ → Result (C × ℕ) PupError) where
   -- an event
@@ -73,13 +76,18 @@ module _ {C A : Type 0} (step : Step C) (pack : C → List ℕ) (unpack : List �
       no_split (y ∷ before) after x h = cc
 
   -- the barrier holds of every list of events
-  pub barrier : (pes : ℕ) (chares : List C) (events : List Event) (last : After C A) → Leads step pack unpack (opening_world pes chares) events last → IsBarrier (length chares) last.1
-  barrier pes chares events last run =
+  pub barrier : (pes : ℕ) (chares : List C) (events : List Event) (last : After C A) → 1 ≤ pes → Leads step pack unpack (opening_world pes chares) events last → IsBarrier (length chares) last.1
+  barrier pes chares events last some run =
       let t : Tells (length chares) last.0.board last.1 = run_tells (length chares) (opening_world pes chares) [] events last (opening_tells (length chares) pes) run in
       record {
-        all_synced = λ before after e r h some. (t.barred before after e r h some).synced;
-        decided_once = λ before after e r h some. (t.barred before after e r h some).decided;
+        all_synced = λ before after e r h first. (t.barred before after e r h first).synced;
+        decided_once = λ before after e r h first. (t.barred before after e r h first).decided;
+        resumed_once = λ e r. resumed_once e r step pack unpack pes chares some events last run;
       }
+
+  -- the rounds of all elements come in order
+  pub in_order : (pes : ℕ) (chares : List C) (events : List Event) (last : After C A) → Leads step pack unpack (opening_world pes chares) events last → AreInOrder last.0
+  in_order pes chares events last run = are_in_order last.0 (run_ordered step pack unpack (opening_world pes chares) events last (opening_ordered A pes chares) run)
 
   -- and what an event resumes for a round stands in its place
   pub stands : (w : WorldView C A) (event : Event) (next : After C A) (e r : ℕ) → Happens step pack unpack w event next → Contains next.1 (Resumed e r) → 1 ≤ r → StandsInItsPlace w e r × StandsInItsPlace next.0 e r

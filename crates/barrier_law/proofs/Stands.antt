@@ -1,8 +1,6 @@
 -- What the step of a PE makes of the board, and where an element stands that it resumes.
-use Rattle.std.proofs.Common.{◌≡◌, ℕ, zero, suc, ◌+◌, ◌<◌, ◌≤◌, ◌⊎◌, inl, inr, List, [], ◌∷◌, ◌++◌, length, Option, None, Some, Bool, true, false, cond, arith, refl, sym, ap, subst, ◌∙◌}
-use Rattle.std.specs.Prelude.{Contains, slice_get, slice_set, ◌==◌}
-use Rattle.std.specs.Option.{option_map_or}
-use Rattle.std.specs.BTreeMap.{is_at}
+use Rattle.std.proofs.Common.{◌≡◌, ℕ, zero, suc, ◌≤◌, ◌⊎◌, inl, inr, List, [], ◌∷◌, Some, Bool, true, false, cond, arith, refl, sym, subst}
+use Rattle.std.specs.Prelude.{Contains, slice_get}
 use Rattle.std.specs.Ordering.{nat_cmp, is_eq}
 use Rattle.std.proofs.lemmas.Bool.Decides.{nat_tests}
 use Rattle.chares.specs.declared.entry.Entry.TheVariants.{Resumption}
@@ -15,7 +13,7 @@ use Rattle.chares.specs.Letters.{Done}
 use Rattle.chares.specs.Posting.{posts_of}
 use Rattle.chares.specs.Steps.{Step}
 use Rattle.at_sync.specs.Boards.{BoardState}
-use Rattle.pe_state.specs.Pes.{PeView, resumed, resume_reports}
+use Rattle.pe_state.specs.Pes.{PeView, resumed}
 use Rattle.pe_state.specs.Rooms.{found, changed, ran_in}
 use Rattle.rts_core.specs.Accounts.{times}
 use Rattle.rts_core.specs.Events.{Desk, place_in, board_after, note_reports, with_desk, desk}

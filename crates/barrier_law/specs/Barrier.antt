@@ -22,10 +22,11 @@ is_resumed e r (Resumed x s) = (x == e) && (s == r)
 is_resumed e r x = false
 
 -- The trace of n elements keeps the barrier: before an element is resumed for a round, of which the first is 1, every
--- element has reported in it and it was decided, exactly once.
+-- element has reported in it and it was decided, exactly once; and it is resumed for each round, and started, at most once.
 pub record IsBarrier (n : ℕ) (trace : List Report) : Type 0 where
   pub all_synced : (before after : List Report) (e r : ℕ) → trace ≡ before ++ Resumed e r ∷ after → 1 ≤ r → (x : ℕ) → x < n → Contains before (Synced x r)
   pub decided_once : (before after : List Report) (e r : ℕ) → trace ≡ before ++ Resumed e r ∷ after → 1 ≤ r → times (is_decided r) before ≡ 1
+  pub resumed_once : (e r : ℕ) → times (is_resumed e r) trace ≤ 1
 
 -- an element stands in the room of a PE that is its place in the decision of a round
 pub record StandsInItsPlace {C A : Type 0} (w : WorldView C A) (e r : ℕ) : Type 0 where

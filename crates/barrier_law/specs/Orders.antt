@@ -1,5 +1,5 @@
 -- That the rounds of every element of a world come in order, wherever it is.
-use Rattle.std.specs.Prelude.{List, All, IfSome}
+use Rattle.std.specs.Prelude.{All, IfSome}
 use Rattle.std.specs.Map.{values_of}
 use Rattle.chares.specs.declared.carried.Carried.TheVariants.{Letter, Element}
 use Rattle.chares.specs.Elements.{ElementView}

@@ -3,6 +3,7 @@
 ghost use Rattle.std.specs.Prelude.{ℕ, ◌≤◌, List, length, Contains};
 ghost use Rattle.chares.specs.declared.report.Report.TheVariants.{Resumed};
 ghost use Rattle.barrier_law.specs.Barrier.{IsBarrier, StandsInItsPlace};
+ghost use Rattle.barrier_law.specs.Orders.{AreInOrder};
 ghost use Rattle.rts_core.specs.declared.event.Event.{Event};
 ghost use Rattle.rts_core.specs.Events.{After, Happens};
 ghost use Rattle.rts_core.specs.Runs.{Leads};
@@ -13,10 +14,12 @@ use std::alloc::Allocator;
 
 /// The barrier of every list of events. The function does nothing: its clauses are the laws, of whatever chares and
 /// however many PEs, in any order of events, with those that are not enabled among them. In the trace, before an element
-/// is resumed for a round, every element has reported in it, and it was decided exactly once. And where an event resumes
-/// an element for a round, the element stands, before the event and after it, in the room of its place in the decision
-/// of that round.
+/// is resumed for a round, every element has reported in it, and it was decided exactly once; and no element is started,
+/// or resumed for a round, twice. Where an event resumes an element for a round, the element stands, before the event and
+/// after it, in the room of its place in the decision of that round. And the rounds of each element come in order,
+/// wherever it is.
 pub fn barrier_law<C: Chare<A>, A: Allocator>()
     ensures barrier { (pes : ℕ) (chares : List C) (events : List Event) (last : After C A) → 1 ≤ pes → Leads C.step C.pack C.unpack (opening_world pes chares) events last → IsBarrier (length chares) last.1 }
     ensures stands { (w : WorldView C A) (event : Event) (next : After C A) (e r : ℕ) → Happens C.step C.pack C.unpack w event next → Contains next.1 (Resumed e r) → 1 ≤ r → StandsInItsPlace w e r × StandsInItsPlace next.0 e r }
+    ensures in_order { (pes : ℕ) (chares : List C) (events : List Event) (last : After C A) → Leads C.step C.pack C.unpack (opening_world pes chares) events last → AreInOrder last.0 }
 {}

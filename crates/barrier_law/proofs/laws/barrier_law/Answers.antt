@@ -1,10 +1,14 @@
-use Rattle.barrier_law.proofs.Runs.{barrier, stands}
+use Rattle.barrier_law.proofs.Runs.{barrier, stands, in_order}
 use Rattle.barrier_law.proofs.laws.barrier_law.Goals as goal
 
--- src/laws.rt:19:1
+-- src/laws.rt:21:1
 pub returns-clause-barrier : goal.returns-clause-barrier
-returns-clause-barrier g c = λ pes chares events last some run. barrier g.C.Chare.step g.C.Pup.pack g.C.Pup.unpack pes chares events last run
+returns-clause-barrier g c = λ pes chares events last some run. barrier g.C.Chare.step g.C.Pup.pack g.C.Pup.unpack pes chares events last some run
 
--- src/laws.rt:19:1
+-- src/laws.rt:21:1
 pub returns-clause-stands : goal.returns-clause-stands
 returns-clause-stands g c = λ w event next e r happens there some. stands g.C.Chare.step g.C.Pup.pack g.C.Pup.unpack w event next e r happens there some
+
+-- src/laws.rt:21:1
+pub returns-clause-in_order : goal.returns-clause-in_order
+returns-clause-in_order g c = λ pes chares events last run. in_order g.C.Chare.step g.C.Pup.pack g.C.Pup.unpack pes chares events last run
