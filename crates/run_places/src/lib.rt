@@ -1,0 +1,2 @@
+//! Where the elements of a world are that a list of events leads to.
+#![tactic(auto)]
