@@ -1,5 +1,6 @@
 pub mod Acts
 pub mod Boards
+pub mod Measured
 pub mod Once
 pub mod Ordered
 pub mod Resumptions
