@@ -1,7 +1,8 @@
 -- The barrier of a round, over the trace of a run: no element goes on before every element has reported and the round
--- was decided, and it goes on at its place in that decision. Source: the Charm++ manual on load balancing, where AtSync
--- is a barrier over all elements of the array, and ResumeFromSync is called on each once objects have migrated.
-use Rattle.std.specs.Prelude.{◌≡◌, ℕ, ◌<◌, ◌≤◌, List, ◌∷◌, ◌++◌, length, Contains, Bool, false, ◌&&◌, ◌==◌, Some, slice_get}
+-- was decided, and it goes on at its place in that decision. Source: the Charm++ manual on load balancing, where the
+-- elements of an array are balanced once all of them have called AtSync, and go on in ResumeFromSync. That an element
+-- goes on while others are still on their way to their places is this project's choice.
+use Rattle.std.specs.Prelude.{◌≡◌, ℕ, ◌<◌, ◌≤◌, List, ◌∷◌, ◌++◌, Contains, Bool, false, ◌&&◌, ◌==◌, Some, slice_get}
 use Rattle.chares.specs.declared.report.Report.{Report}
 use Rattle.chares.specs.declared.report.Report.TheVariants.{Synced, Decided, Resumed}
 use Rattle.chares.specs.Elements.{ElementView}
@@ -24,14 +25,15 @@ abbrev pub is_resumed : ℕ → ℕ → Report → Bool
 is_resumed e r (Resumed x s) = (x == e) && (s == r)
 is_resumed e r x = false
 
--- The trace of n elements keeps the barrier: before an element is resumed for a round, of which the first is 1, every
--- element has reported in it and it was decided, exactly once; and it is resumed for each round, and started, at most once.
+-- The trace of a run of n elements keeps the barrier: before an element is resumed for a round, of which the first is 1,
+-- every element has reported in it and it was decided, exactly once; and no element is resumed for the same round twice,
+-- where its start is its resumption for round 0.
 pub record IsBarrier (n : ℕ) (trace : List Report) : Type 0 where
   pub all_synced : (before after : List Report) (e r : ℕ) → trace ≡ before ++ Resumed e r ∷ after → 1 ≤ r → (x : ℕ) → x < n → Contains before (Synced x r)
   pub decided_once : (before after : List Report) (e r : ℕ) → trace ≡ before ++ Resumed e r ∷ after → 1 ≤ r → times (is_decided r) before ≡ 1
   pub resumed_once : (e r : ℕ) → times (is_resumed e r) trace ≤ 1
 
--- an element stands in the room of a PE that is its place in the decision of a round
+-- element e stands in the room of PE p, which is its place in the decision of round r
 pub record StandsInItsPlace {C A : Type 0} (w : WorldView C A) (e r : ℕ) : Type 0 where
   pub p : ℕ
   pub pe : PeView C

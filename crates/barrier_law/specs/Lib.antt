@@ -1,2 +1,3 @@
 pub mod Barrier
+pub mod Measured
 pub mod Orders

@@ -1,5 +1,6 @@
-//! The barrier of every list of events: before an element is resumed for a round every element has reported in it and it
-//! was decided, once, and the element then stands at its place in that decision.
+//! The rounds of every list of events: before an element is resumed for a round every element has reported in it and it
+//! was decided, once; the element then stands at its place in that decision; and what was decided on is what the elements
+//! did for the round.
 #![tactic(auto)]
 
 mod laws;

@@ -14,6 +14,6 @@ returns-clause-stands g c = λ w event next e r happens there some. stands g.C.C
 pub returns-clause-in_order : goal.returns-clause-in_order
 returns-clause-in_order g c = λ pes chares events last run. in_order g.C.Chare.step g.C.Pup.pack g.C.Pup.unpack pes chares events last run
 
--- src/laws.rt:21:1
+-- src/laws.rt:20:1
 pub returns-clause-measured : goal.returns-clause-measured
-returns-clause-measured g c = λ pes opened events w trace event next r some run happens here are. measured g.C.Chare.step g.C.Pup.fits g.C.Pup.pack g.C.Pup.unpack pes opened some events w trace event next r run happens here are
+returns-clause-measured g c = λ pes chares events w trace event next r some run are happens there. measured g.C.Chare.step g.C.Pup.fits g.C.Pup.pack g.C.Pup.unpack pes chares some events w trace event next r run are happens there

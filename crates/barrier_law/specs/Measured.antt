@@ -1,0 +1,16 @@
+-- What is measured of a round is what the elements did for it. Source: the Charm++ manual on measurement-based load
+-- balancing, where the load of an object is what the runtime measured of its work, and is the forecast for what it will do.
+use Rattle.std.specs.Prelude.{◌≡◌, ℕ, List, length, Some, slice_get}
+use Rattle.lb_certificates.specs.Measured.{Taken}
+use Rattle.chares.specs.Steps.{Step}
+use Rattle.element_rounds.specs.Rounds.{IsPhase}
+use Rattle.round_agreement.specs.Agreement.{IsTakenOf}
+use Rattle.rts_core.specs.Worlds.{WorldView}
+
+-- The snapshot of round r measures element e of a world: it has the element on the PE in whose room it stands, and its
+-- load and its size are those of the entries of its journal for this round, from the chare on that its array opened with.
+pub record Measures {C A : Type 0} (step : Step C) (pack : C → List ℕ) (opened : List C) (w : WorldView C A) (snapshot : Taken) (e r : ℕ) : Type 0 where
+  pub taken : IsTakenOf w snapshot e r
+  pub chare : C
+  pub opens : slice_get opened e ≡ Some chare
+  pub did : IsPhase step pack (length opened) e chare taken.el.journal r taken.load taken.bytes
