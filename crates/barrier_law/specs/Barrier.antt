@@ -6,9 +6,6 @@ use Rattle.std.specs.Prelude.{◌≡◌, ℕ, ◌<◌, ◌≤◌, List, ◌∷�
 use Rattle.chares.specs.declared.report.Report.{Report}
 use Rattle.chares.specs.declared.report.Report.TheVariants.{Synced, Decided, Resumed}
 use Rattle.chares.specs.Elements.{ElementView}
-use Rattle.chares.specs.Steps.{Step}
-use Rattle.element_rounds.specs.Rounds.{IsPhase}
-use Rattle.lb_certificates.specs.Measured.{Taken}
 use Rattle.pe_state.specs.Pes.{PeView}
 use Rattle.pe_state.specs.Rooms.{found}
 use Rattle.rts_core.specs.Accounts.{times}
@@ -41,19 +38,3 @@ pub record StandsInItsPlace {C A : Type 0} (w : WorldView C A) (e r : ℕ) : Typ
   pub at : slice_get w.pes p ≡ Some pe
   pub stands : found e pe.room ≡ Some el
   pub place : place_in w.board r e ≡ Some p
-
--- A snapshot has what element e did for a round: the element stands in the room of the PE that is its place there, and its
--- load and its size are those of what it did for the round, by its journal.
-pub record IsMeasured {C A : Type 0} (step : Step C) (pack : C → List ℕ) (opened : List C) (w : WorldView C A) (snapshot : Taken) (e r : ℕ) : Type 0 where
-  pub p : ℕ
-  pub pe : PeView C
-  pub el : ElementView C
-  pub chare : C
-  pub load : ℕ
-  pub bytes : ℕ
-  pub at : slice_get w.pes p ≡ Some pe
-  pub stands : found e pe.room ≡ Some el
-  pub opens : slice_get opened e ≡ Some chare
-  pub sized : slice_get snapshot.sizes e ≡ Some (bytes, p)
-  pub loaded : slice_get snapshot.loads e ≡ Some load
-  pub phase : IsPhase step pack (length opened) e chare el.journal r load bytes
