@@ -23,8 +23,8 @@ use Rattle.rts_core.specs.Worlds.{WorldView}
 abbrev pub IsFresh : Progress → Type 0
 IsFresh p = p.started ≡ false → (p.round ≡ 0) × (p.synced ≡ false)
 
--- An element is at work in the round under way: it does not wait, it was resumed last for the round before, and the
--- board has no report of it.
+-- An element is at work in the round under way: it does not wait, the round that it was resumed for last is the one
+-- before, where a start counts as round 0, and the board has no report of it.
 pub record IsAtWork (m : Measured) (e : ℕ) (p : Progress) : Type 0 where
   pub awake : p.synced ≡ false
   pub at_round : m.round ≡ p.round + 1
@@ -82,7 +82,7 @@ abbrev pub AgreesOn : Measured → Parcel → Type 0
 AgreesOn m (Letter l) = Unit {0}
 AgreesOn m (Element p) = (p.index < elements m) × IsFresh p.progress × WaitsForPlace m p.index p.progress
 
--- each note that an element waits is owed by an element of the room
+-- a note that an element waits is owed by an element of the room
 abbrev pub IsOwed : {C : Type 0} → Measured → ℕ → List (ℕ × ElementView C) → Note → Type 0
 IsOwed {C} m me room note = is_finish note ≡ false → (el : ElementView C) × (found el.index room ≡ Some el) × Owes m me el note
 
