@@ -67,15 +67,15 @@ pub record WaitsForPlace (m : Measured) (e : ℕ) (p : Progress) : Type 0 where
   pub silent : report_of m e ≡ None
 
 -- an element that stands on a PE is in one of these four
-abbrev pub IsSomehow : {C : Type 0} → Measured → ℕ → List Note → ElementView C → Type 0
-IsSomehow m me notes el =
+abbrev pub IsInSomeState : {C : Type 0} → Measured → ℕ → List Note → ElementView C → Type 0
+IsInSomeState m me notes el =
     IsAtWork m el.index el.progress ⊎ (OwesItsNote m me notes el ⊎ (HasReported m me el ⊎ WaitsForPlace m el.index el.progress))
 
 -- the board and an element that stands on a PE agree
 pub record AgreesWith {C : Type 0} (m : Measured) (me : ℕ) (notes : List Note) (el : ElementView C) : Type 0 where
   pub known : el.index < elements m
   pub fresh : IsFresh el.progress
-  pub state : IsSomehow m me notes el
+  pub state : IsInSomeState m me notes el
 
 -- the board and a parcel agree: an element on its way waits for its place
 abbrev pub AgreesOn : Measured → Parcel → Type 0
@@ -91,7 +91,7 @@ abbrev pub is_wait_of : ℕ → Note → Bool
 is_wait_of e (Sync i round units bytes pe) = i == e
 is_wait_of e (Finish i) = false
 
--- The board and a PE agree: each element stands in the room beside its own index and is somehow, each note that an
+-- The board and a PE agree: each element of the room stands beside its own index and agrees, each note that an
 -- element waits is owed, no element has two of them, and each element in the hand or in the outbox waits for its place.
 pub record AgreesAt {C : Type 0} (m : Measured) (pe : PeView C) : Type 0 where
   pub keyed : All (λ (place : ℕ × ElementView C). place.1.index ≡ place.0) pe.room
