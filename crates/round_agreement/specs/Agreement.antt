@@ -59,8 +59,8 @@ pub record HasReported {C : Type 0} (m : Measured) (me : ℕ) (el : ElementView 
   pub charged : slice_get m.loads el.index ≡ Some units
   pub marked : Contains el.marks (Synced (Sync el.index m.round units bytes me))
 
--- An element waits for its place: the round for whose end it waits is the last that was decided, and it has no report in
--- the one under way.
+-- An element waits for its place: the round for whose end it waits is the last that was decided, and the board has no
+-- report of it in the one under way.
 pub record WaitsForPlace (m : Measured) (e : ℕ) (p : Progress) : Type 0 where
   pub waits : p.synced ≡ true
   pub at_round : m.round ≡ p.round + 2
