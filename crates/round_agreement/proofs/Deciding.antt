@@ -14,7 +14,7 @@ use Rattle.chares.specs.Elements.{ElementView}
 use Rattle.pe_state.specs.Pes.{PeView, Parcel, Item}
 use Rattle.rts_core.specs.Events.{MayDecide}
 use Rattle.rts_core.specs.Worlds.{WorldView}
-use Rattle.round_agreement.specs.Agreement.{HasReported, IsSomehow, AgreesWith, AgreesOn, IsOwed, AgreesAt, IsOpenFor, Agrees}
+use Rattle.round_agreement.specs.Agreement.{HasReported, IsInSomeState, AgreesWith, AgreesOn, IsOwed, AgreesAt, IsOpenFor, Agrees}
 use Rattle.round_agreement.proofs.Rooms.{of_found}
 use Rattle.round_agreement.proofs.Handlers.{ItemAgrees}
 
@@ -53,7 +53,7 @@ module _ (m : Measured) (n : ℕ) (open_for : IsOpenFor n m) (complete : IsCompl
   pub each_reported : {C : Type 0} (me : ℕ) (notes : List Note) (el : ElementView C) → AgreesWith m me notes el → HasReported m me el
   each_reported {C} me notes el h = by h.state
     where
-      by : IsSomehow m me notes el → HasReported m me el
+      by : IsInSomeState m me notes el → HasReported m me el
       by (inl w) = absurd (not_silent el.index h.known w.silent)
       by (inr (inl o)) = absurd (not_silent el.index h.known o.owes.silent)
       by (inr (inr (inl k))) = k

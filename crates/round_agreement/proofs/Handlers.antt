@@ -21,7 +21,7 @@ use Rattle.pe_state.specs.Pes.{PeView, Item, handled, resumed, resume_reports}
 use Rattle.pe_state.specs.Rooms.{found, changed, ran_in, sends_in, note_in}
 use Rattle.rts_core.specs.Events.{where_true, waits_for, place_in, due, started, went_on}
 use Rattle.rts_core.proofs.EventSteps.{where_some}
-use Rattle.round_agreement.specs.Agreement.{IsAtWork, Owes, WaitsForPlace, IsSomehow, AgreesWith, AgreesOn, AgreesAt}
+use Rattle.round_agreement.specs.Agreement.{IsAtWork, Owes, WaitsForPlace, IsInSomeState, AgreesWith, AgreesOn, AgreesAt}
 use Rattle.round_agreement.proofs.Rooms.{of_found}
 use Rattle.round_agreement.proofs.Turns.{some_is, Turn, RoomAgrees, turned, no_sync, true_not_false, turn_at_work, turn_waiting}
 
@@ -49,14 +49,14 @@ pub owes_none_awake : {C : Type 0} (m : Measured) (me : ℕ) (el : ElementView C
 owes_none_awake m me el f y o = true_not_false el.progress.synced o.waits f
 
 -- an element that does not wait is at work
-pub awake_at_work : {C : Type 0} (m : Measured) (me : ℕ) (notes : List Note) (el : ElementView C) → el.progress.synced ≡ false → IsSomehow m me notes el → IsAtWork m el.index el.progress
+pub awake_at_work : {C : Type 0} (m : Measured) (me : ℕ) (notes : List Note) (el : ElementView C) → el.progress.synced ≡ false → IsInSomeState m me notes el → IsAtWork m el.index el.progress
 awake_at_work m me notes el f (inl w) = w
 awake_at_work m me notes el f (inr (inl o)) = absurd (true_not_false el.progress.synced o.owes.waits f)
 awake_at_work m me notes el f (inr (inr (inl k))) = absurd (true_not_false el.progress.synced k.waits f)
 awake_at_work m me notes el f (inr (inr (inr k))) = absurd (true_not_false el.progress.synced k.waits f)
 
 -- one that waits for the end of an earlier round than the one under way waits for its place
-pub decided_waits : {C : Type 0} (m : Measured) (me : ℕ) (notes : List Note) (el : ElementView C) → el.progress.synced ≡ true → el.progress.round + 1 < m.round → IsSomehow m me notes el → WaitsForPlace m el.index el.progress
+pub decided_waits : {C : Type 0} (m : Measured) (me : ℕ) (notes : List Note) (el : ElementView C) → el.progress.synced ≡ true → el.progress.round + 1 < m.round → IsInSomeState m me notes el → WaitsForPlace m el.index el.progress
 decided_waits m me notes el t lt (inl w) = absurd (true_not_false el.progress.synced t w.awake)
 decided_waits m me notes el t lt (inr (inl o)) = absurd (omega (arith, lt, o.owes.at_round))
 decided_waits m me notes el t lt (inr (inr (inl k))) = absurd (omega (arith, lt, k.at_round))

@@ -24,7 +24,7 @@ use Rattle.rts_core.proofs.RunLaws.{by_index}
 use Rattle.rts_core.proofs.Weights.{of_parcel, of_item, of_hand, of_element, of_room, of_pe, weigh}
 use Rattle.rts_core.proofs.WorldSteps.{get_set_same, get_set_other}
 use Rattle.run_places.proofs.Alone.{each_zero}
-use Rattle.round_agreement.specs.Agreement.{Owes, WaitsForPlace, IsSomehow, AgreesWith, AgreesOn, IsOwed, AgreesAt, IsOpenFor, is_wait_of}
+use Rattle.round_agreement.specs.Agreement.{Owes, WaitsForPlace, IsInSomeState, AgreesWith, AgreesOn, IsOwed, AgreesAt, IsOpenFor, is_wait_of}
 use Rattle.round_agreement.proofs.Rooms.{is_same, of_found, AreKeyed, Key}
 use Rattle.round_agreement.proofs.Turns.{wait_is, wait_of, one_if, RoomAgrees}
 use Rattle.round_agreement.proofs.Handlers.{ItemAgrees}
@@ -149,7 +149,7 @@ module _ (m : Measured) (i units bytes q : ℕ) where
   else_agrees {C} me notes rest el ne passes h =
       record { known = let k = h.known in let c = told_counts in omega (arith, k, c); fresh = h.fresh; state = by h.state }
     where
-      by : IsSomehow m me notes el → IsSomehow next me rest el
+      by : IsInSomeState m me notes el → IsInSomeState next me rest el
       by (inl w) = inl (record { awake = w.awake; at_round = w.at_round; silent = told_others el.index ne ∙ w.silent })
       by (inr (inl o)) = inr (inl (record { note = o.note; owes = else_owes me el o.note ne o.owes; listed = passes o.note o.owes o.listed }))
       by (inr (inr (inl k))) =
@@ -207,7 +207,7 @@ module _ {C : Type 0} (m : Measured) (me : ℕ) (room : List (ℕ × ElementView
       passes : (el : ElementView C) → AgreesWith m me (first ∷ rest) el → AgreesWith m me rest el
       passes el k = record { known = k.known; fresh = k.fresh; state = by k.state }
         where
-          by : IsSomehow m me (first ∷ rest) el → IsSomehow m me rest el
+          by : IsInSomeState m me (first ∷ rest) el → IsInSomeState m me rest el
           by (inl w) = inl w
           by (inr (inl o)) = inr (inl (record { note = o.note; owes = o.owes; listed = later first rest o.note (no_wait o.note el.index m.round o.owes.units o.owes.bytes me o.owes.says) o.listed }))
           by (inr (inr (inl x))) = inr (inr (inl x))

@@ -24,7 +24,7 @@ use Rattle.chares.specs.Letters.{Done}
 use Rattle.chares.specs.Progressing.{ending, ended, note_at, synced_mark, is_finish}
 use Rattle.pe_state.specs.Rooms.{found, changed}
 use Rattle.rts_core.specs.Accounts.{times}
-use Rattle.round_agreement.specs.Agreement.{IsFresh, IsAtWork, Owes, IsSomehow, AgreesWith, IsOwed, is_wait_of}
+use Rattle.round_agreement.specs.Agreement.{IsFresh, IsAtWork, Owes, IsInSomeState, AgreesWith, IsOwed, is_wait_of}
 use Rattle.round_agreement.proofs.Rooms.{found_changed, changed_other, places_changed, AreKeyed, Key, found_index}
 
 pub some_is : {X : Type 0} (x y : X) → Some x ≡ Some y → x ≡ y
@@ -70,7 +70,7 @@ module _ {C : Type 0} (m : Measured) (me : ℕ) where
   pub more_notes : (notes more : List Note) (el : ElementView C) → AgreesWith m me notes el → AgreesWith m me (notes ++ more) el
   more_notes notes more el h = record { known = h.known; fresh = h.fresh; state = by h.state }
     where
-      by : IsSomehow m me notes el → IsSomehow m me (notes ++ more) el
+      by : IsInSomeState m me notes el → IsInSomeState m me (notes ++ more) el
       by (inl w) = inl w
       by (inr (inl o)) = inr (inl (record { note = o.note; owes = o.owes; listed = Contains-append_left notes more o.note o.listed }))
       by (inr (inr (inl k))) = inr (inr (inl k))
@@ -212,7 +212,7 @@ module _ {C : Type 0} (m : Measured) (me : ℕ) (notes : List Note) (el : Elemen
           marked = Contains-append_right el.marks (more ++ Synced (Sync el.index (p.round + 1) p.load bytes me) ∷ []) (Synced (Sync el.index (p.round + 1) p.load bytes me)) (Contains-push more (Synced (Sync el.index (p.round + 1) p.load bytes me)));
         }
 
-    state_at_work : (E : Ending) → IsSomehow m me (notes ++ option_to_list (owed E)) (after E)
+    state_at_work : (E : Ending) → IsInSomeState m me (notes ++ option_to_list (owed E)) (after E)
     state_at_work Runs = inl w
     state_at_work Finishes = inl (record { awake = w.awake; at_round = w.at_round; silent = w.silent })
     state_at_work Syncs =
@@ -247,7 +247,7 @@ module _ {C : Type 0} (m : Measured) (me : ℕ) (notes : List Note) (el : Elemen
           marked = Contains-append_left el.marks (more ++ synced_mark (owed E)) (Synced y) o.marked;
         }
 
-    state_waiting : (E : Ending) → (E ≡ Syncs → ⊥) → IsSomehow m me notes el → IsSomehow m me (notes ++ option_to_list (owed E)) (after E)
+    state_waiting : (E : Ending) → (E ≡ Syncs → ⊥) → IsInSomeState m me notes el → IsInSomeState m me (notes ++ option_to_list (owed E)) (after E)
     state_waiting E ne (inl w) = absurd (true_not_false el.progress.synced waits w.awake)
     state_waiting E ne (inr (inl o)) =
         inr (inl (record { note = o.note; owes = keeps_owing E ne o.note o.owes; listed = Contains-append_left notes (option_to_list (owed E)) o.note o.listed }))

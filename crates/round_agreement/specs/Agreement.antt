@@ -23,8 +23,8 @@ use Rattle.rts_core.specs.Worlds.{WorldView}
 abbrev pub IsFresh : Progress → Type 0
 IsFresh p = p.started ≡ false → (p.round ≡ 0) × (p.synced ≡ false)
 
--- An element is at work in the round under way: it does not wait, it was resumed last for the round before, and the
--- board has no report of it.
+-- An element is at work in the round under way: it does not wait, the round that it was resumed for last is the one
+-- before, where a start counts as round 0, and the board has no report of it.
 pub record IsAtWork (m : Measured) (e : ℕ) (p : Progress) : Type 0 where
   pub awake : p.synced ≡ false
   pub at_round : m.round ≡ p.round + 1
@@ -59,30 +59,30 @@ pub record HasReported {C : Type 0} (m : Measured) (me : ℕ) (el : ElementView 
   pub charged : slice_get m.loads el.index ≡ Some units
   pub marked : Contains el.marks (Synced (Sync el.index m.round units bytes me))
 
--- An element waits for its place: the round for whose end it waits is the last that was decided, and it has no report in
--- the one under way.
+-- An element waits for its place: the round for whose end it waits is the last that was decided, and the board has no
+-- report of it in the one under way.
 pub record WaitsForPlace (m : Measured) (e : ℕ) (p : Progress) : Type 0 where
   pub waits : p.synced ≡ true
   pub at_round : m.round ≡ p.round + 2
   pub silent : report_of m e ≡ None
 
 -- an element that stands on a PE is in one of these four
-abbrev pub IsSomehow : {C : Type 0} → Measured → ℕ → List Note → ElementView C → Type 0
-IsSomehow m me notes el =
+abbrev pub IsInSomeState : {C : Type 0} → Measured → ℕ → List Note → ElementView C → Type 0
+IsInSomeState m me notes el =
     IsAtWork m el.index el.progress ⊎ (OwesItsNote m me notes el ⊎ (HasReported m me el ⊎ WaitsForPlace m el.index el.progress))
 
 -- the board and an element that stands on a PE agree
 pub record AgreesWith {C : Type 0} (m : Measured) (me : ℕ) (notes : List Note) (el : ElementView C) : Type 0 where
   pub known : el.index < elements m
   pub fresh : IsFresh el.progress
-  pub state : IsSomehow m me notes el
+  pub state : IsInSomeState m me notes el
 
 -- the board and a parcel agree: an element on its way waits for its place
 abbrev pub AgreesOn : Measured → Parcel → Type 0
 AgreesOn m (Letter l) = Unit {0}
 AgreesOn m (Element p) = (p.index < elements m) × IsFresh p.progress × WaitsForPlace m p.index p.progress
 
--- each note that an element waits is owed by an element of the room
+-- a note that an element waits is owed by an element of the room
 abbrev pub IsOwed : {C : Type 0} → Measured → ℕ → List (ℕ × ElementView C) → Note → Type 0
 IsOwed {C} m me room note = is_finish note ≡ false → (el : ElementView C) × (found el.index room ≡ Some el) × Owes m me el note
 
@@ -91,7 +91,7 @@ abbrev pub is_wait_of : ℕ → Note → Bool
 is_wait_of e (Sync i round units bytes pe) = i == e
 is_wait_of e (Finish i) = false
 
--- The board and a PE agree: each element stands in the room beside its own index and is somehow, each note that an
+-- The board and a PE agree: each element of the room stands beside its own index and agrees, each note that an
 -- element waits is owed, no element has two of them, and each element in the hand or in the outbox waits for its place.
 pub record AgreesAt {C : Type 0} (m : Measured) (pe : PeView C) : Type 0 where
   pub keyed : All (λ (place : ℕ × ElementView C). place.1.index ≡ place.0) pe.room
