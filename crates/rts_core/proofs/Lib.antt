@@ -1,5 +1,5 @@
-pub mod Account
 pub mod Acts
+pub mod Counts
 pub mod EventSteps
 pub mod Handlers
 pub mod Histories
@@ -11,6 +11,7 @@ pub mod Notes
 pub mod OpeningWeights
 pub mod Openings
 pub mod Places
+pub mod RunAccount
 pub mod RunLaws
 pub mod Sent
 pub mod Steps
