@@ -5,6 +5,7 @@ pub mod Handlers
 pub mod Histories
 pub mod Listings
 pub mod LocalBalance
+pub mod LocalCalls
 pub mod LocalSends
 pub mod Moves
 pub mod Notes

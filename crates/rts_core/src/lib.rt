@@ -15,7 +15,7 @@ mod world;
 
 pub use account::Account;
 pub use event::Event;
-pub use laws::account_laws;
+pub use laws::{account_laws, local_account_laws};
 pub use pe_state::{Acted, Item, Parcel, PeState, Room, StepError};
 pub use queue::Queue;
 pub use reports::Reports;

@@ -1,6 +1,6 @@
 use Rattle.std.proofs.Common.{◌≡◌, ◌+◌, length, drop}
 use Rattle.std.specs.List.{flat_map}
-use Rattle.rts_core.specs.Places.{letters_in, letters_at}
+use Rattle.rts_core.specs.Places.{letters_in}
 use Rattle.rts_core.proofs.account.addressed.Given as goal
 
 abbrev pub invariant-loop-item : goal.invariant-loop-item

@@ -1,6 +1,4 @@
 use Rattle.std.proofs.Common.{arith}
-use Rattle.std.proofs.lemmas.List.{at_drop_all}
-use Rattle.pe_state.specs.Pes.{PeView}
 use Rattle.rts_core.proofs.Counts.{posted_rest, posted_end}
 use Rattle.rts_core.proofs.account.posted_by.Goals as goal
 
