@@ -27,7 +27,7 @@ pub hand_holds : (g : Weight) (k : Life → ℕ) (hand : Option Item) (x : Item)
 hand_holds g k hand x parcel h p = rw h (ap (of_parcel g k) p)
 
 module _ {C : Type 0} (step : Step C) (pack : C → List ℕ) where
-  pub shelving_moved : (pe : PeView C) (x : Item) (l : LetterView) → pe.hand ≡ Some x → x.parcel ≡ Letter l → Acts step pe (shelving pe l)
+  unfoldable pub shelving_moved : (pe : PeView C) (x : Item) (l : LetterView) → pe.hand ≡ Some x → x.parcel ≡ Letter l → Acts step pe (shelving pe l)
   shelving_moved pe x l h p = (
     None,
     quiet step pe (shelving pe l).pe (shelving pe l).reports [] []
@@ -38,7 +38,7 @@ module _ {C : Type 0} (step : Step C) (pack : C → List ℕ) where
         refl refl refl refl refl,
   )
 
-  pub forwarding_moved : (pe : PeView C) (x : Item) (l : LetterView) (q : ℕ) → pe.hand ≡ Some x → x.parcel ≡ Letter l → Acts step pe (forwarding pe l q)
+  unfoldable pub forwarding_moved : (pe : PeView C) (x : Item) (l : LetterView) (q : ℕ) → pe.hand ≡ Some x → x.parcel ≡ Letter l → Acts step pe (forwarding pe l q)
   forwarding_moved pe x l q h p = (
     None,
     quiet step pe (forwarding pe l q).pe (forwarding pe l q).reports [] []
@@ -59,7 +59,7 @@ module _ {C : Type 0} (step : Step C) (pack : C → List ℕ) where
       by true = shelving_moved pe x l h p
       by false = forwarding_moved pe x l q h p
 
-  pub executed_moved : (pe : PeView C) (x : Item) (l : LetterView) (el : ElementView C) → pe.hand ≡ Some x → x.parcel ≡ Letter l → found l.to pe.room ≡ Some el → Acts step pe (executed step pack pe l)
+  unfoldable pub executed_moved : (pe : PeView C) (x : Item) (l : LetterView) (el : ElementView C) → pe.hand ≡ Some x → x.parcel ≡ Letter l → found l.to pe.room ≡ Some el → Acts step pe (executed step pack pe l)
   executed_moved pe x l el h p f = (
     Some (el, OfLetter l),
     handled_moved step pack pe l.to (OfLetter l) None el (Tells.Executed l.id l.to) f
@@ -79,7 +79,7 @@ module _ {C : Type 0} (step : Step C) (pack : C → List ℕ) where
       by true s = let t : executed step pack pe l ≡ a = cc in subst (λ (v : Acting C). Acts step pe v) t (executed_moved pe x l el h p f)
       by false s = cc
 
-  pub installed_moved : (pe : PeView C) (x : Item) (p : PackedView) (chare : C) → pe.hand ≡ Some x → x.parcel ≡ Element p → found p.index pe.room ≡ None
+  unfoldable pub installed_moved : (pe : PeView C) (x : Item) (p : PackedView) (chare : C) → pe.hand ≡ Some x → x.parcel ≡ Element p → found p.index pe.room ≡ None
       → Acts step pe (record { acted = IsInstalled; pe = installed pe p chare; reports = Tells.Installed p.index ∷ [] })
   installed_moved pe x p chare h is f = (
     None,

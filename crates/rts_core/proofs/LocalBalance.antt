@@ -1,25 +1,19 @@
 -- The local account of one PE is kept by each of its calls. A refused call changes nothing, and so keeps it too.
 use Rattle.std.proofs.Common.{◌≡◌, ℕ, zero, suc, ◌+◌, List, [], ◌∷◌, ◌++◌, length, map, Option, Some, None, sum_by, arith, refl, sym, ◌∙◌, ap, subst}
-use Rattle.std.specs.Prelude.{Result}
 use Rattle.std.specs.List.{flat_map, range_with_len}
 use Rattle.std.proofs.lemmas.List.{map-append}
 use Rattle.std.proofs.lemmas.List.Sums.{sum_by-append}
 use Rattle.std.proofs.lemmas.Grind.{flat_map-append}
 use Rattle.chares.specs.declared.report.Report.{Report}
-use Rattle.chares.specs.declared.entry.Entry.TheVariants.{Resumption}
 use Rattle.chares.specs.declared.report.Report.TheVariants as Tells
-use Rattle.chares.specs.Elements.{ElementView}
 use Rattle.chares.specs.Letters.{LetterView}
 use Rattle.chares.specs.Steps.{Step}
-use Rattle.pup_pack.specs.declared.error.PupError.{PupError}
-use Rattle.pe_state.specs.Pes.{PeView, Parcel, Acting, front_parcel, received, looked, gave_up, handed_back, noted, departed, resumed, resume_reports, acting}
-use Rattle.pe_state.specs.Rooms.{found}
+use Rattle.pe_state.specs.Pes.{PeView, Parcel, front_parcel, received, looked, gave_up, handed_back, noted, departed}
 use Rattle.rts_core.specs.Ledgers.{Ledger, entered_in, all_letters_in, all_letters_at, IsBalanced}
 use Rattle.rts_core.specs.Places.{Life, letters_in, lives_in, letters_at, lives_at, letters_of_life}
 use Rattle.rts_core.proofs.Weights.{Weight, weigh, of_parcel, of_pe, of_queue, sum_by-flat_map, sum_by-same, sum_by-both}
 use Rattle.rts_core.proofs.Moves.{Work, numbered, work_letters, work_sends, before, after, posted, Moved, received_moved, looked_moved, gave_up_moved, handed_back_moved, noted_moved}
-use Rattle.rts_core.proofs.Handlers.{resumed_moved, departed_moved}
-use Rattle.rts_core.proofs.Acts.{acting_moved}
+use Rattle.rts_core.proofs.Handlers.{departed_moved}
 use Rattle.rts_core.proofs.Listings.{no_life, no_letter, sum_zero, before_none, after_none, parcel_letters, parcel_lives, pe_letters, pe_lives}
 use Rattle.rts_core.proofs.Sent.{journal_more}
 
@@ -124,16 +118,3 @@ module _ {C : Type 0} (step : Step C) where
 
   pub balance_departed : (pack : C → List ℕ) (pe : PeView C) (e q : ℕ) (ledger : Ledger) → IsBalanced pe ledger → IsBalanced (departed pack pe e q) (entered_in ledger [] [] [])
   balance_departed pack pe e q ledger b = balance_moved pe (departed pack pe e q) (Tells.Departed e ∷ []) None [] [] ledger (departed_moved step pack pe e q) b
-
-  -- what a handler posts is entered too
-  abbrev pub Posts : PeView C → PeView C → Ledger → Type 0
-  Posts pe pe' ledger = (new : List LetterView) × IsBalanced pe' (entered_in ledger [] [] new)
-
-  pub balance_resumed : (pack : C → List ℕ) (pe : PeView C) (e round : ℕ) (el : ElementView C) (ledger : Ledger) → found e pe.room ≡ Some el → IsBalanced pe ledger → Posts pe (resumed step pack pe e round) ledger
-  balance_resumed pack pe e round el ledger h b =
-      (posted step pe (Some (el, Resumption round)), balance_moved pe (resumed step pack pe e round) (resume_reports step pack pe e round) (Some (el, Resumption round)) [] [] ledger (resumed_moved step pack pe e round el h) b)
-
-  pub balance_acted : (pack : C → List ℕ) (unpack : List ℕ → Result (C × ℕ) PupError) (pe : PeView C) (a : Acting C) (ledger : Ledger) → acting step pack unpack pe ≡ Some a → IsBalanced pe ledger → Posts pe a.pe ledger
-  balance_acted pack unpack pe a ledger h b =
-      let m = acting_moved step pack unpack pe a h in
-      (posted step pe m.0, balance_moved pe a.pe a.reports m.0 [] [] ledger m.1 b)

@@ -12,7 +12,7 @@ use Rattle.rts_core.specs.Events.{Happens, MayDecide, or_nothing, enabled}
 use Rattle.rts_core.specs.Histories.{AreHistories}
 use Rattle.rts_core.specs.Runs.{Leads}
 use Rattle.rts_core.specs.Worlds.{WorldView, opening_world}
-use Rattle.rts_core.proofs.Account.{accounted_next, sent_next, counted_next, opening_sent, opening_counted, kept_accounted}
+use Rattle.rts_core.proofs.RunAccount.{accounted_next, sent_next, counted_next, opening_sent, opening_counted, kept_accounted}
 use Rattle.rts_core.proofs.EventSteps.{enabled_good, decided_good}
 use Rattle.rts_core.proofs.OpeningWeights.{opening_of}
 use Rattle.rts_core.proofs.RunLaws.{Kept, run_keeps, step_keeps, kept_join}

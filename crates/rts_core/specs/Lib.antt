@@ -1,4 +1,5 @@
 pub mod Accounts
+pub mod Calls
 pub mod Events
 pub mod Histories
 pub mod Ledgers

@@ -1,10 +1,13 @@
 //! Laws of all runs.
 
 ghost use Rattle.std.specs.Prelude.{ℕ, ◌≤◌, List, length};
+ghost use Rattle.pe_state.specs.Pes.{PeView, new_pe};
 ghost use Rattle.rts_core.specs.declared.event.Event.{Event};
 ghost use Rattle.rts_core.specs.Accounts.{Accounted, AreSent, IsCounted};
+ghost use Rattle.rts_core.specs.Calls.{Call, MayCall, MayMake, after_call, after_calls, with_call, with_calls};
 ghost use Rattle.rts_core.specs.Events.{After, Happens};
 ghost use Rattle.rts_core.specs.Histories.{AreHistories};
+ghost use Rattle.rts_core.specs.Ledgers.{Ledger, no_ledger, IsBalanced};
 ghost use Rattle.rts_core.specs.Runs.{Leads};
 ghost use Rattle.rts_core.specs.Worlds.{WorldView, opening_world};
 
@@ -22,4 +25,13 @@ pub fn account_laws<C: Chare<A>, A: Allocator>()
     ensures counted { (pes : ℕ) (chares : List C) (events : List Event) (last : After C A) → 1 ≤ pes → Leads C.step C.pack C.unpack (opening_world pes chares) events last → IsCounted last.0 }
     ensures opening_sent { (pes : ℕ) (chares : List C) → 1 ≤ pes → AreSent {A = A} C.step chares (opening_world pes chares) }
     ensures still_sent { (opened : List C) (w : WorldView C A) (event : Event) (next : After C A) → AreHistories C.step C.fits C.pack opened w → AreSent C.step opened w → Happens C.step C.pack C.unpack w event next → AreSent C.step opened next.0 }
+{}
+
+/// The account of one PE over its calls, whatever is done to it by others between them. The function does nothing: its
+/// clauses are the laws, of whatever chares. After any list of calls, refused ones among them, the letters that the PE has
+/// posted and those that it has received are those that it has given away, those that it holds, and those in the
+/// journals of its elements; and its numbers are in order. One more call keeps this.
+pub fn local_account_laws<C: Chare<A>, A: Allocator>()
+    ensures balance { (me n : ℕ) (calls : List (Call C)) → MayMake C.step C.pack C.unpack (new_pe me n) calls → IsBalanced (after_calls C.step C.pack C.unpack (new_pe me n) calls) (with_calls C.step C.pack C.unpack no_ledger (new_pe me n) calls) }
+    ensures still_balanced { (pe : PeView C) (ledger : Ledger) (call : Call C) → MayCall pe call → IsBalanced pe ledger → IsBalanced (after_call C.step C.pack C.unpack pe call) (with_call C.step C.pack C.unpack ledger pe call) }
 {}

@@ -1,6 +1,7 @@
 //! The world of a run: PEs with their queues, a location word for each element, and the board, event by event.
 #![tactic(auto)]
 
+mod account;
 mod balancing;
 mod event;
 mod laws;
@@ -12,8 +13,9 @@ mod stepping;
 mod working;
 mod world;
 
+pub use account::Account;
 pub use event::Event;
-pub use laws::account_laws;
+pub use laws::{account_laws, local_account_laws};
 pub use pe_state::{Acted, Item, Parcel, PeState, Room, StepError};
 pub use queue::Queue;
 pub use reports::Reports;

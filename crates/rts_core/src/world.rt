@@ -1,18 +1,19 @@
 //! The world of a run.
 
-ghost use Rattle.std.specs.Prelude.{◌++◌, ◌≡◌, ◌<◌, ◌≤◌, ℕ, List, [], length, OnOk, OnErr, IfOk, IfErr, IfSome, MatchOption, slice_get, All};
+ghost use Rattle.std.specs.Prelude.{◌++◌, ◌+◌, ◌≡◌, ◌<◌, ◌≤◌, ℕ, List, [], length, OnOk, OnErr, IfOk, IfErr, IfSome, MatchOption, slice_get, All};
 ghost use Rattle.std.specs.Option.{option_copied};
 ghost use Rattle.lb_database.specs.Measuring.{elements};
 ghost use Rattle.pe_state.specs.Pes.{PeView};
 ghost use Rattle.rts_core.specs.Events.{Happens, MayDecide, or_nothing, enabled, desk};
 ghost use Rattle.chares.specs.declared.report.Report.{Report};
 ghost use Rattle.rts_core.specs.declared.event.Event.{Event};
-ghost use Rattle.rts_core.specs.Accounts.{Accounted, AreSent, IsCounted};
+ghost use Rattle.rts_core.specs.Accounts.{Accounted, AreSent, IsCounted, posted_count, executed_count, held_count};
 ghost use Rattle.rts_core.specs.Runs.{Leads};
 ghost use Rattle.rts_core.specs.Histories.{AreHistories};
 ghost use Rattle.rts_core.specs.Refusals.{RefusesAt, RefusesDecide, RefusesEvent};
 ghost use Rattle.rts_core.specs.Worlds.{IsWorld, opening_world};
 
+use crate::account::{Account, held_by, posted_by, queued_in};
 use crate::balancing::decide;
 use crate::event::Event;
 use crate::opening::{opening_pes, opening_queues, opening_words, settle};
@@ -174,5 +175,25 @@ impl<C: Chare<A>, H: Openings<C>, A: Allocator> World<C, H, A> {
         ensures value { result.now ≡ self.now.board }
     {
         &self.board
+    }
+
+    /// How many letters were posted, how many of them were executed, and how many are held in places. This takes no
+    /// memory. It looks at each PE and at each parcel on its way, but not into journals: what was posted and is not held
+    /// was executed.
+    pub fn account(&self) -> Account
+        ensures posted { result.posted ≡ posted_count self.now }
+        ensures executed { result.executed ≡ executed_count self.now }
+        ensures held { result.held ≡ held_count self.now }
+        ensures balanced { result.posted ≡ result.executed + result.held }
+    {
+        let pes = self.pes.as_slice();
+        let queues = self.queues.as_slice();
+        let posted = posted_by(pes);
+        let held = held_by(pes) + queued_in(queues);
+        Account {
+            posted,
+            executed: posted - held,
+            held,
+        }
     }
 }

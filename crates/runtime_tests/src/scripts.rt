@@ -8,7 +8,7 @@ use crate::tally::Tally;
 use chares::{Openings, Report};
 use lb_certificates::Floor;
 use refusing_alloc::Refusing;
-use rts_core::{Event, World};
+use rts_core::{Account, Event, World};
 use std::alloc::{AllocError, Allocator, Global};
 use std::marker::Brand;
 use std::process::Abort;
@@ -75,6 +75,14 @@ fn execute<H: Openings<Tally<A>>, A: Allocator + Copy>(
         ],
     );
     assert_eq!(rt; account(world), (3, 3, 0));
+    assert_eq!(rt;
+        world.account(),
+        Account {
+            posted: 3,
+            executed: 3,
+            held: 0
+        }
+    );
     refused
 }
 
@@ -126,6 +134,14 @@ fn open<H: Openings<Tally<A>>, A: Allocator + Copy>(
     world: &mut World<Tally<A>, H, A>,
 ) -> bool {
     assert_eq!(rt; account(world), (0, 0, 0));
+    assert_eq!(rt;
+        world.account(),
+        Account {
+            posted: 0,
+            executed: 0,
+            held: 0
+        }
+    );
     let mut refused = start(rt, world);
     refused |= execute(rt, world);
     refused |= decide(rt, world);
@@ -158,6 +174,14 @@ fn come_before<H: Openings<Tally<A>>, A: Allocator + Copy>(
         ],
     );
     assert_eq!(rt; account(world), (4, 4, 0));
+    assert_eq!(rt;
+        world.account(),
+        Account {
+            posted: 4,
+            executed: 4,
+            held: 0
+        }
+    );
     refused
 }
 
@@ -186,6 +210,14 @@ fn follow<H: Openings<Tally<A>>, A: Allocator + Copy>(
         ],
     );
     assert_eq!(rt; account(world), (4, 4, 0));
+    assert_eq!(rt;
+        world.account(),
+        Account {
+            posted: 4,
+            executed: 4,
+            held: 0
+        }
+    );
     refused
 }
 

@@ -6,7 +6,7 @@ use crate::courier::Courier;
 use crate::fixtures::{courier, elements, index, pe, pes, round};
 use crate::steps::{account, opened, run};
 use chares::{Openings, Report};
-use rts_core::{Event, StepError, World};
+use rts_core::{Account, Event, StepError, World};
 use std::alloc::Global;
 use std::marker::Brand;
 use std::process::Abort;
@@ -27,6 +27,14 @@ fn refused<H: Openings<Courier>>(
     let answer = world.step(Event::Start(pe(rt, 0), index(rt, 0)));
     assert_eq!(rt; answer.err(), Some(want));
     assert_eq!(rt; account(&world), (0, 0, 0));
+    assert_eq!(rt;
+        world.account(),
+        Account {
+            posted: 0,
+            executed: 0,
+            held: 0
+        }
+    );
 }
 
 fn one(rt: &(impl Abort + AllocGlobal), chare: Courier) -> Vec<Courier> {
@@ -73,6 +81,14 @@ fn starts<H: Openings<Courier>>(rt: &(impl Abort + AllocGlobal), chares: Vec<Cou
         ],
     );
     assert_eq!(rt; account(&world), (0, 0, 0));
+    assert_eq!(rt;
+        world.account(),
+        Account {
+            posted: 0,
+            executed: 0,
+            held: 0
+        }
+    );
 }
 
 #[test]
@@ -141,6 +157,14 @@ fn nothing_happens<H: Openings<Courier>>(rt: &(impl Abort + AllocGlobal), chares
         run(rt, &mut world, &[(event, &[])]);
     }
     assert_eq!(rt; account(&world), (0, 0, 0));
+    assert_eq!(rt;
+        world.account(),
+        Account {
+            posted: 0,
+            executed: 0,
+            held: 0
+        }
+    );
     assert!(rt; world.pe(p3).is_none() && world.queue(p3).is_none() && world.word(e3).is_none());
 }
 
@@ -177,6 +201,14 @@ fn waits_in_the_hand<H: Openings<Courier>>(rt: &(impl Abort + AllocGlobal), char
         ],
     );
     assert_eq!(rt; account(&world), (1, 0, 1));
+    assert_eq!(rt;
+        world.account(),
+        Account {
+            posted: 1,
+            executed: 0,
+            held: 1
+        }
+    );
     run(
         rt,
         &mut world,
@@ -189,6 +221,14 @@ fn waits_in_the_hand<H: Openings<Courier>>(rt: &(impl Abort + AllocGlobal), char
         ],
     );
     assert_eq!(rt; account(&world), (2, 1, 1));
+    assert_eq!(rt;
+        world.account(),
+        Account {
+            posted: 2,
+            executed: 1,
+            held: 1
+        }
+    );
 }
 
 #[test]
@@ -276,6 +316,14 @@ fn wait_on_the_shelf<H: Openings<Courier>>(rt: &(impl Abort + AllocGlobal), char
         );
     }
     assert_eq!(rt; account(&world), (3, 3, 0));
+    assert_eq!(rt;
+        world.account(),
+        Account {
+            posted: 3,
+            executed: 3,
+            held: 0
+        }
+    );
 }
 
 #[test]

@@ -1,4 +1,4 @@
-use Rattle.rts_core.proofs.Account.{accounted, counted, opening_sent, sent_next}
+use Rattle.rts_core.proofs.RunAccount.{accounted, counted, opening_sent, sent_next}
 use Rattle.rts_core.proofs.laws.account_laws.Goals as goal
 
 -- src/laws.rt:20:1
