@@ -140,10 +140,14 @@ tells_synced {A} n b trace e round units bytes pe t same =
         Contains-append_left trace (Synced e round ∷ []) (Synced x b.database.round)
         (t.reported x inside (subst (λ (v : Option (ℕ × ℕ)). IsSome v) old is))
 
+-- nothing happens
+pub tells_same : {A : Type 0} (n : ℕ) (b : BoardState A) (trace : List Report) → Tells n b trace → Tells n b (trace ++ [])
+tells_same n b trace t = tells_kept n b b trace [] t (record { same = refl; undecided = λ r. refl; placed = λ e r some there. absurd (no_member (Resumed e r) there) })
+
 -- an element has finished
 pub tells_finished : {A : Type 0} (n : ℕ) (b : BoardState A) (trace : List Report) (e : ℕ) → Tells n b trace → Tells n (after_finish b e) (trace ++ [])
 tells_finished {A} n b trace e t =
-    let k : Tells n b (trace ++ []) = tells_kept n b b trace [] t (record { same = refl; undecided = λ r. refl; placed = λ x r some there. absurd (no_member (Resumed x r) there) }) in
+    let k : Tells n b (trace ++ []) = tells_same n b trace t in
     record { counted = k.counted; reports_counted = k.reports_counted; numbered = k.numbered; decided = k.decided; undecided = k.undecided; synced = k.synced; reported = k.reported; barred = k.barred }
 
 -- a note is handed in

@@ -1,21 +1,15 @@
 -- The snapshot of a decided round has of each element what it did for the round.
-use Rattle.std.proofs.Common.{◌≡◌, ℕ, ◌<◌, ◌≤◌, List, length, Option, Some, sym, subst}
-use Rattle.std.specs.Prelude.{Result, All, Contains, IfSome, slice_get}
-use Rattle.std.specs.BTreeMap.{is_at}
-use Rattle.std.specs.Map.{values_of}
-use Rattle.std.specs.Ordering.{nat_cmp}
-use Rattle.std.proofs.lemmas.Map.Views.{IfSome-lookup_from_All}
+use Rattle.std.proofs.Common.{◌≡◌, ℕ, ◌<◌, ◌≤◌, List, length, Some, sym, subst}
+use Rattle.std.specs.Prelude.{Result, Contains, slice_get}
 use Rattle.at_sync.specs.Boards.{Kept, kept_of}
 use Rattle.lb_certificates.specs.Measured.{Taken}
 use Rattle.chares.specs.declared.report.Report.{Report}
 use Rattle.chares.specs.declared.report.Report.TheVariants.{Decided}
-use Rattle.chares.specs.Elements.{ElementView, IsHistory}
+use Rattle.chares.specs.Elements.{IsHistory}
 use Rattle.chares.specs.Steps.{Step}
 use Rattle.element_rounds.specs.Rounds.{IsPhase}
 use Rattle.element_rounds.proofs.Phases.{phase}
 use Rattle.pup_pack.specs.declared.error.PupError.{PupError}
-use Rattle.pe_state.specs.Pes.{PeView}
-use Rattle.pe_state.specs.Rooms.{found}
 use Rattle.round_agreement.specs.Agreement.{IsTakenOf}
 use Rattle.round_agreement.proofs.Snapshots.{run_snaps}
 use Rattle.rts_core.specs.declared.event.Event.{Event}
@@ -23,18 +17,10 @@ use Rattle.rts_core.specs.Events.{After, Happens}
 use Rattle.rts_core.specs.Histories.{HasHistories, AreHistories}
 use Rattle.rts_core.specs.Runs.{Leads}
 use Rattle.rts_core.specs.Worlds.{WorldView, opening_world}
-use Rattle.rts_core.proofs.Histories.{one_of_all}
 use Rattle.barrier_law.specs.Measured.{Measures}
 use Rattle.barrier_law.specs.Orders.{IsElementInOrder, HasOrder, AreInOrder}
+use Rattle.barrier_law.proofs.Rooms.{at_place, in_room}
 use Rattle.barrier_law.proofs.Runs.{in_order}
-
--- what holds of each PE holds of the one at a place, and what holds of each element of a room of the one that is found
-module _ {X : Type 0} (P : X → Type 0) where
-  at_place : (xs : List X) (i : ℕ) (x : X) → All P xs → slice_get xs i ≡ Some x → P x
-  at_place xs i x all at = subst (λ (v : Option X). IfSome v P) at (one_of_all P xs i all)
-
-  in_room : (room : List (ℕ × X)) (e : ℕ) (x : X) → All P (values_of room) → found e room ≡ Some x → P x
-  in_room room e x all at = subst (λ (v : Option X). IfSome v P) at (IfSome-lookup_from_All P (is_at (nat_cmp e)) room all)
 
 module _ {C A : Type 0} (step : Step C) (fits : C → Type 0) (pack : C → List ℕ) (opened : List C) (w : WorldView C A) (snapshot : Taken) (e r : ℕ) where
   pub measures : IsTakenOf w snapshot e r → AreHistories step fits pack opened w → AreInOrder w → Measures step pack opened w snapshot e r

@@ -1,6 +1,6 @@
 -- What the step of a PE makes of the elements that it holds: their rounds come in order, and still do.
 use Rattle.std.proofs.Common.{◌≡◌, ℕ, ◌+◌, inl, inr, List, [], ◌∷◌, ◌++◌, map, Bool, true, false, Option, Some, None, refl, sym, subst}
-use Rattle.std.specs.Prelude.{All, IfSome, slice_get, if◌then◌else◌}
+use Rattle.std.specs.Prelude.{All, IfSome, if◌then◌else◌}
 use Rattle.std.specs.List.{filter}
 use Rattle.std.specs.Option.{option_map, option_to_list}
 use Rattle.std.proofs.lemmas.List.Elements.{All-nil, All-cons, All-append, All-push, All-drop, All-head, All-tail, All-set}
@@ -16,9 +16,8 @@ use Rattle.element_rounds.proofs.Orders.{in_order_ran}
 use Rattle.pe_state.specs.Pes.{PeView, Parcel, Item, at_pe, letter_at, element_at, front_at, front_parcel, is_for, hand_wants, looked_in, handled, installed, departed}
 use Rattle.pe_state.specs.Rooms.{found, changed, ran_in}
 use Rattle.rts_core.specs.Events.{Desk, waits_for}
-use Rattle.rts_core.proofs.Histories.{one_of_all}
 use Rattle.barrier_law.specs.Orders.{IsElementInOrder, IsParcelInOrder, HasOrder}
-use Rattle.barrier_law.proofs.Rooms.{EachAt, each_found, each_changed, each_joined, each_without, each_value}
+use Rattle.barrier_law.proofs.Rooms.{EachAt, each_found, each_changed, each_joined, each_without, each_value, at_place}
 use Rattle.barrier_law.proofs.Turns.{EachTurn}
 
 -- an element stands beside its index, and its rounds come in order
@@ -110,9 +109,6 @@ front_fits : (outbox : List Item) (parcel : Parcel) → All ItemFits outbox → 
 front_fits [] parcel all is = cc
 front_fits (x ∷ xs) parcel all is = let same : x.parcel ≡ parcel = cc in subst (λ (v : Parcel). IsParcelInOrder v) same (All-head ItemFits x xs all)
 
-queue_fits : (queues : List (List Parcel)) (q : ℕ) (queue : List Parcel) → QueuesOrdered queues → slice_get queues q ≡ Some queue → All IsParcelInOrder queue
-queue_fits queues q queue all at = subst (λ (v : Option (List Parcel)). IfSome v (All IsParcelInOrder)) at (one_of_all (All IsParcelInOrder) queues q all)
-
 -- what PE p makes of its desk is in order
 module _ {C A : Type 0} (step : Step C) (pack : C → List ℕ) (p : ℕ) (d : Desk C A) (h : Ordered d.pe) (k : QueuesOrdered d.queues) where
   abbrev pub DeskOrdered : Desk C A × List Report → Type 0
@@ -126,10 +122,10 @@ module _ {C A : Type 0} (step : Step C) (pack : C → List ℕ) (p : ℕ) (d : D
         looks = λ word. (looked_in_ordered step pack d.pe h word (hand_wants d.pe), k);
         flushes = λ q parcel queue front at. (
           record { room = h.room; hand = h.hand; outbox = All-drop ItemFits 1 d.pe.outbox h.outbox },
-          All-set (All IsParcelInOrder) d.queues q (queue ++ parcel ∷ []) (All-push IsParcelInOrder queue parcel (queue_fits d.queues q queue k at) (front_fits d.pe.outbox parcel h.outbox front)) k,
+          All-set (All IsParcelInOrder) d.queues q (queue ++ parcel ∷ []) (All-push IsParcelInOrder queue parcel (at_place (All IsParcelInOrder) d.queues q queue k at) (front_fits d.pe.outbox parcel h.outbox front)) k,
         );
         delivers = λ queue rest parcel at hand is.
-            let all : All IsParcelInOrder (parcel ∷ rest) = subst (λ (v : List Parcel). All IsParcelInOrder v) is (queue_fits d.queues p queue k at) in (
+            let all : All IsParcelInOrder (parcel ∷ rest) = subst (λ (v : List Parcel). All IsParcelInOrder v) is (at_place (All IsParcelInOrder) d.queues p queue k at) in (
               record { room = h.room; hand = All-head IsParcelInOrder parcel rest all; outbox = h.outbox },
               All-set (All IsParcelInOrder) d.queues p rest (All-tail IsParcelInOrder parcel rest all) k,
             );

@@ -1,12 +1,15 @@
 -- What holds of each element of a room, and of its index.
-use Rattle.std.proofs.Common.{◌≡◌, ℕ, List, [], ◌∷◌, Some, cond, refl, sym, subst}
-use Rattle.std.specs.Prelude.{All}
+use Rattle.std.proofs.Common.{◌≡◌, ℕ, List, [], ◌∷◌, Option, Some, cond, refl, sym, subst}
+use Rattle.std.specs.Prelude.{All, IfSome, slice_get}
+use Rattle.std.specs.BTreeMap.{is_at}
 use Rattle.std.specs.Map.{values_of}
 use Rattle.std.specs.Ordering.{nat_cmp, is_eq, match_ordering}
 use Rattle.std.specs.declared.cmp.Ordering.{Ordering}
 use Rattle.std.specs.declared.cmp.Ordering.TheVariants.{Less, Equal, Greater}
 use Rattle.std.proofs.lemmas.List.Elements.{All-nil, All-cons}
+use Rattle.std.proofs.lemmas.Map.Views.{IfSome-lookup_from_All}
 use Rattle.std.proofs.lemmas.Map.Lookups.{exact_unsigned}
+use Rattle.rts_core.proofs.Histories.{one_of_all}
 use Rattle.pe_state.specs.Rooms.{found, changed, joined, without}
 
 module _ {X : Type 0} (P : ℕ → X → Type 0) where
@@ -57,3 +60,11 @@ module _ {X : Type 0} (P : ℕ → X → Type 0) where
   pub each_value : (Q : X → Type 0) → ((e : ℕ) (x : X) → P e x → Q x) → (room : List (ℕ × X)) → EachAt room → All Q (values_of room)
   each_value Q k [] all = All-nil Q
   each_value Q k (y ∷ room) all = All-cons Q y.1 (values_of room) (k y.0 y.1 all.0) (each_value Q k room all.1)
+
+-- what holds of each of a list holds of the one at a place, and what holds of each element of a room of the one found
+module _ {X : Type 0} (P : X → Type 0) where
+  pub at_place : (xs : List X) (i : ℕ) (x : X) → All P xs → slice_get xs i ≡ Some x → P x
+  at_place xs i x all at = subst (λ (v : Option X). IfSome v P) at (one_of_all P xs i all)
+
+  pub in_room : (room : List (ℕ × X)) (e : ℕ) (x : X) → All P (values_of room) → found e room ≡ Some x → P x
+  in_room room e x all at = subst (λ (v : Option X). IfSome v P) at (IfSome-lookup_from_All P (is_at (nat_cmp e)) room all)

@@ -1,6 +1,6 @@
 -- After every list of events the rounds of all elements come in order, and journals have gained what was reported.
 use Rattle.std.proofs.Common.{◌≡◌, ℕ, ◌+◌, List, [], ◌∷◌, length, map, Option, Some, None, arith, refl, sym, subst}
-use Rattle.std.specs.Prelude.{Result, All, IfSome, slice_get}
+use Rattle.std.specs.Prelude.{Result, All, slice_get}
 use Rattle.std.specs.List.{range_with_len}
 use Rattle.std.proofs.lemmas.List.Elements.{All-nil, All-set, All-map, All-replicate, All-weaker}
 use Rattle.chares.specs.declared.report.Report.{Report}
@@ -15,7 +15,6 @@ use Rattle.rts_core.specs.Accounts.{times}
 use Rattle.rts_core.specs.Events.{After, Desk, Happens, desk, with_desk}
 use Rattle.rts_core.specs.Runs.{Leads}
 use Rattle.rts_core.specs.Worlds.{WorldView, home, placed_on, settled, opening_world}
-use Rattle.rts_core.proofs.Histories.{one_of_all}
 use Rattle.rts_core.proofs.Listings.{no_letter}
 use Rattle.rts_core.proofs.Weights.{of_pe, of_world}
 use Rattle.rts_core.proofs.WorldSteps.{sum_at}
@@ -23,7 +22,7 @@ use Rattle.barrier_law.specs.Barrier.{is_resumed}
 use Rattle.barrier_law.specs.Orders.{IsParcelInOrder, HasOrder, AreInOrder}
 use Rattle.barrier_law.proofs.Ordered.{Fits, ItemFits, Ordered, QueuesOrdered, order_of, DeskOrdered, each_ordered}
 use Rattle.barrier_law.proofs.Resumptions.{resumed_in, Gains, each_gains}
-use Rattle.barrier_law.proofs.Rooms.{each_joined}
+use Rattle.barrier_law.proofs.Rooms.{each_joined, at_place}
 use Rattle.barrier_law.proofs.Tallies.{times-append}
 use Rattle.barrier_law.proofs.Turns.{each_map, happens_so}
 
@@ -44,17 +43,14 @@ gains_none w e r = let z : times (is_resumed e r) [] ≡ 0 = refl in omega (arit
 
 module _ {C A : Type 0} (step : Step C) (pack : C → List ℕ) (unpack : List ℕ → Result (C × ℕ) PupError) where
   module _ (w : WorldView C A) (h : AllOrdered w) where
-    at_place : (p : ℕ) (pe : PeView C) → slice_get w.pes p ≡ Some pe → Ordered pe
-    at_place p pe at = subst (λ (v : Option (PeView C)). IfSome v Ordered) at (one_of_all Ordered w.pes p h.pes)
-
     pub event_ordered : (event : Event) (next : After C A) → Happens step pack unpack w event next → AllOrdered next.0
     event_ordered event next happens =
         happens_so step pack unpack w (λ (v : After C A). AllOrdered v.0)
         (record {
           same = h;
-          turn = λ p pe at. each_map step pack p (desk w pe) (DeskOrdered step pack p (desk w pe) (at_place p pe at) h.queues) (λ a. AllOrdered (with_desk w p a.0))
+          turn = λ p pe at. each_map step pack p (desk w pe) (DeskOrdered step pack p (desk w pe) (at_place Ordered w.pes p pe h.pes at) h.queues) (λ a. AllOrdered (with_desk w p a.0))
               (λ a k. record { pes = All-set Ordered w.pes p a.0.pe k.0 h.pes; queues = k.1 })
-              (each_ordered step pack p (desk w pe) (at_place p pe at) h.queues);
+              (each_ordered step pack p (desk w pe) (at_place Ordered w.pes p pe h.pes at) h.queues);
           decides = λ board d. record { pes = h.pes; queues = h.queues };
         })
         event next happens
@@ -71,7 +67,7 @@ module _ {C A : Type 0} (step : Step C) (pack : C → List ℕ) (unpack : List �
         (record {
           same = gains_none w;
           turn = λ p pe at. each_map step pack p (desk w pe) (Gains (desk w pe)) (λ a. WorldGains w (with_desk w p a.0, a.1)) (turn_gains p pe at)
-              (each_gains step pack p (desk w pe) (at_place p pe at));
+              (each_gains step pack p (desk w pe) (at_place Ordered w.pes p pe h.pes at));
           decides = λ board d e r. let z : times (is_resumed e r) (Decided w.board.database.round ∷ []) ≡ 0 = refl in omega (arith, z);
         })
         event next happens
@@ -105,7 +101,7 @@ placed_ordered pe e chare h = record { room = each_joined Fits e (opening_elemen
 one_placed : {C : Type 0} (pes : List (PeView C)) (q e : ℕ) (chare : C) (o : Option (PeView C)) → slice_get pes q ≡ o → All Ordered pes → All Ordered (placed_on pes q e chare o)
 one_placed pes q e chare None at h = h
 one_placed {C} pes q e chare (Some pe) at h =
-    let was : Ordered pe = subst (λ (v : Option (PeView C)). IfSome v Ordered) at (one_of_all Ordered pes q h) in
+    let was : Ordered pe = at_place Ordered pes q pe h at in
     All-set Ordered pes q (placed pe e chare) (placed_ordered pe e chare was) h
 
 all_settled : {C : Type 0} (n : ℕ) (pes : List (PeView C)) (e : ℕ) (chares : List C) → All Ordered pes → All Ordered (settled n pes e chares)

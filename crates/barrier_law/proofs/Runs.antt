@@ -14,7 +14,7 @@ use Rattle.rts_core.specs.Runs.{Leads}
 use Rattle.rts_core.specs.Worlds.{WorldView, opening_world}
 use Rattle.barrier_law.specs.Barrier.{IsBarrier, StandsInItsPlace}
 use Rattle.barrier_law.specs.Orders.{AreInOrder}
-use Rattle.barrier_law.proofs.Boards.{Tells, Keeps, tells_kept, tells_taken, tells_decided, unlike_decided, none_there}
+use Rattle.barrier_law.proofs.Boards.{Tells, Keeps, tells_kept, tells_same, tells_taken, tells_decided, unlike_decided, none_there}
 use Rattle.barrier_law.proofs.Once.{resumed_once}
 use Rattle.barrier_law.proofs.RunOrders.{are_in_order, run_ordered, opening_ordered}
 use Rattle.barrier_law.proofs.Stands.{Turned, Takes, each_turned, stands_at}
@@ -35,17 +35,14 @@ module _ {C A : Type 0} (step : Step C) (pack : C → List ℕ) (unpack : List �
     event_tells event next happens =
         happens_so step pack unpack w (λ (v : After C A). Tells n v.0.board (trace ++ v.1))
         (record {
-          same = tells_kept n w.board w.board trace [] t (record { same = refl; undecided = λ r. refl; placed = λ e r some there. absurd (no_member (Resumed e r) there) });
+          same = tells_same n w.board trace t;
           turn = λ p pe at. each_map step pack p (desk w pe) (Turned p (desk w pe)) (λ a. Tells n a.0.board (trace ++ a.1)) (turn_tells p pe) (each_turned step pack p (desk w pe));
           decides = λ board d. tells_decided n w.board board trace t d;
         })
         event next happens
 
   pub run_tells : (n : ℕ) (w : WorldView C A) (trace : List Report) (events : List Event) (last : After C A) → Tells n w.board trace → Leads step pack unpack w events last → Tells n last.0.board (trace ++ last.1)
-  run_tells n w trace [] last t run = subst (λ (v : After C A). Tells n v.0.board (trace ++ v.1)) (sym run) (event_same n w trace t)
-    where
-      event_same : (n : ℕ) (w : WorldView C A) (trace : List Report) → Tells n w.board trace → Tells n w.board (trace ++ [])
-      event_same n w trace t = tells_kept n w.board w.board trace [] t (record { same = refl; undecided = λ r. refl; placed = λ e r some there. absurd (no_member (Resumed e r) there) })
+  run_tells n w trace [] last t run = subst (λ (v : After C A). Tells n v.0.board (trace ++ v.1)) (sym run) (tells_same n w.board trace t)
   run_tells n w trace (event ∷ events) last t (first, rest, happens, leads, is) =
       let a : Tells n first.0.board (trace ++ first.1) = event_tells n w trace t event first happens in
       let b : Tells n rest.0.board ((trace ++ first.1) ++ rest.1) = run_tells n first.0 (trace ++ first.1) events rest a leads in

@@ -1,5 +1,5 @@
 -- The rounds of an element come in order as it opens, and after one more entry that it may handle.
-use Rattle.std.proofs.Common.{◌≡◌, ℕ, zero, suc, ◌+◌, ◌⊎◌, inl, inr, List, [], ◌∷◌, ◌++◌, length, map, Bool, true, false, add-one, zero-add, add-zero, append-nil, arith, refl, sym, ap, subst, ◌∙◌}
+use Rattle.std.proofs.Common.{◌≡◌, ℕ, zero, suc, ◌+◌, ◌⊎◌, inl, inr, List, [], ◌∷◌, ◌++◌, map, Bool, true, false, zero-add, append-nil, arith, refl, sym, ap, subst, ◌∙◌}
 use Rattle.std.specs.Prelude.{not, ◌&&◌, if◌then◌else◌}
 use Rattle.std.specs.List.{range_with_len}
 use Rattle.std.proofs.lemmas.Grind.{flat_map-append}
@@ -13,9 +13,9 @@ use Rattle.chares.specs.declared.progress.Ending.TheVariants.{Runs, Syncs, Finis
 use Rattle.chares.specs.declared.progress.Progress.{Progress}
 use Rattle.chares.specs.Elements.{ElementView, opening_element, ran, outcome_of}
 use Rattle.chares.specs.Letters.{LetterView, Done}
-use Rattle.chares.specs.Progressing.{begun, charged, ending, ended, note_at, resumed_mark, synced_mark}
+use Rattle.chares.specs.Progressing.{begun, charged, ending, ended, note_at, synced_mark}
 use Rattle.chares.specs.Steps.{Step}
-use Rattle.element_rounds.specs.Orders.{Stop, stop_of, stops_until, stops_by, resumption_of, resumptions, IsInOrder, MayHandle}
+use Rattle.element_rounds.specs.Orders.{Stop, stop_of, stops_until, resumption_of, resumptions, IsInOrder, MayHandle}
 use Rattle.element_rounds.specs.Orders.Stop.{Reaches, Resumes}
 
 when_true : {X : Type 0} (b : Bool) (x y : X) → b ≡ true → (if b then x else y) ≡ x
