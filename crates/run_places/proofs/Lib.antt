@@ -1,1 +1,4 @@
 pub mod Alone
+pub mod Entries
+pub mod Plain
+pub mod Sites
