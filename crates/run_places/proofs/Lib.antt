@@ -1,4 +1,8 @@
 pub mod Alone
+pub mod Changes
 pub mod Entries
+pub mod LocalMoves
+pub mod Moves
+pub mod PeMoves
 pub mod Plain
 pub mod Sites
