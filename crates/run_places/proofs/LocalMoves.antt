@@ -225,11 +225,13 @@ module _ {C A : Type 0} (w : WorldView C A) (p : ℕ) (pe : PeView C) (at : slic
           let m : sum_by (letter_in g k (Bound pe.me)) mine ≡ sum_by (letter_in g k (Bound p)) mine = ap (λ (v : ℕ). sum_by (letter_in g k (Bound v)) mine) me in
           let r : sum_by (λ (y : ℕ × ElementView C). entry_at g k p y) (joined pk.index (unpacked pk chare) pe.room) ≡ sum_by (λ (y : ℕ × ElementView C). entry_at g k p y) pe.room + k (Room p pk.index) pk.index = room_joined (λ (y : ℕ × ElementView C). entry_at g k p y) pe.room pk.index (unpacked pk chare) f in
           omega (arith, c, d, m, r))
-          refl
-          (refl, nothing_waits (with_pe w p kept) p pk.index (λ v is.
-          let there : slice_get (slice_set w.pes p kept) p ≡ Some kept = get_set_same w.pes p pe kept at in
-          let same : kept ≡ v = cc in
-          subst (λ (u : PeView C). (u.hand ≡ None) × (sum_by (letter_in (waits_at p pk.index) no_elements (Waiting p)) u.shelf ≡ 0)) same (refl, none_waits p pk.index pe.shelf)))
+          refl (
+            refl,
+            nothing_waits (with_pe w p kept) p pk.index (λ v is.
+                let there : slice_get (slice_set w.pes p kept) p ≡ Some kept = get_set_same w.pes p pe kept at in
+                let same : kept ≡ v = cc in
+                subst (λ (u : PeView C). (u.hand ≡ None) × (sum_by (letter_in (waits_at p pk.index) no_elements (Waiting p)) u.shelf ≡ 0)) same (refl, none_waits p pk.index pe.shelf)),
+          )
 
       module _ (unpack : List ℕ → Result (C × ℕ) PupError) where
         installing_moves : (x : Item) (pk : PackedView) (u : Result (C × ℕ) PupError) (a : Acting C) → pe.hand ≡ Some x → x.parcel ≡ Element pk → found pk.index pe.room ≡ None → installing step pack unpack pe pk u ≡ Some a → After a.pe a.reports
