@@ -1,19 +1,19 @@
 -- What stands on a PE, or is bound for one, weighs at its site; and what weighs at a site is there.
-use Rattle.std.proofs.Common.{◌≡◌, ◌≢◌, ℕ, zero, suc, ◌+◌, ◌<◌, ◌≤◌, List, [], ◌∷◌, length, Option, Some, None, Bool, true, false, sum_by, arith, refl, sym, ◌∙◌, ap, subst, inl, inr}
-use Rattle.std.specs.Prelude.{Any, MatchOption, slice_get, nat_eq, ◌==◌, ◌&&◌, ◌⊎◌, if◌then◌else◌}
+use Rattle.std.proofs.Common.{◌≡◌, ℕ, zero, suc, ◌+◌, ◌≤◌, List, [], ◌∷◌, Option, Some, None, Bool, true, false, sum_by, arith, refl, sym, ap, subst, inl, inr}
+use Rattle.std.specs.Prelude.{Any, MatchOption, slice_get, ◌==◌, ◌&&◌, if◌then◌else◌}
 use Rattle.std.proofs.lemmas.Bool.Decides.{nat_tests}
 use Rattle.std.proofs.lemmas.List.Sums.{sum_by-cons}
 use Rattle.chares.specs.declared.carried.Carried.TheVariants.{Letter, Element}
 use Rattle.chares.specs.Elements.{ElementView}
 use Rattle.chares.specs.Letters.{LetterView}
 use Rattle.pe_state.specs.Pes.{PeView, Parcel, Item}
-use Rattle.pe_state.specs.Rooms.{found, without}
+use Rattle.pe_state.specs.Rooms.{without}
 use Rattle.rts_core.specs.Worlds.{WorldView}
 use Rattle.run_places.specs.Bound.{Carries, IsInHand, IsInQueue, IsAddressed, IsBoundFor, StandsOn}
 use Rattle.run_places.proofs.Alone.{any_le}
 use Rattle.run_places.proofs.Entries.{room_without}
 use Rattle.run_places.proofs.Sites.{Site, ElementWeight, no_letters, parcel_at, item_out, held_at, hand_at, entry_at, pe_at, queue_at, world_at, sum_from, member_from_le, address_site, letter_in}
-use Rattle.run_places.proofs.Sites.Site.{Fresh, Bound, Chasing, Waiting, Room}
+use Rattle.run_places.proofs.Sites.Site.{Fresh, Bound, Waiting, Room}
 
 -- ---- from places to weights
 

@@ -1,5 +1,5 @@
 -- What each event of a world moves.
-use Rattle.std.proofs.Common.{◌≡◌, ℕ, ◌+◌, List, [], ◌∷◌, ◌++◌, drop, Option, Some, None, Bool, true, false, sum_by, arith, refl, sym, ◌∙◌, ap, subst, inl, inr}
+use Rattle.std.proofs.Common.{◌≡◌, ℕ, ◌+◌, List, [], ◌∷◌, ◌++◌, drop, Option, Some, None, sum_by, arith, refl, sym, ◌∙◌, ap, subst, inl, inr}
 use Rattle.std.specs.Prelude.{Result, slice_get, slice_set, not, is_none, ◌==◌, MatchOption}
 use Rattle.std.specs.Option.{option_map, option_and_then}
 use Rattle.std.proofs.lemmas.Option.{option_and_then_some}
@@ -22,7 +22,7 @@ use Rattle.rts_core.specs.Worlds.{WorldView}
 use Rattle.rts_core.proofs.EventSteps.{where_some, some_same, none_is, front_is}
 use Rattle.rts_core.proofs.WorldSteps.{Numbered}
 use Rattle.run_places.proofs.LocalMoves.{item_is, looked_moves, resumed_moves, departed_moves, acting_moves}
-use Rattle.run_places.proofs.Moves.{Move, Change, AreQuiet, on_pe}
+use Rattle.run_places.proofs.Moves.{Change, AreQuiet, on_pe}
 use Rattle.run_places.proofs.Moves.Move.{Still}
 use Rattle.run_places.proofs.Sites.{LetterWeight, ElementWeight, parcel_at, item_out, held_at, hand_at, pe_at, queue_at, world_at, sum_from, sum_from-set}
 use Rattle.run_places.proofs.Sites.Site.{Bound}

@@ -1,5 +1,5 @@
 -- Sums over the entries of a room, as an element of it comes, leaves and runs.
-use Rattle.std.proofs.Common.{◌≡◌, ℕ, ◌+◌, List, [], ◌∷◌, Option, Some, None, Bool, true, false, sum_by, arith, refl, sym, ap, subst}
+use Rattle.std.proofs.Common.{◌≡◌, ℕ, ◌+◌, List, [], ◌∷◌, Some, None, Bool, true, false, sum_by, arith, refl, sym, ap, subst}
 use Rattle.std.specs.Prelude.{cond, ◌==◌, if◌then◌else◌}
 use Rattle.std.specs.BTreeMap.{is_at, insert_entry}
 use Rattle.std.specs.Map.{lookup, set_value, remove_entry}

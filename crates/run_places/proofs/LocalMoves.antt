@@ -1,9 +1,8 @@
 -- What each step of one PE moves.
-use Rattle.std.proofs.Common.{◌≡◌, ◌≢◌, ℕ, ◌+◌, List, [], ◌∷◌, ◌++◌, map, drop, Option, Some, None, Bool, true, false, sum_by, arith, refl, sym, ◌∙◌, ap, subst}
+use Rattle.std.proofs.Common.{◌≡◌, ℕ, ◌+◌, List, [], ◌∷◌, ◌++◌, map, Option, Some, None, Bool, true, false, sum_by, arith, refl, sym, ◌∙◌, ap, subst}
 use Rattle.std.specs.Prelude.{Result, Ok, Err, slice_get, slice_set, not, is_some, ◌==◌, if◌then◌else◌}
 use Rattle.std.specs.List.{filter}
-use Rattle.std.specs.Option.{option_map, option_or, option_to_list}
-use Rattle.std.proofs.lemmas.Bool.Decides.{nat_tests}
+use Rattle.std.specs.Option.{option_map, option_or}
 use Rattle.std.proofs.lemmas.List.Filters.{sum_by-filter_both}
 use Rattle.std.proofs.lemmas.List.Sums.{sum_by-cons, sum_by-append, sum_by_push}
 use Rattle.at_sync.specs.Boards.{BoardState}
@@ -13,7 +12,7 @@ use Rattle.chares.specs.declared.report.Report.{Report}
 use Rattle.chares.specs.declared.report.Report.TheVariants as Tells
 use Rattle.chares.specs.Elements.{ElementView, PackedView, ran, outcome_of, packed, unpacked}
 use Rattle.chares.specs.Letters.{LetterView, Done, hopped}
-use Rattle.chares.specs.Posting.{letters_of, posts_of}
+use Rattle.chares.specs.Posting.{letters_of}
 use Rattle.chares.specs.Steps.{Step}
 use Rattle.pup_pack.specs.declared.error.PupError.{PupError}
 use Rattle.pe_state.specs.Pes.{PeView, Parcel, Item, Acting, unaddressed, front_wants, wanted, hand_wants, hand_wants_in, absent, looked, looked_in, front_at, at_pe, letter_at, element_at, is_for, handled, handler_posts, resumed, resume_reports, departed, executed, on_letter, passing, shelving, forwarding, installed, installing, on_element, on_parcel, acting_on, acting}
@@ -24,10 +23,10 @@ use Rattle.rts_core.proofs.Moves.{numbered}
 use Rattle.rts_core.proofs.Weights.{sum_by-map}
 use Rattle.rts_core.proofs.WorldSteps.{get_set_same}
 use Rattle.run_places.proofs.Entries.{room_changed, room_joined, room_without}
-use Rattle.run_places.proofs.Moves.{Move, Change, Facts, on_pe, with_pe, waits_at, IsQuiet, post_of, ran_from}
+use Rattle.run_places.proofs.Moves.{Change, on_pe, with_pe, waits_at, IsQuiet, ran_from}
 use Rattle.run_places.proofs.Moves.Move.{Still, Runs, Looks, Addresses, Forwards, Installs, Departs}
 use Rattle.run_places.proofs.PeMoves.{posts_gain, posts_are, room_empty, nothing_waits, none_waits}
-use Rattle.run_places.proofs.Sites.{Site, LetterWeight, ElementWeight, no_letters, no_elements, look_site, item_out, held_at, hand_at, letter_in, entry_at, pe_at, world_at}
+use Rattle.run_places.proofs.Sites.{Site, LetterWeight, ElementWeight, no_elements, look_site, item_out, held_at, hand_at, letter_in, entry_at}
 use Rattle.run_places.proofs.Sites.Site.{Fresh, Bound, Chasing, Waiting, Room}
 
 -- an item is its parcel and its address

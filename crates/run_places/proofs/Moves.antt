@@ -1,5 +1,5 @@
 -- What an event moves from site to site: what it takes from where, and puts where; all else stays.
-use Rattle.std.proofs.Common.{◌≡◌, ◌≢◌, ℕ, zero, suc, ◌+◌, List, [], ◌∷◌, map, Option, Some, None, sum_by, arith, refl, sym, ap}
+use Rattle.std.proofs.Common.{◌≡◌, ℕ, ◌+◌, List, [], ◌∷◌, map, Option, Some, None, sum_by, arith}
 use Rattle.std.specs.Prelude.{⊤, slice_get, slice_set, ◌==◌, ◌&&◌, if◌then◌else◌}
 use Rattle.chares.specs.declared.report.Report.{Report}
 use Rattle.chares.specs.declared.report.Report.TheVariants as Tells

@@ -6,7 +6,7 @@ use Rattle.std.proofs.lemmas.List.FromFn.{length-map-range_with_len}
 use Rattle.chares.specs.Elements.{ElementView, opening_element}
 use Rattle.pe_state.specs.Pes.{PeView, Parcel, new_pe, placed}
 use Rattle.pe_state.specs.Rooms.{joined}
-use Rattle.rts_core.specs.Worlds.{WorldView, home, placed_on, settled, opening_world}
+use Rattle.rts_core.specs.Worlds.{home, placed_on, settled, opening_world}
 use Rattle.rts_core.proofs.OpeningWeights.{AllOpen, Opens, new_open, placed_open, absent_above, get_there, home_below}
 use Rattle.run_places.proofs.Entries.{room_joined}
 use Rattle.run_places.proofs.Sites.{LetterWeight, ElementWeight, entry_at, pe_at, queue_at, world_at, sum_from, sum_from-set}

@@ -1,32 +1,24 @@
 -- What each call of a PE moves.
-use Rattle.std.proofs.Common.{◌≡◌, ◌≢◌, ℕ, ◌+◌, List, [], ◌∷◌, ◌++◌, map, drop, Option, Some, None, Bool, true, false, sum_by, arith, refl, sym, ◌∙◌, ap, subst}
+use Rattle.std.proofs.Common.{◌≡◌, ◌≢◌, ℕ, ◌+◌, List, [], ◌∷◌, map, Option, Some, None, Bool, true, false, sum_by, arith, refl, sym, ◌∙◌, ap, subst}
 use Rattle.std.specs.Prelude.{slice_get, nat_eq, not, cond, ◌==◌, if◌then◌else◌}
 use Rattle.std.specs.List.{filter}
-use Rattle.std.specs.Option.{option_map, option_or, option_to_list}
 use Rattle.std.proofs.lemmas.Bool.Decides.{nat_tests}
-use Rattle.std.proofs.lemmas.List.Filters.{sum_by-filter_both}
-use Rattle.std.proofs.lemmas.List.Sums.{sum_by-cons, sum_by-append, sum_by_push}
+use Rattle.std.proofs.lemmas.List.Sums.{sum_by-cons}
 use Rattle.chares.specs.declared.carried.Carried.TheVariants.{Letter, Element}
-use Rattle.chares.specs.declared.entry.Entry.TheVariants.{Letter as OfLetter, Resumption}
 use Rattle.chares.specs.declared.report.Report.{Report}
 use Rattle.chares.specs.declared.report.Report.TheVariants as Tells
-use Rattle.chares.specs.Elements.{ElementView, PackedView, ran, outcome_of, packed, unpacked}
-use Rattle.chares.specs.Letters.{LetterView, Done, hopped}
+use Rattle.chares.specs.Elements.{ElementView}
+use Rattle.chares.specs.Letters.{LetterView}
 use Rattle.chares.specs.Posting.{letter_to, letters_of, posts_of}
-use Rattle.chares.specs.Steps.{Step}
-use Rattle.pup_pack.specs.declared.error.PupError.{PupError}
-use Rattle.pe_state.specs.Pes.{PeView, Parcel, Item, Acting, unaddressed, front_wants, wanted, hand_wants, hand_wants_in, absent, looked, looked_in, front_at, at_pe, letter_at, element_at, is_for, handled, handler_posts, resumed, resume_reports, departed, executed, on_letter, passing, shelving, forwarding, installed, installing, on_element, on_parcel, acting_on, acting}
-use Rattle.pe_state.specs.Rooms.{found, joined, changed, without}
-use Rattle.pe_state.specs.declared.acted.Acted.TheVariants.{Installed as IsInstalled}
+use Rattle.pe_state.specs.Pes.{PeView, Parcel, Item, absent, is_for}
+use Rattle.pe_state.specs.Rooms.{found}
 use Rattle.rts_core.specs.Worlds.{WorldView}
 use Rattle.rts_core.proofs.Moves.{numbered}
-use Rattle.rts_core.proofs.Weights.{sum_by-map, sum_by-same}
-use Rattle.rts_core.proofs.WorldSteps.{get_set_same, get_set_other}
-use Rattle.run_places.proofs.Entries.{room_changed, room_joined, room_without, room_absent}
-use Rattle.run_places.proofs.Moves.{Move, Change, Facts, on_pe, with_pe, in_room, waits_at, IsQuiet, post_of}
-use Rattle.run_places.proofs.Moves.Move.{Still, Runs, Looks, Addresses, Forwards, Installs, Departs}
-use Rattle.run_places.proofs.Sites.{Site, LetterWeight, ElementWeight, no_letters, no_elements, look_site, item_out, held_at, hand_at, letter_in, entry_at, pe_at, queue_at, world_at, sum_from, sum_from-none}
-use Rattle.run_places.proofs.Sites.Site.{Fresh, Bound, Chasing, Waiting, Room}
+use Rattle.rts_core.proofs.Weights.{sum_by-same}
+use Rattle.run_places.proofs.Entries.{room_absent}
+use Rattle.run_places.proofs.Moves.{in_room, waits_at, post_of}
+use Rattle.run_places.proofs.Sites.{LetterWeight, ElementWeight, no_letters, no_elements, item_out, held_at, hand_at, letter_in, entry_at, pe_at, queue_at, world_at, sum_from-none}
+use Rattle.run_places.proofs.Sites.Site.{Fresh, Chasing, Waiting, Room}
 
 -- ---- letters that are posted
 

@@ -1,7 +1,6 @@
 -- Where the elements of a world are that a list of events leads to.
-use Rattle.std.proofs.Common.{◌≡◌, ◌≢◌, ℕ, zero, suc, ◌+◌, ◌<◌, ◌≤◌, List, [], ◌∷◌, length, map, Option, Some, None, Bool, true, false, sum_by, arith, refl, sym, ◌∙◌, ap, subst}
-use Rattle.std.specs.Prelude.{Result, slice_get, nat_eq, ◌==◌, if◌then◌else◌}
-use Rattle.std.specs.List.{range_with_len}
+use Rattle.std.proofs.Common.{◌≡◌, ℕ, ◌+◌, ◌<◌, ◌≤◌, List, [], ◌∷◌, length, Option, Some, None, Bool, true, false, sum_by, arith, refl, sym, ◌∙◌, ap, subst}
+use Rattle.std.specs.Prelude.{Result, slice_get, nat_eq, if◌then◌else◌}
 use Rattle.std.proofs.lemmas.Bool.Decides.{nat_tests}
 use Rattle.std.proofs.lemmas.List.FromFn.{length-map-range_with_len}
 use Rattle.std.proofs.lemmas.List.Sums.{sum_by-cons}
@@ -18,8 +17,8 @@ use Rattle.rts_core.proofs.EventSteps.{happens_good}
 use Rattle.rts_core.proofs.OpeningWeights.{one_at, opened_lives, opened_once, opening_of, opening_numbered}
 use Rattle.rts_core.proofs.WorldSteps.{AreOf, Numbered, Stepped}
 use Rattle.run_places.proofs.Changes.{happens_moves}
-use Rattle.run_places.proofs.Moves.{Change, taken, put, words_after}
-use Rattle.run_places.proofs.Named.{misnamed, at_index, is_word, named_after, index_kept, words_kept, room_by_word, room_named, bound_named}
+use Rattle.run_places.proofs.Moves.{Change, words_after}
+use Rattle.run_places.proofs.Named.{misnamed, at_index, named_after, index_kept, words_kept, room_by_word, room_named, bound_named}
 use Rattle.run_places.proofs.OpeningSites.{opened_sites, opening_sites, word_at}
 use Rattle.run_places.proofs.Sites.{Site, ElementWeight, no_letters, no_elements, world_at, world_zeros}
 use Rattle.run_places.proofs.Sites.Site.{Fresh, Bound, Chasing, Waiting, Room}

@@ -1,15 +1,12 @@
 -- What weighs the same at every site weighs what it does without its site.
-use Rattle.std.proofs.Common.{◌≡◌, ℕ, ◌+◌, List, [], ◌∷◌, map, Option, Some, None, sum_by, arith, refl, sym, ◌∙◌}
-use Rattle.std.specs.Map.{values_of}
+use Rattle.std.proofs.Common.{◌≡◌, ℕ, List, Option, Some, None, sum_by, arith, refl}
 use Rattle.chares.specs.declared.carried.Carried.TheVariants.{Letter, Element}
 use Rattle.chares.specs.Elements.{ElementView}
-use Rattle.chares.specs.Letters.{LetterView}
 use Rattle.pe_state.specs.Pes.{PeView, Parcel, Item}
-use Rattle.rts_core.specs.Places.{Life}
 use Rattle.rts_core.specs.Worlds.{WorldView}
 use Rattle.rts_core.proofs.RunLaws.{by_said, by_index}
 use Rattle.rts_core.proofs.Weights.{weigh, of_parcel, of_item, of_hand, of_room, of_pe, of_queue, of_world, of_element, sum_by-map, sum_by-same}
-use Rattle.run_places.proofs.Sites.{Site, parcel_at, item_out, held_at, hand_at, letter_in, entry_at, pe_at, queue_at, world_at, sum_from, sum_from-same, address_site, look_site}
+use Rattle.run_places.proofs.Sites.{Site, parcel_at, item_out, held_at, hand_at, letter_in, entry_at, pe_at, queue_at, world_at, sum_from-same, address_site}
 use Rattle.run_places.proofs.Sites.Site.{Bound, Waiting}
 
 module _ (r : (ℕ × ℕ) × ℕ → ℕ) (i : ℕ → ℕ) where

@@ -1,15 +1,14 @@
 -- The laws of the places of elements, in a world that a list of events leads to.
-use Rattle.std.proofs.Common.{◌≡◌, ◌≢◌, ℕ, zero, suc, ◌+◌, ◌≤◌, Some, Bool, true, false, arith, refl, sym, ◌∙◌, ap, subst}
-use Rattle.std.specs.Prelude.{Any, Result, List, length, slice_get, ◌==◌, ◌&&◌, if◌then◌else◌}
+use Rattle.std.proofs.Common.{◌≡◌, ℕ, ◌+◌, ◌≤◌, Some, arith, sym, subst}
+use Rattle.std.specs.Prelude.{Result, List, length, slice_get, ◌==◌, if◌then◌else◌}
 use Rattle.std.proofs.lemmas.Bool.Decides.{nat_tests}
 use Rattle.chares.specs.Steps.{Step}
 use Rattle.pup_pack.specs.declared.error.PupError.{PupError}
-use Rattle.pe_state.specs.Pes.{PeView}
 use Rattle.rts_core.specs.declared.event.Event.{Event}
 use Rattle.rts_core.specs.Events.{After}
 use Rattle.rts_core.specs.Runs.{Leads}
 use Rattle.rts_core.specs.Worlds.{WorldView, opening_world}
-use Rattle.run_places.specs.Bound.{Carries, IsBoundFor, StandsOn, IsLookedForOn, StandAlone, AreNamed}
+use Rattle.run_places.specs.Bound.{IsBoundFor, StandsOn, StandAlone, AreNamed}
 use Rattle.run_places.proofs.Both.{world_both}
 use Rattle.run_places.proofs.Bounds.{stands_weighs, bound_weighs, boxed_weighs}
 use Rattle.run_places.proofs.Named.{misnamed, at_index, room_named, bound_named}

@@ -1,6 +1,6 @@
 -- Weights of what a world holds by where it is. What matters of a place is for which PE a letter or an element is bound,
 -- and what a look gave: so a parcel may pass from an outbox to a queue and to a hand, and stay at its site.
-use Rattle.std.proofs.Common.{◌≡◌, ◌≢◌, ℕ, zero, suc, ◌+◌, ◌≤◌, List, [], ◌∷◌, Option, Some, None, sum_by, arith, refl, sym, ap}
+use Rattle.std.proofs.Common.{◌≡◌, ℕ, zero, suc, ◌+◌, ◌≤◌, List, [], ◌∷◌, Option, Some, None, sum_by, arith, refl, ap}
 use Rattle.std.specs.Prelude.{slice_get, slice_set, ◌==◌, if◌then◌else◌}
 use Rattle.std.proofs.lemmas.List.Sums.{sum_by-cons}
 use Rattle.chares.specs.declared.carried.Carried.TheVariants.{Letter, Element}
