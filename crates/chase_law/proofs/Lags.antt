@@ -4,7 +4,6 @@ use Rattle.std.proofs.Common.{◌≡◌, ℕ, ◌+◌, ◌≤◌, List, ◌++◌
 use Rattle.std.specs.Prelude.{⊤, ◌⊎◌, slice_get, nat_lt, nat_le, ◌&&◌, ◌||◌, if◌then◌else◌}
 use Rattle.std.proofs.lemmas.Bool.Decides.{nat_tests}
 use Rattle.chares.specs.declared.report.Report.{Report}
-use Rattle.chares.specs.declared.report.Report.TheVariants as Tells
 use Rattle.run_places.proofs.Moves.{waits_at}
 use Rattle.run_places.proofs.Named.{is_pe, word_is, is_word_of, right_zero, zero_right}
 use Rattle.run_places.proofs.Sites.{Site, LetterWeight}

@@ -1,5 +1,5 @@
 -- How often a letter is forwarded, and what waits on a shelf. Source: the Charm++ manual, where a message that reaches a
--- PE which its element has left is forwarded; that each forwarding has a departure of its own is this project's claim.
+-- PE which its element has left is forwarded; how often that may happen is this project's claim.
 use Rattle.std.specs.Prelude.{◌≡◌, ℕ, ◌≤◌, List, ◌∷◌, ◌++◌, Contains, Some, Bool, false, ◌==◌, slice_get}
 use Rattle.chares.specs.declared.report.Report.{Report}
 use Rattle.chares.specs.declared.report.Report.TheVariants as Tells

@@ -1,5 +1,5 @@
 -- Where the elements of an opening world are: each on its home, which is its word.
-use Rattle.std.proofs.Common.{◌≡◌, ℕ, zero, suc, ◌+◌, ◌<◌, ◌≤◌, List, [], ◌∷◌, length, map, Option, Some, None, sum_by, arith, refl, sym, ◌∙◌, subst}
+use Rattle.std.proofs.Common.{◌≡◌, ℕ, zero, suc, ◌+◌, ◌<◌, ◌≤◌, List, [], ◌∷◌, length, map, Option, Some, None, sum_by, arith, refl, sym, ◌∙◌, subst, zero-add, length-set}
 use Rattle.std.specs.Prelude.{slice_get, replicate}
 use Rattle.std.specs.List.{range_with_len}
 use Rattle.std.proofs.lemmas.List.FromFn.{length-map-range_with_len}
@@ -11,7 +11,6 @@ use Rattle.rts_core.proofs.OpeningWeights.{AllOpen, Opens, new_open, placed_open
 use Rattle.run_places.proofs.Entries.{room_joined}
 use Rattle.run_places.proofs.Sites.{LetterWeight, ElementWeight, entry_at, pe_at, queue_at, world_at, sum_from, sum_from-set}
 use Rattle.run_places.proofs.Sites.Site.{Room}
-use Rattle.std.proofs.Common.{zero-add, length-set}
 
 -- the elements of these chares, from number e on, each on its home
 abbrev pub opened_sites : {C : Type 0} → ElementWeight → ℕ → ℕ → ℕ → List C → ℕ

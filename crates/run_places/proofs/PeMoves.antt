@@ -10,7 +10,7 @@ use Rattle.chares.specs.declared.report.Report.TheVariants as Tells
 use Rattle.chares.specs.Elements.{ElementView}
 use Rattle.chares.specs.Letters.{LetterView}
 use Rattle.chares.specs.Posting.{letter_to, letters_of, posts_of}
-use Rattle.pe_state.specs.Pes.{PeView, Parcel, Item, absent, is_for}
+use Rattle.pe_state.specs.Pes.{PeView, Parcel, Item, is_for}
 use Rattle.pe_state.specs.Rooms.{found}
 use Rattle.rts_core.specs.Worlds.{WorldView}
 use Rattle.rts_core.proofs.Moves.{numbered}
