@@ -1,6 +1,6 @@
 -- What is in one place of a world is in no other. A weight of which a world has at most 1 is at one of its places, and
 -- at no other.
-use Rattle.std.proofs.Common.{◌≡◌, ◌≢◌, ℕ, zero, suc, ◌+◌, ◌<◌, ◌≤◌, List, [], ◌∷◌, length, Some, sum_by, arith, refl, ap}
+use Rattle.std.proofs.Common.{◌≡◌, ◌≢◌, ℕ, zero, suc, ◌+◌, ◌≤◌, List, [], ◌∷◌, Some, sum_by, arith, refl, ap}
 use Rattle.std.specs.Prelude.{All, Any, slice_get}
 use Rattle.std.proofs.lemmas.List.Elements.{All-nil, All-cons}
 use Rattle.std.proofs.lemmas.List.Sums.{sum_by-cons}
