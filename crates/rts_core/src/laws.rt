@@ -27,10 +27,10 @@ pub fn account_laws<C: Chare<A>, A: Allocator>()
     ensures still_sent { (opened : List C) (w : WorldView C A) (event : Event) (next : After C A) → AreHistories C.step C.fits C.pack opened w → AreSent C.step opened w → Happens C.step C.pack C.unpack w event next → AreSent C.step opened next.0 }
 {}
 
-/// The account of one PE over its calls, whatever is done to it by others between them. The function does nothing: its
-/// clauses are the laws, of whatever chares. After any list of calls, refused ones among them, the letters that the PE has
-/// posted and those that it has received are those that it has given away, those that it holds, and those in the
-/// journals of its elements; and its numbers are in order. One more call keeps this.
+/// The account of one PE over its calls, whatever other PEs do. The function does nothing: its clauses are the laws, of
+/// whatever chares. After any list of calls, refused ones among them, the letters that the PE has posted and received are
+/// those that it has given away and those that it has, where the letters in the journal of an element go with it; and
+/// those that it has posted are numbered in order. One more call keeps this.
 pub fn local_account_laws<C: Chare<A>, A: Allocator>()
     ensures balance { (me n : ℕ) (calls : List (Call C)) → MayMake C.step C.pack C.unpack (new_pe me n) calls → IsBalanced (after_calls C.step C.pack C.unpack (new_pe me n) calls) (with_calls C.step C.pack C.unpack no_ledger (new_pe me n) calls) }
     ensures still_balanced { (pe : PeView C) (ledger : Ledger) (call : Call C) → MayCall pe call → IsBalanced pe ledger → IsBalanced (after_call C.step C.pack C.unpack pe call) (with_call C.step C.pack C.unpack ledger pe call) }
