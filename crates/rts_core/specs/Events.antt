@@ -1,5 +1,5 @@
 -- What each event of a run does: where it is enabled, the world after it, and its reports in order. The events are
--- those of docs/EVENTS.md, in its order; what a handler does, and Act in its four cases, is said of one PE.
+-- those of docs/EVENTS.md; what a handler does, and Act in its four cases, is said of one PE.
 use Rattle.std.specs.Prelude.{◌≡◌, ℕ, ◌+◌, List, [], ◌∷◌, ◌++◌, Option, None, Some, Bool, not, ◌&&◌, ◌==◌, ◌⊎◌, Result, if◌then◌else◌, nat_lt, is_none, slice_get, slice_set, MatchOption}
 use Rattle.std.specs.Option.{option_map, option_and_then}
 use Rattle.chare_index.specs.declared.limits.TheConstants.Limits.{STATE_BYTES}
