@@ -15,6 +15,8 @@ mod packing;
 #[cfg(test)]
 mod pe;
 #[cfg(test)]
+mod random;
+#[cfg(test)]
 mod relay;
 #[cfg(test)]
 mod requests;
