@@ -1,2 +1,3 @@
 pub mod Couriers
+pub mod Relays
 pub mod Tallies

@@ -3,6 +3,7 @@
 ghost use Rattle.std.specs.Prelude.{◌≡◌};
 
 use crate::courier::Courier;
+use crate::relay::Relay;
 use crate::tally::Tally;
 use chare_index::{Index, Pe, Round};
 use pup_pack::{Bytes, Items};
@@ -59,4 +60,10 @@ pub fn pes(rt: &impl Abort) -> (Pe, Pe, Pe) {
 /// The first three elements.
 pub fn elements(rt: &impl Abort) -> (Index, Index, Index) {
     (index(rt, 0), index(rt, 1), index(rt, 2))
+}
+
+/// A relay with so many rounds left, whose letters have this body.
+pub fn relay<A: Allocator>(alloc: A, left: u32, body: &[u8]) -> Result<Relay<A>, AllocError> {
+    let body = Bytes::new(Vec::from_slice(alloc, body)?);
+    Relay::new(left, body).ok_or(AllocError)
 }

@@ -9,11 +9,21 @@ mod courier;
 #[cfg(test)]
 mod fixtures;
 #[cfg(test)]
+mod no_memory;
+#[cfg(test)]
 mod packing;
 #[cfg(test)]
 mod pe;
 #[cfg(test)]
+mod random;
+#[cfg(test)]
+mod relay;
+#[cfg(test)]
+mod requests;
+#[cfg(test)]
 mod scripts;
+#[cfg(test)]
+mod seen;
 #[cfg(test)]
 mod steps;
 #[cfg(test)]

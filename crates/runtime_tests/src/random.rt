@@ -1,0 +1,147 @@
+//! Random events over small worlds. After each of them every letter and every element is counted by hand where it is,
+//! and what was reported is held against the laws of the runtime.
+
+ghost use Rattle.std.specs.Prelude.{◌≡◌};
+
+use crate::courier::Courier;
+use crate::random::account::compare;
+use crate::random::draw::Draw;
+use crate::random::laws::{barrier, chase};
+use crate::relay::Relay;
+use crate::seen::look_around;
+use crate::steps::opened;
+use crate::tally::Tally;
+use chares::{Chare, Openings, Report};
+use rts_core::{Event, World};
+use std::alloc::Global;
+use std::marker::Brand;
+use std::process::Abort;
+
+mod account;
+mod draw;
+mod laws;
+
+// How often a world of each of the three chares is opened, and how many events are drawn in each of these. For a run
+// of 100,000 events take 112 turns.
+const TURNS: u32 = 16;
+
+const EVENTS: u32 = 300;
+
+// How often some things were reported.
+#[derive(Default, Drop)]
+struct Happened {
+    executed: u32,
+    forwarded: u32,
+    shelved: u32,
+    installed: u32,
+    decided: u32,
+    resumed: u32,
+}
+
+impl Happened {
+    fn report(&mut self, report: &Report) {
+        match report {
+            Report::Executed(_, _) => self.executed = self.executed.saturating_add(1),
+            Report::Forwarded(_) => self.forwarded = self.forwarded.saturating_add(1),
+            Report::Shelved(_) => self.shelved = self.shelved.saturating_add(1),
+            Report::Installed(_) => self.installed = self.installed.saturating_add(1),
+            Report::Decided(_) => self.decided = self.decided.saturating_add(1),
+            Report::Resumed(_, round) if round.get() != 0 => {
+                self.resumed = self.resumed.saturating_add(1)
+            }
+            _ => {}
+        }
+    }
+
+    // Each of these was reported more than a few times.
+    fn often(&self, rt: &impl Abort) {
+        assert!(rt; self.executed > 50, "{} executed", self.executed);
+        assert!(rt; self.forwarded > 5, "{} forwarded", self.forwarded);
+        assert!(rt; self.shelved > 5, "{} shelved", self.shelved);
+        assert!(rt; self.installed > 20, "{} installed", self.installed);
+        assert!(rt; self.decided > 10, "{} decided", self.decided);
+        assert!(rt; self.resumed > 20, "{} resumed", self.resumed);
+    }
+}
+
+// One event, with all that must be so after it.
+fn happen<C: Chare<Global>, H: Openings<C>>(
+    rt: &(impl Abort + AllocGlobal),
+    world: &mut World<C, H>,
+    trace: &mut Vec<Report>,
+    happened: &mut Happened,
+    event: Event,
+) {
+    let reports = world.step(event).expect(rt, "refused");
+    let seen = look_around(rt, world);
+    for report in reports.as_slice() {
+        barrier(rt, world.board(), seen.as_slice(), trace.as_slice(), report);
+        trace.push(*report).expect(rt, "out of memory");
+        happened.report(report);
+    }
+    chase(rt, seen.as_slice(), trace.as_slice());
+    compare(rt, world, trace.as_slice());
+}
+
+// Random events over a world of these chares.
+fn many<C: Chare<Global>, H: Openings<C>>(
+    rt: &(impl Abort + AllocGlobal),
+    draw: &mut Draw,
+    happened: &mut Happened,
+    size: (u32, u32),
+    chares: Vec<C>,
+)
+    requires run { size.0 ≡ H.pes }
+    requires opened { chares.items ≡ H.opened }
+{
+    let (pes, n) = size;
+    let world = opened::<C, H, Global>(rt, rt.alloc(), pes, chares);
+    let mut world = world.expect(rt, "out of memory");
+    let mut trace = Vec::new(rt.alloc());
+    for _ in 0..EVENTS {
+        let event = draw.event(rt, &world, pes, n);
+        happen(rt, &mut world, &mut trace, happened, event);
+    }
+}
+
+fn many_tallies(
+    rt: &(impl Abort + AllocGlobal),
+    draw: &mut Draw,
+    happened: &mut Happened,
+    size: (u32, u32),
+) {
+    let chares = draw.tallies(rt, size.1);
+    many::<Tally, Brand>(rt, draw, happened, size, chares);
+}
+
+fn many_couriers(
+    rt: &(impl Abort + AllocGlobal),
+    draw: &mut Draw,
+    happened: &mut Happened,
+    size: (u32, u32),
+) {
+    let chares = draw.couriers(rt, size.1);
+    many::<Courier, Brand>(rt, draw, happened, size, chares);
+}
+
+fn many_relays(
+    rt: &(impl Abort + AllocGlobal),
+    draw: &mut Draw,
+    happened: &mut Happened,
+    size: (u32, u32),
+) {
+    let chares = draw.relays(rt, size.1);
+    many::<Relay, Brand>(rt, draw, happened, size, chares);
+}
+
+#[test]
+fn random_events(rt: HostRuntime) {
+    let (mut draw, mut happened) = (Draw::new(), Happened::default());
+    for _ in 0..TURNS {
+        let size = draw.size();
+        many_tallies(&rt, &mut draw, &mut happened, size);
+        many_couriers(&rt, &mut draw, &mut happened, size);
+        many_relays(&rt, &mut draw, &mut happened, size);
+    }
+    happened.often(&rt);
+}

@@ -1,0 +1,88 @@
+//! The account of a world by hand: where each letter and each element is, beside what was reported.
+
+use crate::seen::{Seen, count, look_around};
+use chare_index::{Index, Pe};
+use chares::{Chare, LetterId, Openings, Report};
+use rts_core::World;
+use std::alloc::Allocator;
+use std::process::Abort;
+
+/// Each letter that was posted is in one place, or was executed once, by its own element; each element is in one place;
+/// and nothing else is there.
+pub fn compare<C: Chare<A>, H: Openings<C>, A: Allocator>(
+    rt: &(impl Abort + AllocGlobal),
+    world: &World<C, H, A>,
+    trace: &[Report],
+) {
+    let seen = look_around(rt, world);
+    for one in seen.as_slice() {
+        compare_one(rt, seen.as_slice(), trace, one);
+    }
+    for report in trace {
+        if let Report::Posted(id, to) = report {
+            once(rt, seen.as_slice(), trace, id, *to);
+        }
+    }
+}
+
+// What is seen was reported, once.
+fn compare_one(rt: &impl Abort, seen: &[Seen], trace: &[Report], one: &Seen) {
+    match one {
+        Seen::Letter(id, to) => posted_once(rt, trace, id, *to),
+        Seen::Executed(by, id, to) => executed_once(rt, trace, *by, id, *to),
+        Seen::Posts(p, posts) => numbered(rt, trace, *p, *posts),
+        Seen::Word(e, _, _) => assert_eq!(rt; count(seen, Seen::Element(*e)), 1),
+        Seen::Element(e) => known(rt, seen, *e),
+        _ => {}
+    }
+}
+
+fn posted_once(rt: &impl Abort, trace: &[Report], id: &LetterId, to: Index) {
+    assert_eq!(rt; count(trace, Report::Posted(*id, to)), 1);
+    assert_eq!(rt; count(trace, Report::Executed(*id, to)), 0);
+}
+
+fn executed_once(rt: &impl Abort, trace: &[Report], by: Index, id: &LetterId, to: Index) {
+    assert_eq!(rt; by, to);
+    assert_eq!(rt; count(trace, Report::Posted(*id, to)), 1);
+    assert_eq!(rt; count(trace, Report::Executed(*id, to)), 1);
+}
+
+// A letter that was posted is in one place, or was executed once.
+fn once(rt: &impl Abort, seen: &[Seen], trace: &[Report], id: &LetterId, to: Index) {
+    let held = count(seen, Seen::Letter(*id, to));
+    let executed = count(seen, Seen::Executed(to, *id, to));
+    assert_eq!(rt; held.saturating_add(executed), 1);
+    assert_eq!(rt; count(trace, Report::Executed(*id, to)), executed);
+}
+
+// The letters of a PE were numbered from 0 upwards, as it posted them.
+fn numbered(rt: &impl Abort, trace: &[Report], p: Pe, posts: u64) {
+    let mut next: u64 = 0;
+    for report in trace {
+        if let Report::Posted((by, number), _) = report {
+            if *by == p {
+                assert_eq!(rt; u64::from(*number), next);
+                next = next.saturating_add(1);
+            }
+        }
+    }
+    assert_eq!(rt; next, posts);
+}
+
+// An element that is somewhere is one of the array.
+fn known(rt: &impl Abort, seen: &[Seen], e: Index) {
+    assert!(rt; word(seen, e).is_some());
+}
+
+/// The word of an element.
+pub fn word(seen: &[Seen], e: Index) -> Option<Pe> {
+    for one in seen {
+        if let Seen::Word(other, word, _) = one {
+            if *other == e {
+                return Some(*word);
+            }
+        }
+    }
+    None
+}

@@ -1,0 +1,144 @@
+//! The laws of a trace, looked up by hand: when elements go on, and how letters chase them.
+
+use crate::seen::{Place, Seen, count};
+use at_sync::Board;
+use chare_index::{Index, Pe, Round};
+use chares::Report;
+use lb_strategy::Decision;
+use std::alloc::Allocator;
+use std::process::Abort;
+
+/// What must be so when this is reported, with what is seen then, after what was reported before.
+pub fn barrier<A: Allocator>(
+    rt: &impl Abort,
+    board: &Board<A>,
+    seen: &[Seen],
+    before: &[Report],
+    report: &Report,
+) {
+    match report {
+        Report::Resumed(e, round) => resumed(rt, board, seen, before, *e, *round),
+        Report::Decided(round) => decided(rt, board, seen, before, *round),
+        _ => {}
+    }
+}
+
+// An element goes on after a round once; all have reported in that round, and it stands at its place.
+fn resumed<A: Allocator>(
+    rt: &impl Abort,
+    board: &Board<A>,
+    seen: &[Seen],
+    before: &[Report],
+    e: Index,
+    round: Round,
+) {
+    assert_eq!(rt; count(before, Report::Resumed(e, round)), 0);
+    if round.get() == 0 {
+        return;
+    }
+    assert_eq!(rt; count(before, Report::Decided(round)), 1);
+    all_synced(rt, seen, before, round);
+    let decision = board.decision_for(round).expect(rt, "no decision");
+    let place = place_in(rt, decision, e).expect(rt, "no place");
+    assert_eq!(rt; count(seen, Seen::Stands(Place::Room(place), e)), 1);
+}
+
+fn all_synced(rt: &impl Abort, seen: &[Seen], before: &[Report], round: Round) {
+    for one in seen {
+        if let Seen::Word(x, _, _) = one {
+            assert_eq!(rt; count(before, Report::Synced(*x, round)), 1);
+        }
+    }
+}
+
+// The place of an element in a decision, found block by block.
+fn place_in<A: Allocator>(rt: &impl Abort, decision: &Decision<A>, e: Index) -> Option<Pe> {
+    let mut place = None;
+    let names = decision.naming.as_slice();
+    for (cut, name) in decision.division.cuts.as_slice().iter().zip(names) {
+        if *cut <= e.get() {
+            place = Some(*name);
+        }
+    }
+    Pe::new(place?)
+}
+
+// A round is decided once, when all have reported, from where each of them stands.
+fn decided<A: Allocator>(
+    rt: &impl Abort,
+    board: &Board<A>,
+    seen: &[Seen],
+    before: &[Report],
+    round: Round,
+) {
+    assert_eq!(rt; count(before, Report::Decided(round)), 0);
+    all_synced(rt, seen, before, round);
+    let (snapshot, _) = board.rounds().last().expect(rt, "no round");
+    assert_eq!(rt; snapshot.step(), round.get());
+    for one in seen {
+        if let Seen::Word(e, _, _) = one {
+            let size = snapshot.sizes().as_slice().get(e.get() as usize);
+            let (_, place) = *size.expect(rt, "not in the snapshot");
+            assert_eq!(rt; count(seen, Seen::Stands(Place::Room(place), *e)), 1);
+        }
+    }
+}
+
+/// A letter was forwarded at most as often as its element has departed since it was posted, and as its hops say; and
+/// the element of a letter on a shelf is on its way to that PE.
+pub fn chase(rt: &impl Abort, seen: &[Seen], trace: &[Report]) {
+    for report in trace {
+        if let Report::Posted(id, to) = report {
+            let departures = count_after(trace, *report, Report::Departed(*to));
+            assert!(rt;
+                count(trace, Report::Forwarded(*id)) <= departures,
+                "{report:?}"
+            );
+        }
+    }
+    for one in seen {
+        if let Seen::Waits(place, id, to, hops) = one {
+            assert_eq!(rt; count(trace, Report::Forwarded(*id)), *hops as usize);
+            if let Place::Shelf(p) = place {
+                assert!(rt; is_coming(seen, *to, *p), "{one:?}");
+            }
+        }
+    }
+}
+
+// How often the second was reported after the first.
+fn count_after(trace: &[Report], first: Report, second: Report) -> usize {
+    let mut after = false;
+    let mut number: usize = 0;
+    for report in trace {
+        let (is_first, is_second) = (*report == first, *report == second);
+        if after && is_second {
+            number = number.saturating_add(1);
+        }
+        if is_first {
+            after = true;
+        }
+    }
+    number
+}
+
+// Whether an element is on its way to a PE.
+fn is_coming(seen: &[Seen], e: Index, p: Pe) -> bool {
+    for one in seen {
+        if let Seen::Stands(place, other) = one {
+            if *other == e {
+                return leads_to(*place, p);
+            }
+        }
+    }
+    false
+}
+
+fn leads_to(place: Place, p: Pe) -> bool {
+    match place {
+        Place::Hand(at, _) => at == p,
+        Place::Queue(at) => at == p,
+        Place::Outbox(_, address) => address == Some(p),
+        _ => false,
+    }
+}
