@@ -93,19 +93,22 @@ fn each_forged_list_of_moves_has_its_flaw(rt: HostRuntime) {
     }
 }
 
+// Where an element of the example is to run by this decision, if it is right.
+fn place_by(rt: &(impl Abort + AllocGlobal), decision: Decision, place: u32) -> Option<u32> {
+    let example = snapshot(rt, 2, &EXAMPLE);
+    let index = index(rt, place);
+    let accepted = check(&example, 2, &decision).is_ok();
+    if accepted && (index.get() as usize) < example.sizes().len() {
+        return Some(decision.place_of(index).get());
+    }
+    None
+}
+
 #[test]
 fn an_element_runs_where_its_block_does(rt: HostRuntime) {
-    let example = snapshot(&rt, 2, &EXAMPLE);
-    let decision = decision(&rt, DIVISION, NAMING, MOVING);
-    assert!(rt;
-        check(&example, 2, &decision).is_ok(),
-        "refused the example"
-    );
     for (place, planned) in [(0u32, 1), (1, 1), (2, 0)] {
-        let index = index(&rt, place);
-        if (index.get() as usize) < example.sizes().len() {
-            assert_eq!(rt; decision.place_of(index).get(), planned, "element {place}");
-        }
+        let found = place_by(&rt, decision(&rt, DIVISION, NAMING, MOVING), place);
+        assert_eq!(rt; found, Some(planned), "element {place}");
     }
 }
 
@@ -265,12 +268,22 @@ fn renamed(decision: Decision, naming: Naming, moves: Moves) -> Decision {
     }
 }
 
+// What the check for two PEs says of that.
+fn check_renamed(
+    taken: &Snapshot,
+    decision: Decision,
+    naming: Naming,
+    moves: Moves,
+) -> Result<(), Flaw> {
+    check(taken, 2, &renamed(decision, naming, moves))
+}
+
 #[test]
 fn each_cheapest_naming_is_accepted(rt: HostRuntime) {
     let two = snapshot(&rt, 2, &[(1, 8, 0), (1, 8, 0)]);
     let planned = plan(rt.alloc(), &two, 2).expect(&rt, "out of memory");
-    let decision = renamed(planned, naming(&rt, &[1, 0]), moves(&rt, &[(0, 0, 1)]));
-    assert_eq!(rt; check(&two, 2, &decision), Ok(()));
+    let (naming, moves) = (naming(&rt, &[1, 0]), moves(&rt, &[(0, 0, 1)]));
+    assert_eq!(rt; check_renamed(&two, planned, naming, moves), Ok(()));
 }
 
 #[test]
