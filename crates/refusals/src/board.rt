@@ -43,11 +43,17 @@ fn two_reported<'a>(
     Some(board)
 }
 
+// Whether the board has decided its first round alone, so that both elements stay.
+fn has_decided(board: &Board<&Refusing<Global>>, first: Round) -> bool {
+    let Some(decision) = board.decision_for(first) else {
+        return false;
+    };
+    decision.moved == 0 && board.rounds().len() == 1
+}
+
 // Whether the board decides its first round now, so that both elements stay.
 fn decides(board: &mut Board<&Refusing<Global>>, first: Round) -> bool {
-    board.decide() == Ok(first)
-        && board.decision_for(first).map(|decision| decision.moved) == Some(0)
-        && board.rounds().len() == 1
+    board.decide() == Ok(first) && has_decided(board, first)
 }
 
 // What a decision comes to: where it is refused, nothing is decided, and the same call decides the round.
