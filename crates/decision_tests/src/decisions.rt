@@ -2,22 +2,32 @@
 
 ghost use Rattle.std.specs.Prelude.{◌≤◌};
 
-use crate::fixtures::{DIVISION, MOVING, NAMING, decision, index, moves, naming, pe, snapshot};
+use crate::fixtures::{
+    DIVISION, MOVING, NAMING, decision, decision_with, index, list, moves, naming, pe, snapshot,
+    unfenced,
+};
 use block_assignment::NameError;
 use chare_index::{Index, Pe};
-use lb_certificates::{Flaw, Floor, Loads, Sizes, Snapshot};
+use lb_certificates::{Flaw, Floor, Loads, Naming, Sizes, Snapshot};
 use lb_strategy::{Decision, Moves, PlanError, check, plan};
 use std::process::Abort;
 
-// What the check says of the example decision with these parts of it.
+// The elements of the example.
+const EXAMPLE: [(u32, u32, u32); 3] = [(1, 10, 0), (1, 9, 1), (2, 8, 0)];
+
+// What the check says of this decision on the example.
+fn judged(rt: &(impl Abort + AllocGlobal), decision: Decision) -> Result<(), Flaw> {
+    check(&snapshot(rt, 2, &EXAMPLE), 2, &decision)
+}
+
+// What it says of the example decision with these parts of it.
 fn verdict(
     rt: &(impl Abort + AllocGlobal),
     division: (&[u32], &[u32]),
     names: (&[u32], &[i64], &[i64]),
     moving: (u64, &[(u32, u32, u32)]),
 ) -> Result<(), Flaw> {
-    let example = snapshot(rt, 2, &[(1, 10, 0), (1, 9, 1), (2, 8, 0)]);
-    check(&example, 2, &decision(rt, division, names, moving))
+    judged(rt, decision(rt, division, names, moving))
 }
 
 #[test]
@@ -45,10 +55,8 @@ fn each_forged_division_has_its_flaw(rt: HostRuntime) {
 
 #[test]
 fn a_floor_of_zero_is_forged(rt: HostRuntime) {
-    let example = snapshot(&rt, 2, &[(1, 10, 0), (1, 9, 1), (2, 8, 0)]);
-    let mut forged = decision(&rt, DIVISION, NAMING, MOVING);
-    forged.division.floor = Floor::Zero;
-    assert_eq!(rt; check(&example, 2, &forged), Err(Flaw::ZeroFloor));
+    let forged = decision_with(&rt, unfenced(&rt, 2, &[0, 2, 3]), NAMING, MOVING);
+    assert_eq!(rt; judged(&rt, forged), Err(Flaw::ZeroFloor));
 }
 
 #[test]
@@ -85,19 +93,22 @@ fn each_forged_list_of_moves_has_its_flaw(rt: HostRuntime) {
     }
 }
 
+// Where an element of the example is to run by this decision, if it is right.
+fn place_by(rt: &(impl Abort + AllocGlobal), decision: Decision, place: u32) -> Option<u32> {
+    let example = snapshot(rt, 2, &EXAMPLE);
+    let index = index(rt, place);
+    let accepted = check(&example, 2, &decision).is_ok();
+    if accepted && (index.get() as usize) < example.sizes().len() {
+        return Some(decision.place_of(index).get());
+    }
+    None
+}
+
 #[test]
 fn an_element_runs_where_its_block_does(rt: HostRuntime) {
-    let example = snapshot(&rt, 2, &[(1, 10, 0), (1, 9, 1), (2, 8, 0)]);
-    let decision = decision(&rt, DIVISION, NAMING, MOVING);
-    assert!(rt;
-        check(&example, 2, &decision).is_ok(),
-        "refused the example"
-    );
     for (place, planned) in [(0u32, 1), (1, 1), (2, 0)] {
-        let index = index(&rt, place);
-        if (index.get() as usize) < example.sizes().len() {
-            assert_eq!(rt; decision.place_of(index).get(), planned, "element {place}");
-        }
+        let found = place_by(&rt, decision(&rt, DIVISION, NAMING, MOVING), place);
+        assert_eq!(rt; found, Some(planned), "element {place}");
     }
 }
 
@@ -132,20 +143,33 @@ fn says(decision: &Decision, row: Row<'_>) -> bool {
         && are_rows(decision.moves.as_slice(), row.moves)
 }
 
-// Whether the plan for this snapshot says this, and is accepted for as many PEs alone.
-fn plans(rt: &(impl Abort + AllocGlobal), taken: &Snapshot, pes: u32, row: Row<'_>) -> bool
+// Whether the plan for the snapshot of these elements says this, and is accepted for as many PEs alone.
+fn plans(
+    rt: &(impl Abort + AllocGlobal),
+    procs: u32,
+    elements: &[(u32, u32, u32)],
+    pes: u32,
+    row: Row<'_>,
+) -> bool
     requires some_pe { 1 ≤ pes }
     requires few_pes { pes ≤ 4 }
 {
-    let decision = plan(rt.alloc(), taken, pes).expect(rt, "out of memory");
-    let accepted = check(taken, pes, &decision).is_ok();
-    let alone = check(taken, pes + 1, &decision).is_err();
-    says(&decision, row) && accepted && alone
+    let taken = snapshot(rt, procs, elements);
+    let decision = plan(rt.alloc(), &taken, pes).expect(rt, "out of memory");
+    is_planned(&taken, pes, &decision, row)
+}
+
+fn is_planned(taken: &Snapshot, pes: u32, decision: &Decision, row: Row<'_>) -> bool
+    requires few_pes { pes ≤ 4 }
+{
+    let accepted = check(taken, pes, decision).is_ok();
+    let alone = check(taken, pes + 1, decision).is_err();
+    says(decision, row) && accepted && alone
 }
 
 #[test]
 fn the_examples_are_planned(rt: HostRuntime) {
-    let swapped = snapshot(&rt, 2, &[(1, 8, 1), (1, 8, 1), (1, 8, 0), (1, 8, 0)]);
+    let swapped: [(u32, u32, u32); 4] = [(1, 8, 1), (1, 8, 1), (1, 8, 0), (1, 8, 0)];
     let row = Row {
         bottleneck: 2,
         cuts: &[0, 2, 4],
@@ -153,20 +177,28 @@ fn the_examples_are_planned(rt: HostRuntime) {
         moved: 0,
         moves: &[],
     };
-    assert!(rt; plans(&rt, &swapped, 2, row), "swapped");
+    assert!(rt; plans(&rt, 2, &swapped, 2, row), "swapped");
+}
+
+// Six elements on three PEs.
+const SIX: [(u32, u32, u32); 6] = [
+    (1, 5, 0),
+    (1, 4, 1),
+    (1, 5, 0),
+    (1, 1, 1),
+    (1, 4, 1),
+    (1, 3, 2),
+];
+
+fn has_stops(decision: &Decision, expected: &[u32]) -> bool {
+    match &decision.division.floor {
+        Floor::Fence(stops) => stops.as_slice() == expected,
+        Floor::Zero => false,
+    }
 }
 
 #[test]
 fn six_elements_are_planned_for_three(rt: HostRuntime) {
-    let elements = [
-        (1, 5, 0),
-        (1, 4, 1),
-        (1, 5, 0),
-        (1, 1, 1),
-        (1, 4, 1),
-        (1, 3, 2),
-    ];
-    let six = snapshot(&rt, 3, &elements);
     let row = Row {
         bottleneck: 2,
         cuts: &[0, 2, 4, 6],
@@ -174,18 +206,17 @@ fn six_elements_are_planned_for_three(rt: HostRuntime) {
         moved: 10,
         moves: &[(0, 0, 1), (3, 1, 0), (4, 1, 2)],
     };
-    assert!(rt; plans(&rt, &six, 3, row), "six");
-    let decision = plan(rt.alloc(), &six, 3).expect(&rt, "out of memory");
-    let stops = match &decision.division.floor {
-        Floor::Fence(stops) => stops.as_slice(),
-        Floor::Zero => &[],
-    };
-    assert_eq!(rt; stops, [0, 1, 2, 3].as_slice());
+    assert!(rt; plans(&rt, 3, &SIX, 3, row), "six");
+}
+
+#[test]
+fn six_elements_have_their_fence(rt: HostRuntime) {
+    let decision = plan(rt.alloc(), &snapshot(&rt, 3, &SIX), 3).expect(&rt, "out of memory");
+    assert!(rt; has_stops(&decision, &[0, 1, 2, 3]));
 }
 
 #[test]
 fn the_example_is_planned_for_two_and_for_one(rt: HostRuntime) {
-    let example = snapshot(&rt, 2, &[(1, 10, 0), (1, 9, 1), (2, 8, 0)]);
     let row = Row {
         bottleneck: 2,
         cuts: &[0, 2, 3],
@@ -193,7 +224,7 @@ fn the_example_is_planned_for_two_and_for_one(rt: HostRuntime) {
         moved: 10,
         moves: &[(0, 0, 1)],
     };
-    assert!(rt; plans(&rt, &example, 2, row), "two PEs");
+    assert!(rt; plans(&rt, 2, &EXAMPLE, 2, row), "two PEs");
     let row = Row {
         bottleneck: 4,
         cuts: &[0, 3],
@@ -201,12 +232,12 @@ fn the_example_is_planned_for_two_and_for_one(rt: HostRuntime) {
         moved: 9,
         moves: &[(1, 1, 0)],
     };
-    assert!(rt; plans(&rt, &example, 1, row), "one PE");
+    assert!(rt; plans(&rt, 2, &EXAMPLE, 1, row), "one PE");
 }
 
 #[test]
 fn the_first_of_the_cheapest_namings_is_planned(rt: HostRuntime) {
-    let two = snapshot(&rt, 2, &[(1, 8, 0), (1, 8, 0)]);
+    let two: [(u32, u32, u32); 2] = [(1, 8, 0), (1, 8, 0)];
     let row = Row {
         bottleneck: 1,
         cuts: &[0, 1, 2],
@@ -214,8 +245,8 @@ fn the_first_of_the_cheapest_namings_is_planned(rt: HostRuntime) {
         moved: 8,
         moves: &[(1, 0, 1)],
     };
-    assert!(rt; plans(&rt, &two, 2, row), "two");
-    let four = snapshot(&rt, 4, &[(5, 8, 3), (7, 8, 3)]);
+    assert!(rt; plans(&rt, 2, &two, 2, row), "two");
+    let four: [(u32, u32, u32); 2] = [(5, 8, 3), (7, 8, 3)];
     let row = Row {
         bottleneck: 7,
         cuts: &[0, 1, 2, 2, 2],
@@ -223,21 +254,40 @@ fn the_first_of_the_cheapest_namings_is_planned(rt: HostRuntime) {
         moved: 8,
         moves: &[(0, 3, 0)],
     };
-    assert!(rt; plans(&rt, &four, 4, row), "four");
+    assert!(rt; plans(&rt, 4, &four, 4, row), "four");
+}
+
+// The decision with other names and other moves.
+fn renamed(decision: Decision, naming: Naming, moves: Moves) -> Decision {
+    Decision {
+        division: decision.division,
+        naming,
+        prices: decision.prices,
+        moved: decision.moved,
+        moves,
+    }
+}
+
+// What the check for two PEs says of that.
+fn check_renamed(
+    taken: &Snapshot,
+    decision: Decision,
+    naming: Naming,
+    moves: Moves,
+) -> Result<(), Flaw> {
+    check(taken, 2, &renamed(decision, naming, moves))
 }
 
 #[test]
 fn each_cheapest_naming_is_accepted(rt: HostRuntime) {
     let two = snapshot(&rt, 2, &[(1, 8, 0), (1, 8, 0)]);
-    let mut decision = plan(rt.alloc(), &two, 2).expect(&rt, "out of memory");
-    decision.naming = naming(&rt, &[1, 0]);
-    decision.moves = moves(&rt, &[(0, 0, 1)]);
-    assert_eq!(rt; check(&two, 2, &decision), Ok(()));
+    let planned = plan(rt.alloc(), &two, 2).expect(&rt, "out of memory");
+    let (naming, moves) = (naming(&rt, &[1, 0]), moves(&rt, &[(0, 0, 1)]));
+    assert_eq!(rt; check_renamed(&two, planned, naming, moves), Ok(()));
 }
 
 #[test]
 fn no_elements_are_planned(rt: HostRuntime) {
-    let none = snapshot(&rt, 3, &[]);
     let row = Row {
         bottleneck: 0,
         cuts: &[0, 0, 0, 0],
@@ -245,7 +295,7 @@ fn no_elements_are_planned(rt: HostRuntime) {
         moved: 0,
         moves: &[],
     };
-    assert!(rt; plans(&rt, &none, 3, row), "no elements");
+    assert!(rt; plans(&rt, 3, &[], 3, row), "no elements");
 }
 
 // As many elements as there may be, with 8 bytes each, whose blocks of 256 stand each on the PE behind its own.
@@ -272,44 +322,66 @@ fn mixed(rt: &(impl Abort + AllocGlobal)) -> Snapshot {
     snapshot(rt, 13, &rows)
 }
 
+// What the check says of the plan for this snapshot.
+fn checked(rt: &(impl Abort + AllocGlobal), taken: &Snapshot, pes: u32) -> Result<(), Flaw>
+    requires some_pe { 1 ≤ pes }
+    requires few_pes { pes ≤ 256 }
+{
+    let decision = plan(rt.alloc(), taken, pes).expect(rt, "out of memory");
+    check(taken, pes, &decision)
+}
+
 #[test]
 fn each_number_of_pes_has_its_plan(rt: HostRuntime) {
     let mixed = mixed(&rt);
     for pes in 1..=256 {
-        let decision = plan(rt.alloc(), &mixed, pes).expect(&rt, "out of memory");
-        assert_eq!(rt; check(&mixed, pes, &decision), Ok(()), "{pes} PEs");
+        assert_eq!(rt; checked(&rt, &mixed, pes), Ok(()), "{pes} PEs");
     }
+}
+
+fn is_copied(rt: &impl Abort, taken: &Snapshot) -> bool {
+    let copy = taken.clone().expect(rt, "out of memory");
+    copy == *taken
+}
+
+fn is_decision_copied(rt: &impl Abort, decision: &Decision) -> bool {
+    let copy = decision.clone().expect(rt, "out of memory");
+    copy == *decision
 }
 
 #[test]
 fn a_copy_is_equal(rt: HostRuntime) {
     let mixed = mixed(&rt);
-    assert!(rt; mixed.clone().expect(&rt, "out of memory") == mixed);
+    assert!(rt; is_copied(&rt, &mixed));
     let decision = plan(rt.alloc(), &mixed, 4).expect(&rt, "out of memory");
-    assert!(rt; decision.clone().expect(&rt, "out of memory") == decision);
+    assert!(rt; is_decision_copied(&rt, &decision));
+}
+
+// The bottleneck, the bytes moved and the number of moves of the plan for a full array, and its names.
+fn full_plan(rt: &(impl Abort + AllocGlobal), pes: u32) -> ((u64, u64, usize), Vec<u32>)
+    requires some_pe { 1 ≤ pes }
+    requires few_pes { pes ≤ 256 }
+{
+    let decision = plan(rt.alloc(), &full(rt), pes).expect(rt, "out of memory");
+    let moves = decision.moves.as_slice().len();
+    let names = list(rt, decision.naming.as_slice());
+    ((decision.division.bottleneck, decision.moved, moves), names)
 }
 
 #[test]
 fn a_full_array_on_all_pes(rt: HostRuntime) {
-    let full = full(&rt);
-    let decision = plan(rt.alloc(), &full, 256).expect(&rt, "out of memory");
-    assert_eq!(rt; decision.division.bottleneck, 256);
-    assert_eq!(rt; (decision.moved, decision.moves.as_slice().len()), (0, 0));
+    let (numbers, names) = full_plan(&rt, 256);
+    assert_eq!(rt; numbers, (256, 0, 0));
     for b in 0..256u32 {
-        let name = decision.naming.as_slice().get(b as usize).copied();
+        let name = names.get(b as usize).copied();
         assert_eq!(rt; name, Some((b + 1) % 256), "block {b}");
     }
 }
 
 #[test]
 fn a_full_array_on_one_pe(rt: HostRuntime) {
-    let full = full(&rt);
-    let decision = plan(rt.alloc(), &full, 1).expect(&rt, "out of memory");
-    assert_eq!(rt; decision.division.bottleneck, 65_536);
-    assert_eq!(rt;
-        (decision.moved, decision.moves.as_slice().len()),
-        (522_240, 65_280)
-    );
+    let (numbers, _) = full_plan(&rt, 1);
+    assert_eq!(rt; numbers, (65_536, 522_240, 65_280));
 }
 
 #[test]

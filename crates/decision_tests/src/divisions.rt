@@ -23,6 +23,13 @@ fn stops(division: &Division) -> &[u32] {
     }
 }
 
+// Whether a division has this bottleneck, these cuts and these stops.
+fn is_division(division: &Division, bottleneck: u64, cuts: &[u32], fence: &[u32]) -> bool {
+    division.bottleneck == bottleneck
+        && division.cuts.as_slice() == cuts
+        && stops(division) == fence
+}
+
 #[test]
 fn the_examples_have_their_divisions(rt: HostRuntime) {
     let rows: [(&[Units], u32, u64, &[u32], &[u32]); 7] = [
@@ -36,27 +43,38 @@ fn the_examples_have_their_divisions(rt: HostRuntime) {
     ];
     for (units, pes, bottleneck, cuts, fence) in rows {
         let division = divided(&rt, &loads(&rt, units), pes);
-        assert_eq!(rt; division.bottleneck, bottleneck, "loads {units:?} on {pes}");
-        assert_eq!(rt; division.cuts.as_slice(), cuts, "loads {units:?} on {pes}");
-        assert_eq!(rt; stops(&division), fence, "loads {units:?} on {pes}");
+        let found = is_division(&division, bottleneck, cuts, fence);
+        assert!(rt; found, "loads {units:?} on {pes}");
     }
+}
+
+// The load of five elements from the third on, and what the check says of 9 for a division there.
+fn halved(rt: &(impl Abort + AllocGlobal), units: &[Units]) -> (Option<u64>, Result<(), Flaw>) {
+    let five = loads(rt, units);
+    let load = if five.len() == 5 {
+        Some(five.load(2, 5))
+    } else {
+        None
+    };
+    let halves = unfenced(rt, 9, &[0, 2, 5]);
+    (load, check_division(&five, 2, &halves))
 }
 
 #[test]
 fn blocks_of_equal_counts_are_heavier(rt: HostRuntime) {
-    let five = loads(&rt, &[1, 2, 3, 4, 5]);
-    assert!(rt; five.len() == 5, "five loads");
-    let halves = unfenced(&rt, 9, &[0, 2, 5]);
-    assert_eq!(rt; five.load(2, 5), 12);
-    assert_eq!(rt; check_division(&five, 2, &halves), Err(Flaw::Heavy(1)));
+    assert_eq!(rt;
+        halved(&rt, &[1, 2, 3, 4, 5]),
+        (Some(12), Err(Flaw::Heavy(1)))
+    );
 }
 
-// Whether it fits, and its cuts or stops.
-fn parts(answer: Probe) -> (bool, Vec<u32>) {
-    match answer {
+// Whether a probe fits, or does not, with these cuts or stops.
+fn is_probe(answer: Probe, fits: bool, expected: &[u32]) -> bool {
+    let (fitted, ends) = match answer {
         Probe::Fits(cuts) => (true, cuts.into_vec()),
         Probe::Stops(stops) => (false, stops.into_vec()),
-    }
+    };
+    fitted == fits && ends.as_slice() == expected
 }
 
 #[test]
@@ -72,32 +90,41 @@ fn probes_fit_or_stop(rt: HostRuntime) {
     ];
     for (limit, fits, list) in rows {
         let answer = probe(rt.alloc(), &five, 2, limit).expect(&rt, "out of memory");
+        assert!(rt; is_probe(answer, fits, list), "limit {limit}");
         let again = probe_on(rt.alloc(), &prefix, 2, limit).expect(&rt, "out of memory");
-        for (fitted, ends) in [parts(answer), parts(again)] {
-            assert_eq!(rt; fitted, fits, "limit {limit}");
-            assert_eq!(rt; ends.as_slice(), list, "limit {limit}");
-        }
+        assert!(rt;
+            is_probe(again, fits, list),
+            "limit {limit} on running sums"
+        );
     }
+}
+
+// The load of a range, where the chain has it.
+fn load_of(prefix: &Prefix, first: usize, end: usize) -> Option<u64> {
+    if first <= end && end <= prefix.len() {
+        return Some(prefix.load(first, end));
+    }
+    None
 }
 
 #[test]
 fn loads_of_ranges_by_running_sums(rt: HostRuntime) {
-    let five = loads(&rt, &[1, 2, 3, 4, 5]);
-    let prefix = Prefix::of(rt.alloc(), &five).expect(&rt, "out of memory");
+    let prefix = Prefix::of(rt.alloc(), &loads(&rt, &[1, 2, 3, 4, 5])).expect(&rt, "out of memory");
     assert!(rt; prefix.len() == 5 && !prefix.is_empty());
     for (first, end, load) in [(0, 0, 0), (0, 5, 15), (2, 5, 12), (4, 5, 5), (5, 5, 0)] {
-        assert_eq!(rt; prefix.load(first, end), load, "{first}..{end}");
+        assert_eq!(rt; load_of(&prefix, first, end), Some(load), "{first}..{end}");
     }
+}
+
+fn full_loads(rt: &(impl Abort + AllocGlobal)) -> Loads {
+    let units = vec![in rt.alloc(); 4_294_967_295; 65_536].expect(rt, "out of memory");
+    Loads::new(units).expect(rt, "refused a full array")
 }
 
 #[test]
 fn a_full_array_of_full_loads(rt: HostRuntime) {
-    let units = vec![in rt.alloc(); 4_294_967_295; 65_536].expect(&rt, "out of memory");
-    let full = Loads::new(units).expect(&rt, "refused a full array");
-    let division = divided(&rt, &full, 1);
-    assert_eq!(rt; division.bottleneck, 281_474_976_645_120);
-    assert_eq!(rt; division.cuts.as_slice(), [0, 65_536].as_slice());
-    assert_eq!(rt; stops(&division), [0, 65_535].as_slice());
+    let division = divided(&rt, &full_loads(&rt), 1);
+    assert!(rt; is_division(&division, 281_474_976_645_120, &[0, 65_536], &[0, 65_535]));
 }
 
 // The chain of so many loads, each of them 0, 1 or 7, with this number.

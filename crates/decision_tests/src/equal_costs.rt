@@ -55,16 +55,26 @@ fn cost_of(table: &CostTable, names: &[u32]) -> Option<u64>
     Some(cost)
 }
 
+// What the names cost that are found for blocks of so many elements each, and the names.
+fn named(
+    rt: &(impl Abort + AllocGlobal),
+    pairs: &[(u32, u32)],
+    blocks: u32,
+    each: u32,
+) -> (u64, Vec<u32>) {
+    let table = table_of(rt, pairs, blocks, each);
+    let names = names_of(rt, &table);
+    (table.cost_of(&names), names)
+}
+
 #[test]
 fn equal_costs(rt: HostRuntime) {
     let mut pairs = Vec::new(rt.alloc());
     for i in 0..65_536u32 {
         pairs.push((1, i % 256)).expect(&rt, "out of memory");
     }
-    let table = table_of(&rt, &pairs, 256, 256);
-    let names = names_of(&rt, &table);
-    assert_eq!(rt; table.cost_of(&names), 256 * 255);
-    assert!(rt; are_numbers(&names));
+    let (cost, names) = named(&rt, &pairs, 256, 256);
+    assert!(rt; cost == 256 * 255 && are_numbers(&names));
 }
 
 #[test]
@@ -73,10 +83,8 @@ fn costs_of_zero(rt: HostRuntime) {
     for i in 0..256u32 {
         pairs.push((0, i)).expect(&rt, "out of memory");
     }
-    let table = table_of(&rt, &pairs, 256, 1);
-    let names = names_of(&rt, &table);
-    assert_eq!(rt; table.cost_of(&names), 0);
-    assert!(rt; are_numbers(&names));
+    let (cost, names) = named(&rt, &pairs, 256, 1);
+    assert!(rt; cost == 0 && are_numbers(&names));
 }
 
 #[test]
@@ -85,21 +93,24 @@ fn all_blocks_cheapest_on_one_pe(rt: HostRuntime) {
     for i in 0..256u32 {
         pairs.push((i + 1, 77)).expect(&rt, "out of memory");
     }
-    let table = table_of(&rt, &pairs, 256, 1);
-    let names = names_of(&rt, &table);
-    assert_eq!(rt; table.cost_of(&names), 255 * 256 / 2);
+    let (cost, _) = named(&rt, &pairs, 256, 1);
+    assert_eq!(rt; cost, 255 * 256 / 2);
 }
 
 // Blocks 2 k and 2 k + 1 have an element each on PEs 254 - 2 k and 255 - 2 k, so they cost the same there.
-#[test]
-fn pairs_of_equal_blocks(rt: HostRuntime) {
+fn equal_pairs(rt: &(impl Abort + AllocGlobal)) -> Vec<(u32, u32)> {
     let mut pairs = Vec::new(rt.alloc());
     for i in 0..512u32 {
         pairs
             .push((1, 254 - i / 4 * 2 + i % 2))
-            .expect(&rt, "out of memory");
+            .expect(rt, "out of memory");
     }
-    let names = names_of(&rt, &table_of(&rt, &pairs, 256, 2));
+    pairs
+}
+
+#[test]
+fn pairs_of_equal_blocks(rt: HostRuntime) {
+    let (_, names) = named(&rt, &equal_pairs(&rt), 256, 2);
     for b in 0..256u32 {
         let name = names.get(b as usize).copied();
         assert_eq!(rt; name, Some(254 - b / 2 * 2 + b % 2), "block {b}");

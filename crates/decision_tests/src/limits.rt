@@ -4,15 +4,20 @@ use chare_index::Limits;
 
 #[test]
 fn each_limit_has_its_number(rt: HostRuntime) {
-    assert_eq!(rt; Limits::ELEMENTS, 65_536);
-    assert_eq!(rt; Limits::PES, 256);
-    assert_eq!(rt; Limits::LOAD, 4_294_967_295);
-    assert_eq!(rt; Limits::STATE_BYTES, 1_048_576);
-    assert_eq!(rt; Limits::BODY_BYTES, 1_024);
-    assert_eq!(rt; Limits::LETTERS, 4_294_967_296);
-    assert_eq!(rt; Limits::ROUND, 2_147_483_648);
-    assert_eq!(rt; Limits::CAPACITY, 4_096);
-    assert_eq!(rt; Limits::SEATS, 256);
-    assert_eq!(rt; Limits::PROBE_WORKERS, 64);
-    assert_eq!(rt; Limits::IDLE_TURNS, 1_099_511_627_776);
+    let rows = [
+        (Limits::ELEMENTS as u64, 65_536),
+        (Limits::PES as u64, 256),
+        (Limits::LOAD as u64, 4_294_967_295),
+        (Limits::STATE_BYTES as u64, 1_048_576),
+        (Limits::BODY_BYTES as u64, 1_024),
+        (Limits::LETTERS as u64, 4_294_967_296),
+        (Limits::ROUND as u64, 2_147_483_648),
+        (Limits::CAPACITY as u64, 4_096),
+        (Limits::SEATS as u64, 256),
+        (Limits::PROBE_WORKERS as u64, 64),
+        (Limits::IDLE_TURNS as u64, 1_099_511_627_776),
+    ];
+    for (limit, number) in rows {
+        assert_eq!(rt; limit, number);
+    }
 }

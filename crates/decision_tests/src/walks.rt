@@ -10,8 +10,8 @@ use std::process::Abort;
 // Where a block ends that begins at `first` and takes as many elements as fit, one after the other.
 fn plain_end(units: &[Units], first: usize, limit: u64) -> usize {
     let mut load: u64 = 0;
-    for (end, &units) in units.iter().enumerate().skip(first) {
-        load = load.saturating_add(u64::from(units));
+    for end in first..units.len() {
+        load = load.saturating_add(u64::from(units[end]));
         if load > limit {
             return end;
         }
@@ -31,19 +31,38 @@ fn are_plain_ends(ends: &[u32], units: &[Units], limit: u64) -> bool {
     ends.first() == Some(&0)
 }
 
+fn probed(rt: &(impl Abort + AllocGlobal), units: &[Units], pes: u32, limit: u64) -> Probe
+    requires some_pe { 1 ≤ pes }
+    requires few_pes { pes ≤ 256 }
+{
+    let prefix = Prefix::of(rt.alloc(), &loads(rt, units)).expect(rt, "out of memory");
+    probe_on(rt.alloc(), &prefix, pes, limit).expect(rt, "out of memory")
+}
+
+// Whether a probe fits, and its ends.
+fn ends_of(answer: Probe) -> (bool, Vec<u32>) {
+    match answer {
+        Probe::Fits(cuts) => (true, cuts.into_vec()),
+        Probe::Stops(stops) => (false, stops.into_vec()),
+    }
+}
+
+// Whether the last of these ends is that of the last element.
+fn is_whole(ends: &[u32], units: &[Units]) -> bool {
+    let Some(&end) = ends.last() else {
+        return false;
+    };
+    end as usize == units.len()
+}
+
 // The ends of a probe, which has to fit exactly where they reach the last element.
 fn probed_ends(rt: &(impl Abort + AllocGlobal), units: &[Units], pes: u32, limit: u64) -> Vec<u32>
     requires some_pe { 1 ≤ pes }
     requires few_pes { pes ≤ 256 }
 {
-    let prefix = Prefix::of(rt.alloc(), &loads(rt, units)).expect(rt, "out of memory");
-    let answer = probe_on(rt.alloc(), &prefix, pes, limit).expect(rt, "out of memory");
-    let (fits, ends) = match answer {
-        Probe::Fits(cuts) => (true, cuts.into_vec()),
-        Probe::Stops(stops) => (false, stops.into_vec()),
-    };
-    let all = ends.last().map(|&end| end as usize == units.len());
-    assert_eq!(rt; all, Some(fits), "loads {units:?} on {pes} within {limit}");
+    let (fits, ends) = ends_of(probed(rt, units, pes, limit));
+    let whole = is_whole(&ends, units);
+    assert_eq!(rt; whole, fits, "loads {units:?} on {pes} within {limit}");
     ends
 }
 

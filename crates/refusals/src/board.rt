@@ -1,14 +1,11 @@
 //! The calls of a board.
 
+use crate::fixtures::{pe, requests, round};
 use at_sync::{Board, BoardError};
 use chare_index::{NoGate, Pe, Round};
-use refusing_alloc::{Outcome, Refusing, each_refusal};
+use refusing_alloc::{Outcome, Refusing};
 use std::alloc::{AllocError, Global};
-use std::test::Fail;
 use std::thread::Threads;
-
-// No call here makes as many requests.
-const MOST_TURNS: u64 = 40;
 
 // What a new board of three elements comes to.
 fn opens(answer: Result<Board<&Refusing<Global>>, AllocError>) -> Outcome {
@@ -20,11 +17,13 @@ fn opens(answer: Result<Board<&Refusing<Global>>, AllocError>) -> Outcome {
 }
 
 #[test]
-fn new_boards(rt: HostRuntime) -> Result<(), Fail> {
+fn new_boards(rt: HostRuntime) {
     let attempt = |alloc: &Refusing<Global>| opens(Board::new(alloc, 3, 2));
-    let refusals = each_refusal(rt.alloc(), MOST_TURNS, attempt)?;
-    assert_eq!(rt; refusals, 3, "the loads, the reports and who has finished");
-    Ok(())
+    assert_eq!(rt;
+        requests(&rt, attempt),
+        3,
+        "the loads, the reports and who has finished"
+    );
 }
 
 // Two elements on two PEs, both of which have reported, or `None` where there is no memory for them. A report that is
@@ -44,11 +43,17 @@ fn two_reported<'a>(
     Some(board)
 }
 
+// Whether the board has decided its first round alone, so that both elements stay.
+fn has_decided(board: &Board<&Refusing<Global>>, first: Round) -> bool {
+    let Some(decision) = board.decision_for(first) else {
+        return false;
+    };
+    decision.moved == 0 && board.rounds().len() == 1
+}
+
 // Whether the board decides its first round now, so that both elements stay.
 fn decides(board: &mut Board<&Refusing<Global>>, first: Round) -> bool {
-    board.decide() == Ok(first)
-        && board.decision_for(first).map(|decision| decision.moved) == Some(0)
-        && board.rounds().len() == 1
+    board.decide() == Ok(first) && has_decided(board, first)
 }
 
 // What a decision comes to: where it is refused, nothing is decided, and the same call decides the round.
@@ -68,18 +73,14 @@ fn decides_or_waits(alloc: &Refusing<Global>, first: Round, places: [Pe; 2]) -> 
 }
 
 #[test]
-fn decisions_of_a_board(rt: HostRuntime) -> Result<(), Fail> {
-    let (Some(first), Some(zero), Some(one)) = (Round::new(1), Pe::new(0), Pe::new(1)) else {
-        return Err(Fail::new("no such round or PE"));
-    };
-    let attempt = |alloc: &Refusing<Global>| decides_or_waits(alloc, first, [zero, one]);
-    let refusals = each_refusal(rt.alloc(), MOST_TURNS, attempt)?;
+fn decisions_of_a_board(rt: HostRuntime) {
+    let (first, places) = (round(&rt, 1), [pe(&rt, 0), pe(&rt, 1)]);
+    let attempt = |alloc: &Refusing<Global>| decides_or_waits(alloc, first, places);
     assert_eq!(rt;
-        refusals,
+        requests(&rt, attempt),
         22,
         "those of the board, of one plan and of the pair that is kept"
     );
-    Ok(())
 }
 
 // The same of a decision by three workers.
@@ -103,33 +104,40 @@ fn three_decide<R: Threads + Sync>(
 }
 
 #[test]
-fn decisions_by_three_workers(rt: HostRuntime) -> Result<(), Fail> {
-    let (Some(first), Some(zero), Some(one)) = (Round::new(1), Pe::new(0), Pe::new(1)) else {
-        return Err(Fail::new("no such round or PE"));
-    };
-    let attempt = |alloc: &Refusing<Global>| three_decide(&rt, alloc, first, [zero, one]);
-    let refusals = each_refusal(rt.alloc(), MOST_TURNS, attempt)?;
-    assert_eq!(rt; refusals, 22, "those of a decision by one");
-    Ok(())
+fn decisions_by_three_workers(rt: HostRuntime) {
+    let (first, places) = (round(&rt, 1), [pe(&rt, 0), pe(&rt, 1)]);
+    let attempt = |alloc: &Refusing<Global>| three_decide(&rt, alloc, first, places);
+    assert_eq!(rt; requests(&rt, attempt), 22, "those of a decision by one");
+}
+
+// Whether one of two elements finishes.
+fn one_finishes(board: &mut Board<&Refusing<Global>>) -> bool {
+    board.finish(0).is_ok() && board.is_complete() && !board.all_finished()
 }
 
 #[test]
-fn no_other_call_takes_memory(rt: HostRuntime) -> Result<(), Fail> {
-    let (Some(first), Some(zero), Some(one)) = (Round::new(1), Pe::new(0), Pe::new(1)) else {
-        return Err(Fail::new("no such round or PE"));
-    };
+fn no_other_call_of_a_new_board_takes_memory(rt: HostRuntime) {
     let alloc = Refusing::new(rt.alloc(), 0);
-    let Some(mut board) = two_reported(&alloc, first, [zero, one]) else {
-        return Err(Fail::new("out of memory"));
-    };
+    let places = [pe(&rt, 0), pe(&rt, 1)];
+    let board = two_reported(&alloc, round(&rt, 1), places);
+    let mut board = board.expect(&rt, "out of memory");
+    assert!(rt; one_finishes(&mut board));
     assert_eq!(rt; alloc.requests(), 3, "those of the new board");
-    assert_eq!(rt; board.finish(0), Ok(()));
-    assert!(rt; board.is_complete() && !board.all_finished());
-    assert_eq!(rt; alloc.requests(), 3, "those of the new board");
-    assert_eq!(rt; board.decide(), Ok(first));
+}
+
+// Whether the round that was just decided is handed out.
+fn hands_out(board: Board<&Refusing<Global>>, first: Round) -> bool {
+    board.decision_for(first).is_some() && board.into_rounds().len() == 1
+}
+
+#[test]
+fn no_other_call_takes_memory_after_a_decision(rt: HostRuntime) {
+    let alloc = Refusing::new(rt.alloc(), 0);
+    let places = [pe(&rt, 0), pe(&rt, 1)];
+    let board = two_reported(&alloc, round(&rt, 1), places);
+    let mut board = board.expect(&rt, "out of memory");
+    assert_eq!(rt; board.decide(), Ok(round(&rt, 1)));
     let decided = alloc.requests();
-    assert!(rt; board.decision_for(first).is_some());
-    assert_eq!(rt; board.into_rounds().len(), 1);
+    assert!(rt; hands_out(board, round(&rt, 1)));
     assert_eq!(rt; alloc.requests(), decided, "those of the decision");
-    Ok(())
 }

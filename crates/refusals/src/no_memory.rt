@@ -1,15 +1,15 @@
 //! Calls that promise to take no memory make no request.
 
-use crate::fixtures::{EXAMPLE, example, pe, round, three};
+use crate::fixtures::{EXAMPLE, example, five, pe, round, three};
 use block_assignment::CostTable;
 use chain_partition::Prefix;
 use chare_index::{Index, Pe, Round};
-use lb_certificates::{Cuts, Loads, Snapshot, check_division, check_naming};
+use lb_certificates::{Cuts, Loads, Sizes, Snapshot, check_division, check_naming};
 use lb_database::{DbError, LoadDb};
 use lb_dump::{DumpReader, write_to};
-use lb_strategy::{check, plan};
+use lb_strategy::{Decision, check, plan};
 use refusing_alloc::Refusing;
-use std::alloc::Global;
+use std::alloc::{AllocError, Allocator, Global};
 use std::process::Abort;
 
 type Lent<'a> = &'a Refusing<Global>;
@@ -29,33 +29,49 @@ fn refused(db: &mut LoadDb<Lent<'_>>, first: Round, pe: Pe) -> bool {
     db.charge(3, 1).is_err() && db.report(3, first, 1, pe).is_err() && db.next_round().is_err()
 }
 
+// Whether a round has just begun after this one, with nothing done.
+fn has_begun(db: &LoadDb<Lent<'_>>, first: Round) -> bool {
+    let three = db.stands_on(1) && db.len() == 3 && !db.is_empty();
+    let nothing = !db.is_complete() && db.load(0) == Some(0) && db.reported(0).is_none();
+    three && nothing && db.round() != first
+}
+
+// Whether a database of three elements refuses what it should, and then has a whole round.
+fn goes_on(db: &mut LoadDb<Lent<'_>>, first: Round, pe: Pe) -> bool {
+    refused(db, first, pe) && whole_round(db, first, pe).is_ok() && has_begun(db, first)
+}
+
 #[test]
 fn a_database_that_was_made(rt: HostRuntime) {
     let alloc = Refusing::new(rt.alloc(), 0);
-    let (first, pe) = (round(&rt, 1), pe(&rt, 0));
     let mut db = LoadDb::new(&alloc, 3).expect(&rt, "out of memory");
-    let made = alloc.requests();
-    assert_eq!(rt; made, 2);
-    assert!(rt; refused(&mut db, first, pe));
-    assert_eq!(rt; whole_round(&mut db, first, pe), Ok(()));
-    assert!(rt; !db.is_complete() && db.stands_on(1) && db.len() == 3 && !db.is_empty());
-    assert!(rt; db.load(0) == Some(0) && db.reported(0).is_none() && db.round() != first);
-    assert_eq!(rt; alloc.requests(), made);
+    assert!(rt; goes_on(&mut db, round(&rt, 1), pe(&rt, 0)));
+    assert_eq!(rt; alloc.requests(), 2, "its two lists");
+}
+
+// Whether a reader that has read the example takes no bytes, and refuses more and the end behind them.
+fn refuses_more(mut reader: DumpReader<Lent<'_>>) -> bool {
+    let no_bytes = reader.feed(&[]).is_ok();
+    let more = reader.feed(&EXAMPLE).is_err();
+    let again = reader.feed(&EXAMPLE).is_err();
+    no_bytes && more && again && reader.end().is_err()
 }
 
 #[test]
 fn a_reader_of_no_bytes_and_of_too_many(rt: HostRuntime) {
     let alloc = Refusing::new(rt.alloc(), 0);
     let mut reader = DumpReader::new(&alloc);
-    assert_eq!(rt; reader.feed(&[]), Ok(()));
-    assert_eq!(rt; alloc.requests(), 0);
+    assert!(rt; reader.feed(&[]).is_ok() && alloc.requests() == 0);
     assert_eq!(rt; reader.feed(&EXAMPLE), Ok(()));
     let fed = alloc.requests();
-    assert_eq!(rt; reader.feed(&[]), Ok(()));
-    assert!(rt; reader.feed(&EXAMPLE).is_err());
-    assert!(rt; reader.feed(&EXAMPLE).is_err());
-    assert!(rt; reader.end().is_err());
+    assert!(rt; refuses_more(reader));
     assert_eq!(rt; alloc.requests(), fed);
+}
+
+// Whether the example is written as it should be.
+fn is_written(rt: &impl AllocGlobal, example: &Snapshot<Lent<'_>>) -> bool {
+    let mut written = Vec::new(rt.alloc());
+    write_to(&mut written, example).is_ok() && written.as_slice() == EXAMPLE.as_slice()
 }
 
 #[test]
@@ -63,10 +79,18 @@ fn a_dump_that_is_written(rt: HostRuntime) {
     let alloc = Refusing::new(rt.alloc(), 0);
     let snapshot = example(&rt, &alloc);
     let made = alloc.requests();
-    let mut written = Vec::new(rt.alloc());
-    assert_eq!(rt; write_to(&mut written, &snapshot), Ok(()));
-    assert_eq!(rt; written.as_slice(), EXAMPLE.as_slice());
+    assert!(rt; is_written(&rt, &snapshot));
     assert_eq!(rt; alloc.requests(), made);
+}
+
+// Whether the decision on the example is accepted, in parts and whole, and not for three PEs.
+fn is_accepted<A: Allocator>(snapshot: &Snapshot<A>, decision: &Decision<A>) -> bool {
+    let cuts = &decision.division.cuts;
+    let moved = check_naming(snapshot.sizes(), cuts, &decision.naming, &decision.prices);
+    moved == Ok(10)
+        && check_division(snapshot.loads(), 2, &decision.division).is_ok()
+        && check(snapshot, 2, decision).is_ok()
+        && check(snapshot, 3, decision).is_err()
 }
 
 #[test]
@@ -75,26 +99,25 @@ fn a_decision_that_is_checked(rt: HostRuntime) {
     let snapshot = example(&rt, &alloc);
     let decision = plan(&alloc, &snapshot, 2).expect(&rt, "out of memory");
     let made = alloc.requests();
-    let cuts = &decision.division.cuts;
-    assert!(rt; check_division(snapshot.loads(), 2, &decision.division).is_ok());
-    let naming = (&decision.naming, &decision.prices);
-    let moved = check_naming(snapshot.sizes(), cuts, naming.0, naming.1);
-    assert_eq!(rt; moved, Ok(10));
-    assert!(rt; check(&snapshot, 2, &decision).is_ok());
-    assert!(rt; check(&snapshot, 3, &decision).is_err());
+    assert!(rt; is_accepted(&snapshot, &decision));
     assert_eq!(rt; alloc.requests(), made);
+}
+
+// Whether the example's costs are read without a request.
+fn is_read(alloc: Lent<'_>, sizes: &Sizes, cuts: &Cuts) -> Result<bool, AllocError> {
+    if cuts.as_slice().len() != 3 || !cuts.divides(sizes.len()) {
+        return Ok(false);
+    }
+    let table = CostTable::of(alloc, sizes, cuts)?;
+    let made = alloc.requests();
+    Ok(table.blocks() == 2 && table.cost(1, 1) == 8 && alloc.requests() == made)
 }
 
 #[test]
 fn a_table_that_is_read(rt: HostRuntime) {
     let alloc = Refusing::new(rt.alloc(), 0);
-    let sizes = three(&rt, rt.alloc());
     let cuts = Cuts::new(Vec::from_slice(rt.alloc(), &[0, 2, 3]).expect(&rt, "out of memory"));
-    assert!(rt; cuts.as_slice().len() == 3 && cuts.divides(sizes.len()));
-    let table = CostTable::of(&alloc, &sizes, &cuts).expect(&rt, "out of memory");
-    let made = alloc.requests();
-    assert!(rt; table.blocks() == 2 && table.cost(1, 1) == 8);
-    assert_eq!(rt; alloc.requests(), made);
+    assert_eq!(rt; is_read(&alloc, &three(&rt, rt.alloc()), &cuts), Ok(true));
 }
 
 // The PE of an element by the decision planned for the snapshot, and whether it was read without a request.
@@ -119,13 +142,16 @@ fn a_place_that_is_read(rt: HostRuntime) {
     assert_eq!(rt; place(&rt, &alloc, &snapshot, last), (pe(&rt, 0), true));
 }
 
+// Whether loads of five are told without a request.
+fn are_summed(alloc: Lent<'_>, five: &Loads) -> Result<bool, AllocError> {
+    let prefix = Prefix::of(alloc, five)?;
+    let made = alloc.requests();
+    let told = prefix.len() == 5 && !prefix.is_empty() && prefix.load(1, 3) == 5;
+    Ok(told && alloc.requests() == made)
+}
+
 #[test]
 fn loads_by_running_sums(rt: HostRuntime) {
     let alloc = Refusing::new(rt.alloc(), 0);
-    let units = Vec::from_slice(rt.alloc(), &[1, 2, 3]).expect(&rt, "out of memory");
-    let loads = Loads::new(units).expect(&rt, "too many loads");
-    let prefix = Prefix::of(&alloc, &loads).expect(&rt, "out of memory");
-    let made = alloc.requests();
-    assert!(rt; prefix.len() == 3 && !prefix.is_empty() && prefix.load(1, 3) == 5);
-    assert_eq!(rt; alloc.requests(), made);
+    assert_eq!(rt; are_summed(&alloc, &five(&rt)), Ok(true));
 }

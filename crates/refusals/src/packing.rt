@@ -1,12 +1,9 @@
 //! Packed states.
 
+use crate::fixtures::requests;
 use pup_pack::{Bytes, Items, Pup, PupError};
-use refusing_alloc::{Outcome, Refusing, each_refusal};
+use refusing_alloc::{Outcome, Refusing};
 use std::alloc::{Allocator, Global};
-use std::test::Fail;
-
-// No call here makes as many requests.
-const MOST_TURNS: u64 = 40;
 
 // The list 1 2 and the bytes 7 8 9.
 const PAIR: [u8; 19] = [0, 0, 0, 2, 0, 0, 0, 1, 0, 0, 0, 2, 0, 0, 0, 3, 7, 8, 9];
@@ -43,18 +40,15 @@ fn unpacks<A: Allocator + Copy>(alloc: A) -> Outcome {
 }
 
 #[test]
-fn packs_and_their_values(rt: HostRuntime) -> Result<(), Fail> {
+fn packs_and_their_values(rt: HostRuntime) {
     let attempt = |alloc: &Refusing<Global>| packs(alloc);
-    let refusals = each_refusal(rt.alloc(), MOST_TURNS, attempt)?;
     assert_eq!(rt;
-        refusals,
+        requests(&rt, attempt),
         4,
         "the two lists, the byte that was there, and the room of the pack"
     );
     let attempt = |alloc: &Refusing<Global>| unpacks(alloc);
-    let refusals = each_refusal(rt.alloc(), MOST_TURNS, attempt)?;
-    assert_eq!(rt; refusals, 2, "the list and the bytes");
-    Ok(())
+    assert_eq!(rt; requests(&rt, attempt), 2, "the list and the bytes");
 }
 
 type Lent<'a> = &'a Refusing<Global>;
@@ -86,35 +80,43 @@ fn a_list_is_unpacked_into_room_for_what_was_found(rt: HostRuntime) {
     );
 }
 
+// Why four bytes with a count that nothing confirms are no list, and no bytes.
+fn claims(alloc: Lent<'_>) -> [Option<PupError>; 2] {
+    let count = [0, 16, 0, 0];
+    [
+        <Items<u32, Lent<'_>> as Pup<Lent<'_>>>::unpack(alloc, &count).err(),
+        <Bytes<Lent<'_>> as Pup<Lent<'_>>>::unpack(alloc, &count).err(),
+    ]
+}
+
+// How long the pack of an empty list and a number is.
+fn empty_len(alloc: Lent<'_>) -> u32 {
+    let empty: (Items<u32, Lent<'_>>, u64) = (Items::new(Vec::new(alloc)), 7);
+    empty.packed_len()
+}
+
 #[test]
-fn lengths_and_claims_take_no_memory(rt: HostRuntime) -> Result<(), Fail> {
+fn lengths_and_claims_take_no_memory(rt: HostRuntime) {
     let alloc = Refusing::new(rt.alloc(), 1);
-    let many = <Items<u32, &Refusing<Global>> as Pup<&Refusing<Global>>>::unpack(
-        &alloc,
-        &[0, 16, 0, 0],
-    );
     assert_eq!(rt;
-        many.err(),
-        Some(PupError::Short),
-        "a count that nothing confirms"
+        claims(&alloc),
+        [Some(PupError::Short), Some(PupError::Short)]
     );
-    let bytes = <Bytes<&Refusing<Global>> as Pup<&Refusing<Global>>>::unpack(
-        &alloc,
-        &[0, 16, 0, 0],
-    );
-    assert_eq!(rt;
-        bytes.err(),
-        Some(PupError::Short),
-        "a count that nothing confirms"
-    );
-    let empty: (Items<u32, &Refusing<Global>>, u64) = (Items::new(Vec::new(&alloc)), 7);
-    assert_eq!(rt; empty.packed_len(), 12);
+    assert_eq!(rt; empty_len(&alloc), 12);
     assert_eq!(rt; alloc.requests(), 0);
-    let mut out = Vec::new(&alloc);
-    assert_eq!(rt; empty.pack_into(&mut out), Err(PupError::OutOfMemory));
-    assert_eq!(rt; out.len(), 0);
-    assert_eq!(rt; empty.pack_into(&mut out), Ok(()));
-    assert_eq!(rt; empty.pack_into(&mut out), Ok(()));
+}
+
+// Whether packing an empty list and a number is refused once, with nothing packed, and then not again.
+fn packs_when_asked_again(alloc: Lent<'_>) -> bool {
+    let empty: (Items<u32, Lent<'_>>, u64) = (Items::new(Vec::new(alloc)), 7);
+    let mut out = Vec::new(alloc);
+    let refused = empty.pack_into(&mut out) == Err(PupError::OutOfMemory) && out.is_empty();
+    refused && empty.pack_into(&mut out).is_ok() && empty.pack_into(&mut out).is_ok()
+}
+
+#[test]
+fn a_refused_pack_is_packed_when_asked_again(rt: HostRuntime) {
+    let alloc = Refusing::new(rt.alloc(), 1);
+    assert!(rt; packs_when_asked_again(&alloc));
     assert_eq!(rt; alloc.requests(), 3);
-    Ok(())
 }
