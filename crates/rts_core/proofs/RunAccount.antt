@@ -9,7 +9,7 @@ use Rattle.chares.specs.Steps.{Step}
 use Rattle.pup_pack.specs.declared.error.PupError.{PupError}
 use Rattle.pe_state.specs.Pes.{PeView}
 use Rattle.rts_core.specs.declared.event.Event.{Event}
-use Rattle.rts_core.specs.Accounts.{times, is_number, says_both, Accounted, message, AreSent, IsCounted}
+use Rattle.rts_core.specs.Accounts.{times, is_number, Said, says_both, executions, Accounted, message, AreSent, IsCounted, IsTold}
 use Rattle.rts_core.specs.Events.{After, Happens}
 use Rattle.rts_core.specs.Histories.{AreHistories}
 use Rattle.rts_core.specs.Places.{Life, letters, lives, journaled, letters_of_life, sent_over, sends_of, sends}
@@ -20,7 +20,7 @@ use Rattle.rts_core.proofs.WorldSteps.{known, below}
 use Rattle.rts_core.proofs.EventSteps.{happens_good}
 use Rattle.rts_core.proofs.Listings.{no_life, no_letter, sum_zero, world_letters, world_lives, world_journals}
 use Rattle.rts_core.proofs.OpeningWeights.{opened_lives, opening_of, opening_numbered, opening_knows, opening_weighs, opening_counts, one_at, opened_once}
-use Rattle.rts_core.proofs.RunLaws.{by_said, by_index, number_said, Kept, step_keeps, kept_join, run_keeps}
+use Rattle.rts_core.proofs.RunLaws.{by_said, by_index, by_journal, number_said, Kept, step_keeps, kept_join, run_keeps}
 use Rattle.rts_core.proofs.Sent.{by_message, each_one, length_sum, histories_of, sends_weight, sent_step, counted_step}
 
 pub below_le : (j count : ℕ) → below j count ≤ 1
@@ -61,6 +61,13 @@ module _ {C : Type 0} (A : Type 0) (step : Step C) (pes : ℕ) (chares : List C)
       let b = opening_weighs A pes chares some no_letter (λ x. sum_by (weigh g) (letters_of_life x)) in
       let c = unlived (λ x. sum_by (weigh g) (letters_of_life x)) (λ i. refl) 0 chares in
       omega (arith, a, b, c)
+
+  -- nothing is executed yet
+  pub first_executed : (r : Said → ℕ) → of_world no_letter (by_journal r) first ≡ 0
+  first_executed r =
+      let a = world_journals (by_said r) first in
+      let b = first_journals (by_said r) in
+      omega (arith, a, b)
 
   -- nothing is sent yet
   pub opening_sent : AreSent step chares first
@@ -137,3 +144,26 @@ module _ {C A : Type 0} (step : Step C) (pack : C → List ℕ) (unpack : List �
   pub counted : (events : List Event) (last : After C A) → Leads step pack unpack (opening_world pes chares) events last → IsCounted last.0
   counted events last run =
       (run_keeps step pack unpack (length chares) (opening_world pes chares) events last (opening_of A pes chares some) run).counted (opening_counted A step pes chares some)
+
+  -- the trace tells how many letters were posted, and which were executed
+  pub kept_told : (w : WorldView C A) (trace : List Report) → Kept (length chares) (opening_world pes chares) w trace → IsTold w trace
+  kept_told w trace kept =
+      record {
+        posted = let a = opening_counts A pes chares some in omega (arith, a, kept.posted);
+        executed =
+            let a = kept.journals (λ x. 1) in
+            let b = first_executed A step pes chares some (λ x. 1) in
+            let c : length (journaled w) ≡ of_world no_letter (by_journal (λ x. 1)) w = sym (length_sum (journaled w)) ∙ world_journals each_one w in
+            let d : sum_by (λ (x : Said). 1) (executions trace) ≡ length (executions trace) = length_sum (executions trace) in
+            omega (arith, a, b, c, d);
+        journals = λ id.
+            let a = kept.journals (number_said id.0 id.1) in
+            let b = first_executed A step pes chares some (number_said id.0 id.1) in
+            let c : times (λ l. is_number id l.id) (journaled w) ≡ of_world no_letter (by_journal (number_said id.0 id.1)) w = world_journals (by_said (number_said id.0 id.1)) w in
+            omega (arith, a, b, c);
+      }
+
+  -- so it does after every list of events
+  pub told : (events : List Event) (last : After C A) → Leads step pack unpack (opening_world pes chares) events last → IsTold last.0 last.1
+  told events last run =
+      kept_told last.0 last.1 (run_keeps step pack unpack (length chares) (opening_world pes chares) events last (opening_of A pes chares some) run)

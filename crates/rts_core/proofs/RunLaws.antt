@@ -1,5 +1,5 @@
 -- What a list of events keeps.
-use Rattle.std.proofs.Common.{◌≡◌, ℕ, ◌+◌, List, [], ◌∷◌, ◌++◌, Option, Some, None, sum_by, arith, refl, sym, ◌∙◌, ap, subst, zero-add}
+use Rattle.std.proofs.Common.{◌≡◌, ℕ, ◌+◌, List, [], ◌∷◌, ◌++◌, length, Option, Some, None, sum_by, arith, refl, sym, ◌∙◌, ap, subst, zero-add, add-zero}
 use Rattle.std.specs.Prelude.{Result, slice_get, if◌then◌else◌}
 use Rattle.std.proofs.lemmas.List.Sums.{sum_by-append}
 use Rattle.std.proofs.lemmas.Grind.{flat_map-append}
@@ -7,9 +7,9 @@ use Rattle.chares.specs.declared.report.Report.{Report}
 use Rattle.chares.specs.Steps.{Step}
 use Rattle.pup_pack.specs.declared.error.PupError.{PupError}
 use Rattle.rts_core.specs.declared.event.Event.{Event}
-use Rattle.rts_core.specs.Accounts.{Said, posted_by, executed_by, posts, executions, says_number, IsCounted}
+use Rattle.rts_core.specs.Accounts.{Said, posted_by, executed_by, posts, executions, says_number, posted_count, IsCounted}
 use Rattle.rts_core.specs.Events.{After}
-use Rattle.rts_core.specs.Places.{Life}
+use Rattle.rts_core.specs.Places.{Life, letters_of_life}
 use Rattle.rts_core.specs.Runs.{Leads}
 use Rattle.rts_core.specs.Worlds.{WorldView}
 use Rattle.rts_core.proofs.Weights.{Weight, weigh, of_world}
@@ -17,7 +17,7 @@ use Rattle.rts_core.proofs.Moves.{Work, work_letters, before, after}
 use Rattle.rts_core.proofs.WorldSteps.{AreOf, Numbered, Stepped, known, number_at}
 use Rattle.rts_core.proofs.EventSteps.{happens_good}
 use Rattle.rts_core.proofs.Listings.{no_life, no_letter, sum_zero, before_none, after_none}
-use Rattle.rts_core.proofs.Sent.{counted_step}
+use Rattle.rts_core.proofs.Sent.{journal_after, length_sum, counted_step}
 
 -- each letter weighs by its number and its element
 abbrev pub by_said : (Said → ℕ) → Weight
@@ -27,12 +27,17 @@ by_said r = λ id to body. r (id, to)
 abbrev pub by_index : (ℕ → ℕ) → Life → ℕ
 by_index i = λ x. i x.0
 
+-- each element weighs by what is said of the letters in its journal
+abbrev pub by_journal : (Said → ℕ) → Life → ℕ
+by_journal r = λ x. sum_by (weigh (by_said r)) (letters_of_life x)
+
 -- 1 at what is said of a letter with a number
 abbrev pub number_said : ℕ → ℕ → Said → ℕ
 number_said q j x = if says_number (q, j) x then 1 else 0
 
 -- from a world to another with a trace: in places and executed is what was in places and what was posted; the elements
--- are the same; and a PE has posted each number that it has posted since or before, once
+-- are the same; a PE has posted each number that it has posted since or before, once; in journals is what was there and
+-- what was executed; and as many letters are posted as there are posts
 pub record Kept {C A : Type 0} (n : ℕ) (w w' : WorldView C A) (rs : List Report) : Type 0 where
   pub once : (r : Said → ℕ) → of_world (by_said r) no_life w' + sum_by r (executions rs) ≡ of_world (by_said r) no_life w + sum_by r (posts rs)
   pub stands : (i : ℕ → ℕ) → of_world no_letter (by_index i) w' ≡ of_world no_letter (by_index i) w
@@ -40,6 +45,8 @@ pub record Kept {C A : Type 0} (n : ℕ) (w w' : WorldView C A) (rs : List Repor
   pub same_numbers : Numbered w → Numbered w'
   pub same_array : AreOf n w'
   pub counted : IsCounted w → IsCounted w'
+  pub journals : (r : Said → ℕ) → of_world no_letter (by_journal r) w' ≡ of_world no_letter (by_journal r) w + sum_by r (executions rs)
+  pub posted : posted_count w' ≡ posted_count w + length (posts rs)
 
 pub same_index : {C : Type 0} (i : ℕ → ℕ) (work : Option (Work C)) → before (by_index i) work ≡ after (by_index i) work
 same_index i None = refl
@@ -65,6 +72,18 @@ step_keeps step n w w' rs s =
       same_numbers = s.same_numbers;
       same_array = s.same_array;
       counted = counted_step step n w w' rs s;
+      journals = λ r.
+          let a = s.weighs no_letter (by_journal r) in
+          let b : sum_by r (executions rs) ≡ sum_by (weigh (by_said r)) (work_letters s.work) = s.tells_executions r in
+          let c = journal_after (by_said r) s.work in
+          let d : sum_by (weigh no_letter) s.new ≡ 0 = sum_zero s.new in
+          let e : sum_by (weigh no_letter) (work_letters s.work) ≡ 0 = sum_zero (work_letters s.work) in
+          omega (arith, a, b, c, d, e);
+      posted =
+          let a = s.counts in
+          let b = s.tells_posts (λ x. 1) in
+          let c = length_sum (posts rs) in
+          omega (arith, a, b, c);
     }
 
 pub posts_join : (r : Said → ℕ) (xs ys : List Report) → sum_by r (posts (xs ++ ys)) ≡ sum_by r (posts xs) + sum_by r (posts ys)
@@ -82,10 +101,14 @@ kept_join n u v w xs ys a b =
       same_numbers = λ numbered. b.same_numbers (a.same_numbers numbered);
       same_array = b.same_array;
       counted = λ h. b.counted (a.counted h);
+      journals = λ r. omega (arith, a.journals r, b.journals r, executions_join r xs ys);
+      posted =
+          let c : sum_by (λ (x : Said). 1) (posts (xs ++ ys)) ≡ sum_by (λ (x : Said). 1) (posts xs) + sum_by (λ (x : Said). 1) (posts ys) = posts_join (λ x. 1) xs ys in
+          omega (arith, a.posted, b.posted, c, length_sum (posts (xs ++ ys)), length_sum (posts xs), length_sum (posts ys));
     }
 
 pub kept_same : {C A : Type 0} (n : ℕ) (w : WorldView C A) → AreOf n w → Kept n w w []
-kept_same n w are = record { once = λ r. refl; stands = λ i. refl; numbers = λ numbered q j. zero-add _; same_numbers = λ numbered. numbered; same_array = are; counted = λ h. h }
+kept_same n w are = record { once = λ r. refl; stands = λ i. refl; numbers = λ numbered q j. zero-add _; same_numbers = λ numbered. numbered; same_array = are; counted = λ h. h; journals = λ r. sym (add-zero _); posted = sym (add-zero _) }
 
 module _ {C A : Type 0} (step : Step C) (pack : C → List ℕ) (unpack : List ℕ → Result (C × ℕ) PupError) (n : ℕ) where
   pub run_keeps : (w : WorldView C A) (events : List Event) (last : After C A) → AreOf n w → Leads step pack unpack w events last → Kept n w last.0 last.1

@@ -70,6 +70,11 @@ sends_more {C} step pack opened h el done is =
 pub all_at : {X : Type 0} (P : X → Type 0) (xs : List X) (i : ℕ) (x : X) → All P xs → slice_get xs i ≡ Some x → P x
 all_at P xs i x all at = subst P (get_or_from_slice_get xs i x x at) (all i x (slice_get_within xs i x at))
 
+-- the journals after a handler have the letter that it handles, and those before it
+pub journal_after : {C : Type 0} (g : Weight) (work : Option (Work C)) → after (λ x. sum_by (weigh g) (letters_of_life x)) work ≡ before (λ x. sum_by (weigh g) (letters_of_life x)) work + sum_by (weigh g) (work_letters work)
+journal_after g None = refl
+journal_after g (Some x) = journal_more (weigh g) x.0.index x.0.journal x.1
+
 abbrev pub sends_weight : {C : Type 0} → Step C → List C → (ℕ × List ℕ → ℕ) → Life → ℕ
 sends_weight step opened h = λ x. sum_by h (sends_of step opened x)
 
@@ -97,7 +102,7 @@ module _ {C A : Type 0} (step : Step C) (fits : C → Type 0) (pack : C → List
       let old = h weight in
       let sent = work_sent w weight s.work are s.stood in
       let said : sum_by (weigh (by_message weight)) s.new ≡ sum_by weight (work_sends step (length opened) s.work) = s.says weight in
-      let more = journal_after weight s.work in
+      let more = journal_after (by_message weight) s.work in
       let l : sum_by (λ x. weight (message x)) (letters w) ≡ of_world (by_message weight) no_life w = world_letters (by_message weight) w in
       let l' : sum_by (λ x. weight (message x)) (letters w') ≡ of_world (by_message weight) no_life w' = world_letters (by_message weight) w' in
       let k : sum_by (λ x. weight (message x)) (journaled w) ≡ of_world no_letter (λ x. sum_by (weigh (by_message weight)) (letters_of_life x)) w = world_journals (by_message weight) w in
@@ -107,10 +112,6 @@ module _ {C A : Type 0} (step : Step C) (fits : C → Type 0) (pack : C → List
       let z : sum_by (weigh no_letter) s.new ≡ 0 = sum_zero s.new in
       let y : sum_by (weigh no_letter) (work_letters s.work) ≡ 0 = sum_zero (work_letters s.work) in
       omega (arith, a, b, j, old, sent, said, more, l, l', k, k', m, m', z, y, before_none s.work, after_none s.work)
-    where
-      journal_after : (weight : ℕ × List ℕ → ℕ) (work : Option (Work C)) → after (λ x. sum_by (weigh (by_message weight)) (letters_of_life x)) work ≡ before (λ x. sum_by (weigh (by_message weight)) (letters_of_life x)) work + sum_by (weigh (by_message weight)) (work_letters work)
-      journal_after weight None = refl
-      journal_after weight (Some x) = journal_more (weigh (by_message weight)) x.0.index x.0.journal x.1
 
 -- ---- how many
 
@@ -123,17 +124,13 @@ length_sum {X} (x ∷ xs) =
 abbrev pub each_one : Weight
 each_one id to body = 1
 
-pub journal_counts : {C : Type 0} (work : Option (Work C)) → after (λ x. sum_by (weigh each_one) (letters_of_life x)) work ≡ before (λ x. sum_by (weigh each_one) (letters_of_life x)) work + sum_by (weigh each_one) (work_letters work)
-journal_counts None = refl
-journal_counts (Some x) = journal_more (weigh each_one) x.0.index x.0.journal x.1
-
 -- all letters that were posted are counted after an event where they were so before
 pub counted_step : {C A : Type 0} (step : Step C) (n : ℕ) (w w' : WorldView C A) (rs : List Report) → Stepped step n w w' rs → IsCounted w → IsCounted w'
 counted_step step n w w' rs s h =
     let a = s.weighs each_one no_life in
     let j = s.weighs no_letter (λ x. sum_by (weigh each_one) (letters_of_life x)) in
     let c = s.counts in
-    let more = journal_counts s.work in
+    let more = journal_after each_one s.work in
     let l : length (letters w) ≡ of_world each_one no_life w = sym (length_sum (letters w)) ∙ world_letters each_one w in
     let l' : length (letters w') ≡ of_world each_one no_life w' = sym (length_sum (letters w')) ∙ world_letters each_one w' in
     let k : length (journaled w) ≡ of_world no_letter (λ x. sum_by (weigh each_one) (letters_of_life x)) w = sym (length_sum (journaled w)) ∙ world_journals each_one w in

@@ -76,3 +76,10 @@ held_count w = length (letters w)
 -- every letter that the PEs of a world have posted is held, or was executed
 abbrev pub IsCounted : {C A : Type 0} → WorldView C A → Type 0
 IsCounted w = posted_count w ≡ executed_count w + held_count w
+
+-- A trace tells what a world counts: as many letters were posted as it has posts, and as many executed as it has
+-- executions; and a letter number is in journals as often as the trace says that it was executed.
+pub record IsTold {C A : Type 0} (w : WorldView C A) (trace : List Report) : Type 0 where
+  pub posted : posted_count w ≡ length (posts trace)
+  pub executed : executed_count w ≡ length (executions trace)
+  pub journals : (id : ℕ × ℕ) → times (λ l. is_number id l.id) (journaled w) ≡ times (says_number id) (executions trace)

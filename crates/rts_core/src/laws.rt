@@ -3,7 +3,7 @@
 ghost use Rattle.std.specs.Prelude.{ℕ, ◌≤◌, List, length};
 ghost use Rattle.pe_state.specs.Pes.{PeView, new_pe};
 ghost use Rattle.rts_core.specs.declared.event.Event.{Event};
-ghost use Rattle.rts_core.specs.Accounts.{Accounted, AreSent, IsCounted};
+ghost use Rattle.rts_core.specs.Accounts.{Accounted, AreSent, IsCounted, IsTold};
 ghost use Rattle.rts_core.specs.Calls.{Call, MayCall, MayMake, after_call, after_calls, with_call, with_calls};
 ghost use Rattle.rts_core.specs.Events.{After, Happens};
 ghost use Rattle.rts_core.specs.Histories.{AreHistories};
@@ -17,12 +17,13 @@ use std::alloc::Allocator;
 /// The account of every list of events. The function does nothing: its clauses are the laws, of whatever chares and
 /// however many PEs, in any order of events, with stale looks and events that are not enabled among them. Each letter
 /// that was posted lies in exactly one place or was executed once, by the element that it was posted to, and each
-/// element is in exactly one place; as many letters were posted as are held and were executed. What the elements have
-/// sent is in places or in journals, with its target and its body, as a world opens, and after an event where it was
-/// so before.
+/// element is in exactly one place; as many letters were posted as are held and were executed. The trace has a post for
+/// each letter that is counted as posted, and an execution for each that is in a journal. What the elements have sent is
+/// in places or in journals, with its target and its body, as a world opens, and after an event where it was so before.
 pub fn account_laws<C: Chare<A>, A: Allocator>()
     ensures account { (pes : ℕ) (chares : List C) (events : List Event) (last : After C A) → 1 ≤ pes → Leads C.step C.pack C.unpack (opening_world pes chares) events last → Accounted (length chares) last.0 last.1 }
     ensures counted { (pes : ℕ) (chares : List C) (events : List Event) (last : After C A) → 1 ≤ pes → Leads C.step C.pack C.unpack (opening_world pes chares) events last → IsCounted last.0 }
+    ensures told { (pes : ℕ) (chares : List C) (events : List Event) (last : After C A) → 1 ≤ pes → Leads C.step C.pack C.unpack (opening_world pes chares) events last → IsTold last.0 last.1 }
     ensures opening_sent { (pes : ℕ) (chares : List C) → 1 ≤ pes → AreSent {A = A} C.step chares (opening_world pes chares) }
     ensures still_sent { (opened : List C) (w : WorldView C A) (event : Event) (next : After C A) → AreHistories C.step C.fits C.pack opened w → AreSent C.step opened w → Happens C.step C.pack C.unpack w event next → AreSent C.step opened next.0 }
 {}

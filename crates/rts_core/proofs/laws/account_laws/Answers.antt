@@ -1,4 +1,4 @@
-use Rattle.rts_core.proofs.RunAccount.{accounted, counted, opening_sent, sent_next}
+use Rattle.rts_core.proofs.RunAccount.{accounted, counted, told, opening_sent, sent_next}
 use Rattle.rts_core.proofs.laws.account_laws.Goals as goal
 
 -- src/laws.rt:20:1
@@ -8,6 +8,10 @@ returns-clause-account g c = λ pes chares events last some run. accounted g.C.C
 -- src/laws.rt:20:1
 pub returns-clause-counted : goal.returns-clause-counted
 returns-clause-counted g c = λ pes chares events last some run. counted g.C.Chare.step g.C.Pup.pack g.C.Pup.unpack pes chares some events last run
+
+-- src/laws.rt:20:1
+pub returns-clause-told : goal.returns-clause-told
+returns-clause-told g c = λ pes chares events last some run. told g.C.Chare.step g.C.Pup.pack g.C.Pup.unpack pes chares some events last run
 
 -- src/laws.rt:20:1
 pub returns-clause-opening_sent : goal.returns-clause-opening_sent
