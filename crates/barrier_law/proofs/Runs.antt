@@ -14,7 +14,7 @@ use Rattle.rts_core.specs.Runs.{Leads}
 use Rattle.rts_core.specs.Worlds.{WorldView, opening_world}
 use Rattle.barrier_law.specs.Barrier.{IsBarrier, StandsInItsPlace}
 use Rattle.barrier_law.specs.Orders.{AreInOrder}
-use Rattle.barrier_law.proofs.Boards.{Tells, Keeps, tells_kept, tells_same, tells_taken, tells_decided, unlike_decided, none_there}
+use Rattle.barrier_law.proofs.Boards.{Tells, Keeps, tells_kept, tells_same, tells_taken, tells_decided, decided_at_most_once, unlike_decided, none_there}
 use Rattle.barrier_law.proofs.Once.{resumed_once}
 use Rattle.barrier_law.proofs.RunOrders.{are_in_order, run_ordered, opening_ordered}
 use Rattle.barrier_law.proofs.Stands.{Turned, Takes, each_turned, stands_at}
@@ -56,6 +56,7 @@ module _ {C A : Type 0} (step : Step C) (pack : C → List ℕ) (unpack : List �
         counted = length-replicate n 0;
         reports_counted = length-replicate n None;
         numbered = refl;
+        never_zero = refl;
         decided = λ r some lt. absurd (omega (arith, some, lt));
         undecided = λ r le. refl;
         synced = λ r x some lt inside. absurd (omega (arith, some, lt));
@@ -79,6 +80,7 @@ module _ {C A : Type 0} (step : Step C) (pack : C → List ℕ) (unpack : List �
       record {
         all_synced = λ before after e r h first. (t.barred before after e r h first).synced;
         decided_once = λ before after e r h first. (t.barred before after e r h first).decided;
+        once_decided = decided_at_most_once (length chares) last.0.board last.1 t;
         resumed_once = λ e r. resumed_once e r step pack unpack pes chares some events last run;
       }
 

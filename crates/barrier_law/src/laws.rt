@@ -18,8 +18,8 @@ use std::alloc::Allocator;
 
 /// The barrier of every list of events. The function does nothing: its clauses are the laws, of whatever chares and
 /// however many PEs, in any order of events, with those that are not enabled among them. In the trace, before an element
-/// is resumed for a round, every element has reported in it, and it was decided exactly once; and no element is started,
-/// or resumed for a round, twice. Where an event resumes an element for a round, the element stands, before the event and
+/// is resumed for a round, every element has reported in it, and it was decided exactly once; no round is decided twice;
+/// and no element is started, or resumed for a round, twice. Where an event resumes an element for a round, the element stands, before the event and
 /// after it, in the room of its place in the decision of that round. The rounds of each element come in order, wherever
 /// it is. And where an event decides a round, in a world whose elements are what their journals say, as those of every
 /// `World` are, the snapshot has each element on the PE in whose room it stands, with the load and the size of what it did
