@@ -1,3 +1,4 @@
+use Rattle.barrier_law.proofs.KeptRounds.{event_keeps}
 use Rattle.barrier_law.proofs.Measured.{measured}
 use Rattle.barrier_law.proofs.Runs.{barrier, stands, in_order}
 use Rattle.barrier_law.proofs.laws.barrier_law.Goals as goal
@@ -9,6 +10,10 @@ returns-clause-barrier g c = λ pes chares events last some run. barrier g.C.Cha
 -- src/laws.rt:27:1
 pub returns-clause-stands : goal.returns-clause-stands
 returns-clause-stands g c = λ w event next e r happens there some. stands g.C.Chare.step g.C.Pup.pack g.C.Pup.unpack w event next e r happens there some
+
+-- src/laws.rt:27:1
+pub returns-clause-kept : goal.returns-clause-kept
+returns-clause-kept g c = λ w event next r kept happens is. event_keeps g.C.Chare.step g.C.Pup.pack g.C.Pup.unpack w event next r kept happens is
 
 -- src/laws.rt:27:1
 pub returns-clause-in_order : goal.returns-clause-in_order
