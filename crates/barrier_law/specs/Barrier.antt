@@ -31,11 +31,12 @@ pub record IsBarrier (n : ℕ) (trace : List Report) : Type 0 where
   pub once_decided : (r : ℕ) → times (is_decided r) trace ≤ 1
   pub resumed_once : (e r : ℕ) → times (is_resumed e r) trace ≤ 1
 
--- element e stands in the room of PE p, which is its place in the decision of round r
+-- element e stands in the room of PE p, which is its place in the decision of round r; what is found at e has this index
 pub record StandsInItsPlace {C A : Type 0} (w : WorldView C A) (e r : ℕ) : Type 0 where
   pub p : ℕ
   pub pe : PeView C
   pub el : ElementView C
   pub at : slice_get w.pes p ≡ Some pe
   pub stands : found e pe.room ≡ Some el
+  pub mine : el.index ≡ e
   pub place : place_in w.board r e ≡ Some p
