@@ -1,6 +1,6 @@
 -- What the trace of a run says of its board: of the reports that the board has, and of the rounds that it has decided.
 use Rattle.std.proofs.Common.{◌≡◌, ◌≢◌, ℕ, zero, suc, ◌+◌, ◌<◌, ◌≤◌, ◌⊎◌, inl, inr, List, [], ◌∷◌, ◌++◌, length, get_or, Option, None, Some, Bool, true, false, arith, refl, sym, subst, ◌∙◌, length-set, replicate}
-use Rattle.std.specs.Prelude.{Contains, IsSome, slice_get, ◌&&◌, nat_eq}
+use Rattle.std.specs.Prelude.{Contains, IsSome, slice_get, ◌&&◌, nat_eq, nat_lt}
 use Rattle.std.specs.Option.{option_map}
 use Rattle.std.proofs.lemmas.Bool.Decides.{nat_tests}
 use Rattle.std.proofs.lemmas.List.{length-replicate, get_or-replicate, get_or-set_other, length_push}
@@ -32,6 +32,7 @@ pub record Tells {A : Type 0} (n : ℕ) (b : BoardState A) (trace : List Report)
   pub counted : elements b.database ≡ n
   pub reports_counted : length b.database.reports ≡ n
   pub numbered : b.database.round ≡ length b.rounds + 1
+  pub never_zero : times (is_decided 0) trace ≡ 0
   pub decided : (r : ℕ) → 1 ≤ r → r < b.database.round → times (is_decided r) trace ≡ 1
   pub undecided : (r : ℕ) → b.database.round ≤ r → times (is_decided r) trace ≡ 0
   pub synced : (r x : ℕ) → 1 ≤ r → r < b.database.round → x < n → Contains trace (Synced x r)
@@ -57,6 +58,21 @@ barred_more n trace added old new before after e r h some = by (split_of trace a
         subst (λ (v : List Report). Barred n r v) (sym a.behind)
         (record { synced = λ x lt. Contains-append_left trace a.more (Synced x r) (k.0.synced x lt); decided = sum })
 
+-- no round is decided twice
+pub decided_at_most_once : {A : Type 0} (n : ℕ) (b : BoardState A) (trace : List Report) → Tells n b trace → (r : ℕ) → times (is_decided r) trace ≤ 1
+decided_at_most_once n b trace t zero = let a = t.never_zero in omega (arith, a)
+decided_at_most_once n b trace t (suc r) = by (nat_lt (suc r) b.database.round) refl
+  where
+    by : (c : Bool) → nat_lt (suc r) b.database.round ≡ c → times (is_decided (suc r)) trace ≤ 1
+    by true at =
+        let lt : suc r < b.database.round = grind (arith, nat_tests) in
+        let a = t.decided (suc r) (omega arith) lt in
+        omega (arith, a)
+    by false at =
+        let le : b.database.round ≤ suc r = grind (arith, nat_tests) in
+        let a = t.undecided (suc r) le in
+        omega (arith, a)
+
 -- a round in which an element has a place is decided
 pub place_decided : {A : Type 0} (b : BoardState A) (r e q : ℕ) → b.database.round ≡ length b.rounds + 1 → place_in b r e ≡ Some q → r < b.database.round
 place_decided b zero e q numbered h = cc
@@ -81,6 +97,7 @@ tells_kept {A} n b b' trace rs t k =
       counted = t.counted;
       reports_counted = t.reports_counted;
       numbered = t.numbered;
+      never_zero = let a = t.never_zero in let z = k.undecided 0 in let s = times-append (is_decided 0) trace rs in omega (arith, a, z, s);
       decided = λ r some lt. let a = t.decided r some lt in let z = k.undecided r in let s = times-append (is_decided r) trace rs in omega (arith, a, z, s);
       undecided = λ r le. let a = t.undecided r le in let z = k.undecided r in let s = times-append (is_decided r) trace rs in omega (arith, a, z, s);
       synced = λ r x some lt inside. Contains-append_left trace rs (Synced x r) (t.synced r x some lt inside);
@@ -118,6 +135,7 @@ tells_synced {A} n b trace e round units bytes pe t same =
       counted = length-set {A = ℕ} b.database.loads e _ ∙ t.counted;
       reports_counted = length-set {A = Option (ℕ × ℕ)} b.database.reports e (Some (bytes, pe)) ∙ t.reports_counted;
       numbered = t.numbered;
+      never_zero = let a = t.never_zero in let s = times-append (is_decided 0) trace (Synced e round ∷ []) in omega (arith, a, s, none 0);
       decided = λ r some lt. let a = t.decided r some lt in let s = times-append (is_decided r) trace (Synced e round ∷ []) in omega (arith, a, s, none r);
       undecided = λ r le. let a = t.undecided r le in let s = times-append (is_decided r) trace (Synced e round ∷ []) in omega (arith, a, s, none r);
       synced = λ r x some lt inside. Contains-append_left trace (Synced e round ∷ []) (Synced x r) (t.synced r x some lt inside);
@@ -148,7 +166,7 @@ tells_same n b trace t = tells_kept n b b trace [] t (record { same = refl; unde
 pub tells_finished : {A : Type 0} (n : ℕ) (b : BoardState A) (trace : List Report) (e : ℕ) → Tells n b trace → Tells n (after_finish b e) (trace ++ [])
 tells_finished {A} n b trace e t =
     let k : Tells n b (trace ++ []) = tells_same n b trace t in
-    record { counted = k.counted; reports_counted = k.reports_counted; numbered = k.numbered; decided = k.decided; undecided = k.undecided; synced = k.synced; reported = k.reported; barred = k.barred }
+    record { counted = k.counted; reports_counted = k.reports_counted; numbered = k.numbered; never_zero = k.never_zero; decided = k.decided; undecided = k.undecided; synced = k.synced; reported = k.reported; barred = k.barred }
 
 -- a note is handed in
 pub tells_taken : {A : Type 0} (n : ℕ) (b b' : BoardState A) (trace : List Report) (note : Note) → Tells n b trace → board_after b note ≡ Some b' → Tells n b' (trace ++ note_reports note)
@@ -169,6 +187,12 @@ tells_decided {A} n b b' trace t d =
       counted = length-replicate (elements b.database) 0 ∙ t.counted;
       reports_counted = length-replicate (elements b.database) None ∙ t.counted;
       numbered = let l = length_push b.rounds d.kept in let k = t.numbered in omega (arith, l, k);
+      never_zero =
+          let a = t.never_zero in
+          let k = t.numbered in
+          let z = earlier 0 (omega (arith, k)) in
+          let s = times-append (is_decided 0) trace (Decided b.database.round ∷ []) in
+          omega (arith, a, z, s);
       decided = λ r some lt. decided_by r some lt (nat_eq r b.database.round) refl;
       undecided = λ r le.
           let a = t.undecided r (omega (arith, le)) in

@@ -1,5 +1,6 @@
 pub mod Acts
 pub mod Boards
+pub mod KeptRounds
 pub mod Measured
 pub mod Once
 pub mod Ordered

@@ -12,9 +12,11 @@ use Rattle.rts_core.specs.declared.event.Event.{Event}
 use Rattle.rts_core.specs.Events.{After, Desk, Happens, desk, with_desk}
 use Rattle.rts_core.specs.Runs.{Leads}
 use Rattle.rts_core.specs.Worlds.{WorldView, opening_world}
+use Rattle.round_agreement.specs.Agreement.{Agrees}
+use Rattle.round_agreement.proofs.Events.{Sound, event_sound, run_sound, opening_sound}
 use Rattle.barrier_law.specs.Barrier.{IsBarrier, StandsInItsPlace}
 use Rattle.barrier_law.specs.Orders.{AreInOrder}
-use Rattle.barrier_law.proofs.Boards.{Tells, Keeps, tells_kept, tells_same, tells_taken, tells_decided, unlike_decided, none_there}
+use Rattle.barrier_law.proofs.Boards.{Tells, Keeps, tells_kept, tells_same, tells_taken, tells_decided, decided_at_most_once, unlike_decided, none_there}
 use Rattle.barrier_law.proofs.Once.{resumed_once}
 use Rattle.barrier_law.proofs.RunOrders.{are_in_order, run_ordered, opening_ordered}
 use Rattle.barrier_law.proofs.Stands.{Turned, Takes, each_turned, stands_at}
@@ -56,6 +58,7 @@ module _ {C A : Type 0} (step : Step C) (pack : C → List ℕ) (unpack : List �
         counted = length-replicate n 0;
         reports_counted = length-replicate n None;
         numbered = refl;
+        never_zero = refl;
         decided = λ r some lt. absurd (omega (arith, some, lt));
         undecided = λ r le. refl;
         synced = λ r x some lt inside. absurd (omega (arith, some, lt));
@@ -79,6 +82,7 @@ module _ {C A : Type 0} (step : Step C) (pack : C → List ℕ) (unpack : List �
       record {
         all_synced = λ before after e r h first. (t.barred before after e r h first).synced;
         decided_once = λ before after e r h first. (t.barred before after e r h first).decided;
+        once_decided = decided_at_most_once (length chares) last.0.board last.1 t;
         resumed_once = λ e r. resumed_once e r step pack unpack pes chares some events last run;
       }
 
@@ -87,15 +91,19 @@ module _ {C A : Type 0} (step : Step C) (pack : C → List ℕ) (unpack : List �
   in_order pes chares events last run = are_in_order last.0 (run_ordered step pack unpack (opening_world pes chares) events last (opening_ordered A pes chares) run)
 
   -- and what an event resumes for a round stands in its place
-  pub stands : (w : WorldView C A) (event : Event) (next : After C A) (e r : ℕ) → Happens step pack unpack w event next → Contains next.1 (Resumed e r) → 1 ≤ r → StandsInItsPlace w e r × StandsInItsPlace next.0 e r
-  stands w event next e r happens there some =
+  pub stands : (pes : ℕ) (chares : List C) (events : List Event) (w : WorldView C A) (trace : List Report) (event : Event) (next : After C A) (e r : ℕ)
+      → 1 ≤ pes → Leads step pack unpack (opening_world pes chares) events (w, trace) → Happens step pack unpack w event next → Contains next.1 (Resumed e r) → 1 ≤ r → StandsInItsPlace w e r × StandsInItsPlace next.0 e r
+  stands pes chares events w trace event next e r some run happens there first =
       happens_so step pack unpack w
-      (λ (v : After C A). Contains v.1 (Resumed e r) → StandsInItsPlace w e r × StandsInItsPlace v.0 e r)
+      (λ (v : After C A). Agrees (length chares) v.0 → Contains v.1 (Resumed e r) → StandsInItsPlace w e r × StandsInItsPlace v.0 e r)
       (record {
-        same = λ k. absurd (no_member (Resumed e r) k);
-        turn = λ p pe at. each_map step pack p (desk w pe) (Turned p (desk w pe)) (λ a. Contains a.1 (Resumed e r) → StandsInItsPlace w e r × StandsInItsPlace (with_desk w p a.0) e r)
-            (λ a turned k. stands_at w p pe a.0 e r at (turned.stands e r some k))
+        same = λ agrees k. absurd (no_member (Resumed e r) k);
+        turn = λ p pe at. each_map step pack p (desk w pe) (Turned p (desk w pe)) (λ a. Agrees (length chares) (with_desk w p a.0) → Contains a.1 (Resumed e r) → StandsInItsPlace w e r × StandsInItsPlace (with_desk w p a.0) e r)
+            (λ a turned later k. stands_at (length chares) w p pe a.0 e r before.agrees later at (turned.stands e r first k))
             (each_turned step pack p (desk w pe));
-        decides = λ board d k. absurd (unlike_decided w.board.database.round e r (only_member (Decided w.board.database.round) (Resumed e r) k));
+        decides = λ board d agrees k. absurd (unlike_decided w.board.database.round e r (only_member (Decided w.board.database.round) (Resumed e r) k));
       })
-      event next happens there
+      event next happens (event_sound step pack unpack (length chares) w event next before happens).agrees there
+    where
+      before : Sound (length chares) w
+      before = run_sound step pack unpack (length chares) (opening_world pes chares) events (w, trace) (opening_sound step pack unpack pes chares some) run

@@ -20,7 +20,10 @@ use Rattle.rts_core.specs.Events.{Desk, place_in, board_after, note_reports, wit
 use Rattle.rts_core.specs.Worlds.{WorldView}
 use Rattle.barrier_law.specs.Barrier.{is_decided, is_resumed, StandsInItsPlace}
 use Rattle.rts_core.proofs.WorldSteps.{get_set_same}
+use Rattle.round_agreement.specs.Agreement.{AgreesAt, Agrees}
+use Rattle.round_agreement.proofs.Rooms.{found_index}
 use Rattle.barrier_law.proofs.Boards.{Keeps, unlike_synced}
+use Rattle.barrier_law.proofs.Rooms.{at_place}
 use Rattle.barrier_law.proofs.Tallies.{one, times-cons, times_there, times_posts, only_member, no_member}
 use Rattle.barrier_law.proofs.Turns.{EachTurn}
 
@@ -142,16 +145,24 @@ module _ {C A : Type 0} (step : Step C) (pack : C → List ℕ) (p : ℕ) (d : D
         departs = λ e q el at. single _ (Told.Departed e) refl (λ r. refl) (λ x r k. cc);
       }
 
+-- it is the element itself that is found in the room of a PE, where the board and the elements agree
+pub found_mine : {C A : Type 0} (n : ℕ) (w : WorldView C A) (p : ℕ) (pe : PeView C) (e : ℕ) (el : ElementView C) → Agrees n w → slice_get w.pes p ≡ Some pe → found e pe.room ≡ Some el → el.index ≡ e
+found_mine n w p pe e el agrees at stands =
+    let here : AgreesAt w.board.database pe = at_place (AgreesAt w.board.database) w.pes p pe agrees.pes at in
+    found_index e el pe.room here.keyed stands
+
 -- the same of the world in which that PE stands
-pub stands_at : {C A : Type 0} (w : WorldView C A) (p : ℕ) (pe : PeView C) (d' : Desk C A) (e r : ℕ) → slice_get w.pes p ≡ Some pe → Stood p (desk w pe) d' e r → StandsInItsPlace w e r × StandsInItsPlace (with_desk w p d') e r
-stands_at {C} {A} w p pe d' e r at s = (
-  record { p = p; pe = pe; el = s.before; at = at; stands = s.stood; place = s.place },
+pub stands_at : {C A : Type 0} (n : ℕ) (w : WorldView C A) (p : ℕ) (pe : PeView C) (d' : Desk C A) (e r : ℕ)
+    → Agrees n w → Agrees n (with_desk w p d') → slice_get w.pes p ≡ Some pe → Stood p (desk w pe) d' e r → StandsInItsPlace w e r × StandsInItsPlace (with_desk w p d') e r
+stands_at {C} {A} n w p pe d' e r agrees later at s = (
+  record { p = p; pe = pe; el = s.before; at = at; stands = s.stood; mine = found_mine n w p pe e s.before agrees at s.stood; place = s.place },
   record {
     p = p;
     pe = d'.pe;
     el = s.after;
     at = get_set_same w.pes p pe d'.pe at;
     stands = s.stands;
+    mine = found_mine n (with_desk w p d') p d'.pe e s.after later (get_set_same w.pes p pe d'.pe at) s.stands;
     place = subst (λ (v : BoardState A). place_in v r e ≡ Some p) (sym s.same) s.place;
   },
 )

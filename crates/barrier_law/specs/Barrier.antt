@@ -23,18 +23,20 @@ is_resumed e r (Resumed x s) = (x == e) && (s == r)
 is_resumed e r x = false
 
 -- The trace of a run of n elements keeps the barrier: before an element is resumed for a round, of which the first is 1,
--- every element has reported in it and it was decided, exactly once; and no element is resumed for the same round twice,
--- where its start is its resumption for round 0.
+-- every element has reported in it and it was decided, exactly once; no round is decided twice; and no element is
+-- resumed for the same round twice, where its start is its resumption for round 0.
 pub record IsBarrier (n : ℕ) (trace : List Report) : Type 0 where
   pub all_synced : (before after : List Report) (e r : ℕ) → trace ≡ before ++ Resumed e r ∷ after → 1 ≤ r → (x : ℕ) → x < n → Contains before (Synced x r)
   pub decided_once : (before after : List Report) (e r : ℕ) → trace ≡ before ++ Resumed e r ∷ after → 1 ≤ r → times (is_decided r) before ≡ 1
+  pub once_decided : (r : ℕ) → times (is_decided r) trace ≤ 1
   pub resumed_once : (e r : ℕ) → times (is_resumed e r) trace ≤ 1
 
--- element e stands in the room of PE p, which is its place in the decision of round r
+-- element e stands in the room of PE p, which is its place in the decision of round r; what is found at e has this index
 pub record StandsInItsPlace {C A : Type 0} (w : WorldView C A) (e r : ℕ) : Type 0 where
   pub p : ℕ
   pub pe : PeView C
   pub el : ElementView C
   pub at : slice_get w.pes p ≡ Some pe
   pub stands : found e pe.room ≡ Some el
+  pub mine : el.index ≡ e
   pub place : place_in w.board r e ≡ Some p
