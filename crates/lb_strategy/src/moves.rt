@@ -149,11 +149,11 @@ pub(crate) fn moves_of<A: Allocator>(
     ensures { IfOk result (λ moves. moves ≡ moves_below sizes.now cuts.now names.now (length sizes.now)) }
 {
     let mut moves = Vec::new(alloc);
-    let mut b = 0;
-    for i in 0..sizes.len() {
-        b = block_from(cuts, b, i as u32);
-        let (_, present) = sizes[i];
-        push_move(&mut moves, move_of(i as u32, present, names[b]))?;
+    for b in 0..names.len() {
+        for i in cuts[b] as usize..cuts[b + 1] as usize {
+            let (_, present) = sizes[i];
+            push_move(&mut moves, move_of(i as u32, present, names[b]))?;
+        }
     }
     Ok(Moves::new(moves))
 }
