@@ -49,7 +49,10 @@ impl<A: Allocator + Copy> CostTable<A> {
         let pairs = sizes.as_slice();
         let cuts = cuts.as_slice();
         let blocks = cuts.len() - 1;
-        let mut costs = Vec::with_capacity(alloc, blocks * blocks)?;
+        // Room for a list of all elements too, three numbers of 32 bits for each: a caller that lists the moves when
+        // the table is gone finds there memory that is mapped.
+        let list = pairs.len() * 3 / 2 + 2;
+        let mut costs = Vec::with_capacity(alloc, list.max(blocks * blocks))?;
         let mut room = vec![in alloc; 0u64; blocks]?;
         let row = room.as_mut_slice();
         for b in 0..blocks {

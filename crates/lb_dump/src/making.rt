@@ -21,7 +21,7 @@ fn load_list<A: Allocator>(alloc: A, text: &[u8]) -> Result<Vec<u32, A>, AllocEr
     let count = word(text, COUNT_AT) as usize;
     let mut loads = Vec::with_capacity(alloc, count)?;
     for i in 0..count {
-        loads.push(word(text, HEAD_LEN + ELEMENT_LEN * i + LOAD_AT))?;
+        loads.push_reserved(word(text, HEAD_LEN + ELEMENT_LEN * i + LOAD_AT));
     }
     Ok(loads)
 }
@@ -36,7 +36,7 @@ fn size_list<A: Allocator>(alloc: A, text: &[u8]) -> Result<Vec<(u32, Pe), A>, A
     let count = word(text, COUNT_AT) as usize;
     let mut sizes = Vec::with_capacity(alloc, count)?;
     for i in 0..count {
-        sizes.push(size_and_place(text, i))?;
+        sizes.push_reserved(size_and_place(text, i));
     }
     Ok(sizes)
 }

@@ -131,11 +131,37 @@ fn place_behind(
     None
 }
 
+// How many elements stand elsewhere than on this PE.
+fn elsewhere(pairs: &[(u32, Pe)], pe: u32) -> usize
+    ensures { result ≤ length pairs.now }
+{
+    let mut count = 0;
+    for &(_, present) in pairs {
+        if present.get() != pe {
+            count += 1;
+        }
+    }
+    count
+}
+
+// How many moves there are: for how many the list needs room.
+fn count_moves(sizes: &[(u32, Pe)], cuts: &[u32], names: &[u32]) -> usize
+    requires blocks { AreBlocks sizes.now cuts.now }
+    requires naming { IsNaming (blocks_between cuts.now) names.now }
+{
+    let mut count: usize = 0;
+    for b in 0..names.len() {
+        let block = &sizes[cuts[b] as usize..cuts[b + 1] as usize];
+        count = count.saturating_add(elsewhere(block, names[b]));
+    }
+    count
+}
+
 /// The moves that a naming asks for: of each element whose present PE is not the name of its block.
 ///
 /// # Errors
 ///
-/// Out of memory, where a growth of the list was refused.
+/// Out of memory, where the list was refused.
 #[tactic(auto, using(crate::proofs::MoveLists::moves_more))]
 pub(crate) fn moves_of<A: Allocator>(
     alloc: A,
@@ -148,12 +174,12 @@ pub(crate) fn moves_of<A: Allocator>(
     requires sizes { IsSizes sizes.now }
     ensures { IfOk result (λ moves. moves ≡ moves_below sizes.now cuts.now names.now (length sizes.now)) }
 {
-    let mut moves = Vec::new(alloc);
-    let mut b = 0;
-    for i in 0..sizes.len() {
-        b = block_from(cuts, b, i as u32);
-        let (_, present) = sizes[i];
-        push_move(&mut moves, move_of(i as u32, present, names[b]))?;
+    let mut moves = Vec::with_capacity(alloc, count_moves(sizes, cuts, names))?;
+    for b in 0..names.len() {
+        for i in cuts[b] as usize..cuts[b + 1] as usize {
+            let (_, present) = sizes[i];
+            push_move(&mut moves, move_of(i as u32, present, names[b]))?;
+        }
     }
     Ok(Moves::new(moves))
 }

@@ -98,6 +98,8 @@ fn complete<A: Allocator + Copy, B: Allocator>(
     let table = CostTable::of(alloc, sizes, &division.cuts)?;
     let (naming, prices) = name_blocks(alloc, &table)?;
     let moved = table.cost_of(naming.as_slice());
+    // The list of the moves, the greatest of a decision, finds the table's room free.
+    drop(table);
     let pairs = sizes.as_slice();
     let moves = moves_of(alloc, pairs, division.cuts.as_slice(), naming.as_slice())?;
     Ok(Decision {
