@@ -19,7 +19,7 @@ use Rattle.rts_core.specs.Events.{After}
 use Rattle.rts_core.specs.Places.{Life}
 use Rattle.rts_core.specs.Runs.{Leads}
 use Rattle.rts_core.specs.Worlds.{WorldView, opening_world}
-use Rattle.rts_core.proofs.Account.{unlived}
+use Rattle.rts_core.proofs.RunAccount.{unlived}
 use Rattle.rts_core.proofs.Listings.{no_letter}
 use Rattle.rts_core.proofs.OpeningWeights.{opened_lives, opening_of, opening_weighs, one_at, opened_later}
 use Rattle.rts_core.proofs.RunLaws.{by_index, run_keeps}
