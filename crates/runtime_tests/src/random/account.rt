@@ -15,6 +15,7 @@ pub fn compare<C: Chare<A>, H: Openings<C>, A: Allocator>(
     trace: &[Report],
 ) {
     let seen = look_around(rt, world);
+    counted(rt, world, seen.as_slice(), trace);
     for one in seen.as_slice() {
         compare_one(rt, seen.as_slice(), trace, one);
     }
@@ -23,6 +24,49 @@ pub fn compare<C: Chare<A>, H: Openings<C>, A: Allocator>(
             once(rt, seen.as_slice(), trace, id, *to);
         }
     }
+}
+
+// The world counts as many letters as are seen, and as were posted.
+fn counted<C: Chare<A>, H: Openings<C>, A: Allocator>(
+    rt: &impl Abort,
+    world: &World<C, H, A>,
+    seen: &[Seen],
+    trace: &[Report],
+) {
+    let account = world.account();
+    assert_eq!(rt; account.held, held_in(seen));
+    assert_eq!(rt; account.executed, executed_in(seen));
+    assert_eq!(rt; account.posted, posted_in(trace));
+}
+
+fn held_in(seen: &[Seen]) -> u64 {
+    let mut letters: u64 = 0;
+    for one in seen {
+        if let Seen::Letter(_, _) = one {
+            letters = letters.saturating_add(1);
+        }
+    }
+    letters
+}
+
+fn executed_in(seen: &[Seen]) -> u64 {
+    let mut letters: u64 = 0;
+    for one in seen {
+        if let Seen::Executed(_, _, _) = one {
+            letters = letters.saturating_add(1);
+        }
+    }
+    letters
+}
+
+fn posted_in(trace: &[Report]) -> u64 {
+    let mut letters: u64 = 0;
+    for report in trace {
+        if let Report::Posted(_, _) = report {
+            letters = letters.saturating_add(1);
+        }
+    }
+    letters
 }
 
 // What is seen was reported, once.
