@@ -11,7 +11,7 @@ use Rattle.rts_core.specs.Events.{After, Happens}
 use Rattle.rts_core.specs.Places.{letters}
 use Rattle.rts_core.specs.Runs.{Leads}
 use Rattle.rts_core.specs.Worlds.{WorldView, opening_world}
-use Rattle.rts_core.proofs.Account.{kept_accounted}
+use Rattle.rts_core.proofs.RunAccount.{kept_accounted}
 use Rattle.rts_core.proofs.EventSteps.{happens_good}
 use Rattle.rts_core.proofs.Listings.{no_life, world_letters}
 use Rattle.rts_core.proofs.OpeningWeights.{opening_of}
