@@ -1,6 +1,9 @@
 pub mod GoodTexts
+pub mod NextElements
 pub mod OneText
-pub mod Lists
+pub mod HeldFacts
+pub mod HeldTexts
 pub mod ReadPieces
 pub mod Spelling
+pub mod WholeTexts
 pub mod WordLaws

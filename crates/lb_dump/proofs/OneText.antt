@@ -176,7 +176,7 @@ one_snapshot s t text one other =
     counted = sym one.count ∙ other.count
 
 -- numbers of bytes that are equal have equal bytes
-same_bytes : (a b : List ℕ) (at r : ℕ) → IsBytes a → IsBytes b → word a at ≡ word b at → r < 4 → slice_index a (at + r) ≡ slice_index b (at + r)
+pub same_bytes : (a b : List ℕ) (at r : ℕ) → IsBytes a → IsBytes b → word a at ≡ word b at → r < 4 → slice_index a (at + r) ≡ slice_index b (at + r)
 unfolding word
 same_bytes a b at zero bytes_a bytes_b same small = rw add-zero (omega (arith, same, bytes_a at, bytes_a (at + 1), bytes_a (at + 2), bytes_a (at + 3), bytes_b at, bytes_b (at + 1), bytes_b (at + 2), bytes_b (at + 3)))
 same_bytes a b at (suc zero) bytes_a bytes_b same small = omega (arith, same, bytes_a at, bytes_a (at + 1), bytes_a (at + 2), bytes_a (at + 3), bytes_b at, bytes_b (at + 1), bytes_b (at + 2), bytes_b (at + 3))

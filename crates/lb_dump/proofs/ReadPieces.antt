@@ -61,8 +61,4 @@ buffer_len len buffer items stored lent = omega (arith, length-take len (buffer 
 -- the answer at the end of a text is an answer to it
 pub answer_at_end : (text : List ℕ) (result : Result Taken DumpError) → EndsText text result → IsAnswer text result
 answer_at_end text (Ok s) ends = ends
-answer_at_end text (Err e) ends =
-    elim ends [
-      | inl (none, _) ↦ inl none
-      | inr fault ↦ inr fault
-    ]
+answer_at_end text (Err e) ends = inr ends

@@ -31,7 +31,7 @@ starts_with_head s head len bytes starts step procs count =
       sizes = λ i none. absurd (omega arith);
     }
 
-bytes-append : (xs ys : List ℕ) → IsBytes xs → IsBytes ys → IsBytes (xs ++ ys)
+pub bytes-append : (xs ys : List ℕ) → IsBytes xs → IsBytes ys → IsBytes (xs ++ ys)
 bytes-append xs ys left right k =
     elim (cases_lt k (length xs)) [
       | inl inside ↦ rw (get_or_append_left xs ys 0 k inside) (left k)
@@ -124,7 +124,7 @@ whole_text s n text snapshot all front =
     }
 
 -- the four bytes of a number
-spelled : (n : ℕ) → n < 2 ^ 32 → word (to_be_bytes w32 n) 0 ≡ n
+pub spelled : (n : ℕ) → n < 2 ^ 32 → word (to_be_bytes w32 n) 0 ≡ n
 unfolding word
 spelled n small = from_be_bytes-to_be_bytes_4 n small
 

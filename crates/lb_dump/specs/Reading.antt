@@ -19,10 +19,10 @@ abbrev pub IsAnswer : List ℕ → Result Taken DumpError → Type 0
 IsAnswer text (Ok s) = IsText s text
 IsAnswer text (Err e) = (e ≡ OutOfMemory) ⊎ IsFault text e
 
--- the answer at the end of a text that is good so far; out of memory only where the text is whole
+-- the answer at the end of a text that is good so far
 abbrev pub EndsText : List ℕ → Result Taken DumpError → Type 0
 EndsText text (Ok s) = IsText s text
-EndsText text (Err e) = ((e ≡ OutOfMemory) × (length text ≡ whole_len text)) ⊎ IsFault text e
+EndsText text (Err e) = IsFault text e
 
 -- the answer at the end of all pieces: that of the text, or the error that a piece led to
 abbrev pub EndsReading : Progress → Result Taken DumpError → Type 0

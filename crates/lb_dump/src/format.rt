@@ -34,8 +34,8 @@ pub const SIZE_AT: usize = 4;
 /// Where the PE on which it stands begins in an element.
 pub const PLACE_AT: usize = 8;
 
-#[tactic(auto, unfolding(crate::specs::Format::word))]
 /// The number in the four bytes from this offset on.
+#[tactic(auto, unfolding(crate::specs::Format::word))]
 pub fn word(text: &[u8], at: usize) -> u32
     requires { at + word_len ≤ length text.now }
     ensures value { result ≡ word text.now at }

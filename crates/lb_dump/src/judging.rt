@@ -1,13 +1,12 @@
 //! Whether the fields that are whole keep their rules.
 
-ghost use Rattle.std.specs.Prelude.{◌≡◌, ◌+◌, ◌*◌, ◌≤◌, ◌<◌, ℕ, length, slice_index, MatchResult};
-ghost use Rattle.lb_dump.specs.Format.{letters, head_len, in_element, load_at, count_in, whole_len};
-ghost use Rattle.lb_dump.specs.Faults.{IsGood, IsGoodTo, IsBroken};
+ghost use Rattle.std.specs.Prelude.{◌≡◌, ◌+◌, ◌≤◌, ◌<◌, ℕ, length, slice_index, MatchResult};
+ghost use Rattle.chare_index.specs.declared.limits.TheConstants.Limits.{STATE_BYTES};
+ghost use Rattle.lb_dump.specs.Format.{letters, head_len, size_at, word, word_len};
+ghost use Rattle.lb_dump.specs.Faults.{IsGood, IsBroken};
 
 use crate::error::DumpError;
-use crate::format::{
-    COUNT_AT, ELEMENT_LEN, HEAD_LEN, LETTERS, PLACE_AT, PROCS_AT, SIZE_AT, WORD_LEN, word,
-};
+use crate::format::{COUNT_AT, HEAD_LEN, LETTERS, PROCS_AT, SIZE_AT, WORD_LEN, word};
 use chare_index::Limits;
 
 // The letters that are there.
@@ -43,27 +42,15 @@ pub fn judge_head(text: &[u8]) -> Result<(), DumpError>
     Ok(())
 }
 
-// The fields from element `first` on.
-pub fn judge_elements(text: &[u8], first: usize) -> Result<(), DumpError>
-    requires before { IsGoodTo text.now (in_element first load_at) }
-    requires some { in_element first load_at ≤ length text.now }
-    requires within { length text.now ≤ whole_len text.now }
-    ensures first_fault { MatchResult result (λ _. IsGood text.now) (λ e. IsBroken text.now e) }
+// The size in the bytes with which element `i` begins, where it is there.
+pub fn judge_begun(begun: &[u8], i: usize) -> Result<(), DumpError>
+    requires { i ≤ Limits.ELEMENTS }
+    ensures fault { MatchResult result
+        (λ _. size_at + word_len ≤ length begun.now → word begun.now size_at ≤ STATE_BYTES)
+        (λ e. (e ≡ DumpError.Size i) × (size_at + word_len ≤ length begun.now) × (STATE_BYTES < word begun.now size_at)) }
 {
-    let procs = word(text, PROCS_AT);
-    let end = (text.len() - HEAD_LEN) / ELEMENT_LEN;
-    for i in first..end {
-        let at = HEAD_LEN + ELEMENT_LEN * i;
-        if word(text, at + SIZE_AT) > Limits::STATE_BYTES {
-            return Err(DumpError::Size(i as u32));
-        }
-        if word(text, at + PLACE_AT) >= procs {
-            return Err(DumpError::Place(i as u32));
-        }
-    }
-    let at = HEAD_LEN + ELEMENT_LEN * end;
-    if text.len() - at >= SIZE_AT + WORD_LEN && word(text, at + SIZE_AT) > Limits::STATE_BYTES {
-        return Err(DumpError::Size(end as u32));
+    if begun.len() >= SIZE_AT + WORD_LEN && word(begun, SIZE_AT) > Limits::STATE_BYTES {
+        return Err(DumpError::Size(i as u32));
     }
     Ok(())
 }

@@ -16,9 +16,11 @@
 #![tactic(auto)]
 
 mod decoding;
+mod elements;
 mod encoding;
 mod error;
 mod format;
+mod held;
 mod judging;
 mod laws;
 mod making;

@@ -1,45 +1,54 @@
-ghost use Rattle.std.specs.Prelude.{◌≡◌, ◌≢◌, ◌++◌, ◌+◌, ◌<◌, ◌≤◌, ◌⊎◌, [], List, ℕ, length, Ok, Err, IfOk, IfErr, OnOk};
-ghost use Rattle.lb_dump.specs.Format.{IsText, head_len, whole_len};
+ghost use Rattle.std.specs.Prelude.{◌≡◌, ◌≢◌, ◌++◌, ◌<◌, ◌≤◌, ◌⊎◌, [], length, Ok, Err, IfOk, IfErr, OnOk};
+ghost use Rattle.lb_dump.specs.Format.{head_len};
 ghost use Rattle.lb_dump.specs.Faults.{IsGood, IsBroken};
+ghost use Rattle.lb_dump.specs.Held.{IsHeld, text_of};
 ghost use Rattle.lb_dump.specs.Reading.{EndsText, EndsReading, Feeds, NeedsNone};
 
 use crate::error::DumpError;
-use crate::format::{COUNT_AT, ELEMENT_LEN, HEAD_LEN, word};
-use crate::judging::{judge_elements, judge_head};
-use crate::making::snapshot_of;
+use crate::format::HEAD_LEN;
+use crate::held::{Held, take_elements};
+use crate::judging::judge_head;
+use crate::making::snapshot_at_end;
 use lb_certificates::Snapshot;
 use std::alloc::{Allocator, Global};
 use std::marker::Model;
 
-/// Reads a dump that comes in pieces. It keeps the text so far, which grows as the pieces come, whatever count the
-/// text claims; the lists are made at the end. Contracts see it as the text so far or, after a fault, as that
-/// fault.
+/// Reads a dump that comes in pieces. Its elements are put into the lists of the snapshot as they come; these take
+/// their room when the head is whole, for as many elements as it says, at most 65,536. Contracts see the reader as
+/// the text so far or, after a fault, as that fault.
 #[derive(Drop)]
 #[derive_where(Debug)]
 pub struct DumpReader<A: Allocator = Global> {
-    text: Vec<u8, A>,
+    held: Held<A>,
     fault: Option<DumpError>,
 }
 
 impl<A: Allocator> Model for DumpReader<A> {
     ghost use Rattle.std.specs.Prelude.{IfNone};
-    ghost use Rattle.lb_dump.specs.Faults.{IsGood};
+    ghost use Rattle.lb_dump.specs.Held.{IsHeld, text_of};
     ghost use Rattle.lb_dump.specs.Reading.{Progress, progress_of};
 
     ghost Value = { Progress };
 
-    ghost view = { λ r. progress_of r.text.items r.fault };
+    ghost view = { λ r. progress_of (text_of r.held) r.fault };
 
-    ghost invariant = { λ r. IfNone r.fault (IsGood r.text.items) };
+    ghost invariant = { λ r. IfNone r.fault (IsHeld r.held) };
 }
 
 impl<A: Allocator> DumpReader<A> {
     /// A reader that was given no piece. It takes no memory.
     pub fn new(alloc: A) -> Self
+    where
+        A: Copy,
         ensures value { result ≡ Ok [] }
     {
         DumpReader {
-            text: Vec::new(alloc),
+            held: Held {
+                head: Vec::new(alloc),
+                loads: Vec::new(alloc),
+                sizes: Vec::new(alloc),
+                begun: Vec::new(alloc),
+            },
             fault: None,
         }
     }
@@ -58,7 +67,7 @@ impl<A: Allocator> DumpReader<A> {
         if let Some(fault) = self.fault {
             return Err(fault);
         }
-        let taken = take_in(&mut self.text, piece);
+        let taken = take_in(&mut self.held, piece);
         if let Err(fault) = taken {
             self.fault = Some(fault);
         }
@@ -70,89 +79,52 @@ impl<A: Allocator> DumpReader<A> {
     /// # Errors
     ///
     /// What [`feed`](Self::feed) returned last where that was an error, or else [`Short`](DumpError::Short) where
-    /// the text is not whole, or else [`OutOfMemory`](DumpError::OutOfMemory) where a request for memory is refused.
+    /// the text is not whole. It takes no memory.
     pub fn end(self) -> Result<Snapshot<A>, DumpError>
-    where
-        A: Copy,
         ensures ends { EndsReading self result }
     {
-        let DumpReader { text, fault } = self;
+        let DumpReader { held, fault } = self;
         match fault {
             Some(fault) => Err(fault),
-            None => whole(&text),
+            None => snapshot_at_end(held),
         }
     }
 }
 
-// The snapshot of a text that ends here.
-fn whole<A: Allocator + Copy>(text: &Vec<u8, A>) -> Result<Snapshot<A>, DumpError>
-    requires { IsGood text.now.items }
-    ensures { EndsText text.now.items result }
-{
-    let len = text.len();
-    if len < HEAD_LEN || len < HEAD_LEN + ELEMENT_LEN * word(text, COUNT_AT) as usize {
-        return Err(DumpError::Short(len as u32));
-    }
-    Ok(snapshot_of(*text.allocator(), text)?)
-}
-
-// Puts a piece at the end of the text.
-fn take_in<A: Allocator>(text: &mut Vec<u8, A>, piece: &[u8]) -> Result<(), DumpError>
-    requires { IsGood text.old.items }
-    ensures taken { OnOk result ((text.new.items ≡ text.old.items ++ piece.now) × IsGood text.new.items) }
-    ensures broken { IfErr result (λ e. (e ≡ DumpError.OutOfMemory) ⊎ IsBroken (text.old.items ++ piece.now) e) }
-    ensures no_growth { NeedsNone text.old.items piece.now → result ≢ Err DumpError.OutOfMemory }
+// Takes in a piece.
+fn take_in<A: Allocator>(held: &mut Held<A>, piece: &[u8]) -> Result<(), DumpError>
+    requires { IsHeld held.old }
+    ensures taken { OnOk result ((text_of held.new ≡ text_of held.old ++ piece.now) × IsHeld held.new) }
+    ensures broken { IfErr result (λ e. (e ≡ DumpError.OutOfMemory) ⊎ IsBroken (text_of held.old ++ piece.now) e) }
+    ensures no_growth { NeedsNone (text_of held.old) piece.now → result ≢ Err DumpError.OutOfMemory }
 {
     if piece.is_empty() {
         return Ok(());
     }
-    if text.len() >= HEAD_LEN {
-        return take_elements(text, piece);
+    if held.head.len() == HEAD_LEN {
+        return take_elements(held, piece);
     }
-    let rest = take_head(text, piece)?;
+    let rest = take_head(&mut held.head, piece)?;
     if rest.is_empty() {
         return Ok(());
     }
-    take_elements(text, rest)
+    take_elements(held, rest)
 }
 
-// Puts the part of a piece that belongs to the head at the end of the text, and gives the rest back.
+// Puts the part of a piece that belongs to the head at the end of the head, and gives the rest back.
 fn take_head<'a, A: Allocator>(
-    text: &mut Vec<u8, A>,
+    head: &mut Vec<u8, A>,
     piece: &'a [u8],
 ) -> Result<&'a [u8], DumpError>
-    requires { length text.old.items < head_len }
-    ensures joined { IfOk result (λ rest. text.new.items ++ rest.now ≡ text.old.items ++ piece.now) }
-    ensures good { OnOk result (IsGood text.new.items) }
-    ensures filled { IfOk result (λ rest. 0 < length rest.now → head_len ≤ length text.new.items) }
-    ensures broken { IfErr result (λ e. (e ≡ DumpError.OutOfMemory) ⊎ IsBroken (text.old.items ++ piece.now) e) }
+    requires { length head.old.items < head_len }
+    ensures joined { IfOk result (λ rest. head.new.items ++ rest.now ≡ head.old.items ++ piece.now) }
+    ensures good { OnOk result (IsGood head.new.items) }
+    ensures filled { IfOk result (λ rest. 0 < length rest.now → length head.new.items ≡ head_len) }
+    ensures short { OnOk result (length head.new.items ≤ head_len) }
+    ensures broken { IfErr result (λ e. (e ≡ DumpError.OutOfMemory) ⊎ IsBroken (head.old.items ++ piece.now) e) }
 {
-    let (start, rest) = piece.split_at(piece.len().min(HEAD_LEN - text.len()));
-    text.extend_from_slice(start)?;
-    judge_head(text)?;
+    let (start, rest) = piece.split_at(piece.len().min(HEAD_LEN - head.len()));
+    head.extend_from_slice(start)?;
+    judge_head(head)?;
     Ok(rest)
-}
-
-// Puts a piece at the end of a text that has its head.
-fn take_elements<A: Allocator>(text: &mut Vec<u8, A>, piece: &[u8]) -> Result<(), DumpError>
-    requires good { IsGood text.old.items }
-    requires headed { head_len ≤ length text.old.items }
-    requires some { 0 < length piece.now }
-    ensures taken { OnOk result ((text.new.items ≡ text.old.items ++ piece.now) × IsGood text.new.items) }
-    ensures broken { IfErr result (λ e. (e ≡ DumpError.OutOfMemory) ⊎ IsBroken (text.old.items ++ piece.now) e) }
-    ensures full { length text.old.items ≡ whole_len text.old.items → result ≡ Err DumpError.Trailing }
-{
-    let room = HEAD_LEN + ELEMENT_LEN * word(text, COUNT_AT) as usize - text.len();
-    if room == 0 {
-        return Err(DumpError::Trailing);
-    }
-    let first = (text.len() - HEAD_LEN) / ELEMENT_LEN;
-    let (start, rest) = piece.split_at(piece.len().min(room));
-    text.extend_from_slice(start)?;
-    judge_elements(text, first)?;
-    if rest.is_empty() {
-        Ok(())
-    } else {
-        Err(DumpError::Trailing)
-    }
 }

@@ -6,5 +6,5 @@ use Rattle.lb_dump.proofs.reader.take_head.Goals as goal
 pub returns-in_err-judge_head-clause-broken : goal.returns-in_err-judge_head-clause-broken
 returns-in_err-judge_head-clause-broken g c =
     let p = err_from_is_err_and c.from_residual-in_err-judge_head.result c.from_residual-in_err-judge_head.ensures.1 in
-    let joined : c.deref.result.now ≡ c.args.text.now.items ++ c.split_at.result.0.now = c.deref.ensures.value ∙ c.in_ok-extend_from_slice.ensures.items in
-    rw (p.1, p.2) (inr (broken_by c.args.text.now.items c.split_at.result.0.now c.split_at.result.1.now c.args.piece.now c.in_err-judge_head.field-0.0 c.split_at.ensures.by_index.0 (rw joined at c.in_err-judge_head.ensures.first_fault)))
+    let joined : c.deref.result.now ≡ c.args.head.now.items ++ c.split_at.result.0.now = c.deref.ensures.value ∙ c.in_ok-extend_from_slice.ensures.items in
+    rw (p.1, p.2) (inr (broken_by c.args.head.now.items c.split_at.result.0.now c.split_at.result.1.now c.args.piece.now c.in_err-judge_head.field-0.0 c.split_at.ensures.by_index.0 (rw joined at c.in_err-judge_head.ensures.first_fault)))
