@@ -67,5 +67,5 @@ pub(crate) fn scan(
 fn comes_first(far: u64, holder: &Option<u32>, least: u64, least_held: bool) -> bool
     ensures { MatchBool result (far ≤ least) (least ≤ far) }
 {
-    far < least || (far == least && least_held && holder.is_none())
+    far <= least && (far < least || (least_held && holder.is_none()))
 }

@@ -37,7 +37,10 @@ impl<A: Allocator> Prefix<A> {
     pub fn of<B: Allocator>(alloc: A, loads: &Loads<B>) -> Result<Self, AllocError>
         ensures made { IfOk result (λ prefix. prefix ≡ loads.now) }
     {
-        let mut sums = Vec::with_capacity(alloc, loads.len() + 1)?;
+        // Room for a list of all elements too, as `CostTable::of` of block_assignment takes it. An allocator that maps
+        // each large list anew does so up to the greatest size that came back, so that a plan's costs and moves, which
+        // are made when the sums are gone, share memory.
+        let mut sums = Vec::with_capacity(alloc, loads.len() * 3 / 2 + 2)?;
         let mut total = 0;
         sums.push_reserved(total);
         for &units in loads.as_slice() {
