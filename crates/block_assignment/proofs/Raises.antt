@@ -39,14 +39,6 @@ paid_at next s pe paid rebate sized matched tree new b far at =
           omega (arith, joined.2, (new.joined b joined.0).in_tree (omega (arith, joined.1, get_or-set_other s.rank pe q next 0 other)))
     ]
 
--- a block of the tree stands no farther than the nearest PE
-far_at : (next : ℕ) (s : State) (pe : ℕ) → IsMatched s → IsTree next s → IsNearest s.rank s.distance s.table.blocks pe → (b far : ℕ) → IsAt s b far → far ≤ slice_index s.distance pe
-far_at next s pe matched tree nearest b far at =
-    elim at [
-      | inl root ↦ omega (arith, root.1)
-      | inr joined ↦ omega (arith, joined.2, tree.nearer (slice_index s.names b) pe (matched.below b joined.0) nearest.inside joined.1 nearest.apart)
-    ]
-
 -- a block is in the tree, or pays what it paid
 in_tree_or_not : (next : ℕ) (s : State) (pe : ℕ) (paid rebate : List ℕ) → IsMatched s → Reprices next s pe paid rebate → (b : ℕ) → ((far : ℕ) × IsAt s b far) ⊎ (slice_index paid b ≡ slice_index s.paid b)
 in_tree_or_not next s pe paid rebate matched new b =

@@ -3,7 +3,7 @@ use Rattle.std.proofs.Common.{◌≡◌, ◌≢◌, ℕ, ◌+◌, ◌*◌, ◌<�
 use Rattle.std.proofs.lemmas.Bool.{cases_eq}
 use Rattle.std.proofs.lemmas.List.{get_or-set_same, get_or-set_other}
 use Rattle.lb_certificates.specs.Naming.{total}
-use Rattle.block_assignment.specs.Least.{member, may_have, IsClosed, IsFound, IsTrail}
+use Rattle.block_assignment.specs.Least.{member, may_have, IsFound}
 use Rattle.block_assignment.proofs.Coverings.{changed, changed_here, changed_apart}
 use Rattle.block_assignment.proofs.LeastPes.{member_or_not}
 use Rattle.block_assignment.proofs.Namings.{total_taken}
@@ -142,21 +142,3 @@ search_moves takers names b i j left waiting next new_waiting search none waits 
           ]
           | inr other ↦ search.closed k m at out other after inside has
         ]
-
-pub search_ends : (takers : List (List ℕ)) (names : List ℕ) (b i : ℕ) (left waiting next : List ℕ) → IsSearching takers names b i left waiting next → ((k : ℕ) → k < length takers → member left k ≡ 1 → may_have takers k (slice_index names i) ≡ 0) → ((k : ℕ) → k < length takers → member waiting k ≡ 0) → IsTrail takers names b left next × IsClosed takers names b left
-search_ends takers names b i left waiting next search none shut = (
-  record {
-    rank = search.rank;
-    later = search.later;
-    reached = search.reached;
-    allowed = search.allowed;
-    nearer = search.nearer;
-  },
-  λ k m at after inside has. elim (cases_eq k i) [
-    | inl same ↦ elim (member_or_not left m) [
-      | inl gone ↦ gone
-      | inr left_here ↦ absurd (omega (arith, none m inside left_here, has, ap (λ x. may_have takers m (slice_index names x)) same))
-    ]
-    | inr other ↦ search.closed k m at (shut k at.inside) other after inside has
-  ],
-)

@@ -6,8 +6,7 @@ use Rattle.std.proofs.lemmas.Grind.{same_number_lists}
 use Rattle.lb_certificates.specs.Naming.{total, IsNaming, naming_cost, ComesBefore, IsFirstCheapest}
 use Rattle.lb_certificates.proofs.Totals.{total_same, total_add, total_le, total_named}
 use Rattle.block_assignment.specs.Least.{may_have, IsAllowed, IsLeastAt}
-use Rattle.block_assignment.specs.Search.{State, IsSized, IsMatched, IsTight}
-use Rattle.block_assignment.specs.Table.{cost_at}
+use Rattle.block_assignment.specs.Search.{IsTight}
 use Rattle.block_assignment.proofs.Namings.{total_less}
 
 -- what a naming costs, with all that the PEs give back
@@ -98,17 +97,4 @@ first_from_least blocks cost paid rebate names takers counted exact h least =
             | inl same ↦ inl (same_number_lists names others (h.naming.counted ∙ sym naming.counted) (λ b inside. same b (omega (arith, inside, h.naming.counted, counted))))
             | inr before ↦ inr (subst (λ n. ComesBefore n names others) counted before)
           ];
-    }
-
--- a naming of all blocks, as the search leaves it
-pub tight_if_matched : (s : State) → IsSized s → IsMatched s → s.named ≡ s.table.blocks → IsTight s.table.blocks (cost_at s.table) s.paid s.rebate s.names
-tight_if_matched s sized matched all =
-    record {
-      naming = record {
-        counted = sized.names_length;
-        below = λ b inside. matched.below b (omega (arith, all, inside));
-        apart = λ a b before inside. matched.apart a b before (omega (arith, all, inside));
-      };
-      low = matched.low;
-      tight = λ b inside. matched.tight b (omega (arith, all, inside));
     }

@@ -20,10 +20,6 @@ use Rattle.chain_partition.specs.Search.{StopBelow, Enclose}
 use Rattle.chain_partition.proofs.Ranges.{load_nothing, load_more}
 use Rattle.chain_partition.proofs.GreedyCuts.{greedy_full, greedy_short, EndsAt, ends_none, ends_more, ends_inside, ends_fit}
 
--- what fits within a limit fits within a greater one
-pub can_fit_wider : (xs : List ℕ) (p limit wider : ℕ) → limit ≤ wider → CanFit xs p limit → CanFit xs p wider
-can_fit_wider xs p limit wider below fit = (fit.0, fit.1, omega (arith, fit.2, below))
-
 -- a limit that fits, below which none does, is the least peak
 pub least_from_bounds : (xs : List ℕ) (p bottleneck : ℕ) → CanFit xs p bottleneck → ((limit : ℕ) → limit < bottleneck → ¬ (CanFit xs p limit)) → IsLeastPeak xs 0 p bottleneck
 least_from_bounds xs p bottleneck fit stops =

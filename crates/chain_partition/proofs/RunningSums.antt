@@ -1,8 +1,7 @@
 -- Running sums, the loads that they are the sums of, and the end of a block by them.
-use Rattle.std.proofs.Common.{◌≡◌, ℕ, suc, zero, ◌+◌, ◌-◌, ◌<◌, ◌≤◌, inl, inr, List, [], ◌∷◌, ◌++◌, length, slice_index, get_or, arith, add-one, refl, sym, ◌∙◌, subst, length-append}
+use Rattle.std.proofs.Common.{◌≡◌, ℕ, suc, zero, ◌+◌, ◌-◌, ◌<◌, ◌≤◌, inl, inr, List, [], ◌∷◌, length, slice_index, arith, add-one, refl, sym, subst}
 use Rattle.std.proofs.lemmas.Bool.{cases_lt}
 use Rattle.std.proofs.lemmas.Grind.{same_number_lists}
-use Rattle.std.proofs.lemmas.List.{get_or_append_left, get_or_push}
 use Rattle.lb_certificates.specs.Chain.{load}
 use Rattle.lb_certificates.specs.Measured.{IsLoads}
 use Rattle.lb_certificates.proofs.Chains.{load_after, load_wider}
@@ -21,26 +20,6 @@ load_in_prefix sums a b h onward inside =
 
 pub length_prefix : (sums : List ℕ) → IsPrefix sums → length sums ≡ length (loads_of sums) + 1
 length_prefix sums h = h.summed.counted
-
--- one more sum
-pub sums_none : (xs : List ℕ) → AreSums xs 0 (0 ∷ [])
-sums_none xs = record { counted = refl; each = λ k inside. omega (arith, first k inside) }
-  where
-    first : (k : ℕ) → k ≤ 0 → slice_index (0 ∷ []) k ≡ load xs 0 k
-    first zero inside = sym (load_nothing xs 0)
-    first (suc k) inside = absurd (omega arith)
-
-pub sums_push : (xs sums : List ℕ) (n total d : ℕ) → AreSums xs n sums → n < length xs → total ≡ slice_index sums n + get_or xs n d → AreSums xs (n + 1) (sums ++ total ∷ [])
-sums_push xs sums n total d h inside next =
-    record {
-      counted = omega (arith, length-append sums (total ∷ []), h.counted);
-      each = λ k below. elim (cases_lt k (n + 1)) [
-        | inl earlier ↦ get_or_append_left sums (total ∷ []) 0 k (omega (arith, h.counted)) ∙ h.each k (omega arith)
-        | inr latest ↦
-            let same : n + 1 ≡ k = omega arith in
-            subst (λ m. slice_index (sums ++ total ∷ []) m ≡ load xs 0 m) same (omega (arith, get_or_push sums total 0 (n + 1) h.counted, next, h.each n (omega arith), load_more xs 0 n d (omega arith) inside))
-      ];
-    }
 
 pub length_loads_of : (sums : List ℕ) → length (loads_of sums) ≡ length sums - 1
 length_loads_of [] = refl

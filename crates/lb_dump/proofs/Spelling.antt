@@ -15,7 +15,7 @@ use Rattle.std.specs.Int.{w32, to_be_bytes}
 use Rattle.std.specs.Io.KnownBytes.{Appends}
 use Rattle.std.proofs.lemmas.Nat.{from_be_bytes-to_be_bytes_4}
 use Rattle.std.proofs.lemmas.Option.{slice_get-get_or}
-use Rattle.lb_dump.proofs.WordLaws.{word-append, word-after, no_bytes, number_bytes}
+use Rattle.lb_dump.proofs.WordLaws.{word-append, word-after, number_bytes}
 
 -- the head of a snapshot
 pub starts_with_head : (s : Taken) (head : List ℕ) → length head ≡ head_len → IsBytes head → ((k : ℕ) → k < 4 → slice_index head k ≡ slice_index letters k) → word head step_at ≡ s.step → word head procs_at ≡ s.procs → word head count_at ≡ length s.loads → IsPrefix s 0 head
@@ -87,11 +87,6 @@ joined s n m text run front after =
               let same : n + (i - n) ≡ i = omega arith in
               rw (word-after text run (in_element i size_at) (size_at + element_len * (i - n)) (omega (arith, front.len)), word-after text run (in_element i place_at) (place_at + element_len * (i - n)) (omega (arith, front.len))) (subst (λ j. slice_get s.sizes j ≡ Some (word run (size_at + element_len * (i - n)), word run (place_at + element_len * (i - n)))) same (after.sizes_are (i - n) (omega arith)))
         ]
-
--- no elements
-pub no_run : (loads : List ℕ) (sizes : List (ℕ × ℕ)) (first : ℕ) → IsRun loads sizes first 0 []
-no_run loads sizes first =
-    record { len = omega arith; bytes = no_bytes; loads_are = λ i none. absurd (omega arith); sizes_are = λ i none. absurd (omega arith) }
 
 -- one element more
 pub runs_on : (loads : List ℕ) (sizes : List (ℕ × ℕ)) (first n : ℕ) (run element : List ℕ) → IsRun loads sizes first n run → length element ≡ element_len → IsBytes element

@@ -1,5 +1,5 @@
 -- The items of a list, unpacked one at a time.
-use Rattle.std.proofs.Common.{◌≡◌, ℕ, suc, ◌+◌, ◌-◌, List, [], ◌∷◌, ◌++◌, length, drop, Result, Ok, Err, refl, arith, append_assoc, zero-add, drop-drop, append-nil, take, take_all, length-drop}
+use Rattle.std.proofs.Common.{◌≡◌, ℕ, suc, ◌+◌, ◌-◌, List, [], ◌∷◌, ◌++◌, length, drop, Result, Ok, Err, refl, arith, append_assoc, drop-drop, append-nil, take, take_all, length-drop}
 use Rattle.pup_pack.specs.declared.error.PupError.{PupError}
 use Rattle.pup_pack.specs.declared.error.PupError.TheVariants.{Short, Bad, TooLong, OutOfMemory}
 use Rattle.pup_pack.specs.Packing.{and_then, UnpackAnswer}
@@ -16,19 +16,12 @@ joined xs end rest = and_then rest (λ ys. Ok (xs ++ ys.0, end + ys.1))
 abbrev pub resumed : {T : Type 0} → (List ℕ → Result (T × ℕ) PupError) → List ℕ → List T → ℕ → ℕ → Result (List T × ℕ) PupError
 resumed item bytes xs end n = joined xs end (unpack_items item n (drop end bytes))
 
-pub joined_none : {T : Type 0} (r : Result (List T × ℕ) PupError) → joined [] 0 r ≡ r
-joined_none (Ok r) = rw (zero-add r.1) refl
-joined_none (Err e) = refl
-
 pub joined_more : {T : Type 0} (xs : List T) (end : ℕ) (x : T) (m : ℕ) (r : Result (List T × ℕ) PupError)
     → joined xs end (and_then r (λ ys. Ok (x ∷ ys.0, m + ys.1))) ≡ joined (xs ++ x ∷ []) (end + m) r
 joined_more xs end x m (Ok r) =
     let sum : end + (m + r.1) ≡ (end + m) + r.1 = omega arith in
     rw (append_assoc xs (x ∷ []) r.0, sum) refl
 joined_more xs end x m (Err e) = refl
-
-pub resumed_start : {T : Type 0} (item : List ℕ → Result (T × ℕ) PupError) (bytes : List ℕ) (n : ℕ) → resumed item bytes [] 0 n ≡ unpack_items item n bytes
-resumed_start item bytes n = joined_none (unpack_items item n bytes)
 
 pub resumed_more : {T : Type 0} (item : List ℕ → Result (T × ℕ) PupError) (bytes : List ℕ) (xs : List T) (end n : ℕ) (x : T) (m : ℕ)
     → item (drop end bytes) ≡ Ok (x, m) → resumed item bytes xs end (suc n) ≡ resumed item bytes (xs ++ x ∷ []) (end + m) n

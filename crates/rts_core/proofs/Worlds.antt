@@ -62,18 +62,6 @@ pub histories_desk : {C A : Type 0} (step : Step C) (fits : C → Type 0) (pack 
 histories_desk step fits pack opened pes w p d h k =
     record { pes = All-set (HasHistories step fits pack opened) w.pes p d.pe k.histories h.pes; queues = k.parcels }
 
--- what a PE of a world sees is of the world's run
-pub desk_of : {C A : Type 0} (step : Step C) (fits : C → Type 0) (pack : C → List ℕ) (opened : List C) (pes : ℕ) (w : WorldView C A) (pe : PeView C)
-    → IsWorld (length opened) pes w → AreHistories step fits pack opened w → HasHistories step fits pack opened pe → IsDesk step fits pack opened pes (desk w pe)
-desk_of step fits pack opened pes w pe h k histories =
-    record {
-      histories = histories;
-      parcels = k.queues;
-      words_name = h.words_name;
-      board_counted = h.board_counted;
-      board_pes = h.board_pes;
-    }
-
 -- the same after the board has changed
 pub world_board : {C A : Type 0} (n pes : ℕ) (w : WorldView C A) (b : BoardState A) → IsWorld n pes w → elements b.database ≡ elements w.board.database → b.pes ≡ w.board.pes → IsWorld n pes (record { pes = w.pes; queues = w.queues; words = w.words; board = b })
 world_board n pes w b h counted same =

@@ -52,9 +52,6 @@ each_zero f (y ∷ ys) h =
     let b : sum_by f (y ∷ ys) ≡ f y + sum_by f ys = sum_by-cons f y ys in
     All-cons (λ x. f x ≡ 0) y ys (omega (arith, b, h)) (each_zero f ys (omega (arith, b, h)))
 
-pub member_zero : {X : Type 0} (f : X → ℕ) (xs : List X) (i : ℕ) (x : X) → sum_by f xs ≡ 0 → slice_get xs i ≡ Some x → f x ≡ 0
-member_zero f xs i x z h = let a : f x ≤ sum_by f xs = member_le f xs i x h in omega (arith, a, z)
-
 -- a member of which some property holds weighs no more than its list
 pub any_le : {X : Type 0} (f : X → ℕ) (P : X → Type 0) (n : ℕ) (xs : List X) → ((x : X) → P x → n ≤ f x) → Any P xs → n ≤ sum_by f xs
 any_le f P n [] le (k, x, lt, is, p) = absurd (omega (arith, lt))

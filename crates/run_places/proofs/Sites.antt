@@ -79,9 +79,6 @@ no_elements s e = 0
 
 -- ---- sums
 
-pub sum_from-cons : {X : Type 0} (f : ℕ → X → ℕ) (x : X) (xs : List X) → sum_from f (x ∷ xs) ≡ f 0 x + sum_from (λ i. f (suc i)) xs
-sum_from-cons f x xs = refl
-
 -- one member of a list is replaced
 pub sum_from-set : {X : Type 0} (f : ℕ → X → ℕ) (xs : List X) (i : ℕ) (x y : X) → slice_get xs i ≡ Some x → sum_from f (slice_set xs i y) + f i x ≡ sum_from f xs + f i y
 sum_from-set f [] i x y h = cc
