@@ -21,15 +21,15 @@ fn decoded(rt: HostRuntime) {
     let attempt = |alloc: &Refusing<Global>| read(&rt, decode(alloc, &EXAMPLE));
     assert_eq!(rt;
         requests(&rt, attempt),
-        4,
-        "the head, the text, and the snapshot's two lists"
+        3,
+        "the head, and the snapshot's two lists"
     );
 }
 
 #[test]
 fn read_from_a_reader(rt: HostRuntime) {
     let attempt = |alloc: &Refusing<Global>| read(&rt, read_from(alloc, &mut EXAMPLE.as_slice()));
-    assert_eq!(rt; requests(&rt, attempt), 5, "a piece, and those of `decode`");
+    assert_eq!(rt; requests(&rt, attempt), 4, "a piece, and those of `decode`");
 }
 
 // The example in two pieces. After a refusal the reader stays out of memory.
@@ -47,7 +47,11 @@ fn in_pieces<A: Allocator + Copy>(rt: &impl Abort, alloc: A) -> Outcome {
 #[test]
 fn read_in_pieces(rt: HostRuntime) {
     let attempt = |alloc: &Refusing<Global>| in_pieces(&rt, alloc);
-    assert_eq!(rt; requests(&rt, attempt), 5);
+    assert_eq!(rt;
+        requests(&rt, attempt),
+        5,
+        "the head, the two lists, and an element that has begun, twice"
+    );
 }
 
 // Whether the example is encoded as it should be.

@@ -9,8 +9,8 @@ use refusing_alloc::{Outcome, Refusing, each_refusal};
 use std::alloc::Global;
 use std::test::Fail;
 
-// The requests to read the example: the piece, its text, and the two lists of the snapshot.
-const TO_READ: u64 = 5;
+// The requests to read the example: the piece, the head, and the two lists of the snapshot.
+const TO_READ: u64 = 4;
 
 // The requests of the search for names on two blocks.
 const NAMING: u64 = 11;
