@@ -63,7 +63,8 @@ pub(crate) fn scan(
 }
 
 // Whether a PE is to be scanned before the nearest of those before it: it is nearer, or the first free one of those
-// that are as near. Its holder is looked up only where it is as near, which is rare.
+// that are as near. Most PEs are farther, so one comparison rules them out; the holder is looked up only where a PE is
+// as near, which is rare.
 fn comes_first(far: u64, holder: &Option<u32>, least: u64, least_held: bool) -> bool
     ensures { MatchBool result (far ≤ least) (least ≤ far) }
 {

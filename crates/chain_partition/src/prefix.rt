@@ -32,14 +32,14 @@ impl<A: Allocator> Prefix<A> {
     ///
     /// # Errors
     ///
-    /// Out of memory, where the one list of a number for each element, and one more, was refused.
+    /// Out of memory, where the one list of the sums was refused. It takes half as much room again as the sums need.
     #[tactic(auto, using(lb_certificates::proofs::LoadSums::next_fits))]
     pub fn of<B: Allocator>(alloc: A, loads: &Loads<B>) -> Result<Self, AllocError>
         ensures made { IfOk result (λ prefix. prefix ≡ loads.now) }
     {
-        // Room for a list of all elements too, as `CostTable::of` of block_assignment takes it. An allocator that maps
-        // each large list anew does so up to the greatest size that came back, so that a plan's costs and moves, which
-        // are made when the sums are gone, share memory.
+        // As much room as the table of costs has. An allocator that maps each large list by itself stops doing so for
+        // lists up to the size of one that was given back; so the costs and the moves, which are made when the sums are
+        // gone, share memory.
         let mut sums = Vec::with_capacity(alloc, loads.len() * 3 / 2 + 2)?;
         let mut total = 0;
         sums.push_reserved(total);

@@ -11,8 +11,12 @@ use crate::format::{COUNT_AT, ELEMENT_LEN, LOAD_AT, PLACE_AT, PROCS_AT, SIZE_AT,
 use chare_index::{Limits, Pe};
 use std::alloc::Allocator;
 
-/// Puts the whole elements at the start of these bytes at the ends of the lists, and gives the rest back. The lists
-/// are given room for all elements of the text at once, at most 65,536.
+/// Puts the whole elements with which these bytes begin at the ends of the lists, and returns the bytes behind them. The
+/// lists are given room for all elements of the text first.
+///
+/// # Errors
+///
+/// Out of memory, or else the first size or place that is past its limit.
 pub fn take_whole<'a, A: Allocator>(
     head: &[u8],
     loads: &mut Vec<u32, A>,

@@ -23,7 +23,11 @@ pub struct Held<A: Allocator = Global> {
     pub begun: Vec<u8, A>,
 }
 
-/// Takes in a piece of a text that has its head.
+/// Takes in a piece that begins behind the head.
+///
+/// # Errors
+///
+/// Out of memory, or else the first fault.
 pub fn take_elements<A: Allocator>(held: &mut Held<A>, piece: &[u8]) -> Result<(), DumpError>
     requires held { IsHeld held.old }
     requires headed { length held.old.head.items ≡ head_len }
@@ -74,7 +78,7 @@ fn take_bytes<A: Allocator>(held: &mut Held<A>, bytes: &[u8]) -> Result<(), Dump
     take_run(held, rest)
 }
 
-// Takes in bytes that begin with an element.
+// Takes in bytes that begin where an element does.
 fn take_run<A: Allocator>(held: &mut Held<A>, bytes: &[u8]) -> Result<(), DumpError>
     requires held { IsHeld held.old }
     requires headed { length held.old.head.items ≡ head_len }
@@ -87,7 +91,7 @@ fn take_run<A: Allocator>(held: &mut Held<A>, bytes: &[u8]) -> Result<(), DumpEr
     take_part(held, rest)
 }
 
-// Takes in bytes that belong to one element.
+// Takes in bytes of one element, the one that has begun if there is one.
 fn take_part<A: Allocator>(held: &mut Held<A>, part: &[u8]) -> Result<(), DumpError>
     requires held { IsHeld held.old }
     requires headed { length held.old.head.items ≡ head_len }

@@ -42,7 +42,7 @@ pub fn judge_head(text: &[u8]) -> Result<(), DumpError>
     Ok(())
 }
 
-// The size in the bytes with which element `i` begins, where it is there.
+/// Judges the size of element `i`, of which only these bytes have come, where its size is among them.
 pub fn judge_begun(begun: &[u8], i: usize) -> Result<(), DumpError>
     requires { i ≤ Limits.ELEMENTS }
     ensures fault { MatchResult result

@@ -13,7 +13,7 @@ use chare_index::Pe;
 use lb_certificates::{Loads, Sizes, Snapshot};
 use std::alloc::Allocator;
 
-/// The snapshot of a text that ends here, or that it is short. It takes no memory.
+/// The snapshot, where the text ends here, or `Short` where it is not whole. It takes no memory.
 pub fn snapshot_at_end<A: Allocator>(held: Held<A>) -> Result<Snapshot<A>, DumpError>
     requires { IsHeld held }
     ensures { EndsText (text_of held) result }

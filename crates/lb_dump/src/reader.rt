@@ -13,9 +13,9 @@ use lb_certificates::Snapshot;
 use std::alloc::{Allocator, Global};
 use std::marker::Model;
 
-/// Reads a dump that comes in pieces. Its elements are put into the lists of the snapshot as they come; these take
-/// their room when the head is whole, for as many elements as it says, at most 65,536. Contracts see the reader as
-/// the text so far or, after a fault, as that fault.
+/// Reads a dump that comes in pieces. It puts the elements into the lists of the snapshot as they come. With the first
+/// byte behind the head the lists take room for as many elements as the head says, at most 65,536. Contracts see the
+/// reader as the text so far or, after a fault, as that fault.
 #[derive(Drop)]
 #[derive_where(Debug)]
 pub struct DumpReader<A: Allocator = Global> {
@@ -59,7 +59,8 @@ impl<A: Allocator> DumpReader<A> {
     ///
     /// The first fault of the text so far, with the piece that brings it, and never
     /// [`Short`](DumpError::Short), which only [`end`](Self::end) reports; [`OutOfMemory`](DumpError::OutOfMemory)
-    /// where a request for memory is refused. Each later call returns the same error.
+    /// where a request for memory is refused, in place of a fault that the same piece brings. Each later call returns
+    /// the same error.
     pub fn feed(&mut self, piece: &[u8]) -> Result<(), DumpError>
         ensures fed { Feeds self.old piece.now result self.new }
         ensures no_growth { IfOk self.old (λ text. NeedsNone text piece.now → result ≢ Err DumpError.OutOfMemory) }
