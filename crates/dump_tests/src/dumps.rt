@@ -117,6 +117,45 @@ fn one_byte_is_255(rt: HostRuntime) {
     }
 }
 
+// The offset of the byte that brings this fault: the last one of the number that has byte 255, or the letter itself.
+fn brought_at(offset: usize) -> usize {
+    if offset < 4 { offset } else { offset | 3 }
+}
+
+#[test]
+fn a_fault_comes_with_its_piece(rt: HostRuntime) {
+    for offset in 0..52usize {
+        let mut text = EXAMPLE;
+        text[offset] = 255;
+        let fault = match fault_of_255(offset) {
+            Some(DumpError::Short(_)) => None,
+            fault => fault,
+        };
+        for cut in 0..=52usize {
+            let (start, rest) = text.split_at(cut);
+            let early = if brought_at(offset) < cut {
+                fault
+            } else {
+                None
+            };
+            let mut reader = DumpReader::new(rt.alloc());
+            assert_eq!(rt; reader.feed(start).err(), early, "{offset}, cut at {cut}");
+            assert_eq!(rt; reader.feed(rest).err(), fault, "{offset}, cut at {cut}");
+        }
+    }
+}
+
+#[test]
+fn no_elements(rt: HostRuntime) {
+    let text = b"LBD1\0\0\0\x05\0\0\0\x02\0\0\0\0\0";
+    let (head, surplus) = text.split_at(16);
+    assert!(rt; joined(rt.alloc(), &[head]).is_ok_and(|out| out.as_slice() == head));
+    assert_eq!(rt; decode(rt.alloc(), text).err(), Some(DumpError::Trailing));
+    let mut reader = DumpReader::new(rt.alloc());
+    assert_eq!(rt; reader.feed(head), Ok(()));
+    assert_eq!(rt; reader.feed(surplus), Err(DumpError::Trailing));
+}
+
 #[test]
 fn first_faults(rt: HostRuntime) {
     let mut surplus = [7; 55];
@@ -169,6 +208,15 @@ fn a_reader_that_does_not_fail(rt: HostRuntime) {
         let found = read_from(rt.alloc(), &mut source);
         assert_eq!(rt; found, Ok(example(&rt)), "{at_once} bytes a call");
         assert_eq!(rt; source.calls, calls);
+    }
+}
+
+#[test]
+fn pieces_of_each_length(rt: HostRuntime) {
+    for at_once in 1..=52usize {
+        let mut source = Source::new(&EXAMPLE, at_once, None);
+        let found = read_from(rt.alloc(), &mut source);
+        assert_eq!(rt; found, Ok(example(&rt)), "{at_once} bytes a call");
     }
 }
 

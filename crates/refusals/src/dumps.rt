@@ -54,6 +54,25 @@ fn read_in_pieces(rt: HostRuntime) {
     );
 }
 
+// The example byte by byte, whatever each of them leads to.
+fn byte_by_byte<A: Allocator + Copy>(rt: &impl Abort, alloc: A) -> Outcome {
+    let mut reader = DumpReader::new(alloc);
+    for byte in EXAMPLE {
+        let _ = reader.feed(&[byte]);
+    }
+    read(rt, reader.end())
+}
+
+#[test]
+fn read_byte_by_byte(rt: HostRuntime) {
+    let attempt = |alloc: &Refusing<Global>| byte_by_byte(&rt, alloc);
+    assert_eq!(rt;
+        requests(&rt, attempt),
+        6,
+        "the head, twice, the two lists, and an element that has begun, twice"
+    );
+}
+
 // Whether the example is encoded as it should be.
 fn encodes<A: Allocator>(alloc: A, example: &Snapshot) -> Result<bool, AllocError> {
     Ok(encode(alloc, example)?.as_slice() == EXAMPLE.as_slice())

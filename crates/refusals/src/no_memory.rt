@@ -1,6 +1,6 @@
 //! Calls that promise to take no memory make no request.
 
-use crate::fixtures::{EXAMPLE, example, five, pe, round, three};
+use crate::fixtures::{EXAMPLE, example, five, is_example, pe, round, three};
 use block_assignment::CostTable;
 use chain_partition::Prefix;
 use chare_index::{Index, Pe, Round};
@@ -65,6 +65,17 @@ fn a_reader_of_no_bytes_and_of_too_many(rt: HostRuntime) {
     assert_eq!(rt; reader.feed(&EXAMPLE), Ok(()));
     let fed = alloc.requests();
     assert!(rt; refuses_more(reader));
+    assert_eq!(rt; alloc.requests(), fed);
+}
+
+#[test]
+fn the_end_of_a_reader(rt: HostRuntime) {
+    let alloc = Refusing::new(rt.alloc(), 0);
+    let mut reader = DumpReader::new(&alloc);
+    assert_eq!(rt; reader.feed(&EXAMPLE), Ok(()));
+    let fed = alloc.requests();
+    let read = reader.end();
+    assert!(rt; read.is_ok_and(|snapshot| is_example(&rt, &snapshot)));
     assert_eq!(rt; alloc.requests(), fed);
 }
 
