@@ -12,8 +12,8 @@ use Rattle.lb_dump.specs.Reading.{Progress, Feeds, EndsText, IsAnswer}
 use Rattle.lb_dump.proofs.GoodTexts.{broken_append}
 
 -- the bytes that were read stand at the start of the buffer
-pub front_of : (n len : ℕ) (buffer rest now : List ℕ) → now ≡ take len (buffer ++ rest) → n ≤ length buffer → length buffer ≤ len → take n now ≡ take n buffer
-front_of n len buffer rest now is inside long = ap (take n) is ∙ take-take n len (buffer ++ rest) (omega arith) ∙ take-append-le n buffer rest inside
+pub read_bytes : (n len : ℕ) (buffer rest now : List ℕ) → now ≡ take len (buffer ++ rest) → n ≤ length buffer → length buffer ≤ len → take n now ≡ take n buffer
+read_bytes n len buffer rest now is inside long = ap (take n) is ∙ take-take n len (buffer ++ rest) (omega arith) ∙ take-append-le n buffer rest inside
 
 -- a fault that a byte brings is the first one of the text
 pub fault_by : (text : List ℕ) (e : DumpError) → IsBroken text e → IsFault text e

@@ -20,8 +20,8 @@ loads_are head loads sizes is = record { few = omega (arith, is.whole, few_eleme
 pub sizes_are : (head loads : List ℕ) (sizes : List (ℕ × ℕ)) → IsWhole head loads sizes → IsSizes sizes
 sizes_are head loads sizes is = record { few = omega (arith, is.whole, is.kept.paired, few_elements head loads sizes is.front); small = is.kept.sizes_fit }
 
-pub taken_is : (head loads : List ℕ) (sizes : List (ℕ × ℕ)) → IsWhole head loads sizes → IsTaken (procs_in head) loads sizes
-taken_is head loads sizes is =
+pub is_taken : (head loads : List ℕ) (sizes : List (ℕ × ℕ)) → IsWhole head loads sizes → IsTaken (procs_in head) loads sizes
+is_taken head loads sizes is =
     record {
       some_pe = omega (arith, procs_of head loads sizes is.front, is.front.good.some_pe (omega (arith, len_of head loads sizes is.front)));
       few_pes = few_pes head loads sizes is.front;
@@ -32,7 +32,7 @@ taken_is head loads sizes is =
 pub text_is : (head loads : List ℕ) (sizes : List (ℕ × ℕ)) → IsWhole head loads sizes → IsBytes head → IsText (record { step = step_in head; procs = procs_in head; loads = loads; sizes = sizes }) (front_text head loads sizes)
 text_is head loads sizes is bytes =
     record {
-      snapshot = record { placed = taken_is head loads sizes is; loads = loads_are head loads sizes is; sizes = sizes_are head loads sizes is };
+      snapshot = record { placed = is_taken head loads sizes is; loads = loads_are head loads sizes is; sizes = sizes_are head loads sizes is };
       bytes = front-bytes head loads sizes bytes;
       whole = front-length head loads sizes is.kept.paired ∙ omega (arith, is.front.headed);
       starts = λ k in_letters. is.front.good.starts k in_letters (omega (arith, len_of head loads sizes is.front));

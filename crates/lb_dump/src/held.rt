@@ -1,7 +1,7 @@
 //! What a reader holds of a text, and how it takes in more.
 
-ghost use Rattle.std.specs.Prelude.{◌≡◌, ◌++◌, ◌+◌, ◌*◌, ◌<◌, ◌≤◌, ◌⊎◌, length, OnOk, IfErr};
-ghost use Rattle.lb_dump.specs.Format.{count_in, element_len, head_len, whole_len};
+ghost use Rattle.std.specs.Prelude.{◌≡◌, ◌++◌, ◌+◌, ◌<◌, ◌≤◌, ◌⊎◌, length, OnOk, IfErr};
+ghost use Rattle.lb_dump.specs.Format.{element_len, head_len, whole_len};
 ghost use Rattle.lb_dump.specs.Faults.{IsBroken};
 ghost use Rattle.lb_dump.specs.Held.{IsHeld, text_of};
 

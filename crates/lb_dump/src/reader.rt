@@ -2,7 +2,7 @@ ghost use Rattle.std.specs.Prelude.{◌≡◌, ◌≢◌, ◌++◌, ◌<◌, ◌
 ghost use Rattle.lb_dump.specs.Format.{head_len};
 ghost use Rattle.lb_dump.specs.Faults.{IsGood, IsBroken};
 ghost use Rattle.lb_dump.specs.Held.{IsHeld, text_of};
-ghost use Rattle.lb_dump.specs.Reading.{EndsText, EndsReading, Feeds, NeedsNone};
+ghost use Rattle.lb_dump.specs.Reading.{EndsReading, Feeds, NeedsNone};
 
 use crate::error::DumpError;
 use crate::format::HEAD_LEN;
