@@ -51,7 +51,6 @@ pub fn name_blocks<A: Allocator + Copy, B: Allocator>(
 
 // Of all cheapest namings, the first in dictionary order. The prices stay as they are: the cheapest namings are those
 // that use only pairs whose prices add up to their cost.
-#[tactic(auto, using(crate::proofs::Tight::allowed_if_tight))]
 fn rename<A: Allocator + Copy, B: Allocator>(
     alloc: A,
     table: &CostTable<B>,

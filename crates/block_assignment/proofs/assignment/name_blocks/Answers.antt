@@ -1,12 +1,25 @@
-use Rattle.std.proofs.Common.{◌≡◌, ◌^◌, ◌<◌, ◌≤◌, ℕ, length, slice_index, arith, sym, ◌∙◌, ap, pos, neg_ℤ}
-use Rattle.lb_certificates.specs.Naming.{price_at}
+use Rattle.std.proofs.Common.{◌≡◌, ◌^◌, ◌<◌, ◌≤◌, ℕ, ◌+◌, length, slice_index, arith, sym, ◌∙◌, ap, subst, pos, neg_ℤ}
+use Rattle.lb_certificates.specs.Naming.{IsFirstCheapest, IsNaming, naming_cost, price_at}
 use Rattle.lb_certificates.proofs.Duality.{price_below}
 use Rattle.block_assignment.specs.Table.{Table, cost_at, greatest}
-use Rattle.block_assignment.specs.Search.{State, IsSized, IsTight}
+use Rattle.block_assignment.specs.Search.{State, IsSized, IsMatched, IsTight}
 use Rattle.block_assignment.proofs.Trees.{written}
 use Rattle.block_assignment.proofs.Duality.{found}
 use Rattle.block_assignment.proofs.Prices.{greatest_small, prices_within}
 use Rattle.block_assignment.proofs.assignment.name_blocks.Goals as goal
+
+-- a matching of all blocks is a naming at their prices
+tight_if_all_named : (s : State) → IsSized s → IsMatched s → s.named ≡ s.table.blocks → IsTight s.table.blocks (cost_at s.table) s.paid s.rebate s.names
+tight_if_all_named s sized matched all =
+    record {
+      naming = record {
+        counted = sized.names_length;
+        below = λ b h. matched.below b (omega (arith, h, all));
+        apart = λ a b before h. matched.apart a b before (omega (arith, h, all));
+      };
+      low = matched.low;
+      tight = λ b h. matched.tight b (omega (arith, h, all));
+    }
 
 pub rename-requires-clause-small : goal.rename-requires-clause-small
 rename-requires-clause-small g c =
@@ -71,3 +84,34 @@ returns-clause-bounded g c =
 pub returns-clause-cheapest : goal.returns-clause-cheapest
 returns-clause-cheapest g c = λ others naming.
     price_below c.args.table.now.blocks (cost_at c.args.table.now) _ c.new-2.result c.new-3.result others (returns-clause-proved g c) naming
+
+pub loop-init : goal.loop-init
+loop-init g c =
+    let made = c.in_ok-search.ensures in
+    record { sized = made.sized; matched = made.matched; small = made.small; table = made.table; named = made.none_named }
+
+pub loop-preserved : goal.loop-preserved
+loop-preserved g c =
+    let next = c.name_next.ensures in
+    record { sized = next.sized; matched = next.matched; small = next.small; table = next.table ∙ c.loop.invariant.table; named = next.named ∙ ap (λ n. n + 1) c.loop.invariant.named }
+
+pub rename-requires-clause-tight : goal.rename-requires-clause-tight
+rename-requires-clause-tight g c =
+    let s : State = c.loop.search in
+    let table : s.table ≡ c.args.table.now = c.loop.invariant.table in
+    let same : s.table.blocks ≡ c.args.table.now.blocks = ap (λ (x : Table). x.blocks) table in
+    let all : s.named ≡ s.table.blocks = omega (arith, same, c.loop.invariant.named, c.blocks-blocks.ensures.value, c.loop-test.false, c.loop.auto.counter-end) in
+    let paid : c.deref.result.now ≡ s.paid = c.deref.ensures.value ∙ c.into_parts-names.ensures.paid in
+    let rebate : c.deref-2.result.now ≡ s.rebate = c.deref-2.ensures.value ∙ c.into_parts-names.ensures.rebate in
+    let names : c.deref_mut.result.now ≡ s.names = c.deref_mut.ensures.value ∙ c.into_parts-names.ensures.names in
+    rw (paid, rebate, names) (subst (λ t. IsTight t.blocks (cost_at t) s.paid s.rebate s.names) table (tight_if_all_named s c.loop.invariant.sized c.loop.invariant.matched all))
+
+pub returns-clause-naming : goal.returns-clause-naming
+returns-clause-naming g c =
+    let names : c.rename.new.names ≡ c.new-4.result = sym (c.new-4.ensures.value ∙ written _ _ _ (omega (arith, c.rename.auto.names, c.deref_mut.ensures.len))) in
+    subst (λ n. IsNaming c.args.table.now.blocks n) names c.in_ok-rename.ensures.tight.naming
+
+pub returns-clause-least_naming : goal.returns-clause-least_naming
+returns-clause-least_naming g c =
+    let names : c.rename.new.names ≡ c.new-4.result = sym (c.new-4.ensures.value ∙ written _ _ _ (omega (arith, c.rename.auto.names, c.deref_mut.ensures.len))) in
+    subst (λ n. IsFirstCheapest c.args.table.now.blocks (naming_cost c.args.table.now.blocks (cost_at c.args.table.now)) n) names c.in_ok-rename.ensures.least_naming

@@ -1,10 +1,29 @@
-use Rattle.std.proofs.Common.{◌≡◌, ℕ, List, length, arith, sym, ◌∙◌, subst}
+use Rattle.std.proofs.Common.{◌≡◌, ℕ, List, length, arith, ap, sym, ◌∙◌, subst}
 use Rattle.lb_certificates.specs.Naming.{IsNaming}
 use Rattle.block_assignment.specs.Search.{IsTight}
 use Rattle.block_assignment.specs.Table.{cost_at}
-use Rattle.block_assignment.proofs.Tight.{IsExact, tight_if_allowed, first_from_least}
+use Rattle.block_assignment.proofs.Tight.{IsExact, allowed_if_tight, tight_if_allowed, first_from_least}
 use Rattle.block_assignment.proofs.Trees.{written}
 use Rattle.block_assignment.proofs.assignment.rename.Goals as goal
+
+pub make_least-requires-clause-allowed : goal.make_least-requires-clause-allowed
+make_least-requires-clause-allowed g c =
+    let takers : List (List ℕ) = c.deref.result.now in
+    let same : takers ≡ c.write_takers.new.takers = c.deref.ensures.value ∙ written _ _ _ (omega arith) in
+    let counted : length takers ≡ c.args.table.now.blocks = ap (λ (xs : List (List ℕ)). length xs) same ∙ omega (arith, c.write_takers.auto.takers, c.deref_mut.ensures.len, c.in_ok-takers.ensures.len, c.blocks-blocks.ensures.value) in
+    let exact : IsExact c.args.table.now.blocks (cost_at c.args.table.now) c.args.paid.now c.args.rebate.now takers = subst (λ t. IsExact c.args.table.now.blocks (cost_at c.args.table.now) c.args.paid.now c.args.rebate.now t) (sym same) c.write_takers.ensures.exact in
+    allowed_if_tight c.args.table.now.blocks (cost_at c.args.table.now) c.args.paid.now c.args.rebate.now c.args.names.now takers counted exact c.requires.tight
+
+pub returns-clause-tight : goal.returns-clause-tight
+returns-clause-tight g c =
+    let blocks : ℕ = c.args.table.now.blocks in
+    let cost : ℕ → ℕ → ℕ = cost_at c.args.table.now in
+    let takers : List (List ℕ) = c.deref.result.now in
+    let same : takers ≡ c.write_takers.new.takers = c.deref.ensures.value ∙ written _ _ _ (omega arith) in
+    let counted : length takers ≡ blocks = omega arith in
+    let exact : IsExact blocks cost c.args.paid.now c.args.rebate.now takers = subst (λ t. IsExact blocks cost c.args.paid.now c.args.rebate.now t) (sym same) c.write_takers.ensures.exact in
+    let naming : IsNaming blocks c.make_least.new.names = subst (λ n. IsNaming n c.make_least.new.names) counted c.make_least.ensures.naming in
+    tight_if_allowed blocks cost c.args.paid.now c.args.rebate.now c.args.names.now c.make_least.new.names takers counted exact c.requires.tight naming c.make_least.ensures.allowed
 
 pub returns-clause-least_naming : goal.returns-clause-least_naming
 returns-clause-least_naming g c =
