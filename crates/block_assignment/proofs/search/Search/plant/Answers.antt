@@ -6,6 +6,19 @@ use Rattle.block_assignment.proofs.Prices.{rebate_small}
 use Rattle.block_assignment.proofs.Trees.{written, planted_tree, Plants}
 use Rattle.block_assignment.proofs.search.Search.plant.Goals as goal
 
+pub scan-requires-clause-low : goal.scan-requires-clause-low
+scan-requires-clause-low g c =
+    let s : State = record { table = c.self.inside.table.now; named = c.self.inside.named; names = c.self.inside.names.items; holders = c.self.inside.holders.items; paid = c.self.inside.paid.items; rebate = c.self.inside.rebate.items; rank = c.self.inside.rank.items; distance = c.self.inside.distance.items; from = c.self.inside.from.items } in
+    let v : c.args.self.now ≡ s = sym c.self.view_is in
+    let sized : IsSized s = subst (λ z. IsSized z) v c.requires.sized in
+    let matched : IsMatched s = subst (λ z. IsMatched z) v c.requires.matched in
+    let unnamed : s.named < s.table.blocks = subst (λ (z : State). z.named < z.table.blocks) v c.requires.unnamed in
+    let block : s.named < s.table.blocks = unnamed in
+    let paid : c.index.result.now ≡ slice_index s.paid s.named = get_or_read s.paid s.named c.index.result.now (omega (arith, unnamed, sized.paid_length)) c.index.ensures 0 in
+    rw c.deref.ensures.value (λ p inside.
+    let within : p < s.table.blocks = omega (arith, inside, c.row.ensures.counted) in
+    omega (arith, paid, c.row.ensures.costs p within, matched.low s.named p unnamed within))
+
 pub scan-requires-clause-small : goal.scan-requires-clause-small
 scan-requires-clause-small g c =
     let s : State = record { table = c.self.inside.table.now; named = c.self.inside.named; names = c.self.inside.names.items; holders = c.self.inside.holders.items; paid = c.self.inside.paid.items; rebate = c.self.inside.rebate.items; rank = c.self.inside.rank.items; distance = c.self.inside.distance.items; from = c.self.inside.from.items } in
