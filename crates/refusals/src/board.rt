@@ -43,6 +43,24 @@ fn two_reported<'a>(
     Some(board)
 }
 
+// Whether the board waits for the decision of its first round.
+fn waits(board: &Board<&Refusing<Global>>, first: Round) -> bool {
+    board.is_complete() && board.decision_for(first).is_none()
+}
+
+// What the answer of the first decision comes to: where it is refused, nothing is decided.
+fn comes_to(
+    board: &Board<&Refusing<Global>>,
+    answer: Result<Round, BoardError>,
+    first: Round,
+) -> Outcome {
+    match answer {
+        Ok(round) if round == first && board.rounds().len() == 1 => Outcome::Right,
+        Err(BoardError::OutOfMemory) if waits(board, first) => Outcome::Refused,
+        _ => Outcome::Wrong,
+    }
+}
+
 // Whether the board has decided its first round alone, so that both elements stay.
 fn has_decided(board: &Board<&Refusing<Global>>, first: Round) -> bool {
     let Some(decision) = board.decision_for(first) else {
@@ -51,31 +69,31 @@ fn has_decided(board: &Board<&Refusing<Global>>, first: Round) -> bool {
     decision.moved == 0 && board.rounds().len() == 1
 }
 
-// Whether the board decides its first round now, so that both elements stay.
-fn decides(board: &mut Board<&Refusing<Global>>, first: Round) -> bool {
-    board.decide() == Ok(first) && has_decided(board, first)
+// The outcome of a decision. Where it was refused, the same call now decides the round, so that both elements stay.
+fn asked_again(mut board: Board<&Refusing<Global>>, first: Round, outcome: Outcome) -> Outcome {
+    if outcome != Outcome::Refused {
+        return outcome;
+    }
+    match board.decide() {
+        Ok(round) if round == first && has_decided(&board, first) => Outcome::Refused,
+        _ => Outcome::Wrong,
+    }
 }
 
-// What a decision comes to: where it is refused, nothing is decided, and the same call decides the round.
-fn decides_or_waits(alloc: &Refusing<Global>, first: Round, places: [Pe; 2]) -> Outcome {
+// What a decision comes to.
+fn one_decides(alloc: &Refusing<Global>, first: Round, places: [Pe; 2]) -> Outcome {
     let Some(mut board) = two_reported(alloc, first, places) else {
         return Outcome::Refused;
     };
-    let refused = board.decide();
-    match refused {
-        Ok(round) if round == first && board.rounds().len() == 1 => Outcome::Right,
-        Err(BoardError::OutOfMemory)
-            if board.is_complete()
-                && board.decision_for(first).is_none()
-                && decides(&mut board, first) => { Outcome::Refused }
-        _ => Outcome::Wrong,
-    }
+    let answer = board.decide();
+    let outcome = comes_to(&board, answer, first);
+    asked_again(board, first, outcome)
 }
 
 #[test]
 fn decisions_of_a_board(rt: HostRuntime) {
     let (first, places) = (round(&rt, 1), [pe(&rt, 0), pe(&rt, 1)]);
-    let attempt = |alloc: &Refusing<Global>| decides_or_waits(alloc, first, places);
+    let attempt = |alloc: &Refusing<Global>| one_decides(alloc, first, places);
     assert_eq!(rt;
         requests(&rt, attempt),
         22,
@@ -93,14 +111,9 @@ fn three_decide<R: Threads + Sync>(
     let Some(mut board) = two_reported(alloc, first, places) else {
         return Outcome::Refused;
     };
-    match board.decide_with(rt, 3, &NoGate) {
-        Ok(round) if round == first && board.rounds().len() == 1 => Outcome::Right,
-        Err(BoardError::OutOfMemory)
-            if board.is_complete()
-                && board.decision_for(first).is_none()
-                && decides(&mut board, first) => { Outcome::Refused }
-        _ => Outcome::Wrong,
-    }
+    let answer = board.decide_with(rt, 3, &NoGate);
+    let outcome = comes_to(&board, answer, first);
+    asked_again(board, first, outcome)
 }
 
 #[test]

@@ -22,10 +22,18 @@ fn new_databases(rt: HostRuntime) {
     let first = round(&rt, 1);
     let attempt = |alloc: &Refusing<Global>| opens(LoadDb::new(alloc, 3), first);
     assert_eq!(rt; requests(&rt, attempt), 2, "the loads and the reports");
-    let attempt = |alloc: &Refusing<Global>| opens(
-        LoadDb::new(alloc, 0).and_then(|_| LoadDb::new(alloc, 3)),
-        first,
-    );
+}
+
+// A database of three elements, made after one of none.
+fn none_and_three(alloc: &Refusing<Global>) -> Result<LoadDb<&Refusing<Global>>, DbError> {
+    LoadDb::new(alloc, 0)?;
+    LoadDb::new(alloc, 3)
+}
+
+#[test]
+fn databases_of_no_elements(rt: HostRuntime) {
+    let first = round(&rt, 1);
+    let attempt = |alloc: &Refusing<Global>| opens(none_and_three(alloc), first);
     assert_eq!(rt; requests(&rt, attempt), 2, "none for no elements");
 }
 
@@ -39,28 +47,39 @@ fn databases_in_a_later_round(rt: HostRuntime) {
     assert_eq!(rt; requests(&rt, attempt), 2, "the loads and the reports");
 }
 
-// What the snapshot of one element comes to, whose report is taken on PE 0.
-fn snaps(alloc: &Refusing<Global>, round: Round, pe: Pe) -> Outcome {
-    let Ok(mut database) = LoadDb::new(alloc, 1) else {
-        return Outcome::Refused;
-    };
-    if database.charge(0, 7).is_err() || database.report(0, round, 9, pe).is_err() {
-        return Outcome::Wrong;
-    }
+// Whether the one element of a database does its work and reports it.
+fn reports(database: &mut LoadDb<&Refusing<Global>>, round: Round, pe: Pe) -> bool {
+    database.charge(0, 7).is_ok() && database.report(0, round, 9, pe).is_ok()
+}
+
+// What the snapshot of its one element comes to, which is on PE 0 or 1.
+fn snaps(database: &LoadDb<&Refusing<Global>>) -> Outcome {
     if !database.stands_on(2) {
         return Outcome::Wrong;
     }
-    match database.snapshot(5, 2) {
+    match &database.snapshot(5, 2) {
         Ok(snapshot) if snapshot.loads().as_slice() == [7].as_slice() => Outcome::Right,
         Err(DbError::OutOfMemory) => Outcome::Refused,
         _ => Outcome::Wrong,
     }
 }
 
+// The same of a database that is made for it, whose element reports on this PE.
+fn makes_and_snaps(alloc: &Refusing<Global>, round: Round, pe: Pe) -> Outcome {
+    let Ok(mut database) = LoadDb::new(alloc, 1) else {
+        return Outcome::Refused;
+    };
+    if reports(&mut database, round, pe) {
+        snaps(&database)
+    } else {
+        Outcome::Wrong
+    }
+}
+
 #[test]
 fn snapshots(rt: HostRuntime) {
     let (round, pe) = (round(&rt, 1), pe(&rt, 0));
-    let attempt = |alloc: &Refusing<Global>| snaps(alloc, round, pe);
+    let attempt = |alloc: &Refusing<Global>| makes_and_snaps(alloc, round, pe);
     assert_eq!(rt;
         requests(&rt, attempt),
         4,

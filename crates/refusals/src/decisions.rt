@@ -69,20 +69,35 @@ fn two_divide<R: Threads + Sync, A: Allocator + Copy>(
 }
 
 #[test]
-fn probes_and_divisions(rt: HostRuntime) {
+fn running_sums(rt: HostRuntime) {
     let five = five(&rt);
     let attempt = |alloc: &Refusing<Global>| Outcome::from(sums_five(alloc, &five));
     assert_eq!(rt; requests(&rt, attempt), 1, "the running sums");
+}
+
+#[test]
+fn probes(rt: HostRuntime) {
+    let five = five(&rt);
     for limit in [9, 8] {
         let attempt = |alloc: &Refusing<Global>| Outcome::from(probes_five(alloc, &five, limit));
         assert_eq!(rt; requests(&rt, attempt), 2, "limit {limit}");
     }
+}
+
+#[test]
+fn divisions(rt: HostRuntime) {
+    let five = five(&rt);
     let attempt = |alloc: &Refusing<Global>| Outcome::from(one_divides(alloc, &five));
     assert_eq!(rt;
         requests(&rt, attempt),
         DIVIDING,
         "the running sums, the cuts and the fence"
     );
+}
+
+#[test]
+fn divisions_by_two_workers(rt: HostRuntime) {
+    let five = five(&rt);
     let attempt = |alloc: &Refusing<Global>| Outcome::from(two_divide(&rt, alloc, &five));
     assert_eq!(rt; requests(&rt, attempt), DIVIDING, "none for the workers");
 }
@@ -107,7 +122,8 @@ fn tables<A: Allocator + Copy>(alloc: A, sizes: &Sizes, cuts: &Cuts) -> Result<b
     }
     let table = CostTable::of(alloc, sizes, cuts)?;
     let first = (table.cost(0, 0), table.cost(0, 1));
-    Ok(table.blocks() == 2 && first == (9, 10) && (table.cost(1, 0), table.cost(1, 1)) == (0, 8))
+    let second = (table.cost(1, 0), table.cost(1, 1));
+    Ok((table.blocks(), first, second) == (2, (9, 10), (0, 8)))
 }
 
 #[test]

@@ -1,6 +1,7 @@
 //! Calls that promise to take no memory make no request.
 
-use crate::fixtures::{EXAMPLE, example, five, is_example, pe, round, three};
+use crate::dumps::read;
+use crate::fixtures::{EXAMPLE, example, five, pe, round, three};
 use block_assignment::CostTable;
 use chain_partition::Prefix;
 use chare_index::{Index, Pe, Round};
@@ -8,7 +9,7 @@ use lb_certificates::{Cuts, Loads, Sizes, Snapshot, check_division, check_naming
 use lb_database::{DbError, LoadDb};
 use lb_dump::{DumpReader, write_to};
 use lb_strategy::{Decision, check, plan};
-use refusing_alloc::Refusing;
+use refusing_alloc::{Outcome, Refusing};
 use std::alloc::{AllocError, Allocator, Global};
 use std::process::Abort;
 
@@ -31,52 +32,61 @@ fn refused(db: &mut LoadDb<Lent<'_>>, first: Round, pe: Pe) -> bool {
 
 // Whether a round has just begun after this one, with nothing done.
 fn has_begun(db: &LoadDb<Lent<'_>>, first: Round) -> bool {
-    let three = db.stands_on(1) && db.len() == 3 && !db.is_empty();
-    let nothing = !db.is_complete() && db.load(0) == Some(0) && db.reported(0).is_none();
-    three && nothing && db.round() != first
+    let whole = (db.stands_on(1), db.len(), db.is_empty(), db.is_complete());
+    let nothing = (db.load(0), db.reported(0).is_none());
+    whole == (true, 3, false, false) && nothing == (Some(0), true) && db.round() != first
 }
 
 // Whether a database of three elements refuses what it should, and then has a whole round.
-fn goes_on(db: &mut LoadDb<Lent<'_>>, first: Round, pe: Pe) -> bool {
-    refused(db, first, pe) && whole_round(db, first, pe).is_ok() && has_begun(db, first)
+fn goes_on(mut db: LoadDb<Lent<'_>>, first: Round, pe: Pe) -> bool {
+    let refused = refused(&mut db, first, pe);
+    let whole = whole_round(&mut db, first, pe).is_ok();
+    (refused, whole, has_begun(&db, first)) == (true, true, true)
 }
 
 #[test]
 fn a_database_that_was_made(rt: HostRuntime) {
     let alloc = Refusing::new(rt.alloc(), 0);
-    let mut db = LoadDb::new(&alloc, 3).expect(&rt, "out of memory");
-    assert!(rt; goes_on(&mut db, round(&rt, 1), pe(&rt, 0)));
+    let db = LoadDb::new(&alloc, 3).expect(&rt, "out of memory");
+    assert!(rt; goes_on(db, round(&rt, 1), pe(&rt, 0)));
     assert_eq!(rt; alloc.requests(), 2, "its two lists");
+}
+
+// A reader that has read no bytes, without a request, and then the example.
+fn fed<'a>(rt: &impl Abort, alloc: Lent<'a>) -> DumpReader<Lent<'a>> {
+    let mut reader = DumpReader::new(alloc);
+    assert_eq!(rt; (reader.feed(&[]), alloc.requests()), (Ok(()), 0));
+    assert_eq!(rt; reader.feed(&EXAMPLE), Ok(()));
+    reader
 }
 
 // Whether a reader that has read the example takes no bytes, and refuses more and the end behind them.
 fn refuses_more(mut reader: DumpReader<Lent<'_>>) -> bool {
     let no_bytes = reader.feed(&[]).is_ok();
-    let more = reader.feed(&EXAMPLE).is_err();
-    let again = reader.feed(&EXAMPLE).is_err();
-    no_bytes && more && again && reader.end().is_err()
+    let more = [
+        reader.feed(&EXAMPLE).is_err(),
+        reader.feed(&EXAMPLE).is_err(),
+    ];
+    let end = reader.end().is_err();
+    [no_bytes, more[0], more[1], end] == [true; 4]
 }
 
 #[test]
 fn a_reader_of_no_bytes_and_of_too_many(rt: HostRuntime) {
     let alloc = Refusing::new(rt.alloc(), 0);
-    let mut reader = DumpReader::new(&alloc);
-    assert!(rt; reader.feed(&[]).is_ok() && alloc.requests() == 0);
-    assert_eq!(rt; reader.feed(&EXAMPLE), Ok(()));
-    let fed = alloc.requests();
+    let reader = fed(&rt, &alloc);
+    let made = alloc.requests();
     assert!(rt; refuses_more(reader));
-    assert_eq!(rt; alloc.requests(), fed);
+    assert_eq!(rt; alloc.requests(), made);
 }
 
 #[test]
 fn the_end_of_a_reader(rt: HostRuntime) {
     let alloc = Refusing::new(rt.alloc(), 0);
-    let mut reader = DumpReader::new(&alloc);
-    assert_eq!(rt; reader.feed(&EXAMPLE), Ok(()));
-    let fed = alloc.requests();
-    let read = reader.end();
-    assert!(rt; read.is_ok_and(|snapshot| is_example(&rt, &snapshot)));
-    assert_eq!(rt; alloc.requests(), fed);
+    let reader = fed(&rt, &alloc);
+    let made = alloc.requests();
+    assert_eq!(rt; read(&rt, reader.end()), Outcome::Right);
+    assert_eq!(rt; alloc.requests(), made);
 }
 
 // Whether the example is written as it should be.
@@ -85,13 +95,18 @@ fn is_written(rt: &impl AllocGlobal, example: &Snapshot<Lent<'_>>) -> bool {
     write_to(&mut written, example).is_ok() && written.as_slice() == EXAMPLE.as_slice()
 }
 
+// Whether it is, and how many requests that takes.
+fn written<R: Abort + AllocGlobal>(rt: &R, alloc: Lent<'_>) -> (bool, u64) {
+    let snapshot = example(rt, alloc);
+    let made = alloc.requests();
+    let right = is_written(rt, &snapshot);
+    (right, alloc.requests().wrapping_sub(made))
+}
+
 #[test]
 fn a_dump_that_is_written(rt: HostRuntime) {
     let alloc = Refusing::new(rt.alloc(), 0);
-    let snapshot = example(&rt, &alloc);
-    let made = alloc.requests();
-    assert!(rt; is_written(&rt, &snapshot));
-    assert_eq!(rt; alloc.requests(), made);
+    assert_eq!(rt; written(&rt, &alloc), (true, 0));
 }
 
 // Whether the decision on the example is accepted, in parts and whole, and not for three PEs.
@@ -104,14 +119,19 @@ fn is_accepted<A: Allocator>(snapshot: &Snapshot<A>, decision: &Decision<A>) -> 
         && check(snapshot, 3, decision).is_err()
 }
 
+// Whether the decision planned on the snapshot is accepted, and how many requests that takes.
+fn accepted<'a>(rt: &impl Abort, alloc: Lent<'a>, snapshot: &Snapshot<Lent<'a>>) -> (bool, u64) {
+    let decision = plan(alloc, snapshot, 2).expect(rt, "out of memory");
+    let made = alloc.requests();
+    let right = is_accepted(snapshot, &decision);
+    (right, alloc.requests().wrapping_sub(made))
+}
+
 #[test]
 fn a_decision_that_is_checked(rt: HostRuntime) {
     let alloc = Refusing::new(rt.alloc(), 0);
     let snapshot = example(&rt, &alloc);
-    let decision = plan(&alloc, &snapshot, 2).expect(&rt, "out of memory");
-    let made = alloc.requests();
-    assert!(rt; is_accepted(&snapshot, &decision));
-    assert_eq!(rt; alloc.requests(), made);
+    assert_eq!(rt; accepted(&rt, &alloc, &snapshot), (true, 0));
 }
 
 // Whether the example's costs are read without a request.

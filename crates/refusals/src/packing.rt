@@ -3,34 +3,42 @@
 use crate::fixtures::requests;
 use pup_pack::{Bytes, Items, Pup, PupError};
 use refusing_alloc::{Outcome, Refusing};
-use std::alloc::{Allocator, Global};
+use std::alloc::{AllocError, Allocator, Global};
 
 // The list 1 2 and the bytes 7 8 9.
 const PAIR: [u8; 19] = [0, 0, 0, 2, 0, 0, 0, 1, 0, 0, 0, 2, 0, 0, 0, 3, 7, 8, 9];
 
 type Pair<A> = (Items<u32, A>, Bytes<A>);
 
+// The pair whose pack that is.
+fn pair<A: Allocator + Copy>(alloc: A) -> Result<Pair<A>, AllocError> {
+    let list = Items::new(Vec::from_slice(alloc, &[1, 2])?);
+    Ok((list, Bytes::new(Vec::from_slice(alloc, &[7, 8, 9])?)))
+}
+
 // What packing into a vector that holds one byte comes to. The vector is to be as before where it is refused.
-fn packs<A: Allocator + Copy>(alloc: A) -> Outcome {
-    let Ok(list) = Vec::from_slice(alloc, &[1_u32, 2]) else {
-        return Outcome::Refused;
-    };
-    let Ok(bytes) = Vec::from_slice(alloc, &[7, 8, 9]) else {
-        return Outcome::Refused;
-    };
+fn packs<A: Allocator + Copy>(alloc: A, pair: &Pair<A>) -> Outcome {
     let Ok(mut out) = Vec::from_slice(alloc, &[255]) else {
         return Outcome::Refused;
     };
-    match (Items::new(list), Bytes::new(bytes)).pack_into(&mut out) {
+    match pair.pack_into(&mut out) {
         Ok(()) if out.len() == 20 && &out[1..] == PAIR.as_slice() => Outcome::Right,
         Err(PupError::OutOfMemory) if out.as_slice() == [255].as_slice() => Outcome::Refused,
         _ => Outcome::Wrong,
     }
 }
 
+// The same, with the pair made first.
+fn makes_and_packs<A: Allocator + Copy>(alloc: A) -> Outcome {
+    match &pair(alloc) {
+        Ok(pair) => packs(alloc, pair),
+        Err(AllocError) => Outcome::Refused,
+    }
+}
+
 // What unpacking comes to.
 fn unpacks<A: Allocator + Copy>(alloc: A) -> Outcome {
-    match <Pair<A> as Pup<A>>::unpack(alloc, &PAIR) {
+    match &<Pair<A> as Pup<A>>::unpack(alloc, &PAIR) {
         Ok((pair, 19))
             if pair.0.as_slice() == [1, 2].as_slice()
                 && pair.1.as_slice() == [7, 8, 9].as_slice() => { Outcome::Right }
@@ -41,7 +49,7 @@ fn unpacks<A: Allocator + Copy>(alloc: A) -> Outcome {
 
 #[test]
 fn packs_and_their_values(rt: HostRuntime) {
-    let attempt = |alloc: &Refusing<Global>| packs(alloc);
+    let attempt = |alloc: &Refusing<Global>| makes_and_packs(alloc);
     assert_eq!(rt;
         requests(&rt, attempt),
         4,
@@ -106,17 +114,20 @@ fn lengths_and_claims_take_no_memory(rt: HostRuntime) {
     assert_eq!(rt; alloc.requests(), 0);
 }
 
-// Whether packing an empty list and a number is refused once, with nothing packed, and then not again.
-fn packs_when_asked_again(alloc: Lent<'_>) -> bool {
+// Why an empty list and a number are not packed, three times, and how much is packed after the first.
+fn packed_three_times(alloc: Lent<'_>) -> ([Option<PupError>; 3], usize) {
     let empty: (Items<u32, Lent<'_>>, u64) = (Items::new(Vec::new(alloc)), 7);
     let mut out = Vec::new(alloc);
-    let refused = empty.pack_into(&mut out) == Err(PupError::OutOfMemory) && out.is_empty();
-    refused && empty.pack_into(&mut out).is_ok() && empty.pack_into(&mut out).is_ok()
+    let first = empty.pack_into(&mut out).err();
+    let packed = out.len();
+    let second = empty.pack_into(&mut out).err();
+    ([first, second, empty.pack_into(&mut out).err()], packed)
 }
 
 #[test]
 fn a_refused_pack_is_packed_when_asked_again(rt: HostRuntime) {
     let alloc = Refusing::new(rt.alloc(), 1);
-    assert!(rt; packs_when_asked_again(&alloc));
+    let refused_once = [Some(PupError::OutOfMemory), None, None];
+    assert_eq!(rt; packed_three_times(&alloc), (refused_once, 0));
     assert_eq!(rt; alloc.requests(), 3);
 }

@@ -3,7 +3,6 @@
 use refusing_alloc::{Failure, Outcome, Refusing, each_refusal};
 use std::alloc::{AllocError, Allocator, Global};
 use std::sync::atomic::{AtomicU64, Ordering};
-use std::test::Fail;
 use std::thread::{self, Threads};
 
 type Lent<'a> = &'a Refusing<Global>;
@@ -22,6 +21,13 @@ fn sums(alloc: Lent<'_>) -> Outcome {
     Outcome::from(sum_of_two(alloc).map(|sum| sum == 42))
 }
 
+// The sum of two, whether a request was refused, and how many were made, where the one of this turn is refused.
+fn sum_at(alloc: Global, turn: u64) -> (Result<u64, AllocError>, bool, u64) {
+    let alloc = Refusing::new(alloc, turn);
+    let sum = sum_of_two(&alloc);
+    (sum, alloc.has_refused(), alloc.requests())
+}
+
 #[test]
 fn one_request_is_refused(rt: HostRuntime) {
     for (turn, sum, requests) in [
@@ -30,10 +36,8 @@ fn one_request_is_refused(rt: HostRuntime) {
         (2, Err(AllocError), 2),
         (3, Ok(42), 2),
     ] {
-        let alloc = Refusing::new(rt.alloc(), turn);
-        assert_eq!(rt; sum_of_two(&alloc), sum, "turn {turn}");
-        assert_eq!(rt; alloc.has_refused(), sum.is_err(), "turn {turn}");
-        assert_eq!(rt; alloc.requests(), requests, "turn {turn}");
+        let expected = (sum, sum.is_err(), requests);
+        assert_eq!(rt; sum_at(rt.alloc(), turn), expected, "turn {turn}");
     }
 }
 
@@ -44,12 +48,16 @@ fn granted<R: Threads, A: Allocator + Copy + Send>(rt: &R, alloc: A) -> usize {
     mine.wrapping_add(theirs)
 }
 
+// How many are granted and how many were made, and whether one was refused.
+fn granted_and_made<R: Threads>(rt: &R, alloc: Lent<'_>) -> (usize, u64, bool) {
+    let granted = granted(rt, alloc);
+    (granted, alloc.requests(), alloc.has_refused())
+}
+
 #[test]
 fn two_threads_share_one_refusal(rt: HostRuntime) {
     let alloc = Refusing::new(rt.alloc(), 9);
-    assert_eq!(rt; granted(&rt, &alloc), 9999);
-    assert_eq!(rt; alloc.requests(), 10_000);
-    assert!(rt; alloc.has_refused());
+    assert_eq!(rt; granted_and_made(&rt, &alloc), (9999, 10_000, true));
 }
 
 // Each refusal of an attempt that comes to these outcomes where it is refused and where it has its sum.
@@ -73,20 +81,30 @@ fn thirty(alloc: Lent<'_>) -> Outcome {
 
 #[test]
 fn each_of_many_requests_is_refused(rt: HostRuntime) {
-    assert_eq!(rt; each_refusal(rt.alloc(), 31, thirty), Ok(30));
-    assert_eq!(rt;
-        each_refusal(rt.alloc(), 30, thirty),
-        Err(Failure::TooManyTurns(30))
-    );
-    for turn in [1, 9, 10, 30] {
-        let alloc = Refusing::new(rt.alloc(), turn);
-        assert_eq!(rt; thirty(&alloc), Outcome::Refused);
-        assert_eq!(rt; alloc.requests(), turn);
-        assert!(rt; alloc.has_refused());
+    let too_many = Err(Failure::TooManyTurns(30));
+    for (most_turns, found) in [(31, Ok(30)), (30, too_many)] {
+        assert_eq!(rt; each_refusal(rt.alloc(), most_turns, thirty), found);
     }
-    let alloc = Refusing::new(rt.alloc(), 31);
-    assert_eq!(rt; thirty(&alloc), Outcome::Right);
-    assert!(rt; !alloc.has_refused());
+}
+
+// What thirty requests come to, how many were made and whether one was refused, where the one of this turn is.
+fn thirty_at(alloc: Global, turn: u64) -> (Outcome, u64, bool) {
+    let alloc = Refusing::new(alloc, turn);
+    let outcome = thirty(&alloc);
+    (outcome, alloc.requests(), alloc.has_refused())
+}
+
+#[test]
+fn one_of_many_requests_is_refused(rt: HostRuntime) {
+    for (turn, outcome, requests, refused) in [
+        (1, Outcome::Refused, 1, true),
+        (9, Outcome::Refused, 9, true),
+        (10, Outcome::Refused, 10, true),
+        (30, Outcome::Refused, 30, true),
+        (31, Outcome::Right, 30, false),
+    ] {
+        assert_eq!(rt; thirty_at(rt.alloc(), turn), (outcome, requests, refused));
+    }
 }
 
 // A sum of two that comes to this outcome where its second request is refused.
@@ -119,6 +137,12 @@ fn after(runs: &AtomicU64, first: u64, alloc: Lent<'_>, outcome: Outcome) -> Out
     }
 }
 
+// What each refusal of such an attempt comes to.
+fn looked_at(alloc: Global, first: u64, outcome: Outcome) -> Result<u64, Failure> {
+    let runs = AtomicU64::new(0);
+    each_refusal(alloc, 9, |lent| after(&runs, first, lent, outcome))
+}
+
 #[test]
 fn each_run_is_looked_at(rt: HostRuntime) {
     // Runs 0, 2 and 4 are those of turns 1 to 3, and runs 1 and 3 the ones after turns 1 and 2.
@@ -132,9 +156,11 @@ fn each_run_is_looked_at(rt: HostRuntime) {
         (4, Outcome::Wrong, Err(Failure::Wrong(3))),
         (5, Outcome::Wrong, Ok(2)),
     ] {
-        let runs = AtomicU64::new(0);
-        let attempt = |alloc: Lent<'_>| after(&runs, first, alloc, outcome);
-        assert_eq!(rt; each_refusal(rt.alloc(), 9, attempt), found, "{first} runs");
+        assert_eq!(rt;
+            looked_at(rt.alloc(), first, outcome),
+            found,
+            "{first} runs"
+        );
     }
 }
 
@@ -148,57 +174,71 @@ fn asks_for_more(alloc: Lent<'_>) -> Outcome {
     Outcome::Right
 }
 
-#[test]
-fn each_fault_is_told(rt: HostRuntime) -> Result<(), Fail> {
-    let alloc = rt.alloc();
-    assert_eq!(rt; each_refusal(alloc, 3, sums), Ok(2));
-    assert_eq!(rt; each_refusal(alloc, 1, |_| Outcome::Right), Ok(0));
+// Each refusal of an attempt that comes to this outcome without a request.
+fn asks_for_none(alloc: Global, most_turns: u64, outcome: Outcome) -> Result<u64, Failure> {
+    each_refusal(alloc, most_turns, |_| outcome)
+}
 
-    let faults = [
+#[test]
+fn attempts_without_a_fault(rt: HostRuntime) {
+    assert_eq!(rt; each_refusal(rt.alloc(), 3, sums), Ok(2));
+    assert_eq!(rt; asks_for_none(rt.alloc(), 1, Outcome::Right), Ok(0));
+}
+
+// What each refusal of an attempt with a fault comes to.
+fn faults(alloc: Global) -> [Result<u64, Failure>; 8] {
+    [
+        asks_for_none(alloc, 9, Outcome::Wrong),
+        asks_for_none(alloc, 9, Outcome::Refused),
+        sums_told(alloc, Outcome::Wrong, Outcome::Right),
+        sums_told(alloc, Outcome::Right, Outcome::Right),
+        sums_told(alloc, Outcome::Refused, Outcome::Wrong),
+        sums_told(alloc, Outcome::Refused, Outcome::Refused),
+        each_refusal(alloc, 2, sums),
+        each_refusal(alloc, 9, asks_for_more),
+    ]
+}
+
+#[test]
+fn each_fault_is_found(rt: HostRuntime) {
+    let expected = [
+        Err(Failure::Wrong(1)),
+        Err(Failure::GaveUp(1)),
+        Err(Failure::Wrong(1)),
+        Err(Failure::Ignored(1)),
+        Err(Failure::WrongAfter(1)),
+        Err(Failure::GaveUpAfter(1)),
+        Err(Failure::TooManyTurns(2)),
+        Err(Failure::TooManyTurns(9)),
+    ];
+    assert_eq!(rt; faults(rt.alloc()), expected);
+}
+
+// Whether a failure is told in these words.
+fn is_told(alloc: Global, failure: Failure, text: &str) -> bool {
+    match format!(in alloc; "{failure}") {
+        Ok(told) => told.as_str() == text,
+        Err(AllocError) => false,
+    }
+}
+
+#[test]
+fn each_fault_is_told(rt: HostRuntime) {
+    for (failure, text) in [
+        (Failure::Wrong(1), "turn 1: wrong"),
+        (Failure::GaveUp(1), "turn 1: gave up without a refusal"),
+        (Failure::Ignored(1), "turn 1: a refusal was not told"),
         (
-            each_refusal(alloc, 9, |_| Outcome::Wrong),
-            Failure::Wrong(1),
-            "turn 1: wrong",
-        ),
-        (
-            each_refusal(alloc, 9, |_| Outcome::Refused),
-            Failure::GaveUp(1),
-            "turn 1: gave up without a refusal",
-        ),
-        (
-            sums_told(alloc, Outcome::Wrong, Outcome::Right),
-            Failure::Wrong(1),
-            "turn 1: wrong",
-        ),
-        (
-            sums_told(alloc, Outcome::Right, Outcome::Right),
-            Failure::Ignored(1),
-            "turn 1: a refusal was not told",
-        ),
-        (
-            sums_told(alloc, Outcome::Refused, Outcome::Wrong),
             Failure::WrongAfter(1),
             "after turn 1: wrong without a refusal",
         ),
         (
-            sums_told(alloc, Outcome::Refused, Outcome::Refused),
             Failure::GaveUpAfter(1),
             "after turn 1: gave up without a refusal",
         ),
-        (
-            each_refusal(alloc, 2, sums),
-            Failure::TooManyTurns(2),
-            "2 turns did not end the refusals",
-        ),
-        (
-            each_refusal(alloc, 9, asks_for_more),
-            Failure::TooManyTurns(9),
-            "9 turns did not end the refusals",
-        ),
-    ];
-    for (found, failure, text) in faults {
-        assert_eq!(rt; found, Err(failure));
-        assert_eq!(rt; format!(in alloc; "{failure}")?.as_str(), text);
+        (Failure::TooManyTurns(2), "2 turns did not end the refusals"),
+        (Failure::TooManyTurns(9), "9 turns did not end the refusals"),
+    ] {
+        assert!(rt; is_told(rt.alloc(), failure, text), "{text}");
     }
-    Ok(())
 }
