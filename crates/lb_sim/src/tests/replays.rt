@@ -1,9 +1,13 @@
 //! Whole replays: worked dumps, dumps with a fault, files and statuses.
 
+ghost use Rattle.std.specs.Prelude.{◌≤◌};
+ghost use Rattle.std.specs.Option.{ForSome};
+
 use super::fixtures::{EXAMPLE, ON_ONE, Slow, TEXT, replays};
 use crate::ended::{Ended, status};
 use crate::request::Asked;
 use crate::simulation::{replay_file, run, simulate};
+use chare_index::Limits;
 use lb_dump::DumpError;
 use lb_strategy::PlanError;
 use std::io::{self, ErrorKind};
@@ -149,58 +153,89 @@ const FRONT_LINES: [&str; 20] = [
     "moved 82746",
 ];
 
-#[test]
-fn the_moving_front(rt: HostRuntime) {
-    let mut written = String::new(rt.alloc());
-    let dump = moving_front(&rt);
-    let mut output = Vec::new(rt.alloc());
-    let ended = simulate(rt.alloc(), &mut dump.as_slice(), &mut output, None);
+// The bytes that a replay of this dump writes.
+fn output(rt: &(impl Abort + AllocGlobal), dump: &[u8]) -> Vec<u8> {
+    let mut written = Vec::new(rt.alloc());
+    let mut dump = dump;
+    let ended = simulate(rt.alloc(), &mut dump, &mut written, None);
     assert_eq!(rt; ended, Ended::Printed);
-    let text = std::str::from_utf8(&output).ok().expect(&rt, "no text");
-    written.push_str(text).expect(&rt, "out of memory");
-    assert_eq!(rt; written.lines().count(), 20);
-    for (line, expected) in written.lines().zip(FRONT_LINES) {
-        assert!(rt; line.starts_with(expected), "{line}");
-        let name = line.len() - expected.len();
-        assert!(rt;
-            name <= 2 && (name == 0) == !expected.ends_with("pe "),
-            "{line}"
-        );
+    written
+}
+
+// Whether a line is this one, with the name of a block behind it where one is expected.
+fn is_line(line: &str, expected: &str) -> bool {
+    let Some(name) = line.strip_prefix(expected) else {
+        return false;
+    };
+    name.len() <= 2 && name.is_empty() == !expected.ends_with("pe ")
+}
+
+// The text has to be the lines of the moving front.
+fn has_front_lines(rt: &impl Abort, text: &str) {
+    assert_eq!(rt; text.lines().count(), 20);
+    for (line, expected) in text.lines().zip(FRONT_LINES) {
+        assert!(rt; is_line(line, expected), "{line}");
     }
 }
 
 #[test]
-fn a_file_that_was_opened_or_not(rt: HostRuntime) {
-    for (procs, text) in [(None, TEXT), (Some(1), ON_ONE)] {
-        let mut written = Vec::new(rt.alloc());
-        let file = Ok(EXAMPLE.as_slice());
-        let (ended, reason) = replay_file(rt.alloc(), file, &mut written, procs);
-        assert_eq!(rt; ended, Ended::Printed);
-        assert!(rt; reason.is_none());
-        assert_eq!(rt; written.as_slice(), text.as_bytes());
-    }
+fn the_moving_front(rt: HostRuntime) {
+    let written = output(&rt, &moving_front(&rt));
+    let text = std::str::from_utf8(&written).ok().expect(&rt, "no text");
+    has_front_lines(&rt, text);
+}
+
+// The kind of a reason.
+fn kind(reason: Option<io::Error>) -> Option<ErrorKind> {
+    Some(reason?.kind())
+}
+
+// How a replay of the file ends, and the kind of the reason. It has to write this text.
+fn replays_file(
+    rt: &(impl Abort + AllocGlobal),
+    file: io::Result<&[u8]>,
+    procs: Option<u32>,
+    text: &str,
+) -> (Ended, Option<ErrorKind>)
+    requires some_pe { ForSome procs (λ p. 1 ≤ p) }
+    requires few_pes { ForSome procs (λ p. p ≤ Limits.PES) }
+{
     let mut written = Vec::new(rt.alloc());
-    let missing: io::Result<&[u8]> = Err(io::Error::from(ErrorKind::NotFound));
-    let (ended, reason) = replay_file(rt.alloc(), missing, &mut written, Some(1));
+    let (ended, reason) = replay_file(rt.alloc(), file, &mut written, procs);
+    assert_eq!(rt; written.as_slice(), text.as_bytes());
+    (ended, kind(reason))
+}
+
+#[test]
+fn a_file_that_was_opened(rt: HostRuntime) {
+    for (procs, text) in [(None, TEXT), (Some(1), ON_ONE)] {
+        let end = replays_file(&rt, Ok(EXAMPLE.as_slice()), procs, text);
+        assert_eq!(rt; end, (Ended::Printed, None));
+    }
+}
+
+#[test]
+fn a_file_that_was_not_opened(rt: HostRuntime) {
+    let missing = Err(io::Error::from(ErrorKind::NotFound));
+    let (ended, reason) = replays_file(&rt, missing, Some(1), "dump: read failed\n");
     assert_eq!(rt; ended, Ended::Dump(DumpError::Read));
-    assert_eq!(rt;
-        reason.map(|reason| reason.kind()),
-        Some(ErrorKind::NotFound)
-    );
-    assert_eq!(rt; written.as_slice(), b"dump: read failed\n".as_slice());
+    assert_eq!(rt; reason, Some(ErrorKind::NotFound));
+}
+
+// How a replay of the example ends whose reader fails at this call, and the kind of the reason.
+fn fails_at(rt: &impl AllocGlobal, call: usize) -> (Ended, Option<ErrorKind>) {
+    let mut written = Vec::new(rt.alloc());
+    let file = Ok(Slow::new(&EXAMPLE, 20, Some(call)));
+    let (ended, reason) = replay_file(rt.alloc(), file, &mut written, None);
+    (ended, kind(reason))
 }
 
 #[test]
 fn a_file_that_fails_has_its_reason(rt: HostRuntime) {
     for call in 0..3 {
-        let mut written = Vec::new(rt.alloc());
-        let file = Ok(Slow::new(&EXAMPLE, 20, Some(call)));
-        let (ended, reason) = replay_file(rt.alloc(), file, &mut written, None);
+        let (ended, reason) = fails_at(&rt, call);
         assert_eq!(rt; ended, Ended::Dump(DumpError::Read));
-        assert_eq!(rt;
-            reason.map(|reason| reason.kind()),
-            Some(ErrorKind::Interrupted)
-        );
+        assert_eq!(rt; reason, Some(ErrorKind::Interrupted));
     }
 }
 
