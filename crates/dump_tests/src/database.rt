@@ -5,7 +5,7 @@ ghost use Rattle.std.specs.Prelude.{◌≡◌};
 
 use crate::fixtures::pe;
 use chare_index::{Pe, Round};
-use lb_certificates::Units;
+use lb_certificates::{Snapshot, Units};
 use lb_database::{DbError, LoadDb};
 use std::process::Abort;
 
@@ -37,22 +37,42 @@ fn begun(rt: &(impl Abort + AllocGlobal)) -> LoadDb {
     db
 }
 
+// Whether its elements stand on PE 0 alone, and it refuses a snapshot there, as not all have reported.
+fn refuses_a_snapshot(db: &LoadDb) -> bool {
+    if db.stands_on(0) || !db.stands_on(1) {
+        return false;
+    }
+    db.snapshot(1, 1).err() == Some(DbError::Incomplete)
+}
+
 #[test]
 fn four_elements_of_which_one_reported(rt: HostRuntime) {
     let mut db = begun(&rt);
     let before = seen(&db);
-    assert_eq!(rt; before.4[2], (Some(u32::MAX), Some((5, pe(&rt, 0)))));
-    assert_eq!(rt; db.charge(4, 1), Err(DbError::Stranger));
-    assert_eq!(rt; db.next_round(), Err(DbError::Incomplete));
-    assert!(rt; db.stands_on(1) && !db.stands_on(0));
-    assert_eq!(rt; db.snapshot(1, 1).err(), Some(DbError::Incomplete));
-    assert_eq!(rt; seen(&db), before);
+    let element = (Some(u32::MAX), Some((5, pe(&rt, 0))));
+    assert!(rt; before.4[2] == element);
+    assert!(rt; db.charge(4, 1) == Err(DbError::Stranger));
+    assert!(rt; db.next_round() == Err(DbError::Incomplete));
+    assert!(rt; refuses_a_snapshot(&db));
+    assert!(rt; seen(&db) == before);
+}
+
+// What a database says of the report of an element for a round, and whether it is left as it was.
+fn report(
+    rt: &impl Abort,
+    db: &mut LoadDb,
+    i: u32,
+    number: u32,
+    bytes: u32,
+) -> (Result<(), DbError>, bool) {
+    let before = seen(db);
+    let answer = db.report(i, round(rt, number), bytes, pe(rt, 0));
+    (answer, seen(db) == before)
 }
 
 #[test]
 fn reports_that_are_refused(rt: HostRuntime) {
     let mut db = begun(&rt);
-    let before = seen(&db);
     let refused = [
         (2, 1, 5, DbError::Twice),
         (2, 3, 5, DbError::WrongRound),
@@ -63,84 +83,115 @@ fn reports_that_are_refused(rt: HostRuntime) {
         (2, 1, 1_048_577, DbError::Twice),
     ];
     for (i, number, bytes, error) in refused {
-        let answer = db.report(i, round(&rt, number), bytes, pe(&rt, 0));
+        let (answer, same) = report(&rt, &mut db, i, number, bytes);
         assert_eq!(rt; answer, Err(error), "the report of {i} for {number}");
-        assert_eq!(rt; seen(&db), before, "after the report of {i} for {number}");
+        assert!(rt; same, "after the report of {i} for {number}");
     }
+}
+
+// What the other three elements do: each reports one byte.
+fn report_the_others(rt: &impl Abort, db: &mut LoadDb) {
+    for i in [0, 1, 3] {
+        let answer = db.report(i, round(rt, 1), 1, pe(rt, 0));
+        assert_eq!(rt; answer, Ok(()), "the report of {i}");
+    }
+}
+
+// The snapshot of the four elements once all have reported.
+fn taken(rt: &(impl Abort + AllocGlobal)) -> Snapshot {
+    let mut db = begun(rt);
+    report_the_others(rt, &mut db);
+    assert!(rt; db.stands_on(1));
+    db.snapshot(1, 1).expect(rt, "no snapshot")
 }
 
 #[test]
 fn a_full_load_is_taken(rt: HostRuntime) {
-    let mut db = begun(&rt);
-    for i in [0, 1, 3] {
-        let answer = db.report(i, round(&rt, 1), 1, pe(&rt, 0));
-        assert_eq!(rt; answer, Ok(()), "the report of {i}");
-    }
-    assert!(rt; db.stands_on(1));
-    let taken = db.snapshot(1, 1).expect(&rt, "no snapshot");
+    let taken = taken(&rt);
     assert_eq!(rt; (taken.step(), taken.procs()), (1, 1));
     let loads = [0, 0, 4_294_967_295, 0];
-    assert_eq!(rt; taken.loads().as_slice(), loads.as_slice());
-    assert_eq!(rt; taken.sizes().len(), 4);
-    for (&(bytes, place), expected) in taken.sizes().as_slice().iter().zip([1, 1, 5, 1]) {
-        assert_eq!(rt; (bytes, place.get()), (expected, 0));
-    }
+    assert!(rt; taken.loads().as_slice() == loads.as_slice());
+    let place = pe(&rt, 0);
+    let sizes = [(1, place), (1, place), (5, place), (1, place)];
+    assert!(rt; taken.sizes().as_slice() == sizes.as_slice());
+}
+
+// A database of no elements in the last round.
+fn worn(rt: &(impl Abort + AllocGlobal)) -> LoadDb {
+    let last = round(rt, 2_147_483_648);
+    LoadDb::at(rt.alloc(), 0, last).expect(rt, "out of memory")
 }
 
 #[test]
 fn no_elements(rt: HostRuntime) {
+    let mut db = worn(&rt);
     let last = round(&rt, 2_147_483_648);
-    let mut db = LoadDb::at(rt.alloc(), 0, last).expect(&rt, "out of memory");
-    let before = seen(&db);
-    assert_eq!(rt; before, (last, 0, true, true, [(None, None); 5]));
-    assert_eq!(rt; db.next_round(), Err(DbError::Worn));
-    assert_eq!(rt; seen(&db), before);
+    let expected = (last, 0, true, true, [(None, None); 5]);
+    assert!(rt; seen(&db) == expected);
+    assert!(rt; db.next_round() == Err(DbError::Worn));
+    assert!(rt; seen(&db) == expected);
+}
+
+#[test]
+fn no_elements_are_taken(rt: HostRuntime) {
+    let db = worn(&rt);
     assert!(rt; db.stands_on(256));
     let taken = db.snapshot(9, 256).expect(&rt, "no snapshot");
     assert_eq!(rt; taken.loads().len(), 0);
 }
 
+// What an element of the two does: it works, reports and works on.
+fn work(rt: &impl Abort, db: &mut LoadDb, i: u32) {
+    assert!(rt; db.charge(i, 7).is_ok());
+    let answer = db.report(i, round(rt, 1), 1_048_576, pe(rt, 255));
+    assert!(rt; answer.is_ok());
+    assert!(rt; db.charge(i, 2).is_ok(), "after the report");
+}
+
 // A database of two elements that have done their work and reported.
 fn reported(rt: &(impl Abort + AllocGlobal)) -> LoadDb {
     let mut db = LoadDb::new(rt.alloc(), 2).expect(rt, "out of memory");
-    for i in [0, 1] {
-        assert_eq!(rt; db.charge(i, 7), Ok(()));
-        let answer = db.report(i, round(rt, 1), 1_048_576, pe(rt, 255));
-        assert_eq!(rt; answer, Ok(()));
-        assert_eq!(rt; db.charge(i, 2), Ok(()), "after the report");
-    }
+    work(rt, &mut db, 0);
+    work(rt, &mut db, 1);
     db
 }
 
 #[test]
 fn work_after_a_report_is_counted(rt: HostRuntime) {
-    let db = reported(&rt);
-    for i in [0, 1] {
-        assert_eq!(rt; db.load(i), Some(9));
-        assert_eq!(rt; db.reported(i), Some((1_048_576, pe(&rt, 255))));
-    }
-    assert!(rt; db.is_complete());
+    let seen = seen(&reported(&rt));
+    let element = (Some(9), Some((1_048_576, pe(&rt, 255))));
+    assert!(rt; seen.4[0] == element && seen.4[1] == element);
+    assert!(rt; seen.3, "not complete");
+}
+
+// The same database in its next round.
+fn begun_anew(rt: &(impl Abort + AllocGlobal)) -> LoadDb {
+    let mut db = reported(rt);
+    assert!(rt; db.next_round().is_ok());
+    db
 }
 
 #[test]
 fn the_next_round_has_nothing(rt: HostRuntime) {
-    let mut db = reported(&rt);
-    assert_eq!(rt; db.next_round(), Ok(()));
-    assert_eq!(rt; (db.round(), db.len()), (round(&rt, 2), 2));
-    assert!(rt; !db.is_empty() && !db.is_complete());
-    for i in [0, 1] {
-        assert_eq!(rt; db.load(i), Some(0));
-        assert_eq!(rt; db.reported(i), None);
-    }
+    let (number, len, is_empty, is_complete, elements) = seen(&begun_anew(&rt));
+    assert_eq!(rt; (number, len), (round(&rt, 2), 2));
+    assert!(rt; !is_empty && !is_complete);
+    let element = (Some(0), None);
+    assert!(rt; elements[0] == element && elements[1] == element);
 }
 
 #[test]
 fn the_next_round_has_its_own_reports(rt: HostRuntime) {
-    let mut db = reported(&rt);
-    assert_eq!(rt; db.next_round(), Ok(()));
+    let mut db = begun_anew(&rt);
     let late = db.report(0, round(&rt, 1), 1, pe(&rt, 0));
-    assert_eq!(rt; late, Err(DbError::WrongRound));
-    assert_eq!(rt; db.report(0, round(&rt, 2), 1, pe(&rt, 0)), Ok(()));
+    assert!(rt; late == Err(DbError::WrongRound));
+    assert!(rt; db.report(0, round(&rt, 2), 1, pe(&rt, 0)).is_ok());
+}
+
+// Whether an error has this text.
+fn has_text(rt: &(impl Abort + AllocGlobal), error: DbError, text: &str) -> bool {
+    let said = format!(in rt.alloc(); "{error}").expect(rt, "out of memory");
+    said.as_str() == text
 }
 
 #[test]
@@ -156,11 +207,6 @@ fn numbers_and_texts(rt: HostRuntime) {
     ];
     for (error, number, text) in errors {
         assert_eq!(rt; error as u8, number, "{text}");
-        assert_eq!(rt;
-            format!(in rt.alloc(); "{error}")
-                .expect(&rt, "out of memory")
-                .as_str(),
-            text
-        );
+        assert!(rt; has_text(&rt, error, text), "{text}");
     }
 }

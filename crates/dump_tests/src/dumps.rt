@@ -1,34 +1,46 @@
 //! A snapshot of three elements and its 52 bytes, cut and changed at each place, and readers and writers that
 //! fail.
 
-use crate::fixtures::{EXAMPLE, Sink, Source, example};
+use crate::fixtures::{EXAMPLE, Sink, Source, example, is_example};
 use lb_certificates::Snapshot;
 use lb_dump::{DumpError, DumpReader, decode, encode, format_laws, read_from, write_to};
 use std::alloc::Global;
 use std::io::ErrorKind;
+use std::process::Abort;
 
-// The text of what these pieces give, or why they give nothing.
-fn joined(alloc: Global, pieces: &[&[u8]]) -> Result<Vec<u8>, DumpError> {
+// The text of a snapshot.
+fn text_of(rt: &(impl Abort + AllocGlobal), snapshot: &Snapshot) -> Vec<u8> {
+    encode(rt.alloc(), snapshot).expect(rt, "out of memory")
+}
+
+// What these pieces give, or why they give nothing.
+fn fed(alloc: Global, pieces: &[&[u8]]) -> Result<Snapshot, DumpError> {
     let mut reader = DumpReader::new(alloc);
     for &piece in pieces {
         reader.feed(piece)?;
     }
-    Ok(encode(alloc, &reader.end()?)?)
+    reader.end()
+}
+
+// Whether these pieces give a snapshot that has this text.
+fn give(rt: &(impl Abort + AllocGlobal), pieces: &[&[u8]], text: &[u8]) -> bool {
+    match fed(rt.alloc(), pieces) {
+        Ok(snapshot) => text_of(rt, &snapshot).as_slice() == text,
+        Err(_) => false,
+    }
 }
 
 #[test]
 fn the_example(rt: HostRuntime) {
-    let snapshot = example(&rt);
-    assert_eq!(rt;
-        encode(rt.alloc(), &snapshot)
-            .expect(&rt, "out of memory")
-            .as_slice(),
-        EXAMPLE.as_slice()
-    );
+    assert!(rt; text_of(&rt, &example(&rt)).as_slice() == EXAMPLE.as_slice());
+    assert!(rt; is_example(&rt, &decode(rt.alloc(), &EXAMPLE)));
+}
+
+#[test]
+fn the_example_is_written(rt: HostRuntime) {
     let mut out: Vec<u8> = Vec::new(rt.alloc());
-    assert_eq!(rt; write_to(&mut out, &snapshot), Ok(()));
-    assert_eq!(rt; out.as_slice(), EXAMPLE.as_slice());
-    assert_eq!(rt; decode(rt.alloc(), &EXAMPLE), Ok(snapshot));
+    assert!(rt; write_to(&mut out, &example(&rt)).is_ok());
+    assert!(rt; out.as_slice() == EXAMPLE.as_slice());
 }
 
 #[test]
@@ -36,11 +48,7 @@ fn in_any_pieces(rt: HostRuntime) {
     for cut in 0..=52usize {
         let (start, rest) = EXAMPLE.split_at(cut);
         let pieces: [&[u8]; 5] = [&[], start, &[], rest, &[]];
-        let text = joined(rt.alloc(), &pieces);
-        assert!(rt;
-            text.is_ok_and(|text| text.as_slice() == EXAMPLE.as_slice()),
-            "cut at {cut}"
-        );
+        assert!(rt; give(&rt, &pieces, &EXAMPLE), "cut at {cut}");
     }
 }
 
@@ -70,17 +78,31 @@ fn byte_by_byte(
 
 #[test]
 fn the_example_byte_by_byte(rt: HostRuntime) {
-    let snapshot = Ok(example(&rt));
-    assert_eq!(rt; byte_by_byte(rt.alloc(), &EXAMPLE), (None, true, snapshot));
+    let (first, stays, end) = byte_by_byte(rt.alloc(), &EXAMPLE);
+    assert!(rt; first.is_none() && stays && is_example(&rt, &end));
+}
+
+// The fault of a text that is decoded at once, the first fault with its offset and whether it stays where a reader is
+// given the text byte by byte, and the fault at the end.
+type Faults = (
+    Option<DumpError>,
+    Option<(usize, DumpError)>,
+    bool,
+    Option<DumpError>,
+);
+
+fn faults_of(alloc: Global, text: &[u8]) -> Faults {
+    let whole = decode(alloc, text).err();
+    let (first, stays, end) = byte_by_byte(alloc, text);
+    (whole, first, stays, end.err())
 }
 
 #[test]
 fn each_prefix_is_short(rt: HostRuntime) {
     for len in 0..52u32 {
-        let text = &EXAMPLE[..len as usize];
-        let short = Err(DumpError::Short(len));
-        assert_eq!(rt; decode(rt.alloc(), text), short);
-        assert_eq!(rt; byte_by_byte(rt.alloc(), text), (None, true, short));
+        let short = Some(DumpError::Short(len));
+        let found = faults_of(rt.alloc(), &EXAMPLE[..len as usize]);
+        assert!(rt; found == (short, None, true, short), "{len} bytes");
     }
 }
 
@@ -106,20 +128,27 @@ fn one_byte_is_255(rt: HostRuntime) {
     for offset in 0..52usize {
         let mut text = EXAMPLE;
         text[offset] = 255;
-        let pieces: [&[u8]; 1] = [&text];
-        match fault_of_255(offset) {
-            None => assert!(rt;
-                joined(rt.alloc(), &pieces).is_ok_and(|out| out.as_slice() == text.as_slice()),
-                "{offset}"
-            ),
-            fault => assert_eq!(rt; decode(rt.alloc(), &text).err(), fault, "{offset}"),
-        }
+        let found = match fault_of_255(offset) {
+            None => give(&rt, &[&text], &text),
+            fault => decode(rt.alloc(), &text).err() == fault,
+        };
+        assert!(rt; found, "{offset}");
     }
 }
 
 // The offset of the byte that brings this fault: the last one of the number that has byte 255, or the letter itself.
 fn brought_at(offset: usize) -> usize {
     if offset < 4 { offset } else { offset | 3 }
+}
+
+// The faults that a reader returns for one piece and for the next.
+fn faults_of_two(
+    alloc: Global,
+    start: &[u8],
+    rest: &[u8],
+) -> (Option<DumpError>, Option<DumpError>) {
+    let mut reader = DumpReader::new(alloc);
+    (reader.feed(start).err(), reader.feed(rest).err())
 }
 
 #[test]
@@ -138,9 +167,8 @@ fn a_fault_comes_with_its_piece(rt: HostRuntime) {
             } else {
                 None
             };
-            let mut reader = DumpReader::new(rt.alloc());
-            assert_eq!(rt; reader.feed(start).err(), early, "{offset}, cut at {cut}");
-            assert_eq!(rt; reader.feed(rest).err(), fault, "{offset}, cut at {cut}");
+            let found = faults_of_two(rt.alloc(), start, rest);
+            assert!(rt; found == (early, fault), "{offset}, cut at {cut}");
         }
     }
 }
@@ -149,11 +177,10 @@ fn a_fault_comes_with_its_piece(rt: HostRuntime) {
 fn no_elements(rt: HostRuntime) {
     let text = b"LBD1\0\0\0\x05\0\0\0\x02\0\0\0\0\0";
     let (head, surplus) = text.split_at(16);
-    assert!(rt; joined(rt.alloc(), &[head]).is_ok_and(|out| out.as_slice() == head));
-    assert_eq!(rt; decode(rt.alloc(), text).err(), Some(DumpError::Trailing));
-    let mut reader = DumpReader::new(rt.alloc());
-    assert_eq!(rt; reader.feed(head), Ok(()));
-    assert_eq!(rt; reader.feed(surplus), Err(DumpError::Trailing));
+    let trailing = Some(DumpError::Trailing);
+    assert!(rt; give(&rt, &[head], head));
+    assert!(rt; decode(rt.alloc(), text).err() == trailing);
+    assert!(rt; faults_of_two(rt.alloc(), head, surplus) == (None, trailing));
 }
 
 #[test]
@@ -175,12 +202,21 @@ fn first_faults(rt: HostRuntime) {
         (b"LBD1\0\0\0\0\0\0\0\0\0", 11, DumpError::Procs),
     ];
     for (text, offset, fault) in rows {
-        assert_eq!(rt; decode(rt.alloc(), text), Err(fault));
-        assert_eq!(rt;
-            byte_by_byte(rt.alloc(), text),
-            (Some((offset, fault)), true, Err(fault))
-        );
+        let found = faults_of(rt.alloc(), text);
+        let expected = (Some(fault), Some((offset, fault)), true, Some(fault));
+        assert!(rt; found == expected, "at {offset}");
     }
+}
+
+// The fault of the example that is read so many bytes a call, where one call fails so, and how often it was called.
+fn read_with(
+    alloc: Global,
+    at_once: usize,
+    fails: (usize, ErrorKind),
+) -> (Option<DumpError>, usize) {
+    let mut source = Source::new(&EXAMPLE, at_once, Some(fails));
+    let fault = read_from(alloc, &mut source).err();
+    (fault, source.calls)
 }
 
 #[test]
@@ -192,10 +228,9 @@ fn a_reader_that_fails_once(rt: HostRuntime) {
     ] {
         for (at_once, calls) in [(1, 53), (7, 9), (64, 2)] {
             for call in 0..calls {
-                let mut source = Source::new(&EXAMPLE, at_once, Some((call, kind)));
-                let found = read_from(rt.alloc(), &mut source);
-                assert_eq!(rt; found, Err(DumpError::Read), "call {call} of {calls}");
-                assert_eq!(rt; source.calls, call.saturating_add(1));
+                let found = read_with(rt.alloc(), at_once, (call, kind));
+                let expected = (Some(DumpError::Read), call.saturating_add(1));
+                assert!(rt; found == expected, "call {call} of {calls}");
             }
         }
     }
@@ -205,9 +240,8 @@ fn a_reader_that_fails_once(rt: HostRuntime) {
 fn a_reader_that_does_not_fail(rt: HostRuntime) {
     for (at_once, calls) in [(1, 53), (7, 9), (64, 2)] {
         let mut source = Source::new(&EXAMPLE, at_once, Some((calls, ErrorKind::Other)));
-        let found = read_from(rt.alloc(), &mut source);
-        assert_eq!(rt; found, Ok(example(&rt)), "{at_once} bytes a call");
-        assert_eq!(rt; source.calls, calls);
+        let found = is_example(&rt, &read_from(rt.alloc(), &mut source));
+        assert!(rt; found && source.calls == calls, "{at_once} bytes a call");
     }
 }
 
@@ -215,8 +249,8 @@ fn a_reader_that_does_not_fail(rt: HostRuntime) {
 fn pieces_of_each_length(rt: HostRuntime) {
     for at_once in 1..=52usize {
         let mut source = Source::new(&EXAMPLE, at_once, None);
-        let found = read_from(rt.alloc(), &mut source);
-        assert_eq!(rt; found, Ok(example(&rt)), "{at_once} bytes a call");
+        let found = is_example(&rt, &read_from(rt.alloc(), &mut source));
+        assert!(rt; found, "{at_once} bytes a call");
     }
 }
 
@@ -227,10 +261,28 @@ fn a_fault_before_a_failure(rt: HostRuntime) {
     // Byte 23 ends the size of element 0.
     for (at_once, calls) in [(1, 24), (7, 4), (64, 1)] {
         let mut source = Source::new(&wrong, at_once, Some((calls, ErrorKind::Other)));
-        let found = read_from(rt.alloc(), &mut source);
-        assert_eq!(rt; found, Err(DumpError::Size(0)), "{at_once} bytes a call");
-        assert_eq!(rt; source.calls, calls);
+        let fault = read_from(rt.alloc(), &mut source).err();
+        let found = (fault, source.calls);
+        assert!(rt;
+            found == (Some(DumpError::Size(0)), calls),
+            "{at_once} bytes a call"
+        );
     }
+}
+
+// The fault of a writer that takes so many bytes a call, where one call fails so, and how often it was called, if it
+// has a start of the example.
+fn write_with(
+    rt: &impl AllocGlobal,
+    snapshot: &Snapshot,
+    at_once: usize,
+    fails_at: usize,
+    error: Option<ErrorKind>,
+) -> (Option<DumpError>, Option<usize>) {
+    let mut sink = Sink::new(rt, at_once, fails_at, error);
+    let fault = write_to(&mut sink, snapshot).err();
+    let starts = EXAMPLE.starts_with(&sink.taken);
+    (fault, starts.then_some(sink.calls))
 }
 
 #[test]
@@ -240,49 +292,49 @@ fn a_writer_that_fails_once(rt: HostRuntime) {
         // The head of 16 bytes is written first, and then the three elements.
         for (at_once, calls) in [(1, 52), (5, 12), (64, 2)] {
             for call in 0..calls {
-                let mut sink = Sink::new(&rt, at_once, call, error);
-                assert_eq!(rt; write_to(&mut sink, &snapshot), Err(DumpError::Write));
-                assert_eq!(rt; sink.calls, call.saturating_add(1));
-                assert!(rt; EXAMPLE.starts_with(&sink.taken), "call {call} of {calls}");
+                let found = write_with(&rt, &snapshot, at_once, call, error);
+                let expected = (Some(DumpError::Write), Some(call.saturating_add(1)));
+                assert!(rt; found == expected, "call {call} of {calls}");
             }
         }
     }
+}
+
+// Whether a writer that takes so many bytes a call, and fails after so many, has the whole example.
+fn writes_all(rt: &impl AllocGlobal, snapshot: &Snapshot, at_once: usize, calls: usize) -> bool {
+    let mut sink = Sink::new(rt, at_once, calls, None);
+    let wrote = write_to(&mut sink, snapshot).is_ok();
+    wrote && sink.calls == calls && sink.taken.as_slice() == EXAMPLE.as_slice()
 }
 
 #[test]
 fn a_writer_that_does_not_fail(rt: HostRuntime) {
     let snapshot = example(&rt);
     for (at_once, calls) in [(1, 52), (5, 12), (64, 2)] {
-        let mut sink = Sink::new(&rt, at_once, calls, None);
-        assert_eq!(rt; write_to(&mut sink, &snapshot), Ok(()));
-        assert_eq!(rt; sink.calls, calls);
-        assert_eq!(rt; sink.taken.as_slice(), EXAMPLE.as_slice());
+        let found = writes_all(&rt, &snapshot, at_once, calls);
+        assert!(rt; found, "{at_once} bytes a call");
     }
 }
 
 #[test]
 fn numbers_and_words(rt: HostRuntime) {
     let faults = [
-        DumpError::Magic,
-        DumpError::Short(9),
-        DumpError::Procs,
-        DumpError::Count,
-        DumpError::Size(9),
-        DumpError::Place(9),
-        DumpError::Trailing,
-        DumpError::Read,
-        DumpError::Write,
-        DumpError::OutOfMemory,
+        (DumpError::Magic, 1),
+        (DumpError::Short(9), 2),
+        (DumpError::Procs, 3),
+        (DumpError::Count, 4),
+        (DumpError::Size(9), 5),
+        (DumpError::Place(9), 6),
+        (DumpError::Trailing, 7),
+        (DumpError::Read, 8),
+        (DumpError::Write, 9),
+        (DumpError::OutOfMemory, 10),
     ];
-    for (number, fault) in (1u8..).zip(faults) {
+    for (fault, number) in faults {
         assert_eq!(rt; fault.number(), number);
     }
-    assert_eq!(rt;
-        DumpError::Short(9)
-            .to_string(rt.alloc())
-            .expect(&rt, "out of memory")
-            .as_str(),
-        "the dump ends after 9 bytes"
-    );
+    let words = DumpError::Short(9).to_string(rt.alloc());
+    let words = words.expect(&rt, "out of memory");
+    assert!(rt; words.as_str() == "the dump ends after 9 bytes");
     format_laws();
 }

@@ -3,6 +3,7 @@
 
 use chare_index::Pe;
 use lb_certificates::{Loads, Sizes, Snapshot};
+use lb_dump::DumpError;
 use std::io::{self, Error, ErrorKind, Read, Write};
 use std::process::Abort;
 
@@ -29,6 +30,12 @@ pub fn example(rt: &(impl Abort + AllocGlobal)) -> Snapshot {
     Snapshot::new(5, 2, loads, sizes).expect(rt, "no snapshot")
 }
 
+/// Whether the example was found.
+pub fn is_example(rt: &(impl Abort + AllocGlobal), found: &Result<Snapshot, DumpError>) -> bool {
+    let Ok(found) = found else { return false };
+    *found == example(rt)
+}
+
 // The load, the size and the place of element `i` of a full array: loads of all widths, up to the greatest size.
 fn full_element(i: u32) -> (u32, u32, u32) {
     (
@@ -51,6 +58,12 @@ pub fn full(rt: &(impl Abort + AllocGlobal)) -> Snapshot {
     let loads = Loads::new(loads).expect(rt, "too many loads");
     let sizes = Sizes::new(pairs).expect(rt, "past a limit");
     Snapshot::new(u32::MAX, 256, loads, sizes).expect(rt, "no snapshot")
+}
+
+/// Whether it was found.
+pub fn is_full(rt: &(impl Abort + AllocGlobal), found: &Result<Snapshot, DumpError>) -> bool {
+    let Ok(found) = found else { return false };
+    *found == full(rt)
 }
 
 /// Its 786,448 bytes, number by number.

@@ -1,21 +1,30 @@
 //! The most elements, encoded, written and read. The text has more than one block of the writer and more than one
 //! piece of the reader.
 
-use crate::fixtures::{Sink, Source, full, full_text};
+use crate::fixtures::{Sink, Source, full, full_text, is_full};
+use lb_certificates::Snapshot;
 use lb_dump::{DumpError, DumpReader, decode, encode, read_from, write_to};
+use std::alloc::Global;
 use std::io::ErrorKind;
 
 #[test]
-fn encoded_and_decoded(rt: HostRuntime) {
-    let snapshot = full(&rt);
+fn encoded(rt: HostRuntime) {
     let text = full_text(&rt);
     assert_eq!(rt; text.len(), 786_448);
-    let encoded = encode(rt.alloc(), &snapshot).expect(&rt, "out of memory");
+    let encoded = encode(rt.alloc(), &full(&rt)).expect(&rt, "out of memory");
     assert!(rt; encoded.as_slice() == text.as_slice(), "another text");
-    assert!(rt;
-        decode(rt.alloc(), &text) == Ok(snapshot),
-        "another snapshot"
-    );
+}
+
+#[test]
+fn decoded(rt: HostRuntime) {
+    let found = decode(rt.alloc(), &full_text(&rt));
+    assert!(rt; is_full(&rt, &found), "another snapshot");
+}
+
+// Whether a writer that takes so many bytes a call has this text of a snapshot.
+fn writes(rt: &impl AllocGlobal, at_once: usize, snapshot: &Snapshot, text: &[u8]) -> bool {
+    let mut sink = Sink::new(rt, at_once, usize::MAX, None);
+    write_to(&mut sink, snapshot).is_ok() && sink.taken.as_slice() == text
 }
 
 #[test]
@@ -23,22 +32,17 @@ fn written(rt: HostRuntime) {
     let snapshot = full(&rt);
     let text = full_text(&rt);
     for at_once in [1_000, 1_000_000] {
-        let mut sink = Sink::new(&rt, at_once, usize::MAX, None);
-        assert_eq!(rt; write_to(&mut sink, &snapshot), Ok(()));
-        assert!(rt;
-            sink.taken.as_slice() == text.as_slice(),
-            "{at_once} bytes a call"
-        );
+        let found = writes(&rt, at_once, &snapshot, &text);
+        assert!(rt; found, "{at_once} bytes a call");
     }
 }
 
 #[test]
 fn read_in_pieces(rt: HostRuntime) {
-    let snapshot = Ok(full(&rt));
     let text = full_text(&rt);
     for at_once in [1_000, 65_536, 1_000_000] {
         let found = read_from(rt.alloc(), &mut Source::new(&text, at_once, None));
-        assert!(rt; found == snapshot, "{at_once} bytes a call");
+        assert!(rt; is_full(&rt, &found), "{at_once} bytes a call");
     }
 }
 
@@ -46,19 +50,24 @@ fn read_in_pieces(rt: HostRuntime) {
 fn read_byte_by_byte(rt: HostRuntime) {
     let text = full_text(&rt);
     let mut source = Source::new(&text, 1, Some((786_449, ErrorKind::Other)));
-    let found = read_from(rt.alloc(), &mut source);
-    assert!(rt; found == Ok(full(&rt)), "another snapshot");
+    let found = is_full(&rt, &read_from(rt.alloc(), &mut source));
+    assert!(rt; found, "another snapshot");
     assert_eq!(rt; source.calls, 786_449);
+}
+
+// What a reader gives for a text that comes byte by byte.
+fn fed(alloc: Global, text: &[u8]) -> Result<Snapshot, DumpError> {
+    let mut reader = DumpReader::new(alloc);
+    for byte in text {
+        reader.feed(&[*byte])?;
+    }
+    reader.end()
 }
 
 #[test]
 fn fed_byte_by_byte(rt: HostRuntime) {
-    let text = full_text(&rt);
-    let mut reader = DumpReader::new(rt.alloc());
-    for byte in &text {
-        assert_eq!(rt; reader.feed(&[*byte]), Ok(()));
-    }
-    assert!(rt; reader.end() == Ok(full(&rt)), "another snapshot");
+    let found = fed(rt.alloc(), &full_text(&rt));
+    assert!(rt; is_full(&rt, &found), "another snapshot");
 }
 
 #[test]
