@@ -1,7 +1,7 @@
 //! The worked rows: four elements of which one reports first, a database with no elements in the last round,
 //! and two rounds of two elements.
 
-ghost use Rattle.std.specs.Prelude.{◌≡◌};
+ghost use Rattle.std.specs.Prelude.{◌≡◌, ◌≤◌};
 
 use crate::fixtures::pe;
 use chare_index::{Pe, Round};
@@ -57,17 +57,16 @@ fn four_elements_of_which_one_reported(rt: HostRuntime) {
     assert!(rt; seen(&db) == before);
 }
 
-// What a database says of the report of an element for a round, and whether it is left as it was.
-fn report(
-    rt: &impl Abort,
-    db: &mut LoadDb,
-    i: u32,
-    number: u32,
-    bytes: u32,
-) -> (Result<(), DbError>, bool) {
+// The element, the round and the bytes of a report, and why it is refused.
+type Refused = (u32, u32, u32, DbError);
+
+// A database has to refuse it, and to stay as it was.
+fn expect_refused(rt: &impl Abort, db: &mut LoadDb, report: Refused) {
+    let (i, number, bytes, error) = report;
     let before = seen(db);
     let answer = db.report(i, round(rt, number), bytes, pe(rt, 0));
-    (answer, seen(db) == before)
+    assert_eq!(rt; answer, Err(error), "the report of {i} for {number}");
+    assert!(rt; seen(db) == before, "after the report of {i} for {number}");
 }
 
 #[test]
@@ -82,10 +81,8 @@ fn reports_that_are_refused(rt: HostRuntime) {
         (2, 3, 1_048_577, DbError::WrongRound),
         (2, 1, 1_048_577, DbError::Twice),
     ];
-    for (i, number, bytes, error) in refused {
-        let (answer, same) = report(&rt, &mut db, i, number, bytes);
-        assert_eq!(rt; answer, Err(error), "the report of {i} for {number}");
-        assert!(rt; same, "after the report of {i} for {number}");
+    for report in refused {
+        expect_refused(&rt, &mut db, report);
     }
 }
 
@@ -97,23 +94,30 @@ fn report_the_others(rt: &impl Abort, db: &mut LoadDb) {
     }
 }
 
-// The snapshot of the four elements once all have reported.
-fn taken(rt: &(impl Abort + AllocGlobal)) -> Snapshot {
-    let mut db = begun(rt);
-    report_the_others(rt, &mut db);
-    assert!(rt; db.stands_on(1));
-    db.snapshot(1, 1).expect(rt, "no snapshot")
+// The snapshot of a database whose elements stand on so many PEs.
+fn taken(rt: &impl Abort, db: &LoadDb, step: u32, pes: u32) -> Snapshot
+    requires some_pe { 1 ≤ pes }
+    requires few_pes { pes ≤ 256 }
+{
+    assert!(rt; db.stands_on(pes));
+    db.snapshot(step, pes).expect(rt, "no snapshot")
+}
+
+// Whether this is the snapshot of the four elements.
+fn is_of_four(rt: &impl Abort, taken: &Snapshot) -> bool {
+    let loads = [0, 0, 4_294_967_295, 0];
+    let place = pe(rt, 0);
+    let sizes = [(1, place), (1, place), (5, place), (1, place)];
+    (taken.step(), taken.procs()) == (1, 1)
+        && taken.loads().as_slice() == loads.as_slice()
+        && taken.sizes().as_slice() == sizes.as_slice()
 }
 
 #[test]
 fn a_full_load_is_taken(rt: HostRuntime) {
-    let taken = taken(&rt);
-    assert_eq!(rt; (taken.step(), taken.procs()), (1, 1));
-    let loads = [0, 0, 4_294_967_295, 0];
-    assert!(rt; taken.loads().as_slice() == loads.as_slice());
-    let place = pe(&rt, 0);
-    let sizes = [(1, place), (1, place), (5, place), (1, place)];
-    assert!(rt; taken.sizes().as_slice() == sizes.as_slice());
+    let mut db = begun(&rt);
+    report_the_others(&rt, &mut db);
+    assert!(rt; is_of_four(&rt, &taken(&rt, &db, 1, 1)));
 }
 
 // A database of no elements in the last round.
@@ -134,9 +138,7 @@ fn no_elements(rt: HostRuntime) {
 
 #[test]
 fn no_elements_are_taken(rt: HostRuntime) {
-    let db = worn(&rt);
-    assert!(rt; db.stands_on(256));
-    let taken = db.snapshot(9, 256).expect(&rt, "no snapshot");
+    let taken = taken(&rt, &worn(&rt), 9, 256);
     assert_eq!(rt; taken.loads().len(), 0);
 }
 
@@ -188,10 +190,10 @@ fn the_next_round_has_its_own_reports(rt: HostRuntime) {
     assert!(rt; db.report(0, round(&rt, 2), 1, pe(&rt, 0)).is_ok());
 }
 
-// Whether an error has this text.
-fn has_text(rt: &(impl Abort + AllocGlobal), error: DbError, text: &str) -> bool {
+// Whether an error has this number and this text.
+fn has(rt: &(impl Abort + AllocGlobal), error: DbError, number: u8, text: &str) -> bool {
     let said = format!(in rt.alloc(); "{error}").expect(rt, "out of memory");
-    said.as_str() == text
+    error as u8 == number && said.as_str() == text
 }
 
 #[test]
@@ -206,7 +208,6 @@ fn numbers_and_texts(rt: HostRuntime) {
         (DbError::Worn, 7, "no round is left"),
     ];
     for (error, number, text) in errors {
-        assert_eq!(rt; error as u8, number, "{text}");
-        assert!(rt; has_text(&rt, error, text), "{text}");
+        assert!(rt; has(&rt, error, number, text), "{text}");
     }
 }

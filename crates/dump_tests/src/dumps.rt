@@ -151,6 +151,25 @@ fn faults_of_two(
     (reader.feed(start).err(), reader.feed(rest).err())
 }
 
+// Where the example with byte 255 at this offset is cut, its fault has to come with the piece that brings it.
+fn expect_with_its_piece(
+    rt: &(impl Abort + AllocGlobal),
+    offset: usize,
+    text: &[u8; 52],
+    fault: Option<DumpError>,
+) {
+    for cut in 0..=52usize {
+        let (start, rest) = text.split_at(cut);
+        let early = if brought_at(offset) < cut {
+            fault
+        } else {
+            None
+        };
+        let found = faults_of_two(rt.alloc(), start, rest);
+        assert!(rt; found == (early, fault), "{offset}, cut at {cut}");
+    }
+}
+
 #[test]
 fn a_fault_comes_with_its_piece(rt: HostRuntime) {
     for offset in 0..52usize {
@@ -160,16 +179,7 @@ fn a_fault_comes_with_its_piece(rt: HostRuntime) {
             Some(DumpError::Short(_)) => None,
             fault => fault,
         };
-        for cut in 0..=52usize {
-            let (start, rest) = text.split_at(cut);
-            let early = if brought_at(offset) < cut {
-                fault
-            } else {
-                None
-            };
-            let found = faults_of_two(rt.alloc(), start, rest);
-            assert!(rt; found == (early, fault), "{offset}, cut at {cut}");
-        }
+        expect_with_its_piece(&rt, offset, &text, fault);
     }
 }
 
@@ -208,13 +218,14 @@ fn first_faults(rt: HostRuntime) {
     }
 }
 
-// The fault of the example that is read so many bytes a call, where one call fails so, and how often it was called.
+// The fault of a text that is read so many bytes a call, where one call fails so, and how many calls there were.
 fn read_with(
     alloc: Global,
+    text: &[u8],
     at_once: usize,
     fails: (usize, ErrorKind),
 ) -> (Option<DumpError>, usize) {
-    let mut source = Source::new(&EXAMPLE, at_once, Some(fails));
+    let mut source = Source::new(text, at_once, Some(fails));
     let fault = read_from(alloc, &mut source).err();
     (fault, source.calls)
 }
@@ -228,7 +239,7 @@ fn a_reader_that_fails_once(rt: HostRuntime) {
     ] {
         for (at_once, calls) in [(1, 53), (7, 9), (64, 2)] {
             for call in 0..calls {
-                let found = read_with(rt.alloc(), at_once, (call, kind));
+                let found = read_with(rt.alloc(), &EXAMPLE, at_once, (call, kind));
                 let expected = (Some(DumpError::Read), call.saturating_add(1));
                 assert!(rt; found == expected, "call {call} of {calls}");
             }
@@ -236,12 +247,17 @@ fn a_reader_that_fails_once(rt: HostRuntime) {
     }
 }
 
+// Whether the example is read from a reader that gives so many bytes a call, and fails after so many calls.
+fn reads_all(rt: &(impl Abort + AllocGlobal), at_once: usize, calls: usize) -> bool {
+    let mut source = Source::new(&EXAMPLE, at_once, Some((calls, ErrorKind::Other)));
+    let found = is_example(rt, &read_from(rt.alloc(), &mut source));
+    found && source.calls == calls
+}
+
 #[test]
 fn a_reader_that_does_not_fail(rt: HostRuntime) {
     for (at_once, calls) in [(1, 53), (7, 9), (64, 2)] {
-        let mut source = Source::new(&EXAMPLE, at_once, Some((calls, ErrorKind::Other)));
-        let found = is_example(&rt, &read_from(rt.alloc(), &mut source));
-        assert!(rt; found && source.calls == calls, "{at_once} bytes a call");
+        assert!(rt; reads_all(&rt, at_once, calls), "{at_once} bytes a call");
     }
 }
 
@@ -260,9 +276,7 @@ fn a_fault_before_a_failure(rt: HostRuntime) {
     wrong[20] = 255;
     // Byte 23 ends the size of element 0.
     for (at_once, calls) in [(1, 24), (7, 4), (64, 1)] {
-        let mut source = Source::new(&wrong, at_once, Some((calls, ErrorKind::Other)));
-        let fault = read_from(rt.alloc(), &mut source).err();
-        let found = (fault, source.calls);
+        let found = read_with(rt.alloc(), &wrong, at_once, (calls, ErrorKind::Other));
         assert!(rt;
             found == (Some(DumpError::Size(0)), calls),
             "{at_once} bytes a call"
@@ -270,8 +284,8 @@ fn a_fault_before_a_failure(rt: HostRuntime) {
     }
 }
 
-// The fault of a writer that takes so many bytes a call, where one call fails so, and how often it was called, if it
-// has a start of the example.
+// The fault of a writer that takes so many bytes a call, where one call fails so, and how many calls there were, if
+// it has a start of the example.
 fn write_with(
     rt: &impl AllocGlobal,
     snapshot: &Snapshot,
@@ -300,7 +314,7 @@ fn a_writer_that_fails_once(rt: HostRuntime) {
     }
 }
 
-// Whether a writer that takes so many bytes a call, and fails after so many, has the whole example.
+// Whether a writer that takes so many bytes a call, and fails after so many calls, has the whole example.
 fn writes_all(rt: &impl AllocGlobal, snapshot: &Snapshot, at_once: usize, calls: usize) -> bool {
     let mut sink = Sink::new(rt, at_once, calls, None);
     let wrote = write_to(&mut sink, snapshot).is_ok();
