@@ -100,6 +100,17 @@ fn each_forged_naming_has_its_flaw(rt: HostRuntime) {
     }
 }
 
+// It has to find this flaw in the example decision with these bytes moved and these moves.
+fn expect_in_moves(
+    rt: &(impl Abort + AllocGlobal),
+    moved: u64,
+    moves: &[(u32, u32, u32)],
+    flaw: Flaw,
+) {
+    let found = verdict(rt, DIVISION, NAMING, (moved, moves));
+    assert_eq!(rt; found, Err(flaw), "moved {moved}, moves {moves:?}");
+}
+
 #[test]
 fn each_forged_list_of_moves_has_its_flaw(rt: HostRuntime) {
     let forged: [(u64, &[(u32, u32, u32)], Flaw); 4] = [
@@ -109,8 +120,7 @@ fn each_forged_list_of_moves_has_its_flaw(rt: HostRuntime) {
         (10, &[(1, 1, 0)], Flaw::MovesWrong),
     ];
     for (moved, moves, flaw) in forged {
-        let found = verdict(&rt, DIVISION, NAMING, (moved, moves));
-        assert_eq!(rt; found, Err(flaw), "moved {moved}, moves {moves:?}");
+        expect_in_moves(&rt, moved, moves, flaw);
     }
 }
 
