@@ -15,8 +15,8 @@ use std::alloc::Allocator;
 
 /// The snapshot, where the text ends here, or `Short` where it is not whole. It takes no memory.
 pub fn snapshot_at_end<A: Allocator>(held: Held<A>) -> Result<Snapshot<A>, DumpError>
-    requires { IsHeld held }
-    ensures { EndsText (text_of held) result }
+    requires held { IsHeld held }
+    ensures ends { EndsText (text_of held) result }
 {
     let Held {
         head,
