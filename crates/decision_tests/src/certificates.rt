@@ -31,17 +31,6 @@ fn verdict_unfenced(
     check_division(&loads(rt, units), pes, &division)
 }
 
-// The check has to say this of the example's loads with bottleneck 2, these cuts and this fence.
-fn expect_of_division(
-    rt: &(impl Abort + AllocGlobal),
-    cuts: &[u32],
-    stops: &[u32],
-    expected: Result<(), Flaw>,
-) {
-    let found = verdict(rt, &[1, 1, 2], 2, 2, (cuts, stops));
-    assert_eq!(rt; found, expected, "cuts {cuts:?}, fence {stops:?}");
-}
-
 #[test]
 fn each_forged_division_has_its_flaw(rt: HostRuntime) {
     let good: ([u32; 3], [u32; 3]) = ([0, 2, 3], [0, 1, 2]);
@@ -61,7 +50,8 @@ fn each_forged_division_has_its_flaw(rt: HostRuntime) {
         (&good.0, &[0, 0, 2], Err(Flaw::FenceLight(1))),
     ];
     for (cuts, stops, expected) in forged {
-        expect_of_division(&rt, cuts, stops, expected);
+        let found = verdict(&rt, &[1, 1, 2], 2, 2, (cuts, stops));
+        assert_eq!(rt; found, expected, "cuts {cuts:?}, fence {stops:?}");
     }
 }
 
@@ -199,22 +189,6 @@ fn the_example_is_a_snapshot(rt: HostRuntime) {
     assert!(rt; is_example(&snapshot, &pairs(&rt, &placed)));
 }
 
-// Whether this makes a snapshot, which it has to do or not.
-fn expect_made(
-    rt: &(impl Abort + AllocGlobal),
-    procs: u32,
-    units: &[Units],
-    placed: &[(u32, u32)],
-    made: bool,
-) {
-    let found = taken(rt, procs, units, placed).is_some();
-    assert_eq!(rt;
-        found,
-        made,
-        "procs {procs}, loads {units:?}, sizes {placed:?}"
-    );
-}
-
 #[test]
 fn a_snapshot_within_its_limits(rt: HostRuntime) {
     let placed = [(10, 0), (9, 1), (8, 0)];
@@ -227,33 +201,27 @@ fn a_snapshot_within_its_limits(rt: HostRuntime) {
         (1, &[1, 1, 2], &placed, false),
     ];
     for (procs, units, placed, made) in rows {
-        expect_made(&rt, procs, units, placed, made);
+        let found = taken(&rt, procs, units, placed).is_some();
+        assert_eq!(rt;
+            found,
+            made,
+            "procs {procs}, loads {units:?}, sizes {placed:?}"
+        );
     }
-}
-
-// How many sizes come back of these.
-fn sizes_back(sizes: Sizes) -> usize {
-    sizes.into_vec().len()
-}
-
-// Whether these are refused.
-fn are_refused(pairs: Vec<(u32, Pe)>) -> bool {
-    Sizes::new(pairs).is_none()
-}
-
-// One element more than there may be.
-fn too_many(rt: &(impl Abort + AllocGlobal)) -> Vec<(u32, Pe)> {
-    let nowhere = (0, pe(rt, 0));
-    let most = vec![in rt.alloc(); nowhere; Limits::ELEMENTS as usize + 1];
-    most.expect(rt, "out of memory")
 }
 
 #[test]
 fn sizes_within_their_limits(rt: HostRuntime) {
-    assert_eq!(rt; sizes_back(sizes(&rt, &[(1_048_576, 255)])), 1);
-    let large = pairs(&rt, &[(1_048_577, 0)]);
-    assert!(rt; are_refused(large), "one byte too many");
-    assert!(rt; are_refused(too_many(&rt)), "one element too many");
+    let largest = sizes(&rt, &[(1_048_576, 255)]);
+    assert_eq!(rt; largest.into_vec().len(), 1);
+    assert!(rt;
+        Sizes::new(pairs(&rt, &[(1_048_577, 0)])).is_none(),
+        "one byte too many"
+    );
+    let nowhere = (0, pe(&rt, 0));
+    let most = vec![in rt.alloc(); nowhere; Limits::ELEMENTS as usize + 1];
+    let most = most.expect(&rt, "out of memory");
+    assert!(rt; Sizes::new(most).is_none(), "one element too many");
 }
 
 // Whether these cuts are seen, and come back.
@@ -274,12 +242,6 @@ fn lists_come_back(rt: HostRuntime) {
     assert!(rt; stops_come_back(&rt, &[0, 3, 4]));
 }
 
-// The reference has to find this peak.
-fn expect_least(rt: &(impl Abort + AllocGlobal), units: &[Units], pes: u32, least: Option<u64>) {
-    let found = reference::least_peak(&loads(rt, units), pes);
-    assert_eq!(rt; found, least, "loads {units:?} on {pes}");
-}
-
 #[test]
 fn the_reference_tries_every_division(rt: HostRuntime) {
     let rows: [(&[Units], u32, Option<u64>); 7] = [
@@ -292,6 +254,7 @@ fn the_reference_tries_every_division(rt: HostRuntime) {
         (&[5, 7], 4, Some(7)),
     ];
     for (units, pes, least) in rows {
-        expect_least(&rt, units, pes, least);
+        let found = reference::least_peak(&loads(&rt, units), pes);
+        assert_eq!(rt; found, least, "loads {units:?} on {pes}");
     }
 }

@@ -30,17 +30,6 @@ fn verdict(
     judged(rt, decision(rt, division, names, moving))
 }
 
-// The check has to say this of the example decision with these cuts and this fence.
-fn expect_of_division(
-    rt: &(impl Abort + AllocGlobal),
-    cuts: &[u32],
-    stops: &[u32],
-    expected: Result<(), Flaw>,
-) {
-    let found = verdict(rt, (cuts, stops), NAMING, MOVING);
-    assert_eq!(rt; found, expected, "cuts {cuts:?}, fence {stops:?}");
-}
-
 #[test]
 fn each_forged_division_has_its_flaw(rt: HostRuntime) {
     let forged: [(&[u32], &[u32], Result<(), Flaw>); 13] = [
@@ -59,7 +48,8 @@ fn each_forged_division_has_its_flaw(rt: HostRuntime) {
         (&[0, 2, 3], &[0, 0, 2], Err(Flaw::FenceLight(1))),
     ];
     for (cuts, stops, expected) in forged {
-        expect_of_division(&rt, cuts, stops, expected);
+        let found = verdict(&rt, (cuts, stops), NAMING, MOVING);
+        assert_eq!(rt; found, expected, "cuts {cuts:?}, fence {stops:?}");
     }
 }
 
@@ -67,18 +57,6 @@ fn each_forged_division_has_its_flaw(rt: HostRuntime) {
 fn a_floor_of_zero_is_forged(rt: HostRuntime) {
     let forged = decision_with(&rt, unfenced(&rt, 2, &[0, 2, 3]), NAMING, MOVING);
     assert_eq!(rt; judged(&rt, forged), Err(Flaw::ZeroFloor));
-}
-
-// It has to find this flaw in the example decision with these names and prices.
-fn expect_in_naming(
-    rt: &(impl Abort + AllocGlobal),
-    names: &[u32],
-    u: &[i64],
-    v: &[i64],
-    flaw: Flaw,
-) {
-    let found = verdict(rt, DIVISION, (names, u, v), MOVING);
-    assert_eq!(rt; found, Err(flaw), "names {names:?}, prices {u:?} {v:?}");
 }
 
 #[test]
@@ -96,19 +74,9 @@ fn each_forged_naming_has_its_flaw(rt: HostRuntime) {
         (&[0, 1], &[10, 1], &[-1, 0], Flaw::PriceGap),
     ];
     for (names, u, v, flaw) in forged {
-        expect_in_naming(&rt, names, u, v, flaw);
+        let found = verdict(&rt, DIVISION, (names, u, v), MOVING);
+        assert_eq!(rt; found, Err(flaw), "names {names:?}, prices {u:?} {v:?}");
     }
-}
-
-// It has to find this flaw in the example decision with these bytes moved and these moves.
-fn expect_in_moves(
-    rt: &(impl Abort + AllocGlobal),
-    moved: u64,
-    moves: &[(u32, u32, u32)],
-    flaw: Flaw,
-) {
-    let found = verdict(rt, DIVISION, NAMING, (moved, moves));
-    assert_eq!(rt; found, Err(flaw), "moved {moved}, moves {moves:?}");
 }
 
 #[test]
@@ -120,29 +88,26 @@ fn each_forged_list_of_moves_has_its_flaw(rt: HostRuntime) {
         (10, &[(1, 1, 0)], Flaw::MovesWrong),
     ];
     for (moved, moves, flaw) in forged {
-        expect_in_moves(&rt, moved, moves, flaw);
+        let found = verdict(&rt, DIVISION, NAMING, (moved, moves));
+        assert_eq!(rt; found, Err(flaw), "moved {moved}, moves {moves:?}");
     }
 }
 
 // Where an element of the example is to run by this decision, if it is right.
-fn place_by(example: &Snapshot, decision: &Decision, index: Index) -> Option<u32> {
-    let accepted = check(example, 2, decision).is_ok();
+fn place_by(rt: &(impl Abort + AllocGlobal), decision: Decision, place: u32) -> Option<u32> {
+    let example = snapshot(rt, 2, &EXAMPLE);
+    let index = index(rt, place);
+    let accepted = check(&example, 2, &decision).is_ok();
     if accepted && (index.get() as usize) < example.sizes().len() {
         return Some(decision.place_of(index).get());
     }
     None
 }
 
-// Where it is to run by the example's decision.
-fn place_of(rt: &(impl Abort + AllocGlobal), index: Index) -> Option<u32> {
-    let example = snapshot(rt, 2, &EXAMPLE);
-    place_by(&example, &decision(rt, DIVISION, NAMING, MOVING), index)
-}
-
 #[test]
 fn an_element_runs_where_its_block_does(rt: HostRuntime) {
     for (place, planned) in [(0u32, 1), (1, 1), (2, 0)] {
-        let found = place_of(&rt, index(&rt, place));
+        let found = place_by(&rt, decision(&rt, DIVISION, NAMING, MOVING), place);
         assert_eq!(rt; found, Some(planned), "element {place}");
     }
 }
@@ -178,13 +143,6 @@ fn says(decision: &Decision, row: Row<'_>) -> bool {
         && are_rows(decision.moves.as_slice(), row.moves)
 }
 
-fn planned(rt: &(impl Abort + AllocGlobal), taken: &Snapshot, pes: u32) -> Decision
-    requires some_pe { 1 ≤ pes }
-    requires few_pes { pes ≤ 256 }
-{
-    plan(rt.alloc(), taken, pes).expect(rt, "out of memory")
-}
-
 // Whether the plan for the snapshot of these elements says this, and is accepted for as many PEs alone.
 fn plans(
     rt: &(impl Abort + AllocGlobal),
@@ -197,7 +155,8 @@ fn plans(
     requires few_pes { pes ≤ 4 }
 {
     let taken = snapshot(rt, procs, elements);
-    is_planned(&taken, pes, &planned(rt, &taken, pes), row)
+    let decision = plan(rt.alloc(), &taken, pes).expect(rt, "out of memory");
+    is_planned(&taken, pes, &decision, row)
 }
 
 fn is_planned(taken: &Snapshot, pes: u32, decision: &Decision, row: Row<'_>) -> bool
@@ -252,7 +211,7 @@ fn six_elements_are_planned_for_three(rt: HostRuntime) {
 
 #[test]
 fn six_elements_have_their_fence(rt: HostRuntime) {
-    let decision = planned(&rt, &snapshot(&rt, 3, &SIX), 3);
+    let decision = plan(rt.alloc(), &snapshot(&rt, 3, &SIX), 3).expect(&rt, "out of memory");
     assert!(rt; has_stops(&decision, &[0, 1, 2, 3]));
 }
 
@@ -322,9 +281,9 @@ fn check_renamed(
 #[test]
 fn each_cheapest_naming_is_accepted(rt: HostRuntime) {
     let two = snapshot(&rt, 2, &[(1, 8, 0), (1, 8, 0)]);
+    let planned = plan(rt.alloc(), &two, 2).expect(&rt, "out of memory");
     let (naming, moves) = (naming(&rt, &[1, 0]), moves(&rt, &[(0, 0, 1)]));
-    let found = check_renamed(&two, planned(&rt, &two, 2), naming, moves);
-    assert_eq!(rt; found, Ok(()));
+    assert_eq!(rt; check_renamed(&two, planned, naming, moves), Ok(()));
 }
 
 #[test]
@@ -368,7 +327,8 @@ fn checked(rt: &(impl Abort + AllocGlobal), taken: &Snapshot, pes: u32) -> Resul
     requires some_pe { 1 ≤ pes }
     requires few_pes { pes ≤ 256 }
 {
-    check(taken, pes, &planned(rt, taken, pes))
+    let decision = plan(rt.alloc(), taken, pes).expect(rt, "out of memory");
+    check(taken, pes, &decision)
 }
 
 #[test]
@@ -393,7 +353,8 @@ fn is_decision_copied(rt: &impl Abort, decision: &Decision) -> bool {
 fn a_copy_is_equal(rt: HostRuntime) {
     let mixed = mixed(&rt);
     assert!(rt; is_copied(&rt, &mixed));
-    assert!(rt; is_decision_copied(&rt, &planned(&rt, &mixed, 4)));
+    let decision = plan(rt.alloc(), &mixed, 4).expect(&rt, "out of memory");
+    assert!(rt; is_decision_copied(&rt, &decision));
 }
 
 // The bottleneck, the bytes moved and the number of moves of the plan for a full array, and its names.
@@ -401,25 +362,20 @@ fn full_plan(rt: &(impl Abort + AllocGlobal), pes: u32) -> ((u64, u64, usize), V
     requires some_pe { 1 ≤ pes }
     requires few_pes { pes ≤ 256 }
 {
-    let decision = planned(rt, &full(rt), pes);
+    let decision = plan(rt.alloc(), &full(rt), pes).expect(rt, "out of memory");
     let moves = decision.moves.as_slice().len();
     let names = list(rt, decision.naming.as_slice());
     ((decision.division.bottleneck, decision.moved, moves), names)
 }
 
-// The name of each of the 256 blocks has to be the next number.
-fn expect_next_numbers(rt: &impl Abort, names: &[u32]) {
+#[test]
+fn a_full_array_on_all_pes(rt: HostRuntime) {
+    let (numbers, names) = full_plan(&rt, 256);
+    assert_eq!(rt; numbers, (256, 0, 0));
     for b in 0..256u32 {
         let name = names.get(b as usize).copied();
         assert_eq!(rt; name, Some((b + 1) % 256), "block {b}");
     }
-}
-
-#[test]
-fn a_full_array_on_all_pes(rt: HostRuntime) {
-    let (numbers, names) = full_plan(&rt, 256);
-    assert!(rt; numbers == (256, 0, 0));
-    expect_next_numbers(&rt, &names);
 }
 
 #[test]
@@ -428,16 +384,18 @@ fn a_full_array_on_one_pe(rt: HostRuntime) {
     assert_eq!(rt; numbers, (65_536, 522_240, 65_280));
 }
 
-// Whether an error has this text.
-fn has_text(rt: &(impl Abort + AllocGlobal), error: PlanError, text: &str) -> bool {
-    let said = format!(in rt.alloc(); "{error}").expect(rt, "out of memory");
-    said.as_str() == text
-}
-
 #[test]
 fn the_error_has_its_number_and_text(rt: HostRuntime) {
     let error = PlanError::OutOfMemory;
     assert_eq!(rt; error as u8, 2);
-    assert!(rt; has_text(&rt, error, "out of memory"));
-    assert!(rt; PlanError::from(NameError::OutOfMemory) == error);
+    assert_eq!(rt;
+        format!(in rt.alloc(); "{error}")
+            .expect(&rt, "out of memory")
+            .as_str(),
+        "out of memory"
+    );
+    assert_eq!(rt;
+        PlanError::from(NameError::OutOfMemory),
+        PlanError::OutOfMemory
+    );
 }

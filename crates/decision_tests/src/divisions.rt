@@ -30,23 +30,6 @@ fn is_division(division: &Division, bottleneck: u64, cuts: &[u32], fence: &[u32]
         && stops(division) == fence
 }
 
-// The division of these loads has to have this bottleneck, these cuts and these stops.
-fn expect_division(
-    rt: &(impl Abort + AllocGlobal),
-    units: &[Units],
-    pes: u32,
-    bottleneck: u64,
-    cuts: &[u32],
-    fence: &[u32],
-)
-    requires some_pe { 1 ≤ pes }
-    requires few_pes { pes ≤ 256 }
-{
-    let division = divided(rt, &loads(rt, units), pes);
-    let found = is_division(&division, bottleneck, cuts, fence);
-    assert!(rt; found, "loads {units:?} on {pes}");
-}
-
 #[test]
 fn the_examples_have_their_divisions(rt: HostRuntime) {
     let rows: [(&[Units], u32, u64, &[u32], &[u32]); 7] = [
@@ -59,7 +42,9 @@ fn the_examples_have_their_divisions(rt: HostRuntime) {
         (&[1, 1, 2], 1, 4, &[0, 3], &[0, 2]),
     ];
     for (units, pes, bottleneck, cuts, fence) in rows {
-        expect_division(&rt, units, pes, bottleneck, cuts, fence);
+        let division = divided(&rt, &loads(&rt, units), pes);
+        let found = is_division(&division, bottleneck, cuts, fence);
+        assert!(rt; found, "loads {units:?} on {pes}");
     }
 }
 
@@ -92,24 +77,6 @@ fn is_probe(answer: Probe, fits: bool, expected: &[u32]) -> bool {
     fitted == fits && ends.as_slice() == expected
 }
 
-// A probe of these loads on two PEs has to fit or not with these ends, and one of their running sums too.
-fn expect_probe(
-    rt: &(impl Abort + AllocGlobal),
-    loads: &Loads,
-    prefix: &Prefix,
-    limit: u64,
-    fits: bool,
-    ends: &[u32],
-) {
-    let answer = probe(rt.alloc(), loads, 2, limit).expect(rt, "out of memory");
-    assert!(rt; is_probe(answer, fits, ends), "limit {limit}");
-    let again = probe_on(rt.alloc(), prefix, 2, limit).expect(rt, "out of memory");
-    assert!(rt;
-        is_probe(again, fits, ends),
-        "limit {limit} on running sums"
-    );
-}
-
 #[test]
 fn probes_fit_or_stop(rt: HostRuntime) {
     let five = loads(&rt, &[1, 2, 3, 4, 5]);
@@ -122,7 +89,13 @@ fn probes_fit_or_stop(rt: HostRuntime) {
         (u64::MAX, true, &[0, 5, 5]),
     ];
     for (limit, fits, list) in rows {
-        expect_probe(&rt, &five, &prefix, limit, fits, list);
+        let answer = probe(rt.alloc(), &five, 2, limit).expect(&rt, "out of memory");
+        assert!(rt; is_probe(answer, fits, list), "limit {limit}");
+        let again = probe_on(rt.alloc(), &prefix, 2, limit).expect(&rt, "out of memory");
+        assert!(rt;
+            is_probe(again, fits, list),
+            "limit {limit} on running sums"
+        );
     }
 }
 
@@ -134,19 +107,13 @@ fn load_of(prefix: &Prefix, first: usize, end: usize) -> Option<u64> {
     None
 }
 
-// The ranges of the loads 1 to 5 have to have their loads.
-fn expect_loads(rt: &impl Abort, prefix: &Prefix) {
-    for (first, end, load) in [(0, 0, 0), (0, 5, 15), (2, 5, 12), (4, 5, 5), (5, 5, 0)] {
-        assert_eq!(rt; load_of(prefix, first, end), Some(load), "{first}..{end}");
-    }
-}
-
 #[test]
 fn loads_of_ranges_by_running_sums(rt: HostRuntime) {
-    let prefix = Prefix::of(rt.alloc(), &loads(&rt, &[1, 2, 3, 4, 5]));
-    let prefix = prefix.expect(&rt, "out of memory");
+    let prefix = Prefix::of(rt.alloc(), &loads(&rt, &[1, 2, 3, 4, 5])).expect(&rt, "out of memory");
     assert!(rt; prefix.len() == 5 && !prefix.is_empty());
-    expect_loads(&rt, &prefix);
+    for (first, end, load) in [(0, 0, 0), (0, 5, 15), (2, 5, 12), (4, 5, 5), (5, 5, 0)] {
+        assert_eq!(rt; load_of(&prefix, first, end), Some(load), "{first}..{end}");
+    }
 }
 
 fn full_loads(rt: &(impl Abort + AllocGlobal)) -> Loads {

@@ -67,49 +67,33 @@ fn named(
     (table.cost_of(&names), names)
 }
 
-// What the names cost that are found, and whether each block has its own number.
-fn named_by_numbers(
-    rt: &(impl Abort + AllocGlobal),
-    pairs: &[(u32, u32)],
-    each: u32,
-) -> (u64, bool) {
-    let (cost, names) = named(rt, pairs, 256, each);
-    (cost, are_numbers(&names))
-}
-
-// So many elements of this size, on all PEs by turns.
-fn spread(rt: &(impl Abort + AllocGlobal), count: u32, bytes: u32) -> Vec<(u32, u32)> {
-    let mut pairs = Vec::new(rt.alloc());
-    for i in 0..count {
-        pairs.push((bytes, i % 256)).expect(rt, "out of memory");
-    }
-    pairs
-}
-
 #[test]
 fn equal_costs(rt: HostRuntime) {
-    let found = named_by_numbers(&rt, &spread(&rt, 65_536, 1), 256);
-    assert!(rt; found == (256 * 255, true));
+    let mut pairs = Vec::new(rt.alloc());
+    for i in 0..65_536u32 {
+        pairs.push((1, i % 256)).expect(&rt, "out of memory");
+    }
+    let (cost, names) = named(&rt, &pairs, 256, 256);
+    assert!(rt; cost == 256 * 255 && are_numbers(&names));
 }
 
 #[test]
 fn costs_of_zero(rt: HostRuntime) {
-    let found = named_by_numbers(&rt, &spread(&rt, 256, 0), 1);
-    assert!(rt; found == (0, true));
-}
-
-// Elements of 1 to 256 bytes on one PE.
-fn together(rt: &(impl Abort + AllocGlobal)) -> Vec<(u32, u32)> {
     let mut pairs = Vec::new(rt.alloc());
     for i in 0..256u32 {
-        pairs.push((i + 1, 77)).expect(rt, "out of memory");
+        pairs.push((0, i)).expect(&rt, "out of memory");
     }
-    pairs
+    let (cost, names) = named(&rt, &pairs, 256, 1);
+    assert!(rt; cost == 0 && are_numbers(&names));
 }
 
 #[test]
 fn all_blocks_cheapest_on_one_pe(rt: HostRuntime) {
-    let (cost, _) = named_by_numbers(&rt, &together(&rt), 1);
+    let mut pairs = Vec::new(rt.alloc());
+    for i in 0..256u32 {
+        pairs.push((i + 1, 77)).expect(&rt, "out of memory");
+    }
+    let (cost, _) = named(&rt, &pairs, 256, 1);
     assert_eq!(rt; cost, 255 * 256 / 2);
 }
 
@@ -124,18 +108,13 @@ fn equal_pairs(rt: &(impl Abort + AllocGlobal)) -> Vec<(u32, u32)> {
     pairs
 }
 
-// The 256 blocks have to have the names of their cheapest PEs, in their order.
-fn expect_cheapest(rt: &impl Abort, names: &[u32]) {
+#[test]
+fn pairs_of_equal_blocks(rt: HostRuntime) {
+    let (_, names) = named(&rt, &equal_pairs(&rt), 256, 2);
     for b in 0..256u32 {
         let name = names.get(b as usize).copied();
         assert_eq!(rt; name, Some(254 - b / 2 * 2 + b % 2), "block {b}");
     }
-}
-
-#[test]
-fn pairs_of_equal_blocks(rt: HostRuntime) {
-    let (_, names) = named(&rt, &equal_pairs(&rt), 256, 2);
-    expect_cheapest(&rt, &names);
 }
 
 // The naming of this number, in dictionary order of all lists of names of so many blocks, at most five.
@@ -211,18 +190,14 @@ fn table_of_bits(rt: &(impl Abort + AllocGlobal), blocks: u32, bits: u32) -> Cos
     table_of(rt, &pairs, blocks, blocks)
 }
 
-// All tables of so many blocks have to get the first of the cheapest of these namings.
-fn expect_first(rt: &(impl Abort + AllocGlobal), blocks: u32, namings: &[[u32; 5]]) {
-    for bits in 0..2u32.saturating_pow(blocks.saturating_mul(blocks)) {
-        let found = is_first(rt, &table_of_bits(rt, blocks, bits), namings);
-        assert!(rt; found, "{blocks} blocks, {bits}");
-    }
-}
-
 #[test]
 fn all_tables_of_two_costs(rt: HostRuntime) {
     for blocks in 1..=4u32 {
-        expect_first(&rt, blocks, &all_namings(&rt, blocks));
+        let namings = all_namings(&rt, blocks);
+        for bits in 0..2u32.saturating_pow(blocks.saturating_mul(blocks)) {
+            let table = table_of_bits(&rt, blocks, bits);
+            assert!(rt; is_first(&rt, &table, &namings), "{blocks} blocks, {bits}");
+        }
     }
 }
 

@@ -8,24 +8,24 @@ use lb_certificates::{
 use lb_strategy::{Decision, Moves};
 use std::process::Abort;
 
-pub fn list<T: Copy>(rt: &(impl Abort + AllocGlobal), items: &[T]) -> Vec<T> {
+pub(crate) fn list<T: Copy>(rt: &(impl Abort + AllocGlobal), items: &[T]) -> Vec<T> {
     Vec::from_slice(rt.alloc(), items).expect(rt, "out of memory")
 }
 
-pub fn pe(rt: &(impl Abort + AllocGlobal), number: u32) -> Pe {
+pub(crate) fn pe(rt: &(impl Abort + AllocGlobal), number: u32) -> Pe {
     Pe::new(number).expect(rt, "no such PE")
 }
 
-pub fn index(rt: &(impl Abort + AllocGlobal), place: u32) -> Index {
+pub(crate) fn index(rt: &(impl Abort + AllocGlobal), place: u32) -> Index {
     Index::new(place).expect(rt, "no such element")
 }
 
-pub fn loads(rt: &(impl Abort + AllocGlobal), units: &[Units]) -> Loads {
+pub(crate) fn loads(rt: &(impl Abort + AllocGlobal), units: &[Units]) -> Loads {
     Loads::new(list(rt, units)).expect(rt, "too many loads")
 }
 
 /// The bytes and the PE of each element.
-pub fn pairs(rt: &(impl Abort + AllocGlobal), elements: &[(u32, u32)]) -> Vec<(u32, Pe)> {
+pub(crate) fn pairs(rt: &(impl Abort + AllocGlobal), elements: &[(u32, u32)]) -> Vec<(u32, Pe)> {
     let mut pairs = Vec::new(rt.alloc());
     for &(bytes, place) in elements {
         let pair = (bytes, pe(rt, place));
@@ -34,12 +34,12 @@ pub fn pairs(rt: &(impl Abort + AllocGlobal), elements: &[(u32, u32)]) -> Vec<(u
     pairs
 }
 
-pub fn sizes(rt: &(impl Abort + AllocGlobal), elements: &[(u32, u32)]) -> Sizes {
+pub(crate) fn sizes(rt: &(impl Abort + AllocGlobal), elements: &[(u32, u32)]) -> Sizes {
     Sizes::new(pairs(rt, elements)).expect(rt, "past a limit")
 }
 
 /// The division with this bottleneck, these cuts and this fence.
-pub fn fenced(
+pub(crate) fn fenced(
     rt: &(impl Abort + AllocGlobal),
     bottleneck: u64,
     cuts: &[u32],
@@ -53,7 +53,7 @@ pub fn fenced(
 }
 
 /// The division with this bottleneck, these cuts and the floor zero.
-pub fn unfenced(rt: &(impl Abort + AllocGlobal), bottleneck: u64, cuts: &[u32]) -> Division {
+pub(crate) fn unfenced(rt: &(impl Abort + AllocGlobal), bottleneck: u64, cuts: &[u32]) -> Division {
     Division {
         bottleneck,
         cuts: Cuts::new(list(rt, cuts)),
@@ -61,11 +61,11 @@ pub fn unfenced(rt: &(impl Abort + AllocGlobal), bottleneck: u64, cuts: &[u32]) 
     }
 }
 
-pub fn naming(rt: &(impl Abort + AllocGlobal), names: &[u32]) -> Naming {
+pub(crate) fn naming(rt: &(impl Abort + AllocGlobal), names: &[u32]) -> Naming {
     Naming::new(list(rt, names))
 }
 
-pub fn prices(rt: &(impl Abort + AllocGlobal), u: &[i64], v: &[i64]) -> Prices {
+pub(crate) fn prices(rt: &(impl Abort + AllocGlobal), u: &[i64], v: &[i64]) -> Prices {
     Prices {
         u: PriceList::new(list(rt, u)),
         v: PriceList::new(list(rt, v)),
@@ -73,7 +73,7 @@ pub fn prices(rt: &(impl Abort + AllocGlobal), u: &[i64], v: &[i64]) -> Prices {
 }
 
 /// The snapshot at step 5 of elements with these loads, bytes and PEs.
-pub fn snapshot(
+pub(crate) fn snapshot(
     rt: &(impl Abort + AllocGlobal),
     procs: u32,
     elements: &[(u32, u32, u32)],
@@ -91,7 +91,7 @@ pub fn snapshot(
 }
 
 /// The cost table of the blocks between these cuts, which have to divide the elements.
-pub fn table(rt: &(impl Abort + AllocGlobal), sizes: &Sizes, ends: &[u32]) -> CostTable {
+pub(crate) fn table(rt: &(impl Abort + AllocGlobal), sizes: &Sizes, ends: &[u32]) -> CostTable {
     let cuts = Cuts::new(list(rt, ends));
     let count = cuts.as_slice().len();
     assert!(rt; 2 <= count && count <= 257, "no blocks, or too many");
@@ -100,7 +100,7 @@ pub fn table(rt: &(impl Abort + AllocGlobal), sizes: &Sizes, ends: &[u32]) -> Co
 }
 
 /// The moves with these numbers: of an element, its present PE and its planned one.
-pub fn moves(rt: &(impl Abort + AllocGlobal), rows: &[(u32, u32, u32)]) -> Moves {
+pub(crate) fn moves(rt: &(impl Abort + AllocGlobal), rows: &[(u32, u32, u32)]) -> Moves {
     let mut moves = Vec::new(rt.alloc());
     for &(moved, present, planned) in rows {
         let step = (index(rt, moved), pe(rt, present), pe(rt, planned));
@@ -110,7 +110,7 @@ pub fn moves(rt: &(impl Abort + AllocGlobal), rows: &[(u32, u32, u32)]) -> Moves
 }
 
 /// The decision with this division, these names and prices, bytes moved and moves.
-pub fn decision_with(
+pub(crate) fn decision_with(
     rt: &(impl Abort + AllocGlobal),
     division: Division,
     names: (&[u32], &[i64], &[i64]),
@@ -126,7 +126,7 @@ pub fn decision_with(
 }
 
 /// The decision with bottleneck 2 and these cuts and stops, names and prices, bytes moved and moves.
-pub fn decision(
+pub(crate) fn decision(
     rt: &(impl Abort + AllocGlobal),
     division: (&[u32], &[u32]),
     names: (&[u32], &[i64], &[i64]),
@@ -136,10 +136,10 @@ pub fn decision(
 }
 
 /// The cuts and the stops of the example's decision.
-pub const DIVISION: (&[u32], &[u32]) = (&[0, 2, 3], &[0, 1, 2]);
+pub(crate) const DIVISION: (&[u32], &[u32]) = (&[0, 2, 3], &[0, 1, 2]);
 
 /// Its names, and its prices of blocks and of PEs.
-pub const NAMING: (&[u32], &[i64], &[i64]) = (&[1, 0], &[10, 1], &[-1, 0]);
+pub(crate) const NAMING: (&[u32], &[i64], &[i64]) = (&[1, 0], &[10, 1], &[-1, 0]);
 
 /// Its bytes moved, and its moves.
-pub const MOVING: (u64, &[(u32, u32, u32)]) = (10, &[(0, 0, 1)]);
+pub(crate) const MOVING: (u64, &[(u32, u32, u32)]) = (10, &[(0, 0, 1)]);

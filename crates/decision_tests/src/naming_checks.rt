@@ -19,29 +19,9 @@ fn verdict(
     check_naming(&sizes(rt, pairs), &cuts, &naming, &prices)
 }
 
-// Cuts, names and prices of blocks and of PEs, and what the checker is to say of them.
-type Row<'a> = (
-    &'a [u32],
-    &'a [u32],
-    &'a [i64],
-    &'a [i64],
-    Result<u64, Flaw>,
-);
-
-// The checker has to say this of them for the example.
-fn expect_verdict(rt: &(impl Abort + AllocGlobal), row: Row<'_>) {
-    let (cuts, names, u, v, expected) = row;
-    let found = verdict(rt, &[(10, 0), (9, 1), (8, 0)], cuts, names, u, v);
-    assert_eq!(rt;
-        found,
-        expected,
-        "cuts {cuts:?}, names {names:?}, prices {u:?} {v:?}"
-    );
-}
-
 #[test]
 fn each_forged_naming_has_its_flaw(rt: HostRuntime) {
-    let forged: [Row<'_>; 15] = [
+    let forged: [(&[u32], &[u32], &[i64], &[i64], Result<u64, Flaw>); 15] = [
         (&[0, 2, 3], &[1, 0], &[10, 1], &[-1, 0], Ok(10)),
         (&[], &[1, 0], &[10, 1], &[-1, 0], Err(Flaw::CutCount)),
         (&[0], &[], &[], &[], Err(Flaw::CutCount)),
@@ -76,8 +56,13 @@ fn each_forged_naming_has_its_flaw(rt: HostRuntime) {
         (&[0, 2, 3], &[0, 1], &[10, 1], &[-1, 0], Err(Flaw::PriceGap)),
         (&[0, 2, 3], &[], &[10, 1], &[-1, 0], Err(Flaw::NameCount)),
     ];
-    for row in forged {
-        expect_verdict(&rt, row);
+    for (cuts, names, u, v, expected) in forged {
+        let found = verdict(&rt, &[(10, 0), (9, 1), (8, 0)], cuts, names, u, v);
+        assert_eq!(rt;
+            found,
+            expected,
+            "cuts {cuts:?}, names {names:?}, prices {u:?} {v:?}"
+        );
     }
 }
 
@@ -96,24 +81,22 @@ fn other_namings_by_hand(rt: HostRuntime) {
     assert_eq!(rt; found, Ok(7), "a PE that is no name");
 }
 
-// What the checker says of 256 names and no elements with these cuts, where each price is this.
-fn priced(rt: &(impl Abort + AllocGlobal), cuts: &[u32], price: i64) -> Result<u64, Flaw> {
-    let names: Vec<u32> = (0..256).collect(rt.alloc()).expect(rt, "out of memory");
-    let prices = [price; 256];
-    verdict(rt, &[], cuts, &names, &prices, &prices)
-}
-
 #[test]
 fn prices_at_the_ends_of_their_range(rt: HostRuntime) {
-    for (price, expected) in [
-        (i64::MIN, Err(Flaw::PriceGap)),
-        (i64::MAX, Err(Flaw::PriceHigh(0, 0))),
-        (0, Ok(0)),
+    let cuts = [0; 257];
+    let names: Vec<u32> = (0..256).collect(rt.alloc()).expect(&rt, "out of memory");
+    for (price, flaw) in [
+        (i64::MIN, Flaw::PriceGap),
+        (i64::MAX, Flaw::PriceHigh(0, 0)),
     ] {
-        let found = priced(&rt, &[0; 257], price);
-        assert_eq!(rt; found, expected, "prices of {price}");
+        let prices = [price; 256];
+        let found = verdict(&rt, &[], &cuts, &names, &prices, &prices);
+        assert_eq!(rt; found, Err(flaw), "prices of {price}");
     }
-    let found = priced(&rt, &[0; 258], 0);
+    let zeros = [0; 256];
+    assert_eq!(rt; verdict(&rt, &[], &cuts, &names, &zeros, &zeros), Ok(0));
+    let more = [0; 258];
+    let found = verdict(&rt, &[], &more, &names, &zeros, &zeros);
     assert_eq!(rt; found, Err(Flaw::CutCount), "257 blocks");
 }
 

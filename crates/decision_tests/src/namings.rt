@@ -49,19 +49,6 @@ fn is_named(rt: &(impl Abort + AllocGlobal), table: &CostTable, names: &[u32], c
     same && total(prices) == cost
 }
 
-// The table of these elements has to have these costs and names, and the names this cost.
-fn expect_names(
-    rt: &(impl Abort + AllocGlobal),
-    table: &CostTable,
-    pairs: &[(u32, u32)],
-    bytes: &[u64],
-    names: &[u32],
-    cost: i64,
-) {
-    assert!(rt; has_costs(rt, table, bytes), "costs of {pairs:?}");
-    assert!(rt; is_named(rt, table, names, cost), "names of {pairs:?}");
-}
-
 #[test]
 fn the_examples_have_their_names(rt: HostRuntime) {
     let rows: [(&[(u32, u32)], &[u32], &[u64], &[u32], i64); 5] = [
@@ -97,7 +84,8 @@ fn the_examples_have_their_names(rt: HostRuntime) {
     ];
     for (pairs, cuts, bytes, names, cost) in rows {
         let table = table(&rt, &sizes(&rt, pairs), cuts);
-        expect_names(&rt, &table, pairs, bytes, names, cost);
+        assert!(rt; has_costs(&rt, &table, bytes), "costs of {pairs:?}");
+        assert!(rt; is_named(&rt, &table, names, cost), "names of {pairs:?}");
     }
 }
 
@@ -209,18 +197,6 @@ fn elements(rt: &(impl Abort + AllocGlobal), blocks: u32, number: u32) -> Vec<(u
     pairs
 }
 
-// Each of 60 tables of at most four blocks with these cuts has to be named at the least cost.
-fn expect_cheapest(rt: &(impl Abort + AllocGlobal), cuts: &[u32], blocks: u32)
-    requires { blocks ≤ 4 }
-{
-    for number in 0..60 {
-        let pairs = elements(rt, blocks, number);
-        let table = table(rt, &sizes(rt, &pairs), cuts);
-        assert_eq!(rt; table.blocks(), blocks);
-        assert!(rt; is_cheapest(rt, &table), "elements {pairs:?}");
-    }
-}
-
 #[test]
 fn small_tables_are_named_at_the_least_cost(rt: HostRuntime) {
     for (cuts, blocks) in [
@@ -229,7 +205,12 @@ fn small_tables_are_named_at_the_least_cost(rt: HostRuntime) {
         (&[0, 2, 4, 6], 3),
         (&[0, 2, 4, 6, 8], 4),
     ] {
-        expect_cheapest(&rt, cuts, blocks);
+        for number in 0..60 {
+            let pairs = elements(&rt, blocks, number);
+            let table = table(&rt, &sizes(&rt, &pairs), cuts);
+            assert_eq!(rt; table.blocks(), blocks);
+            assert!(rt; is_cheapest(&rt, &table), "elements {pairs:?}");
+        }
     }
 }
 

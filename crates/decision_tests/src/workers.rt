@@ -5,7 +5,7 @@ ghost use Rattle.std.specs.Prelude.{◌≤◌};
 use crate::fixtures::{loads, snapshot};
 use chain_partition::divide_with;
 use chare_index::{Gate, NoGate};
-use lb_certificates::{Division, Floor, Loads, Snapshot, Units};
+use lb_certificates::{Division, Floor, Loads, Units};
 use lb_strategy::{Decision, check, plan_with};
 use std::process::Abort;
 use std::sync::atomic::{AtomicU64, Ordering};
@@ -122,15 +122,9 @@ fn is_planned(planned: &Decision) -> bool {
         && planned.moved == 10
 }
 
-// Whether three workers plan the example so, and the plan is accepted.
-fn plan_in_three<R: Threads + Sync + Abort + AllocGlobal>(rt: &R, example: &Snapshot) -> bool {
-    let planned = plan_with(rt, rt.alloc(), example, 2, 3, &NoGate).expect(rt, "out of memory");
-    let accepted = check(example, 2, &planned).is_ok();
-    accepted && is_planned(&planned)
-}
-
 #[test]
 fn three_workers_plan_the_example(rt: HostRuntime) {
     let example = snapshot(&rt, 2, &[(1, 10, 0), (1, 9, 1), (2, 8, 0)]);
-    assert!(rt; plan_in_three(&rt, &example));
+    let planned = plan_with(&rt, rt.alloc(), &example, 2, 3, &NoGate).expect(&rt, "out of memory");
+    assert!(rt; check(&example, 2, &planned).is_ok() && is_planned(&planned));
 }
