@@ -8,17 +8,17 @@ use std::io::{self, Error, ErrorKind, Read, Write};
 use std::process::Abort;
 
 /// Step 5, 2 PEs, 3 elements: their loads, sizes and places.
-pub const EXAMPLE: [u8; 52] = *b"LBD1\
+pub(crate) const EXAMPLE: [u8; 52] = *b"LBD1\
     \0\0\0\x05\0\0\0\x02\0\0\0\x03\
     \0\0\0\x01\0\0\0\x0a\0\0\0\0\
     \0\0\0\x01\0\0\0\x09\0\0\0\x01\
     \0\0\0\x02\0\0\0\x08\0\0\0\0";
 
-pub fn pe(rt: &impl Abort, number: u32) -> Pe {
+pub(crate) fn pe(rt: &impl Abort, number: u32) -> Pe {
     Pe::new(number).expect(rt, "no such PE")
 }
 
-pub fn example(rt: &(impl Abort + AllocGlobal)) -> Snapshot {
+pub(crate) fn example(rt: &(impl Abort + AllocGlobal)) -> Snapshot {
     let loads = [1, 1, 2].to_vec(rt.alloc()).expect(rt, "out of memory");
     let mut pairs = Vec::new(rt.alloc());
     for (size, place) in [(10, 0), (9, 1), (8, 0)] {
@@ -31,7 +31,10 @@ pub fn example(rt: &(impl Abort + AllocGlobal)) -> Snapshot {
 }
 
 /// Whether the example was found.
-pub fn is_example(rt: &(impl Abort + AllocGlobal), found: &Result<Snapshot, DumpError>) -> bool {
+pub(crate) fn is_example(
+    rt: &(impl Abort + AllocGlobal),
+    found: &Result<Snapshot, DumpError>,
+) -> bool {
     let Ok(found) = found else { return false };
     *found == example(rt)
 }
@@ -46,7 +49,7 @@ fn full_element(i: u32) -> (u32, u32, u32) {
 }
 
 /// The most elements on the most PEs, at the greatest step.
-pub fn full(rt: &(impl Abort + AllocGlobal)) -> Snapshot {
+pub(crate) fn full(rt: &(impl Abort + AllocGlobal)) -> Snapshot {
     let mut loads = Vec::new(rt.alloc());
     let mut pairs = Vec::new(rt.alloc());
     for i in 0..65_536u32 {
@@ -61,13 +64,16 @@ pub fn full(rt: &(impl Abort + AllocGlobal)) -> Snapshot {
 }
 
 /// Whether it was found.
-pub fn is_full(rt: &(impl Abort + AllocGlobal), found: &Result<Snapshot, DumpError>) -> bool {
+pub(crate) fn is_full(
+    rt: &(impl Abort + AllocGlobal),
+    found: &Result<Snapshot, DumpError>,
+) -> bool {
     let Ok(found) = found else { return false };
     *found == full(rt)
 }
 
 /// Its 786,448 bytes, number by number.
-pub fn full_text(rt: &(impl Abort + AllocGlobal)) -> Vec<u8> {
+pub(crate) fn full_text(rt: &(impl Abort + AllocGlobal)) -> Vec<u8> {
     let head = b"LBD1\xff\xff\xff\xff\0\0\x01\0\0\x01\0\0";
     let mut text = Vec::from_slice(rt.alloc(), head).expect(rt, "out of memory");
     for i in 0..65_536u32 {
@@ -82,7 +88,7 @@ pub fn full_text(rt: &(impl Abort + AllocGlobal)) -> Vec<u8> {
 
 /// Gives so many bytes a call, and fails at one call, counted from 0, whatever comes after it.
 #[derive(Drop)]
-pub struct Source<'a> {
+pub(crate) struct Source<'a> {
     pub rest: &'a [u8],
     pub at_once: usize,
     pub calls: usize,
@@ -90,7 +96,11 @@ pub struct Source<'a> {
 }
 
 impl<'a> Source<'a> {
-    pub fn new(rest: &'a [u8], at_once: usize, fails: Option<(usize, ErrorKind)>) -> Source<'a> {
+    pub(crate) fn new(
+        rest: &'a [u8],
+        at_once: usize,
+        fails: Option<(usize, ErrorKind)>,
+    ) -> Source<'a> {
         Source {
             rest,
             at_once,
@@ -120,7 +130,7 @@ impl Read for Source<'_> {
 /// Takes so many bytes a call, and fails at one call, counted from 0, whatever comes after it: with an error, or
 /// where there is none by taking nothing.
 #[derive(Drop)]
-pub struct Sink {
+pub(crate) struct Sink {
     pub taken: Vec<u8>,
     pub at_once: usize,
     pub calls: usize,
@@ -129,7 +139,7 @@ pub struct Sink {
 }
 
 impl Sink {
-    pub fn new(
+    pub(crate) fn new(
         rt: &impl AllocGlobal,
         at_once: usize,
         fails_at: usize,

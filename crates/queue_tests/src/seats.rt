@@ -9,7 +9,7 @@ use std::alloc::Allocator;
 use std::test::Fail;
 
 /// The next seat that was not given out yet.
-pub fn next<T: Drop, A: Allocator>(
+pub(crate) fn next<T: Drop, A: Allocator>(
     post: &Post<T, A>,
     seats: &mut Vec<Seat<T, A>, A>,
 ) -> Option<Seat<T, A>>
@@ -21,7 +21,7 @@ pub fn next<T: Drop, A: Allocator>(
 }
 
 /// A post with one queue, and its two seats.
-pub fn two_seats<T: Drop, A: Allocator + Copy>(
+pub(crate) fn two_seats<T: Drop, A: Allocator + Copy>(
     alloc: A,
     capacity: u32,
 ) -> Result<(Post<T, A>, Seat<T, A>, Seat<T, A>), PostError>
@@ -38,7 +38,7 @@ pub fn two_seats<T: Drop, A: Allocator + Copy>(
 }
 
 /// The PE of this number.
-pub fn pe(number: u32) -> Pe
+pub(crate) fn pe(number: u32) -> Pe
     requires below_limit { number < 256 }
     ensures value { result ≡ number }
 {

@@ -8,7 +8,10 @@ use std::alloc::{AllocError, Allocator, Global};
 use std::process::Abort;
 
 // What a reading of the example came to.
-pub fn read<A: Allocator>(rt: &impl Abort, answer: Result<Snapshot<A>, DumpError>) -> Outcome {
+pub(crate) fn read<A: Allocator>(
+    rt: &impl Abort,
+    answer: Result<Snapshot<A>, DumpError>,
+) -> Outcome {
     match answer {
         Ok(snapshot) if is_example(rt, &snapshot) => Outcome::Right,
         Err(DumpError::OutOfMemory) => Outcome::Refused,

@@ -9,46 +9,46 @@ use std::alloc::{Allocator, Global};
 use std::process::Abort;
 
 /// No call here makes as many requests.
-pub const MOST_TURNS: u64 = 40;
+pub(crate) const MOST_TURNS: u64 = 40;
 
 /// Three elements on two PEs, at step 5.
-pub const EXAMPLE: [u8; 52] = *b"LBD1\0\0\0\x05\0\0\0\x02\0\0\0\x03\
+pub(crate) const EXAMPLE: [u8; 52] = *b"LBD1\0\0\0\x05\0\0\0\x02\0\0\0\x03\
     \0\0\0\x01\0\0\0\x0a\0\0\0\0\
     \0\0\0\x01\0\0\0\x09\0\0\0\x01\
     \0\0\0\x02\0\0\0\x08\0\0\0\0";
 
-pub fn pe(rt: &impl Abort, number: u32) -> Pe {
+pub(crate) fn pe(rt: &impl Abort, number: u32) -> Pe {
     Pe::new(number).expect(rt, "no such PE")
 }
 
-pub fn round(rt: &impl Abort, number: u32) -> Round
+pub(crate) fn round(rt: &impl Abort, number: u32) -> Round
     ensures value { result ≡ number }
 {
     Round::new(number).expect(rt, "no such round")
 }
 
 /// Five elements.
-pub fn five(rt: &(impl Abort + AllocGlobal)) -> Loads {
+pub(crate) fn five(rt: &(impl Abort + AllocGlobal)) -> Loads {
     let units = Vec::from_slice(rt.alloc(), &[1, 2, 3, 4, 5]).expect(rt, "out of memory");
     Loads::new(units).expect(rt, "too many loads")
 }
 
 /// The sizes and the PEs of the example.
-pub fn three<A: Allocator>(rt: &impl Abort, alloc: A) -> Sizes<A> {
+pub(crate) fn three<A: Allocator>(rt: &impl Abort, alloc: A) -> Sizes<A> {
     let pairs = [(10, pe(rt, 0)), (9, pe(rt, 1)), (8, pe(rt, 0))];
     let pairs = Vec::from_slice(alloc, &pairs).expect(rt, "out of memory");
     Sizes::new(pairs).expect(rt, "past a limit")
 }
 
 /// The example.
-pub fn example<A: Allocator + Copy>(rt: &impl Abort, alloc: A) -> Snapshot<A> {
+pub(crate) fn example<A: Allocator + Copy>(rt: &impl Abort, alloc: A) -> Snapshot<A> {
     let units = Vec::from_slice(alloc, &[1, 1, 2]).expect(rt, "out of memory");
     let loads = Loads::new(units).expect(rt, "too many loads");
     Snapshot::new(5, 2, loads, three(rt, alloc)).expect(rt, "no snapshot")
 }
 
 /// Whether this is the example.
-pub fn is_example<A: Allocator>(rt: &impl Abort, snapshot: &Snapshot<A>) -> bool {
+pub(crate) fn is_example<A: Allocator>(rt: &impl Abort, snapshot: &Snapshot<A>) -> bool {
     let sizes = [(10, pe(rt, 0)), (9, pe(rt, 1)), (8, pe(rt, 0))];
     snapshot.step() == 5
         && snapshot.procs() == 2
@@ -57,7 +57,7 @@ pub fn is_example<A: Allocator>(rt: &impl Abort, snapshot: &Snapshot<A>) -> bool
 }
 
 /// The number of requests of an attempt, each of which was refused and told.
-pub fn requests<F: Fn(&Refusing<Global>) -> Outcome>(
+pub(crate) fn requests<F: Fn(&Refusing<Global>) -> Outcome>(
     rt: &(impl Abort + AllocGlobal),
     attempt: F,
 ) -> u64

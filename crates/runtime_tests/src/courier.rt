@@ -14,7 +14,7 @@ use std::marker::Model;
 
 /// A chare that sends one body at each resumption, and is then ready to be balanced. On a letter it finishes.
 #[derive(Drop)]
-pub struct Courier<A: Allocator = Global> {
+pub(crate) struct Courier<A: Allocator = Global> {
     to: u32,
     goes_on: u32,
     body: Bytes<A>,
@@ -37,7 +37,7 @@ type Parts<A> = (u32, (u32, Bytes<A>));
 impl<A: Allocator> Courier<A> {
     /// A courier to this element, with a body of at most 65,536 bytes, that goes on where its send is refused if
     /// `goes_on` is 1.
-    pub fn new(to: u32, goes_on: u32, body: Bytes<A>) -> Option<Self>
+    pub(crate) fn new(to: u32, goes_on: u32, body: Bytes<A>) -> Option<Self>
         ensures value { IfSome result (λ c. c ≡ record { to = to; goes_on = goes_on; body = body }) }
     {
         Courier::of_parts((to, (goes_on, body)))

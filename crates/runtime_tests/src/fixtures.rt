@@ -10,19 +10,19 @@ use pup_pack::{Bytes, Items};
 use std::alloc::{AllocError, Allocator};
 use std::process::Abort;
 
-pub fn pe(rt: &impl Abort, number: u32) -> Pe
+pub(crate) fn pe(rt: &impl Abort, number: u32) -> Pe
     ensures value { result ≡ number }
 {
     Pe::new(number).expect(rt, "no such PE")
 }
 
-pub fn index(rt: &impl Abort, place: u32) -> Index
+pub(crate) fn index(rt: &impl Abort, place: u32) -> Index
     ensures value { result ≡ place }
 {
     Index::new(place).expect(rt, "no such element")
 }
 
-pub fn round(rt: &impl Abort, number: u32) -> Round {
+pub(crate) fn round(rt: &impl Abort, number: u32) -> Round {
     Round::new(number).expect(rt, "no such round")
 }
 
@@ -33,7 +33,7 @@ fn bytes<A: Allocator>(alloc: A, len: usize) -> Result<Bytes<A>, AllocError> {
 }
 
 /// A tally with these amounts, and so many bytes of padding.
-pub fn tally<A: Allocator + Copy>(
+pub(crate) fn tally<A: Allocator + Copy>(
     alloc: A,
     amounts: &[u32],
     pad: usize,
@@ -43,7 +43,7 @@ pub fn tally<A: Allocator + Copy>(
 }
 
 /// A courier to this element, with a body of this length. It goes on where its send is refused if `goes_on` is 1.
-pub fn courier<A: Allocator>(
+pub(crate) fn courier<A: Allocator>(
     alloc: A,
     to: u32,
     goes_on: u32,
@@ -53,17 +53,21 @@ pub fn courier<A: Allocator>(
 }
 
 /// The first three PEs.
-pub fn pes(rt: &impl Abort) -> (Pe, Pe, Pe) {
+pub(crate) fn pes(rt: &impl Abort) -> (Pe, Pe, Pe) {
     (pe(rt, 0), pe(rt, 1), pe(rt, 2))
 }
 
 /// The first three elements.
-pub fn elements(rt: &impl Abort) -> (Index, Index, Index) {
+pub(crate) fn elements(rt: &impl Abort) -> (Index, Index, Index) {
     (index(rt, 0), index(rt, 1), index(rt, 2))
 }
 
 /// A relay with so many rounds left, whose letters have this body.
-pub fn relay<A: Allocator>(alloc: A, left: u32, body: &[u8]) -> Result<Relay<A>, AllocError> {
+pub(crate) fn relay<A: Allocator>(
+    alloc: A,
+    left: u32,
+    body: &[u8],
+) -> Result<Relay<A>, AllocError> {
     let body = Bytes::new(Vec::from_slice(alloc, body)?);
     Relay::new(left, body).ok_or(AllocError)
 }

@@ -13,7 +13,7 @@ use std::marker::Model;
 /// A chare that starts a letter to its neighbor in each of so many rounds. The first byte of a letter that it gets is
 /// its work, and says how many elements further on the rest of the letter goes.
 #[derive(Drop)]
-pub struct Relay<A: Allocator = Global> {
+pub(crate) struct Relay<A: Allocator = Global> {
     left: u32,
     body: Bytes<A>,
 }
@@ -34,7 +34,7 @@ type Parts<A> = (u32, Bytes<A>);
 
 impl<A: Allocator> Relay<A> {
     /// A relay with so many rounds left, whose letters have this body, or `None` where that is longer than one may be.
-    pub fn new(left: u32, body: Bytes<A>) -> Option<Self>
+    pub(crate) fn new(left: u32, body: Bytes<A>) -> Option<Self>
         ensures value { IfSome result (λ r. r ≡ record { left = left; body = body }) }
     {
         Relay::of_parts((left, body))

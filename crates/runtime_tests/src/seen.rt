@@ -10,7 +10,7 @@ use std::process::Abort;
 
 /// Where a letter or an element is.
 #[derive(Clone, Copy, Debug, PartialEq, Eq)]
-pub enum Place {
+pub(crate) enum Place {
     /// In the room of this PE.
     Room(Pe),
     /// In the hand of this PE, with the PE that a look gave.
@@ -25,7 +25,7 @@ pub enum Place {
 
 /// One thing that is seen in a world.
 #[derive(Clone, Copy, Debug, PartialEq, Eq)]
-pub enum Seen {
+pub(crate) enum Seen {
     /// A letter of this number, for this element, waits somewhere.
     Letter(LetterId, Index),
     /// It waits here, forwarded so often.
@@ -55,7 +55,7 @@ pub enum Seen {
 }
 
 /// How many of these items are this one.
-pub fn count<T: PartialEq + Copy>(items: &[T], one: T) -> usize {
+pub(crate) fn count<T: PartialEq + Copy>(items: &[T], one: T) -> usize {
     let mut number: usize = 0;
     for item in items {
         if *item == one {
@@ -66,7 +66,7 @@ pub fn count<T: PartialEq + Copy>(items: &[T], one: T) -> usize {
 }
 
 /// All that is seen in a world, in the order of the PEs.
-pub fn look_around<C: Chare<A>, H: Openings<C>, A: Allocator>(
+pub(crate) fn look_around<C: Chare<A>, H: Openings<C>, A: Allocator>(
     rt: &(impl Abort + AllocGlobal),
     world: &World<C, H, A>,
 ) -> Vec<Seen> {

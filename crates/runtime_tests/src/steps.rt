@@ -9,7 +9,7 @@ use std::alloc::{AllocError, Allocator};
 use std::process::Abort;
 
 /// An event, and its reports in order.
-pub type Step<'a> = (Event, &'a [Report]);
+pub(crate) type Step<'a> = (Event, &'a [Report]);
 
 // Takes one step, which has just these reports, and returns whether it was refused once for memory. Then the account is
 // as before, and the same event has its reports.
@@ -35,7 +35,7 @@ fn take_one<C: Chare<A>, H: Openings<C>, A: Allocator + Copy>(
 }
 
 /// Takes these steps in turn, each of which has just these reports, and returns whether one was refused for memory.
-pub fn take<C: Chare<A>, H: Openings<C>, A: Allocator + Copy>(
+pub(crate) fn take<C: Chare<A>, H: Openings<C>, A: Allocator + Copy>(
     rt: &impl Abort,
     world: &mut World<C, H, A>,
     steps: &[Step<'_>],
@@ -49,7 +49,7 @@ pub fn take<C: Chare<A>, H: Openings<C>, A: Allocator + Copy>(
 }
 
 /// The same, where nothing is refused.
-pub fn run<C: Chare<A>, H: Openings<C>, A: Allocator + Copy>(
+pub(crate) fn run<C: Chare<A>, H: Openings<C>, A: Allocator + Copy>(
     rt: &impl Abort,
     world: &mut World<C, H, A>,
     steps: &[Step<'_>],
@@ -58,7 +58,7 @@ pub fn run<C: Chare<A>, H: Openings<C>, A: Allocator + Copy>(
 }
 
 /// How many letters were posted, executed, and are held, counted one by one where they are.
-pub fn account<C: Chare<A>, H: Openings<C>, A: Allocator + Copy>(
+pub(crate) fn account<C: Chare<A>, H: Openings<C>, A: Allocator + Copy>(
     world: &World<C, H, A>,
 ) -> (u64, u64, u64) {
     let mut count = Count::default();
@@ -75,7 +75,7 @@ pub fn account<C: Chare<A>, H: Openings<C>, A: Allocator + Copy>(
 }
 
 /// A world that opens with these chares.
-pub fn opened<C: Chare<A>, H: Openings<C>, A: Allocator + Copy>(
+pub(crate) fn opened<C: Chare<A>, H: Openings<C>, A: Allocator + Copy>(
     rt: &impl Abort,
     alloc: A,
     pes: u32,

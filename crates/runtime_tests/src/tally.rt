@@ -13,7 +13,7 @@ use std::marker::Model;
 /// A chare that sends its amounts to its neighbor, one in each round, and adds up what comes. It has at most 1,000
 /// amounts and 65,536 bytes of padding.
 #[derive(Drop)]
-pub struct Tally<A: Allocator = Global> {
+pub(crate) struct Tally<A: Allocator = Global> {
     posted: u32,
     got: u32,
     sum: u64,
@@ -37,14 +37,14 @@ type Parts<A> = (u32, (u32, (u64, (Items<u32, A>, Bytes<A>))));
 
 impl<A: Allocator> Tally<A> {
     /// A tally that has posted and got nothing, or `None` past a limit.
-    pub fn new(amounts: Items<u32, A>, pad: Bytes<A>) -> Option<Self>
+    pub(crate) fn new(amounts: Items<u32, A>, pad: Bytes<A>) -> Option<Self>
         ensures value { IfSome result (λ t. t ≡ record { posted = 0; got = 0; sum = 0; amounts = amounts; pad = pad }) }
     {
         Tally::of_parts((0, (0, (0, (amounts, pad)))))
     }
 
     /// The sum of the amounts that it has got.
-    pub fn sum(&self) -> u64
+    pub(crate) fn sum(&self) -> u64
         ensures value { result ≡ self.now.sum }
     {
         self.sum

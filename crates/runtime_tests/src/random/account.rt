@@ -9,7 +9,7 @@ use std::process::Abort;
 
 /// Each letter that was posted is in one place, or was executed once, by its own element; each element is in one place;
 /// and nothing else is there.
-pub fn compare<C: Chare<A>, H: Openings<C>, A: Allocator>(
+pub(crate) fn compare<C: Chare<A>, H: Openings<C>, A: Allocator>(
     rt: &(impl Abort + AllocGlobal),
     world: &World<C, H, A>,
     trace: &[Report],
@@ -120,7 +120,7 @@ fn known(rt: &impl Abort, seen: &[Seen], e: Index) {
 }
 
 /// The word of an element.
-pub fn word(seen: &[Seen], e: Index) -> Option<Pe> {
+pub(crate) fn word(seen: &[Seen], e: Index) -> Option<Pe> {
     for one in seen {
         if let Seen::Word(other, word, _) = one {
             if *other == e {

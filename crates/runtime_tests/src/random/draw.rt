@@ -13,19 +13,19 @@ use std::process::Abort;
 
 /// The xorshift generator of 64 bits of G. Marsaglia, "Xorshift RNGs", Journal of Statistical Software 8(14), 2003.
 #[derive(Drop)]
-pub struct Draw {
+pub(crate) struct Draw {
     state: u64,
 }
 
 impl Draw {
-    pub fn new() -> Draw {
+    pub(crate) fn new() -> Draw {
         Draw {
             state: 88_172_645_463_325_252,
         }
     }
 
     /// A number below this one, or 0.
-    pub fn below(&mut self, bound: u32) -> u32 {
+    pub(crate) fn below(&mut self, bound: u32) -> u32 {
         let mut state = self.state;
         state ^= state << 13;
         state ^= state >> 7;
@@ -36,14 +36,14 @@ impl Draw {
     }
 
     /// How many PEs there are, from 1 to 4, and how many elements, from 1 to 6: mostly many.
-    pub fn size(&mut self) -> (u32, u32) {
+    pub(crate) fn size(&mut self) -> (u32, u32) {
         let (pes, n) = (self.below(8).min(3), self.below(12).min(5));
         (pes.saturating_add(1), n.saturating_add(1))
     }
 
     /// An event of a world of so many PEs and elements. Of several that are drawn it is the first that is likely to
     /// change something, or else the last.
-    pub fn event<C: Chare<A>, H: Openings<C>, A: Allocator>(
+    pub(crate) fn event<C: Chare<A>, H: Openings<C>, A: Allocator>(
         &mut self,
         rt: &impl Abort,
         world: &World<C, H, A>,
@@ -71,7 +71,7 @@ impl Draw {
     }
 
     /// Relays that start letters with up to three more to come.
-    pub fn relays(&mut self, rt: &(impl Abort + AllocGlobal), n: u32) -> Vec<Relay> {
+    pub(crate) fn relays(&mut self, rt: &(impl Abort + AllocGlobal), n: u32) -> Vec<Relay> {
         let mut chares = Vec::new(rt.alloc());
         for _ in 0..n {
             let body = self.body(rt);
@@ -92,7 +92,7 @@ impl Draw {
     }
 
     /// Tallies of four amounts.
-    pub fn tallies(&mut self, rt: &(impl Abort + AllocGlobal), n: u32) -> Vec<Tally> {
+    pub(crate) fn tallies(&mut self, rt: &(impl Abort + AllocGlobal), n: u32) -> Vec<Tally> {
         let mut chares = Vec::new(rt.alloc());
         for _ in 0..n {
             let amounts = [self.below(9), self.below(9), self.below(9), self.below(9)];
@@ -103,7 +103,7 @@ impl Draw {
     }
 
     /// Couriers to elements of the array.
-    pub fn couriers(&mut self, rt: &(impl Abort + AllocGlobal), n: u32) -> Vec<Courier> {
+    pub(crate) fn couriers(&mut self, rt: &(impl Abort + AllocGlobal), n: u32) -> Vec<Courier> {
         let mut chares = Vec::new(rt.alloc());
         for _ in 0..n {
             let next = courier(rt.alloc(), self.below(n), 0, 4).expect(rt, "out of memory");

@@ -9,7 +9,7 @@ use std::alloc::Allocator;
 use std::process::Abort;
 
 /// What must be so when this is reported, with what is seen then, after what was reported before.
-pub fn barrier<A: Allocator>(
+pub(crate) fn barrier<A: Allocator>(
     rt: &impl Abort,
     board: &Board<A>,
     seen: &[Seen],
@@ -86,7 +86,7 @@ fn decided<A: Allocator>(
 
 /// A letter was forwarded at most as often as its element has departed since it was posted, and as its hops say; and
 /// the element of a letter on a shelf is on its way to that PE.
-pub fn chase(rt: &impl Abort, seen: &[Seen], trace: &[Report]) {
+pub(crate) fn chase(rt: &impl Abort, seen: &[Seen], trace: &[Report]) {
     for report in trace {
         if let Report::Posted(id, to) = report {
             let departures = count_after(trace, *report, Report::Departed(*to));
