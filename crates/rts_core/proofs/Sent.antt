@@ -15,7 +15,7 @@ use Rattle.chares.specs.Steps.{Step}
 use Rattle.pe_state.specs.Rooms.{found}
 use Rattle.rts_core.specs.Accounts.{message, AreSent, IsCounted}
 use Rattle.rts_core.specs.Histories.{HasHistories, AreHistories}
-use Rattle.rts_core.specs.Places.{Life, life_of, letters, lives, letters_of_entry, letters_of_life, journaled, folded, sent_over, sends_of, sends}
+use Rattle.rts_core.specs.Places.{Life, life_of, letters, lives, letters_of_entry, letters_of_life, journaled, sent_over, sends_of, sends}
 use Rattle.rts_core.specs.Worlds.{WorldView}
 use Rattle.rts_core.proofs.Weights.{Weight, weigh, of_world, sum_by-flat_map}
 use Rattle.rts_core.proofs.Moves.{Work, work_letters, work_sends, before, after}
@@ -25,6 +25,11 @@ use Rattle.rts_core.proofs.Listings.{no_life, no_letter, sum_zero, world_letters
 -- what is said weighs alike, whatever the number of the letter
 abbrev pub by_message : (ℕ × List ℕ → ℕ) → Weight
 by_message h = λ id to body. h (to, body)
+
+-- the chare of element e of n after these entries, from this chare on
+abbrev pub folded : {C : Type 0} → Step C → ℕ → ℕ → C → List Done → C
+folded step e n chare [] = chare
+folded step e n chare (done ∷ journal) = folded step e n (step chare e n (told_of done)).state journal
 
 -- one more entry adds its sends
 pub sent_more : {C : Type 0} (step : Step C) (e n : ℕ) (h : ℕ × List ℕ → ℕ) (c : C) (xs : List Done) (done : Done)

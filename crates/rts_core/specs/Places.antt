@@ -61,11 +61,7 @@ abbrev pub journaled : {C A : Type 0} → WorldView C A → List LetterView
 journaled w = flat_map letters_of_life (lives w)
 
 module _ {C : Type 0} (step : Step C) where
-  -- the chare of element e of n after these entries, from this chare on, and all that it sends in them
-  abbrev pub folded : ℕ → ℕ → C → List Done → C
-  folded e n chare [] = chare
-  folded e n chare (done ∷ journal) = folded e n (step chare e n (told_of done)).state journal
-
+  -- all that element e of n sends in these entries, from this chare on
   abbrev pub sent_over : ℕ → ℕ → C → List Done → List (ℕ × List ℕ)
   sent_over e n chare [] = []
   sent_over e n chare (done ∷ journal) =
