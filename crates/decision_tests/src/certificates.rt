@@ -33,23 +33,22 @@ fn verdict_unfenced(
 
 #[test]
 fn each_forged_division_has_its_flaw(rt: HostRuntime) {
-    let good: ([u32; 3], [u32; 3]) = ([0, 2, 3], [0, 1, 2]);
-    let forged: [(&[u32], &[u32], Result<(), Flaw>); 13] = [
-        (&good.0, &good.1, Ok(())),
-        (&[0, 3], &good.1, Err(Flaw::CutCount)),
-        (&[], &good.1, Err(Flaw::CutCount)),
-        (&[1, 2, 3], &good.1, Err(Flaw::CutStart)),
-        (&[0, 4, 3], &good.1, Err(Flaw::CutOrder)),
-        (&[0, 2, 2], &good.1, Err(Flaw::CutEnd)),
-        (&[0, 1, 3], &good.1, Err(Flaw::Heavy(1))),
-        (&good.0, &[0, 1], Err(Flaw::FenceCount)),
-        (&good.0, &[], Err(Flaw::FenceCount)),
-        (&good.0, &[1, 1, 2], Err(Flaw::FenceStart)),
-        (&good.0, &[0, 2, 1], Err(Flaw::FenceOrder)),
-        (&good.0, &[0, 1, 3], Err(Flaw::FenceEnd)),
-        (&good.0, &[0, 0, 2], Err(Flaw::FenceLight(1))),
+    const FORGED: [(&[u32], &[u32], Result<(), Flaw>); 13] = [
+        (&[0, 2, 3], &[0, 1, 2], Ok(())),
+        (&[0, 3], &[0, 1, 2], Err(Flaw::CutCount)),
+        (&[], &[0, 1, 2], Err(Flaw::CutCount)),
+        (&[1, 2, 3], &[0, 1, 2], Err(Flaw::CutStart)),
+        (&[0, 4, 3], &[0, 1, 2], Err(Flaw::CutOrder)),
+        (&[0, 2, 2], &[0, 1, 2], Err(Flaw::CutEnd)),
+        (&[0, 1, 3], &[0, 1, 2], Err(Flaw::Heavy(1))),
+        (&[0, 2, 3], &[0, 1], Err(Flaw::FenceCount)),
+        (&[0, 2, 3], &[], Err(Flaw::FenceCount)),
+        (&[0, 2, 3], &[1, 1, 2], Err(Flaw::FenceStart)),
+        (&[0, 2, 3], &[0, 2, 1], Err(Flaw::FenceOrder)),
+        (&[0, 2, 3], &[0, 1, 3], Err(Flaw::FenceEnd)),
+        (&[0, 2, 3], &[0, 0, 2], Err(Flaw::FenceLight(1))),
     ];
-    for (cuts, stops, expected) in forged {
+    for (cuts, stops, expected) in FORGED {
         let found = verdict(&rt, &[1, 1, 2], 2, 2, (cuts, stops));
         assert_eq!(rt; found, expected, "cuts {cuts:?}, fence {stops:?}");
     }
@@ -91,12 +90,12 @@ fn any_bottleneck_may_be_claimed(rt: HostRuntime) {
 
 #[test]
 fn a_bottleneck_of_0_needs_no_fence(rt: HostRuntime) {
-    let rows: [(&[Units], u32, &[u32], Result<(), Flaw>); 3] = [
+    const ROWS: [(&[Units], u32, &[u32], Result<(), Flaw>); 3] = [
         (&[0, 0, 0], 2, &[0, 3, 3], Ok(())),
         (&[], 0, &[0], Ok(())),
         (&[0, 0, 0], 0, &[0], Err(Flaw::CutEnd)),
     ];
-    for (units, pes, cuts, expected) in rows {
+    for (units, pes, cuts, expected) in ROWS {
         let found = verdict_unfenced(&rt, units, pes, 0, cuts);
         assert_eq!(rt; found, expected, "{pes} PEs");
     }
@@ -104,14 +103,10 @@ fn a_bottleneck_of_0_needs_no_fence(rt: HostRuntime) {
 
 #[test]
 fn a_bottleneck_of_0_may_have_a_fence(rt: HostRuntime) {
-    let rows: [(&[Units], u32, &[u32], &[u32], Result<(), Flaw>); 2] = [
-        (&[0, 0, 0], 2, &[0, 3, 3], &[0, 0, 2], Ok(())),
-        (&[], 1, &[0, 0], &[0, 0], Err(Flaw::FenceEnd)),
-    ];
-    for (units, pes, cuts, stops, expected) in rows {
-        let found = verdict(&rt, units, pes, 0, (cuts, stops));
-        assert_eq!(rt; found, expected, "{pes} PEs");
-    }
+    let three = verdict(&rt, &[0, 0, 0], 2, 0, (&[0, 3, 3], &[0, 0, 2]));
+    assert_eq!(rt; three, Ok(()));
+    let none = verdict(&rt, &[], 1, 0, (&[0, 0], &[0, 0]));
+    assert_eq!(rt; none, Err(Flaw::FenceEnd));
 }
 
 // These numbers, and then the last one as often as it takes to have 301 of them.
@@ -191,22 +186,17 @@ fn the_example_is_a_snapshot(rt: HostRuntime) {
 
 #[test]
 fn a_snapshot_within_its_limits(rt: HostRuntime) {
-    let placed = [(10, 0), (9, 1), (8, 0)];
-    let rows: [(u32, &[Units], &[(u32, u32)], bool); 6] = [
+    const ROWS: [(u32, &[Units], &[(u32, u32)], bool); 6] = [
         (0, &[], &[], false),
         (1, &[], &[], true),
         (256, &[], &[], true),
         (257, &[], &[], false),
-        (2, &[1, 1], &placed, false),
-        (1, &[1, 1, 2], &placed, false),
+        (2, &[1, 1], &[(10, 0), (9, 1), (8, 0)], false),
+        (1, &[1, 1, 2], &[(10, 0), (9, 1), (8, 0)], false),
     ];
-    for (procs, units, placed, made) in rows {
+    for (procs, units, placed, made) in ROWS {
         let found = taken(&rt, procs, units, placed).is_some();
-        assert_eq!(rt;
-            found,
-            made,
-            "procs {procs}, loads {units:?}, sizes {placed:?}"
-        );
+        assert!(rt; found == made, "procs {procs}, loads {units:?}");
     }
 }
 
@@ -244,7 +234,7 @@ fn lists_come_back(rt: HostRuntime) {
 
 #[test]
 fn the_reference_tries_every_division(rt: HostRuntime) {
-    let rows: [(&[Units], u32, Option<u64>); 7] = [
+    const ROWS: [(&[Units], u32, Option<u64>); 7] = [
         (&[], 3, Some(0)),
         (&[], 0, Some(0)),
         (&[1], 0, None),
@@ -253,7 +243,7 @@ fn the_reference_tries_every_division(rt: HostRuntime) {
         (&[0, 0, 0], 2, Some(0)),
         (&[5, 7], 4, Some(7)),
     ];
-    for (units, pes, least) in rows {
+    for (units, pes, least) in ROWS {
         let found = reference::least_peak(&loads(&rt, units), pes);
         assert_eq!(rt; found, least, "loads {units:?} on {pes}");
     }

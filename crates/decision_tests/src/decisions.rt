@@ -32,7 +32,7 @@ fn verdict(
 
 #[test]
 fn each_forged_division_has_its_flaw(rt: HostRuntime) {
-    let forged: [(&[u32], &[u32], Result<(), Flaw>); 13] = [
+    const FORGED: [(&[u32], &[u32], Result<(), Flaw>); 13] = [
         (&[0, 2, 3], &[0, 1, 2], Ok(())),
         (&[0, 3], &[0, 1, 2], Err(Flaw::CutCount)),
         (&[], &[0, 1, 2], Err(Flaw::CutCount)),
@@ -47,7 +47,7 @@ fn each_forged_division_has_its_flaw(rt: HostRuntime) {
         (&[0, 2, 3], &[0, 1, 3], Err(Flaw::FenceEnd)),
         (&[0, 2, 3], &[0, 0, 2], Err(Flaw::FenceLight(1))),
     ];
-    for (cuts, stops, expected) in forged {
+    for (cuts, stops, expected) in FORGED {
         let found = verdict(&rt, (cuts, stops), NAMING, MOVING);
         assert_eq!(rt; found, expected, "cuts {cuts:?}, fence {stops:?}");
     }
@@ -61,7 +61,7 @@ fn a_floor_of_zero_is_forged(rt: HostRuntime) {
 
 #[test]
 fn each_forged_naming_has_its_flaw(rt: HostRuntime) {
-    let forged: [(&[u32], &[i64], &[i64], Flaw); 10] = [
+    const FORGED: [(&[u32], &[i64], &[i64], Flaw); 10] = [
         (&[1], &[10, 1], &[-1, 0], Flaw::NameCount),
         (&[], &[10, 1], &[-1, 0], Flaw::NameCount),
         (&[1, 2], &[10, 1], &[-1, 0], Flaw::NameRange),
@@ -73,7 +73,7 @@ fn each_forged_naming_has_its_flaw(rt: HostRuntime) {
         (&[1, 0], &[9, 1], &[-1, 0], Flaw::PriceGap),
         (&[0, 1], &[10, 1], &[-1, 0], Flaw::PriceGap),
     ];
-    for (names, u, v, flaw) in forged {
+    for (names, u, v, flaw) in FORGED {
         let found = verdict(&rt, DIVISION, (names, u, v), MOVING);
         assert_eq!(rt; found, Err(flaw), "names {names:?}, prices {u:?} {v:?}");
     }
@@ -81,23 +81,21 @@ fn each_forged_naming_has_its_flaw(rt: HostRuntime) {
 
 #[test]
 fn each_forged_list_of_moves_has_its_flaw(rt: HostRuntime) {
-    let forged: [(u64, &[(u32, u32, u32)], Flaw); 4] = [
+    const FORGED: [(u64, &[(u32, u32, u32)], Flaw); 4] = [
         (17, &[(0, 0, 1)], Flaw::MovedWrong),
         (10, &[], Flaw::MovesWrong),
         (10, &[(0, 0, 1), (1, 1, 0)], Flaw::MovesWrong),
         (10, &[(1, 1, 0)], Flaw::MovesWrong),
     ];
-    for (moved, moves, flaw) in forged {
+    for (moved, moves, flaw) in FORGED {
         let found = verdict(&rt, DIVISION, NAMING, (moved, moves));
         assert_eq!(rt; found, Err(flaw), "moved {moved}, moves {moves:?}");
     }
 }
 
 // Where an element of the example is to run by this decision, if it is right.
-fn place_by(rt: &(impl Abort + AllocGlobal), decision: Decision, place: u32) -> Option<u32> {
-    let example = snapshot(rt, 2, &EXAMPLE);
-    let index = index(rt, place);
-    let accepted = check(&example, 2, &decision).is_ok();
+fn place_by(example: &Snapshot, decision: &Decision, index: Index) -> Option<u32> {
+    let accepted = check(example, 2, decision).is_ok();
     if accepted && (index.get() as usize) < example.sizes().len() {
         return Some(decision.place_of(index).get());
     }
@@ -106,8 +104,10 @@ fn place_by(rt: &(impl Abort + AllocGlobal), decision: Decision, place: u32) -> 
 
 #[test]
 fn an_element_runs_where_its_block_does(rt: HostRuntime) {
+    let example = snapshot(&rt, 2, &EXAMPLE);
+    let decision = decision(&rt, DIVISION, NAMING, MOVING);
     for (place, planned) in [(0u32, 1), (1, 1), (2, 0)] {
-        let found = place_by(&rt, decision(&rt, DIVISION, NAMING, MOVING), place);
+        let found = place_by(&example, &decision, index(&rt, place));
         assert_eq!(rt; found, Some(planned), "element {place}");
     }
 }

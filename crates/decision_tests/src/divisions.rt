@@ -32,7 +32,7 @@ fn is_division(division: &Division, bottleneck: u64, cuts: &[u32], fence: &[u32]
 
 #[test]
 fn the_examples_have_their_divisions(rt: HostRuntime) {
-    let rows: [(&[Units], u32, u64, &[u32], &[u32]); 7] = [
+    const ROWS: [(&[Units], u32, u64, &[u32], &[u32]); 7] = [
         (&[], 3, 0, &[0, 0, 0, 0], &[]),
         (&[1, 2, 3, 4, 5], 2, 9, &[0, 3, 5], &[0, 3, 4]),
         (&[10, 1, 1], 3, 10, &[0, 1, 3, 3], &[0, 0, 0, 0]),
@@ -41,7 +41,7 @@ fn the_examples_have_their_divisions(rt: HostRuntime) {
         (&[5, 0, 0, 7], 2, 7, &[0, 3, 4], &[0, 3, 3]),
         (&[1, 1, 2], 1, 4, &[0, 3], &[0, 2]),
     ];
-    for (units, pes, bottleneck, cuts, fence) in rows {
+    for (units, pes, bottleneck, cuts, fence) in ROWS {
         let division = divided(&rt, &loads(&rt, units), pes);
         let found = is_division(&division, bottleneck, cuts, fence);
         assert!(rt; found, "loads {units:?} on {pes}");
@@ -82,13 +82,13 @@ fn probes_fit_or_stop(rt: HostRuntime) {
     let five = loads(&rt, &[1, 2, 3, 4, 5]);
     let prefix = Prefix::of(rt.alloc(), &five).expect(&rt, "out of memory");
     assert_eq!(rt; prefix.len(), 5);
-    let rows: [(u64, bool, &[u32]); 4] = [
+    const ROWS: [(u64, bool, &[u32]); 4] = [
         (9, true, &[0, 3, 5]),
         (8, false, &[0, 3, 4]),
         (0, false, &[0, 0, 0]),
         (u64::MAX, true, &[0, 5, 5]),
     ];
-    for (limit, fits, list) in rows {
+    for (limit, fits, list) in ROWS {
         let answer = probe(rt.alloc(), &five, 2, limit).expect(&rt, "out of memory");
         assert!(rt; is_probe(answer, fits, list), "limit {limit}");
         let again = probe_on(rt.alloc(), &prefix, 2, limit).expect(&rt, "out of memory");

@@ -16,34 +16,34 @@ fn is_example(rt: &(impl Abort + AllocGlobal), other: Decision) -> bool {
 #[test]
 fn a_division_with_one_part_changed_makes_another_decision(rt: HostRuntime) {
     assert!(rt; is_example(&rt, decision(&rt, DIVISION, NAMING, MOVING)));
-    let divisions: [(&[u32], &[u32]); 4] = [
+    const DIVISIONS: [(&[u32], &[u32]); 4] = [
         (&[0, 1, 3], &[0, 1, 2]),
         (&[0, 2], &[0, 1, 2]),
         (&[0, 2, 3], &[0, 1, 1]),
         (&[0, 2, 3], &[0, 1, 2, 2]),
     ];
-    for division in divisions {
+    for division in DIVISIONS {
         assert!(rt; !is_example(&rt, decision(&rt, division, NAMING, MOVING)));
     }
 }
 
 #[test]
 fn a_naming_with_one_part_changed_makes_another_decision(rt: HostRuntime) {
-    let namings: [(&[u32], &[i64], &[i64]); 5] = [
+    const NAMINGS: [(&[u32], &[i64], &[i64]); 5] = [
         (&[0, 1], &[10, 1], &[-1, 0]),
         (&[1, 0, 2], &[10, 1], &[-1, 0]),
         (&[1, 0], &[10, 2], &[-1, 0]),
         (&[1, 0], &[10, 1], &[-1, -1]),
         (&[1, 0], &[10, 1], &[-1]),
     ];
-    for naming in namings {
+    for naming in NAMINGS {
         assert!(rt; !is_example(&rt, decision(&rt, DIVISION, naming, MOVING)));
     }
 }
 
 #[test]
 fn other_moves_make_another_decision(rt: HostRuntime) {
-    let changed: [(u64, &[(u32, u32, u32)]); 6] = [
+    const CHANGED: [(u64, &[(u32, u32, u32)]); 6] = [
         (11, &[(0, 0, 1)]),
         (10, &[(1, 0, 1)]),
         (10, &[(0, 1, 1)]),
@@ -51,7 +51,7 @@ fn other_moves_make_another_decision(rt: HostRuntime) {
         (10, &[]),
         (10, &[(0, 0, 1), (1, 0, 1)]),
     ];
-    for moving in changed {
+    for moving in CHANGED {
         assert!(rt; !is_example(&rt, decision(&rt, DIVISION, NAMING, moving)));
     }
 }
@@ -83,14 +83,14 @@ fn a_snapshot_with_one_element_changed_is_another(rt: HostRuntime) {
     let example: [(u32, u32, u32); 3] = [(1, 10, 0), (1, 9, 1), (2, 8, 0)];
     assert!(rt; is_example_snapshot(&rt, snapshot(&rt, 2, &example)));
     assert!(rt; !is_example_snapshot(&rt, snapshot(&rt, 3, &example)));
-    let changed: [&[(u32, u32, u32)]; 5] = [
+    const CHANGED: [&[(u32, u32, u32)]; 5] = [
         &[(1, 10, 0), (1, 9, 1), (3, 8, 0)],
         &[(1, 10, 0), (1, 7, 1), (2, 8, 0)],
         &[(1, 10, 1), (1, 9, 1), (2, 8, 0)],
         &[(1, 10, 0), (1, 9, 1)],
         &[],
     ];
-    for elements in changed {
+    for elements in CHANGED {
         assert!(rt; !is_example_snapshot(&rt, snapshot(&rt, 2, elements)));
     }
 }

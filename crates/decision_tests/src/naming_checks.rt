@@ -21,7 +21,7 @@ fn verdict(
 
 #[test]
 fn each_forged_naming_has_its_flaw(rt: HostRuntime) {
-    let forged: [(&[u32], &[u32], &[i64], &[i64], Result<u64, Flaw>); 15] = [
+    const FORGED: [(&[u32], &[u32], &[i64], &[i64], Result<u64, Flaw>); 15] = [
         (&[0, 2, 3], &[1, 0], &[10, 1], &[-1, 0], Ok(10)),
         (&[], &[1, 0], &[10, 1], &[-1, 0], Err(Flaw::CutCount)),
         (&[0], &[], &[], &[], Err(Flaw::CutCount)),
@@ -56,7 +56,7 @@ fn each_forged_naming_has_its_flaw(rt: HostRuntime) {
         (&[0, 2, 3], &[0, 1], &[10, 1], &[-1, 0], Err(Flaw::PriceGap)),
         (&[0, 2, 3], &[], &[10, 1], &[-1, 0], Err(Flaw::NameCount)),
     ];
-    for (cuts, names, u, v, expected) in forged {
+    for (cuts, names, u, v, expected) in FORGED {
         let found = verdict(&rt, &[(10, 0), (9, 1), (8, 0)], cuts, names, u, v);
         assert_eq!(rt;
             found,
@@ -81,23 +81,30 @@ fn other_namings_by_hand(rt: HostRuntime) {
     assert_eq!(rt; found, Ok(7), "a PE that is no name");
 }
 
+// What it says of no elements in so many blocks, of which 256 have names, where each price is this one.
+fn verdict_on_none(
+    rt: &(impl Abort + AllocGlobal),
+    blocks: usize,
+    price: i64,
+) -> Result<u64, Flaw> {
+    let cuts = vec![in rt.alloc(); 0; blocks.saturating_add(1)].expect(rt, "out of memory");
+    let names: Vec<u32> = (0..256).collect(rt.alloc()).expect(rt, "out of memory");
+    let prices = [price; 256];
+    verdict(rt, &[], &cuts, &names, &prices, &prices)
+}
+
 #[test]
 fn prices_at_the_ends_of_their_range(rt: HostRuntime) {
-    let cuts = [0; 257];
-    let names: Vec<u32> = (0..256).collect(rt.alloc()).expect(&rt, "out of memory");
-    for (price, flaw) in [
-        (i64::MIN, Flaw::PriceGap),
-        (i64::MAX, Flaw::PriceHigh(0, 0)),
-    ] {
-        let prices = [price; 256];
-        let found = verdict(&rt, &[], &cuts, &names, &prices, &prices);
-        assert_eq!(rt; found, Err(flaw), "prices of {price}");
+    let rows = [
+        (256, i64::MIN, Err(Flaw::PriceGap)),
+        (256, i64::MAX, Err(Flaw::PriceHigh(0, 0))),
+        (256, 0, Ok(0)),
+        (257, 0, Err(Flaw::CutCount)),
+    ];
+    for (blocks, price, expected) in rows {
+        let found = verdict_on_none(&rt, blocks, price);
+        assert_eq!(rt; found, expected, "{blocks} blocks, prices of {price}");
     }
-    let zeros = [0; 256];
-    assert_eq!(rt; verdict(&rt, &[], &cuts, &names, &zeros, &zeros), Ok(0));
-    let more = [0; 258];
-    let found = verdict(&rt, &[], &more, &names, &zeros, &zeros);
-    assert_eq!(rt; found, Err(Flaw::CutCount), "257 blocks");
 }
 
 // Whether these names are seen, and come back.

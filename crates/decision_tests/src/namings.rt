@@ -49,9 +49,24 @@ fn is_named(rt: &(impl Abort + AllocGlobal), table: &CostTable, names: &[u32], c
     same && total(prices) == cost
 }
 
+// The elements of an example, the cuts of its blocks, their costs, their names and what these cost.
+type Example = (
+    &'static [(u32, u32)],
+    &'static [u32],
+    &'static [u64],
+    &'static [u32],
+    i64,
+);
+
+// Whether the blocks of an example have their costs and their names.
+fn is_as_said(rt: &(impl Abort + AllocGlobal), (pairs, cuts, bytes, names, cost): Example) -> bool {
+    let table = table(rt, &sizes(rt, pairs), cuts);
+    has_costs(rt, &table, bytes) && is_named(rt, &table, names, cost)
+}
+
 #[test]
 fn the_examples_have_their_names(rt: HostRuntime) {
-    let rows: [(&[(u32, u32)], &[u32], &[u64], &[u32], i64); 5] = [
+    const EXAMPLES: [Example; 5] = [
         (
             &[(10, 0), (9, 1), (8, 0)],
             &[0, 2, 3],
@@ -82,10 +97,8 @@ fn the_examples_have_their_names(rt: HostRuntime) {
         ),
         (&[(7, 5)], &[0, 1], &[7], &[0], 7),
     ];
-    for (pairs, cuts, bytes, names, cost) in rows {
-        let table = table(&rt, &sizes(&rt, pairs), cuts);
-        assert!(rt; has_costs(&rt, &table, bytes), "costs of {pairs:?}");
-        assert!(rt; is_named(&rt, &table, names, cost), "names of {pairs:?}");
+    for example in EXAMPLES {
+        assert!(rt; is_as_said(&rt, example), "{:?}", example.0);
     }
 }
 

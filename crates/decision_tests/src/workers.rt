@@ -5,7 +5,7 @@ ghost use Rattle.std.specs.Prelude.{◌≤◌};
 use crate::fixtures::{loads, snapshot};
 use chain_partition::divide_with;
 use chare_index::{Gate, NoGate};
-use lb_certificates::{Division, Floor, Loads, Units};
+use lb_certificates::{Division, Floor, Loads, Snapshot, Units};
 use lb_strategy::{Decision, check, plan_with};
 use std::process::Abort;
 use std::sync::atomic::{AtomicU64, Ordering};
@@ -122,9 +122,14 @@ fn is_planned(planned: &Decision) -> bool {
         && planned.moved == 10
 }
 
+fn planned<R: Threads + Sync + Abort + AllocGlobal>(rt: &R, example: &Snapshot) -> Decision {
+    plan_with(rt, rt.alloc(), example, 2, 3, &NoGate).expect(rt, "out of memory")
+}
+
 #[test]
 fn three_workers_plan_the_example(rt: HostRuntime) {
     let example = snapshot(&rt, 2, &[(1, 10, 0), (1, 9, 1), (2, 8, 0)]);
-    let planned = plan_with(&rt, rt.alloc(), &example, 2, 3, &NoGate).expect(&rt, "out of memory");
-    assert!(rt; check(&example, 2, &planned).is_ok() && is_planned(&planned));
+    let planned = planned(&rt, &example);
+    assert!(rt; check(&example, 2, &planned).is_ok());
+    assert!(rt; is_planned(&planned));
 }
