@@ -17,30 +17,25 @@ use std::test::Fail;
 #[test]
 fn the_example_and_its_faults(rt: HostRuntime) {
     assert_eq!(rt; replays(&rt, &EXAMPLE, TEXT), Ended::Printed);
+    let short = replays(&rt, &EXAMPLE[..15], "dump: ends at byte 15\n");
+    assert_eq!(rt; short, Ended::Dump(DumpError::Short(15)));
     let mut longer = [0; 53];
     longer[..52].copy_from_slice(&EXAMPLE);
-    let rows: [(&[u8], &str, DumpError); 4] = [
-        (
-            &EXAMPLE[..15],
-            "dump: ends at byte 15\n",
-            DumpError::Short(15),
-        ),
-        (&[], "dump: ends at byte 0\n", DumpError::Short(0)),
-        (b"LBD2", "dump: not LBD1\n", DumpError::Magic),
-        (
-            &longer,
-            "dump: bytes after the last element\n",
-            DumpError::Trailing,
-        ),
-    ];
-    for (bytes, line, fault) in rows {
-        assert_eq!(rt; replays(&rt, bytes, line), Ended::Dump(fault));
-    }
+    let longer = replays(&rt, &longer, "dump: bytes after the last element\n");
+    assert_eq!(rt; longer, Ended::Dump(DumpError::Trailing));
+}
+
+#[test]
+fn no_bytes_and_other_letters(rt: HostRuntime) {
+    let none = replays(&rt, &[], "dump: ends at byte 0\n");
+    assert_eq!(rt; none, Ended::Dump(DumpError::Short(0)));
+    let other = replays(&rt, b"LBD2", "dump: not LBD1\n");
+    assert_eq!(rt; other, Ended::Dump(DumpError::Magic));
 }
 
 #[test]
 fn a_changed_byte_is_reported(rt: HostRuntime) {
-    let rows: [(usize, u8, &str, DumpError); 4] = [
+    const ROWS: [(usize, u8, &str, DumpError); 4] = [
         (
             51,
             2,
@@ -56,7 +51,7 @@ fn a_changed_byte_is_reported(rt: HostRuntime) {
         (10, 255, "dump: procs out of 1..256\n", DumpError::Procs),
         (13, 1, "dump: more than 65536 elements\n", DumpError::Count),
     ];
-    for (place, byte, line, fault) in rows {
+    for (place, byte, line, fault) in ROWS {
         let mut changed = EXAMPLE;
         changed[place] = byte;
         assert_eq!(rt; replays(&rt, &changed, line), Ended::Dump(fault));
@@ -241,13 +236,13 @@ fn a_file_that_fails_has_its_reason(rt: HostRuntime) {
 
 #[test]
 fn runs_and_their_statuses(rt: HostRuntime) {
-    let rows: [(&[u8], Option<u32>, &str, u8); 4] = [
+    const ROWS: [(&[u8], Option<u32>, &str, u8); 4] = [
         (&EXAMPLE, None, TEXT, 0),
         (&EXAMPLE, Some(1), ON_ONE, 0),
         (b"LBD2", None, "dump: not LBD1\n", 3),
         (b"LBD2", Some(256), "dump: not LBD1\n", 3),
     ];
-    for (mut bytes, procs, text, expected) in rows {
+    for (mut bytes, procs, text, expected) in ROWS {
         let mut written = Vec::new(rt.alloc());
         let asked = Asked { file: "f", procs };
         let (status, reason) = run(rt.alloc(), asked, Ok(&mut bytes), &mut written);

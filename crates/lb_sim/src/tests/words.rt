@@ -5,7 +5,7 @@ use crate::words::{asked, words_status};
 
 #[test]
 fn words_that_ask(rt: HostRuntime) {
-    let rows: [(&[&str], &str, Option<u32>); 8] = [
+    const ROWS: [(&[&str], &str, Option<u32>); 8] = [
         (&["lb_sim", "f"], "f", None),
         (&["lb_sim", "--procs", "2", "f"], "f", Some(2)),
         (&["lb_sim", "--procs", "1", "f"], "f", Some(1)),
@@ -23,7 +23,7 @@ fn words_that_ask(rt: HostRuntime) {
             Some(3),
         ),
     ];
-    for (words, file, procs) in rows {
+    for (words, file, procs) in ROWS {
         let found = asked(rt.alloc(), words).ok();
         assert_eq!(rt; found, Some(Asked { file, procs }), "{words:?}");
     }
@@ -31,7 +31,7 @@ fn words_that_ask(rt: HostRuntime) {
 
 #[test]
 fn words_that_are_refused(rt: HostRuntime) {
-    let rows: [(&[&str], u8); 9] = [
+    const ROWS: [(&[&str], u8); 9] = [
         (&["lb_sim"], 2),
         (&["lb_sim", "--procs", "0", "f"], 2),
         (&["lb_sim", "--procs", "257", "f"], 2),
@@ -42,7 +42,7 @@ fn words_that_are_refused(rt: HostRuntime) {
         (&["lb_sim", "--help"], 0),
         (&["lb_sim", "--version"], 0),
     ];
-    for (words, status) in rows {
+    for (words, status) in ROWS {
         let found = asked(rt.alloc(), words);
         let found = found.err().map(|error| words_status(&error));
         assert_eq!(rt; found, Some(status), "{words:?}");
