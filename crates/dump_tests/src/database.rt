@@ -72,7 +72,7 @@ fn expect_refused(rt: &impl Abort, db: &mut LoadDb, report: Refused) {
 #[test]
 fn reports_that_are_refused(rt: HostRuntime) {
     let mut db = begun(&rt);
-    let refused = [
+    const REFUSED: [Refused; 7] = [
         (2, 1, 5, DbError::Twice),
         (2, 3, 5, DbError::WrongRound),
         (4, 1, 5, DbError::Stranger),
@@ -81,7 +81,7 @@ fn reports_that_are_refused(rt: HostRuntime) {
         (2, 3, 1_048_577, DbError::WrongRound),
         (2, 1, 1_048_577, DbError::Twice),
     ];
-    for report in refused {
+    for report in REFUSED {
         expect_refused(&rt, &mut db, report);
     }
 }
@@ -198,7 +198,7 @@ fn has(rt: &(impl Abort + AllocGlobal), error: DbError, number: u8, text: &str) 
 
 #[test]
 fn numbers_and_texts(rt: HostRuntime) {
-    let errors = [
+    const ERRORS: [(DbError, u8, &str); 7] = [
         (DbError::Stranger, 1, "there is no such element"),
         (DbError::WrongRound, 2, "the report is for another round"),
         (DbError::Twice, 3, "the element has reported already"),
@@ -207,7 +207,7 @@ fn numbers_and_texts(rt: HostRuntime) {
         (DbError::OutOfMemory, 6, "out of memory"),
         (DbError::Worn, 7, "no round is left"),
     ];
-    for (error, number, text) in errors {
+    for (error, number, text) in ERRORS {
         assert!(rt; has(&rt, error, number, text), "{text}");
     }
 }

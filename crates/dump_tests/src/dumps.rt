@@ -332,7 +332,7 @@ fn a_writer_that_does_not_fail(rt: HostRuntime) {
 
 #[test]
 fn numbers_and_words(rt: HostRuntime) {
-    let faults = [
+    const FAULTS: [(DumpError, u8); 10] = [
         (DumpError::Magic, 1),
         (DumpError::Short(9), 2),
         (DumpError::Procs, 3),
@@ -344,7 +344,7 @@ fn numbers_and_words(rt: HostRuntime) {
         (DumpError::Write, 9),
         (DumpError::OutOfMemory, 10),
     ];
-    for (fault, number) in faults {
+    for (fault, number) in FAULTS {
         assert_eq!(rt; fault.number(), number);
     }
     let words = DumpError::Short(9).to_string(rt.alloc());

@@ -89,7 +89,7 @@ fn what_is_left_stands_by_queue_front_first(rt: HostRuntime) -> Result<(), Fail>
 
 #[test]
 fn numbers_out_of_range(rt: HostRuntime) -> Result<(), Fail> {
-    for (pes, seats, capacity, told) in [
+    const REFUSED: [(u32, u32, u32, PostError); 7] = [
         (0, 1, 1, PostError::Zero),
         (1, 0, 1, PostError::Zero),
         (1, 1, 0, PostError::Zero),
@@ -97,16 +97,18 @@ fn numbers_out_of_range(rt: HostRuntime) -> Result<(), Fail> {
         (257, 1, 1, PostError::TooMany),
         (1, 257, 1, PostError::TooMany),
         (1, 1, 4097, PostError::TooMany),
-    ] {
+    ];
+    for (pes, seats, capacity, told) in REFUSED {
         let error = Post::<u8>::new(rt.alloc(), pes, seats, capacity).err();
         assert_eq!(rt; error, Some(told), "{pes} {seats} {capacity}");
     }
-    for (error, number, text) in [
+    const TEXTS: [(PostError, u32, &str); 4] = [
         (PostError::Zero, 1, "a number is zero"),
         (PostError::TooMany, 2, "a number is past its limit"),
         (PostError::SeatsOut, 3, "a seat is still out"),
         (PostError::OutOfMemory, 4, "out of memory"),
-    ] {
+    ];
+    for (error, number, text) in TEXTS {
         assert_eq!(rt; error as u32, number);
         assert_eq!(rt; format!(in rt.alloc(); "{error}")?.as_str(), text);
     }

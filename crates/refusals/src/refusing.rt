@@ -30,12 +30,13 @@ fn sum_at(alloc: Global, turn: u64) -> (Result<u64, AllocError>, bool, u64) {
 
 #[test]
 fn one_request_is_refused(rt: HostRuntime) {
-    for (turn, sum, requests) in [
+    const ROWS: [(u64, Result<u64, AllocError>, u64); 4] = [
         (0, Ok(42), 2),
         (1, Err(AllocError), 1),
         (2, Err(AllocError), 2),
         (3, Ok(42), 2),
-    ] {
+    ];
+    for (turn, sum, requests) in ROWS {
         let expected = (sum, sum.is_err(), requests);
         assert_eq!(rt; sum_at(rt.alloc(), turn), expected, "turn {turn}");
     }
@@ -96,14 +97,15 @@ fn thirty_at(alloc: Global, turn: u64) -> (Outcome, u64, bool) {
 
 #[test]
 fn one_of_many_requests_is_refused(rt: HostRuntime) {
-    for (turn, outcome, requests, refused) in [
-        (1, Outcome::Refused, 1, true),
-        (9, Outcome::Refused, 9, true),
-        (10, Outcome::Refused, 10, true),
-        (30, Outcome::Refused, 30, true),
-        (31, Outcome::Right, 30, false),
-    ] {
-        assert_eq!(rt; thirty_at(rt.alloc(), turn), (outcome, requests, refused));
+    const ROWS: [(u64, (Outcome, u64, bool)); 5] = [
+        (1, (Outcome::Refused, 1, true)),
+        (9, (Outcome::Refused, 9, true)),
+        (10, (Outcome::Refused, 10, true)),
+        (30, (Outcome::Refused, 30, true)),
+        (31, (Outcome::Right, 30, false)),
+    ];
+    for (turn, found) in ROWS {
+        assert_eq!(rt; thirty_at(rt.alloc(), turn), found, "turn {turn}");
     }
 }
 
@@ -146,7 +148,7 @@ fn looked_at(alloc: Global, first: u64, outcome: Outcome) -> Result<u64, Failure
 #[test]
 fn each_run_is_looked_at(rt: HostRuntime) {
     // Runs 0, 2 and 4 are those of turns 1 to 3, and runs 1 and 3 the ones after turns 1 and 2.
-    for (first, outcome, found) in [
+    const ROWS: [(u64, Outcome, Result<u64, Failure>); 8] = [
         (2, Outcome::Refused, Err(Failure::GaveUp(2))),
         (2, Outcome::Wrong, Err(Failure::Wrong(2))),
         (2, Outcome::Right, Ok(1)),
@@ -155,7 +157,8 @@ fn each_run_is_looked_at(rt: HostRuntime) {
         (4, Outcome::Refused, Err(Failure::GaveUp(3))),
         (4, Outcome::Wrong, Err(Failure::Wrong(3))),
         (5, Outcome::Wrong, Ok(2)),
-    ] {
+    ];
+    for (first, outcome, found) in ROWS {
         assert_eq!(rt;
             looked_at(rt.alloc(), first, outcome),
             found,
@@ -201,7 +204,7 @@ fn faults(alloc: Global) -> [Result<u64, Failure>; 8] {
 
 #[test]
 fn each_fault_is_found(rt: HostRuntime) {
-    let expected = [
+    const EXPECTED: [Result<u64, Failure>; 8] = [
         Err(Failure::Wrong(1)),
         Err(Failure::GaveUp(1)),
         Err(Failure::Wrong(1)),
@@ -211,7 +214,7 @@ fn each_fault_is_found(rt: HostRuntime) {
         Err(Failure::TooManyTurns(2)),
         Err(Failure::TooManyTurns(9)),
     ];
-    assert_eq!(rt; faults(rt.alloc()), expected);
+    assert_eq!(rt; faults(rt.alloc()), EXPECTED);
 }
 
 // Whether a failure is told in these words.
@@ -224,7 +227,7 @@ fn is_told(alloc: Global, failure: Failure, text: &str) -> bool {
 
 #[test]
 fn each_fault_is_told(rt: HostRuntime) {
-    for (failure, text) in [
+    const TEXTS: [(Failure, &str); 7] = [
         (Failure::Wrong(1), "turn 1: wrong"),
         (Failure::GaveUp(1), "turn 1: gave up without a refusal"),
         (Failure::Ignored(1), "turn 1: a refusal was not told"),
@@ -238,7 +241,8 @@ fn each_fault_is_told(rt: HostRuntime) {
         ),
         (Failure::TooManyTurns(2), "2 turns did not end the refusals"),
         (Failure::TooManyTurns(9), "9 turns did not end the refusals"),
-    ] {
+    ];
+    for (failure, text) in TEXTS {
         assert!(rt; is_told(rt.alloc(), failure, text), "{text}");
     }
 }

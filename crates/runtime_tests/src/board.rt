@@ -136,7 +136,7 @@ fn reports_that_are_refused_charge_nothing(rt: HostRuntime) {
     );
     let before = seen(&board);
     assert_eq!(rt; before.1, [Some(4_294_967_295), Some(0)]);
-    let refused = [
+    const REFUSED: [(u32, u32, u32, BoardError); 6] = [
         (1, 0, 5, BoardError::WrongRound),
         (1, 2, 5, BoardError::WrongRound),
         (1, 1, 1_048_577, BoardError::TooLarge),
@@ -144,7 +144,7 @@ fn reports_that_are_refused_charge_nothing(rt: HostRuntime) {
         (0, 2, 1_048_577, BoardError::WrongRound),
         (2, 2, 1_048_577, BoardError::Stranger),
     ];
-    for (i, number, bytes, error) in refused {
+    for (i, number, bytes, error) in REFUSED {
         let answer = report(&rt, &mut board, i, number, 7, bytes, 1);
         assert_eq!(rt; answer, Err(error), "the report of {i} for {number}");
         assert_eq!(rt;
@@ -206,7 +206,7 @@ fn a_full_array(rt: HostRuntime) {
 
 #[test]
 fn numbers_and_texts(rt: HostRuntime) {
-    let errors = [
+    const ERRORS: [(BoardError, u8, &str); 7] = [
         (BoardError::Stranger, 1, "there is no such element"),
         (BoardError::WrongRound, 2, "the report is for another round"),
         (BoardError::Twice, 3, "the element has reported already"),
@@ -215,7 +215,7 @@ fn numbers_and_texts(rt: HostRuntime) {
         (BoardError::OutOfMemory, 6, "out of memory"),
         (BoardError::Worn, 7, "no round is left"),
     ];
-    for (error, number, text) in errors {
+    for (error, number, text) in ERRORS {
         assert_eq!(rt; error as u8, number, "{text}");
         assert_eq!(rt;
             format!(in rt.alloc(); "{error}")

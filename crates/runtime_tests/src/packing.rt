@@ -134,14 +134,14 @@ fn shares(alloc: Global, bytes: &[u8]) -> Result<usize, PupError> {
 
 #[test]
 fn bytes_of_no_value(rt: HostRuntime) {
-    let rows: [(&[u8], Result<usize, PupError>); 5] = [
+    const ROWS: [(&[u8], Result<usize, PupError>); 5] = [
         (&[0, 0, 0, 2, 0, 0, 0, 100, 0, 0, 0, 0], Ok(2)),
         (&[0, 0, 0, 2, 0, 0, 0, 101, 0, 0, 0, 0], Err(PupError::Bad)),
         (&[0, 0, 0, 2, 0, 0, 0, 101], Err(PupError::Bad)),
         (&[0, 0, 0, 2, 0, 0, 0, 100, 0, 0, 0], Err(PupError::Short)),
         (&[0, 16, 0, 1, 0, 0, 0, 101], Err(PupError::TooLong)),
     ];
-    for (bytes, want) in rows {
+    for (bytes, want) in ROWS {
         assert_eq!(rt; shares(rt.alloc(), bytes), want, "{bytes:?}");
     }
 }
@@ -337,11 +337,11 @@ fn short_lists_that_are_too_long_together(rt: HostRuntime) {
 
 #[test]
 fn the_longest_byte_list(rt: HostRuntime) {
-    let rows = [
+    const ROWS: [(usize, u32, Option<PupError>); 2] = [
         (1_048_572, 1_048_576, None),
         (1_048_573, 1_048_577, Some(PupError::TooLong)),
     ];
-    for (count, len, refusal) in rows {
+    for (count, len, refusal) in ROWS {
         let list = Bytes::new(vec![in rt.alloc(); 7; count].expect(&rt, "out of memory"));
         let mut out = Vec::new(rt.alloc());
         assert_eq!(rt; list.packed_len(), len);
@@ -351,12 +351,12 @@ fn the_longest_byte_list(rt: HostRuntime) {
 
 #[test]
 fn the_longest_bytes(rt: HostRuntime) {
-    let rows: [(usize, [u8; 4], Option<PupError>); 3] = [
+    const ROWS: [(usize, [u8; 4], Option<PupError>); 3] = [
         (1_048_576, [0, 15, 255, 252], None),
         (1_048_577, [0, 15, 255, 253], Some(PupError::TooLong)),
         (1_048_576, [0, 15, 255, 253], Some(PupError::Short)),
     ];
-    for (len, head, refusal) in rows {
+    for (len, head, refusal) in ROWS {
         let mut bytes = Vec::from_slice(rt.alloc(), &head).expect(&rt, "out of memory");
         bytes.resize(len, 7).expect(&rt, "out of memory");
         let answer = <Bytes as Pup<Global>>::unpack(rt.alloc(), &bytes);
@@ -366,13 +366,13 @@ fn the_longest_bytes(rt: HostRuntime) {
 
 #[test]
 fn refusals_of_packing(rt: HostRuntime) {
-    let errors = [
+    const ERRORS: [(PupError, u8, &str); 4] = [
         (PupError::Short, 1, "the packed bytes are too short"),
         (PupError::Bad, 2, "the packed bytes are no value"),
         (PupError::TooLong, 3, "the packed value is too long"),
         (PupError::OutOfMemory, 4, "out of memory"),
     ];
-    for (error, number, text) in errors {
+    for (error, number, text) in ERRORS {
         assert_eq!(rt; error as u8, number, "{text}");
         assert_eq!(rt;
             format!(in rt.alloc(); "{error}")
@@ -394,7 +394,7 @@ fn opening(i: u32, n: u32, p: u32) -> Option<u32> {
 
 #[test]
 fn the_opening_places(rt: HostRuntime) {
-    let rows = [
+    const ROWS: [(u32, u32, u32, u32); 8] = [
         (0, 4, 2, 0),
         (1, 4, 2, 0),
         (2, 4, 2, 1),
@@ -404,7 +404,7 @@ fn the_opening_places(rt: HostRuntime) {
         (1, 2, 256, 128),
         (65_535, 65_536, 256, 255),
     ];
-    for (i, n, p, pe) in rows {
+    for (i, n, p, pe) in ROWS {
         assert_eq!(rt; opening(i, n, p), Some(pe), "element {i} of {n} on {p} PEs");
     }
     NoGate.pass(7);
