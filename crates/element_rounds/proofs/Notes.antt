@@ -1,5 +1,5 @@
 -- The marks of an element over its entries, and the note of one of them.
-use Rattle.std.proofs.Common.{◌≡◌, ℕ, ◌+◌, List, [], ◌∷◌, ◌++◌, append_assoc, append-nil, sym, ◌∙◌}
+use Rattle.std.proofs.Common.{◌≡◌, ℕ, List, [], ◌∷◌, ◌++◌, append_assoc, append-nil, sym, ◌∙◌}
 use Rattle.chares.specs.declared.note.Mark.{Mark}
 use Rattle.chares.specs.Elements.{ElementView, note_of, ran, lived}
 use Rattle.chares.specs.Letters.{Done}
