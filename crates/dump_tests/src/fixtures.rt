@@ -2,8 +2,9 @@
 //! that fail. What can't be made ends the test.
 
 use chare_index::Pe;
-use lb_certificates::{Loads, Sizes, Snapshot};
-use lb_dump::DumpError;
+use lb_certificates::{Loads, Sizes, Snapshot, Units};
+use lb_dump::{DumpError, DumpReader, encode};
+use std::alloc::Global;
 use std::io::{self, Error, ErrorKind, Read, Write};
 use std::process::Abort;
 
@@ -19,15 +20,22 @@ pub(crate) fn pe(rt: &impl Abort, number: u32) -> Pe {
 }
 
 pub(crate) fn example(rt: &(impl Abort + AllocGlobal)) -> Snapshot {
+    let pairs = [(10, pe(rt, 0)), (9, pe(rt, 1)), (8, pe(rt, 0))];
     let loads = [1, 1, 2].to_vec(rt.alloc()).expect(rt, "out of memory");
-    let mut pairs = Vec::new(rt.alloc());
-    for (size, place) in [(10, 0), (9, 1), (8, 0)] {
-        let place = pe(rt, place);
-        pairs.push((size, place)).expect(rt, "out of memory");
-    }
+    let pairs = pairs.to_vec(rt.alloc()).expect(rt, "out of memory");
+    snapshot(rt, (5, 2), loads, pairs)
+}
+
+// The snapshot at this step, on so many PEs.
+fn snapshot(
+    rt: &impl Abort,
+    head: (u32, u32),
+    loads: Vec<Units>,
+    pairs: Vec<(u32, Pe)>,
+) -> Snapshot {
     let loads = Loads::new(loads).expect(rt, "too many loads");
     let sizes = Sizes::new(pairs).expect(rt, "past a limit");
-    Snapshot::new(5, 2, loads, sizes).expect(rt, "no snapshot")
+    Snapshot::new(head.0, head.1, loads, sizes).expect(rt, "no snapshot")
 }
 
 /// Whether the example was found.
@@ -39,6 +47,12 @@ pub(crate) fn is_example(
     *found == example(rt)
 }
 
+/// Whether a snapshot has this text.
+pub(crate) fn has_text(rt: &(impl Abort + AllocGlobal), snapshot: &Snapshot, text: &[u8]) -> bool {
+    let encoded = encode(rt.alloc(), snapshot).expect(rt, "out of memory");
+    encoded.as_slice() == text
+}
+
 // The load, the size and the place of element `i` of a full array: loads of all widths, up to the greatest size.
 fn full_element(i: u32) -> (u32, u32, u32) {
     (
@@ -48,19 +62,29 @@ fn full_element(i: u32) -> (u32, u32, u32) {
     )
 }
 
-/// The most elements on the most PEs, at the greatest step.
-pub(crate) fn full(rt: &(impl Abort + AllocGlobal)) -> Snapshot {
+fn full_loads(rt: &(impl Abort + AllocGlobal)) -> Vec<Units> {
     let mut loads = Vec::new(rt.alloc());
+    for i in 0..65_536u32 {
+        let (load, _, _) = full_element(i);
+        loads.push(load).expect(rt, "out of memory");
+    }
+    loads
+}
+
+fn full_sizes(rt: &(impl Abort + AllocGlobal)) -> Vec<(u32, Pe)> {
     let mut pairs = Vec::new(rt.alloc());
     for i in 0..65_536u32 {
-        let (load, size, place) = full_element(i);
-        let place = pe(rt, place);
-        loads.push(load).expect(rt, "out of memory");
-        pairs.push((size, place)).expect(rt, "out of memory");
+        let (_, size, place) = full_element(i);
+        pairs
+            .push((size, pe(rt, place)))
+            .expect(rt, "out of memory");
     }
-    let loads = Loads::new(loads).expect(rt, "too many loads");
-    let sizes = Sizes::new(pairs).expect(rt, "past a limit");
-    Snapshot::new(u32::MAX, 256, loads, sizes).expect(rt, "no snapshot")
+    pairs
+}
+
+/// The most elements on the most PEs, at the greatest step.
+pub(crate) fn full(rt: &(impl Abort + AllocGlobal)) -> Snapshot {
+    snapshot(rt, (u32::MAX, 256), full_loads(rt), full_sizes(rt))
 }
 
 /// Whether it was found.
@@ -72,18 +96,31 @@ pub(crate) fn is_full(
     *found == full(rt)
 }
 
+fn push_number(rt: &impl Abort, text: &mut Vec<u8>, number: u32) {
+    let pushed = text.extend_from_slice(&number.to_be_bytes());
+    pushed.expect(rt, "out of memory");
+}
+
 /// Its 786,448 bytes, number by number.
 pub(crate) fn full_text(rt: &(impl Abort + AllocGlobal)) -> Vec<u8> {
     let head = b"LBD1\xff\xff\xff\xff\0\0\x01\0\0\x01\0\0";
     let mut text = Vec::from_slice(rt.alloc(), head).expect(rt, "out of memory");
     for i in 0..65_536u32 {
         let (load, size, place) = full_element(i);
-        for number in [load, size, place] {
-            text.extend_from_slice(&number.to_be_bytes())
-                .expect(rt, "out of memory");
-        }
+        push_number(rt, &mut text, load);
+        push_number(rt, &mut text, size);
+        push_number(rt, &mut text, place);
     }
     text
+}
+
+/// What a reader gives for a text that comes byte by byte, or why it gives nothing.
+pub(crate) fn fed_byte_by_byte(alloc: Global, text: &[u8]) -> Result<Snapshot, DumpError> {
+    let mut reader = DumpReader::new(alloc);
+    for byte in text {
+        reader.feed(&[*byte])?;
+    }
+    reader.end()
 }
 
 /// Gives so many bytes a call, and fails at one call, counted from 0, whatever comes after it.

@@ -1,18 +1,18 @@
 //! The most elements, encoded, written and read. The text has more than one block of the writer and more than one
 //! piece of the reader.
 
-use crate::fixtures::{Sink, Source, full, full_text, is_full};
+use crate::fixtures::{self, Sink, Source, full, full_text, has_text, is_full};
 use lb_certificates::Snapshot;
-use lb_dump::{DumpError, DumpReader, decode, encode, read_from, write_to};
+use lb_dump::{DumpError, decode, read_from, write_to};
 use std::alloc::Global;
 use std::io::ErrorKind;
+use std::process::Abort;
 
 #[test]
 fn encoded(rt: HostRuntime) {
     let text = full_text(&rt);
-    assert_eq!(rt; text.len(), 786_448);
-    let encoded = encode(rt.alloc(), &full(&rt)).expect(&rt, "out of memory");
-    assert!(rt; encoded.as_slice() == text.as_slice(), "another text");
+    assert!(rt; text.len() == 786_448);
+    assert!(rt; has_text(&rt, &full(&rt), &text), "another text");
 }
 
 #[test]
@@ -31,50 +31,47 @@ fn writes(rt: &impl AllocGlobal, at_once: usize, snapshot: &Snapshot, text: &[u8
 fn written(rt: HostRuntime) {
     let snapshot = full(&rt);
     let text = full_text(&rt);
-    for at_once in [1_000, 1_000_000] {
-        let found = writes(&rt, at_once, &snapshot, &text);
-        assert!(rt; found, "{at_once} bytes a call");
-    }
+    assert!(rt; writes(&rt, 1_000, &snapshot, &text));
+    assert!(rt; writes(&rt, 1_000_000, &snapshot, &text));
+}
+
+// Whether this reader gives the snapshot.
+fn reads(rt: &(impl Abort + AllocGlobal), source: &mut Source<'_>) -> bool {
+    is_full(rt, &read_from(rt.alloc(), source))
 }
 
 #[test]
 fn read_in_pieces(rt: HostRuntime) {
     let text = full_text(&rt);
-    for at_once in [1_000, 65_536, 1_000_000] {
-        let found = read_from(rt.alloc(), &mut Source::new(&text, at_once, None));
-        assert!(rt; is_full(&rt, &found), "{at_once} bytes a call");
-    }
+    assert!(rt; reads(&rt, &mut Source::new(&text, 1_000, None)));
+    assert!(rt; reads(&rt, &mut Source::new(&text, 65_536, None)));
+    assert!(rt; reads(&rt, &mut Source::new(&text, 1_000_000, None)));
 }
 
 #[test]
 fn read_byte_by_byte(rt: HostRuntime) {
     let text = full_text(&rt);
     let mut source = Source::new(&text, 1, Some((786_449, ErrorKind::Other)));
-    let found = is_full(&rt, &read_from(rt.alloc(), &mut source));
-    assert!(rt; found, "another snapshot");
-    assert_eq!(rt; source.calls, 786_449);
-}
-
-// What a reader gives for a text that comes byte by byte.
-fn fed(alloc: Global, text: &[u8]) -> Result<Snapshot, DumpError> {
-    let mut reader = DumpReader::new(alloc);
-    for byte in text {
-        reader.feed(&[*byte])?;
-    }
-    reader.end()
+    assert!(rt; reads(&rt, &mut source), "another snapshot");
+    assert!(rt; source.calls == 786_449);
 }
 
 #[test]
 fn fed_byte_by_byte(rt: HostRuntime) {
-    let found = fed(rt.alloc(), &full_text(&rt));
+    let found = fixtures::fed_byte_by_byte(rt.alloc(), &full_text(&rt));
     assert!(rt; is_full(&rt, &found), "another snapshot");
+}
+
+// Whether a text has this fault.
+fn has_fault(alloc: Global, text: &[u8], fault: DumpError) -> bool {
+    decode(alloc, text).err() == Some(fault)
 }
 
 #[test]
 fn one_byte_too_few_or_too_many(rt: HostRuntime) {
     let mut text = full_text(&rt);
     assert!(rt; text.pop().is_some());
-    assert!(rt; decode(rt.alloc(), &text) == Err(DumpError::Short(786_447)));
+    assert!(rt; has_fault(rt.alloc(), &text, DumpError::Short(786_447)));
     text.extend_from_slice(&[0, 0]).expect(&rt, "out of memory");
-    assert!(rt; decode(rt.alloc(), &text) == Err(DumpError::Trailing));
+    assert!(rt; has_fault(rt.alloc(), &text, DumpError::Trailing));
 }
