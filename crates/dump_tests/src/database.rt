@@ -18,15 +18,38 @@ fn round(rt: &impl Abort, number: u32) -> Round
 type Element = (Option<Units>, Option<(u32, Pe)>);
 
 // What the readers say of a database and of its first five indexes.
-fn seen(db: &LoadDb) -> (Round, usize, bool, bool, [Element; 5]) {
-    let elements = [0, 1, 2, 3, 4].map(|i| (db.load(i), db.reported(i)));
-    (
-        db.round(),
-        db.len(),
-        db.is_empty(),
-        db.is_complete(),
-        elements,
-    )
+#[derive(Clone, Copy, PartialEq, Eq)]
+struct Readings {
+    round: Round,
+    len: usize,
+    is_empty: bool,
+    is_complete: bool,
+    elements: [Element; 5],
+}
+
+fn element(db: &LoadDb, i: u32) -> Element {
+    (db.load(i), db.reported(i))
+}
+
+fn seen(db: &LoadDb) -> Readings {
+    Readings {
+        round: db.round(),
+        len: db.len(),
+        is_empty: db.is_empty(),
+        is_complete: db.is_complete(),
+        elements: [
+            element(db, 0),
+            element(db, 1),
+            element(db, 2),
+            element(db, 3),
+            element(db, 4),
+        ],
+    }
+}
+
+// Whether an element has so many units and this report.
+fn has(db: &LoadDb, i: u32, units: Units, report: Option<(u32, Pe)>) -> bool {
+    db.load(i) == Some(units) && db.reported(i) == report
 }
 
 // A database of four elements, of which element 2 has done all the work that is counted, and reported.
@@ -45,14 +68,17 @@ fn refuses_a_snapshot(db: &LoadDb) -> bool {
     db.snapshot(1, 1).err() == Some(DbError::Incomplete)
 }
 
+// Whether it refuses the work of a fifth element, and the next round.
+fn refuses_to_go_on(db: &mut LoadDb) -> bool {
+    db.charge(4, 1) == Err(DbError::Stranger) && db.next_round() == Err(DbError::Incomplete)
+}
+
 #[test]
 fn four_elements_of_which_one_reported(rt: HostRuntime) {
     let mut db = begun(&rt);
     let before = seen(&db);
-    let element = (Some(u32::MAX), Some((5, pe(&rt, 0))));
-    assert!(rt; before.4[2] == element);
-    assert!(rt; db.charge(4, 1) == Err(DbError::Stranger));
-    assert!(rt; db.next_round() == Err(DbError::Incomplete));
+    assert!(rt; has(&db, 2, u32::MAX, Some((5, pe(&rt, 0)))));
+    assert!(rt; refuses_to_go_on(&mut db));
     assert!(rt; refuses_a_snapshot(&db));
     assert!(rt; seen(&db) == before);
 }
@@ -60,13 +86,12 @@ fn four_elements_of_which_one_reported(rt: HostRuntime) {
 // The element, the round and the bytes of a report, and why it is refused.
 type Refused = (u32, u32, u32, DbError);
 
-// A database has to refuse it, and to stay as it was.
-fn expect_refused(rt: &impl Abort, db: &mut LoadDb, report: Refused) {
-    let (i, number, bytes, error) = report;
+// Whether a database refuses it, and stays as it was.
+fn is_refused(rt: &impl Abort, db: &mut LoadDb, report: &Refused) -> bool {
+    let &(i, number, bytes, error) = report;
     let before = seen(db);
     let answer = db.report(i, round(rt, number), bytes, pe(rt, 0));
-    assert_eq!(rt; answer, Err(error), "the report of {i} for {number}");
-    assert!(rt; seen(db) == before, "after the report of {i} for {number}");
+    answer == Err(error) && seen(db) == before
 }
 
 #[test]
@@ -81,17 +106,22 @@ fn reports_that_are_refused(rt: HostRuntime) {
         (2, 3, 1_048_577, DbError::WrongRound),
         (2, 1, 1_048_577, DbError::Twice),
     ];
-    for report in REFUSED {
-        expect_refused(&rt, &mut db, report);
+    for report in &REFUSED {
+        assert!(rt; is_refused(&rt, &mut db, report), "{report:?}");
     }
+}
+
+// One byte is reported for this element.
+fn report_a_byte(rt: &impl Abort, db: &mut LoadDb, i: u32) {
+    let answer = db.report(i, round(rt, 1), 1, pe(rt, 0));
+    assert!(rt; answer.is_ok(), "the report of {i}");
 }
 
 // What the other three elements do: each reports one byte.
 fn report_the_others(rt: &impl Abort, db: &mut LoadDb) {
-    for i in [0, 1, 3] {
-        let answer = db.report(i, round(rt, 1), 1, pe(rt, 0));
-        assert_eq!(rt; answer, Ok(()), "the report of {i}");
-    }
+    report_a_byte(rt, db, 0);
+    report_a_byte(rt, db, 1);
+    report_a_byte(rt, db, 3);
 }
 
 // The snapshot of a database whose elements stand on so many PEs.
@@ -126,14 +156,24 @@ fn worn(rt: &(impl Abort + AllocGlobal)) -> LoadDb {
     LoadDb::at(rt.alloc(), 0, last).expect(rt, "out of memory")
 }
 
+// Whether this is what the readers say of it.
+fn is_worn(rt: &impl Abort, seen: &Readings) -> bool {
+    let expected = Readings {
+        round: round(rt, 2_147_483_648),
+        len: 0,
+        is_empty: true,
+        is_complete: true,
+        elements: [(None, None); 5],
+    };
+    *seen == expected
+}
+
 #[test]
 fn no_elements(rt: HostRuntime) {
     let mut db = worn(&rt);
-    let last = round(&rt, 2_147_483_648);
-    let expected = (last, 0, true, true, [(None, None); 5]);
-    assert!(rt; seen(&db) == expected);
+    assert!(rt; is_worn(&rt, &seen(&db)));
     assert!(rt; db.next_round() == Err(DbError::Worn));
-    assert!(rt; seen(&db) == expected);
+    assert!(rt; is_worn(&rt, &seen(&db)), "after the last round");
 }
 
 #[test]
@@ -160,10 +200,10 @@ fn reported(rt: &(impl Abort + AllocGlobal)) -> LoadDb {
 
 #[test]
 fn work_after_a_report_is_counted(rt: HostRuntime) {
-    let seen = seen(&reported(&rt));
-    let element = (Some(9), Some((1_048_576, pe(&rt, 255))));
-    assert!(rt; seen.4[0] == element && seen.4[1] == element);
-    assert!(rt; seen.3, "not complete");
+    let db = reported(&rt);
+    let report = Some((1_048_576, pe(&rt, 255)));
+    assert!(rt; has(&db, 0, 9, report) && has(&db, 1, 9, report));
+    assert!(rt; db.is_complete(), "not complete");
 }
 
 // The same database in its next round.
@@ -175,11 +215,10 @@ fn begun_anew(rt: &(impl Abort + AllocGlobal)) -> LoadDb {
 
 #[test]
 fn the_next_round_has_nothing(rt: HostRuntime) {
-    let (number, len, is_empty, is_complete, elements) = seen(&begun_anew(&rt));
-    assert_eq!(rt; (number, len), (round(&rt, 2), 2));
-    assert!(rt; !is_empty && !is_complete);
-    let element = (Some(0), None);
-    assert!(rt; elements[0] == element && elements[1] == element);
+    let db = begun_anew(&rt);
+    assert!(rt; db.round() == round(&rt, 2) && db.len() == 2);
+    assert!(rt; !db.is_empty() && !db.is_complete());
+    assert!(rt; has(&db, 0, 0, None) && has(&db, 1, 0, None));
 }
 
 #[test]
@@ -190,15 +229,18 @@ fn the_next_round_has_its_own_reports(rt: HostRuntime) {
     assert!(rt; db.report(0, round(&rt, 2), 1, pe(&rt, 0)).is_ok());
 }
 
-// Whether an error has this number and this text.
-fn has(rt: &(impl Abort + AllocGlobal), error: DbError, number: u8, text: &str) -> bool {
+// An error, its number and its text.
+type Said = (DbError, u8, &'static str);
+
+fn is_said(rt: &(impl Abort + AllocGlobal), row: &Said) -> bool {
+    let &(error, number, text) = row;
     let said = format!(in rt.alloc(); "{error}").expect(rt, "out of memory");
     error as u8 == number && said.as_str() == text
 }
 
 #[test]
 fn numbers_and_texts(rt: HostRuntime) {
-    const ERRORS: [(DbError, u8, &str); 7] = [
+    const ERRORS: [Said; 7] = [
         (DbError::Stranger, 1, "there is no such element"),
         (DbError::WrongRound, 2, "the report is for another round"),
         (DbError::Twice, 3, "the element has reported already"),
@@ -207,7 +249,7 @@ fn numbers_and_texts(rt: HostRuntime) {
         (DbError::OutOfMemory, 6, "out of memory"),
         (DbError::Worn, 7, "no round is left"),
     ];
-    for (error, number, text) in ERRORS {
-        assert!(rt; has(&rt, error, number, text), "{text}");
+    for row in &ERRORS {
+        assert!(rt; is_said(&rt, row), "{row:?}");
     }
 }
