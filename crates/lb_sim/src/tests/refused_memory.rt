@@ -5,7 +5,7 @@ use crate::ended::Ended;
 use crate::simulation::simulate;
 use lb_dump::{DumpError, read_from};
 use lb_strategy::PlanError;
-use refusing_alloc::{Outcome, Refusing, each_refusal};
+use refusing_alloc::{Failure, Outcome, Refusing, each_refusal};
 use std::alloc::Global;
 use std::test::Fail;
 
@@ -19,46 +19,58 @@ const NAMING: u64 = 11;
 // the text.
 const IN_ALL: u64 = TO_READ + (3 + 2 + NAMING + 1) + 5;
 
-// What a replay of the example comes to, over an allocator that may refuse.
-fn attempted(alloc: &Refusing<Global>, written: &mut Vec<u8>) -> Outcome {
-    let ended = simulate(alloc, &mut EXAMPLE.as_slice(), written, None);
+// What the end of a replay of the example comes to, over an allocator that may refuse, with what it wrote.
+fn outcome(ended: Ended, written: &[u8]) -> Outcome {
     match ended {
-        Ended::Printed if written.as_slice() == TEXT.as_bytes() => Outcome::Right,
+        Ended::Printed if written == TEXT.as_bytes() => Outcome::Right,
         Ended::Dump(DumpError::OutOfMemory) | Ended::Plan(PlanError::OutOfMemory)
-            if written.as_slice() == b"out of memory\n".as_slice() => { Outcome::Refused }
+            if written == b"out of memory\n".as_slice() => { Outcome::Refused }
         _ => Outcome::Wrong,
     }
 }
 
+fn attempted(alloc: &Refusing<Global>, written: &mut Vec<u8>) -> Outcome {
+    let ended = simulate(alloc, &mut EXAMPLE.as_slice(), written, None);
+    outcome(ended, written)
+}
+
 // What a reading of the example comes to, over such an allocator.
 fn read(alloc: &Refusing<Global>) -> Outcome {
-    match read_from(alloc, &mut EXAMPLE.as_slice()) {
-        Ok(_) => Outcome::Right,
-        Err(DumpError::OutOfMemory) => Outcome::Refused,
-        Err(_) => Outcome::Wrong,
+    match read_from(alloc, &mut EXAMPLE.as_slice()).err() {
+        None => Outcome::Right,
+        Some(DumpError::OutOfMemory) => Outcome::Refused,
+        Some(_) => Outcome::Wrong,
     }
+}
+
+// How many requests of a replay are refused, one in each attempt.
+fn requests_of_a_replay(rt: &impl AllocGlobal) -> Result<u64, Failure> {
+    let attempt = |alloc: &Refusing<Global>| attempted(alloc, &mut Vec::new(rt.alloc()));
+    each_refusal(rt.alloc(), 80, attempt)
 }
 
 #[test]
 fn memory_refused_at_each_request(rt: HostRuntime) -> Result<(), Fail> {
-    let attempt = |alloc: &Refusing<Global>| attempted(alloc, &mut Vec::new(rt.alloc()));
-    let requests = each_refusal(rt.alloc(), 80, attempt)?;
-    assert_eq!(rt; each_refusal(rt.alloc(), 80, read)?, TO_READ);
-    assert_eq!(rt; requests, IN_ALL);
+    assert!(rt; each_refusal(rt.alloc(), 80, read)? == TO_READ);
+    assert!(rt; requests_of_a_replay(&rt)? == IN_ALL);
     Ok(())
+}
+
+// How a replay of the example ends whose request of this number is refused.
+fn ended_at_request(rt: &impl AllocGlobal, number: u64) -> Ended {
+    let alloc = Refusing::new(rt.alloc(), number);
+    let mut written = Vec::new(rt.alloc());
+    simulate(&alloc, &mut EXAMPLE.as_slice(), &mut written, None)
 }
 
 #[test]
 fn the_fault_is_that_of_the_dump_or_the_plan(rt: HostRuntime) {
-    for turn in 1..=IN_ALL {
-        let alloc = Refusing::new(rt.alloc(), turn);
-        let mut written = Vec::new(rt.alloc());
-        let ended = simulate(&alloc, &mut EXAMPLE.as_slice(), &mut written, None);
-        let wanted = if turn <= TO_READ {
+    for number in 1..=IN_ALL {
+        let wanted = if number <= TO_READ {
             Ended::Dump(DumpError::OutOfMemory)
         } else {
             Ended::Plan(PlanError::OutOfMemory)
         };
-        assert_eq!(rt; ended, wanted, "request {turn}");
+        assert!(rt; ended_at_request(&rt, number) == wanted, "request {number}");
     }
 }

@@ -1,72 +1,106 @@
 //! Whole replays: worked dumps, dumps with a fault, files and statuses.
 
-ghost use Rattle.std.specs.Prelude.{◌≤◌};
+ghost use Rattle.std.specs.Prelude.{◌≤◌, ◌<◌};
 ghost use Rattle.std.specs.Option.{ForSome};
 
-use super::fixtures::{EXAMPLE, ON_ONE, Slow, TEXT, replays};
+use super::fixtures::{EXAMPLE, ON_ONE, Slow, TEXT, ends, is_end, replayed, replays};
 use crate::ended::{Ended, status};
 use crate::request::Asked;
-use crate::simulation::{replay_file, run, simulate};
+use crate::simulation::{replay_file, run};
 use chare_index::Limits;
 use lb_dump::DumpError;
 use lb_strategy::PlanError;
-use std::io::{self, ErrorKind};
+use std::alloc::AllocError;
+use std::io::{self, ErrorKind, Read};
 use std::process::Abort;
-use std::test::Fail;
+
+// The example and one byte more.
+fn longer() -> [u8; 53] {
+    let mut longer = [0; 53];
+    longer[..52].copy_from_slice(&EXAMPLE);
+    longer
+}
 
 #[test]
 fn the_example_and_its_faults(rt: HostRuntime) {
-    assert_eq!(rt; replays(&rt, &EXAMPLE, TEXT), Ended::Printed);
-    let short = replays(&rt, &EXAMPLE[..15], "dump: ends at byte 15\n");
-    assert_eq!(rt; short, Ended::Dump(DumpError::Short(15)));
-    let mut longer = [0; 53];
-    longer[..52].copy_from_slice(&EXAMPLE);
-    let longer = replays(&rt, &longer, "dump: bytes after the last element\n");
-    assert_eq!(rt; longer, Ended::Dump(DumpError::Trailing));
+    assert!(rt; replays(&rt, &EXAMPLE, TEXT, Ended::Printed));
+    let short = "dump: ends at byte 15\n";
+    let end = Ended::Dump(DumpError::Short(15));
+    assert!(rt; replays(&rt, &EXAMPLE[..15], short, end));
+    let trailing = "dump: bytes after the last element\n";
+    let end = Ended::Dump(DumpError::Trailing);
+    assert!(rt; replays(&rt, &longer(), trailing, end));
 }
 
 #[test]
 fn no_bytes_and_other_letters(rt: HostRuntime) {
-    let none = replays(&rt, &[], "dump: ends at byte 0\n");
-    assert_eq!(rt; none, Ended::Dump(DumpError::Short(0)));
-    let other = replays(&rt, b"LBD2", "dump: not LBD1\n");
-    assert_eq!(rt; other, Ended::Dump(DumpError::Magic));
+    let short = "dump: ends at byte 0\n";
+    assert!(rt; replays(&rt, &[], short, Ended::Dump(DumpError::Short(0))));
+    let other = "dump: not LBD1\n";
+    assert!(rt; replays(&rt, b"LBD2", other, Ended::Dump(DumpError::Magic)));
+}
+
+// A byte that the example has at a place, the line that is written then, and its fault.
+#[derive(Debug)]
+struct Changed {
+    place: usize,
+    byte: u8,
+    line: &'static str,
+    fault: DumpError,
+}
+
+fn is_reported(rt: &impl AllocGlobal, row: &Changed) -> bool {
+    let mut changed = EXAMPLE;
+    if let Some(byte) = changed.get_mut(row.place) {
+        *byte = row.byte;
+    }
+    replays(rt, &changed, row.line, Ended::Dump(row.fault))
 }
 
 #[test]
 fn a_changed_byte_is_reported(rt: HostRuntime) {
-    const ROWS: [(usize, u8, &str, DumpError); 4] = [
-        (
-            51,
-            2,
-            "dump: element 2 is on no processor\n",
-            DumpError::Place(2),
-        ),
-        (
-            33,
-            255,
-            "dump: element 1 has more than 1048576 bytes\n",
-            DumpError::Size(1),
-        ),
-        (10, 255, "dump: procs out of 1..256\n", DumpError::Procs),
-        (13, 1, "dump: more than 65536 elements\n", DumpError::Count),
+    const ROWS: [Changed; 4] = [
+        Changed {
+            place: 51,
+            byte: 2,
+            line: "dump: element 2 is on no processor\n",
+            fault: DumpError::Place(2),
+        },
+        Changed {
+            place: 33,
+            byte: 255,
+            line: "dump: element 1 has more than 1048576 bytes\n",
+            fault: DumpError::Size(1),
+        },
+        Changed {
+            place: 10,
+            byte: 255,
+            line: "dump: procs out of 1..256\n",
+            fault: DumpError::Procs,
+        },
+        Changed {
+            place: 13,
+            byte: 1,
+            line: "dump: more than 65536 elements\n",
+            fault: DumpError::Count,
+        },
     ];
-    for (place, byte, line, fault) in ROWS {
-        let mut changed = EXAMPLE;
-        changed[place] = byte;
-        assert_eq!(rt; replays(&rt, &changed, line), Ended::Dump(fault));
+    for row in &ROWS {
+        assert!(rt; is_reported(&rt, row), "{row:?}");
     }
+}
+
+// Whether these first bytes of the example, so many, are reported as too few.
+fn is_short(rt: &(impl Abort + AllocGlobal), start: &[u8], len: u32) -> bool {
+    let line = format!(in rt.alloc(); "dump: ends at byte {len}\n").expect(rt, "out of memory");
+    replays(rt, start, &line, Ended::Dump(DumpError::Short(len)))
 }
 
 #[test]
 fn each_prefix_is_short(rt: HostRuntime) {
     for len in 0..52u32 {
-        let line = format!(in rt.alloc(); "dump: ends at byte {len}\n").expect(
-            &rt,
-            "out of memory",
-        );
-        let ended = replays(&rt, &EXAMPLE[..len as usize], &line);
-        assert_eq!(rt; ended, Ended::Dump(DumpError::Short(len)));
+        let start = &EXAMPLE[..len as usize];
+        assert!(rt; is_short(&rt, start, len), "{len} bytes");
     }
 }
 
@@ -76,11 +110,9 @@ fn no_elements_and_one_block(rt: HostRuntime) {
     let text = "step 0 procs 3 elements 0\nbottleneck 0\nfence zero\n\
         block 0 0..0 load 0 pe -\nblock 1 0..0 load 0 pe -\nblock 2 0..0 load 0 pe -\n\
         moved 0\n";
-    assert_eq!(rt; replays(&rt, empty, text), Ended::Printed);
-    let mut written = Vec::new(rt.alloc());
-    let ended = simulate(rt.alloc(), &mut EXAMPLE.as_slice(), &mut written, Some(1));
-    assert_eq!(rt; ended, Ended::Printed);
-    assert_eq!(rt; written.as_slice(), ON_ONE.as_bytes());
+    assert!(rt; replays(&rt, empty, text, Ended::Printed));
+    let mut example = EXAMPLE.as_slice();
+    assert!(rt; ends(&rt, &mut example, Some(1), ON_ONE, Ended::Printed));
 }
 
 #[test]
@@ -89,37 +121,50 @@ fn the_first_of_the_cheapest_namings_is_printed(rt: HostRuntime) {
         \0\0\0\x01\0\0\0\x08\0\0\0\0\0\0\0\x01\0\0\0\x08\0\0\0\0";
     let text = "step 0 procs 2 elements 2\nbottleneck 1\nfence 0 0 0\n\
         block 0 0..1 load 1 pe 0\nblock 1 1..2 load 1 pe 1\nmoved 8\n";
-    assert_eq!(rt; replays(&rt, two, text), Ended::Printed);
+    assert!(rt; replays(&rt, two, text, Ended::Printed));
 }
 
-#[test]
-fn the_most_blocks_are_printed(rt: HostRuntime) -> Result<(), Fail> {
-    let empty = b"LBD1\0\0\0\0\0\0\x01\0\0\0\0\0";
-    let mut text = String::new(rt.alloc());
+// Adds the text for no elements on 256 PEs.
+fn push_text_of_256(text: &mut String) -> Result<(), AllocError> {
     text.push_str("step 0 procs 256 elements 0\nbottleneck 0\nfence zero\n")?;
     for b in 0..256u32 {
         writeln!(text, "block {b} 0..0 load 0 pe -")?;
     }
-    text.push_str("moved 0\n")?;
-    assert_eq!(rt; replays(&rt, empty, &text), Ended::Printed);
-    Ok(())
+    text.push_str("moved 0\n")
 }
 
-// The dump `examples/moving-front.lbd1`: 300 elements in order on 16 PEs, at step 12. The load is heavier within 20
-// elements of element 190.
+#[test]
+fn the_most_blocks_are_printed(rt: HostRuntime) {
+    let empty = b"LBD1\0\0\0\0\0\0\x01\0\0\0\0\0";
+    let mut text = String::new(rt.alloc());
+    push_text_of_256(&mut text).expect(&rt, "out of memory");
+    assert!(rt; replays(&rt, empty, &text, Ended::Printed));
+}
+
+fn push_number(rt: &impl Abort, dump: &mut Vec<u8>, number: u32) {
+    let pushed = dump.extend_from_slice(&number.to_be_bytes());
+    pushed.expect(rt, "out of memory");
+}
+
+// The load, the size and the place of element `i` of the moving front. The load is heavier within 20 elements of
+// element 190.
+fn front_element(i: u32) -> (u32, u32, u32)
+    requires inside { i < 300 }
+{
+    let far = i.abs_diff(190);
+    let front = 400u32.saturating_sub(far.saturating_mul(far)) / 2;
+    (20 + 2 * i % 13 + front, 200 + 599 * i % 801, i * 16 / 300)
+}
+
+// The dump `examples/moving-front.lbd1`: 300 elements in order on 16 PEs, at step 12.
 fn moving_front(rt: &(impl Abort + AllocGlobal)) -> Vec<u8> {
-    let mut dump = Vec::from_slice(rt.alloc(), b"LBD1").expect(rt, "out of memory");
-    for number in [12u32, 16, 300] {
-        dump.extend_from_slice(&number.to_be_bytes())
-            .expect(rt, "out of memory");
-    }
+    let head = b"LBD1\0\0\0\x0c\0\0\0\x10\0\0\x01\x2c";
+    let mut dump = Vec::from_slice(rt.alloc(), head).expect(rt, "out of memory");
     for i in 0..300u32 {
-        let far = i.abs_diff(190);
-        let front = 400u32.saturating_sub(far.saturating_mul(far)) / 2;
-        for number in [20 + 2 * i % 13 + front, 200 + 599 * i % 801, i * 16 / 300] {
-            dump.extend_from_slice(&number.to_be_bytes())
-                .expect(rt, "out of memory");
-        }
+        let (load, size, place) = front_element(i);
+        push_number(rt, &mut dump, load);
+        push_number(rt, &mut dump, size);
+        push_number(rt, &mut dump, place);
     }
     dump
 }
@@ -151,9 +196,8 @@ const FRONT_LINES: [&str; 20] = [
 // The bytes that a replay of this dump writes.
 fn output(rt: &(impl Abort + AllocGlobal), dump: &[u8]) -> Vec<u8> {
     let mut written = Vec::new(rt.alloc());
-    let mut dump = dump;
-    let ended = simulate(rt.alloc(), &mut dump, &mut written, None);
-    assert_eq!(rt; ended, Ended::Printed);
+    let ended = replayed(rt.alloc(), dump, &mut written);
+    assert!(rt; ended == Ended::Printed);
     written
 }
 
@@ -165,10 +209,10 @@ fn is_line(line: &str, expected: &str) -> bool {
     name.len() <= 2 && name.is_empty() == !expected.ends_with("pe ")
 }
 
-// The text has to be the lines of the moving front.
-fn has_front_lines(rt: &impl Abort, text: &str) {
-    assert_eq!(rt; text.lines().count(), 20);
-    for (line, expected) in text.lines().zip(FRONT_LINES) {
+// The text has to have these lines.
+fn expect_lines(rt: &impl Abort, text: &str, expected: &[&str]) {
+    assert!(rt; text.lines().count() == expected.len());
+    for (line, expected) in text.lines().zip(expected) {
         assert!(rt; is_line(line, expected), "{line}");
     }
 }
@@ -177,7 +221,7 @@ fn has_front_lines(rt: &impl Abort, text: &str) {
 fn the_moving_front(rt: HostRuntime) {
     let written = output(&rt, &moving_front(&rt));
     let text = std::str::from_utf8(&written).ok().expect(&rt, "no text");
-    has_front_lines(&rt, text);
+    expect_lines(&rt, text, &FRONT_LINES);
 }
 
 // The kind of a reason.
@@ -185,79 +229,104 @@ fn kind(reason: Option<io::Error>) -> Option<ErrorKind> {
     Some(reason?.kind())
 }
 
-// How a replay of the file ends, and the kind of the reason. It has to write this text.
-fn replays_file(
-    rt: &(impl Abort + AllocGlobal),
-    file: io::Result<&[u8]>,
+// Whether a replay of this file, for this number of PEs, writes this text and ends so, with a reason of this kind.
+fn ends_file<R: Read + Drop>(
+    rt: &impl AllocGlobal,
+    file: io::Result<R>,
     procs: Option<u32>,
     text: &str,
-) -> (Ended, Option<ErrorKind>)
+    end: (Ended, Option<ErrorKind>),
+) -> bool
     requires some_pe { ForSome procs (λ p. 1 ≤ p) }
     requires few_pes { ForSome procs (λ p. p ≤ Limits.PES) }
 {
     let mut written = Vec::new(rt.alloc());
     let (ended, reason) = replay_file(rt.alloc(), file, &mut written, procs);
-    assert_eq!(rt; written.as_slice(), text.as_bytes());
-    (ended, kind(reason))
+    is_end(ended, &written, end.0, text) && kind(reason) == end.1
+}
+
+// Whether a replay of the example, in a file that was opened, prints this text.
+fn prints_file(rt: &impl AllocGlobal, procs: Option<u32>, text: &str) -> bool
+    requires some_pe { ForSome procs (λ p. 1 ≤ p) }
+    requires few_pes { ForSome procs (λ p. p ≤ Limits.PES) }
+{
+    ends_file(
+        rt,
+        Ok(EXAMPLE.as_slice()),
+        procs,
+        text,
+        (Ended::Printed, None),
+    )
 }
 
 #[test]
 fn a_file_that_was_opened(rt: HostRuntime) {
-    for (procs, text) in [(None, TEXT), (Some(1), ON_ONE)] {
-        let end = replays_file(&rt, Ok(EXAMPLE.as_slice()), procs, text);
-        assert_eq!(rt; end, (Ended::Printed, None));
-    }
+    assert!(rt; prints_file(&rt, None, TEXT));
+    assert!(rt; prints_file(&rt, Some(1), ON_ONE));
 }
+
+// The line where a file was not read.
+const UNREAD: &str = "dump: read failed\n";
 
 #[test]
 fn a_file_that_was_not_opened(rt: HostRuntime) {
-    let missing = Err(io::Error::from(ErrorKind::NotFound));
-    let (ended, reason) = replays_file(&rt, missing, Some(1), "dump: read failed\n");
-    assert_eq!(rt; ended, Ended::Dump(DumpError::Read));
-    assert_eq!(rt; reason, Some(ErrorKind::NotFound));
+    let missing: io::Result<&[u8]> = Err(io::Error::from(ErrorKind::NotFound));
+    let end = (Ended::Dump(DumpError::Read), Some(ErrorKind::NotFound));
+    assert!(rt; ends_file(&rt, missing, Some(1), UNREAD, end));
 }
 
-// How a replay of the example ends whose reader fails at this call, and the kind of the reason.
-fn fails_at(rt: &impl AllocGlobal, call: usize) -> (Ended, Option<ErrorKind>) {
-    let mut written = Vec::new(rt.alloc());
+// Whether a replay of the example ends where its reader fails at this call, with the reason.
+fn fails_at(rt: &impl AllocGlobal, call: usize) -> bool {
     let file = Ok(Slow::new(&EXAMPLE, 20, Some(call)));
-    let (ended, reason) = replay_file(rt.alloc(), file, &mut written, None);
-    (ended, kind(reason))
+    let end = (Ended::Dump(DumpError::Read), Some(ErrorKind::Interrupted));
+    ends_file(rt, file, None, UNREAD, end)
 }
 
 #[test]
 fn a_file_that_fails_has_its_reason(rt: HostRuntime) {
     for call in 0..3 {
-        let (ended, reason) = fails_at(&rt, call);
-        assert_eq!(rt; ended, Ended::Dump(DumpError::Read));
-        assert_eq!(rt; reason, Some(ErrorKind::Interrupted));
+        assert!(rt; fails_at(&rt, call), "call {call}");
     }
+}
+
+// Whether a run has this status, if it has no reason and wrote this text.
+fn is_status(found: (u8, Option<io::Error>), written: &[u8], status: u8, text: &str) -> bool {
+    found.0 == status && found.1.is_none() && written == text.as_bytes()
+}
+
+// Whether a run on these bytes, for this number of PEs, writes this text and has this status and no reason.
+fn runs(rt: &impl AllocGlobal, bytes: &[u8], procs: Option<u32>, text: &str, status: u8) -> bool
+    requires some_pe { ForSome procs (λ p. 1 ≤ p) }
+    requires few_pes { ForSome procs (λ p. p ≤ Limits.PES) }
+{
+    let mut written = Vec::new(rt.alloc());
+    let asked = Asked { file: "f", procs };
+    let found = run(rt.alloc(), asked, Ok(bytes), &mut written);
+    is_status(found, &written, status, text)
+}
+
+// Whether a run on other letters, for this number of PEs, has the status of a fault and its line.
+fn tells_letters(rt: &impl AllocGlobal, procs: Option<u32>) -> bool
+    requires some_pe { ForSome procs (λ p. 1 ≤ p) }
+    requires few_pes { ForSome procs (λ p. p ≤ Limits.PES) }
+{
+    runs(rt, b"LBD2", procs, "dump: not LBD1\n", 3)
 }
 
 #[test]
 fn runs_and_their_statuses(rt: HostRuntime) {
-    const ROWS: [(&[u8], Option<u32>, &str, u8); 4] = [
-        (&EXAMPLE, None, TEXT, 0),
-        (&EXAMPLE, Some(1), ON_ONE, 0),
-        (b"LBD2", None, "dump: not LBD1\n", 3),
-        (b"LBD2", Some(256), "dump: not LBD1\n", 3),
-    ];
-    for (mut bytes, procs, text, expected) in ROWS {
-        let mut written = Vec::new(rt.alloc());
-        let asked = Asked { file: "f", procs };
-        let (status, reason) = run(rt.alloc(), asked, Ok(&mut bytes), &mut written);
-        assert_eq!(rt; status, expected);
-        assert!(rt; reason.is_none());
-        assert_eq!(rt; written.as_slice(), text.as_bytes());
-    }
+    assert!(rt; runs(&rt, &EXAMPLE, None, TEXT, 0));
+    assert!(rt; runs(&rt, &EXAMPLE, Some(1), ON_ONE, 0));
+    assert!(rt; tells_letters(&rt, None));
+    assert!(rt; tells_letters(&rt, Some(256)));
 }
 
 #[test]
 fn statuses(rt: HostRuntime) {
-    assert_eq!(rt; status(Ended::Printed), 0);
-    assert_eq!(rt; status(Ended::Dump(DumpError::Magic)), 3);
-    assert_eq!(rt; status(Ended::Dump(DumpError::Read)), 3);
-    assert_eq!(rt; status(Ended::Dump(DumpError::OutOfMemory)), 5);
-    assert_eq!(rt; status(Ended::Plan(PlanError::OutOfMemory)), 5);
-    assert_eq!(rt; status(Ended::WriteFailed), 5);
+    assert!(rt; status(Ended::Printed) == 0);
+    assert!(rt; status(Ended::Dump(DumpError::Magic)) == 3);
+    assert!(rt; status(Ended::Dump(DumpError::Read)) == 3);
+    assert!(rt; status(Ended::Dump(DumpError::OutOfMemory)) == 5);
+    assert!(rt; status(Ended::Plan(PlanError::OutOfMemory)) == 5);
+    assert!(rt; status(Ended::WriteFailed) == 5);
 }

@@ -2,49 +2,127 @@
 
 use crate::request::Asked;
 use crate::words::{asked, words_status};
+use std::alloc::Global;
+
+// Words, and what they ask for.
+#[derive(Debug)]
+struct Asking {
+    words: &'static [&'static str],
+    file: &'static str,
+    procs: Option<u32>,
+}
+
+fn is_asked(alloc: Global, row: &Asking) -> bool {
+    let Ok(Asked { file, procs }) = asked(alloc, row.words) else {
+        return false;
+    };
+    file == row.file && procs == row.procs
+}
 
 #[test]
 fn words_that_ask(rt: HostRuntime) {
-    const ROWS: [(&[&str], &str, Option<u32>); 8] = [
-        (&["lb_sim", "f"], "f", None),
-        (&["lb_sim", "--procs", "2", "f"], "f", Some(2)),
-        (&["lb_sim", "--procs", "1", "f"], "f", Some(1)),
-        (
-            &["lb_sim", "--procs", "256", "a dump.lbd1"],
-            "a dump.lbd1",
-            Some(256),
-        ),
-        (&["lb_sim", "--procs=77", "../g"], "../g", Some(77)),
-        (&["lb_sim", "g", "--procs", "77"], "g", Some(77)),
-        (&["another", "lb_sim"], "lb_sim", None),
-        (
-            &["lb_sim", "--procs", "3", "--", "--procs"],
-            "--procs",
-            Some(3),
-        ),
+    const ROWS: [Asking; 8] = [
+        Asking {
+            words: &["lb_sim", "f"],
+            file: "f",
+            procs: None,
+        },
+        Asking {
+            words: &["lb_sim", "--procs", "2", "f"],
+            file: "f",
+            procs: Some(2),
+        },
+        Asking {
+            words: &["lb_sim", "--procs", "1", "f"],
+            file: "f",
+            procs: Some(1),
+        },
+        Asking {
+            words: &["lb_sim", "--procs", "256", "a dump.lbd1"],
+            file: "a dump.lbd1",
+            procs: Some(256),
+        },
+        Asking {
+            words: &["lb_sim", "--procs=77", "../g"],
+            file: "../g",
+            procs: Some(77),
+        },
+        Asking {
+            words: &["lb_sim", "g", "--procs", "77"],
+            file: "g",
+            procs: Some(77),
+        },
+        Asking {
+            words: &["another", "lb_sim"],
+            file: "lb_sim",
+            procs: None,
+        },
+        Asking {
+            words: &["lb_sim", "--procs", "3", "--", "--procs"],
+            file: "--procs",
+            procs: Some(3),
+        },
     ];
-    for (words, file, procs) in ROWS {
-        let found = asked(rt.alloc(), words).ok();
-        assert_eq!(rt; found, Some(Asked { file, procs }), "{words:?}");
+    for row in &ROWS {
+        assert!(rt; is_asked(rt.alloc(), row), "{row:?}");
+    }
+}
+
+// Words that ask for no replay, and the status for them.
+#[derive(Debug)]
+struct Refused {
+    words: &'static [&'static str],
+    status: u8,
+}
+
+fn is_refused(alloc: Global, row: &Refused) -> bool {
+    match asked(alloc, row.words) {
+        Ok(_) => false,
+        Err(error) => words_status(&error) == row.status,
     }
 }
 
 #[test]
 fn words_that_are_refused(rt: HostRuntime) {
-    const ROWS: [(&[&str], u8); 9] = [
-        (&["lb_sim"], 2),
-        (&["lb_sim", "--procs", "0", "f"], 2),
-        (&["lb_sim", "--procs", "257", "f"], 2),
-        (&["lb_sim", "--procs", "two", "f"], 2),
-        (&["lb_sim", "--procs", "2"], 2),
-        (&["lb_sim", "f", "g"], 2),
-        (&["lb_sim", "--pes", "2", "f"], 2),
-        (&["lb_sim", "--help"], 0),
-        (&["lb_sim", "--version"], 0),
+    const ROWS: [Refused; 9] = [
+        Refused {
+            words: &["lb_sim"],
+            status: 2,
+        },
+        Refused {
+            words: &["lb_sim", "--procs", "0", "f"],
+            status: 2,
+        },
+        Refused {
+            words: &["lb_sim", "--procs", "257", "f"],
+            status: 2,
+        },
+        Refused {
+            words: &["lb_sim", "--procs", "two", "f"],
+            status: 2,
+        },
+        Refused {
+            words: &["lb_sim", "--procs", "2"],
+            status: 2,
+        },
+        Refused {
+            words: &["lb_sim", "f", "g"],
+            status: 2,
+        },
+        Refused {
+            words: &["lb_sim", "--pes", "2", "f"],
+            status: 2,
+        },
+        Refused {
+            words: &["lb_sim", "--help"],
+            status: 0,
+        },
+        Refused {
+            words: &["lb_sim", "--version"],
+            status: 0,
+        },
     ];
-    for (words, status) in ROWS {
-        let found = asked(rt.alloc(), words);
-        let found = found.err().map(|error| words_status(&error));
-        assert_eq!(rt; found, Some(status), "{words:?}");
+    for row in &ROWS {
+        assert!(rt; is_refused(rt.alloc(), row), "{row:?}");
     }
 }
