@@ -52,6 +52,14 @@ fn has(db: &LoadDb, i: u32, units: Units, report: Option<(u32, Pe)>) -> bool {
     db.load(i) == Some(units) && db.reported(i) == report
 }
 
+// Whether a database is in this round, has so many elements, and is complete or is not.
+fn is_in_round(db: &LoadDb, round: Round, len: usize, is_complete: bool) -> bool {
+    db.round() == round
+        && db.len() == len
+        && db.is_empty() == (len == 0)
+        && db.is_complete() == is_complete
+}
+
 // A database of four elements, of which element 2 has done all the work that is counted, and reported.
 fn begun(rt: &(impl Abort + AllocGlobal)) -> LoadDb {
     let mut db = LoadDb::new(rt.alloc(), 4).expect(rt, "out of memory");
@@ -111,17 +119,16 @@ fn reports_that_are_refused(rt: HostRuntime) {
     }
 }
 
-// One byte is reported for this element.
-fn report_a_byte(rt: &impl Abort, db: &mut LoadDb, i: u32) {
-    let answer = db.report(i, round(rt, 1), 1, pe(rt, 0));
-    assert!(rt; answer.is_ok(), "the report of {i}");
+// The answer to a report of one byte of an element.
+fn report_a_byte(rt: &impl Abort, db: &mut LoadDb, i: u32, number: u32) -> Result<(), DbError> {
+    db.report(i, round(rt, number), 1, pe(rt, 0))
 }
 
 // What the other three elements do: each reports one byte.
 fn report_the_others(rt: &impl Abort, db: &mut LoadDb) {
-    report_a_byte(rt, db, 0);
-    report_a_byte(rt, db, 1);
-    report_a_byte(rt, db, 3);
+    assert!(rt; report_a_byte(rt, db, 0, 1).is_ok(), "the report of 0");
+    assert!(rt; report_a_byte(rt, db, 1, 1).is_ok(), "the report of 1");
+    assert!(rt; report_a_byte(rt, db, 3, 1).is_ok(), "the report of 3");
 }
 
 // The snapshot of a database whose elements stand on so many PEs.
@@ -156,24 +163,22 @@ fn worn(rt: &(impl Abort + AllocGlobal)) -> LoadDb {
     LoadDb::at(rt.alloc(), 0, last).expect(rt, "out of memory")
 }
 
-// Whether this is what the readers say of it.
-fn is_worn(rt: &impl Abort, seen: &Readings) -> bool {
-    let expected = Readings {
-        round: round(rt, 2_147_483_648),
-        len: 0,
-        is_empty: true,
-        is_complete: true,
-        elements: [(None, None); 5],
-    };
-    *seen == expected
+// Whether it is that one, and has nothing for its first five indexes.
+fn is_worn(rt: &impl Abort, db: &LoadDb) -> bool {
+    for i in 0..5 {
+        if element(db, i) != (None, None) {
+            return false;
+        }
+    }
+    is_in_round(db, round(rt, 2_147_483_648), 0, true)
 }
 
 #[test]
 fn no_elements(rt: HostRuntime) {
     let mut db = worn(&rt);
-    assert!(rt; is_worn(&rt, &seen(&db)));
+    assert!(rt; is_worn(&rt, &db));
     assert!(rt; db.next_round() == Err(DbError::Worn));
-    assert!(rt; is_worn(&rt, &seen(&db)), "after the last round");
+    assert!(rt; is_worn(&rt, &db), "after the last round");
 }
 
 #[test]
@@ -216,17 +221,15 @@ fn begun_anew(rt: &(impl Abort + AllocGlobal)) -> LoadDb {
 #[test]
 fn the_next_round_has_nothing(rt: HostRuntime) {
     let db = begun_anew(&rt);
-    assert!(rt; db.round() == round(&rt, 2) && db.len() == 2);
-    assert!(rt; !db.is_empty() && !db.is_complete());
+    assert!(rt; is_in_round(&db, round(&rt, 2), 2, false));
     assert!(rt; has(&db, 0, 0, None) && has(&db, 1, 0, None));
 }
 
 #[test]
 fn the_next_round_has_its_own_reports(rt: HostRuntime) {
     let mut db = begun_anew(&rt);
-    let late = db.report(0, round(&rt, 1), 1, pe(&rt, 0));
-    assert!(rt; late == Err(DbError::WrongRound));
-    assert!(rt; db.report(0, round(&rt, 2), 1, pe(&rt, 0)).is_ok());
+    assert!(rt; report_a_byte(&rt, &mut db, 0, 1) == Err(DbError::WrongRound));
+    assert!(rt; report_a_byte(&rt, &mut db, 0, 2).is_ok());
 }
 
 // An error, its number and its text.

@@ -30,7 +30,7 @@ fn give(rt: &(impl Abort + AllocGlobal), pieces: &[&[u8]], text: &[u8]) -> bool 
 #[test]
 fn the_example(rt: HostRuntime) {
     assert!(rt; has_text(&rt, &example(&rt), &EXAMPLE));
-    assert!(rt; is_example(&rt, &decode(rt.alloc(), &EXAMPLE)));
+    assert!(rt; is_example(&rt, decode(rt.alloc(), &EXAMPLE)));
 }
 
 // Whether a list of bytes that a snapshot is written to gets this text.
@@ -57,7 +57,7 @@ fn in_any_pieces(rt: HostRuntime) {
 #[test]
 fn the_example_byte_by_byte(rt: HostRuntime) {
     let found = fed_byte_by_byte(rt.alloc(), &EXAMPLE);
-    assert!(rt; is_example(&rt, &found));
+    assert!(rt; is_example(&rt, found));
 }
 
 // Whether a reader that is given this text byte by byte returns the fault from the byte at this offset on, from each
@@ -248,7 +248,7 @@ fn a_reader_that_fails_once(rt: HostRuntime) {
 // Whether the example is read from a reader that gives so many bytes a call, and fails after so many calls.
 fn reads_all(rt: &(impl Abort + AllocGlobal), at_once: usize, calls: usize) -> bool {
     let mut source = Source::new(&EXAMPLE, at_once, Some((calls, ErrorKind::Other)));
-    let found = is_example(rt, &read_from(rt.alloc(), &mut source));
+    let found = is_example(rt, read_from(rt.alloc(), &mut source));
     found && source.calls == calls
 }
 
@@ -262,7 +262,7 @@ fn a_reader_that_does_not_fail(rt: HostRuntime) {
 // Whether the example is read from a reader that gives so many bytes a call and does not fail.
 fn reads_in_pieces(rt: &(impl Abort + AllocGlobal), at_once: usize) -> bool {
     let mut source = Source::new(&EXAMPLE, at_once, None);
-    is_example(rt, &read_from(rt.alloc(), &mut source))
+    is_example(rt, read_from(rt.alloc(), &mut source))
 }
 
 #[test]

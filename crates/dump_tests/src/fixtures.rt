@@ -41,10 +41,10 @@ fn snapshot(
 /// Whether the example was found.
 pub(crate) fn is_example(
     rt: &(impl Abort + AllocGlobal),
-    found: &Result<Snapshot, DumpError>,
+    found: Result<Snapshot, DumpError>,
 ) -> bool {
     let Ok(found) = found else { return false };
-    *found == example(rt)
+    found == example(rt)
 }
 
 /// Whether a snapshot has this text.
@@ -88,12 +88,9 @@ pub(crate) fn full(rt: &(impl Abort + AllocGlobal)) -> Snapshot {
 }
 
 /// Whether it was found.
-pub(crate) fn is_full(
-    rt: &(impl Abort + AllocGlobal),
-    found: &Result<Snapshot, DumpError>,
-) -> bool {
+pub(crate) fn is_full(rt: &(impl Abort + AllocGlobal), found: Result<Snapshot, DumpError>) -> bool {
     let Ok(found) = found else { return false };
-    *found == full(rt)
+    found == full(rt)
 }
 
 fn push_number(rt: &impl Abort, text: &mut Vec<u8>, number: u32) {

@@ -8,17 +8,20 @@ use std::alloc::Global;
 use std::io::ErrorKind;
 use std::process::Abort;
 
+// Whether this is the text of the snapshot.
+fn is_encoded(rt: &(impl Abort + AllocGlobal), text: &[u8]) -> bool {
+    text.len() == 786_448 && has_text(rt, &full(rt), text)
+}
+
 #[test]
 fn encoded(rt: HostRuntime) {
-    let text = full_text(&rt);
-    assert!(rt; text.len() == 786_448);
-    assert!(rt; has_text(&rt, &full(&rt), &text), "another text");
+    assert!(rt; is_encoded(&rt, &full_text(&rt)), "another text");
 }
 
 #[test]
 fn decoded(rt: HostRuntime) {
     let found = decode(rt.alloc(), &full_text(&rt));
-    assert!(rt; is_full(&rt, &found), "another snapshot");
+    assert!(rt; is_full(&rt, found), "another snapshot");
 }
 
 // Whether a writer that takes so many bytes a call has this text of a snapshot.
@@ -37,7 +40,7 @@ fn written(rt: HostRuntime) {
 
 // Whether this reader gives the snapshot.
 fn reads(rt: &(impl Abort + AllocGlobal), source: &mut Source<'_>) -> bool {
-    is_full(rt, &read_from(rt.alloc(), source))
+    is_full(rt, read_from(rt.alloc(), source))
 }
 
 #[test]
@@ -59,7 +62,7 @@ fn read_byte_by_byte(rt: HostRuntime) {
 #[test]
 fn fed_byte_by_byte(rt: HostRuntime) {
     let found = fixtures::fed_byte_by_byte(rt.alloc(), &full_text(&rt));
-    assert!(rt; is_full(&rt, &found), "another snapshot");
+    assert!(rt; is_full(&rt, found), "another snapshot");
 }
 
 // Whether a text has this fault.
