@@ -21,53 +21,66 @@ fn sums(alloc: Lent<'_>) -> Outcome {
     Outcome::from(sum_of_two(alloc).map(|sum| sum == 42))
 }
 
-// The sum of two, whether a request was refused, and how many were made, where the one of this turn is refused.
-fn sum_at(alloc: Global, turn: u64) -> (Result<u64, AllocError>, bool, u64) {
+// The request to refuse, the sum that is made then, and how many requests were made.
+type SumRow = (u64, Result<u64, AllocError>, u64);
+
+// Whether the sum is made so, and a request was refused where there is none.
+fn is_summed(alloc: Global, row: &SumRow) -> bool {
+    let (turn, expected, requests) = *row;
     let alloc = Refusing::new(alloc, turn);
-    let sum = sum_of_two(&alloc);
-    (sum, alloc.has_refused(), alloc.requests())
+    let same = sum_of_two(&alloc) == expected;
+    same && alloc.has_refused() == expected.is_err() && alloc.requests() == requests
 }
 
 #[test]
 fn one_request_is_refused(rt: HostRuntime) {
-    const ROWS: [(u64, Result<u64, AllocError>, u64); 4] = [
+    const ROWS: [SumRow; 4] = [
         (0, Ok(42), 2),
         (1, Err(AllocError), 1),
         (2, Err(AllocError), 2),
         (3, Ok(42), 2),
     ];
-    for (turn, sum, requests) in ROWS {
-        let expected = (sum, sum.is_err(), requests);
-        assert_eq!(rt; sum_at(rt.alloc(), turn), expected, "turn {turn}");
+    for row in &ROWS {
+        assert!(rt; is_summed(rt.alloc(), row), "{row:?}");
     }
 }
 
-// How many of the ten thousand requests of two threads are granted.
-fn granted<R: Threads, A: Allocator + Copy + Send>(rt: &R, alloc: A) -> usize {
-    let half = move || (0..5000u32).filter(|n| Box::new(alloc, *n).is_ok()).count();
-    let (mine, theirs) = thread::join(rt, half, half);
-    mine.wrapping_add(theirs)
+// How many of five thousand requests are granted.
+fn granted(alloc: Lent<'_>) -> u32 {
+    let mut granted = 0u32;
+    for n in 0..5000u32 {
+        if Box::new(alloc, n).is_ok() {
+            granted = granted.saturating_add(1);
+        }
+    }
+    granted
 }
 
-// How many are granted and how many were made, and whether one was refused.
-fn granted_and_made<R: Threads>(rt: &R, alloc: Lent<'_>) -> (usize, u64, bool) {
-    let granted = granted(rt, alloc);
-    (granted, alloc.requests(), alloc.has_refused())
+// How many of the ten thousand requests of two threads are.
+fn granted_to_two<R: Threads>(rt: &R, alloc: Lent<'_>) -> u32 {
+    let (mine, theirs) = thread::join(rt, || granted(alloc), || granted(alloc));
+    mine.saturating_add(theirs)
 }
 
 #[test]
 fn two_threads_share_one_refusal(rt: HostRuntime) {
     let alloc = Refusing::new(rt.alloc(), 9);
-    assert_eq!(rt; granted_and_made(&rt, &alloc), (9999, 10_000, true));
+    assert!(rt; granted_to_two(&rt, &alloc) == 9999);
+    assert!(rt; alloc.requests() == 10_000);
+    assert!(rt; alloc.has_refused());
 }
 
-// Each refusal of an attempt that comes to these outcomes where it is refused and where it has its sum.
+// What a sum of two comes to whose attempt tells these outcomes where it is refused and where it has its sum.
+fn sum_told(alloc: Lent<'_>, refused: Outcome, summed: Outcome) -> Outcome {
+    match sum_of_two(alloc) {
+        Ok(_) => summed,
+        Err(AllocError) => refused,
+    }
+}
+
+// Each refusal of such an attempt.
 fn sums_told(alloc: Global, refused: Outcome, summed: Outcome) -> Result<u64, Failure> {
-    each_refusal(
-        alloc,
-        9,
-        |lent| sum_of_two(lent).map_or(refused, |_| summed),
-    )
+    each_refusal(alloc, 9, |lent| sum_told(lent, refused, summed))
 }
 
 // Thirty requests.
@@ -82,30 +95,31 @@ fn thirty(alloc: Lent<'_>) -> Outcome {
 
 #[test]
 fn each_of_many_requests_is_refused(rt: HostRuntime) {
-    let too_many = Err(Failure::TooManyTurns(30));
-    for (most_turns, found) in [(31, Ok(30)), (30, too_many)] {
-        assert_eq!(rt; each_refusal(rt.alloc(), most_turns, thirty), found);
-    }
+    assert!(rt; each_refusal(rt.alloc(), 31, thirty) == Ok(30));
+    assert!(rt; each_refusal(rt.alloc(), 30, thirty) == Err(Failure::TooManyTurns(30)));
 }
 
-// What thirty requests come to, how many were made and whether one was refused, where the one of this turn is.
-fn thirty_at(alloc: Global, turn: u64) -> (Outcome, u64, bool) {
+// The request of thirty to refuse, what they come to, how many were made, and whether one was refused.
+type ThirtyRow = (u64, Outcome, u64, bool);
+
+fn is_thirty(alloc: Global, row: &ThirtyRow) -> bool {
+    let (turn, outcome, requests, refused) = *row;
     let alloc = Refusing::new(alloc, turn);
-    let outcome = thirty(&alloc);
-    (outcome, alloc.requests(), alloc.has_refused())
+    let same = thirty(&alloc) == outcome;
+    same && alloc.requests() == requests && alloc.has_refused() == refused
 }
 
 #[test]
 fn one_of_many_requests_is_refused(rt: HostRuntime) {
-    const ROWS: [(u64, (Outcome, u64, bool)); 5] = [
-        (1, (Outcome::Refused, 1, true)),
-        (9, (Outcome::Refused, 9, true)),
-        (10, (Outcome::Refused, 10, true)),
-        (30, (Outcome::Refused, 30, true)),
-        (31, (Outcome::Right, 30, false)),
+    const ROWS: [ThirtyRow; 5] = [
+        (1, Outcome::Refused, 1, true),
+        (9, Outcome::Refused, 9, true),
+        (10, Outcome::Refused, 10, true),
+        (30, Outcome::Refused, 30, true),
+        (31, Outcome::Right, 30, false),
     ];
-    for (turn, found) in ROWS {
-        assert_eq!(rt; thirty_at(rt.alloc(), turn), found, "turn {turn}");
+    for row in &ROWS {
+        assert!(rt; is_thirty(rt.alloc(), row), "{row:?}");
     }
 }
 
@@ -118,16 +132,16 @@ fn second_refused(alloc: Lent<'_>, outcome: Outcome) -> Outcome {
     }
 }
 
+// Each refusal of such a sum.
+fn second_told(alloc: Global, outcome: Outcome) -> Result<u64, Failure> {
+    each_refusal(alloc, 9, |lent| second_refused(lent, outcome))
+}
+
 #[test]
 fn the_second_refusal_is_looked_at_too(rt: HostRuntime) {
-    for (outcome, found) in [
-        (Outcome::Refused, Ok(2)),
-        (Outcome::Right, Err(Failure::Ignored(2))),
-        (Outcome::Wrong, Err(Failure::Wrong(2))),
-    ] {
-        let attempt = |alloc: Lent<'_>| second_refused(alloc, outcome);
-        assert_eq!(rt; each_refusal(rt.alloc(), 9, attempt), found);
-    }
+    assert!(rt; second_told(rt.alloc(), Outcome::Refused) == Ok(2));
+    assert!(rt; second_told(rt.alloc(), Outcome::Right) == Err(Failure::Ignored(2)));
+    assert!(rt; second_told(rt.alloc(), Outcome::Wrong) == Err(Failure::Wrong(2)));
 }
 
 // A sum of two in the first runs, and then this outcome without a request.
@@ -145,10 +159,18 @@ fn looked_at(alloc: Global, first: u64, outcome: Outcome) -> Result<u64, Failure
     each_refusal(alloc, 9, |lent| after(&runs, first, lent, outcome))
 }
 
+// How many runs have their sum, the outcome of those behind them, and what each refusal comes to.
+type RunsRow = (u64, Outcome, Result<u64, Failure>);
+
+fn are_looked_at(alloc: Global, row: &RunsRow) -> bool {
+    let (first, outcome, expected) = *row;
+    looked_at(alloc, first, outcome) == expected
+}
+
 #[test]
 fn each_run_is_looked_at(rt: HostRuntime) {
     // Runs 0, 2 and 4 are those of turns 1 to 3, and runs 1 and 3 the ones after turns 1 and 2.
-    const ROWS: [(u64, Outcome, Result<u64, Failure>); 8] = [
+    const ROWS: [RunsRow; 8] = [
         (2, Outcome::Refused, Err(Failure::GaveUp(2))),
         (2, Outcome::Wrong, Err(Failure::Wrong(2))),
         (2, Outcome::Right, Ok(1)),
@@ -158,12 +180,8 @@ fn each_run_is_looked_at(rt: HostRuntime) {
         (4, Outcome::Wrong, Err(Failure::Wrong(3))),
         (5, Outcome::Wrong, Ok(2)),
     ];
-    for (first, outcome, found) in ROWS {
-        assert_eq!(rt;
-            looked_at(rt.alloc(), first, outcome),
-            found,
-            "{first} runs"
-        );
+    for row in &ROWS {
+        assert!(rt; are_looked_at(rt.alloc(), row), "{row:?}");
     }
 }
 
@@ -184,41 +202,50 @@ fn asks_for_none(alloc: Global, most_turns: u64, outcome: Outcome) -> Result<u64
 
 #[test]
 fn attempts_without_a_fault(rt: HostRuntime) {
-    assert_eq!(rt; each_refusal(rt.alloc(), 3, sums), Ok(2));
-    assert_eq!(rt; asks_for_none(rt.alloc(), 1, Outcome::Right), Ok(0));
+    assert!(rt; each_refusal(rt.alloc(), 3, sums) == Ok(2));
+    assert!(rt; asks_for_none(rt.alloc(), 1, Outcome::Right) == Ok(0));
 }
 
-// What each refusal of an attempt with a fault comes to.
-fn faults(alloc: Global) -> [Result<u64, Failure>; 8] {
-    [
-        asks_for_none(alloc, 9, Outcome::Wrong),
-        asks_for_none(alloc, 9, Outcome::Refused),
-        sums_told(alloc, Outcome::Wrong, Outcome::Right),
-        sums_told(alloc, Outcome::Right, Outcome::Right),
-        sums_told(alloc, Outcome::Refused, Outcome::Wrong),
-        sums_told(alloc, Outcome::Refused, Outcome::Refused),
-        each_refusal(alloc, 2, sums),
-        each_refusal(alloc, 9, asks_for_more),
-    ]
+// Whether an attempt that asks for nothing fails in this way.
+fn fails_at_once(alloc: Global, outcome: Outcome, failure: Failure) -> bool {
+    asks_for_none(alloc, 9, outcome) == Err(failure)
+}
+
+// Whether an attempt fails in this way that comes to these outcomes where it is refused and where it has its sum.
+fn fails(alloc: Global, refused: Outcome, summed: Outcome, failure: Failure) -> bool {
+    sums_told(alloc, refused, summed) == Err(failure)
 }
 
 #[test]
 fn each_fault_is_found(rt: HostRuntime) {
-    const EXPECTED: [Result<u64, Failure>; 8] = [
-        Err(Failure::Wrong(1)),
-        Err(Failure::GaveUp(1)),
-        Err(Failure::Wrong(1)),
-        Err(Failure::Ignored(1)),
-        Err(Failure::WrongAfter(1)),
-        Err(Failure::GaveUpAfter(1)),
-        Err(Failure::TooManyTurns(2)),
-        Err(Failure::TooManyTurns(9)),
-    ];
-    assert_eq!(rt; faults(rt.alloc()), EXPECTED);
+    let alloc = rt.alloc();
+    assert!(rt; fails_at_once(alloc, Outcome::Wrong, Failure::Wrong(1)));
+    assert!(rt; fails_at_once(alloc, Outcome::Refused, Failure::GaveUp(1)));
+    assert!(rt; fails(alloc, Outcome::Wrong, Outcome::Right, Failure::Wrong(1)));
+    assert!(rt; fails(alloc, Outcome::Right, Outcome::Right, Failure::Ignored(1)));
+    assert!(rt;
+        fails(
+            alloc,
+            Outcome::Refused,
+            Outcome::Wrong,
+            Failure::WrongAfter(1)
+        )
+    );
+    assert!(rt;
+        fails(
+            alloc,
+            Outcome::Refused,
+            Outcome::Refused,
+            Failure::GaveUpAfter(1)
+        )
+    );
+    assert!(rt; each_refusal(alloc, 2, sums) == Err(Failure::TooManyTurns(2)));
+    assert!(rt; each_refusal(alloc, 9, asks_for_more) == Err(Failure::TooManyTurns(9)));
 }
 
 // Whether a failure is told in these words.
-fn is_told(alloc: Global, failure: Failure, text: &str) -> bool {
+fn is_told(alloc: Global, row: &(Failure, &str)) -> bool {
+    let (failure, text) = *row;
     match format!(in alloc; "{failure}") {
         Ok(told) => told.as_str() == text,
         Err(AllocError) => false,
@@ -242,7 +269,7 @@ fn each_fault_is_told(rt: HostRuntime) {
         (Failure::TooManyTurns(2), "2 turns did not end the refusals"),
         (Failure::TooManyTurns(9), "9 turns did not end the refusals"),
     ];
-    for (failure, text) in TEXTS {
-        assert!(rt; is_told(rt.alloc(), failure, text), "{text}");
+    for row in &TEXTS {
+        assert!(rt; is_told(rt.alloc(), row), "{}", row.1);
     }
 }
