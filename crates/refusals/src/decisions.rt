@@ -1,15 +1,17 @@
 //! Divisions, namings and whole decisions.
 
-use crate::fixtures::{example, five, pe, requests, three};
+use crate::fixtures::{assert_requests, example, five, pe, three};
 use block_assignment::{CostTable, NameError, name_blocks};
 use chain_partition::{Prefix, Probe, divide, divide_with, probe, probe_on};
-use chare_index::{Index, NoGate, Pe};
+use chare_index::{Index, NoGate};
 use lb_certificates::{Cuts, Division, Floor, Loads, Sizes, Snapshot};
 use lb_strategy::{Decision, PlanError, check, plan, plan_with};
 use refusing_alloc::{Outcome, Refusing};
 use std::alloc::{AllocError, Allocator, Global};
 use std::process::Abort;
 use std::thread::Threads;
+
+type Lent<'a> = &'a Refusing<Global>;
 
 // The requests of a division.
 const DIVIDING: u64 = 3;
@@ -35,12 +37,12 @@ fn probes_five<A: Allocator + Copy>(
 }
 
 // Whether they are on running sums that were made before.
-fn probes_on<A: Allocator>(alloc: A, five: &Prefix, limit: u64) -> Result<bool, AllocError> {
+fn probes_on<A: Allocator + Copy>(alloc: A, five: &Prefix, limit: u64) -> Result<bool, AllocError> {
     Ok(is_of_five(&probe_on(alloc, five, 2, limit)?, limit))
 }
 
 // Whether five have their running sums.
-fn sums_five<A: Allocator>(alloc: A, five: &Loads) -> Result<bool, AllocError> {
+fn sums_five<A: Allocator + Copy>(alloc: A, five: &Loads) -> Result<bool, AllocError> {
     let prefix = Prefix::of(alloc, five)?;
     Ok(prefix.len() == 5 && prefix.load(0, 5) == 15 && prefix.load(2, 5) == 12)
 }
@@ -71,44 +73,49 @@ fn two_divide<R: Threads + Sync, A: Allocator + Copy>(
 #[test]
 fn running_sums(rt: HostRuntime) {
     let five = five(&rt);
-    let attempt = |alloc: &Refusing<Global>| Outcome::from(sums_five(alloc, &five));
-    assert_eq!(rt; requests(&rt, attempt), 1, "the running sums");
+    let attempt = |alloc: Lent<'_>| Outcome::from(sums_five(alloc, &five));
+    assert_requests(&rt, attempt, 1, "the running sums");
+}
+
+// Asserts that a probe of five within this limit makes two requests.
+fn assert_probed(rt: &(impl Abort + AllocGlobal), five: &Loads, limit: u64, things: &str) {
+    let attempt = |alloc: Lent<'_>| Outcome::from(probes_five(alloc, five, limit));
+    assert_requests(rt, attempt, 2, things);
 }
 
 #[test]
 fn probes(rt: HostRuntime) {
     let five = five(&rt);
-    for limit in [9, 8] {
-        let attempt = |alloc: &Refusing<Global>| Outcome::from(probes_five(alloc, &five, limit));
-        assert_eq!(rt; requests(&rt, attempt), 2, "limit {limit}");
-    }
+    assert_probed(&rt, &five, 9, "limit 9");
+    assert_probed(&rt, &five, 8, "limit 8");
 }
 
 #[test]
 fn divisions(rt: HostRuntime) {
     let five = five(&rt);
-    let attempt = |alloc: &Refusing<Global>| Outcome::from(one_divides(alloc, &five));
-    assert_eq!(rt;
-        requests(&rt, attempt),
-        DIVIDING,
-        "the running sums, the cuts and the fence"
-    );
+    let attempt = |alloc: Lent<'_>| Outcome::from(one_divides(alloc, &five));
+    let things = "the running sums, the cuts and the fence";
+    assert_requests(&rt, attempt, DIVIDING, things);
 }
 
 #[test]
 fn divisions_by_two_workers(rt: HostRuntime) {
     let five = five(&rt);
-    let attempt = |alloc: &Refusing<Global>| Outcome::from(two_divide(&rt, alloc, &five));
-    assert_eq!(rt; requests(&rt, attempt), DIVIDING, "none for the workers");
+    let attempt = |alloc: Lent<'_>| Outcome::from(two_divide(&rt, alloc, &five));
+    assert_requests(&rt, attempt, DIVIDING, "none for the workers");
+}
+
+// Asserts that a probe within this limit makes one request where the running sums are there.
+fn assert_probed_on(rt: &(impl Abort + AllocGlobal), sums: &Prefix, limit: u64, things: &str) {
+    let attempt = |alloc: Lent<'_>| Outcome::from(probes_on(alloc, sums, limit));
+    assert_requests(rt, attempt, 1, things);
 }
 
 #[test]
 fn probes_on_running_sums(rt: HostRuntime) {
-    let prefix = Prefix::of(rt.alloc(), &five(&rt)).expect(&rt, "out of memory");
-    for limit in [9, 8] {
-        let attempt = |alloc: &Refusing<Global>| Outcome::from(probes_on(alloc, &prefix, limit));
-        assert_eq!(rt; requests(&rt, attempt), 1, "limit {limit}");
-    }
+    let sums = Prefix::of(rt.alloc(), &five(&rt)).expect(&rt, "out of memory");
+    assert_probed_on(&rt, &sums, 9, "limit 9");
+    assert_probed_on(&rt, &sums, 8, "limit 8");
 }
 
 fn cuts(rt: &(impl Abort + AllocGlobal)) -> Cuts {
@@ -121,17 +128,17 @@ fn tables<A: Allocator + Copy>(alloc: A, sizes: &Sizes, cuts: &Cuts) -> Result<b
         return Ok(false);
     }
     let table = CostTable::of(alloc, sizes, cuts)?;
-    let first = (table.cost(0, 0), table.cost(0, 1));
-    let second = (table.cost(1, 0), table.cost(1, 1));
-    Ok((table.blocks(), first, second) == (2, (9, 10), (0, 8)))
+    let first = table.cost(0, 0) == 9 && table.cost(0, 1) == 10;
+    let second = table.cost(1, 0) == 0 && table.cost(1, 1) == 8;
+    Ok(table.blocks() == 2 && first && second)
 }
 
 #[test]
 fn cost_tables(rt: HostRuntime) {
     let sizes = three(&rt, rt.alloc());
     let cuts = cuts(&rt);
-    let attempt = |alloc: &Refusing<Global>| Outcome::from(tables(alloc, &sizes, &cuts));
-    assert_eq!(rt; requests(&rt, attempt), 2, "the costs and a row");
+    let attempt = |alloc: Lent<'_>| Outcome::from(tables(alloc, &sizes, &cuts));
+    assert_requests(&rt, attempt, 2, "the costs and a row");
 }
 
 // What a naming of the example's blocks comes to.
@@ -149,60 +156,71 @@ fn namings(rt: HostRuntime) {
     let cuts = cuts(&rt);
     assert!(rt; cuts.as_slice().len() == 3 && cuts.divides(sizes.len()));
     let table = CostTable::of(rt.alloc(), &sizes, &cuts).expect(&rt, "out of memory");
-    let attempt = |alloc: &Refusing<Global>| names(alloc, &table);
-    assert_eq!(rt; requests(&rt, attempt), NAMING);
+    assert_requests(
+        &rt,
+        |alloc| names(alloc, &table),
+        NAMING,
+        "the search and the exchange",
+    );
 }
 
-// Whether this is the whole decision on the example. Its prices are any that `check` accepts.
-fn is_decided<A: Allocator>(
-    example: &Snapshot,
-    decision: &Decision<A>,
-    moves: &[(Index, Pe, Pe)],
-) -> bool {
-    let Floor::Fence(stops) = &decision.division.floor else {
+// Whether it is the division of the example into two blocks.
+fn divides_example<A: Allocator>(division: &Division<A>) -> bool {
+    let Floor::Fence(stops) = &division.floor else {
         return false;
     };
-    decision.division.bottleneck == 2
-        && decision.division.cuts.as_slice() == [0, 2, 3].as_slice()
-        && stops.as_slice() == [0, 1, 2].as_slice()
+    let same = division.bottleneck == 2 && stops.as_slice() == [0, 1, 2].as_slice();
+    same && division.cuts.as_slice() == [0, 2, 3].as_slice()
+}
+
+// Whether this is the whole decision on the example, whose first element moves. Its prices are any that `check`
+// accepts.
+fn is_decided<A: Allocator>(example: &Snapshot, decision: &Decision<A>) -> bool {
+    let Some(first) = Index::new(0) else {
+        return false;
+    };
+    divides_example(&decision.division)
         && decision.naming.as_slice() == [1, 0].as_slice()
         && decision.moved == 10
-        && decision.moves.as_slice() == moves
+        && decision.moves.as_slice() == [(first, pe(0), pe(1))].as_slice()
         && check(example, 2, decision).is_ok()
 }
 
 // What a plan for the example comes to.
-fn plans<A: Allocator>(
-    answer: Result<Decision<A>, PlanError>,
-    example: &Snapshot,
-    moves: &[(Index, Pe, Pe)],
-) -> Outcome {
+fn plans<A: Allocator>(answer: Result<Decision<A>, PlanError>, example: &Snapshot) -> Outcome {
     match answer {
-        Ok(decision) if is_decided(example, &decision, moves) => Outcome::Right,
+        Ok(decision) if is_decided(example, &decision) => Outcome::Right,
         Err(PlanError::OutOfMemory) => Outcome::Refused,
         _ => Outcome::Wrong,
     }
 }
 
+// What a plan by one comes to.
+fn one_plans<A: Allocator + Copy>(alloc: A, example: &Snapshot) -> Outcome {
+    plans(plan(alloc, example, 2), example)
+}
+
 #[test]
 fn whole_decisions(rt: HostRuntime) {
     let example = example(&rt, rt.alloc());
-    let first = Index::new(0).expect(&rt, "no such element");
-    let moves = [(first, pe(&rt, 0), pe(&rt, 1))];
-    let attempt = |alloc: &Refusing<Global>| plans(plan(alloc, &example, 2), &example, &moves);
-    // Those of `divide`, `CostTable::of` and `name_blocks`, and the moves.
-    assert_eq!(rt; requests(&rt, attempt), DIVIDING + 2 + NAMING + 1);
+    let attempt = |alloc: Lent<'_>| one_plans(alloc, &example);
+    let things = "those of `divide`, `CostTable::of` and `name_blocks`, and the moves";
+    assert_requests(&rt, attempt, DIVIDING + 2 + NAMING + 1, things);
+}
+
+// What a plan by three workers comes to.
+fn three_plan<R: Threads + Sync, A: Allocator + Copy>(
+    rt: &R,
+    alloc: A,
+    example: &Snapshot,
+) -> Outcome {
+    plans(plan_with(rt, alloc, example, 2, 3, &NoGate), example)
 }
 
 #[test]
 fn whole_decisions_by_three_workers(rt: HostRuntime) {
     let example = example(&rt, rt.alloc());
-    let first = Index::new(0).expect(&rt, "no such element");
-    let moves = [(first, pe(&rt, 0), pe(&rt, 1))];
-    let attempt = |alloc: &Refusing<Global>| plans(
-        plan_with(&rt, alloc, &example, 2, 3, &NoGate),
-        &example,
-        &moves,
-    );
-    assert_eq!(rt; requests(&rt, attempt), DIVIDING + 2 + NAMING + 1);
+    let attempt = |alloc: Lent<'_>| three_plan(&rt, alloc, &example);
+    let things = "none for the workers";
+    assert_requests(&rt, attempt, DIVIDING + 2 + NAMING + 1, things);
 }

@@ -1,42 +1,48 @@
 //! Dumps, read and written.
 
-use crate::fixtures::{EXAMPLE, example, is_example, requests};
+use crate::fixtures::{EXAMPLE, assert_requests, example, is_example};
 use lb_certificates::Snapshot;
 use lb_dump::{DumpError, DumpReader, decode, encode, read_from};
-use refusing_alloc::{Outcome, Refusing};
-use std::alloc::{AllocError, Allocator, Global};
-use std::process::Abort;
+use refusing_alloc::Outcome;
+use std::alloc::{AllocError, Allocator};
 
 // What a reading of the example came to.
-pub(crate) fn read<A: Allocator>(
-    rt: &impl Abort,
-    answer: Result<Snapshot<A>, DumpError>,
-) -> Outcome {
+pub(crate) fn read<A: Allocator>(answer: Result<Snapshot<A>, DumpError>) -> Outcome {
     match answer {
-        Ok(snapshot) if is_example(rt, &snapshot) => Outcome::Right,
+        Ok(snapshot) if is_example(&snapshot) => Outcome::Right,
         Err(DumpError::OutOfMemory) => Outcome::Refused,
         _ => Outcome::Wrong,
     }
 }
 
+// The example at once.
+fn decodes<A: Allocator + Copy>(alloc: A) -> Outcome {
+    read(decode(alloc, &EXAMPLE))
+}
+
 #[test]
 fn decoded(rt: HostRuntime) {
-    let attempt = |alloc: &Refusing<Global>| read(&rt, decode(alloc, &EXAMPLE));
-    assert_eq!(rt;
-        requests(&rt, attempt),
-        3,
-        "the head, and the snapshot's two lists"
-    );
+    let things = "the head, and the snapshot's two lists";
+    assert_requests(&rt, |alloc| decodes(alloc), 3, things);
+}
+
+// The example from a reader of bytes.
+fn reads<A: Allocator + Copy>(alloc: A) -> Outcome {
+    read(read_from(alloc, &mut EXAMPLE.as_slice()))
 }
 
 #[test]
 fn read_from_a_reader(rt: HostRuntime) {
-    let attempt = |alloc: &Refusing<Global>| read(&rt, read_from(alloc, &mut EXAMPLE.as_slice()));
-    assert_eq!(rt; requests(&rt, attempt), 4, "a piece, and those of `decode`");
+    assert_requests(
+        &rt,
+        |alloc| reads(alloc),
+        4,
+        "a piece, and those of `decode`",
+    );
 }
 
 // The example in two pieces. After a refusal the reader stays out of memory.
-fn in_pieces<A: Allocator + Copy>(rt: &impl Abort, alloc: A) -> Outcome {
+fn in_pieces<A: Allocator + Copy>(alloc: A) -> Outcome {
     let mut reader = DumpReader::new(alloc);
     let (start, rest) = EXAMPLE.split_at(20);
     let first = reader.feed(start);
@@ -44,46 +50,41 @@ fn in_pieces<A: Allocator + Copy>(rt: &impl Abort, alloc: A) -> Outcome {
     if first.is_err() && second != first {
         return Outcome::Wrong;
     }
-    read(rt, reader.end())
+    read(reader.end())
 }
 
 #[test]
 fn read_in_pieces(rt: HostRuntime) {
-    let attempt = |alloc: &Refusing<Global>| in_pieces(&rt, alloc);
-    assert_eq!(rt;
-        requests(&rt, attempt),
-        5,
-        "the head, the two lists, and an element that has begun, twice"
-    );
+    let things = "the head, the two lists, and an element that has begun, twice";
+    assert_requests(&rt, |alloc| in_pieces(alloc), 5, things);
 }
 
 // The example byte by byte, whatever each of them leads to.
-fn byte_by_byte<A: Allocator + Copy>(rt: &impl Abort, alloc: A) -> Outcome {
+fn byte_by_byte<A: Allocator + Copy>(alloc: A) -> Outcome {
     let mut reader = DumpReader::new(alloc);
-    for byte in EXAMPLE {
-        let _ = reader.feed(&[byte]);
+    for byte in &EXAMPLE {
+        let _ = reader.feed(&[*byte]);
     }
-    read(rt, reader.end())
+    read(reader.end())
 }
 
 #[test]
 fn read_byte_by_byte(rt: HostRuntime) {
-    let attempt = |alloc: &Refusing<Global>| byte_by_byte(&rt, alloc);
-    assert_eq!(rt;
-        requests(&rt, attempt),
-        6,
-        "the head, twice, the two lists, and an element that has begun, twice"
-    );
+    let things = "the head, twice, the two lists, and an element that has begun, twice";
+    assert_requests(&rt, |alloc| byte_by_byte(alloc), 6, things);
 }
 
 // Whether the example is encoded as it should be.
-fn encodes<A: Allocator>(alloc: A, example: &Snapshot) -> Result<bool, AllocError> {
+fn is_encoded<A: Allocator>(alloc: A, example: &Snapshot) -> Result<bool, AllocError> {
     Ok(encode(alloc, example)?.as_slice() == EXAMPLE.as_slice())
+}
+
+fn encodes<A: Allocator>(alloc: A, example: &Snapshot) -> Outcome {
+    Outcome::from(is_encoded(alloc, example))
 }
 
 #[test]
 fn encoded(rt: HostRuntime) {
     let example = example(&rt, rt.alloc());
-    let attempt = |alloc: &Refusing<Global>| Outcome::from(encodes(alloc, &example));
-    assert_eq!(rt; requests(&rt, attempt), 1, "the text");
+    assert_requests(&rt, |alloc| encodes(alloc, &example), 1, "the text");
 }

@@ -1,6 +1,6 @@
 //! The worked example, in parts and as a dump. What can't be made ends the test.
 
-ghost use Rattle.std.specs.Prelude.{◌≡◌};
+ghost use Rattle.std.specs.Prelude.{◌≡◌, ◌<◌, ◌≤◌};
 
 use chare_index::{Pe, Round};
 use lb_certificates::{Loads, Sizes, Snapshot};
@@ -17,14 +17,20 @@ pub(crate) const EXAMPLE: [u8; 52] = *b"LBD1\0\0\0\x05\0\0\0\x02\0\0\0\x03\
     \0\0\0\x01\0\0\0\x09\0\0\0\x01\
     \0\0\0\x02\0\0\0\x08\0\0\0\0";
 
-pub(crate) fn pe(rt: &impl Abort, number: u32) -> Pe {
-    Pe::new(number).expect(rt, "no such PE")
-}
-
-pub(crate) fn round(rt: &impl Abort, number: u32) -> Round
+/// The PE of this number.
+pub(crate) fn pe(number: u32) -> Pe
+    requires below_limit { number < 256 }
     ensures value { result ≡ number }
 {
-    Round::new(number).expect(rt, "no such round")
+    Pe::new(number).unwrap()
+}
+
+/// The round of this number.
+pub(crate) fn round(number: u32) -> Round
+    requires within_limit { number ≤ 2147483648 }
+    ensures value { result ≡ number }
+{
+    Round::new(number).unwrap()
 }
 
 /// Five elements.
@@ -35,7 +41,7 @@ pub(crate) fn five(rt: &(impl Abort + AllocGlobal)) -> Loads {
 
 /// The sizes and the PEs of the example.
 pub(crate) fn three<A: Allocator>(rt: &impl Abort, alloc: A) -> Sizes<A> {
-    let pairs = [(10, pe(rt, 0)), (9, pe(rt, 1)), (8, pe(rt, 0))];
+    let pairs = [(10, pe(0)), (9, pe(1)), (8, pe(0))];
     let pairs = Vec::from_slice(alloc, &pairs).expect(rt, "out of memory");
     Sizes::new(pairs).expect(rt, "past a limit")
 }
@@ -48,21 +54,24 @@ pub(crate) fn example<A: Allocator + Copy>(rt: &impl Abort, alloc: A) -> Snapsho
 }
 
 /// Whether this is the example.
-pub(crate) fn is_example<A: Allocator>(rt: &impl Abort, snapshot: &Snapshot<A>) -> bool {
-    let sizes = [(10, pe(rt, 0)), (9, pe(rt, 1)), (8, pe(rt, 0))];
+pub(crate) fn is_example<A: Allocator>(snapshot: &Snapshot<A>) -> bool {
+    let sizes = [(10, pe(0)), (9, pe(1)), (8, pe(0))];
     snapshot.step() == 5
         && snapshot.procs() == 2
         && snapshot.loads().as_slice() == [1, 1, 2].as_slice()
         && snapshot.sizes().as_slice() == sizes.as_slice()
 }
 
-/// The number of requests of an attempt, each of which was refused and told.
-pub(crate) fn requests<F: Fn(&Refusing<Global>) -> Outcome>(
+/// Asserts that an attempt makes so many requests, for these things, each of which is refused and told.
+pub(crate) fn assert_requests<F: Fn(&Refusing<Global>) -> Outcome>(
     rt: &(impl Abort + AllocGlobal),
     attempt: F,
-) -> u64
+    requests: u64,
+    things: &str,
+)
     requires callable { F.IsAlwaysCallable attempt }
 {
     let refusals = each_refusal(rt.alloc(), MOST_TURNS, attempt);
-    refusals.expect(rt, "a refusal was not told")
+    let refusals = refusals.expect(rt, "a refusal was not told");
+    assert_eq!(rt; refusals, requests, "{things}");
 }

@@ -4,71 +4,74 @@ use crate::dumps::read;
 use crate::fixtures::{EXAMPLE, example, five, pe, round, three};
 use block_assignment::CostTable;
 use chain_partition::Prefix;
-use chare_index::{Index, Pe, Round};
+use chare_index::Index;
 use lb_certificates::{Cuts, Loads, Sizes, Snapshot, check_division, check_naming};
-use lb_database::{DbError, LoadDb};
+use lb_database::LoadDb;
 use lb_dump::{DumpReader, write_to};
-use lb_strategy::{Decision, check, plan};
+use lb_strategy::{Decision, PlanError, check, plan};
 use refusing_alloc::{Outcome, Refusing};
 use std::alloc::{AllocError, Allocator, Global};
 use std::process::Abort;
 
 type Lent<'a> = &'a Refusing<Global>;
 
-// A round of three elements on PE 0, and the next round begun.
-fn whole_round(db: &mut LoadDb<Lent<'_>>, first: Round, pe: Pe) -> Result<(), DbError> {
-    for i in [0, 1, 2] {
-        db.charge(i, u32::MAX)?;
-        db.report(i, first, 1_048_576, pe)?;
-        db.charge(i, 1)?;
-    }
-    db.next_round()
+// Whether element `i` does its work in the first round and reports it on PE 0, and then does more.
+fn takes_part<A: Allocator>(db: &mut LoadDb<A>, i: u32) -> bool {
+    let charged = db.charge(i, u32::MAX).is_ok();
+    let reported = db.report(i, round(1), 1_048_576, pe(0)).is_ok();
+    charged && reported && db.charge(i, 1).is_ok()
 }
 
-// What is refused.
-fn refused(db: &mut LoadDb<Lent<'_>>, first: Round, pe: Pe) -> bool {
-    db.charge(3, 1).is_err() && db.report(3, first, 1, pe).is_err() && db.next_round().is_err()
+// Whether three elements take part in the first round, and the next one begins.
+fn has_whole_round<A: Allocator>(db: &mut LoadDb<A>) -> bool {
+    let all = takes_part(db, 0) && takes_part(db, 1) && takes_part(db, 2);
+    all && db.next_round().is_ok()
 }
 
-// Whether a round has just begun after this one, with nothing done.
-fn has_begun(db: &LoadDb<Lent<'_>>, first: Round) -> bool {
-    let whole = (db.stands_on(1), db.len(), db.is_empty(), db.is_complete());
-    let nothing = (db.load(0), db.reported(0).is_none());
-    whole == (true, 3, false, false) && nothing == (Some(0), true) && db.round() != first
+// Whether an element that is not there is refused, and a next round too early.
+fn refuses<A: Allocator>(db: &mut LoadDb<A>) -> bool {
+    let charge = db.charge(3, 1).is_err();
+    let report = db.report(3, round(1), 1, pe(0)).is_err();
+    charge && report && db.next_round().is_err()
 }
 
-// Whether a database of three elements refuses what it should, and then has a whole round.
-fn goes_on(mut db: LoadDb<Lent<'_>>, first: Round, pe: Pe) -> bool {
-    let refused = refused(&mut db, first, pe);
-    let whole = whole_round(&mut db, first, pe).is_ok();
-    (refused, whole, has_begun(&db, first)) == (true, true, true)
+// Whether a round has just begun after the first one, with nothing done.
+fn has_begun<A: Allocator>(db: &LoadDb<A>) -> bool {
+    let whole = db.stands_on(1) && db.len() == 3 && !db.is_empty();
+    let nothing = db.load(0) == Some(0) && db.reported(0).is_none() && !db.is_complete();
+    whole && nothing && db.round() != round(1)
+}
+
+// Whether a database of three elements is made, refuses what it should, and then has a whole round.
+fn goes_on<A: Allocator + Copy>(alloc: A) -> bool {
+    let Ok(mut db) = LoadDb::new(alloc, 3) else {
+        return false;
+    };
+    refuses(&mut db) && has_whole_round(&mut db) && has_begun(&db)
 }
 
 #[test]
 fn a_database_that_was_made(rt: HostRuntime) {
     let alloc = Refusing::new(rt.alloc(), 0);
-    let db = LoadDb::new(&alloc, 3).expect(&rt, "out of memory");
-    assert!(rt; goes_on(db, round(&rt, 1), pe(&rt, 0)));
-    assert_eq!(rt; alloc.requests(), 2, "its two lists");
+    assert!(rt; goes_on(&alloc));
+    assert!(rt; alloc.requests() == 2, "its two lists");
 }
 
 // A reader that has read no bytes, without a request, and then the example.
 fn fed<'a>(rt: &impl Abort, alloc: Lent<'a>) -> DumpReader<Lent<'a>> {
     let mut reader = DumpReader::new(alloc);
-    assert_eq!(rt; (reader.feed(&[]), alloc.requests()), (Ok(()), 0));
-    assert_eq!(rt; reader.feed(&EXAMPLE), Ok(()));
+    assert!(rt; reader.feed(&[]).is_ok());
+    assert!(rt; alloc.requests() == 0);
+    assert!(rt; reader.feed(&EXAMPLE).is_ok());
     reader
 }
 
 // Whether a reader that has read the example takes no bytes, and refuses more and the end behind them.
-fn refuses_more(mut reader: DumpReader<Lent<'_>>) -> bool {
+fn refuses_more<A: Allocator + Copy>(mut reader: DumpReader<A>) -> bool {
     let no_bytes = reader.feed(&[]).is_ok();
-    let more = [
-        reader.feed(&EXAMPLE).is_err(),
-        reader.feed(&EXAMPLE).is_err(),
-    ];
-    let end = reader.end().is_err();
-    [no_bytes, more[0], more[1], end] == [true; 4]
+    let once = reader.feed(&EXAMPLE).is_err();
+    let twice = reader.feed(&EXAMPLE).is_err();
+    no_bytes && once && twice && reader.end().is_err()
 }
 
 #[test]
@@ -77,7 +80,7 @@ fn a_reader_of_no_bytes_and_of_too_many(rt: HostRuntime) {
     let reader = fed(&rt, &alloc);
     let made = alloc.requests();
     assert!(rt; refuses_more(reader));
-    assert_eq!(rt; alloc.requests(), made);
+    assert!(rt; alloc.requests() == made);
 }
 
 #[test]
@@ -85,28 +88,23 @@ fn the_end_of_a_reader(rt: HostRuntime) {
     let alloc = Refusing::new(rt.alloc(), 0);
     let reader = fed(&rt, &alloc);
     let made = alloc.requests();
-    assert_eq!(rt; read(&rt, reader.end()), Outcome::Right);
-    assert_eq!(rt; alloc.requests(), made);
+    assert!(rt; read(reader.end()) == Outcome::Right);
+    assert!(rt; alloc.requests() == made);
 }
 
 // Whether the example is written as it should be.
-fn is_written(rt: &impl AllocGlobal, example: &Snapshot<Lent<'_>>) -> bool {
-    let mut written = Vec::new(rt.alloc());
+fn is_written<A: Allocator>(alloc: Global, example: &Snapshot<A>) -> bool {
+    let mut written = Vec::new(alloc);
     write_to(&mut written, example).is_ok() && written.as_slice() == EXAMPLE.as_slice()
-}
-
-// Whether it is, and how many requests that takes.
-fn written<R: Abort + AllocGlobal>(rt: &R, alloc: Lent<'_>) -> (bool, u64) {
-    let snapshot = example(rt, alloc);
-    let made = alloc.requests();
-    let right = is_written(rt, &snapshot);
-    (right, alloc.requests().wrapping_sub(made))
 }
 
 #[test]
 fn a_dump_that_is_written(rt: HostRuntime) {
     let alloc = Refusing::new(rt.alloc(), 0);
-    assert_eq!(rt; written(&rt, &alloc), (true, 0));
+    let snapshot = example(&rt, &alloc);
+    let made = alloc.requests();
+    assert!(rt; is_written(rt.alloc(), &snapshot));
+    assert!(rt; alloc.requests() == made);
 }
 
 // Whether the decision on the example is accepted, in parts and whole, and not for three PEs.
@@ -119,19 +117,14 @@ fn is_accepted<A: Allocator>(snapshot: &Snapshot<A>, decision: &Decision<A>) -> 
         && check(snapshot, 3, decision).is_err()
 }
 
-// Whether the decision planned on the snapshot is accepted, and how many requests that takes.
-fn accepted<'a>(rt: &impl Abort, alloc: Lent<'a>, snapshot: &Snapshot<Lent<'a>>) -> (bool, u64) {
-    let decision = plan(alloc, snapshot, 2).expect(rt, "out of memory");
-    let made = alloc.requests();
-    let right = is_accepted(snapshot, &decision);
-    (right, alloc.requests().wrapping_sub(made))
-}
-
 #[test]
 fn a_decision_that_is_checked(rt: HostRuntime) {
     let alloc = Refusing::new(rt.alloc(), 0);
     let snapshot = example(&rt, &alloc);
-    assert_eq!(rt; accepted(&rt, &alloc, &snapshot), (true, 0));
+    let decision = plan(&alloc, &snapshot, 2).expect(&rt, "out of memory");
+    let made = alloc.requests();
+    assert!(rt; is_accepted(&snapshot, &decision));
+    assert!(rt; alloc.requests() == made);
 }
 
 // Whether the example's costs are read without a request.
@@ -148,29 +141,28 @@ fn is_read(alloc: Lent<'_>, sizes: &Sizes, cuts: &Cuts) -> Result<bool, AllocErr
 fn a_table_that_is_read(rt: HostRuntime) {
     let alloc = Refusing::new(rt.alloc(), 0);
     let cuts = Cuts::new(Vec::from_slice(rt.alloc(), &[0, 2, 3]).expect(&rt, "out of memory"));
-    assert_eq!(rt; is_read(&alloc, &three(&rt, rt.alloc()), &cuts), Ok(true));
+    let sizes = three(&rt, rt.alloc());
+    assert!(rt; is_read(&alloc, &sizes, &cuts) == Ok(true));
 }
 
-// The PE of an element by the decision planned for the snapshot, and whether it was read without a request.
-fn place(
-    rt: &impl Abort,
-    alloc: &Refusing<Global>,
-    snapshot: &Snapshot,
-    index: Index,
-) -> (Pe, bool) {
-    assert!(rt; (index.get() as usize) < snapshot.sizes().len());
-    let decision = plan(alloc, snapshot, 2).expect(rt, "out of memory");
+// Whether the decision planned for the example, whose last element stays on PE 0, tells that without a request.
+fn is_told(alloc: Lent<'_>, example: &Snapshot) -> Result<bool, PlanError> {
+    let Some(last) = Index::new(2) else {
+        return Ok(false);
+    };
+    if example.sizes().len() != 3 {
+        return Ok(false);
+    }
+    let decision = plan(alloc, example, 2)?;
     let made = alloc.requests();
-    let place = decision.place_of(index);
-    (place, alloc.requests() == made)
+    Ok(decision.place_of(last) == pe(0) && alloc.requests() == made)
 }
 
 #[test]
 fn a_place_that_is_read(rt: HostRuntime) {
     let alloc = Refusing::new(rt.alloc(), 0);
-    let snapshot = example(&rt, rt.alloc());
-    let last = Index::new(2).expect(&rt, "no such element");
-    assert_eq!(rt; place(&rt, &alloc, &snapshot, last), (pe(&rt, 0), true));
+    let example = example(&rt, rt.alloc());
+    assert!(rt; is_told(&alloc, &example) == Ok(true));
 }
 
 // Whether loads of five are told without a request.
@@ -184,5 +176,6 @@ fn are_summed(alloc: Lent<'_>, five: &Loads) -> Result<bool, AllocError> {
 #[test]
 fn loads_by_running_sums(rt: HostRuntime) {
     let alloc = Refusing::new(rt.alloc(), 0);
-    assert_eq!(rt; are_summed(&alloc, &five(&rt)), Ok(true));
+    let five = five(&rt);
+    assert!(rt; are_summed(&alloc, &five) == Ok(true));
 }

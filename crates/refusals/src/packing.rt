@@ -1,9 +1,9 @@
 //! Packed states.
 
-use crate::fixtures::requests;
+use crate::fixtures::assert_requests;
 use pup_pack::{Bytes, Items, Pup, PupError};
 use refusing_alloc::{Outcome, Refusing};
-use std::alloc::{AllocError, Allocator, Global};
+use std::alloc::{AllocError, Allocator};
 
 // The list 1 2 and the bytes 7 8 9.
 const PAIR: [u8; 19] = [0, 0, 0, 2, 0, 0, 0, 1, 0, 0, 0, 2, 0, 0, 0, 3, 7, 8, 9];
@@ -36,12 +36,15 @@ fn makes_and_packs<A: Allocator + Copy>(alloc: A) -> Outcome {
     }
 }
 
+// Whether this is that pair.
+fn is_pair<A: Allocator>(pair: &Pair<A>) -> bool {
+    pair.0.as_slice() == [1, 2].as_slice() && pair.1.as_slice() == [7, 8, 9].as_slice()
+}
+
 // What unpacking comes to.
 fn unpacks<A: Allocator + Copy>(alloc: A) -> Outcome {
     match &<Pair<A> as Pup<A>>::unpack(alloc, &PAIR) {
-        Ok((pair, 19))
-            if pair.0.as_slice() == [1, 2].as_slice()
-                && pair.1.as_slice() == [7, 8, 9].as_slice() => { Outcome::Right }
+        Ok((pair, 19)) if is_pair(pair) => Outcome::Right,
         Err(PupError::OutOfMemory) => Outcome::Refused,
         _ => Outcome::Wrong,
     }
@@ -49,26 +52,23 @@ fn unpacks<A: Allocator + Copy>(alloc: A) -> Outcome {
 
 #[test]
 fn packs_and_their_values(rt: HostRuntime) {
-    let attempt = |alloc: &Refusing<Global>| makes_and_packs(alloc);
-    assert_eq!(rt;
-        requests(&rt, attempt),
-        4,
-        "the two lists, the byte that was there, and the room of the pack"
-    );
-    let attempt = |alloc: &Refusing<Global>| unpacks(alloc);
-    assert_eq!(rt; requests(&rt, attempt), 2, "the list and the bytes");
+    let things = "the two lists, the byte that was there, and the room of the pack";
+    assert_requests(&rt, |alloc| makes_and_packs(alloc), 4, things);
+    assert_requests(&rt, |alloc| unpacks(alloc), 2, "the list and the bytes");
 }
 
-type Lent<'a> = &'a Refusing<Global>;
+// Whether a list of a hundred numbers is packed.
+fn packs_a_list<A: Allocator + Copy>(alloc: A) -> Result<bool, AllocError> {
+    let list: Items<u32, A> = Items::new(vec![in alloc; 7_u32; 100]?);
+    let mut out = Vec::new(alloc);
+    Ok(list.pack_into(&mut out).is_ok())
+}
 
 #[test]
 fn a_list_packs_into_room_taken_at_once(rt: HostRuntime) {
     let alloc = Refusing::new(rt.alloc(), 0);
-    let numbers = vec![in &alloc; 7_u32; 100].expect(&rt, "out of memory");
-    let list: Items<u32, Lent<'_>> = Items::new(numbers);
-    let mut out = Vec::new(&alloc);
-    assert_eq!(rt; list.pack_into(&mut out), Ok(()));
-    assert_eq!(rt; alloc.requests(), 2, "the list and the room of its pack");
+    assert!(rt; packs_a_list(&alloc) == Ok(true));
+    assert!(rt; alloc.requests() == 2, "the list and the room of its pack");
 }
 
 // Five numbers, each of them 1.
@@ -76,58 +76,55 @@ const FIVE: [u8; 24] = [
     0, 0, 0, 5, 0, 0, 0, 1, 0, 0, 0, 1, 0, 0, 0, 1, 0, 0, 0, 1, 0, 0, 0, 1,
 ];
 
+fn unpacks_five<A: Allocator + Copy>(alloc: A) -> bool {
+    <Items<u32, A> as Pup<A>>::unpack(alloc, &FIVE).is_ok()
+}
+
 #[test]
 fn a_list_is_unpacked_into_room_for_what_was_found(rt: HostRuntime) {
     let alloc = Refusing::new(rt.alloc(), 0);
-    let answer = <Items<u32, Lent<'_>> as Pup<Lent<'_>>>::unpack(&alloc, &FIVE);
-    assert!(rt; answer.is_ok(), "five numbers");
-    assert_eq!(rt;
-        alloc.requests(),
-        2,
+    assert!(rt; unpacks_five(&alloc), "five numbers");
+    assert!(rt;
+        alloc.requests() == 2,
         "room for four items, and then for eight"
     );
 }
 
-// Why four bytes with a count that nothing confirms are no list, and no bytes.
-fn claims(alloc: Lent<'_>) -> [Option<PupError>; 2] {
+// Whether four bytes with a count that nothing confirms are too short for a list, and for bytes.
+fn are_short<A: Allocator + Copy>(alloc: A) -> bool {
     let count = [0, 16, 0, 0];
-    [
-        <Items<u32, Lent<'_>> as Pup<Lent<'_>>>::unpack(alloc, &count).err(),
-        <Bytes<Lent<'_>> as Pup<Lent<'_>>>::unpack(alloc, &count).err(),
-    ]
+    let list = <Items<u32, A> as Pup<A>>::unpack(alloc, &count);
+    let bytes = <Bytes<A> as Pup<A>>::unpack(alloc, &count);
+    list.err() == Some(PupError::Short) && bytes.err() == Some(PupError::Short)
 }
 
 // How long the pack of an empty list and a number is.
-fn empty_len(alloc: Lent<'_>) -> u32 {
-    let empty: (Items<u32, Lent<'_>>, u64) = (Items::new(Vec::new(alloc)), 7);
+fn empty_len<A: Allocator + Copy>(alloc: A) -> u32 {
+    let empty: (Items<u32, A>, u64) = (Items::new(Vec::new(alloc)), 7);
     empty.packed_len()
 }
 
 #[test]
 fn lengths_and_claims_take_no_memory(rt: HostRuntime) {
     let alloc = Refusing::new(rt.alloc(), 1);
-    assert_eq!(rt;
-        claims(&alloc),
-        [Some(PupError::Short), Some(PupError::Short)]
-    );
-    assert_eq!(rt; empty_len(&alloc), 12);
-    assert_eq!(rt; alloc.requests(), 0);
+    assert!(rt; are_short(&alloc));
+    assert!(rt; empty_len(&alloc) == 12);
+    assert!(rt; alloc.requests() == 0);
 }
 
-// Why an empty list and a number are not packed, three times, and how much is packed after the first.
-fn packed_three_times(alloc: Lent<'_>) -> ([Option<PupError>; 3], usize) {
-    let empty: (Items<u32, Lent<'_>>, u64) = (Items::new(Vec::new(alloc)), 7);
+// Whether an empty list and a number are refused their room, so that nothing is packed, and then packed twice.
+fn is_packed_after_a_refusal<A: Allocator + Copy>(alloc: A) -> bool {
+    let empty: (Items<u32, A>, u64) = (Items::new(Vec::new(alloc)), 7);
     let mut out = Vec::new(alloc);
-    let first = empty.pack_into(&mut out).err();
-    let packed = out.len();
-    let second = empty.pack_into(&mut out).err();
-    ([first, second, empty.pack_into(&mut out).err()], packed)
+    let refused = empty.pack_into(&mut out) == Err(PupError::OutOfMemory) && out.is_empty();
+    let first = empty.pack_into(&mut out).is_ok();
+    let second = empty.pack_into(&mut out).is_ok();
+    refused && first && second
 }
 
 #[test]
 fn a_refused_pack_is_packed_when_asked_again(rt: HostRuntime) {
     let alloc = Refusing::new(rt.alloc(), 1);
-    let refused_once = [Some(PupError::OutOfMemory), None, None];
-    assert_eq!(rt; packed_three_times(&alloc), (refused_once, 0));
-    assert_eq!(rt; alloc.requests(), 3);
+    assert!(rt; is_packed_after_a_refusal(&alloc));
+    assert!(rt; alloc.requests() == 3);
 }
