@@ -39,7 +39,7 @@ fn moved<P: PeCount>(alloc: Global, pes: u32) -> Result<[u32; 4], Fail>
 #[test]
 fn an_element_is_looked_up_where_it_was_set(rt: HostRuntime) -> Result<(), Fail> {
     let found = moved::<Brand>(rt.alloc(), 2)?;
-    assert_eq!(rt; found.as_slice(), [1, 0, 0, 1].as_slice());
+    assert!(rt; found == [1, 0, 0, 1], "found {found:?}");
     Ok(())
 }
 
@@ -91,7 +91,8 @@ fn two_threads<P: PeCount + Send + Sync, R: Threads + Sync>(
 
 #[test]
 fn what_is_found_was_set_or_was_there(rt: HostRuntime) -> Result<(), Fail> {
-    let found = two_threads::<Brand, _>(&rt, rt.alloc(), 3)?;
-    assert_eq!(rt; found, (true, true, pe(2), pe(0)));
+    let (first, second, zero, one) = two_threads::<Brand, _>(&rt, rt.alloc(), 3)?;
+    assert!(rt; first && second);
+    assert!(rt; zero == pe(2) && one == pe(0));
     Ok(())
 }
