@@ -162,6 +162,30 @@ fn count(counts: &mut [u32], value: u32) {
     }
 }
 
+// Counts each of the values that were taken.
+fn count_taken(counts: &mut [u32], taken: &[u32]) {
+    for value in taken {
+        count(counts, *value);
+    }
+}
+
+// Counts each of the values that are left in one queue.
+fn count_left(counts: &mut [u32], queue: &[Cell<u32>]) {
+    for value in queue {
+        count(counts, value.get());
+    }
+}
+
+// Whether each value was counted once.
+fn are_counted_once(counts: &[u32]) -> bool {
+    for count in counts {
+        if *count != 1 {
+            return false;
+        }
+    }
+    true
+}
+
 #[test]
 fn four_seats(rt: HostRuntime) -> Result<(), Fail> {
     let (post, seats) = Post::new(rt.alloc(), 3, 4, 8)?;
@@ -170,13 +194,11 @@ fn four_seats(rt: HostRuntime) -> Result<(), Fail> {
         return Err(Fail::new("all seats were joined"));
     };
     let mut counts = vec![in rt.alloc(); 0u32; 4_000]?;
-    taken.iter().for_each(|value| count(&mut counts, *value));
+    count_taken(&mut counts, &taken);
     for queue in &left {
-        queue
-            .iter()
-            .for_each(|value| count(&mut counts, value.get()));
+        count_left(&mut counts, queue);
+        assert!(rt; queue.len() <= 8);
     }
-    assert!(rt; counts.iter().all(|count| *count == 1));
-    assert!(rt; left.iter().all(|queue| queue.len() <= 8));
+    assert!(rt; are_counted_once(&counts));
     Ok(())
 }
