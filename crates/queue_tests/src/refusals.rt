@@ -4,7 +4,7 @@ ghost use Rattle.std.specs.Prelude.{◌≡◌, IfOk};
 
 use crate::seats::{pe, two_seats};
 use pe_queues::{Full, Locations, PeCount, Post, PostError};
-use refusing_alloc::{Outcome, Refusing, each_refusal};
+use refusing_alloc::{Failure, Outcome, Refusing, each_refusal};
 use std::alloc::{AllocError, Allocator, Global};
 use std::marker::Brand;
 use std::sync::Wait;
@@ -14,29 +14,38 @@ use std::test::Fail;
 const MOST_TURNS: u64 = 40;
 
 // What a post with so many queues and seats comes to.
-fn opens(alloc: &Refusing<Global>, pes: u32, seats: u32) -> Outcome {
-    match Post::<u32, _>::new(alloc, pes, seats, 4) {
+fn opens<A: Allocator + Copy>(alloc: A, pes: u32, seats: u32) -> Outcome {
+    match &Post::<u32, A>::new(alloc, pes, seats, 4) {
         Ok((post, given)) if post.pes() == pes && given.len() == seats as usize => Outcome::Right,
         Err(PostError::OutOfMemory) => Outcome::Refused,
         _ => Outcome::Wrong,
     }
 }
 
+// The number of requests of such a post, each of which was refused and told.
+fn requests(alloc: Global, pes: u32, seats: u32) -> Result<u64, Failure> {
+    each_refusal(alloc, MOST_TURNS, |lent| opens(lent, pes, seats))
+}
+
 #[test]
 fn posts(rt: HostRuntime) -> Result<(), Fail> {
-    for (pes, seats, requests) in [(1, 1, 9), (1, 2, 10), (2, 1, 14)] {
-        let attempt = |alloc: &Refusing<Global>| opens(alloc, pes, seats);
-        let refusals = each_refusal(rt.alloc(), MOST_TURNS, attempt)?;
-        assert_eq!(rt; refusals, requests, "{pes} {seats}");
-    }
+    assert!(rt; requests(rt.alloc(), 1, 1)? == 9, "one queue and one seat");
+    assert!(rt;
+        requests(rt.alloc(), 1, 2)? == 10,
+        "one queue and two seats"
+    );
+    assert!(rt;
+        requests(rt.alloc(), 2, 1)? == 14,
+        "two queues and one seat"
+    );
     Ok(())
 }
 
 // Where three elements are, on a run of so many PEs.
-fn locates<P: PeCount>(alloc: &Refusing<Global>, pes: u32) -> Outcome
+fn locates<P: PeCount, A: Allocator>(alloc: A, pes: u32) -> Outcome
     requires { (pes ≡ P.pes) × (pes ≡ 2) }
 {
-    match Locations::<P, _>::new(alloc, &[pe(0), pe(1), pe(1)], pes) {
+    match Locations::<P, A>::new(alloc, &[pe(0), pe(1), pe(1)], pes) {
         Ok(places) if places.len() == 3 && places.pes() == 2 => Outcome::Right,
         Ok(_) => Outcome::Wrong,
         Err(AllocError) => Outcome::Refused,
@@ -45,13 +54,13 @@ fn locates<P: PeCount>(alloc: &Refusing<Global>, pes: u32) -> Outcome
 
 // The same on two PEs.
 fn locates_on_two(alloc: &Refusing<Global>) -> Outcome {
-    locates::<Brand>(alloc, 2)
+    locates::<Brand, _>(alloc, 2)
 }
 
 #[test]
 fn locations(rt: HostRuntime) -> Result<(), Fail> {
-    let refusals = each_refusal(rt.alloc(), MOST_TURNS, |alloc| locates_on_two(alloc))?;
-    assert_eq!(rt; refusals, 1, "the words");
+    let refusals = each_refusal(rt.alloc(), MOST_TURNS, locates_on_two)?;
+    assert!(rt; refusals == 1, "the words");
     Ok(())
 }
 
@@ -73,7 +82,7 @@ fn nothing_but_new_takes_memory(rt: HostRuntime) -> Result<(), Fail> {
     let made = Refusing::new(rt.alloc(), 0);
     assert!(rt; two_seats::<u32, _>(&made, 2).is_ok());
     let used = Refusing::new(rt.alloc(), 0);
-    assert_eq!(rt; uses(&rt, &used), Ok(true));
-    assert_eq!(rt; used.requests(), made.requests());
+    assert!(rt; uses(&rt, &used) == Ok(true));
+    assert!(rt; used.requests() == made.requests());
     Ok(())
 }
