@@ -2,4 +2,4 @@ use Rattle.std.proofs.Common.{◌≡◌}
 use Rattle.queue_tests.proofs.posts.joined.Given as goal
 
 abbrev pub invariant-loop-seat : goal.invariant-loop-seat
-invariant-loop-seat l = l.all.post ≡ l.post
+invariant-loop-seat g l = l.all.post ≡ l.post
