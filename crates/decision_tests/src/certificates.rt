@@ -1,7 +1,9 @@
 //! The worked examples: a chain of five, a full array, and a snapshot of three elements with one forged
 //! division for each flaw.
 
-use crate::fixtures::{fenced, list, loads, pairs, pe, sizes, unfenced};
+use crate::fixtures::{
+    FORGED_DIVISIONS, ForgedDivision, fenced, list, loads, pairs, pe, sizes, unfenced,
+};
 use crate::reference;
 use chare_index::{Limits, Pe};
 use lb_certificates::{Cuts, Flaw, Loads, Sizes, Snapshot, Stops, Units, check_division};
@@ -31,26 +33,16 @@ fn verdict_unfenced(
     check_division(&loads(rt, units), pes, &division)
 }
 
+// Whether a forged division of the example has its flaw.
+fn is_found(rt: &(impl Abort + AllocGlobal), forged: &ForgedDivision) -> bool {
+    let &(cuts, stops, expected) = forged;
+    verdict(rt, &[1, 1, 2], 2, 2, (cuts, stops)) == expected
+}
+
 #[test]
 fn each_forged_division_has_its_flaw(rt: HostRuntime) {
-    const FORGED: [(&[u32], &[u32], Result<(), Flaw>); 13] = [
-        (&[0, 2, 3], &[0, 1, 2], Ok(())),
-        (&[0, 3], &[0, 1, 2], Err(Flaw::CutCount)),
-        (&[], &[0, 1, 2], Err(Flaw::CutCount)),
-        (&[1, 2, 3], &[0, 1, 2], Err(Flaw::CutStart)),
-        (&[0, 4, 3], &[0, 1, 2], Err(Flaw::CutOrder)),
-        (&[0, 2, 2], &[0, 1, 2], Err(Flaw::CutEnd)),
-        (&[0, 1, 3], &[0, 1, 2], Err(Flaw::Heavy(1))),
-        (&[0, 2, 3], &[0, 1], Err(Flaw::FenceCount)),
-        (&[0, 2, 3], &[], Err(Flaw::FenceCount)),
-        (&[0, 2, 3], &[1, 1, 2], Err(Flaw::FenceStart)),
-        (&[0, 2, 3], &[0, 2, 1], Err(Flaw::FenceOrder)),
-        (&[0, 2, 3], &[0, 1, 3], Err(Flaw::FenceEnd)),
-        (&[0, 2, 3], &[0, 0, 2], Err(Flaw::FenceLight(1))),
-    ];
-    for (cuts, stops, expected) in FORGED {
-        let found = verdict(&rt, &[1, 1, 2], 2, 2, (cuts, stops));
-        assert_eq!(rt; found, expected, "cuts {cuts:?}, fence {stops:?}");
+    for forged in &FORGED_DIVISIONS {
+        assert!(rt; is_found(&rt, forged), "{forged:?}");
     }
 }
 
@@ -60,53 +52,71 @@ fn a_floor_of_zero_for_a_bottleneck_above_0_has_its_flaw(rt: HostRuntime) {
     assert_eq!(rt; found, Err(Flaw::ZeroFloor));
 }
 
+// What it says of two blocks of five elements, for so many PEs and with this bottleneck.
+fn halves(rt: &(impl Abort + AllocGlobal), pes: u32, bottleneck: u64) -> Result<(), Flaw> {
+    verdict(
+        rt,
+        &[1, 2, 3, 4, 5],
+        pes,
+        bottleneck,
+        (&[0, 3, 5], &[0, 3, 4]),
+    )
+}
+
 #[test]
 fn any_number_of_pes_may_be_asked_for(rt: HostRuntime) {
-    let rows = [
+    const ROWS: [(u32, Result<(), Flaw>); 4] = [
         (2, Ok(())),
         (0, Err(Flaw::CutCount)),
         (257, Err(Flaw::CutCount)),
         (u32::MAX, Err(Flaw::CutCount)),
     ];
-    for (pes, expected) in rows {
-        let found = verdict(&rt, &[1, 2, 3, 4, 5], pes, 9, (&[0, 3, 5], &[0, 3, 4]));
-        assert_eq!(rt; found, expected, "{pes} PEs");
+    for &(pes, expected) in &ROWS {
+        assert!(rt; halves(&rt, pes, 9) == expected, "{pes} PEs");
     }
 }
 
 #[test]
 fn any_bottleneck_may_be_claimed(rt: HostRuntime) {
-    let rows = [
+    const ROWS: [(u64, Result<(), Flaw>); 3] = [
         (9, Ok(())),
         (10, Err(Flaw::FenceLight(2))),
         (u64::MAX, Err(Flaw::FenceLight(1))),
     ];
-    for (bottleneck, expected) in rows {
-        let parts: (&[u32], &[u32]) = (&[0, 3, 5], &[0, 3, 4]);
-        let found = verdict(&rt, &[1, 2, 3, 4, 5], 2, bottleneck, parts);
-        assert_eq!(rt; found, expected, "bottleneck {bottleneck}");
+    for &(bottleneck, expected) in &ROWS {
+        assert!(rt;
+            halves(&rt, 2, bottleneck) == expected,
+            "bottleneck {bottleneck}"
+        );
     }
+}
+
+// Loads, a number of PEs, cuts, and what it says of these with the bottleneck and the floor zero.
+type Weightless = (&'static [Units], u32, &'static [u32], Result<(), Flaw>);
+
+fn is_judged_so(rt: &(impl Abort + AllocGlobal), row: &Weightless) -> bool {
+    let &(units, pes, cuts, expected) = row;
+    verdict_unfenced(rt, units, pes, 0, cuts) == expected
 }
 
 #[test]
 fn a_bottleneck_of_0_needs_no_fence(rt: HostRuntime) {
-    const ROWS: [(&[Units], u32, &[u32], Result<(), Flaw>); 3] = [
+    const ROWS: [Weightless; 3] = [
         (&[0, 0, 0], 2, &[0, 3, 3], Ok(())),
         (&[], 0, &[0], Ok(())),
         (&[0, 0, 0], 0, &[0], Err(Flaw::CutEnd)),
     ];
-    for (units, pes, cuts, expected) in ROWS {
-        let found = verdict_unfenced(&rt, units, pes, 0, cuts);
-        assert_eq!(rt; found, expected, "{pes} PEs");
+    for row in &ROWS {
+        assert!(rt; is_judged_so(&rt, row), "{row:?}");
     }
 }
 
 #[test]
 fn a_bottleneck_of_0_may_have_a_fence(rt: HostRuntime) {
     let three = verdict(&rt, &[0, 0, 0], 2, 0, (&[0, 3, 3], &[0, 0, 2]));
-    assert_eq!(rt; three, Ok(()));
+    assert!(rt; three == Ok(()), "three elements");
     let none = verdict(&rt, &[], 1, 0, (&[0, 0], &[0, 0]));
-    assert_eq!(rt; none, Err(Flaw::FenceEnd));
+    assert!(rt; none == Err(Flaw::FenceEnd), "no elements");
 }
 
 // These numbers, and then the last one as often as it takes to have 301 of them.
@@ -135,21 +145,21 @@ fn full_loads(rt: &(impl Abort + AllocGlobal)) -> Loads {
 #[test]
 fn a_full_array_of_full_loads(rt: HostRuntime) {
     let full = full_loads(&rt);
-    assert_eq!(rt; full.len(), 65_536);
+    assert!(rt; full.len() == 65_536);
     let division = fenced(&rt, 281_474_976_645_120, &[0, 65_536], &[0, 65_535]);
-    assert_eq!(rt; check_division(&full, 1, &division), Ok(()));
+    assert!(rt; check_division(&full, 1, &division).is_ok());
 }
 
-// These loads and one more.
-fn one_more(rt: &(impl Abort + AllocGlobal), loads: Loads) -> Option<Loads> {
+// Whether there may be one load more than these.
+fn takes_one_more(rt: &(impl Abort + AllocGlobal), loads: Loads) -> bool {
     let mut units = loads.into_vec();
     units.push(0).expect(rt, "out of memory");
-    Loads::new(units)
+    Loads::new(units).is_some()
 }
 
 #[test]
 fn a_full_array_takes_no_other_load(rt: HostRuntime) {
-    assert!(rt; one_more(&rt, full_loads(&rt)).is_none());
+    assert!(rt; !takes_one_more(&rt, full_loads(&rt)));
 }
 
 // The snapshot of these loads and sizes at step 5, where they make one.
@@ -184,9 +194,17 @@ fn the_example_is_a_snapshot(rt: HostRuntime) {
     assert!(rt; is_example(&snapshot, &pairs(&rt, &placed)));
 }
 
+// A number of PEs, loads, sizes, and whether these make a snapshot.
+type Taken = (u32, &'static [Units], &'static [(u32, u32)], bool);
+
+fn is_made_so(rt: &(impl Abort + AllocGlobal), row: &Taken) -> bool {
+    let &(procs, units, placed, made) = row;
+    taken(rt, procs, units, placed).is_some() == made
+}
+
 #[test]
 fn a_snapshot_within_its_limits(rt: HostRuntime) {
-    const ROWS: [(u32, &[Units], &[(u32, u32)], bool); 6] = [
+    const ROWS: [Taken; 6] = [
         (0, &[], &[], false),
         (1, &[], &[], true),
         (256, &[], &[], true),
@@ -194,24 +212,25 @@ fn a_snapshot_within_its_limits(rt: HostRuntime) {
         (2, &[1, 1], &[(10, 0), (9, 1), (8, 0)], false),
         (1, &[1, 1, 2], &[(10, 0), (9, 1), (8, 0)], false),
     ];
-    for (procs, units, placed, made) in ROWS {
-        let found = taken(&rt, procs, units, placed).is_some();
-        assert!(rt; found == made, "procs {procs}, loads {units:?}");
+    for row in &ROWS {
+        assert!(rt; is_made_so(&rt, row), "{row:?}");
     }
+}
+
+// Whether there are sizes of so many elements without bytes.
+fn are_sizes(rt: &(impl Abort + AllocGlobal), elements: usize) -> bool {
+    let pairs = vec![in rt.alloc(); (0, pe(rt, 0)); elements].expect(rt, "out of memory");
+    Sizes::new(pairs).is_some()
 }
 
 #[test]
 fn sizes_within_their_limits(rt: HostRuntime) {
     let largest = sizes(&rt, &[(1_048_576, 255)]);
-    assert_eq!(rt; largest.into_vec().len(), 1);
-    assert!(rt;
-        Sizes::new(pairs(&rt, &[(1_048_577, 0)])).is_none(),
-        "one byte too many"
-    );
-    let nowhere = (0, pe(&rt, 0));
-    let most = vec![in rt.alloc(); nowhere; Limits::ELEMENTS as usize + 1];
-    let most = most.expect(&rt, "out of memory");
-    assert!(rt; Sizes::new(most).is_none(), "one element too many");
+    assert!(rt; largest.into_vec().len() == 1);
+    let larger = Sizes::new(pairs(&rt, &[(1_048_577, 0)]));
+    assert!(rt; larger.is_none(), "one byte too many");
+    let too_many = Limits::ELEMENTS as usize + 1;
+    assert!(rt; !are_sizes(&rt, too_many), "one element too many");
 }
 
 // Whether these cuts are seen, and come back.
@@ -232,9 +251,17 @@ fn lists_come_back(rt: HostRuntime) {
     assert!(rt; stops_come_back(&rt, &[0, 3, 4]));
 }
 
+// Loads, a number of PEs, and the least bottleneck of all divisions.
+type Least = (&'static [Units], u32, Option<u64>);
+
+fn is_least(rt: &(impl Abort + AllocGlobal), row: &Least) -> bool {
+    let &(units, pes, least) = row;
+    reference::least_peak(&loads(rt, units), pes) == least
+}
+
 #[test]
 fn the_reference_tries_every_division(rt: HostRuntime) {
-    const ROWS: [(&[Units], u32, Option<u64>); 7] = [
+    const ROWS: [Least; 7] = [
         (&[], 3, Some(0)),
         (&[], 0, Some(0)),
         (&[1], 0, None),
@@ -243,8 +270,7 @@ fn the_reference_tries_every_division(rt: HostRuntime) {
         (&[0, 0, 0], 2, Some(0)),
         (&[5, 7], 4, Some(7)),
     ];
-    for (units, pes, least) in ROWS {
-        let found = reference::least_peak(&loads(&rt, units), pes);
-        assert_eq!(rt; found, least, "loads {units:?} on {pes}");
+    for row in &ROWS {
+        assert!(rt; is_least(&rt, row), "{row:?}");
     }
 }

@@ -3,12 +3,12 @@
 ghost use Rattle.std.specs.Prelude.{◌≤◌};
 
 use crate::fixtures::{
-    DIVISION, MOVING, NAMING, decision, decision_with, index, list, moves, naming, pe, snapshot,
-    unfenced,
+    FORGED_DIVISIONS, ForgedDivision, MOVING, NAMING, decision, decision_with, division, fenced,
+    index, list, moves, naming, pe, snapshot, unfenced,
 };
 use block_assignment::NameError;
 use chare_index::{Index, Pe};
-use lb_certificates::{Flaw, Floor, Loads, Naming, Sizes, Snapshot};
+use lb_certificates::{Division, Flaw, Floor, Loads, Naming, Sizes, Snapshot};
 use lb_strategy::{Decision, Moves, PlanError, check, plan};
 use std::process::Abort;
 
@@ -16,52 +16,50 @@ use std::process::Abort;
 const EXAMPLE: [(u32, u32, u32); 3] = [(1, 10, 0), (1, 9, 1), (2, 8, 0)];
 
 // What the check says of this decision on the example.
-fn judged(rt: &(impl Abort + AllocGlobal), decision: Decision) -> Result<(), Flaw> {
-    check(&snapshot(rt, 2, &EXAMPLE), 2, &decision)
+fn judged(rt: &(impl Abort + AllocGlobal), decision: &Decision) -> Result<(), Flaw> {
+    check(&snapshot(rt, 2, &EXAMPLE), 2, decision)
 }
 
-// What it says of the example decision with these parts of it.
+// What it says of the decision with these parts.
 fn verdict(
     rt: &(impl Abort + AllocGlobal),
-    division: (&[u32], &[u32]),
+    division: Division,
     names: (&[u32], &[i64], &[i64]),
     moving: (u64, &[(u32, u32, u32)]),
 ) -> Result<(), Flaw> {
-    judged(rt, decision(rt, division, names, moving))
+    judged(rt, &decision_with(rt, division, names, moving))
+}
+
+// Whether the example decision with a forged division has the division's flaw.
+fn is_division_found(rt: &(impl Abort + AllocGlobal), forged: &ForgedDivision) -> bool {
+    let &(cuts, stops, expected) = forged;
+    verdict(rt, fenced(rt, 2, cuts, stops), NAMING, MOVING) == expected
 }
 
 #[test]
 fn each_forged_division_has_its_flaw(rt: HostRuntime) {
-    const FORGED: [(&[u32], &[u32], Result<(), Flaw>); 13] = [
-        (&[0, 2, 3], &[0, 1, 2], Ok(())),
-        (&[0, 3], &[0, 1, 2], Err(Flaw::CutCount)),
-        (&[], &[0, 1, 2], Err(Flaw::CutCount)),
-        (&[1, 2, 3], &[0, 1, 2], Err(Flaw::CutStart)),
-        (&[0, 4, 3], &[0, 1, 2], Err(Flaw::CutOrder)),
-        (&[0, 2, 2], &[0, 1, 2], Err(Flaw::CutEnd)),
-        (&[0, 1, 3], &[0, 1, 2], Err(Flaw::Heavy(1))),
-        (&[0, 2, 3], &[0, 1], Err(Flaw::FenceCount)),
-        (&[0, 2, 3], &[], Err(Flaw::FenceCount)),
-        (&[0, 2, 3], &[1, 1, 2], Err(Flaw::FenceStart)),
-        (&[0, 2, 3], &[0, 2, 1], Err(Flaw::FenceOrder)),
-        (&[0, 2, 3], &[0, 1, 3], Err(Flaw::FenceEnd)),
-        (&[0, 2, 3], &[0, 0, 2], Err(Flaw::FenceLight(1))),
-    ];
-    for (cuts, stops, expected) in FORGED {
-        let found = verdict(&rt, (cuts, stops), NAMING, MOVING);
-        assert_eq!(rt; found, expected, "cuts {cuts:?}, fence {stops:?}");
+    for forged in &FORGED_DIVISIONS {
+        assert!(rt; is_division_found(&rt, forged), "{forged:?}");
     }
 }
 
 #[test]
 fn a_floor_of_zero_is_forged(rt: HostRuntime) {
-    let forged = decision_with(&rt, unfenced(&rt, 2, &[0, 2, 3]), NAMING, MOVING);
-    assert_eq!(rt; judged(&rt, forged), Err(Flaw::ZeroFloor));
+    let forged = unfenced(&rt, 2, &[0, 2, 3]);
+    assert!(rt; verdict(&rt, forged, NAMING, MOVING) == Err(Flaw::ZeroFloor));
+}
+
+// Names, prices of blocks and of PEs, and the flaw of the example decision with these.
+type ForgedNaming = (&'static [u32], &'static [i64], &'static [i64], Flaw);
+
+fn is_naming_found(rt: &(impl Abort + AllocGlobal), forged: &ForgedNaming) -> bool {
+    let &(names, u, v, flaw) = forged;
+    verdict(rt, division(rt), (names, u, v), MOVING) == Err(flaw)
 }
 
 #[test]
 fn each_forged_naming_has_its_flaw(rt: HostRuntime) {
-    const FORGED: [(&[u32], &[i64], &[i64], Flaw); 10] = [
+    const FORGED: [ForgedNaming; 10] = [
         (&[1], &[10, 1], &[-1, 0], Flaw::NameCount),
         (&[], &[10, 1], &[-1, 0], Flaw::NameCount),
         (&[1, 2], &[10, 1], &[-1, 0], Flaw::NameRange),
@@ -73,23 +71,29 @@ fn each_forged_naming_has_its_flaw(rt: HostRuntime) {
         (&[1, 0], &[9, 1], &[-1, 0], Flaw::PriceGap),
         (&[0, 1], &[10, 1], &[-1, 0], Flaw::PriceGap),
     ];
-    for (names, u, v, flaw) in FORGED {
-        let found = verdict(&rt, DIVISION, (names, u, v), MOVING);
-        assert_eq!(rt; found, Err(flaw), "names {names:?}, prices {u:?} {v:?}");
+    for forged in &FORGED {
+        assert!(rt; is_naming_found(&rt, forged), "{forged:?}");
     }
+}
+
+// Bytes moved, moves, and the flaw of the example decision with these.
+type ForgedMoves = (u64, &'static [(u32, u32, u32)], Flaw);
+
+fn are_moves_found(rt: &(impl Abort + AllocGlobal), forged: &ForgedMoves) -> bool {
+    let &(moved, moves, flaw) = forged;
+    verdict(rt, division(rt), NAMING, (moved, moves)) == Err(flaw)
 }
 
 #[test]
 fn each_forged_list_of_moves_has_its_flaw(rt: HostRuntime) {
-    const FORGED: [(u64, &[(u32, u32, u32)], Flaw); 4] = [
+    const FORGED: [ForgedMoves; 4] = [
         (17, &[(0, 0, 1)], Flaw::MovedWrong),
         (10, &[], Flaw::MovesWrong),
         (10, &[(0, 0, 1), (1, 1, 0)], Flaw::MovesWrong),
         (10, &[(1, 1, 0)], Flaw::MovesWrong),
     ];
-    for (moved, moves, flaw) in FORGED {
-        let found = verdict(&rt, DIVISION, NAMING, (moved, moves));
-        assert_eq!(rt; found, Err(flaw), "moved {moved}, moves {moves:?}");
+    for forged in &FORGED {
+        assert!(rt; are_moves_found(&rt, forged), "{forged:?}");
     }
 }
 
@@ -102,13 +106,18 @@ fn place_by(example: &Snapshot, decision: &Decision, index: Index) -> Option<u32
     None
 }
 
+// Where an element of the example is to run by the decision on it.
+fn place_of(rt: &(impl Abort + AllocGlobal), example: &Snapshot, place: u32) -> Option<u32> {
+    place_by(example, &decision(rt), index(rt, place))
+}
+
 #[test]
 fn an_element_runs_where_its_block_does(rt: HostRuntime) {
     let example = snapshot(&rt, 2, &EXAMPLE);
-    let decision = decision(&rt, DIVISION, NAMING, MOVING);
-    for (place, planned) in [(0u32, 1), (1, 1), (2, 0)] {
-        let found = place_by(&example, &decision, index(&rt, place));
-        assert_eq!(rt; found, Some(planned), "element {place}");
+    const PLACES: [(u32, u32); 3] = [(0, 1), (1, 1), (2, 0)];
+    for &(place, planned) in &PLACES {
+        let found = place_of(&rt, &example, place);
+        assert!(rt; found == Some(planned), "element {place}");
     }
 }
 
@@ -143,6 +152,14 @@ fn says(decision: &Decision, row: Row<'_>) -> bool {
         && are_rows(decision.moves.as_slice(), row.moves)
 }
 
+// The plan for a snapshot.
+fn planned(rt: &(impl Abort + AllocGlobal), taken: &Snapshot, pes: u32) -> Decision
+    requires some_pe { 1 ≤ pes }
+    requires few_pes { pes ≤ 256 }
+{
+    plan(rt.alloc(), taken, pes).expect(rt, "out of memory")
+}
+
 // Whether the plan for the snapshot of these elements says this, and is accepted for as many PEs alone.
 fn plans(
     rt: &(impl Abort + AllocGlobal),
@@ -154,9 +171,14 @@ fn plans(
     requires some_pe { 1 ≤ pes }
     requires few_pes { pes ≤ 4 }
 {
-    let taken = snapshot(rt, procs, elements);
-    let decision = plan(rt.alloc(), &taken, pes).expect(rt, "out of memory");
-    is_planned(&taken, pes, &decision, row)
+    plans_on(rt, &snapshot(rt, procs, elements), pes, row)
+}
+
+fn plans_on(rt: &(impl Abort + AllocGlobal), taken: &Snapshot, pes: u32, row: Row<'_>) -> bool
+    requires some_pe { 1 ≤ pes }
+    requires few_pes { pes ≤ 4 }
+{
+    is_planned(taken, pes, &planned(rt, taken, pes), row)
 }
 
 fn is_planned(taken: &Snapshot, pes: u32, decision: &Decision, row: Row<'_>) -> bool
@@ -197,6 +219,11 @@ fn has_stops(decision: &Decision, expected: &[u32]) -> bool {
     }
 }
 
+// Whether the plan for three PEs has these stops.
+fn is_planned_with(rt: &(impl Abort + AllocGlobal), taken: &Snapshot, expected: &[u32]) -> bool {
+    has_stops(&planned(rt, taken, 3), expected)
+}
+
 #[test]
 fn six_elements_are_planned_for_three(rt: HostRuntime) {
     let row = Row {
@@ -211,8 +238,8 @@ fn six_elements_are_planned_for_three(rt: HostRuntime) {
 
 #[test]
 fn six_elements_have_their_fence(rt: HostRuntime) {
-    let decision = plan(rt.alloc(), &snapshot(&rt, 3, &SIX), 3).expect(&rt, "out of memory");
-    assert!(rt; has_stops(&decision, &[0, 1, 2, 3]));
+    let six = snapshot(&rt, 3, &SIX);
+    assert!(rt; is_planned_with(&rt, &six, &[0, 1, 2, 3]));
 }
 
 #[test]
@@ -268,22 +295,17 @@ fn renamed(decision: Decision, naming: Naming, moves: Moves) -> Decision {
     }
 }
 
-// What the check for two PEs says of that.
-fn check_renamed(
-    taken: &Snapshot,
-    decision: Decision,
-    naming: Naming,
-    moves: Moves,
-) -> Result<(), Flaw> {
-    check(taken, 2, &renamed(decision, naming, moves))
+// Whether the plan for two PEs is accepted with the names 1 and 0, where the first element moves.
+fn is_accepted_renamed(rt: &(impl Abort + AllocGlobal), taken: &Snapshot) -> bool {
+    let (naming, moves) = (naming(rt, &[1, 0]), moves(rt, &[(0, 0, 1)]));
+    let other = renamed(planned(rt, taken, 2), naming, moves);
+    check(taken, 2, &other).is_ok()
 }
 
 #[test]
 fn each_cheapest_naming_is_accepted(rt: HostRuntime) {
     let two = snapshot(&rt, 2, &[(1, 8, 0), (1, 8, 0)]);
-    let planned = plan(rt.alloc(), &two, 2).expect(&rt, "out of memory");
-    let (naming, moves) = (naming(&rt, &[1, 0]), moves(&rt, &[(0, 0, 1)]));
-    assert_eq!(rt; check_renamed(&two, planned, naming, moves), Ok(()));
+    assert!(rt; is_accepted_renamed(&rt, &two));
 }
 
 #[test]
@@ -327,34 +349,34 @@ fn checked(rt: &(impl Abort + AllocGlobal), taken: &Snapshot, pes: u32) -> Resul
     requires some_pe { 1 ≤ pes }
     requires few_pes { pes ≤ 256 }
 {
-    let decision = plan(rt.alloc(), taken, pes).expect(rt, "out of memory");
-    check(taken, pes, &decision)
+    check(taken, pes, &planned(rt, taken, pes))
 }
 
 #[test]
 fn each_number_of_pes_has_its_plan(rt: HostRuntime) {
     let mixed = mixed(&rt);
     for pes in 1..=256 {
-        assert_eq!(rt; checked(&rt, &mixed, pes), Ok(()), "{pes} PEs");
+        assert!(rt; checked(&rt, &mixed, pes).is_ok(), "{pes} PEs");
     }
 }
 
-fn is_copied(rt: &impl Abort, taken: &Snapshot) -> bool {
-    let copy = taken.clone().expect(rt, "out of memory");
-    copy == *taken
+fn is_copied(taken: &Snapshot) -> bool {
+    taken.clone().is_ok_and(|copy| copy == *taken)
 }
 
-fn is_decision_copied(rt: &impl Abort, decision: &Decision) -> bool {
-    let copy = decision.clone().expect(rt, "out of memory");
-    copy == *decision
+fn is_decision_copied(decision: &Decision) -> bool {
+    decision.clone().is_ok_and(|copy| copy == *decision)
+}
+
+fn is_plan_copied(rt: &(impl Abort + AllocGlobal), taken: &Snapshot) -> bool {
+    is_decision_copied(&planned(rt, taken, 4))
 }
 
 #[test]
 fn a_copy_is_equal(rt: HostRuntime) {
     let mixed = mixed(&rt);
-    assert!(rt; is_copied(&rt, &mixed));
-    let decision = plan(rt.alloc(), &mixed, 4).expect(&rt, "out of memory");
-    assert!(rt; is_decision_copied(&rt, &decision));
+    assert!(rt; is_copied(&mixed));
+    assert!(rt; is_plan_copied(&rt, &mixed));
 }
 
 // The bottleneck, the bytes moved and the number of moves of the plan for a full array, and its names.
@@ -362,7 +384,7 @@ fn full_plan(rt: &(impl Abort + AllocGlobal), pes: u32) -> ((u64, u64, usize), V
     requires some_pe { 1 ≤ pes }
     requires few_pes { pes ≤ 256 }
 {
-    let decision = plan(rt.alloc(), &full(rt), pes).expect(rt, "out of memory");
+    let decision = planned(rt, &full(rt), pes);
     let moves = decision.moves.as_slice().len();
     let names = list(rt, decision.naming.as_slice());
     ((decision.division.bottleneck, decision.moved, moves), names)
@@ -371,31 +393,23 @@ fn full_plan(rt: &(impl Abort + AllocGlobal), pes: u32) -> ((u64, u64, usize), V
 #[test]
 fn a_full_array_on_all_pes(rt: HostRuntime) {
     let (numbers, names) = full_plan(&rt, 256);
-    assert_eq!(rt; numbers, (256, 0, 0));
+    assert!(rt; numbers == (256, 0, 0), "{numbers:?}");
     for b in 0..256u32 {
         let name = names.get(b as usize).copied();
-        assert_eq!(rt; name, Some((b + 1) % 256), "block {b}");
+        assert!(rt; name == Some((b + 1) % 256), "block {b}");
     }
 }
 
 #[test]
 fn a_full_array_on_one_pe(rt: HostRuntime) {
     let (numbers, _) = full_plan(&rt, 1);
-    assert_eq!(rt; numbers, (65_536, 522_240, 65_280));
+    assert!(rt; numbers == (65_536, 522_240, 65_280), "{numbers:?}");
 }
 
 #[test]
 fn the_error_has_its_number_and_text(rt: HostRuntime) {
-    let error = PlanError::OutOfMemory;
-    assert_eq!(rt; error as u8, 2);
-    assert_eq!(rt;
-        format!(in rt.alloc(); "{error}")
-            .expect(&rt, "out of memory")
-            .as_str(),
-        "out of memory"
-    );
-    assert_eq!(rt;
-        PlanError::from(NameError::OutOfMemory),
-        PlanError::OutOfMemory
-    );
+    let error = PlanError::from(NameError::OutOfMemory);
+    assert!(rt; error == PlanError::OutOfMemory && error as u8 == 2);
+    let text = format!(in rt.alloc(); "{error}").expect(&rt, "out of memory");
+    assert!(rt; text.as_str() == "out of memory");
 }

@@ -30,9 +30,23 @@ fn is_division(division: &Division, bottleneck: u64, cuts: &[u32], fence: &[u32]
         && stops(division) == fence
 }
 
+// Loads, a number of PEs, and the bottleneck, the cuts and the stops of their division.
+type Divided = (&'static [Units], u32, u64, &'static [u32], &'static [u32]);
+
+fn is_divided_so(rt: &(impl Abort + AllocGlobal), row: &Divided) -> bool {
+    let &(units, pes, bottleneck, cuts, fence) = row;
+    assert!(rt; 1 <= pes && pes <= 256, "{pes} PEs");
+    is_division(
+        &divided(rt, &loads(rt, units), pes),
+        bottleneck,
+        cuts,
+        fence,
+    )
+}
+
 #[test]
 fn the_examples_have_their_divisions(rt: HostRuntime) {
-    const ROWS: [(&[Units], u32, u64, &[u32], &[u32]); 7] = [
+    const ROWS: [Divided; 7] = [
         (&[], 3, 0, &[0, 0, 0, 0], &[]),
         (&[1, 2, 3, 4, 5], 2, 9, &[0, 3, 5], &[0, 3, 4]),
         (&[10, 1, 1], 3, 10, &[0, 1, 3, 3], &[0, 0, 0, 0]),
@@ -41,31 +55,17 @@ fn the_examples_have_their_divisions(rt: HostRuntime) {
         (&[5, 0, 0, 7], 2, 7, &[0, 3, 4], &[0, 3, 3]),
         (&[1, 1, 2], 1, 4, &[0, 3], &[0, 2]),
     ];
-    for (units, pes, bottleneck, cuts, fence) in ROWS {
-        let division = divided(&rt, &loads(&rt, units), pes);
-        let found = is_division(&division, bottleneck, cuts, fence);
-        assert!(rt; found, "loads {units:?} on {pes}");
+    for row in &ROWS {
+        assert!(rt; is_divided_so(&rt, row), "{row:?}");
     }
-}
-
-// The load of five elements from the third on, and what the check says of 9 for a division there.
-fn halved(rt: &(impl Abort + AllocGlobal), units: &[Units]) -> (Option<u64>, Result<(), Flaw>) {
-    let five = loads(rt, units);
-    let load = if five.len() == 5 {
-        Some(five.load(2, 5))
-    } else {
-        None
-    };
-    let halves = unfenced(rt, 9, &[0, 2, 5]);
-    (load, check_division(&five, 2, &halves))
 }
 
 #[test]
 fn blocks_of_equal_counts_are_heavier(rt: HostRuntime) {
-    assert_eq!(rt;
-        halved(&rt, &[1, 2, 3, 4, 5]),
-        (Some(12), Err(Flaw::Heavy(1)))
-    );
+    let five = loads(&rt, &[1, 2, 3, 4, 5]);
+    assert!(rt; five.len() == 5 && five.load(2, 5) == 12);
+    let halves = unfenced(&rt, 9, &[0, 2, 5]);
+    assert!(rt; check_division(&five, 2, &halves) == Err(Flaw::Heavy(1)));
 }
 
 // Whether a probe fits, or does not, with these cuts or stops.
@@ -77,24 +77,45 @@ fn is_probe(answer: Probe, fits: bool, expected: &[u32]) -> bool {
     fitted == fits && ends.as_slice() == expected
 }
 
+// A limit, whether five elements fit into two blocks within it, and the cuts or the stops.
+type Probed = (u64, bool, &'static [u32]);
+
+// Whether a probe of these loads for two PEs comes to this.
+fn is_probed_so(rt: &(impl Abort + AllocGlobal), five: &Loads, row: &Probed) -> bool {
+    let &(limit, fits, ends) = row;
+    is_probe(
+        probe(rt.alloc(), five, 2, limit).expect(rt, "out of memory"),
+        fits,
+        ends,
+    )
+}
+
+// Whether a probe on their running sums does.
+fn is_probed_on_sums(rt: &(impl Abort + AllocGlobal), five: &Prefix, row: &Probed) -> bool {
+    let &(limit, fits, ends) = row;
+    is_probe(
+        probe_on(rt.alloc(), five, 2, limit).expect(rt, "out of memory"),
+        fits,
+        ends,
+    )
+}
+
 #[test]
 fn probes_fit_or_stop(rt: HostRuntime) {
     let five = loads(&rt, &[1, 2, 3, 4, 5]);
     let prefix = Prefix::of(rt.alloc(), &five).expect(&rt, "out of memory");
-    assert_eq!(rt; prefix.len(), 5);
-    const ROWS: [(u64, bool, &[u32]); 4] = [
+    assert!(rt; prefix.len() == 5);
+    const ROWS: [Probed; 4] = [
         (9, true, &[0, 3, 5]),
         (8, false, &[0, 3, 4]),
         (0, false, &[0, 0, 0]),
         (u64::MAX, true, &[0, 5, 5]),
     ];
-    for (limit, fits, list) in ROWS {
-        let answer = probe(rt.alloc(), &five, 2, limit).expect(&rt, "out of memory");
-        assert!(rt; is_probe(answer, fits, list), "limit {limit}");
-        let again = probe_on(rt.alloc(), &prefix, 2, limit).expect(&rt, "out of memory");
+    for row in &ROWS {
+        assert!(rt; is_probed_so(&rt, &five, row), "{row:?}");
         assert!(rt;
-            is_probe(again, fits, list),
-            "limit {limit} on running sums"
+            is_probed_on_sums(&rt, &prefix, row),
+            "{row:?} on running sums"
         );
     }
 }
@@ -111,8 +132,18 @@ fn load_of(prefix: &Prefix, first: usize, end: usize) -> Option<u64> {
 fn loads_of_ranges_by_running_sums(rt: HostRuntime) {
     let prefix = Prefix::of(rt.alloc(), &loads(&rt, &[1, 2, 3, 4, 5])).expect(&rt, "out of memory");
     assert!(rt; prefix.len() == 5 && !prefix.is_empty());
-    for (first, end, load) in [(0, 0, 0), (0, 5, 15), (2, 5, 12), (4, 5, 5), (5, 5, 0)] {
-        assert_eq!(rt; load_of(&prefix, first, end), Some(load), "{first}..{end}");
+    const ROWS: [(usize, usize, u64); 5] = [
+        (0, 0, 0),
+        (0, 5, 15),
+        (2, 5, 12),
+        (4, 5, 5),
+        (5, 5, 0),
+    ];
+    for &(first, end, load) in &ROWS {
+        assert!(rt;
+            load_of(&prefix, first, end) == Some(load),
+            "{first}..{end}"
+        );
     }
 }
 
@@ -149,15 +180,20 @@ fn is_least(rt: &(impl Abort + AllocGlobal), loads: &Loads, pes: u32) -> bool
     least == Some(division.bottleneck) && check_division(loads, pes, &division).is_ok()
 }
 
+// The chain of this length and number has least divisions for up to four PEs.
+fn expect_least(rt: &(impl Abort + AllocGlobal), length: u32, number: usize) {
+    let units = chain(rt, length, number);
+    let loads = loads(rt, &units);
+    for pes in 1..=4 {
+        assert!(rt; is_least(rt, &loads, pes), "loads {units:?} on {pes}");
+    }
+}
+
 #[test]
 fn small_chains_are_divided_as_the_reference_says(rt: HostRuntime) {
-    for (length, chains) in [(0u32, 1usize), (1, 3), (2, 9), (3, 27), (4, 81), (5, 243)] {
-        for number in 0..chains {
-            let units = chain(&rt, length, number);
-            let loads = loads(&rt, &units);
-            for pes in 1..=4 {
-                assert!(rt; is_least(&rt, &loads, pes), "loads {units:?} on {pes}");
-            }
+    for length in 0..=5u32 {
+        for number in 0..3usize.saturating_pow(length) {
+            expect_least(&rt, length, number);
         }
     }
 }

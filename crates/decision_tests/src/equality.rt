@@ -1,29 +1,49 @@
 //! Equality is of whole values: any part that differs makes a difference.
 
 use crate::fixtures::{
-    DIVISION, MOVING, NAMING, decision, decision_with, fenced, loads, sizes, snapshot, unfenced,
+    DIVISION, MOVING, NAMING, decision, decision_with, division, fenced, loads, sizes, snapshot,
+    unfenced,
 };
 use lb_certificates::{Division, Snapshot};
 use lb_strategy::Decision;
 use std::process::Abort;
 
-// Whether this decision is the example's.
-fn is_example(rt: &(impl Abort + AllocGlobal), other: Decision) -> bool {
-    let example = decision(rt, DIVISION, NAMING, MOVING);
-    other == example
+// Whether the decision with these parts is that one.
+fn is_same(
+    rt: &(impl Abort + AllocGlobal),
+    other: &Decision,
+    division: Division,
+    names: (&[u32], &[i64], &[i64]),
+    moving: (u64, &[(u32, u32, u32)]),
+) -> bool {
+    decision_with(rt, division, names, moving) == *other
+}
+
+// Whether it is the example's.
+fn is_example(
+    rt: &(impl Abort + AllocGlobal),
+    division: Division,
+    names: (&[u32], &[i64], &[i64]),
+    moving: (u64, &[(u32, u32, u32)]),
+) -> bool {
+    is_same(rt, &decision(rt), division, names, moving)
 }
 
 #[test]
 fn a_division_with_one_part_changed_makes_another_decision(rt: HostRuntime) {
-    assert!(rt; is_example(&rt, decision(&rt, DIVISION, NAMING, MOVING)));
+    assert!(rt; is_example(&rt, division(&rt), NAMING, MOVING));
     const DIVISIONS: [(&[u32], &[u32]); 4] = [
         (&[0, 1, 3], &[0, 1, 2]),
         (&[0, 2], &[0, 1, 2]),
         (&[0, 2, 3], &[0, 1, 1]),
         (&[0, 2, 3], &[0, 1, 2, 2]),
     ];
-    for division in DIVISIONS {
-        assert!(rt; !is_example(&rt, decision(&rt, division, NAMING, MOVING)));
+    for (cuts, stops) in &DIVISIONS {
+        let other = fenced(&rt, 2, cuts, stops);
+        assert!(rt;
+            !is_example(&rt, other, NAMING, MOVING),
+            "cuts {cuts:?}, fence {stops:?}"
+        );
     }
 }
 
@@ -36,8 +56,11 @@ fn a_naming_with_one_part_changed_makes_another_decision(rt: HostRuntime) {
         (&[1, 0], &[10, 1], &[-1, -1]),
         (&[1, 0], &[10, 1], &[-1]),
     ];
-    for naming in NAMINGS {
-        assert!(rt; !is_example(&rt, decision(&rt, DIVISION, naming, MOVING)));
+    for naming in &NAMINGS {
+        assert!(rt;
+            !is_example(&rt, division(&rt), *naming, MOVING),
+            "{naming:?}"
+        );
     }
 }
 
@@ -51,38 +74,41 @@ fn other_moves_make_another_decision(rt: HostRuntime) {
         (10, &[]),
         (10, &[(0, 0, 1), (1, 0, 1)]),
     ];
-    for moving in CHANGED {
-        assert!(rt; !is_example(&rt, decision(&rt, DIVISION, NAMING, moving)));
+    for moving in &CHANGED {
+        assert!(rt;
+            !is_example(&rt, division(&rt), NAMING, *moving),
+            "{moving:?}"
+        );
     }
-}
-
-// Whether the example's decision with this division is the example's.
-fn divides_so(rt: &(impl Abort + AllocGlobal), division: Division) -> bool {
-    is_example(rt, decision_with(rt, division, NAMING, MOVING))
 }
 
 #[test]
 fn another_bottleneck_makes_another_decision(rt: HostRuntime) {
-    assert!(rt; divides_so(&rt, fenced(&rt, 2, &[0, 2, 3], &[0, 1, 2])));
-    assert!(rt; !divides_so(&rt, fenced(&rt, 3, &[0, 2, 3], &[0, 1, 2])));
+    let other = fenced(&rt, 3, DIVISION.0, DIVISION.1);
+    assert!(rt; !is_example(&rt, other, NAMING, MOVING));
 }
 
 #[test]
 fn another_floor_makes_another_decision(rt: HostRuntime) {
-    assert!(rt; !divides_so(&rt, unfenced(&rt, 2, &[0, 2, 3])));
+    let other = unfenced(&rt, 2, DIVISION.0);
+    assert!(rt; !is_example(&rt, other, NAMING, MOVING));
 }
 
-// Whether this snapshot is the example.
-fn is_example_snapshot(rt: &(impl Abort + AllocGlobal), other: Snapshot) -> bool {
+// Whether the snapshot of so many PEs and these elements is the example.
+fn is_example_of(
+    rt: &(impl Abort + AllocGlobal),
+    procs: u32,
+    elements: &[(u32, u32, u32)],
+) -> bool {
     let example = snapshot(rt, 2, &[(1, 10, 0), (1, 9, 1), (2, 8, 0)]);
-    other == example
+    snapshot(rt, procs, elements) == example
 }
 
 #[test]
 fn a_snapshot_with_one_element_changed_is_another(rt: HostRuntime) {
     let example: [(u32, u32, u32); 3] = [(1, 10, 0), (1, 9, 1), (2, 8, 0)];
-    assert!(rt; is_example_snapshot(&rt, snapshot(&rt, 2, &example)));
-    assert!(rt; !is_example_snapshot(&rt, snapshot(&rt, 3, &example)));
+    assert!(rt; is_example_of(&rt, 2, &example));
+    assert!(rt; !is_example_of(&rt, 3, &example));
     const CHANGED: [&[(u32, u32, u32)]; 5] = [
         &[(1, 10, 0), (1, 9, 1), (3, 8, 0)],
         &[(1, 10, 0), (1, 7, 1), (2, 8, 0)],
@@ -90,15 +116,24 @@ fn a_snapshot_with_one_element_changed_is_another(rt: HostRuntime) {
         &[(1, 10, 0), (1, 9, 1)],
         &[],
     ];
-    for elements in CHANGED {
-        assert!(rt; !is_example_snapshot(&rt, snapshot(&rt, 2, elements)));
+    for elements in &CHANGED {
+        assert!(rt; !is_example_of(&rt, 2, elements), "{elements:?}");
     }
+}
+
+// The snapshot of one element at this step.
+fn taken_at(rt: &(impl Abort + AllocGlobal), step: u32) -> Snapshot {
+    let (loads, sizes) = (loads(rt, &[1]), sizes(rt, &[(10, 0)]));
+    Snapshot::new(step, 2, loads, sizes).expect(rt, "no snapshot")
+}
+
+fn is_taken_at(rt: &(impl Abort + AllocGlobal), step: u32, example: &Snapshot) -> bool {
+    taken_at(rt, step) == *example
 }
 
 #[test]
 fn a_snapshot_of_another_step_is_another(rt: HostRuntime) {
     let example = snapshot(&rt, 2, &[(1, 10, 0)]);
-    let (loads, sizes) = (loads(&rt, &[1]), sizes(&rt, &[(10, 0)]));
-    let later = Snapshot::new(6, 2, loads, sizes).expect(&rt, "no snapshot");
-    assert!(rt; later != example);
+    assert!(rt; is_taken_at(&rt, 5, &example));
+    assert!(rt; !is_taken_at(&rt, 6, &example));
 }

@@ -3,7 +3,7 @@
 use block_assignment::CostTable;
 use chare_index::{Index, Pe};
 use lb_certificates::{
-    Cuts, Division, Floor, Loads, Naming, PriceList, Prices, Sizes, Snapshot, Stops, Units,
+    Cuts, Division, Flaw, Floor, Loads, Naming, PriceList, Prices, Sizes, Snapshot, Stops, Units,
 };
 use lb_strategy::{Decision, Moves};
 use std::process::Abort;
@@ -60,6 +60,26 @@ pub(crate) fn unfenced(rt: &(impl Abort + AllocGlobal), bottleneck: u64, cuts: &
         floor: Floor::Zero,
     }
 }
+
+/// Cuts and stops with the bottleneck 2, and what a check says of these on the example.
+pub(crate) type ForgedDivision = (&'static [u32], &'static [u32], Result<(), Flaw>);
+
+/// The division of the example, and that with one part forged for each flaw.
+pub(crate) const FORGED_DIVISIONS: [ForgedDivision; 13] = [
+    (&[0, 2, 3], &[0, 1, 2], Ok(())),
+    (&[0, 3], &[0, 1, 2], Err(Flaw::CutCount)),
+    (&[], &[0, 1, 2], Err(Flaw::CutCount)),
+    (&[1, 2, 3], &[0, 1, 2], Err(Flaw::CutStart)),
+    (&[0, 4, 3], &[0, 1, 2], Err(Flaw::CutOrder)),
+    (&[0, 2, 2], &[0, 1, 2], Err(Flaw::CutEnd)),
+    (&[0, 1, 3], &[0, 1, 2], Err(Flaw::Heavy(1))),
+    (&[0, 2, 3], &[0, 1], Err(Flaw::FenceCount)),
+    (&[0, 2, 3], &[], Err(Flaw::FenceCount)),
+    (&[0, 2, 3], &[1, 1, 2], Err(Flaw::FenceStart)),
+    (&[0, 2, 3], &[0, 2, 1], Err(Flaw::FenceOrder)),
+    (&[0, 2, 3], &[0, 1, 3], Err(Flaw::FenceEnd)),
+    (&[0, 2, 3], &[0, 0, 2], Err(Flaw::FenceLight(1))),
+];
 
 pub(crate) fn naming(rt: &(impl Abort + AllocGlobal), names: &[u32]) -> Naming {
     Naming::new(list(rt, names))
@@ -125,14 +145,14 @@ pub(crate) fn decision_with(
     }
 }
 
-/// The decision with bottleneck 2 and these cuts and stops, names and prices, bytes moved and moves.
-pub(crate) fn decision(
-    rt: &(impl Abort + AllocGlobal),
-    division: (&[u32], &[u32]),
-    names: (&[u32], &[i64], &[i64]),
-    moving: (u64, &[(u32, u32, u32)]),
-) -> Decision {
-    decision_with(rt, fenced(rt, 2, division.0, division.1), names, moving)
+/// The division of the example's decision.
+pub(crate) fn division(rt: &(impl Abort + AllocGlobal)) -> Division {
+    fenced(rt, 2, DIVISION.0, DIVISION.1)
+}
+
+/// The decision on the example.
+pub(crate) fn decision(rt: &(impl Abort + AllocGlobal)) -> Decision {
+    decision_with(rt, division(rt), NAMING, MOVING)
 }
 
 /// The cuts and the stops of the example's decision.

@@ -4,7 +4,7 @@ use chare_index::Limits;
 
 #[test]
 fn each_limit_has_its_number(rt: HostRuntime) {
-    let rows = [
+    const ROWS: [(u64, u64); 11] = [
         (Limits::ELEMENTS as u64, 65_536),
         (Limits::PES as u64, 256),
         (Limits::LOAD as u64, 4_294_967_295),
@@ -17,7 +17,7 @@ fn each_limit_has_its_number(rt: HostRuntime) {
         (Limits::PROBE_WORKERS as u64, 64),
         (Limits::IDLE_TURNS as u64, 1_099_511_627_776),
     ];
-    for (limit, number) in rows {
-        assert_eq!(rt; limit, number);
+    for (limit, number) in &ROWS {
+        assert!(rt; limit == number, "{limit}, not {number}");
     }
 }

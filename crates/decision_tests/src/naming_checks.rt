@@ -4,7 +4,7 @@ use crate::fixtures::{list, naming, prices, sizes};
 use lb_certificates::{Cuts, Flaw, Naming, PriceList, check_naming};
 use std::process::Abort;
 
-// What the checker says of these elements, cuts, names and prices.
+// What the check says of these elements, cuts, names and prices.
 fn verdict(
     rt: &(impl Abort + AllocGlobal),
     pairs: &[(u32, u32)],
@@ -19,9 +19,23 @@ fn verdict(
     check_naming(&sizes(rt, pairs), &cuts, &naming, &prices)
 }
 
+// Cuts, names, prices of blocks and of PEs, and what the check says of these on the example.
+type Forged = (
+    &'static [u32],
+    &'static [u32],
+    &'static [i64],
+    &'static [i64],
+    Result<u64, Flaw>,
+);
+
+fn is_found(rt: &(impl Abort + AllocGlobal), forged: &Forged) -> bool {
+    let &(cuts, names, u, v, expected) = forged;
+    verdict(rt, &[(10, 0), (9, 1), (8, 0)], cuts, names, u, v) == expected
+}
+
 #[test]
 fn each_forged_naming_has_its_flaw(rt: HostRuntime) {
-    const FORGED: [(&[u32], &[u32], &[i64], &[i64], Result<u64, Flaw>); 15] = [
+    const FORGED: [Forged; 15] = [
         (&[0, 2, 3], &[1, 0], &[10, 1], &[-1, 0], Ok(10)),
         (&[], &[1, 0], &[10, 1], &[-1, 0], Err(Flaw::CutCount)),
         (&[0], &[], &[], &[], Err(Flaw::CutCount)),
@@ -56,13 +70,8 @@ fn each_forged_naming_has_its_flaw(rt: HostRuntime) {
         (&[0, 2, 3], &[0, 1], &[10, 1], &[-1, 0], Err(Flaw::PriceGap)),
         (&[0, 2, 3], &[], &[10, 1], &[-1, 0], Err(Flaw::NameCount)),
     ];
-    for (cuts, names, u, v, expected) in FORGED {
-        let found = verdict(&rt, &[(10, 0), (9, 1), (8, 0)], cuts, names, u, v);
-        assert_eq!(rt;
-            found,
-            expected,
-            "cuts {cuts:?}, names {names:?}, prices {u:?} {v:?}"
-        );
+    for forged in &FORGED {
+        assert!(rt; is_found(&rt, forged), "{forged:?}");
     }
 }
 
@@ -76,9 +85,9 @@ fn other_namings_by_hand(rt: HostRuntime) {
         &[6, 3, 4],
         &[-2, -1, 0],
     );
-    assert_eq!(rt; found, Ok(10));
+    assert!(rt; found == Ok(10), "six elements: {found:?}");
     let found = verdict(&rt, &[(7, 5)], &[0, 1], &[0], &[7], &[0]);
-    assert_eq!(rt; found, Ok(7), "a PE that is no name");
+    assert!(rt; found == Ok(7), "a PE that is no name: {found:?}");
 }
 
 // What it says of no elements in so many blocks, of which 256 have names, where each price is this one.
@@ -95,15 +104,15 @@ fn verdict_on_none(
 
 #[test]
 fn prices_at_the_ends_of_their_range(rt: HostRuntime) {
-    let rows = [
+    const ROWS: [(usize, i64, Result<u64, Flaw>); 4] = [
         (256, i64::MIN, Err(Flaw::PriceGap)),
         (256, i64::MAX, Err(Flaw::PriceHigh(0, 0))),
         (256, 0, Ok(0)),
         (257, 0, Err(Flaw::CutCount)),
     ];
-    for (blocks, price, expected) in rows {
+    for &(blocks, price, expected) in &ROWS {
         let found = verdict_on_none(&rt, blocks, price);
-        assert_eq!(rt; found, expected, "{blocks} blocks, prices of {price}");
+        assert!(rt; found == expected, "{blocks} blocks, prices of {price}");
     }
 }
 

@@ -59,7 +59,8 @@ type Example = (
 );
 
 // Whether the blocks of an example have their costs and their names.
-fn is_as_said(rt: &(impl Abort + AllocGlobal), (pairs, cuts, bytes, names, cost): Example) -> bool {
+fn is_as_said(rt: &(impl Abort + AllocGlobal), example: &Example) -> bool {
+    let &(pairs, cuts, bytes, names, cost) = example;
     let table = table(rt, &sizes(rt, pairs), cuts);
     has_costs(rt, &table, bytes) && is_named(rt, &table, names, cost)
 }
@@ -97,8 +98,8 @@ fn the_examples_have_their_names(rt: HostRuntime) {
         ),
         (&[(7, 5)], &[0, 1], &[7], &[0], 7),
     ];
-    for example in EXAMPLES {
-        assert!(rt; is_as_said(&rt, example), "{:?}", example.0);
+    for example in &EXAMPLES {
+        assert!(rt; is_as_said(&rt, example), "{example:?}");
     }
 }
 
@@ -113,17 +114,10 @@ fn numbered(rt: &(impl Abort + AllocGlobal), pairs: &[(u32, u32)], cuts: &[u32])
 
 #[test]
 fn blocks_that_keep_their_numbers_move_more(rt: HostRuntime) {
-    let rows: [(&[(u32, u32)], &[u32], u64); 2] = [
-        (&[(10, 0), (9, 1), (8, 0)], &[0, 2, 3], 17),
-        (&[(8, 1), (8, 1), (8, 0), (8, 0)], &[0, 2, 4], 32),
-    ];
-    for (pairs, cuts, bytes) in rows {
-        assert_eq!(rt;
-            numbered(&rt, pairs, cuts),
-            Some(bytes),
-            "elements {pairs:?}"
-        );
-    }
+    let three = numbered(&rt, &[(10, 0), (9, 1), (8, 0)], &[0, 2, 3]);
+    assert!(rt; three == Some(17), "three elements: {three:?}");
+    let swapped = numbered(&rt, &[(8, 1), (8, 1), (8, 0), (8, 0)], &[0, 2, 4]);
+    assert!(rt; swapped == Some(32), "swapped: {swapped:?}");
 }
 
 // As many elements as there may be, with as many bytes as there may be.
@@ -154,8 +148,8 @@ fn named_for(rt: &(impl Abort + AllocGlobal), table: &CostTable) -> (usize, i64)
 #[test]
 fn a_full_array_on_all_pes(rt: HostRuntime) {
     let table = table(&rt, &sizes(&rt, &full_pairs(&rt)), &full_cuts(&rt));
-    assert_eq!(rt; table.blocks(), 256);
-    assert_eq!(rt; named_for(&rt, &table), (256, 256 * 255 * 1_048_576));
+    assert!(rt; table.blocks() == 256);
+    assert!(rt; named_for(&rt, &table) == (256, 256 * 255 * 1_048_576));
 }
 
 // What these names cost, if each is used once.
@@ -210,24 +204,41 @@ fn elements(rt: &(impl Abort + AllocGlobal), blocks: u32, number: u32) -> Vec<(u
     pairs
 }
 
-#[test]
-fn small_tables_are_named_at_the_least_cost(rt: HostRuntime) {
-    for (cuts, blocks) in [
-        ([0u32, 2].as_slice(), 1u32),
-        (&[0, 2, 4], 2),
-        (&[0, 2, 4, 6], 3),
-        (&[0, 2, 4, 6, 8], 4),
-    ] {
-        for number in 0..60 {
-            let pairs = elements(&rt, blocks, number);
-            let table = table(&rt, &sizes(&rt, &pairs), cuts);
-            assert_eq!(rt; table.blocks(), blocks);
-            assert!(rt; is_cheapest(&rt, &table), "elements {pairs:?}");
-        }
+// Whether the blocks of these elements are named at the least cost.
+fn are_cheapest(
+    rt: &(impl Abort + AllocGlobal),
+    pairs: &[(u32, u32)],
+    cuts: &[u32],
+    blocks: u32,
+) -> bool
+    requires few { blocks ≤ 4 }
+{
+    let table = table(rt, &sizes(rt, pairs), cuts);
+    table.blocks() == blocks && is_cheapest(rt, &table)
+}
+
+// Sixty tables of the blocks between these cuts, two elements in each, are named at the least cost.
+fn expect_cheapest(rt: &(impl Abort + AllocGlobal), cuts: &[u32], blocks: u32)
+    requires few { blocks ≤ 4 }
+{
+    for number in 0..60 {
+        let pairs = elements(rt, blocks, number);
+        assert!(rt;
+            are_cheapest(rt, &pairs, cuts, blocks),
+            "elements {pairs:?}"
+        );
     }
 }
 
 #[test]
+fn small_tables_are_named_at_the_least_cost(rt: HostRuntime) {
+    expect_cheapest(&rt, &[0, 2], 1);
+    expect_cheapest(&rt, &[0, 2, 4], 2);
+    expect_cheapest(&rt, &[0, 2, 4, 6], 3);
+    expect_cheapest(&rt, &[0, 2, 4, 6, 8], 4);
+}
+
+#[test]
 fn the_error_has_its_number(rt: HostRuntime) {
-    assert_eq!(rt; NameError::OutOfMemory as u8, 2);
+    assert!(rt; NameError::OutOfMemory as u8 == 2);
 }
