@@ -10,7 +10,11 @@ use lb_certificates::{Loads, Sizes, Units};
 use std::alloc::{AllocError, Allocator};
 
 /// A list of `n` values that are all this one.
-pub fn filled<T: Copy, A: Allocator>(alloc: A, value: T, n: usize) -> Result<Vec<T, A>, AllocError>
+pub(crate) fn filled<T: Copy, A: Allocator>(
+    alloc: A,
+    value: T,
+    n: usize,
+) -> Result<Vec<T, A>, AllocError>
     ensures items { IfOk result (λ list. list.items ≡ replicate n value) }
     ensures refused { OnErr result (0 < n) }
 {
@@ -21,7 +25,7 @@ pub fn filled<T: Copy, A: Allocator>(alloc: A, value: T, n: usize) -> Result<Vec
 
 /// The loads of a snapshot: a copy of these.
 #[tactic(auto, using(lb_certificates::proofs::Made::made_where))]
-pub fn copied_loads<A: Allocator>(alloc: A, units: &[Units]) -> Result<Loads<A>, AllocError>
+pub(crate) fn copied_loads<A: Allocator>(alloc: A, units: &[Units]) -> Result<Loads<A>, AllocError>
     requires { IsLoads units.now }
     ensures items { IfOk result (λ loads. loads ≡ units.now) }
     ensures refused { OnErr result (0 < length units.now) }
@@ -33,7 +37,7 @@ pub fn copied_loads<A: Allocator>(alloc: A, units: &[Units]) -> Result<Loads<A>,
 
 /// The sizes of a snapshot: what all elements have reported.
 #[tactic(auto, using(lb_certificates::proofs::Made::made_where, crate::proofs::Reports::sizes_there))]
-pub fn reported_sizes<A: Allocator>(
+pub(crate) fn reported_sizes<A: Allocator>(
     alloc: A,
     reports: &[Option<(u32, Pe)>],
 ) -> Result<Sizes<A>, AllocError>

@@ -17,7 +17,7 @@ use std::alloc::Allocator;
 /// # Errors
 ///
 /// Out of memory, or else the first size or place that is past its limit.
-pub fn take_whole<'a, A: Allocator>(
+pub(crate) fn take_whole<'a, A: Allocator>(
     head: &[u8],
     loads: &mut Vec<u32, A>,
     sizes: &mut Vec<(u32, Pe), A>,

@@ -24,7 +24,7 @@ fn head_with(step: u32, procs: u32, count: u32) -> [u8; HEAD_LEN]
 
 #[tactic(auto, using(crate::proofs::Spelling::starts_with_head))]
 // The bytes before the first element.
-pub fn head_of<A: Allocator>(snapshot: &Snapshot<A>) -> [u8; HEAD_LEN]
+pub(crate) fn head_of<A: Allocator>(snapshot: &Snapshot<A>) -> [u8; HEAD_LEN]
     ensures prefix { IsPrefix snapshot.now 0 result }
 {
     let count = snapshot.loads().len() as u32;
@@ -32,7 +32,7 @@ pub fn head_of<A: Allocator>(snapshot: &Snapshot<A>) -> [u8; HEAD_LEN]
 }
 
 // The load of each element, and the size and the place of each element.
-pub fn elements_of<A: Allocator>(snapshot: &Snapshot<A>) -> (&[Units], &[(u32, Pe)])
+pub(crate) fn elements_of<A: Allocator>(snapshot: &Snapshot<A>) -> (&[Units], &[(u32, Pe)])
     ensures snapshot { IsSnapshot snapshot.now }
     ensures loads { result.0.now ≡ snapshot.now.loads }
     ensures sizes { result.1.now ≡ snapshot.now.sizes }
@@ -55,7 +55,7 @@ fn element_of(load: u32, size: u32, place: u32) -> [u8; ELEMENT_LEN]
 }
 
 // The element at an index.
-pub fn element_at(loads: &[Units], sizes: &[(u32, Pe)], i: usize) -> [u8; ELEMENT_LEN]
+pub(crate) fn element_at(loads: &[Units], sizes: &[(u32, Pe)], i: usize) -> [u8; ELEMENT_LEN]
     requires load { i < length loads.now }
     requires size { i < length sizes.now }
     ensures load { slice_get loads.now i ≡ Some (word result load_at) }

@@ -5,38 +5,38 @@ ghost use Rattle.std.specs.Prelude.{◌≡◌, ◌+◌, ◌≤◌, length};
 ghost use Rattle.lb_dump.specs.Format.{word, word_len};
 
 /// The bytes with which a dump begins.
-pub const LETTERS: [u8; 4] = *b"LBD1";
+pub(crate) const LETTERS: [u8; 4] = *b"LBD1";
 
 /// The length of a number, whose highest byte comes first.
-pub const WORD_LEN: usize = 4;
+pub(crate) const WORD_LEN: usize = 4;
 
 /// The length of the head: the letters and three numbers.
-pub const HEAD_LEN: usize = 16;
+pub(crate) const HEAD_LEN: usize = 16;
 
 /// Where the step begins.
-pub const STEP_AT: usize = 4;
+pub(crate) const STEP_AT: usize = 4;
 
 /// Where the number of PEs begins.
-pub const PROCS_AT: usize = 8;
+pub(crate) const PROCS_AT: usize = 8;
 
 /// Where the number of elements begins.
-pub const COUNT_AT: usize = 12;
+pub(crate) const COUNT_AT: usize = 12;
 
 /// The length of an element: three numbers.
-pub const ELEMENT_LEN: usize = 12;
+pub(crate) const ELEMENT_LEN: usize = 12;
 
 /// Where the load begins in an element.
-pub const LOAD_AT: usize = 0;
+pub(crate) const LOAD_AT: usize = 0;
 
 /// Where the packed size begins in an element.
-pub const SIZE_AT: usize = 4;
+pub(crate) const SIZE_AT: usize = 4;
 
 /// Where the PE on which it stands begins in an element.
-pub const PLACE_AT: usize = 8;
+pub(crate) const PLACE_AT: usize = 8;
 
 /// The number in the four bytes from this offset on.
 #[tactic(auto, unfolding(crate::specs::Format::word))]
-pub fn word(text: &[u8], at: usize) -> u32
+pub(crate) fn word(text: &[u8], at: usize) -> u32
     requires { at + word_len ≤ length text.now }
     ensures value { result ≡ word text.now at }
 {

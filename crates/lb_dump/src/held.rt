@@ -16,11 +16,11 @@ use std::alloc::{Allocator, Global};
 /// begun.
 #[derive(Drop)]
 #[derive_where(Debug)]
-pub struct Held<A: Allocator = Global> {
-    pub head: Vec<u8, A>,
-    pub loads: Vec<u32, A>,
-    pub sizes: Vec<(u32, Pe), A>,
-    pub begun: Vec<u8, A>,
+pub(crate) struct Held<A: Allocator = Global> {
+    pub(crate) head: Vec<u8, A>,
+    pub(crate) loads: Vec<u32, A>,
+    pub(crate) sizes: Vec<(u32, Pe), A>,
+    pub(crate) begun: Vec<u8, A>,
 }
 
 /// Takes in a piece that begins behind the head.
@@ -28,7 +28,7 @@ pub struct Held<A: Allocator = Global> {
 /// # Errors
 ///
 /// Out of memory, or else the first fault.
-pub fn take_elements<A: Allocator>(held: &mut Held<A>, piece: &[u8]) -> Result<(), DumpError>
+pub(crate) fn take_elements<A: Allocator>(held: &mut Held<A>, piece: &[u8]) -> Result<(), DumpError>
     requires held { IsHeld held.old }
     requires headed { length held.old.head.items ≡ head_len }
     requires some { 0 < length piece.now }

@@ -24,7 +24,7 @@ fn judge_letters(text: &[u8]) -> Result<(), DumpError>
 }
 
 // The fields before the first element.
-pub fn judge_head(text: &[u8]) -> Result<(), DumpError>
+pub(crate) fn judge_head(text: &[u8]) -> Result<(), DumpError>
     requires { length text.now ≤ head_len }
     ensures first_fault { MatchResult result (λ _. IsGood text.now) (λ e. IsBroken text.now e) }
 {
@@ -43,7 +43,7 @@ pub fn judge_head(text: &[u8]) -> Result<(), DumpError>
 }
 
 /// Judges the size of element `i`, of which only these bytes have come, where its size is among them.
-pub fn judge_begun(begun: &[u8], i: usize) -> Result<(), DumpError>
+pub(crate) fn judge_begun(begun: &[u8], i: usize) -> Result<(), DumpError>
     requires { i ≤ Limits.ELEMENTS }
     ensures fault { MatchResult result
         (λ _. size_at + word_len ≤ length begun.now → word begun.now size_at ≤ STATE_BYTES)

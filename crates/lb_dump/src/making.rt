@@ -14,7 +14,7 @@ use lb_certificates::{Loads, Sizes, Snapshot};
 use std::alloc::Allocator;
 
 /// The snapshot, where the text ends here, or `Short` where it is not whole. It takes no memory.
-pub fn snapshot_at_end<A: Allocator>(held: Held<A>) -> Result<Snapshot<A>, DumpError>
+pub(crate) fn snapshot_at_end<A: Allocator>(held: Held<A>) -> Result<Snapshot<A>, DumpError>
     requires held { IsHeld held }
     ensures ends { EndsText (text_of held) result }
 {
