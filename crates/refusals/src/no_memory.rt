@@ -8,7 +8,7 @@ use chare_index::Index;
 use lb_certificates::{Cuts, Loads, Sizes, Snapshot, check_division, check_naming};
 use lb_database::LoadDb;
 use lb_dump::{DumpReader, write_to};
-use lb_strategy::{Decision, PlanError, check, plan};
+use lb_strategy::{Decision, check, plan};
 use refusing_alloc::{Outcome, Refusing};
 use std::alloc::{AllocError, Allocator, Global};
 use std::process::Abort;
@@ -117,14 +117,26 @@ fn is_accepted<A: Allocator>(snapshot: &Snapshot<A>, decision: &Decision<A>) -> 
         && check(snapshot, 3, decision).is_err()
 }
 
+// Whether a decision is planned for the snapshot.
+fn is_planned<A: Allocator + Copy, B: Allocator>(alloc: A, snapshot: &Snapshot<B>) -> bool {
+    plan(alloc, snapshot, 2).is_ok()
+}
+
+// Whether the decision planned for the snapshot is accepted.
+fn is_planned_well<A: Allocator + Copy>(alloc: A, snapshot: &Snapshot<A>) -> bool {
+    match &plan(alloc, snapshot, 2) {
+        Ok(decision) => is_accepted(snapshot, decision),
+        Err(_) => false,
+    }
+}
+
 #[test]
 fn a_decision_that_is_checked(rt: HostRuntime) {
-    let alloc = Refusing::new(rt.alloc(), 0);
-    let snapshot = example(&rt, &alloc);
-    let decision = plan(&alloc, &snapshot, 2).expect(&rt, "out of memory");
-    let made = alloc.requests();
-    assert!(rt; is_accepted(&snapshot, &decision));
-    assert!(rt; alloc.requests() == made);
+    let planned = Refusing::new(rt.alloc(), 0);
+    assert!(rt; is_planned(&planned, &example(&rt, &planned)));
+    let checked = Refusing::new(rt.alloc(), 0);
+    assert!(rt; is_planned_well(&checked, &example(&rt, &checked)));
+    assert!(rt; checked.requests() == planned.requests());
 }
 
 // Whether the example's costs are read without a request.
@@ -145,24 +157,28 @@ fn a_table_that_is_read(rt: HostRuntime) {
     assert!(rt; is_read(&alloc, &sizes, &cuts) == Ok(true));
 }
 
-// Whether the decision planned for the example, whose last element stays on PE 0, tells that without a request.
-fn is_told(alloc: Lent<'_>, example: &Snapshot) -> Result<bool, PlanError> {
+// Whether the last element of the example stays on PE 0 by the decision planned for it.
+fn stays<A: Allocator + Copy>(alloc: A, example: &Snapshot) -> bool {
     let Some(last) = Index::new(2) else {
-        return Ok(false);
+        return false;
     };
     if example.sizes().len() != 3 {
-        return Ok(false);
+        return false;
     }
-    let decision = plan(alloc, example, 2)?;
-    let made = alloc.requests();
-    Ok(decision.place_of(last) == pe(0) && alloc.requests() == made)
+    let Ok(decision) = plan(alloc, example, 2) else {
+        return false;
+    };
+    decision.place_of(last) == pe(0)
 }
 
 #[test]
 fn a_place_that_is_read(rt: HostRuntime) {
-    let alloc = Refusing::new(rt.alloc(), 0);
     let example = example(&rt, rt.alloc());
-    assert!(rt; is_told(&alloc, &example) == Ok(true));
+    let planned = Refusing::new(rt.alloc(), 0);
+    assert!(rt; is_planned(&planned, &example));
+    let told = Refusing::new(rt.alloc(), 0);
+    assert!(rt; stays(&told, &example));
+    assert!(rt; told.requests() == planned.requests());
 }
 
 // Whether loads of five are told without a request.
