@@ -52,91 +52,111 @@ fn stays(decision: &Decision) -> bool {
         && decision.moves.as_slice().is_empty()
 }
 
+// Whether the board decides its round, which has this number.
+fn decides(rt: &impl Abort, board: &mut Board, number: u32) -> bool {
+    board.decide() == Ok(round(rt, number))
+}
+
+// Whether each of two elements stays where it is, as this round was decided.
+fn all_stay(rt: &impl Abort, board: &Board, number: u32) -> bool {
+    match board.decision_for(round(rt, number)) {
+        Some(decision) => stays(decision),
+        None => false,
+    }
+}
+
+fn has_no_decision(rt: &impl Abort, board: &Board, number: u32) -> bool {
+    board.decision_for(round(rt, number)).is_none()
+}
+
+// A board of two elements, of which the first has reported.
+fn one_reported(rt: &(impl Abort + AllocGlobal)) -> Board {
+    let mut board = board(rt, 2, 2);
+    assert!(rt; report(rt, &mut board, 0, 1, 3, 5, 0).is_ok());
+    assert!(rt; !board.is_complete());
+    board
+}
+
 #[test]
 fn a_round_waits_for_every_report(rt: HostRuntime) {
-    let mut board = self::board(&rt, 2, 2);
-    assert_eq!(rt; report(&rt, &mut board, 0, 1, 3, 5, 0), Ok(()));
-    assert!(rt; !board.is_complete());
-    assert_eq!(rt; board.decide(), Err(BoardError::Incomplete));
-    assert_eq!(rt; report(&rt, &mut board, 1, 1, 3, 5, 1), Ok(()));
+    let mut board = one_reported(&rt);
+    assert!(rt; board.decide() == Err(BoardError::Incomplete));
+    assert!(rt; report(&rt, &mut board, 1, 1, 3, 5, 1).is_ok());
     assert!(rt; board.is_complete());
-    assert_eq!(rt;
-        report(&rt, &mut board, 1, 1, 3, 5, 1),
-        Err(BoardError::Twice)
-    );
-    assert_eq!(rt; board.decide(), Ok(round(&rt, 1)));
+    let again = report(&rt, &mut board, 1, 1, 3, 5, 1);
+    assert!(rt; again == Err(BoardError::Twice));
+    assert!(rt; decides(&rt, &mut board, 1));
     assert!(rt; !board.is_complete());
 }
 
 #[test]
 fn two_elements_stay(rt: HostRuntime) {
     let mut board = two_reported(&rt);
-    assert_eq!(rt; board.decide(), Ok(round(&rt, 1)));
-    assert_eq!(rt; board.decision_for(round(&rt, 1)).map(stays), Some(true));
-    assert!(rt; board.decision_for(round(&rt, 0)).is_none());
-    assert!(rt; board.decision_for(round(&rt, 2)).is_none());
-    assert_eq!(rt; board.finish(2), Err(BoardError::Stranger));
+    assert!(rt; decides(&rt, &mut board, 1));
+    assert!(rt; all_stay(&rt, &board, 1));
+    assert!(rt; has_no_decision(&rt, &board, 0));
+    assert!(rt; has_no_decision(&rt, &board, 2));
+    assert!(rt; board.finish(2) == Err(BoardError::Stranger));
 }
 
 #[test]
 fn three_workers_decide_the_same(rt: HostRuntime) {
-    let mut board = self::board(&rt, 2, 2);
-    assert_eq!(rt; report(&rt, &mut board, 0, 1, 3, 5, 0), Ok(()));
-    assert_eq!(rt;
-        board.decide_with(&rt, 3, &NoGate),
-        Err(BoardError::Incomplete)
-    );
-    assert_eq!(rt; report(&rt, &mut board, 1, 1, 3, 5, 1), Ok(()));
-    assert_eq!(rt; board.decide_with(&rt, 3, &NoGate), Ok(round(&rt, 1)));
+    let mut board = one_reported(&rt);
+    let early = board.decide_with(&rt, 3, &NoGate);
+    assert!(rt; early == Err(BoardError::Incomplete));
+    assert!(rt; report(&rt, &mut board, 1, 1, 3, 5, 1).is_ok());
+    let decided = board.decide_with(&rt, 3, &NoGate);
+    assert!(rt; decided == Ok(round(&rt, 1)));
     assert!(rt; !board.is_complete());
-    assert_eq!(rt; board.decision_for(round(&rt, 1)).map(stays), Some(true));
-    assert!(rt; board.decision_for(round(&rt, 2)).is_none());
+    assert!(rt; all_stay(&rt, &board, 1));
+    assert!(rt; has_no_decision(&rt, &board, 2));
+}
+
+// Of three elements the first has finished, the second not, and the third is none of the board's.
+fn only_the_first_finished(board: &Board) -> bool {
+    board.has_finished(0) == Some(true)
+        && board.has_finished(1) == Some(false)
+        && board.has_finished(2).is_none()
 }
 
 #[test]
 fn both_finish(rt: HostRuntime) {
     let mut board = self::board(&rt, 2, 2);
     assert!(rt; !board.all_finished());
-    assert_eq!(rt; board.finish(0), Ok(()));
+    assert!(rt; board.finish(0).is_ok());
     assert!(rt; !board.all_finished());
-    let who = [0, 1, 2].map(|i| board.has_finished(i));
-    assert_eq!(rt; who, [Some(true), Some(false), None]);
-    assert_eq!(rt; board.finish(1), Ok(()));
+    assert!(rt; only_the_first_finished(&board));
+    assert!(rt; board.finish(1).is_ok());
     assert!(rt; board.all_finished());
-    assert_eq!(rt; board.finish(1), Ok(()), "again");
+    assert!(rt; board.finish(1).is_ok(), "again");
     assert!(rt; board.all_finished());
 }
 
-// What the readers say of a board's present round, and of its first two elements.
-fn seen(
-    board: &Board,
-) -> (
-    Round,
-    [Option<Units>; 2],
-    [Option<(u32, Pe)>; 2],
-    usize,
-    bool,
-) {
+// Whether the first of two elements has reported in round 1, from PE 1, all that it may, and nothing else has happened.
+fn only_the_first_reported(rt: &impl Abort, board: &Board) -> bool {
+    let p1 = Pe::new(1).expect(rt, "no such PE");
     let database = board.database();
-    (
-        database.round(),
-        [0, 1].map(|i| database.load(i)),
-        [0, 1].map(|i| database.reported(i)),
-        board.rounds().len(),
-        board.all_finished(),
-    )
+    database.round() == round(rt, 1)
+        && database.load(0) == Some(4_294_967_295)
+        && database.load(1) == Some(0)
+        && database.reported(0) == Some((1_048_576, p1))
+        && database.reported(1).is_none()
+        && board.rounds().is_empty()
+        && !board.all_finished()
+}
+
+// The element of a report, its round, its size in bytes, and how it is refused.
+type Refused = (u32, u32, u32, BoardError);
+
+// Whether a report is refused so.
+fn is_refused_so(rt: &impl Abort, board: &mut Board, row: &Refused) -> bool {
+    let (element, number, bytes, error) = row;
+    report(rt, board, *element, *number, 7, *bytes, 1) == Err(*error)
 }
 
 #[test]
 fn reports_that_are_refused_charge_nothing(rt: HostRuntime) {
-    let mut board = self::board(&rt, 2, 2);
-    assert_eq!(rt;
-        report(&rt, &mut board, 0, 1, 4_294_967_295, 1_048_576, 1),
-        Ok(())
-    );
-    let before = seen(&board);
-    assert_eq!(rt; before.1, [Some(4_294_967_295), Some(0)]);
-    const REFUSED: [(u32, u32, u32, BoardError); 6] = [
+    const REFUSED: [Refused; 6] = [
         (1, 0, 5, BoardError::WrongRound),
         (1, 2, 5, BoardError::WrongRound),
         (1, 1, 1_048_577, BoardError::TooLarge),
@@ -144,15 +164,20 @@ fn reports_that_are_refused_charge_nothing(rt: HostRuntime) {
         (0, 2, 1_048_577, BoardError::WrongRound),
         (2, 2, 1_048_577, BoardError::Stranger),
     ];
-    for (i, number, bytes, error) in REFUSED {
-        let answer = report(&rt, &mut board, i, number, 7, bytes, 1);
-        assert_eq!(rt; answer, Err(error), "the report of {i} for {number}");
-        assert_eq!(rt;
-            seen(&board),
-            before,
-            "after the report of {i} for {number}"
-        );
+    let mut board = self::board(&rt, 2, 2);
+    let first = report(&rt, &mut board, 0, 1, 4_294_967_295, 1_048_576, 1);
+    assert!(rt; first.is_ok());
+    assert!(rt; only_the_first_reported(&rt, &board));
+    for row in &REFUSED {
+        assert!(rt; is_refused_so(&rt, &mut board, row), "the report {row:?}");
+        assert!(rt; only_the_first_reported(&rt, &board), "after {row:?}");
     }
+}
+
+// No element has to report: the board decides a round at once.
+fn expect_round(rt: &impl Abort, board: &mut Board, number: u32) {
+    assert!(rt; board.is_complete(), "round {number}");
+    assert!(rt; decides(rt, board, number), "round {number}");
 }
 
 #[test]
@@ -160,28 +185,32 @@ fn no_elements(rt: HostRuntime) {
     let mut board = self::board(&rt, 0, 256);
     assert!(rt; board.is_empty() && board.all_finished());
     for number in 1..4 {
-        assert!(rt; board.is_complete(), "round {number}");
-        assert_eq!(rt; board.decide(), Ok(round(&rt, number)), "round {number}");
+        expect_round(&rt, &mut board, number);
     }
-    assert_eq!(rt; board.rounds().len(), 3);
-    let third = board.decision_for(round(&rt, 3));
-    assert_eq!(rt; third.map(|d| d.division.bottleneck), Some(0));
+    assert!(rt; board.rounds().len() == 3);
+    let third = board.decision_for(round(&rt, 3)).expect(&rt, "not decided");
+    assert!(rt; third.division.bottleneck == 0);
+}
+
+// A board whose second round was decided, after an element of 9 bytes was to go to another PE.
+fn two_decided(rt: &(impl Abort + AllocGlobal)) -> Board {
+    let mut board = two_reported(rt);
+    assert!(rt; board.decide().is_ok());
+    assert!(rt; report(rt, &mut board, 1, 2, 1, 10, 0).is_ok());
+    assert!(rt; report(rt, &mut board, 0, 2, 1, 9, 0).is_ok());
+    assert!(rt; decides(rt, &mut board, 2));
+    board
 }
 
 #[test]
 fn an_element_moves(rt: HostRuntime) {
-    let mut board = two_reported(&rt);
-    assert!(rt; board.decide().is_ok());
-    assert!(rt; report(&rt, &mut board, 1, 2, 1, 10, 0).is_ok());
-    assert!(rt; report(&rt, &mut board, 0, 2, 1, 9, 0).is_ok());
-    assert_eq!(rt; board.decide(), Ok(round(&rt, 2)));
-    let rounds = board.into_rounds();
-    assert_eq!(rt; rounds.len(), 2);
+    let rounds = two_decided(&rt).into_rounds();
+    assert!(rt; rounds.len() == 2);
     let (snapshot, decision) = &rounds[1];
-    assert_eq!(rt; (snapshot.step(), snapshot.procs()), (2, 2));
-    assert_eq!(rt; snapshot.loads().as_slice(), [1, 1].as_slice());
-    assert_eq!(rt; check(snapshot, 2, decision), Ok(()));
-    assert_eq!(rt; (decision.division.bottleneck, decision.moved), (1, 9));
+    assert!(rt; snapshot.step() == 2 && snapshot.procs() == 2);
+    assert!(rt; snapshot.loads().as_slice() == [1, 1].as_slice());
+    assert!(rt; check(snapshot, 2, decision).is_ok());
+    assert!(rt; decision.division.bottleneck == 1 && decision.moved == 9);
 }
 
 // The reports of a full array on 256 PEs, where each element has as much to do as any other.
@@ -197,11 +226,18 @@ fn full_array(rt: &(impl Abort + AllocGlobal)) -> Board {
 #[test]
 fn a_full_array(rt: HostRuntime) {
     let mut board = full_array(&rt);
-    assert_eq!(rt; (board.len(), board.pes()), (65_536, 256));
-    assert_eq!(rt; board.decide(), Ok(round(&rt, 1)));
-    let (snapshot, decision) = &board.rounds()[0];
-    assert_eq!(rt; check(snapshot, 256, decision), Ok(()));
-    assert_eq!(rt; decision.division.bottleneck, 1_099_511_627_520);
+    assert!(rt; board.len() == 65_536 && board.pes() == 256);
+    assert!(rt; decides(&rt, &mut board, 1));
+    let (snapshot, decision) = board.rounds().first().expect(&rt, "no round");
+    assert!(rt; check(snapshot, 256, decision).is_ok());
+    assert!(rt; decision.division.bottleneck == 1_099_511_627_520);
+}
+
+// Whether a refusal has this number and this text.
+fn reads_so(rt: &(impl Abort + AllocGlobal), row: &(BoardError, u8, &str)) -> bool {
+    let (error, number, text) = row;
+    let said = format!(in rt.alloc(); "{error}").expect(rt, "out of memory");
+    *error as u8 == *number && said.as_str() == *text
 }
 
 #[test]
@@ -215,13 +251,7 @@ fn numbers_and_texts(rt: HostRuntime) {
         (BoardError::OutOfMemory, 6, "out of memory"),
         (BoardError::Worn, 7, "no round is left"),
     ];
-    for (error, number, text) in ERRORS {
-        assert_eq!(rt; error as u8, number, "{text}");
-        assert_eq!(rt;
-            format!(in rt.alloc(); "{error}")
-                .expect(&rt, "out of memory")
-                .as_str(),
-            text
-        );
+    for row in &ERRORS {
+        assert!(rt; reads_so(&rt, row), "{row:?}");
     }
 }

@@ -4,6 +4,7 @@ use chare_index::{Gate, Index, NoGate, opening_pe};
 use pup_pack::{Bytes, Fields, Items, Pup, PupError};
 use std::alloc::{AllocError, Allocator, Global};
 use std::marker::Model;
+use std::process::Abort;
 
 /// A state of several fields, packed field after field.
 #[derive(Drop)]
@@ -48,32 +49,78 @@ const TALLY: [u8; 21] = [
     0, 0, 0, 0, 0, 0, 0, 3, 0, 0, 0, 1, 0, 0, 0, 5, 0, 0, 0, 1, 170,
 ];
 
+// A value is packed behind a byte that is there, into just these bytes.
+fn expect_pack<T: Pup<Global>>(rt: &(impl Abort + AllocGlobal), value: &T, want: &[u8]) {
+    let mut out = Vec::from_slice(rt.alloc(), &[255]).expect(rt, "out of memory");
+    assert!(rt;
+        value.packed_len() as usize == want.len(),
+        "the length of {want:?}"
+    );
+    assert!(rt; value.pack_into(&mut out) == Ok(()), "the pack {want:?}");
+    assert!(rt;
+        out.as_slice().split_first() == Some((&255, want)),
+        "{out:?}"
+    );
+}
+
+// A value that is too long, of which this length is told, is packed into nothing.
+fn expect_too_long<T: Pup<Global>>(rt: &(impl Abort + AllocGlobal), value: &T, len: u32) {
+    let mut out = Vec::from_slice(rt.alloc(), &[255]).expect(rt, "out of memory");
+    assert!(rt; value.packed_len() == len, "the length is not {len}");
+    assert!(rt; value.pack_into(&mut out) == Err(PupError::TooLong));
+    assert!(rt; out.as_slice() == [255].as_slice());
+}
+
+// How these bytes are refused, or `None` where they are unpacked.
+fn refusal<T: Pup<Global> + Drop>(alloc: Global, bytes: &[u8]) -> Option<PupError> {
+    T::unpack(alloc, bytes).err()
+}
+
+// Each prefix of these bytes is too short.
+fn expect_short<T: Pup<Global> + Drop>(rt: &(impl Abort + AllocGlobal), bytes: &[u8]) {
+    for end in 0..bytes.len() {
+        let answer = refusal::<T>(rt.alloc(), &bytes[..end]);
+        assert!(rt; answer == Some(PupError::Short), "{end} bytes");
+    }
+}
+
+// How many items the list has that these bytes unpack to, and how many bytes it took.
+fn items_in<T: Pup<Global> + Drop>(
+    alloc: Global,
+    bytes: &[u8],
+) -> Result<(usize, usize), PupError> {
+    let (list, len) = <Items<T> as Pup<Global>>::unpack(alloc, bytes)?;
+    Ok((list.as_slice().len(), len))
+}
+
+fn bytes_of(rt: &(impl Abort + AllocGlobal), bytes: &[u8]) -> Bytes {
+    Bytes::new(Vec::from_slice(rt.alloc(), bytes).expect(rt, "out of memory"))
+}
+
+fn list_of(rt: &(impl Abort + AllocGlobal), items: &[u32]) -> Items<u32> {
+    Items::new(Vec::from_slice(rt.alloc(), items).expect(rt, "out of memory"))
+}
+
+// Whether these bytes unpack to 3, the list of 5 alone, and the byte 170.
+fn is_the_state(alloc: Global, bytes: &[u8]) -> bool {
+    let Ok((state, len)) = <Tally as Pup<Global>>::unpack(alloc, bytes) else {
+        return false;
+    };
+    let (amounts, pad) = (state.amounts.as_slice(), state.pad.as_slice());
+    state.sum == 3 && len == 21 && amounts == [5].as_slice() && pad == [170].as_slice()
+}
+
 #[test]
 fn a_state_of_several_fields(rt: HostRuntime) {
-    let tally = Tally {
-        sum: 3,
-        amounts: Items::new(Vec::from_slice(rt.alloc(), &[5]).expect(&rt, "out of memory")),
-        pad: Bytes::new(Vec::from_slice(rt.alloc(), &[170]).expect(&rt, "out of memory")),
-    };
-    let mut out = Vec::new(rt.alloc());
-    assert_eq!(rt; tally.packed_len(), 21);
-    assert_eq!(rt; tally.pack_into(&mut out), Ok(()));
-    assert_eq!(rt; out.as_slice(), TALLY.as_slice());
-    let (again, len) = <Tally as Pup<Global>>::unpack(rt.alloc(), &TALLY).expect(
-        &rt,
-        "out of memory",
-    );
-    assert_eq!(rt; (again.sum, len), (3, 21));
-    assert_eq!(rt; again.amounts.as_slice(), [5].as_slice());
-    assert_eq!(rt; again.pad.as_slice(), [170].as_slice());
+    let (amounts, pad) = (list_of(&rt, &[5]), bytes_of(&rt, &[170]));
+    let sum = 3;
+    expect_pack(&rt, &Tally { sum, amounts, pad }, &TALLY);
+    assert!(rt; is_the_state(rt.alloc(), &TALLY));
 }
 
 #[test]
 fn each_prefix_of_a_state_is_short(rt: HostRuntime) {
-    for end in 0..TALLY.len() {
-        let answer = <Tally as Pup<Global>>::unpack(rt.alloc(), &TALLY[..end]);
-        assert_eq!(rt; answer.err(), Some(PupError::Short), "{end} bytes");
-    }
+    expect_short::<Tally>(&rt, &TALLY);
 }
 
 /// A share in percent. Bytes that say more than a hundred are those of no share.
@@ -126,23 +173,43 @@ impl<A: Allocator> Pup<A> for Share {
     }
 }
 
-// What the bytes of shares unpack to.
-fn shares(alloc: Global, bytes: &[u8]) -> Result<usize, PupError> {
-    let (shares, _) = <Items<Share> as Pup<Global>>::unpack(alloc, bytes)?;
-    Ok(shares.as_slice().len())
+// Bytes of a list of shares, and how many shares they unpack to and how many bytes these took, or the refusal.
+#[derive(Debug)]
+struct Unpacked {
+    bytes: &'static [u8],
+    want: Result<(usize, usize), PupError>,
+}
+
+fn is_unpacked_so(alloc: Global, row: &Unpacked) -> bool {
+    items_in::<Share>(alloc, row.bytes) == row.want
 }
 
 #[test]
 fn bytes_of_no_value(rt: HostRuntime) {
-    const ROWS: [(&[u8], Result<usize, PupError>); 5] = [
-        (&[0, 0, 0, 2, 0, 0, 0, 100, 0, 0, 0, 0], Ok(2)),
-        (&[0, 0, 0, 2, 0, 0, 0, 101, 0, 0, 0, 0], Err(PupError::Bad)),
-        (&[0, 0, 0, 2, 0, 0, 0, 101], Err(PupError::Bad)),
-        (&[0, 0, 0, 2, 0, 0, 0, 100, 0, 0, 0], Err(PupError::Short)),
-        (&[0, 16, 0, 1, 0, 0, 0, 101], Err(PupError::TooLong)),
+    const ROWS: [Unpacked; 5] = [
+        Unpacked {
+            bytes: &[0, 0, 0, 2, 0, 0, 0, 100, 0, 0, 0, 0],
+            want: Ok((2, 12)),
+        },
+        Unpacked {
+            bytes: &[0, 0, 0, 2, 0, 0, 0, 101, 0, 0, 0, 0],
+            want: Err(PupError::Bad),
+        },
+        Unpacked {
+            bytes: &[0, 0, 0, 2, 0, 0, 0, 101],
+            want: Err(PupError::Bad),
+        },
+        Unpacked {
+            bytes: &[0, 0, 0, 2, 0, 0, 0, 100, 0, 0, 0],
+            want: Err(PupError::Short),
+        },
+        Unpacked {
+            bytes: &[0, 16, 0, 1, 0, 0, 0, 101],
+            want: Err(PupError::TooLong),
+        },
     ];
-    for (bytes, want) in ROWS {
-        assert_eq!(rt; shares(rt.alloc(), bytes), want, "{bytes:?}");
+    for row in &ROWS {
+        assert!(rt; is_unpacked_so(rt.alloc(), row), "{row:?}");
     }
 }
 
@@ -187,124 +254,112 @@ fn nothings(alloc: Global, count: u32) -> Result<Items<Nothing>, AllocError> {
 
 #[test]
 fn no_list_has_more_items_than_a_pack_has_bytes(rt: HostRuntime) {
-    let mut out = Vec::new(rt.alloc());
     let full = nothings(rt.alloc(), 1_048_576).expect(&rt, "out of memory");
-    assert_eq!(rt; full.pack_into(&mut out), Ok(()));
-    assert_eq!(rt; out.as_slice(), [0, 16, 0, 0].as_slice());
-    let (again, len) = <Items<Nothing> as Pup<Global>>::unpack(rt.alloc(), &[0, 16, 0, 0]).expect(
-        &rt,
-        "out of memory",
-    );
-    assert_eq!(rt; (again.as_slice().len(), len), (1_048_576, 4));
-    let longer = (
-        1_u32,
-        nothings(rt.alloc(), 1_048_577).expect(&rt, "out of memory"),
-    );
-    assert_eq!(rt; longer.packed_len(), 8);
-    assert_eq!(rt; longer.pack_into(&mut out), Err(PupError::TooLong));
-    assert_eq!(rt; out.as_slice(), [0, 16, 0, 0].as_slice());
-}
-
-fn list_of(alloc: Global, items: &[u32]) -> Result<Items<u32>, AllocError> {
-    Ok(Items::new(Vec::from_slice(alloc, items)?))
+    expect_pack(&rt, &full, &[0, 16, 0, 0]);
+    let again = items_in::<Nothing>(rt.alloc(), &[0, 16, 0, 0]);
+    assert!(rt; again == Ok((1_048_576, 4)));
+    let longer = nothings(rt.alloc(), 1_048_577).expect(&rt, "out of memory");
+    expect_too_long(&rt, &(1_u32, longer), 8);
 }
 
 // The list 1 2.
 const ONE_TWO: [u8; 12] = [0, 0, 0, 2, 0, 0, 0, 1, 0, 0, 0, 2];
 
+// Whether these bytes, all of them, unpack to the list 1 2.
+fn is_one_two(alloc: Global, bytes: &[u8]) -> bool {
+    let Ok((list, len)) = <Items<u32> as Pup<Global>>::unpack(alloc, bytes) else {
+        return false;
+    };
+    len == bytes.len() && list.into_vec().as_slice() == [1, 2].as_slice()
+}
+
 #[test]
 fn the_list_of_one_and_two(rt: HostRuntime) {
-    let mut out = Vec::new(rt.alloc());
-    let list = list_of(rt.alloc(), &[1, 2]).expect(&rt, "out of memory");
-    assert_eq!(rt; list.packed_len(), 12);
-    assert_eq!(rt; list.pack_into(&mut out), Ok(()));
-    assert_eq!(rt; out.as_slice(), ONE_TWO.as_slice());
-    let (again, len) = <Items<u32> as Pup<Global>>::unpack(rt.alloc(), &ONE_TWO).expect(
-        &rt,
-        "out of memory",
-    );
-    assert_eq!(rt; (again.into_vec().as_slice(), len), ([1, 2].as_slice(), 12));
-    let cut = <Items<u32> as Pup<Global>>::unpack(rt.alloc(), &ONE_TWO[..11]);
-    assert_eq!(rt; cut.err(), Some(PupError::Short));
-    let past = <Items<u32> as Pup<Global>>::unpack(rt.alloc(), &[0, 16, 0, 1]);
-    assert_eq!(rt; past.err(), Some(PupError::TooLong));
+    expect_pack(&rt, &list_of(&rt, &[1, 2]), &ONE_TWO);
+    assert!(rt; is_one_two(rt.alloc(), &ONE_TWO));
+    let cut = refusal::<Items<u32>>(rt.alloc(), &ONE_TWO[..11]);
+    assert!(rt; cut == Some(PupError::Short));
+    let past = refusal::<Items<u32>>(rt.alloc(), &[0, 16, 0, 1]);
+    assert!(rt; past == Some(PupError::TooLong));
 }
 
 // The list 1 2 and the bytes 7 8 9.
 const PAIR: [u8; 19] = [0, 0, 0, 2, 0, 0, 0, 1, 0, 0, 0, 2, 0, 0, 0, 3, 7, 8, 9];
 
+// The same, and 1 2 3 4 behind it.
+const FOLLOWED: [u8; 23] = [
+    0, 0, 0, 2, 0, 0, 0, 1, 0, 0, 0, 2, 0, 0, 0, 3, 7, 8, 9, 1, 2, 3, 4,
+];
+
 type Pair = (Items<u32>, Bytes);
+
+// Whether these bytes begin with the list 1 2 and the bytes 7 8 9.
+fn begins_with_the_pair(alloc: Global, bytes: &[u8]) -> bool {
+    let Ok(((list, pad), len)) = <Pair as Pup<Global>>::unpack(alloc, bytes) else {
+        return false;
+    };
+    let pad = pad.into_vec();
+    len == 19 && list.as_slice() == [1, 2].as_slice() && pad.as_slice() == [7, 8, 9].as_slice()
+}
 
 #[test]
 fn a_pair_of_a_list_and_bytes(rt: HostRuntime) {
-    let bytes = Bytes::new(Vec::from_slice(rt.alloc(), &[7, 8, 9]).expect(&rt, "out of memory"));
-    let pair = (
-        list_of(rt.alloc(), &[1, 2]).expect(&rt, "out of memory"),
-        bytes,
-    );
-    let mut out = Vec::from_slice(rt.alloc(), &[255]).expect(&rt, "out of memory");
-    assert_eq!(rt; pair.packed_len(), 19);
-    assert_eq!(rt; pair.pack_into(&mut out), Ok(()));
-    assert_eq!(rt; &out[..1], [255].as_slice());
-    assert_eq!(rt; &out[1..], PAIR.as_slice());
-    out.extend_from_slice(&[1, 2, 3, 4])
-        .expect(&rt, "out of memory");
-    let (again, len) = <Pair as Pup<Global>>::unpack(rt.alloc(), &out[1..]).expect(
-        &rt,
-        "out of memory",
-    );
-    assert_eq!(rt; again.0.as_slice(), [1, 2].as_slice());
-    assert_eq!(rt; again.1.into_vec().as_slice(), [7, 8, 9].as_slice());
-    assert_eq!(rt; len, 19);
+    let pair = (list_of(&rt, &[1, 2]), bytes_of(&rt, &[7, 8, 9]));
+    expect_pack(&rt, &pair, &PAIR);
+    assert!(rt; begins_with_the_pair(rt.alloc(), &FOLLOWED));
 }
 
 #[test]
 fn each_prefix_of_a_pair_is_short(rt: HostRuntime) {
-    for end in 0..PAIR.len() {
-        let answer = <Pair as Pup<Global>>::unpack(rt.alloc(), &PAIR[..end]);
-        assert_eq!(rt; answer.err(), Some(PupError::Short), "{end} bytes");
-    }
+    expect_short::<Pair>(&rt, &PAIR);
+}
+
+// Two numbers, a list of none and no bytes.
+const NUMBERS: [u8; 20] = [
+    1, 2, 3, 4, 17, 18, 19, 20, 21, 22, 23, 24, 0, 0, 0, 0, 0, 0, 0, 0,
+];
+
+type Numbers = (u32, (u64, Pair));
+
+// Whether these bytes unpack to the two numbers, a list of none and no bytes.
+fn are_the_numbers(alloc: Global, bytes: &[u8]) -> bool {
+    let Ok(((low, (high, pair)), len)) = <Numbers as Pup<Global>>::unpack(alloc, bytes) else {
+        return false;
+    };
+    let (items, pad) = (pair.0.as_slice().len(), pair.1.as_slice().len());
+    let numbers = low == 0x0102_0304 && high == 0x1112_1314_1516_1718;
+    numbers && len == 20 && items == 0 && pad == 0
 }
 
 #[test]
 fn numbers_and_empty_lists(rt: HostRuntime) {
-    let mut out = Vec::new(rt.alloc());
-    let empty = (
-        list_of(rt.alloc(), &[]).expect(&rt, "out of memory"),
-        Bytes::new(Vec::new(rt.alloc())),
-    );
-    let value = (0x0102_0304_u32, (0x1112_1314_1516_1718_u64, empty));
-    assert_eq!(rt; value.packed_len(), 20);
-    assert_eq!(rt; value.pack_into(&mut out), Ok(()));
-    let want: [u8; 20] = [
-        1, 2, 3, 4, 17, 18, 19, 20, 21, 22, 23, 24, 0, 0, 0, 0, 0, 0, 0, 0,
-    ];
-    assert_eq!(rt; out.as_slice(), want.as_slice());
-    let ((a, (b, (list, bytes))), len) = <(u32, (u64, Pair)) as Pup<Global>>::unpack(
-        rt.alloc(),
-        &want,
-    ).expect(&rt, "out of memory");
-    assert_eq!(rt; (a, b, len), (0x0102_0304, 0x1112_1314_1516_1718, 20));
-    assert_eq!(rt; (list.as_slice().len(), bytes.as_slice().len()), (0, 0));
+    let empty = (list_of(&rt, &[]), bytes_of(&rt, &[]));
+    let numbers: Numbers = (0x0102_0304, (0x1112_1314_1516_1718, empty));
+    expect_pack(&rt, &numbers, &NUMBERS);
+    assert!(rt; are_the_numbers(rt.alloc(), &NUMBERS));
+}
+
+// A list of so many sevens.
+fn sevens(rt: &(impl Abort + AllocGlobal), count: usize) -> Items<u32> {
+    Items::new(vec![in rt.alloc(); 7_u32; count].expect(rt, "out of memory"))
+}
+
+// Whether these bytes, all of them, unpack to this list.
+fn is_list(alloc: Global, bytes: &[u8], list: &Items<u32>) -> bool {
+    let Ok((again, len)) = <Items<u32> as Pup<Global>>::unpack(alloc, bytes) else {
+        return false;
+    };
+    len == bytes.len() && again.as_slice() == list.as_slice()
 }
 
 #[test]
 fn the_longest_list(rt: HostRuntime) {
-    let mut out = Vec::new(rt.alloc());
-    let longer = Items::new(vec![in rt.alloc(); 7_u32; 262_144].expect(&rt, "out of memory"));
-    assert_eq!(rt; longer.packed_len(), 1_048_577);
-    assert_eq!(rt; longer.pack_into(&mut out), Err(PupError::TooLong));
-    assert_eq!(rt; out.len(), 0);
-    let list = Items::new(vec![in rt.alloc(); 7_u32; 262_143].expect(&rt, "out of memory"));
-    assert_eq!(rt; list.packed_len(), 1_048_576);
-    assert_eq!(rt; list.pack_into(&mut out), Ok(()));
-    assert_eq!(rt; out.len(), 1_048_576);
-    let (again, len) = <Items<u32> as Pup<Global>>::unpack(rt.alloc(), &out).expect(
-        &rt,
-        "out of memory",
-    );
-    assert_eq!(rt; len, 1_048_576);
-    assert!(rt; again.as_slice() == list.as_slice());
+    expect_too_long(&rt, &sevens(&rt, 262_144), 1_048_577);
+    let (list, mut out) = (sevens(&rt, 262_143), Vec::new(rt.alloc()));
+    assert!(rt; list.packed_len() == 1_048_576);
+    assert!(rt; list.pack_into(&mut out) == Ok(()));
+    assert!(rt; out.len() == 1_048_576);
+    assert!(rt; is_list(rt.alloc(), &out, &list));
 }
 
 // The pack of two lists of 131,072 numbers each, of which neither is too long.
@@ -316,52 +371,65 @@ fn two_halves(alloc: Global) -> Result<Vec<u8>, PupError> {
     Ok(bytes)
 }
 
+// Two lists of 131,072 numbers each.
+fn halves(rt: &(impl Abort + AllocGlobal)) -> Items<Items<u32>> {
+    let mut halves = Items::new(Vec::new(rt.alloc()));
+    for _ in 0..2 {
+        let half = sevens(rt, 131_072);
+        halves.push(half).expect(rt, "out of memory");
+    }
+    halves
+}
+
 #[test]
 fn short_lists_that_are_too_long_together(rt: HostRuntime) {
     let bytes = two_halves(rt.alloc()).expect(&rt, "out of memory");
-    assert_eq!(rt; bytes.len(), 1_048_588);
-    let answer = <Items<Items<u32>> as Pup<Global>>::unpack(rt.alloc(), &bytes);
-    assert_eq!(rt; answer.err(), Some(PupError::TooLong));
-    let mut halves = Items::new(Vec::new(rt.alloc()));
-    for _ in 0..2 {
-        halves
-            .push(Items::new(vec![in rt.alloc(); 7_u32; 131_072].expect(&rt, "out of memory")))
-            .expect(&rt, "out of memory");
-    }
-    assert_eq!(rt; halves.packed_len(), 1_048_577);
-    assert_eq!(rt;
-        halves.pack_into(&mut Vec::new(rt.alloc())),
-        Err(PupError::TooLong)
-    );
+    assert!(rt; bytes.len() == 1_048_588);
+    let answer = refusal::<Items<Items<u32>>>(rt.alloc(), &bytes);
+    assert!(rt; answer == Some(PupError::TooLong));
+    expect_too_long(&rt, &halves(&rt), 1_048_577);
+}
+
+// So many bytes tell this length, and are refused so, or packed.
+fn expect_byte_list(
+    rt: &(impl Abort + AllocGlobal),
+    count: usize,
+    len: u32,
+    refusal: Option<PupError>,
+) {
+    let list = Bytes::new(vec![in rt.alloc(); 7; count].expect(rt, "out of memory"));
+    let mut out = Vec::new(rt.alloc());
+    assert!(rt; list.packed_len() == len, "the length of {count} bytes");
+    assert!(rt; list.pack_into(&mut out).err() == refusal, "{count} bytes");
 }
 
 #[test]
 fn the_longest_byte_list(rt: HostRuntime) {
-    const ROWS: [(usize, u32, Option<PupError>); 2] = [
-        (1_048_572, 1_048_576, None),
-        (1_048_573, 1_048_577, Some(PupError::TooLong)),
-    ];
-    for (count, len, refusal) in ROWS {
-        let list = Bytes::new(vec![in rt.alloc(); 7; count].expect(&rt, "out of memory"));
-        let mut out = Vec::new(rt.alloc());
-        assert_eq!(rt; list.packed_len(), len);
-        assert_eq!(rt; list.pack_into(&mut out).err(), refusal, "{count} bytes");
-    }
+    expect_byte_list(&rt, 1_048_572, 1_048_576, None);
+    expect_byte_list(&rt, 1_048_573, 1_048_577, Some(PupError::TooLong));
+}
+
+// This head, and sevens up to so many bytes, are refused so, or unpacked.
+fn expect_bytes(rt: &(impl Abort + AllocGlobal), head: &[u8], len: usize, want: Option<PupError>) {
+    let mut bytes = Vec::from_slice(rt.alloc(), head).expect(rt, "out of memory");
+    bytes.resize(len, 7).expect(rt, "out of memory");
+    let answer = refusal::<Bytes>(rt.alloc(), &bytes);
+    assert!(rt; answer == want, "{head:?} and {len} bytes");
 }
 
 #[test]
 fn the_longest_bytes(rt: HostRuntime) {
-    const ROWS: [(usize, [u8; 4], Option<PupError>); 3] = [
-        (1_048_576, [0, 15, 255, 252], None),
-        (1_048_577, [0, 15, 255, 253], Some(PupError::TooLong)),
-        (1_048_576, [0, 15, 255, 253], Some(PupError::Short)),
-    ];
-    for (len, head, refusal) in ROWS {
-        let mut bytes = Vec::from_slice(rt.alloc(), &head).expect(&rt, "out of memory");
-        bytes.resize(len, 7).expect(&rt, "out of memory");
-        let answer = <Bytes as Pup<Global>>::unpack(rt.alloc(), &bytes);
-        assert_eq!(rt; answer.err(), refusal, "{len} bytes");
-    }
+    let (too_long, short) = (Some(PupError::TooLong), Some(PupError::Short));
+    expect_bytes(&rt, &[0, 15, 255, 252], 1_048_576, None);
+    expect_bytes(&rt, &[0, 15, 255, 253], 1_048_577, too_long);
+    expect_bytes(&rt, &[0, 15, 255, 253], 1_048_576, short);
+}
+
+// Whether a refusal has this number and this text.
+fn reads_so(rt: &(impl Abort + AllocGlobal), row: &(PupError, u8, &str)) -> bool {
+    let (error, number, text) = row;
+    let said = format!(in rt.alloc(); "{error}").expect(rt, "out of memory");
+    *error as u8 == *number && said.as_str() == *text
 }
 
 #[test]
@@ -372,14 +440,8 @@ fn refusals_of_packing(rt: HostRuntime) {
         (PupError::TooLong, 3, "the packed value is too long"),
         (PupError::OutOfMemory, 4, "out of memory"),
     ];
-    for (error, number, text) in ERRORS {
-        assert_eq!(rt; error as u8, number, "{text}");
-        assert_eq!(rt;
-            format!(in rt.alloc(); "{error}")
-                .expect(&rt, "out of memory")
-                .as_str(),
-            text
-        );
+    for row in &ERRORS {
+        assert!(rt; reads_so(&rt, row), "{row:?}");
     }
 }
 
@@ -390,6 +452,12 @@ fn opening(i: u32, n: u32, p: u32) -> Option<u32> {
         return Some(opening_pe(index, n, p).get());
     }
     None
+}
+
+// Whether an element of so many, on so many PEs, begins on this PE.
+fn begins_there(row: &(u32, u32, u32, u32)) -> bool {
+    let (element, elements, pes, pe) = row;
+    opening(*element, *elements, *pes) == Some(*pe)
 }
 
 #[test]
@@ -404,8 +472,8 @@ fn the_opening_places(rt: HostRuntime) {
         (1, 2, 256, 128),
         (65_535, 65_536, 256, 255),
     ];
-    for (i, n, p, pe) in ROWS {
-        assert_eq!(rt; opening(i, n, p), Some(pe), "element {i} of {n} on {p} PEs");
+    for row in &ROWS {
+        assert!(rt; begins_there(row), "element, elements, PEs, PE: {row:?}");
     }
     NoGate.pass(7);
 }

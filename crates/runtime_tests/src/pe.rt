@@ -25,19 +25,24 @@ fn resume<H: Openings<Tally>>(rt: &impl Abort, at: &mut PeState<Tally, H>, e: u3
     let (index, round) = (index(rt, e), round(rt, number));
     assert!(rt; round.get() < 2);
     assert!(rt; at.may_resume(index, round));
-    assert_eq!(rt; at.resume(&NoGate, index, round), Ok(()));
+    assert!(rt; at.resume(&NoGate, index, round).is_ok());
     assert!(rt; !at.may_resume(index, round));
 }
 
-// Acts, with enough memory.
-fn act<H: Openings<Tally>>(rt: &impl Abort, at: &mut PeState<Tally, H>) -> Option<Acted> {
-    at.act(&NoGate).expect(rt, "refused")
+// Acts so, with enough memory.
+fn expect_act<H: Openings<Tally>>(
+    rt: &impl Abort,
+    at: &mut PeState<Tally, H>,
+    want: Option<Acted>,
+) {
+    let acted = at.act(&NoGate).expect(rt, "refused");
+    assert!(rt; acted == want, "{acted:?} in place of {want:?}");
 }
 
 // The element that is looked for is believed to be there.
 fn look<H: Openings<Tally>>(rt: &impl Abort, at: &mut PeState<Tally, H>, e: u32, believed: u32) {
     let to = pe(rt, believed);
-    assert_eq!(rt; at.wants(), Some(index(rt, e)));
+    assert!(rt; at.wants() == Some(index(rt, e)));
     assert!(rt; at.wants().is_some());
     assert!(rt; to.get() < at.pes());
     at.look(to);
@@ -49,7 +54,7 @@ fn deliver<H: Openings<Tally>>(
     from: &mut PeState<Tally, H>,
     to: &mut PeState<Tally, H>,
 ) {
-    assert_eq!(rt; from.front_out(), Some(to.me()));
+    assert!(rt; from.front_out() == Some(to.me()));
     assert!(rt; from.front_out().is_some());
     let parcel = from.sent();
     assert!(rt; to.hand().is_none());
@@ -59,7 +64,7 @@ fn deliver<H: Openings<Tally>>(
 
 // The same, where it goes to the PE itself.
 fn deliver_to_itself<H: Openings<Tally>>(rt: &impl Abort, at: &mut PeState<Tally, H>) {
-    assert_eq!(rt; at.front_out(), Some(at.me()));
+    assert!(rt; at.front_out() == Some(at.me()));
     assert!(rt; at.front_out().is_some());
     let parcel = at.sent();
     assert!(rt; at.hand().is_none());
@@ -71,7 +76,7 @@ fn depart<H: Openings<Tally>>(rt: &impl Abort, at: &mut PeState<Tally, H>, e: u3
     let (index, to) = (index(rt, e), pe(rt, place));
     assert!(rt; to.get() < at.pes());
     assert!(rt; at.may_depart(index));
-    assert_eq!(rt; at.depart(index, to), Ok(()));
+    assert!(rt; at.depart(index, to).is_ok());
     assert!(rt; !at.may_depart(index));
 }
 
@@ -88,13 +93,13 @@ fn send_in_vain<H: Openings<Tally>>(rt: &impl Abort, at: &mut PeState<Tally, H>)
     let (address, waiting) = (at.front_out(), at.outbox().len());
     assert!(rt; at.front_out().is_some());
     let parcel = at.sent();
-    assert_eq!(rt; at.kept(), address);
-    assert_eq!(rt; at.outbox().len() + 1, waiting);
+    assert!(rt; at.kept() == address);
+    assert!(rt; at.outbox().len() + 1 == waiting);
     assert!(rt; at.kept().is_some());
     at.hand_back(parcel);
-    assert_eq!(rt; at.kept(), None);
-    assert_eq!(rt; at.front_out(), address);
-    assert_eq!(rt; at.outbox().len(), waiting);
+    assert!(rt; at.kept().is_none());
+    assert!(rt; at.front_out() == address);
+    assert!(rt; at.outbox().len() == waiting);
 }
 
 // A PE of two, with one tally.
@@ -113,9 +118,31 @@ fn opened<H: Openings<Tally>>(
     opened
         .place(index(rt, me), tally)
         .expect(rt, "out of memory");
-    assert_eq!(rt; (opened.room().len(), opened.count()), (1, 0));
-    assert_eq!(rt; act(rt, &mut opened), None);
+    assert!(rt; opened.room().len() == 1 && opened.count() == 0);
+    expect_act(rt, &mut opened, None);
     opened
+}
+
+// Element 0 starts and sends its first amount to element 1, which has not started: its letter stays in the hand.
+fn start_first<H: Openings<Tally>>(
+    rt: &impl Abort,
+    low: &mut PeState<Tally, H>,
+    high: &mut PeState<Tally, H>,
+) {
+    resume(rt, low, 0, 0);
+    assert!(rt; low.front_out().is_none());
+    look(rt, low, 1, 1);
+    send_in_vain(rt, low);
+    deliver(rt, low, high);
+    expect_act(rt, high, None);
+    assert!(rt; high.hand().is_some());
+}
+
+// Element 1 starts, and gets the letter in the hand.
+fn start_second<H: Openings<Tally>>(rt: &impl Abort, high: &mut PeState<Tally, H>) {
+    resume(rt, high, 1, 0);
+    expect_act(rt, high, Some(Acted::Executed));
+    assert!(rt; high.hand().is_none());
 }
 
 // Both elements start and send their first amounts to each other. Element 1 gets its letter before it starts; then it
@@ -130,21 +157,29 @@ fn both_started<H: Openings<Tally>>(
 {
     let mut low = opened::<H>(rt, 0, first);
     let mut high = opened::<H>(rt, 1, second);
-    resume(rt, &mut low, 0, 0);
-    assert_eq!(rt; low.front_out(), None);
-    look(rt, &mut low, 1, 1);
-    send_in_vain(rt, &mut low);
-    deliver(rt, &mut low, &mut high);
-    assert_eq!(rt; act(rt, &mut high), None);
-    assert!(rt; high.hand().is_some());
-    resume(rt, &mut high, 1, 0);
-    assert_eq!(rt; act(rt, &mut high), Some(Acted::Executed));
-    assert!(rt; high.hand().is_none());
+    start_first(rt, &mut low, &mut high);
+    start_second(rt, &mut high);
     (low, high)
 }
 
 // Element 1 departs for PE 0, and its letter to element 0 before it arrives and ends the round of that one, which
 // sends its second amount to element 1.
+fn leave<H: Openings<Tally>>(
+    rt: &impl Abort,
+    low: &mut PeState<Tally, H>,
+    high: &mut PeState<Tally, H>,
+) {
+    depart(rt, high, 1, 0);
+    assert!(rt; high.room().is_empty());
+    assert!(rt; high.outbox().len() == 2);
+    look(rt, high, 0, 0);
+    deliver(rt, high, low);
+    expect_act(rt, low, Some(Acted::Executed));
+    resume(rt, low, 0, 1);
+    assert!(rt; low.count() == 2 && high.count() == 1);
+}
+
+// Both elements have started, and element 1 has departed.
 fn departed<H: Openings<Tally>>(
     rt: &(impl Abort + AllocGlobal),
     first: Tally,
@@ -154,14 +189,7 @@ fn departed<H: Openings<Tally>>(
     requires opening { H.opened ≡ first ∷ second ∷ [] }
 {
     let (mut low, mut high) = both_started::<H>(rt, first, second);
-    depart(rt, &mut high, 1, 0);
-    assert!(rt; high.room().is_empty());
-    assert_eq!(rt; high.outbox().len(), 2);
-    look(rt, &mut high, 0, 0);
-    deliver(rt, &mut high, &mut low);
-    assert_eq!(rt; act(rt, &mut low), Some(Acted::Executed));
-    resume(rt, &mut low, 0, 1);
-    assert_eq!(rt; (low.count(), high.count()), (2, 1));
+    leave(rt, &mut low, &mut high);
     (low, high)
 }
 
@@ -171,10 +199,10 @@ fn starts<H: Openings<Tally>>(rt: &(impl Abort + AllocGlobal), first: Tally, sec
     requires opening { H.opened ≡ first ∷ second ∷ [] }
 {
     let (low, mut high) = both_started::<H>(rt, first, second);
-    assert_eq!(rt; (low.count(), high.count()), (1, 1));
+    assert!(rt; low.count() == 1 && high.count() == 1);
     let note = hand_in(rt, &mut high);
     let owed = Note::Sync(index(rt, 1), round(rt, 1), 5, 32, pe(rt, 1));
-    assert_eq!(rt; note, owed);
+    assert!(rt; note == owed);
     assert!(rt; high.next_note().is_none());
 }
 
@@ -187,31 +215,48 @@ fn a_letter_waits_for_its_element_to_start(rt: HostRuntime) {
 // The marks of element 1 after its move, and the sum that it took along.
 fn moved<H: Openings<Tally>>(rt: &impl Abort, at: &PeState<Tally, H>, sum: u64, entries: usize) {
     let element = at.room().element(index(rt, 1)).expect(rt, "not here");
-    assert_eq!(rt; element.chare().sum(), sum);
-    assert_eq!(rt; element.journal().len(), entries);
+    assert!(rt; element.chare().sum() == sum);
+    assert!(rt; element.journal().len() == entries);
     let synced = Note::Sync(index(rt, 1), round(rt, 1), 5, 32, pe(rt, 1));
     let marks = [Mark::Resumed(round(rt, 0), pe(rt, 1)), Mark::Synced(synced)];
-    assert_eq!(rt; element.marks(), marks.as_slice());
+    assert!(rt; element.marks() == marks.as_slice());
 }
 
-// The second letter to element 1 is forwarded behind it.
+// The second letter to element 1 comes where that was, and is forwarded behind it.
+fn forward<H: Openings<Tally>>(
+    rt: &impl Abort,
+    low: &mut PeState<Tally, H>,
+    high: &mut PeState<Tally, H>,
+) {
+    look(rt, low, 1, 1);
+    deliver(rt, low, high);
+    expect_act(rt, high, None);
+    look(rt, high, 1, 0);
+    expect_act(rt, high, Some(Acted::Forwarded));
+}
+
+// Element 1 arrives, and its letter after it.
+fn arrive<H: Openings<Tally>>(
+    rt: &impl Abort,
+    low: &mut PeState<Tally, H>,
+    high: &mut PeState<Tally, H>,
+) {
+    deliver(rt, high, low);
+    expect_act(rt, low, Some(Acted::Installed));
+    moved(rt, low, 5, 2);
+    deliver(rt, high, low);
+    expect_act(rt, low, Some(Acted::Executed));
+    moved(rt, low, 11, 3);
+    assert!(rt; low.room().len() == 2);
+}
+
 fn follows<H: Openings<Tally>>(rt: &(impl Abort + AllocGlobal), first: Tally, second: Tally)
     requires pes { H.pes ≡ 2 }
     requires opening { H.opened ≡ first ∷ second ∷ [] }
 {
     let (mut low, mut high) = departed::<H>(rt, first, second);
-    look(rt, &mut low, 1, 1);
-    deliver(rt, &mut low, &mut high);
-    assert_eq!(rt; act(rt, &mut high), None);
-    look(rt, &mut high, 1, 0);
-    assert_eq!(rt; act(rt, &mut high), Some(Acted::Forwarded));
-    deliver(rt, &mut high, &mut low);
-    assert_eq!(rt; act(rt, &mut low), Some(Acted::Installed));
-    moved(rt, &low, 5, 2);
-    deliver(rt, &mut high, &mut low);
-    assert_eq!(rt; act(rt, &mut low), Some(Acted::Executed));
-    moved(rt, &low, 11, 3);
-    assert_eq!(rt; low.room().len(), 2);
+    forward(rt, &mut low, &mut high);
+    arrive(rt, &mut low, &mut high);
 }
 
 #[test]
@@ -221,24 +266,42 @@ fn a_letter_follows_its_element(rt: HostRuntime) {
 }
 
 // The second letter to element 1 is at its new place before it, and waits on the shelf.
+fn shelve<H: Openings<Tally>>(rt: &impl Abort, low: &mut PeState<Tally, H>) {
+    look(rt, low, 1, 0);
+    deliver_to_itself(rt, low);
+    look(rt, low, 1, 0);
+    expect_act(rt, low, Some(Acted::Shelved));
+    assert!(rt; low.shelf().len() == 1 && low.outbox().is_empty());
+}
+
+// Element 1 arrives, and its letter leaves the shelf.
+fn install<H: Openings<Tally>>(
+    rt: &impl Abort,
+    low: &mut PeState<Tally, H>,
+    high: &mut PeState<Tally, H>,
+) {
+    deliver(rt, high, low);
+    expect_act(rt, low, Some(Acted::Installed));
+    assert!(rt; low.shelf().is_empty() && low.outbox().len() == 1);
+}
+
+// Element 1 gets its letter, which ends its round, and goes on.
+fn go_on<H: Openings<Tally>>(rt: &impl Abort, low: &mut PeState<Tally, H>) {
+    deliver_to_itself(rt, low);
+    expect_act(rt, low, Some(Acted::Executed));
+    moved(rt, low, 11, 3);
+    resume(rt, low, 1, 1);
+    assert!(rt; low.count() == 3);
+}
+
 fn waits<H: Openings<Tally>>(rt: &(impl Abort + AllocGlobal), first: Tally, second: Tally)
     requires pes { H.pes ≡ 2 }
     requires opening { H.opened ≡ first ∷ second ∷ [] }
 {
     let (mut low, mut high) = departed::<H>(rt, first, second);
-    look(rt, &mut low, 1, 0);
-    deliver_to_itself(rt, &mut low);
-    look(rt, &mut low, 1, 0);
-    assert_eq!(rt; act(rt, &mut low), Some(Acted::Shelved));
-    assert_eq!(rt; (low.shelf().len(), low.outbox().len()), (1, 0));
-    deliver(rt, &mut high, &mut low);
-    assert_eq!(rt; act(rt, &mut low), Some(Acted::Installed));
-    assert_eq!(rt; (low.shelf().len(), low.outbox().len()), (0, 1));
-    deliver_to_itself(rt, &mut low);
-    assert_eq!(rt; act(rt, &mut low), Some(Acted::Executed));
-    moved(rt, &low, 11, 3);
-    resume(rt, &mut low, 1, 1);
-    assert_eq!(rt; low.count(), 3);
+    shelve(rt, &mut low);
+    install(rt, &mut low, &mut high);
+    go_on(rt, &mut low);
 }
 
 #[test]

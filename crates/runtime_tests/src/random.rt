@@ -55,13 +55,17 @@ impl Happened {
 
     // Each of these was reported more than a few times.
     fn often(&self, rt: &impl Abort) {
-        assert!(rt; self.executed > 50, "{} executed", self.executed);
-        assert!(rt; self.forwarded > 5, "{} forwarded", self.forwarded);
-        assert!(rt; self.shelved > 5, "{} shelved", self.shelved);
-        assert!(rt; self.installed > 20, "{} installed", self.installed);
-        assert!(rt; self.decided > 10, "{} decided", self.decided);
-        assert!(rt; self.resumed > 20, "{} resumed", self.resumed);
+        expect_more(rt, self.executed, 50, "executed");
+        expect_more(rt, self.forwarded, 5, "forwarded");
+        expect_more(rt, self.shelved, 5, "shelved");
+        expect_more(rt, self.installed, 20, "installed");
+        expect_more(rt, self.decided, 10, "decided");
+        expect_more(rt, self.resumed, 20, "resumed");
     }
+}
+
+fn expect_more(rt: &impl Abort, number: u32, few: u32, what: &str) {
+    assert!(rt; number > few, "{number} {what}");
 }
 
 // One event, with all that must be so after it.

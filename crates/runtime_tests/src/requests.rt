@@ -2,10 +2,11 @@
 
 ghost use Rattle.std.specs.Prelude.{◌≡◌};
 
-use crate::fixtures::{elements, pes, relay, round};
+use crate::fixtures::{elements, index, pe, pes, relay, round};
 use crate::relay::Relay;
-use crate::seen::look_around;
-use crate::steps::opened;
+use crate::seen::{Seen, look_around};
+use crate::steps::{expect_reports, opened};
+use chare_index::{Index, Pe};
 use chares::{Openings, Report};
 use refusing_alloc::Refusing;
 use rts_core::{Event, StepError, World};
@@ -27,7 +28,7 @@ impl Meter<'_> {
     // After a call that made its requests from `start` on, none of which was refused.
     fn made(&self, rt: &impl Abort, start: u64, requests: u64, what: &str) {
         let end = self.alloc.requests();
-        assert_eq!(rt; end.wrapping_sub(start), requests, "{what}");
+        assert!(rt; end.wrapping_sub(start) == requests, "{what}");
         assert!(rt;
             self.turn <= start || end < self.turn,
             "a refusal was not told: {what}"
@@ -37,7 +38,7 @@ impl Meter<'_> {
     // After a call that was refused: it made no request after the one that is refused.
     fn refused(&self, rt: &impl Abort, start: u64, what: &str) {
         assert!(rt; start < self.turn, "refused before its turn: {what}");
-        assert_eq!(rt; self.alloc.requests(), self.turn, "{what}");
+        assert!(rt; self.alloc.requests() == self.turn, "{what}");
     }
 }
 
@@ -50,19 +51,38 @@ fn take_one<H: Openings<Relay<A>>, A: Allocator + Copy>(
 ) {
     let (event, want, requests) = step;
     let (start, before) = (meter.alloc.requests(), look_around(rt, world));
-    let error = match world.step(*event) {
+    match world.step(*event) {
         Ok(reports) => {
-            assert_eq!(rt; reports.as_slice(), *want);
+            expect_reports(rt, event, reports.as_slice(), *want);
             meter.made(rt, start, *requests, "an event");
-            return;
         }
-        Err(error) => error,
-    };
-    meter.refused(rt, start, "an event");
-    assert_eq!(rt; error, StepError::OutOfMemory);
-    assert_eq!(rt; look_around(rt, world).as_slice(), before.as_slice());
+        Err(error) => {
+            meter.refused(rt, start, "an event");
+            assert!(rt; error == StepError::OutOfMemory);
+            assert!(rt; is_as_before(rt, world, before.as_slice()));
+            take_again(rt, world, event, *want);
+        }
+    }
+}
+
+// Whether a world is seen as it was before.
+fn is_as_before<H: Openings<Relay<A>>, A: Allocator + Copy>(
+    rt: &(impl Abort + AllocGlobal),
+    world: &World<Relay<A>, H, A>,
+    before: &[Seen],
+) -> bool {
+    look_around(rt, world).as_slice() == before
+}
+
+// Takes a step that is not refused again.
+fn take_again<H: Openings<Relay<A>>, A: Allocator + Copy>(
+    rt: &impl Abort,
+    world: &mut World<Relay<A>, H, A>,
+    event: &Event,
+    want: &[Report],
+) {
     let reports = world.step(*event).expect(rt, "refused again");
-    assert_eq!(rt; reports.as_slice(), *want);
+    expect_reports(rt, event, reports.as_slice(), want);
 }
 
 fn take<H: Openings<Relay<A>>, A: Allocator + Copy>(
@@ -88,26 +108,28 @@ fn three<A: Allocator + Copy>(alloc: A) -> Result<Vec<Relay<A>, A>, AllocError> 
     Ok(relays)
 }
 
-// All start, each of which posts a letter to its neighbor.
+// A relay starts on this PE, and posts a letter to its neighbor.
+fn start_one<H: Openings<Relay<A>>, A: Allocator + Copy>(
+    rt: &(impl Abort + AllocGlobal),
+    meter: &Meter<'_>,
+    world: &mut World<Relay<A>, H, A>,
+    p: Pe,
+    e: Index,
+    to: Index,
+) {
+    let started = [Report::Resumed(e, round(rt, 0)), Report::Posted((p, 0), to)];
+    take(rt, meter, world, &[(Event::Start(p, e), &started, 6)]);
+}
+
 fn start<H: Openings<Relay<A>>, A: Allocator + Copy>(
     rt: &(impl Abort + AllocGlobal),
     meter: &Meter<'_>,
     world: &mut World<Relay<A>, H, A>,
 ) {
     let ((p0, p1, p2), (e0, e1, e2)) = (pes(rt), elements(rt));
-    let r0 = round(rt, 0);
-    for (p, e, to) in [(p0, e0, e1), (p1, e1, e2), (p2, e2, e0)] {
-        take(
-            rt,
-            meter,
-            world,
-            &[(
-                Event::Start(p, e),
-                &[Report::Resumed(e, r0), Report::Posted((p, 0), to)],
-                6,
-            )],
-        );
-    }
+    start_one(rt, meter, world, p0, e0, e1);
+    start_one(rt, meter, world, p1, e1, e2);
+    start_one(rt, meter, world, p2, e2, e0);
 }
 
 // The first round is decided: with no load, all belong on PE 0.
@@ -118,19 +140,16 @@ fn decide<H: Openings<Relay<A>>, A: Allocator + Copy>(
 ) {
     let ((p0, p1, p2), (e0, e1, e2)) = (pes(rt), elements(rt));
     let r1 = round(rt, 1);
-    for (p, e) in [(p0, e0), (p1, e1), (p2, e2)] {
-        take(
-            rt,
-            meter,
-            world,
-            &[(Event::Report(p), &[Report::Synced(e, r1)], 1)],
-        );
-    }
     take(
         rt,
         meter,
         world,
-        &[(Event::Decide, &[Report::Decided(r1)], 20)],
+        &[
+            (Event::Report(p0), &[Report::Synced(e0, r1)], 1),
+            (Event::Report(p1), &[Report::Synced(e1, r1)], 1),
+            (Event::Report(p2), &[Report::Synced(e2, r1)], 1),
+            (Event::Decide, &[Report::Decided(r1)], 20),
+        ],
     );
 }
 
@@ -158,13 +177,13 @@ fn execute<H: Openings<Relay<A>>, A: Allocator + Copy>(
     );
 }
 
-// A letter comes before its element, which then arrives.
+// A letter comes before its element.
 fn shelve<H: Openings<Relay<A>>, A: Allocator + Copy>(
     rt: &(impl Abort + AllocGlobal),
     meter: &Meter<'_>,
     world: &mut World<Relay<A>, H, A>,
 ) {
-    let ((p0, p1, p2), (_, _, e2)) = (pes(rt), elements(rt));
+    let ((p0, p1, p2), e2) = (pes(rt), index(rt, 2));
     take(
         rt,
         meter,
@@ -176,6 +195,22 @@ fn shelve<H: Openings<Relay<A>>, A: Allocator + Copy>(
             (Event::Deliver(p0), &[], 0),
             (Event::Look(p0), &[], 0),
             (Event::Act(p0), &[Report::Shelved((p1, 0))], 2),
+        ],
+    );
+}
+
+// That element arrives.
+fn install<H: Openings<Relay<A>>, A: Allocator + Copy>(
+    rt: &(impl Abort + AllocGlobal),
+    meter: &Meter<'_>,
+    world: &mut World<Relay<A>, H, A>,
+) {
+    let (p0, p2, e2) = (pe(rt, 0), pe(rt, 2), index(rt, 2));
+    take(
+        rt,
+        meter,
+        world,
+        &[
             (Event::Flush(p2), &[], 0),
             (Event::Deliver(p0), &[], 0),
             (Event::Act(p0), &[Report::Installed(e2)], 3),
@@ -183,14 +218,13 @@ fn shelve<H: Openings<Relay<A>>, A: Allocator + Copy>(
     );
 }
 
-// A letter comes where its element was, and is forwarded. Then the element that stays goes on, which posts a letter.
+// A letter comes where its element was, and is forwarded.
 fn forward<H: Openings<Relay<A>>, A: Allocator + Copy>(
     rt: &(impl Abort + AllocGlobal),
     meter: &Meter<'_>,
     world: &mut World<Relay<A>, H, A>,
 ) {
-    let ((p0, p1, _), (e0, e1, _)) = (pes(rt), elements(rt));
-    let r1 = round(rt, 1);
+    let (p0, p1, e1) = (pe(rt, 0), pe(rt, 1), index(rt, 1));
     take(
         rt,
         meter,
@@ -202,13 +236,22 @@ fn forward<H: Openings<Relay<A>>, A: Allocator + Copy>(
             (Event::Deliver(p1), &[], 0),
             (Event::Look(p1), &[], 0),
             (Event::Act(p1), &[Report::Forwarded((p0, 0))], 1),
-            (
-                Event::Resume(p0, e0),
-                &[Report::Resumed(e0, r1), Report::Posted((p0, 2), e1)],
-                2,
-            ),
         ],
     );
+}
+
+// The element that stays goes on, which posts a letter.
+fn go_on<H: Openings<Relay<A>>, A: Allocator + Copy>(
+    rt: &(impl Abort + AllocGlobal),
+    meter: &Meter<'_>,
+    world: &mut World<Relay<A>, H, A>,
+) {
+    let (p0, e0, e1) = (pe(rt, 0), index(rt, 0), index(rt, 1));
+    let resumed = [
+        Report::Resumed(e0, round(rt, 1)),
+        Report::Posted((p0, 2), e1),
+    ];
+    take(rt, meter, world, &[(Event::Resume(p0, e0), &resumed, 2)]);
 }
 
 // The world opens and takes all these steps.
@@ -231,7 +274,9 @@ fn script<H: Openings<Relay<A>>, A: Allocator + Copy>(
     decide(rt, meter, &mut world);
     execute(rt, meter, &mut world);
     shelve(rt, meter, &mut world);
+    install(rt, meter, &mut world);
     forward(rt, meter, &mut world);
+    go_on(rt, meter, &mut world);
 }
 
 // The script where this request is refused, or none. It returns how many requests were made.
@@ -251,7 +296,10 @@ fn turn(rt: &(impl Abort + AllocGlobal), number: u64) -> u64 {
 
 #[test]
 fn each_request_of_each_event(rt: HostRuntime) {
-    assert_eq!(rt; turn(&rt, 0), 72, "4 of the chares and those of each call");
+    assert!(rt;
+        turn(&rt, 0) == 72,
+        "4 of the chares and those of each call"
+    );
     for number in 1..73 {
         let _made = turn(&rt, number);
     }

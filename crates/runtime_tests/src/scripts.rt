@@ -2,13 +2,15 @@
 
 ghost use Rattle.std.specs.Prelude.{◌≡◌};
 
-use crate::fixtures::{elements, pes, round, tally};
-use crate::steps::{account, opened, take};
+use crate::fixtures::{elements, index, pe, pes, round, tally};
+use crate::steps::{has_account, opened, take};
 use crate::tally::Tally;
+use chare_index::{Index, Pe};
 use chares::{Openings, Report};
 use lb_certificates::Floor;
+use lb_strategy::Decision;
 use refusing_alloc::Refusing;
-use rts_core::{Account, Event, World};
+use rts_core::{Event, World};
 use std::alloc::{AllocError, Allocator, Global};
 use std::marker::Brand;
 use std::process::Abort;
@@ -16,13 +18,45 @@ use std::process::Abort;
 // The three tallies of the scripts, of 32, 40 and 32 bytes.
 fn three_tallies<A: Allocator + Copy>(alloc: A) -> Result<Vec<Tally<A>, A>, AllocError> {
     let mut tallies = Vec::with_capacity(alloc, 3)?;
-    for (first, pad) in [(1, 0), (1, 8), (0, 0)] {
-        let next = tally(alloc, &[first, 0], pad)?;
-        if tallies.push(next).is_err() {
-            return Err(AllocError);
-        }
-    }
+    add_tally(alloc, &mut tallies, 1, 0)?;
+    add_tally(alloc, &mut tallies, 1, 8)?;
+    add_tally(alloc, &mut tallies, 0, 0)?;
     Ok(tallies)
+}
+
+// Adds a tally with this first amount, and so many bytes of padding.
+fn add_tally<A: Allocator + Copy>(
+    alloc: A,
+    tallies: &mut Vec<Tally<A>, A>,
+    first: u32,
+    pad: usize,
+) -> Result<(), AllocError> {
+    let next = tally(alloc, &[first, 0], pad)?;
+    if tallies.push(next).is_err() {
+        return Err(AllocError);
+    }
+    Ok(())
+}
+
+// A tally starts on this PE, and posts its first amount to its neighbor.
+fn start_one<H: Openings<Tally<A>>, A: Allocator + Copy>(
+    rt: &impl Abort,
+    world: &mut World<Tally<A>, H, A>,
+    p: Pe,
+    e: Index,
+    to: Index,
+) -> bool {
+    let started = [Report::Resumed(e, round(rt, 0)), Report::Posted((p, 0), to)];
+    take(rt, world, &[(Event::Start(p, e), &started)])
+}
+
+// The letter of this PE is looked for, and goes into a queue.
+fn send<H: Openings<Tally<A>>, A: Allocator + Copy>(
+    rt: &impl Abort,
+    world: &mut World<Tally<A>, H, A>,
+    p: Pe,
+) -> bool {
+    take(rt, world, &[(Event::Look(p), &[]), (Event::Flush(p), &[])])
 }
 
 // Each tally starts on its PE, and posts its first amount to its neighbor.
@@ -31,29 +65,29 @@ fn start<H: Openings<Tally<A>>, A: Allocator + Copy>(
     world: &mut World<Tally<A>, H, A>,
 ) -> bool {
     let ((p0, p1, p2), (e0, e1, e2)) = (pes(rt), elements(rt));
-    let r0 = round(rt, 0);
-    let mut refused = take(
+    let mut refused = start_one(rt, world, p0, e0, e1);
+    refused |= start_one(rt, world, p1, e1, e2);
+    refused |= start_one(rt, world, p2, e2, e0);
+    refused |= send(rt, world, p0);
+    refused |= send(rt, world, p1);
+    refused |= send(rt, world, p2);
+    refused
+}
+
+// The first letter of PE `from` comes to its element on this PE, which executes it.
+fn execute_one<H: Openings<Tally<A>>, A: Allocator + Copy>(
+    rt: &impl Abort,
+    world: &mut World<Tally<A>, H, A>,
+    p: Pe,
+    e: Index,
+    from: Pe,
+) -> bool {
+    let executed = [Report::Executed((from, 0), e)];
+    take(
         rt,
         world,
-        &[
-            (
-                Event::Start(p0, e0),
-                &[Report::Resumed(e0, r0), Report::Posted((p0, 0), e1)],
-            ),
-            (
-                Event::Start(p1, e1),
-                &[Report::Resumed(e1, r0), Report::Posted((p1, 0), e2)],
-            ),
-            (
-                Event::Start(p2, e2),
-                &[Report::Resumed(e2, r0), Report::Posted((p2, 0), e0)],
-            ),
-        ],
-    );
-    for p in [p0, p1, p2] {
-        refused |= take(rt, world, &[(Event::Look(p), &[]), (Event::Flush(p), &[])]);
-    }
-    refused
+        &[(Event::Deliver(p), &[]), (Event::Act(p), &executed)],
+    )
 }
 
 // The first amounts arrive.
@@ -62,31 +96,14 @@ fn execute<H: Openings<Tally<A>>, A: Allocator + Copy>(
     world: &mut World<Tally<A>, H, A>,
 ) -> bool {
     let ((p0, p1, p2), (e0, e1, e2)) = (pes(rt), elements(rt));
-    let refused = take(
-        rt,
-        world,
-        &[
-            (Event::Deliver(p0), &[]),
-            (Event::Act(p0), &[Report::Executed((p2, 0), e0)]),
-            (Event::Deliver(p1), &[]),
-            (Event::Act(p1), &[Report::Executed((p0, 0), e1)]),
-            (Event::Deliver(p2), &[]),
-            (Event::Act(p2), &[Report::Executed((p1, 0), e2)]),
-        ],
-    );
-    assert_eq!(rt; account(world), (3, 3, 0));
-    assert_eq!(rt;
-        world.account(),
-        Account {
-            posted: 3,
-            executed: 3,
-            held: 0
-        }
-    );
+    let mut refused = execute_one(rt, world, p0, e0, p2);
+    refused |= execute_one(rt, world, p1, e1, p0);
+    refused |= execute_one(rt, world, p2, e2, p1);
+    assert!(rt; has_account(world, 3, 3, 0));
     refused
 }
 
-// The first round is decided, and the tally that stays where it is goes on.
+// The board is told that each tally waits for the end of the first round, which is decided.
 fn decide<H: Openings<Tally<A>>, A: Allocator + Copy>(
     rt: &impl Abort,
     world: &mut World<Tally<A>, H, A>,
@@ -101,31 +118,50 @@ fn decide<H: Openings<Tally<A>>, A: Allocator + Copy>(
             (Event::Report(p1), &[Report::Synced(e1, r1)]),
             (Event::Report(p2), &[Report::Synced(e2, r1)]),
             (Event::Decide, &[Report::Decided(r1)]),
-            (
-                Event::Resume(p2, e2),
-                &[Report::Resumed(e2, r1), Report::Posted((p2, 1), e0)],
-            ),
         ],
     )
 }
 
-// The decision of the first round.
-fn decided<H: Openings<Tally<A>>, A: Allocator + Copy>(
+// The tally that stays where it is goes on after the first round.
+fn go_on<H: Openings<Tally<A>>, A: Allocator + Copy>(
+    rt: &impl Abort,
+    world: &mut World<Tally<A>, H, A>,
+) -> bool {
+    let (p2, e0, e2) = (pe(rt, 2), index(rt, 0), index(rt, 2));
+    let resumed = [
+        Report::Resumed(e2, round(rt, 1)),
+        Report::Posted((p2, 1), e0),
+    ];
+    take(rt, world, &[(Event::Resume(p2, e2), &resumed)])
+}
+
+// Whether a floor is a fence of these stops.
+fn is_fence<A: Allocator>(floor: &Floor<A>, want: &[u32]) -> bool {
+    match floor {
+        Floor::Fence(stops) => stops.as_slice() == want,
+        Floor::Zero => false,
+    }
+}
+
+// Whether a decision is what the loads ask for: tallies 0 and 1 belong on PE 1, and tally 2 stays on PE 2.
+fn is_first_decision<A: Allocator>(decision: &Decision<A>) -> bool {
+    let division = &decision.division;
+    division.bottleneck == 1
+        && decision.moved == 32
+        && division.cuts.as_slice() == [0, 2, 3, 3].as_slice()
+        && decision.naming.as_slice() == [1, 2, 0].as_slice()
+        && is_fence(&division.floor, &[0, 1, 1, 1])
+}
+
+// Whether the first round is decided, and so.
+fn is_decided<H: Openings<Tally<A>>, A: Allocator + Copy>(
     rt: &impl Abort,
     world: &World<Tally<A>, H, A>,
-) {
-    let decision = world
-        .board()
-        .decision_for(round(rt, 1))
-        .expect(rt, "not decided");
-    assert_eq!(rt; (decision.division.bottleneck, decision.moved), (1, 32));
-    assert_eq!(rt; decision.division.cuts.as_slice(), [0, 2, 3, 3].as_slice());
-    assert_eq!(rt; decision.naming.as_slice(), [1, 2, 0].as_slice());
-    let stops = match &decision.division.floor {
-        Floor::Fence(stops) => stops.as_slice(),
-        Floor::Zero => &[],
-    };
-    assert_eq!(rt; stops, [0, 1, 1, 1].as_slice());
+) -> bool {
+    match world.board().decision_for(round(rt, 1)) {
+        Some(decision) => is_first_decision(decision),
+        None => false,
+    }
 }
 
 // The opening of both scripts. Returns whether a step was refused.
@@ -133,29 +169,22 @@ fn open<H: Openings<Tally<A>>, A: Allocator + Copy>(
     rt: &impl Abort,
     world: &mut World<Tally<A>, H, A>,
 ) -> bool {
-    assert_eq!(rt; account(world), (0, 0, 0));
-    assert_eq!(rt;
-        world.account(),
-        Account {
-            posted: 0,
-            executed: 0,
-            held: 0
-        }
-    );
+    assert!(rt; has_account(world, 0, 0, 0));
     let mut refused = start(rt, world);
     refused |= execute(rt, world);
     refused |= decide(rt, world);
-    decided(rt, world);
+    refused |= go_on(rt, world);
+    assert!(rt; is_decided(rt, world));
     refused
 }
 
 // A letter to element 0 is looked for after that has departed, and comes before it.
-fn come_before<H: Openings<Tally<A>>, A: Allocator + Copy>(
+fn overtake<H: Openings<Tally<A>>, A: Allocator + Copy>(
     rt: &impl Abort,
     world: &mut World<Tally<A>, H, A>,
 ) -> bool {
-    let ((p0, p1, p2), (e0, _, _)) = (pes(rt), elements(rt));
-    let refused = take(
+    let ((p0, p1, p2), e0) = (pes(rt), index(rt, 0));
+    take(
         rt,
         world,
         &[
@@ -165,6 +194,20 @@ fn come_before<H: Openings<Tally<A>>, A: Allocator + Copy>(
             (Event::Deliver(p1), &[]),
             (Event::Look(p1), &[]),
             (Event::Act(p1), &[Report::Shelved((p2, 1))]),
+        ],
+    )
+}
+
+// Then element 0 arrives, and gets its letter.
+fn arrive_second<H: Openings<Tally<A>>, A: Allocator + Copy>(
+    rt: &impl Abort,
+    world: &mut World<Tally<A>, H, A>,
+) -> bool {
+    let ((p0, p1, p2), e0) = (pes(rt), index(rt, 0));
+    take(
+        rt,
+        world,
+        &[
             (Event::Flush(p0), &[]),
             (Event::Deliver(p1), &[]),
             (Event::Act(p1), &[Report::Installed(e0)]),
@@ -172,26 +215,26 @@ fn come_before<H: Openings<Tally<A>>, A: Allocator + Copy>(
             (Event::Deliver(p1), &[]),
             (Event::Act(p1), &[Report::Executed((p2, 1), e0)]),
         ],
-    );
-    assert_eq!(rt; account(world), (4, 4, 0));
-    assert_eq!(rt;
-        world.account(),
-        Account {
-            posted: 4,
-            executed: 4,
-            held: 0
-        }
-    );
-    refused
+    )
 }
 
-// A letter to element 0 is looked for before that departs, and follows it.
-fn follow<H: Openings<Tally<A>>, A: Allocator + Copy>(
+fn come_before<H: Openings<Tally<A>>, A: Allocator + Copy>(
     rt: &impl Abort,
     world: &mut World<Tally<A>, H, A>,
 ) -> bool {
-    let ((p0, p1, p2), (e0, _, _)) = (pes(rt), elements(rt));
-    let refused = take(
+    let mut refused = overtake(rt, world);
+    refused |= arrive_second(rt, world);
+    assert!(rt; has_account(world, 4, 4, 0));
+    refused
+}
+
+// A letter to element 0 is looked for before that departs, and comes where it was.
+fn miss<H: Openings<Tally<A>>, A: Allocator + Copy>(
+    rt: &impl Abort,
+    world: &mut World<Tally<A>, H, A>,
+) -> bool {
+    let (p0, p2, e0) = (pe(rt, 0), pe(rt, 2), index(rt, 0));
+    take(
         rt,
         world,
         &[
@@ -201,6 +244,20 @@ fn follow<H: Openings<Tally<A>>, A: Allocator + Copy>(
             (Event::Deliver(p0), &[]),
             (Event::Look(p0), &[]),
             (Event::Act(p0), &[Report::Forwarded((p2, 1))]),
+        ],
+    )
+}
+
+// It follows element 0, which arrives first.
+fn arrive_first<H: Openings<Tally<A>>, A: Allocator + Copy>(
+    rt: &impl Abort,
+    world: &mut World<Tally<A>, H, A>,
+) -> bool {
+    let ((p0, p1, p2), e0) = (pes(rt), index(rt, 0));
+    take(
+        rt,
+        world,
+        &[
             (Event::Flush(p0), &[]),
             (Event::Flush(p0), &[]),
             (Event::Deliver(p1), &[]),
@@ -208,16 +265,16 @@ fn follow<H: Openings<Tally<A>>, A: Allocator + Copy>(
             (Event::Deliver(p1), &[]),
             (Event::Act(p1), &[Report::Executed((p2, 1), e0)]),
         ],
-    );
-    assert_eq!(rt; account(world), (4, 4, 0));
-    assert_eq!(rt;
-        world.account(),
-        Account {
-            posted: 4,
-            executed: 4,
-            held: 0
-        }
-    );
+    )
+}
+
+fn follow<H: Openings<Tally<A>>, A: Allocator + Copy>(
+    rt: &impl Abort,
+    world: &mut World<Tally<A>, H, A>,
+) -> bool {
+    let mut refused = miss(rt, world);
+    refused |= arrive_first(rt, world);
+    assert!(rt; has_account(world, 4, 4, 0));
     refused
 }
 
@@ -227,10 +284,7 @@ fn comes_before<H: Openings<Tally>>(rt: &(impl Abort + AllocGlobal), chares: Vec
 {
     let world = opened::<Tally, H, Global>(rt, rt.alloc(), 3, chares);
     let mut world = world.expect(rt, "out of memory");
-    assert!(rt;
-        !open(rt, &mut world) && !come_before(rt, &mut world),
-        "refused"
-    );
+    assert!(rt; !first_script(rt, &mut world), "refused");
 }
 
 fn follows<H: Openings<Tally>>(rt: &(impl Abort + AllocGlobal), chares: Vec<Tally>)
@@ -254,6 +308,16 @@ fn a_letter_that_follows_its_element(rt: HostRuntime) {
     follows::<Brand>(&rt, chares);
 }
 
+// Returns whether a step of the first script was refused.
+fn first_script<H: Openings<Tally<A>>, A: Allocator + Copy>(
+    rt: &impl Abort,
+    world: &mut World<Tally<A>, H, A>,
+) -> bool {
+    let mut refused = open(rt, world);
+    refused |= come_before(rt, world);
+    refused
+}
+
 // The first script over an allocator that refuses one request. Returns whether a call was refused.
 fn refused_once<H: Openings<Tally<A>>, A: Allocator + Copy>(
     rt: &impl Abort,
@@ -266,7 +330,7 @@ fn refused_once<H: Openings<Tally<A>>, A: Allocator + Copy>(
     let Ok(mut world) = opened::<Tally<A>, H, A>(rt, alloc, 3, chares) else {
         return true;
     };
-    open(rt, &mut world) | come_before(rt, &mut world)
+    first_script(rt, &mut world)
 }
 
 // The same, where the chares are made of that memory too.
@@ -277,13 +341,18 @@ fn script<A: Allocator + Copy>(rt: &impl Abort, alloc: A) -> bool {
     refused_once::<Brand, A>(rt, alloc, chares)
 }
 
+// Whether a call of the script was refused, where this request is.
+fn is_refused(rt: &(impl Abort + AllocGlobal), turn: u64) -> bool {
+    let alloc = Refusing::new(rt.alloc(), turn);
+    let refused = script(rt, &alloc);
+    assert!(rt; refused == alloc.has_refused(), "request {turn}");
+    refused
+}
+
 #[test]
 fn each_request_of_a_script_refused(rt: HostRuntime) {
     for turn in 1..400 {
-        let alloc = Refusing::new(rt.alloc(), turn);
-        let refused = script(&rt, &alloc);
-        assert_eq!(rt; refused, alloc.has_refused(), "request {turn}");
-        if !refused {
+        if !is_refused(&rt, turn) {
             assert!(rt; turn > 60, "the script makes more requests");
             return;
         }

@@ -9,7 +9,7 @@ use std::alloc::Allocator;
 use std::process::Abort;
 
 /// Where a letter or an element is.
-#[derive(Clone, Copy, Debug, PartialEq, Eq)]
+#[derive(Clone, Copy, PartialEq, Eq)]
 pub(crate) enum Place {
     /// In the room of this PE.
     Room(Pe),
@@ -24,7 +24,7 @@ pub(crate) enum Place {
 }
 
 /// One thing that is seen in a world.
-#[derive(Clone, Copy, Debug, PartialEq, Eq)]
+#[derive(Clone, Copy, PartialEq, Eq)]
 pub(crate) enum Seen {
     /// A letter of this number, for this element, waits somewhere.
     Letter(LetterId, Index),

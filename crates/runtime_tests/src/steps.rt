@@ -4,12 +4,17 @@ ghost use Rattle.std.specs.Prelude.{◌≡◌};
 
 use chare_index::Pe;
 use chares::{Carried, Chare, Entry, Letter, Openings, Report};
-use rts_core::{Event, Parcel, PeState, Queue, Room, StepError, World};
+use rts_core::{Account, Event, Parcel, PeState, Queue, Room, StepError, World};
 use std::alloc::{AllocError, Allocator};
 use std::process::Abort;
 
 /// An event, and its reports in order.
 pub(crate) type Step<'a> = (Event, &'a [Report]);
+
+/// An event had just these reports.
+pub(crate) fn expect_reports(rt: &impl Abort, event: &Event, found: &[Report], want: &[Report]) {
+    assert!(rt; found == want, "{event:?} had {found:?}");
+}
 
 // Takes one step, which has just these reports, and returns whether it was refused once for memory. Then the account is
 // as before, and the same event has its reports.
@@ -22,15 +27,15 @@ fn take_one<C: Chare<A>, H: Openings<C>, A: Allocator + Copy>(
     let before = account(world);
     let refused = match world.step(*event) {
         Ok(reports) => {
-            assert_eq!(rt; reports.as_slice(), want);
+            expect_reports(rt, event, reports.as_slice(), want);
             return false;
         }
         Err(error) => error,
     };
-    assert_eq!(rt; refused, StepError::OutOfMemory);
-    assert_eq!(rt; account(world), before);
+    assert!(rt; refused == StepError::OutOfMemory);
+    assert!(rt; account(world) == before);
     let reports = world.step(*event).expect(rt, "refused again");
-    assert_eq!(rt; reports.as_slice(), want);
+    expect_reports(rt, event, reports.as_slice(), want);
     true
 }
 
@@ -41,8 +46,7 @@ pub(crate) fn take<C: Chare<A>, H: Openings<C>, A: Allocator + Copy>(
     steps: &[Step<'_>],
 ) -> bool {
     let mut refused = false;
-    for i in 0..steps.len() {
-        let (event, want) = &steps[i];
+    for (event, want) in steps {
         refused |= take_one(rt, world, event, *want);
     }
     refused
@@ -57,8 +61,8 @@ pub(crate) fn run<C: Chare<A>, H: Openings<C>, A: Allocator + Copy>(
     assert!(rt; !take(rt, world, steps), "refused");
 }
 
-/// How many letters were posted, executed, and are held, counted one by one where they are.
-pub(crate) fn account<C: Chare<A>, H: Openings<C>, A: Allocator + Copy>(
+// How many letters were posted, executed, and are held, counted one by one where they are.
+fn account<C: Chare<A>, H: Openings<C>, A: Allocator + Copy>(
     world: &World<C, H, A>,
 ) -> (u64, u64, u64) {
     let mut count = Count::default();
@@ -72,6 +76,21 @@ pub(crate) fn account<C: Chare<A>, H: Openings<C>, A: Allocator + Copy>(
         }
     }
     (count.posted, count.executed, count.held)
+}
+
+/// Whether so many letters were posted, executed, and are held, both counted one by one and as the world tells.
+pub(crate) fn has_account<C: Chare<A>, H: Openings<C>, A: Allocator + Copy>(
+    world: &World<C, H, A>,
+    posted: u64,
+    executed: u64,
+    held: u64,
+) -> bool {
+    let told = Account {
+        posted,
+        executed,
+        held,
+    };
+    account(world) == (posted, executed, held) && world.account() == told
 }
 
 /// A world that opens with these chares.

@@ -4,12 +4,25 @@ ghost use Rattle.std.specs.Prelude.{◌≡◌};
 
 use crate::courier::Courier;
 use crate::fixtures::{courier, elements, index, pe, pes, round};
-use crate::steps::{account, opened, run};
+use crate::steps::{has_account, opened, run};
+use chare_index::{Index, Pe};
 use chares::{Openings, Report};
-use rts_core::{Account, Event, StepError, World};
+use rts_core::{Event, StepError, World};
 use std::alloc::Global;
 use std::marker::Brand;
 use std::process::Abort;
+
+// A world of so many PEs that opens with these chares.
+fn world<H: Openings<Courier>>(
+    rt: &(impl Abort + AllocGlobal),
+    pes: u32,
+    chares: Vec<Courier>,
+) -> World<Courier, H>
+    requires run { pes ≡ H.pes }
+    requires opened { chares.items ≡ H.opened }
+{
+    opened::<Courier, H, Global>(rt, rt.alloc(), pes, chares).expect(rt, "out of memory")
+}
 
 // The first element starts, which sends what must not be sent: it is refused for that, and nothing was posted.
 fn refused<H: Openings<Courier>>(
@@ -20,21 +33,10 @@ fn refused<H: Openings<Courier>>(
     requires run { H.pes ≡ 1 }
     requires opened { chares.items ≡ H.opened }
 {
-    let mut world = opened::<Courier, H, Global>(rt, rt.alloc(), 1, chares).expect(
-        rt,
-        "out of memory",
-    );
+    let mut world = self::world::<H>(rt, 1, chares);
     let answer = world.step(Event::Start(pe(rt, 0), index(rt, 0)));
-    assert_eq!(rt; answer.err(), Some(want));
-    assert_eq!(rt; account(&world), (0, 0, 0));
-    assert_eq!(rt;
-        world.account(),
-        Account {
-            posted: 0,
-            executed: 0,
-            held: 0
-        }
-    );
+    assert!(rt; answer.err() == Some(want));
+    assert!(rt; has_account(&world, 0, 0, 0));
 }
 
 fn one(rt: &(impl Abort + AllocGlobal), chare: Courier) -> Vec<Courier> {
@@ -61,34 +63,28 @@ fn a_body_that_is_too_long(rt: HostRuntime) {
     refused::<Brand>(&rt, chares, StepError::TooLong);
 }
 
-// The first element starts, though its send is refused, which it passes over.
-fn starts<H: Openings<Courier>>(rt: &(impl Abort + AllocGlobal), chares: Vec<Courier>)
-    requires run { H.pes ≡ 1 }
-    requires opened { chares.items ≡ H.opened }
-{
-    let mut world = opened::<Courier, H, Global>(rt, rt.alloc(), 1, chares).expect(
-        rt,
-        "out of memory",
-    );
+// The first element starts, once, and syncs.
+fn start_and_sync<H: Openings<Courier>>(rt: &impl Abort, world: &mut World<Courier, H>) {
     let (p0, e0) = (pe(rt, 0), index(rt, 0));
     run(
         rt,
-        &mut world,
+        world,
         &[
             (Event::Start(p0, e0), &[Report::Resumed(e0, round(rt, 0))]),
             (Event::Start(p0, e0), &[]),
             (Event::Report(p0), &[Report::Synced(e0, round(rt, 1))]),
         ],
     );
-    assert_eq!(rt; account(&world), (0, 0, 0));
-    assert_eq!(rt;
-        world.account(),
-        Account {
-            posted: 0,
-            executed: 0,
-            held: 0
-        }
-    );
+}
+
+// The first element starts, though its send is refused, which it passes over.
+fn starts<H: Openings<Courier>>(rt: &(impl Abort + AllocGlobal), chares: Vec<Courier>)
+    requires run { H.pes ≡ 1 }
+    requires opened { chares.items ≡ H.opened }
+{
+    let mut world = self::world::<H>(rt, 1, chares);
+    start_and_sync(rt, &mut world);
+    assert!(rt; has_account(&world, 0, 0, 0));
 }
 
 #[test]
@@ -110,62 +106,64 @@ fn three_to(rt: &(impl Abort + AllocGlobal), to: u32) -> Vec<Courier> {
     chares
 }
 
-// Events on a PE or an element that is not there, or that are not enabled.
-fn nothing_happens<H: Openings<Courier>>(rt: &(impl Abort + AllocGlobal), chares: Vec<Courier>)
-    requires run { H.pes ≡ 3 }
-    requires opened { chares.items ≡ H.opened }
-{
-    let mut world = opened::<Courier, H, Global>(rt, rt.alloc(), 3, chares).expect(
-        rt,
-        "out of memory",
-    );
-    let ((p0, p1, _), (e0, _, _)) = (pes(rt), elements(rt));
-    let (p3, e3) = (pe(rt, 3), index(rt, 3));
-    for event in [
+// None of these events has a report.
+fn expect_nothing<H: Openings<Courier>>(
+    rt: &impl Abort,
+    world: &mut World<Courier, H>,
+    events: &[Event],
+) {
+    for event in events {
+        run(rt, world, &[(*event, &[])]);
+    }
+}
+
+// Events on a PE or of an element that is not there.
+fn strange_events<H: Openings<Courier>>(rt: &impl Abort, world: &mut World<Courier, H>) {
+    let (p0, p3, e0, e3) = (pe(rt, 0), pe(rt, 3), index(rt, 0), index(rt, 3));
+    let on_no_pe = [
         Event::Look(p3),
         Event::Flush(p3),
         Event::Deliver(p3),
         Event::Act(p3),
         Event::Report(p3),
-    ] {
-        run(rt, &mut world, &[(event, &[])]);
-    }
-    for event in [
+    ];
+    expect_nothing(rt, world, &on_no_pe);
+    let of_a_stranger = [
         Event::Start(p3, e0),
         Event::Depart(p3, e0),
         Event::Resume(p3, e0),
         Event::Start(p0, e3),
-    ] {
-        run(rt, &mut world, &[(event, &[])]);
-    }
-    for event in [
         Event::Depart(p0, e3),
         Event::Resume(p0, e3),
+    ];
+    expect_nothing(rt, world, &of_a_stranger);
+    assert!(rt; world.pe(p3).is_none() && world.queue(p3).is_none() && world.word(e3).is_none());
+}
+
+// Events that are not enabled before anything has started.
+fn early_events<H: Openings<Courier>>(rt: &impl Abort, world: &mut World<Courier, H>) {
+    let (p0, p1, e0) = (pe(rt, 0), pe(rt, 1), index(rt, 0));
+    let early = [
         Event::Start(p1, e0),
         Event::Resume(p0, e0),
-    ] {
-        run(rt, &mut world, &[(event, &[])]);
-    }
-    for event in [
         Event::Look(p0),
         Event::Flush(p0),
         Event::Deliver(p0),
         Event::Act(p0),
         Event::Report(p0),
         Event::Decide,
-    ] {
-        run(rt, &mut world, &[(event, &[])]);
-    }
-    assert_eq!(rt; account(&world), (0, 0, 0));
-    assert_eq!(rt;
-        world.account(),
-        Account {
-            posted: 0,
-            executed: 0,
-            held: 0
-        }
-    );
-    assert!(rt; world.pe(p3).is_none() && world.queue(p3).is_none() && world.word(e3).is_none());
+    ];
+    expect_nothing(rt, world, &early);
+}
+
+fn nothing_happens<H: Openings<Courier>>(rt: &(impl Abort + AllocGlobal), chares: Vec<Courier>)
+    requires run { H.pes ≡ 3 }
+    requires opened { chares.items ≡ H.opened }
+{
+    let mut world = self::world::<H>(rt, 3, chares);
+    strange_events(rt, &mut world);
+    early_events(rt, &mut world);
+    assert!(rt; has_account(&world, 0, 0, 0));
 }
 
 #[test]
@@ -174,25 +172,18 @@ fn events_that_are_not_enabled_change_nothing(rt: HostRuntime) {
     nothing_happens::<Brand>(&rt, chares);
 }
 
-// A letter reaches the PE of its element before that has started, and stays in the hand until it starts.
-fn waits_in_the_hand<H: Openings<Courier>>(rt: &(impl Abort + AllocGlobal), chares: Vec<Courier>)
-    requires run { H.pes ≡ 3 }
-    requires opened { chares.items ≡ H.opened }
-{
-    let mut world = opened::<Courier, H, Global>(rt, rt.alloc(), 3, chares).expect(
-        rt,
-        "out of memory",
-    );
-    let ((p0, p1, _), (e0, e1, _)) = (pes(rt), elements(rt));
-    let r0 = round(rt, 0);
+// A letter reaches the PE of its element before that has started, and stays in the hand.
+fn reach_the_hand<H: Openings<Courier>>(rt: &impl Abort, world: &mut World<Courier, H>) {
+    let (p0, p1, e0, e1) = (pe(rt, 0), pe(rt, 1), index(rt, 0), index(rt, 1));
+    let started = [
+        Report::Resumed(e0, round(rt, 0)),
+        Report::Posted((p0, 0), e1),
+    ];
     run(
         rt,
-        &mut world,
+        world,
         &[
-            (
-                Event::Start(p0, e0),
-                &[Report::Resumed(e0, r0), Report::Posted((p0, 0), e1)],
-            ),
+            (Event::Start(p0, e0), &started),
             (Event::Look(p0), &[]),
             (Event::Flush(p0), &[]),
             (Event::Deliver(p1), &[]),
@@ -200,35 +191,34 @@ fn waits_in_the_hand<H: Openings<Courier>>(rt: &(impl Abort + AllocGlobal), char
             (Event::Act(p1), &[]),
         ],
     );
-    assert_eq!(rt; account(&world), (1, 0, 1));
-    assert_eq!(rt;
-        world.account(),
-        Account {
-            posted: 1,
-            executed: 0,
-            held: 1
-        }
-    );
+    assert!(rt; has_account(world, 1, 0, 1));
+}
+
+// The element starts, and gets its letter.
+fn leave_the_hand<H: Openings<Courier>>(rt: &impl Abort, world: &mut World<Courier, H>) {
+    let (p0, p1, e1) = (pe(rt, 0), pe(rt, 1), index(rt, 1));
+    let started = [
+        Report::Resumed(e1, round(rt, 0)),
+        Report::Posted((p1, 0), e1),
+    ];
     run(
         rt,
-        &mut world,
+        world,
         &[
-            (
-                Event::Start(p1, e1),
-                &[Report::Resumed(e1, r0), Report::Posted((p1, 0), e1)],
-            ),
+            (Event::Start(p1, e1), &started),
             (Event::Act(p1), &[Report::Executed((p0, 0), e1)]),
         ],
     );
-    assert_eq!(rt; account(&world), (2, 1, 1));
-    assert_eq!(rt;
-        world.account(),
-        Account {
-            posted: 2,
-            executed: 1,
-            held: 1
-        }
-    );
+    assert!(rt; has_account(world, 2, 1, 1));
+}
+
+fn waits_in_the_hand<H: Openings<Courier>>(rt: &(impl Abort + AllocGlobal), chares: Vec<Courier>)
+    requires run { H.pes ≡ 3 }
+    requires opened { chares.items ≡ H.opened }
+{
+    let mut world = self::world::<H>(rt, 3, chares);
+    reach_the_hand(rt, &mut world);
+    leave_the_hand(rt, &mut world);
 }
 
 #[test]
@@ -237,62 +227,56 @@ fn a_letter_waits_in_the_hand_for_its_element_to_start(rt: HostRuntime) {
     waits_in_the_hand::<Brand>(&rt, chares);
 }
 
-// All three start and wait for the end of round 1, which is decided: with no load, all belong on PE 0.
-fn all_wait<H: Openings<Courier>>(
-    rt: &(impl Abort + AllocGlobal),
+// An element starts on this PE, posts its letter, and waits for the end of round 1.
+fn start_and_wait<H: Openings<Courier>>(
+    rt: &impl Abort,
     world: &mut World<Courier, H>,
-    to: u32,
+    p: Pe,
+    e: Index,
+    to: Index,
 ) {
-    let ((p0, p1, p2), (e0, e1, e2)) = (pes(rt), elements(rt));
-    let (r0, r1, to) = (round(rt, 0), round(rt, 1), index(rt, to));
-    for (p, e) in [(p0, e0), (p1, e1), (p2, e2)] {
-        run(
-            rt,
-            world,
-            &[
-                (
-                    Event::Start(p, e),
-                    &[Report::Resumed(e, r0), Report::Posted((p, 0), to)],
-                ),
-                (Event::Report(p), &[Report::Synced(e, r1)]),
-            ],
-        );
-    }
-    run(rt, world, &[(Event::Decide, &[Report::Decided(r1)])]);
+    let started = [Report::Resumed(e, round(rt, 0)), Report::Posted((p, 0), to)];
+    run(rt, world, &[(Event::Start(p, e), &started)]);
+    let synced = [Report::Synced(e, round(rt, 1))];
+    run(rt, world, &[(Event::Report(p), &synced)]);
 }
 
-// Letters to element 2 come to PE 0 before it does, from each PE, and are executed in the order in which they came.
-fn wait_on_the_shelf<H: Openings<Courier>>(rt: &(impl Abort + AllocGlobal), chares: Vec<Courier>)
-    requires run { H.pes ≡ 3 }
-    requires opened { chares.items ≡ H.opened }
-{
-    let mut world = opened::<Courier, H, Global>(rt, rt.alloc(), 3, chares).expect(
-        rt,
-        "out of memory",
-    );
-    let ((p0, p1, p2), (_, _, e2)) = (pes(rt), elements(rt));
-    all_wait(rt, &mut world, 2);
+// All three start and wait for the end of round 1, which is decided: with no load, all belong on PE 0.
+fn all_wait<H: Openings<Courier>>(rt: &impl Abort, world: &mut World<Courier, H>, to: u32) {
+    let ((p0, p1, p2), (e0, e1, e2)) = (pes(rt), elements(rt));
+    let to = index(rt, to);
+    start_and_wait(rt, world, p0, e0, to);
+    start_and_wait(rt, world, p1, e1, to);
+    start_and_wait(rt, world, p2, e2, to);
     run(
         rt,
-        &mut world,
-        &[(Event::Depart(p2, e2), &[Report::Departed(e2)])],
+        world,
+        &[(Event::Decide, &[Report::Decided(round(rt, 1))])],
     );
-    for p in [p1, p0] {
-        run(
-            rt,
-            &mut world,
-            &[
-                (Event::Look(p), &[]),
-                (Event::Flush(p), &[]),
-                (Event::Deliver(p0), &[]),
-                (Event::Look(p0), &[]),
-                (Event::Act(p0), &[Report::Shelved((p, 0))]),
-            ],
-        );
-    }
+}
+
+// The letter of this PE comes to PE 0, before its element does.
+fn come_to_the_shelf<H: Openings<Courier>>(rt: &impl Abort, world: &mut World<Courier, H>, p: Pe) {
+    let p0 = pe(rt, 0);
     run(
         rt,
-        &mut world,
+        world,
+        &[
+            (Event::Look(p), &[]),
+            (Event::Flush(p), &[]),
+            (Event::Deliver(p0), &[]),
+            (Event::Look(p0), &[]),
+            (Event::Act(p0), &[Report::Shelved((p, 0))]),
+        ],
+    );
+}
+
+// The letter of PE 2 comes to PE 0 just before its element, which then arrives.
+fn follow_to_the_shelf<H: Openings<Courier>>(rt: &impl Abort, world: &mut World<Courier, H>) {
+    let (p0, p2, e2) = (pe(rt, 0), pe(rt, 2), index(rt, 2));
+    run(
+        rt,
+        world,
         &[
             (Event::Look(p2), &[]),
             (Event::Flush(p2), &[]),
@@ -304,26 +288,42 @@ fn wait_on_the_shelf<H: Openings<Courier>>(rt: &(impl Abort + AllocGlobal), char
             (Event::Act(p0), &[Report::Installed(e2)]),
         ],
     );
-    for p in [p1, p0, p2] {
-        run(
-            rt,
-            &mut world,
-            &[
-                (Event::Flush(p0), &[]),
-                (Event::Deliver(p0), &[]),
-                (Event::Act(p0), &[Report::Executed((p, 0), e2)]),
-            ],
-        );
-    }
-    assert_eq!(rt; account(&world), (3, 3, 0));
-    assert_eq!(rt;
-        world.account(),
-        Account {
-            posted: 3,
-            executed: 3,
-            held: 0
-        }
+}
+
+// The letter of this PE to element 2 leaves the shelf of PE 0 and is executed there.
+fn leave_the_shelf<H: Openings<Courier>>(rt: &impl Abort, world: &mut World<Courier, H>, p: Pe) {
+    let (p0, e2) = (pe(rt, 0), index(rt, 2));
+    run(
+        rt,
+        world,
+        &[
+            (Event::Flush(p0), &[]),
+            (Event::Deliver(p0), &[]),
+            (Event::Act(p0), &[Report::Executed((p, 0), e2)]),
+        ],
     );
+}
+
+// Letters to element 2 come to PE 0 before it does, from each PE, and are executed in the order in which they came.
+fn wait_on_the_shelf<H: Openings<Courier>>(rt: &(impl Abort + AllocGlobal), chares: Vec<Courier>)
+    requires run { H.pes ≡ 3 }
+    requires opened { chares.items ≡ H.opened }
+{
+    let mut world = self::world::<H>(rt, 3, chares);
+    let ((p0, p1, p2), e2) = (pes(rt), index(rt, 2));
+    all_wait(rt, &mut world, 2);
+    run(
+        rt,
+        &mut world,
+        &[(Event::Depart(p2, e2), &[Report::Departed(e2)])],
+    );
+    come_to_the_shelf(rt, &mut world, p1);
+    come_to_the_shelf(rt, &mut world, p0);
+    follow_to_the_shelf(rt, &mut world);
+    leave_the_shelf(rt, &mut world, p1);
+    leave_the_shelf(rt, &mut world, p0);
+    leave_the_shelf(rt, &mut world, p2);
+    assert!(rt; has_account(&world, 3, 3, 0));
 }
 
 #[test]
@@ -332,8 +332,44 @@ fn letters_leave_the_shelf_in_order(rt: HostRuntime) {
     wait_on_the_shelf::<Brand>(&rt, chares);
 }
 
-// Element 1 gets its letter, and so finishes, while it waits for the end of round 1. It departs and goes on all the same,
-// and syncs no more.
+// Element 1 gets its letter, and so finishes, while it waits for the end of round 1. It syncs no more.
+fn finish_while_it_waits<H: Openings<Courier>>(rt: &impl Abort, world: &mut World<Courier, H>) {
+    let (p1, e1) = (pe(rt, 1), index(rt, 1));
+    run(
+        rt,
+        world,
+        &[
+            (Event::Look(p1), &[]),
+            (Event::Flush(p1), &[]),
+            (Event::Deliver(p1), &[]),
+            (Event::Act(p1), &[Report::Executed((p1, 0), e1)]),
+            (Event::Report(p1), &[]),
+        ],
+    );
+}
+
+// It departs and goes on all the same.
+fn depart_and_go_on<H: Openings<Courier>>(rt: &impl Abort, world: &mut World<Courier, H>) {
+    let (p0, p1, e1) = (pe(rt, 0), pe(rt, 1), index(rt, 1));
+    let resumed = [
+        Report::Resumed(e1, round(rt, 1)),
+        Report::Posted((p0, 1), e1),
+    ];
+    run(
+        rt,
+        world,
+        &[
+            (Event::Depart(p1, e1), &[Report::Departed(e1)]),
+            (Event::Flush(p1), &[]),
+            (Event::Deliver(p0), &[]),
+            (Event::Act(p0), &[Report::Installed(e1)]),
+            (Event::Resume(p0, e1), &resumed),
+            (Event::Report(p0), &[]),
+        ],
+    );
+    assert!(rt; world.word(e1) == Some(p0));
+}
+
 fn goes_on_after_it_has_finished<H: Openings<Courier>>(
     rt: &(impl Abort + AllocGlobal),
     chares: Vec<Courier>,
@@ -341,35 +377,11 @@ fn goes_on_after_it_has_finished<H: Openings<Courier>>(
     requires run { H.pes ≡ 3 }
     requires opened { chares.items ≡ H.opened }
 {
-    let mut world = opened::<Courier, H, Global>(rt, rt.alloc(), 3, chares).expect(
-        rt,
-        "out of memory",
-    );
-    let ((p0, p1, _), (_, e1, _)) = (pes(rt), elements(rt));
-    let r1 = round(rt, 1);
+    let mut world = self::world::<H>(rt, 3, chares);
     all_wait(rt, &mut world, 1);
-    run(
-        rt,
-        &mut world,
-        &[
-            (Event::Look(p1), &[]),
-            (Event::Flush(p1), &[]),
-            (Event::Deliver(p1), &[]),
-            (Event::Act(p1), &[Report::Executed((p1, 0), e1)]),
-            (Event::Report(p1), &[]),
-            (Event::Depart(p1, e1), &[Report::Departed(e1)]),
-            (Event::Flush(p1), &[]),
-            (Event::Deliver(p0), &[]),
-            (Event::Act(p0), &[Report::Installed(e1)]),
-            (
-                Event::Resume(p0, e1),
-                &[Report::Resumed(e1, r1), Report::Posted((p0, 1), e1)],
-            ),
-            (Event::Report(p0), &[]),
-        ],
-    );
-    assert_eq!(rt; world.word(e1), Some(p0));
-    assert_eq!(rt; world.board().has_finished(1), Some(true));
+    finish_while_it_waits(rt, &mut world);
+    depart_and_go_on(rt, &mut world);
+    assert!(rt; world.board().has_finished(1) == Some(true));
 }
 
 #[test]

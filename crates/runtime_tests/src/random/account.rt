@@ -16,12 +16,22 @@ pub(crate) fn compare<C: Chare<A>, H: Openings<C>, A: Allocator>(
 ) {
     let seen = look_around(rt, world);
     counted(rt, world, seen.as_slice(), trace);
-    for one in seen.as_slice() {
-        compare_one(rt, seen.as_slice(), trace, one);
+    compare_seen(rt, seen.as_slice(), trace);
+    compare_posted(rt, seen.as_slice(), trace);
+}
+
+// All that is seen was reported, once.
+fn compare_seen(rt: &impl Abort, seen: &[Seen], trace: &[Report]) {
+    for one in seen {
+        compare_one(rt, seen, trace, one);
     }
+}
+
+// All that was posted is seen, once.
+fn compare_posted(rt: &impl Abort, seen: &[Seen], trace: &[Report]) {
     for report in trace {
         if let Report::Posted(id, to) = report {
-            once(rt, seen.as_slice(), trace, id, *to);
+            once(rt, seen, trace, id, *to);
         }
     }
 }
@@ -34,9 +44,9 @@ fn counted<C: Chare<A>, H: Openings<C>, A: Allocator>(
     trace: &[Report],
 ) {
     let account = world.account();
-    assert_eq!(rt; account.held, held_in(seen));
-    assert_eq!(rt; account.executed, executed_in(seen));
-    assert_eq!(rt; account.posted, posted_in(trace));
+    assert!(rt; account.held == held_in(seen));
+    assert!(rt; account.executed == executed_in(seen));
+    assert!(rt; account.posted == posted_in(trace));
 }
 
 fn held_in(seen: &[Seen]) -> u64 {
@@ -75,29 +85,29 @@ fn compare_one(rt: &impl Abort, seen: &[Seen], trace: &[Report], one: &Seen) {
         Seen::Letter(id, to) => posted_once(rt, trace, id, *to),
         Seen::Executed(by, id, to) => executed_once(rt, trace, *by, id, *to),
         Seen::Posts(p, posts) => numbered(rt, trace, *p, *posts),
-        Seen::Word(e, _, _) => assert_eq!(rt; count(seen, Seen::Element(*e)), 1),
+        Seen::Word(e, _, _) => assert!(rt; count(seen, Seen::Element(*e)) == 1),
         Seen::Element(e) => known(rt, seen, *e),
         _ => {}
     }
 }
 
 fn posted_once(rt: &impl Abort, trace: &[Report], id: &LetterId, to: Index) {
-    assert_eq!(rt; count(trace, Report::Posted(*id, to)), 1);
-    assert_eq!(rt; count(trace, Report::Executed(*id, to)), 0);
+    assert!(rt; count(trace, Report::Posted(*id, to)) == 1);
+    assert!(rt; count(trace, Report::Executed(*id, to)) == 0);
 }
 
 fn executed_once(rt: &impl Abort, trace: &[Report], by: Index, id: &LetterId, to: Index) {
-    assert_eq!(rt; by, to);
-    assert_eq!(rt; count(trace, Report::Posted(*id, to)), 1);
-    assert_eq!(rt; count(trace, Report::Executed(*id, to)), 1);
+    assert!(rt; by == to);
+    assert!(rt; count(trace, Report::Posted(*id, to)) == 1);
+    assert!(rt; count(trace, Report::Executed(*id, to)) == 1);
 }
 
 // A letter that was posted is in one place, or was executed once.
 fn once(rt: &impl Abort, seen: &[Seen], trace: &[Report], id: &LetterId, to: Index) {
     let held = count(seen, Seen::Letter(*id, to));
     let executed = count(seen, Seen::Executed(to, *id, to));
-    assert_eq!(rt; held.saturating_add(executed), 1);
-    assert_eq!(rt; count(trace, Report::Executed(*id, to)), executed);
+    assert!(rt; held.saturating_add(executed) == 1);
+    assert!(rt; count(trace, Report::Executed(*id, to)) == executed);
 }
 
 // The letters of a PE were numbered from 0 upwards, as it posted them.
@@ -106,12 +116,12 @@ fn numbered(rt: &impl Abort, trace: &[Report], p: Pe, posts: u64) {
     for report in trace {
         if let Report::Posted((by, number), _) = report {
             if *by == p {
-                assert_eq!(rt; u64::from(*number), next);
+                assert!(rt; u64::from(*number) == next);
                 next = next.saturating_add(1);
             }
         }
     }
-    assert_eq!(rt; next, posts);
+    assert!(rt; next == posts);
 }
 
 // An element that is somewhere is one of the array.

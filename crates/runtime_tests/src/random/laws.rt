@@ -32,35 +32,36 @@ fn resumed<A: Allocator>(
     e: Index,
     round: Round,
 ) {
-    assert_eq!(rt; count(before, Report::Resumed(e, round)), 0);
+    assert!(rt; count(before, Report::Resumed(e, round)) == 0);
     if round.get() == 0 {
         return;
     }
-    assert_eq!(rt; count(before, Report::Decided(round)), 1);
+    assert!(rt; count(before, Report::Decided(round)) == 1);
     all_synced(rt, seen, before, round);
     let decision = board.decision_for(round).expect(rt, "no decision");
-    let place = place_in(rt, decision, e).expect(rt, "no place");
-    assert_eq!(rt; count(seen, Seen::Stands(Place::Room(place), e)), 1);
+    let place = place_in(decision, e).expect(rt, "no place");
+    assert!(rt; count(seen, Seen::Stands(Place::Room(place), e)) == 1);
 }
 
 fn all_synced(rt: &impl Abort, seen: &[Seen], before: &[Report], round: Round) {
     for one in seen {
         if let Seen::Word(x, _, _) = one {
-            assert_eq!(rt; count(before, Report::Synced(*x, round)), 1);
+            assert!(rt; count(before, Report::Synced(*x, round)) == 1);
         }
     }
 }
 
-// The place of an element in a decision, found block by block.
-fn place_in<A: Allocator>(rt: &impl Abort, decision: &Decision<A>, e: Index) -> Option<Pe> {
-    let mut place = None;
-    let names = decision.naming.as_slice();
-    for (cut, name) in decision.division.cuts.as_slice().iter().zip(names) {
+// The place of an element in a decision: that of the last block that begins at it or before it.
+fn place_in<A: Allocator>(decision: &Decision<A>, e: Index) -> Option<Pe> {
+    let mut begun: usize = 0;
+    for cut in decision.division.cuts.as_slice() {
         if *cut <= e.get() {
-            place = Some(*name);
+            begun = begun.saturating_add(1);
         }
     }
-    Pe::new(place?)
+    let block = begun.checked_sub(1)?;
+    let name = decision.naming.as_slice().get(block)?;
+    Pe::new(*name)
 }
 
 // A round is decided once, when all have reported, from where each of them stands.
@@ -71,15 +72,15 @@ fn decided<A: Allocator>(
     before: &[Report],
     round: Round,
 ) {
-    assert_eq!(rt; count(before, Report::Decided(round)), 0);
+    assert!(rt; count(before, Report::Decided(round)) == 0);
     all_synced(rt, seen, before, round);
     let (snapshot, _) = board.rounds().last().expect(rt, "no round");
-    assert_eq!(rt; snapshot.step(), round.get());
+    assert!(rt; snapshot.step() == round.get());
     for one in seen {
         if let Seen::Word(e, _, _) = one {
             let size = snapshot.sizes().as_slice().get(e.get() as usize);
             let (_, place) = *size.expect(rt, "not in the snapshot");
-            assert_eq!(rt; count(seen, Seen::Stands(Place::Room(place), *e)), 1);
+            assert!(rt; count(seen, Seen::Stands(Place::Room(place), *e)) == 1);
         }
     }
 }
@@ -87,22 +88,37 @@ fn decided<A: Allocator>(
 /// A letter was forwarded at most as often as its element has departed since it was posted, and as its hops say; and
 /// the element of a letter on a shelf is on its way to that PE.
 pub(crate) fn chase(rt: &impl Abort, seen: &[Seen], trace: &[Report]) {
+    chase_posted(rt, trace);
+    chase_waiting(rt, seen, trace);
+}
+
+// Each letter was forwarded at most as often as its element has departed since it was posted.
+fn chase_posted(rt: &impl Abort, trace: &[Report]) {
     for report in trace {
         if let Report::Posted(id, to) = report {
             let departures = count_after(trace, *report, Report::Departed(*to));
-            assert!(rt;
-                count(trace, Report::Forwarded(*id)) <= departures,
-                "{report:?}"
-            );
+            let forwarded = count(trace, Report::Forwarded(*id));
+            assert!(rt; forwarded <= departures, "{report:?}");
         }
     }
+}
+
+// Each letter that waits was forwarded as often as its hops say, and may wait where it is.
+fn chase_waiting(rt: &impl Abort, seen: &[Seen], trace: &[Report]) {
     for one in seen {
         if let Seen::Waits(place, id, to, hops) = one {
-            assert_eq!(rt; count(trace, Report::Forwarded(*id)), *hops as usize);
-            if let Place::Shelf(p) = place {
-                assert!(rt; is_coming(seen, *to, *p), "{one:?}");
-            }
+            let forwarded = count(trace, Report::Forwarded(*id));
+            assert!(rt; forwarded == *hops as usize, "{id:?}");
+            assert!(rt; may_wait(seen, *place, *to), "{id:?} for {to:?}");
         }
+    }
+}
+
+// Whether a letter for this element may wait here: on a shelf, where the element is on its way to that PE.
+fn may_wait(seen: &[Seen], place: Place, to: Index) -> bool {
+    match place {
+        Place::Shelf(p) => is_coming(seen, to, p),
+        _ => true,
     }
 }
 
