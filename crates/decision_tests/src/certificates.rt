@@ -217,7 +217,7 @@ fn a_snapshot_within_its_limits(rt: HostRuntime) {
     }
 }
 
-// Whether there are sizes of so many elements without bytes.
+// Whether there may be sizes of so many elements, all without bytes.
 fn are_sizes(rt: &(impl Abort + AllocGlobal), elements: usize) -> bool {
     let pairs = vec![in rt.alloc(); (0, pe(rt, 0)); elements].expect(rt, "out of memory");
     Sizes::new(pairs).is_some()

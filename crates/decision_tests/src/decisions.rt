@@ -107,17 +107,16 @@ fn place_by(example: &Snapshot, decision: &Decision, index: Index) -> Option<u32
 }
 
 // Where an element of the example is to run by the decision on it.
-fn place_of(rt: &(impl Abort + AllocGlobal), example: &Snapshot, place: u32) -> Option<u32> {
-    place_by(example, &decision(rt), index(rt, place))
+fn place_of(rt: &(impl Abort + AllocGlobal), example: &Snapshot, i: u32) -> Option<u32> {
+    place_by(example, &decision(rt), index(rt, i))
 }
 
 #[test]
 fn an_element_runs_where_its_block_does(rt: HostRuntime) {
     let example = snapshot(&rt, 2, &EXAMPLE);
     const PLACES: [(u32, u32); 3] = [(0, 1), (1, 1), (2, 0)];
-    for &(place, planned) in &PLACES {
-        let found = place_of(&rt, &example, place);
-        assert!(rt; found == Some(planned), "element {place}");
+    for &(i, planned) in &PLACES {
+        assert!(rt; place_of(&rt, &example, i) == Some(planned), "element {i}");
     }
 }
 
@@ -220,7 +219,11 @@ fn has_stops(decision: &Decision, expected: &[u32]) -> bool {
 }
 
 // Whether the plan for three PEs has these stops.
-fn is_planned_with(rt: &(impl Abort + AllocGlobal), taken: &Snapshot, expected: &[u32]) -> bool {
+fn is_planned_with_stops(
+    rt: &(impl Abort + AllocGlobal),
+    taken: &Snapshot,
+    expected: &[u32],
+) -> bool {
     has_stops(&planned(rt, taken, 3), expected)
 }
 
@@ -239,7 +242,7 @@ fn six_elements_are_planned_for_three(rt: HostRuntime) {
 #[test]
 fn six_elements_have_their_fence(rt: HostRuntime) {
     let six = snapshot(&rt, 3, &SIX);
-    assert!(rt; is_planned_with(&rt, &six, &[0, 1, 2, 3]));
+    assert!(rt; is_planned_with_stops(&rt, &six, &[0, 1, 2, 3]));
 }
 
 #[test]

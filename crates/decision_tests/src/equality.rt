@@ -8,7 +8,7 @@ use lb_certificates::{Division, Snapshot};
 use lb_strategy::Decision;
 use std::process::Abort;
 
-// Whether the decision with these parts is that one.
+// Whether the decision with these parts equals another one.
 fn is_same(
     rt: &(impl Abort + AllocGlobal),
     other: &Decision,

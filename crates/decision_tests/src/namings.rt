@@ -130,7 +130,7 @@ fn full_pairs(rt: &(impl Abort + AllocGlobal)) -> Vec<(u32, u32)> {
     pairs
 }
 
-// The cuts of so many blocks of 256 elements each, and 65,536.
+// The cuts of 256 blocks of 256 elements each.
 fn full_cuts(rt: &(impl Abort + AllocGlobal)) -> Vec<u32> {
     let mut cuts = Vec::new(rt.alloc());
     for b in 0..257u32 {
@@ -204,7 +204,7 @@ fn elements(rt: &(impl Abort + AllocGlobal), blocks: u32, number: u32) -> Vec<(u
     pairs
 }
 
-// Whether the blocks of these elements are named at the least cost.
+// Whether there are so many blocks, and they are named at the least cost.
 fn are_cheapest(
     rt: &(impl Abort + AllocGlobal),
     pairs: &[(u32, u32)],

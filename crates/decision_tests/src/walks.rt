@@ -88,7 +88,7 @@ fn blocks_end_where_a_plain_walk_ends(rt: HostRuntime) {
         let units = some_units(&rt, number);
         let (pes, limit) = (1 + (number % 7) as u32, scattered(number) % 64);
         let ends = probed_ends(&rt, &units, pes, limit);
-        assert!(rt; ends.len() == pes as usize + 1);
+        assert!(rt; ends.len() == pes as usize + 1, "list {number}");
         assert!(rt;
             are_plain_ends(&ends, &units, limit),
             "loads {units:?} on {pes} within {limit}"

@@ -123,8 +123,8 @@ fn planned<R: Threads + Sync + Abort + AllocGlobal>(rt: &R, example: &Snapshot) 
     plan_with(rt, rt.alloc(), example, 2, 3, &NoGate).expect(rt, "out of memory")
 }
 
-// Whether three workers plan the example, and the check accepts it.
-fn plan_the_example<R: Threads + Sync + Abort + AllocGlobal>(rt: &R, example: &Snapshot) -> bool {
+// Whether three workers plan the example, and the check accepts the plan.
+fn is_example_planned<R: Threads + Sync + Abort + AllocGlobal>(rt: &R, example: &Snapshot) -> bool {
     let planned = planned(rt, example);
     is_planned(&planned) && check(example, 2, &planned).is_ok()
 }
@@ -132,5 +132,5 @@ fn plan_the_example<R: Threads + Sync + Abort + AllocGlobal>(rt: &R, example: &S
 #[test]
 fn three_workers_plan_the_example(rt: HostRuntime) {
     let example = snapshot(&rt, 2, &[(1, 10, 0), (1, 9, 1), (2, 8, 0)]);
-    assert!(rt; plan_the_example(&rt, &example));
+    assert!(rt; is_example_planned(&rt, &example));
 }

@@ -178,7 +178,7 @@ fn no_elements(rt: HostRuntime) {
     let mut db = worn(&rt);
     assert!(rt; is_worn(&rt, &db));
     assert!(rt; db.next_round() == Err(DbError::Worn));
-    assert!(rt; is_worn(&rt, &db), "after the last round");
+    assert!(rt; is_worn(&rt, &db), "after the refusal");
 }
 
 #[test]

@@ -215,8 +215,8 @@ fn ends_reading(alloc: Global, source: &mut Source<'_>, fault: DumpError, calls:
     found == Some(fault) && source.calls == calls
 }
 
-// A reader of the example that gives so many bytes a call, and so has so many calls, has to end the reading where it
-// fails so.
+// A reader of the example that gives so many bytes a call, and so has so many calls, has to end the reading at each
+// call at which it fails in this way.
 fn expect_end_of_reading(
     rt: &(impl Abort + AllocGlobal),
     at_once: usize,
@@ -294,8 +294,8 @@ fn ends_writing(sink: &mut Sink, snapshot: &Snapshot, calls: usize) -> bool {
     fault == Some(DumpError::Write) && sink.calls == calls && EXAMPLE.starts_with(&sink.taken)
 }
 
-// A writer of the example that takes so many bytes a call, and so has so many calls, has to end the writing where it
-// fails so.
+// A writer of the example that takes so many bytes a call, and so has so many calls, has to end the writing at each
+// call at which it fails in this way.
 fn expect_end_of_writing(
     rt: &(impl Abort + AllocGlobal),
     at_once: usize,

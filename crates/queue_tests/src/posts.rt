@@ -46,7 +46,7 @@ fn refused<R: Wait, A: Allocator>(
     Ok((post, seat))
 }
 
-// Whether that holds of a queue of one place, and what is put then is left in it.
+// Whether a queue of one place fills and empties so, and what is put into it then is left.
 fn holds_one<R: Wait, A: Allocator + Copy>(rt: &R, alloc: A) -> Result<bool, Fail> {
     let (post, mut first, second) = two_seats(alloc, 1)?;
     let emptied = fills_and_empties(rt, &post, &mut first);
@@ -101,7 +101,7 @@ fn uses_two_queues<R: Wait, A: Allocator>(
     last && first && taken
 }
 
-// Whether these are the values left there.
+// Whether 1 and 2 are left at PE 0, nothing at PE 1, and 21 and 22 at PE 2.
 fn are_left<A: Allocator>(left: &[Vec<u32, A>]) -> bool {
     left.len() == 3
         && left[0].as_slice() == [1, 2].as_slice()
@@ -140,15 +140,6 @@ fn is_refused<A: Allocator + Copy>(alloc: A, row: &Row) -> bool {
     }
 }
 
-// Whether an error has this number, and is told in this text.
-fn is_told<A: Allocator>(alloc: A, row: &(PostError, u32, &str)) -> bool {
-    let (error, number, text) = *row;
-    match format!(in alloc; "{error}") {
-        Ok(told) => error as u32 == number && told.as_str() == text,
-        Err(AllocError) => false,
-    }
-}
-
 #[test]
 fn numbers_out_of_range(rt: HostRuntime) {
     const REFUSED: [Row; 7] = [
@@ -163,7 +154,22 @@ fn numbers_out_of_range(rt: HostRuntime) {
     for row in &REFUSED {
         assert!(rt; is_refused(rt.alloc(), row), "{row:?}");
     }
-    const TEXTS: [(PostError, u32, &str); 4] = [
+}
+
+// An error, its number and its text.
+type Told = (PostError, u32, &'static str);
+
+fn is_told<A: Allocator>(alloc: A, row: &Told) -> bool {
+    let (error, number, text) = *row;
+    match format!(in alloc; "{error}") {
+        Ok(told) => error as u32 == number && told.as_str() == text,
+        Err(AllocError) => false,
+    }
+}
+
+#[test]
+fn numbers_and_texts(rt: HostRuntime) {
+    const TEXTS: [Told; 4] = [
         (PostError::Zero, 1, "a number is zero"),
         (PostError::TooMany, 2, "a number is past its limit"),
         (PostError::SeatsOut, 3, "a seat is still out"),

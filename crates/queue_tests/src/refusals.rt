@@ -64,7 +64,7 @@ fn locations(rt: HostRuntime) -> Result<(), Fail> {
     Ok(())
 }
 
-// What is left in the one queue, after a value was put, one was refused and one was taken.
+// Whether two values are put, a third one is refused, the first one is taken, and the second one is left.
 fn uses<A: Allocator + Copy, R: Wait>(rt: &R, alloc: A) -> Result<bool, PostError> {
     let (post, mut first, mut second) = two_seats(alloc, 2)?;
     let all_put = post.put(rt, &mut first, pe(0), 1u32).is_ok()

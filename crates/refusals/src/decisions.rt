@@ -1,17 +1,15 @@
 //! Divisions, namings and whole decisions.
 
-use crate::fixtures::{assert_requests, example, five, pe, three};
+use crate::fixtures::{Lent, assert_requests, example, five, pe, three};
 use block_assignment::{CostTable, NameError, name_blocks};
 use chain_partition::{Prefix, Probe, divide, divide_with, probe, probe_on};
 use chare_index::{Index, NoGate};
 use lb_certificates::{Cuts, Division, Floor, Loads, Sizes, Snapshot};
 use lb_strategy::{Decision, PlanError, check, plan, plan_with};
-use refusing_alloc::{Outcome, Refusing};
-use std::alloc::{AllocError, Allocator, Global};
+use refusing_alloc::Outcome;
+use std::alloc::{AllocError, Allocator};
 use std::process::Abort;
 use std::thread::Threads;
-
-type Lent<'a> = &'a Refusing<Global>;
 
 // The requests of a division.
 const DIVIDING: u64 = 3;
@@ -37,23 +35,33 @@ fn probes_five<A: Allocator + Copy>(
 }
 
 // Whether they are on running sums that were made before.
-fn probes_on<A: Allocator + Copy>(alloc: A, five: &Prefix, limit: u64) -> Result<bool, AllocError> {
+fn probes_on<A: Allocator>(alloc: A, five: &Prefix, limit: u64) -> Result<bool, AllocError> {
     Ok(is_of_five(&probe_on(alloc, five, 2, limit)?, limit))
 }
 
 // Whether five have their running sums.
-fn sums_five<A: Allocator + Copy>(alloc: A, five: &Loads) -> Result<bool, AllocError> {
+fn sums_five<A: Allocator>(alloc: A, five: &Loads) -> Result<bool, AllocError> {
     let prefix = Prefix::of(alloc, five)?;
     Ok(prefix.len() == 5 && prefix.load(0, 5) == 15 && prefix.load(2, 5) == 12)
 }
 
-// Whether it is the division of five into two blocks.
-fn divides_five<A: Allocator>(division: &Division<A>) -> bool {
+// Whether a division has this bottleneck, these cuts and a fence of these stops.
+fn is_division<A: Allocator>(
+    division: &Division<A>,
+    bottleneck: u64,
+    cuts: &[u32],
+    expected: &[u32],
+) -> bool {
     let Floor::Fence(stops) = &division.floor else {
         return false;
     };
-    let same = division.bottleneck == 9 && stops.as_slice() == [0, 3, 4].as_slice();
-    same && division.cuts.as_slice() == [0, 3, 5].as_slice()
+    let same = division.bottleneck == bottleneck && stops.as_slice() == expected;
+    same && division.cuts.as_slice() == cuts
+}
+
+// Whether it is the division of five into two blocks.
+fn divides_five<A: Allocator>(division: &Division<A>) -> bool {
+    is_division(division, 9, &[0, 3, 5], &[0, 3, 4])
 }
 
 // Whether one divides five as they should be.
@@ -86,8 +94,8 @@ fn assert_probed(rt: &(impl Abort + AllocGlobal), five: &Loads, limit: u64, thin
 #[test]
 fn probes(rt: HostRuntime) {
     let five = five(&rt);
-    assert_probed(&rt, &five, 9, "limit 9");
-    assert_probed(&rt, &five, 8, "limit 8");
+    assert_probed(&rt, &five, 9, "limit 9: the running sums and the cuts");
+    assert_probed(&rt, &five, 8, "limit 8: the running sums and the stops");
 }
 
 #[test]
@@ -114,8 +122,8 @@ fn assert_probed_on(rt: &(impl Abort + AllocGlobal), sums: &Prefix, limit: u64, 
 #[test]
 fn probes_on_running_sums(rt: HostRuntime) {
     let sums = Prefix::of(rt.alloc(), &five(&rt)).expect(&rt, "out of memory");
-    assert_probed_on(&rt, &sums, 9, "limit 9");
-    assert_probed_on(&rt, &sums, 8, "limit 8");
+    assert_probed_on(&rt, &sums, 9, "limit 9: the cuts");
+    assert_probed_on(&rt, &sums, 8, "limit 8: the stops");
 }
 
 fn cuts(rt: &(impl Abort + AllocGlobal)) -> Cuts {
@@ -160,17 +168,8 @@ fn namings(rt: HostRuntime) {
         &rt,
         |alloc| names(alloc, &table),
         NAMING,
-        "the search and the exchange",
+        "the prices, the search and the exchange",
     );
-}
-
-// Whether it is the division of the example into two blocks.
-fn divides_example<A: Allocator>(division: &Division<A>) -> bool {
-    let Floor::Fence(stops) = &division.floor else {
-        return false;
-    };
-    let same = division.bottleneck == 2 && stops.as_slice() == [0, 1, 2].as_slice();
-    same && division.cuts.as_slice() == [0, 2, 3].as_slice()
 }
 
 // Whether this is the whole decision on the example, whose first element moves. Its prices are any that `check`
@@ -179,7 +178,7 @@ fn is_decided<A: Allocator>(example: &Snapshot, decision: &Decision<A>) -> bool 
     let Some(first) = Index::new(0) else {
         return false;
     };
-    divides_example(&decision.division)
+    is_division(&decision.division, 2, &[0, 2, 3], &[0, 1, 2])
         && decision.naming.as_slice() == [1, 0].as_slice()
         && decision.moved == 10
         && decision.moves.as_slice() == [(first, pe(0), pe(1))].as_slice()

@@ -8,6 +8,9 @@ use refusing_alloc::{Outcome, Refusing, each_refusal};
 use std::alloc::{Allocator, Global};
 use std::process::Abort;
 
+/// An allocator that may refuse a request, lent.
+pub(crate) type Lent<'a> = &'a Refusing<Global>;
+
 /// No call here makes as many requests.
 pub(crate) const MOST_TURNS: u64 = 40;
 

@@ -1,7 +1,7 @@
 //! Calls that promise to take no memory make no request.
 
 use crate::dumps::read;
-use crate::fixtures::{EXAMPLE, example, five, pe, round, three};
+use crate::fixtures::{EXAMPLE, Lent, example, five, pe, round, three};
 use block_assignment::CostTable;
 use chain_partition::Prefix;
 use chare_index::Index;
@@ -12,8 +12,6 @@ use lb_strategy::{Decision, check, plan};
 use refusing_alloc::{Outcome, Refusing};
 use std::alloc::{AllocError, Allocator, Global};
 use std::process::Abort;
-
-type Lent<'a> = &'a Refusing<Global>;
 
 // Whether element `i` does its work in the first round and reports it on PE 0, and then does more.
 fn takes_part<A: Allocator>(db: &mut LoadDb<A>, i: u32) -> bool {
@@ -132,11 +130,14 @@ fn is_planned_well<A: Allocator + Copy>(alloc: A, snapshot: &Snapshot<A>) -> boo
 
 #[test]
 fn a_decision_that_is_checked(rt: HostRuntime) {
-    let planned = Refusing::new(rt.alloc(), 0);
-    assert!(rt; is_planned(&planned, &example(&rt, &planned)));
-    let checked = Refusing::new(rt.alloc(), 0);
-    assert!(rt; is_planned_well(&checked, &example(&rt, &checked)));
-    assert!(rt; checked.requests() == planned.requests());
+    let alone = Refusing::new(rt.alloc(), 0);
+    assert!(rt; is_planned(&alone, &example(&rt, &alone)));
+    let alloc = Refusing::new(rt.alloc(), 0);
+    assert!(rt; is_planned_well(&alloc, &example(&rt, &alloc)));
+    assert!(rt;
+        alloc.requests() == alone.requests(),
+        "those of the plan alone"
+    );
 }
 
 // Whether the example's costs are read without a request.
@@ -174,11 +175,14 @@ fn stays<A: Allocator + Copy>(alloc: A, example: &Snapshot) -> bool {
 #[test]
 fn a_place_that_is_read(rt: HostRuntime) {
     let example = example(&rt, rt.alloc());
-    let planned = Refusing::new(rt.alloc(), 0);
-    assert!(rt; is_planned(&planned, &example));
-    let told = Refusing::new(rt.alloc(), 0);
-    assert!(rt; stays(&told, &example));
-    assert!(rt; told.requests() == planned.requests());
+    let alone = Refusing::new(rt.alloc(), 0);
+    assert!(rt; is_planned(&alone, &example));
+    let alloc = Refusing::new(rt.alloc(), 0);
+    assert!(rt; stays(&alloc, &example));
+    assert!(rt;
+        alloc.requests() == alone.requests(),
+        "those of the plan alone"
+    );
 }
 
 // Whether loads of five are told without a request.

@@ -1,11 +1,10 @@
 //! Which request is refused, and what each way to answer a refusal leads to.
 
+use crate::fixtures::Lent;
 use refusing_alloc::{Failure, Outcome, Refusing, each_refusal};
 use std::alloc::{AllocError, Allocator, Global};
 use std::sync::atomic::{AtomicU64, Ordering};
 use std::thread::{self, Threads};
-
-type Lent<'a> = &'a Refusing<Global>;
 
 // Two requests, the second of them to grow. To shrink and to give back are none.
 fn sum_of_two<A: Allocator>(alloc: A) -> Result<u64, AllocError> {
@@ -70,7 +69,7 @@ fn two_threads_share_one_refusal(rt: HostRuntime) {
     assert!(rt; alloc.has_refused());
 }
 
-// What a sum of two comes to whose attempt tells these outcomes where it is refused and where it has its sum.
+// An attempt at a sum of two, which comes to these outcomes where it is refused and where it has its sum.
 fn sum_told(alloc: Lent<'_>, refused: Outcome, summed: Outcome) -> Outcome {
     match sum_of_two(alloc) {
         Ok(_) => summed,
@@ -243,8 +242,10 @@ fn each_fault_is_found(rt: HostRuntime) {
     assert!(rt; each_refusal(alloc, 9, asks_for_more) == Err(Failure::TooManyTurns(9)));
 }
 
-// Whether a failure is told in these words.
-fn is_told(alloc: Global, row: &(Failure, &str)) -> bool {
+// A failure, and the words in which it is told.
+type Told = (Failure, &'static str);
+
+fn is_told(alloc: Global, row: &Told) -> bool {
     let (failure, text) = *row;
     match format!(in alloc; "{failure}") {
         Ok(told) => told.as_str() == text,
@@ -254,7 +255,7 @@ fn is_told(alloc: Global, row: &(Failure, &str)) -> bool {
 
 #[test]
 fn each_fault_is_told(rt: HostRuntime) {
-    const TEXTS: [(Failure, &str); 7] = [
+    const TEXTS: [Told; 7] = [
         (Failure::Wrong(1), "turn 1: wrong"),
         (Failure::GaveUp(1), "turn 1: gave up without a refusal"),
         (Failure::Ignored(1), "turn 1: a refusal was not told"),

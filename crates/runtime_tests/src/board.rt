@@ -2,15 +2,12 @@
 
 ghost use Rattle.std.specs.Prelude.{◌≤◌};
 
+use crate::fixtures::{pe, round};
 use at_sync::{Board, BoardError};
-use chare_index::{Limits, NoGate, Pe, Round};
+use chare_index::{Limits, NoGate};
 use lb_certificates::Units;
 use lb_strategy::{Decision, check};
 use std::process::Abort;
-
-fn round(rt: &impl Abort, number: u32) -> Round {
-    Round::new(number).expect(rt, "no such round")
-}
 
 fn board(rt: &(impl Abort + AllocGlobal), n: u32, pes: u32) -> Board
     requires few { n ≤ Limits.ELEMENTS }
@@ -30,15 +27,22 @@ fn report(
     bytes: u32,
     place: u32,
 ) -> Result<(), BoardError> {
-    let pe = Pe::new(place).expect(rt, "no such PE");
+    let pe = pe(rt, place);
     assert!(rt; pe.get() < board.pes(), "no such PE on the board");
     board.report(i, round(rt, number), units, bytes, pe)
 }
 
-// Two elements of 3 units and 5 bytes on two PEs, both of which have reported.
-fn two_reported(rt: &(impl Abort + AllocGlobal)) -> Board {
+// Two elements on two PEs, of which the first has reported 3 units and 5 bytes.
+fn one_reported(rt: &(impl Abort + AllocGlobal)) -> Board {
     let mut board = board(rt, 2, 2);
     assert!(rt; report(rt, &mut board, 0, 1, 3, 5, 0).is_ok());
+    assert!(rt; !board.is_complete());
+    board
+}
+
+// Two elements of 3 units and 5 bytes on two PEs, both of which have reported.
+fn two_reported(rt: &(impl Abort + AllocGlobal)) -> Board {
+    let mut board = one_reported(rt);
     assert!(rt; report(rt, &mut board, 1, 1, 3, 5, 1).is_ok());
     board
 }
@@ -67,14 +71,6 @@ fn all_stay(rt: &impl Abort, board: &Board, number: u32) -> bool {
 
 fn has_no_decision(rt: &impl Abort, board: &Board, number: u32) -> bool {
     board.decision_for(round(rt, number)).is_none()
-}
-
-// A board of two elements, of which the first has reported.
-fn one_reported(rt: &(impl Abort + AllocGlobal)) -> Board {
-    let mut board = board(rt, 2, 2);
-    assert!(rt; report(rt, &mut board, 0, 1, 3, 5, 0).is_ok());
-    assert!(rt; !board.is_complete());
-    board
 }
 
 #[test]
@@ -112,7 +108,7 @@ fn three_workers_decide_the_same(rt: HostRuntime) {
     assert!(rt; has_no_decision(&rt, &board, 2));
 }
 
-// Of three elements the first has finished, the second not, and the third is none of the board's.
+// Whether of three elements the first has finished, the second has not, and the third is none of the board's.
 fn only_the_first_finished(board: &Board) -> bool {
     board.has_finished(0) == Some(true)
         && board.has_finished(1) == Some(false)
@@ -132,9 +128,10 @@ fn both_finish(rt: HostRuntime) {
     assert!(rt; board.all_finished());
 }
 
-// Whether the first of two elements has reported in round 1, from PE 1, all that it may, and nothing else has happened.
+// Whether the first of two elements has reported in round 1, from PE 1, with the greatest load and size, and nothing
+// else has happened.
 fn only_the_first_reported(rt: &impl Abort, board: &Board) -> bool {
-    let p1 = Pe::new(1).expect(rt, "no such PE");
+    let p1 = pe(rt, 1);
     let database = board.database();
     database.round() == round(rt, 1)
         && database.load(0) == Some(4_294_967_295)
@@ -192,7 +189,7 @@ fn no_elements(rt: HostRuntime) {
     assert!(rt; third.division.bottleneck == 0);
 }
 
-// A board whose second round was decided, after an element of 9 bytes was to go to another PE.
+// A board whose second round was decided: both elements stood on PE 0, and the one of 9 bytes is to move.
 fn two_decided(rt: &(impl Abort + AllocGlobal)) -> Board {
     let mut board = two_reported(rt);
     assert!(rt; board.decide().is_ok());
@@ -233,8 +230,10 @@ fn a_full_array(rt: HostRuntime) {
     assert!(rt; decision.division.bottleneck == 1_099_511_627_520);
 }
 
-// Whether a refusal has this number and this text.
-fn reads_so(rt: &(impl Abort + AllocGlobal), row: &(BoardError, u8, &str)) -> bool {
+// A refusal, its number and its text.
+type Told = (BoardError, u8, &'static str);
+
+fn is_told(rt: &(impl Abort + AllocGlobal), row: &Told) -> bool {
     let (error, number, text) = row;
     let said = format!(in rt.alloc(); "{error}").expect(rt, "out of memory");
     *error as u8 == *number && said.as_str() == *text
@@ -242,7 +241,7 @@ fn reads_so(rt: &(impl Abort + AllocGlobal), row: &(BoardError, u8, &str)) -> bo
 
 #[test]
 fn numbers_and_texts(rt: HostRuntime) {
-    const ERRORS: [(BoardError, u8, &str); 7] = [
+    const ERRORS: [Told; 7] = [
         (BoardError::Stranger, 1, "there is no such element"),
         (BoardError::WrongRound, 2, "the report is for another round"),
         (BoardError::Twice, 3, "the element has reported already"),
@@ -252,6 +251,6 @@ fn numbers_and_texts(rt: HostRuntime) {
         (BoardError::Worn, 7, "no round is left"),
     ];
     for row in &ERRORS {
-        assert!(rt; reads_so(&rt, row), "{row:?}");
+        assert!(rt; is_told(&rt, row), "{row:?}");
     }
 }

@@ -8,13 +8,13 @@ use std::process::Abort;
 
 /// A state of several fields, packed field after field.
 #[derive(Drop)]
-struct Tally<A: Allocator = Global> {
+struct State<A: Allocator = Global> {
     sum: u64,
     amounts: Items<u32, A>,
     pad: Bytes<A>,
 }
 
-impl<A: Allocator + Copy> Pup<A> for Tally<A> {
+impl<A: Allocator + Copy> Pup<A> for State<A> {
     ghost use Rattle.std.specs.Prelude.{refl};
     ghost use Rattle.pup_pack.specs.Structs.{made};
     ghost use Rattle.pup_pack.specs.Trips.{bytes_trips, list_trips, pair_trips, struct_trips, u32_trips, u64_trips};
@@ -37,15 +37,15 @@ impl<A: Allocator + Copy> Pup<A> for Tally<A> {
         (&self.sum, (&self.amounts, &self.pad)).pack_fields(out)
     }
 
-    fn unpack(alloc: A, bytes: &[u8]) -> Result<(Tally<A>, usize), PupError> {
+    fn unpack(alloc: A, bytes: &[u8]) -> Result<(State<A>, usize), PupError> {
         let (fields, len) = <(u64, (Items<u32, A>, Bytes<A>)) as Pup<A>>::unpack(alloc, bytes)?;
         let (sum, (amounts, pad)) = fields;
-        Ok((Tally { sum, amounts, pad }, len))
+        Ok((State { sum, amounts, pad }, len))
     }
 }
 
 // 3, the list of 5 alone, and the byte 170.
-const TALLY: [u8; 21] = [
+const STATE: [u8; 21] = [
     0, 0, 0, 0, 0, 0, 0, 3, 0, 0, 0, 1, 0, 0, 0, 5, 0, 0, 0, 1, 170,
 ];
 
@@ -63,7 +63,7 @@ fn expect_pack<T: Pup<Global>>(rt: &(impl Abort + AllocGlobal), value: &T, want:
     );
 }
 
-// A value that is too long, of which this length is told, is packed into nothing.
+// A value that is too long tells this length and is refused, which leaves the vector as it was.
 fn expect_too_long<T: Pup<Global>>(rt: &(impl Abort + AllocGlobal), value: &T, len: u32) {
     let mut out = Vec::from_slice(rt.alloc(), &[255]).expect(rt, "out of memory");
     assert!(rt; value.packed_len() == len, "the length is not {len}");
@@ -103,7 +103,7 @@ fn list_of(rt: &(impl Abort + AllocGlobal), items: &[u32]) -> Items<u32> {
 
 // Whether these bytes unpack to 3, the list of 5 alone, and the byte 170.
 fn is_the_state(alloc: Global, bytes: &[u8]) -> bool {
-    let Ok((state, len)) = <Tally as Pup<Global>>::unpack(alloc, bytes) else {
+    let Ok((state, len)) = <State as Pup<Global>>::unpack(alloc, bytes) else {
         return false;
     };
     let (amounts, pad) = (state.amounts.as_slice(), state.pad.as_slice());
@@ -114,13 +114,13 @@ fn is_the_state(alloc: Global, bytes: &[u8]) -> bool {
 fn a_state_of_several_fields(rt: HostRuntime) {
     let (amounts, pad) = (list_of(&rt, &[5]), bytes_of(&rt, &[170]));
     let sum = 3;
-    expect_pack(&rt, &Tally { sum, amounts, pad }, &TALLY);
-    assert!(rt; is_the_state(rt.alloc(), &TALLY));
+    expect_pack(&rt, &State { sum, amounts, pad }, &STATE);
+    assert!(rt; is_the_state(rt.alloc(), &STATE));
 }
 
 #[test]
 fn each_prefix_of_a_state_is_short(rt: HostRuntime) {
-    expect_short::<Tally>(&rt, &TALLY);
+    expect_short::<State>(&rt, &STATE);
 }
 
 /// A share in percent. Bytes that say more than a hundred are those of no share.
@@ -363,9 +363,9 @@ fn the_longest_list(rt: HostRuntime) {
 }
 
 // The pack of two lists of 131,072 numbers each, of which neither is too long.
-fn two_halves(alloc: Global) -> Result<Vec<u8>, PupError> {
-    let half = Items::new(vec![in alloc; 7_u32; 131_072]?);
-    let mut bytes = Vec::from_slice(alloc, &[0, 0, 0, 2])?;
+fn two_halves(rt: &(impl Abort + AllocGlobal)) -> Result<Vec<u8>, PupError> {
+    let half = sevens(rt, 131_072);
+    let mut bytes = Vec::from_slice(rt.alloc(), &[0, 0, 0, 2])?;
     half.pack_into(&mut bytes)?;
     half.pack_into(&mut bytes)?;
     Ok(bytes)
@@ -383,14 +383,14 @@ fn halves(rt: &(impl Abort + AllocGlobal)) -> Items<Items<u32>> {
 
 #[test]
 fn short_lists_that_are_too_long_together(rt: HostRuntime) {
-    let bytes = two_halves(rt.alloc()).expect(&rt, "out of memory");
+    let bytes = two_halves(&rt).expect(&rt, "out of memory");
     assert!(rt; bytes.len() == 1_048_588);
     let answer = refusal::<Items<Items<u32>>>(rt.alloc(), &bytes);
     assert!(rt; answer == Some(PupError::TooLong));
     expect_too_long(&rt, &halves(&rt), 1_048_577);
 }
 
-// So many bytes tell this length, and are refused so, or packed.
+// A list of so many bytes tells this packed length, and is refused so, or packed.
 fn expect_byte_list(
     rt: &(impl Abort + AllocGlobal),
     count: usize,
@@ -425,8 +425,10 @@ fn the_longest_bytes(rt: HostRuntime) {
     expect_bytes(&rt, &[0, 15, 255, 253], 1_048_576, short);
 }
 
-// Whether a refusal has this number and this text.
-fn reads_so(rt: &(impl Abort + AllocGlobal), row: &(PupError, u8, &str)) -> bool {
+// A refusal, its number and its text.
+type Told = (PupError, u8, &'static str);
+
+fn is_told(rt: &(impl Abort + AllocGlobal), row: &Told) -> bool {
     let (error, number, text) = row;
     let said = format!(in rt.alloc(); "{error}").expect(rt, "out of memory");
     *error as u8 == *number && said.as_str() == *text
@@ -434,14 +436,14 @@ fn reads_so(rt: &(impl Abort + AllocGlobal), row: &(PupError, u8, &str)) -> bool
 
 #[test]
 fn refusals_of_packing(rt: HostRuntime) {
-    const ERRORS: [(PupError, u8, &str); 4] = [
+    const ERRORS: [Told; 4] = [
         (PupError::Short, 1, "the packed bytes are too short"),
         (PupError::Bad, 2, "the packed bytes are no value"),
         (PupError::TooLong, 3, "the packed value is too long"),
         (PupError::OutOfMemory, 4, "out of memory"),
     ];
     for row in &ERRORS {
-        assert!(rt; reads_so(&rt, row), "{row:?}");
+        assert!(rt; is_told(&rt, row), "{row:?}");
     }
 }
 
@@ -454,15 +456,17 @@ fn opening(i: u32, n: u32, p: u32) -> Option<u32> {
     None
 }
 
-// Whether an element of so many, on so many PEs, begins on this PE.
-fn begins_there(row: &(u32, u32, u32, u32)) -> bool {
+// An element, of so many, on so many PEs, and the PE on which it begins.
+type Begins = (u32, u32, u32, u32);
+
+fn begins_there(row: &Begins) -> bool {
     let (element, elements, pes, pe) = row;
     opening(*element, *elements, *pes) == Some(*pe)
 }
 
 #[test]
 fn the_opening_places(rt: HostRuntime) {
-    const ROWS: [(u32, u32, u32, u32); 8] = [
+    const ROWS: [Begins; 8] = [
         (0, 4, 2, 0),
         (1, 4, 2, 0),
         (2, 4, 2, 1),

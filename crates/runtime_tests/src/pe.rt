@@ -3,21 +3,18 @@
 
 ghost use Rattle.std.specs.Prelude.{◌≡◌, ◌∷◌, [], length, slice_get, Some};
 
-use crate::fixtures::{index, pe, round};
+use crate::fixtures::{self, index, pe, round};
 use crate::tally::Tally;
 use chare_index::NoGate;
 use chares::{Mark, Note, Openings};
 use pe_state::{Acted, Parcel, PeState};
-use pup_pack::{Bytes, Items};
 use std::marker::Brand;
 use std::mem::size_of;
 use std::process::Abort;
 
 // A tally with these amounts, and no padding.
 fn tally(rt: &(impl Abort + AllocGlobal), amounts: &[u32]) -> Tally {
-    let amounts = Vec::from_slice(rt.alloc(), amounts).expect(rt, "out of memory");
-    let pad = Bytes::new(Vec::new(rt.alloc()));
-    Tally::new(Items::new(amounts), pad).expect(rt, "no tally")
+    fixtures::tally(rt.alloc(), amounts, 0).expect(rt, "no tally")
 }
 
 // Resumes an element after a round, or starts it.
@@ -42,7 +39,10 @@ fn expect_act<H: Openings<Tally>>(
 // The element that is looked for is believed to be there.
 fn look<H: Openings<Tally>>(rt: &impl Abort, at: &mut PeState<Tally, H>, e: u32, believed: u32) {
     let to = pe(rt, believed);
-    assert!(rt; at.wants() == Some(index(rt, e)));
+    assert!(rt;
+        at.wants() == Some(index(rt, e)),
+        "element {e} is not looked for"
+    );
     assert!(rt; at.wants().is_some());
     assert!(rt; to.get() < at.pes());
     at.look(to);
@@ -162,7 +162,7 @@ fn both_started<H: Openings<Tally>>(
     (low, high)
 }
 
-// Element 1 departs for PE 0, and its letter to element 0 before it arrives and ends the round of that one, which
+// Element 1 departs for PE 0. Its letter to element 0, sent before it, arrives and ends the round of that one, which
 // sends its second amount to element 1.
 fn leave<H: Openings<Tally>>(
     rt: &impl Abort,
@@ -215,8 +215,8 @@ fn a_letter_waits_for_its_element_to_start(rt: HostRuntime) {
 // The marks of element 1 after its move, and the sum that it took along.
 fn moved<H: Openings<Tally>>(rt: &impl Abort, at: &PeState<Tally, H>, sum: u64, entries: usize) {
     let element = at.room().element(index(rt, 1)).expect(rt, "not here");
-    assert!(rt; element.chare().sum() == sum);
-    assert!(rt; element.journal().len() == entries);
+    assert!(rt; element.chare().sum() == sum, "the sum is not {sum}");
+    assert!(rt; element.journal().len() == entries, "not {entries} entries");
     let synced = Note::Sync(index(rt, 1), round(rt, 1), 5, 32, pe(rt, 1));
     let marks = [Mark::Resumed(round(rt, 0), pe(rt, 1)), Mark::Synced(synced)];
     assert!(rt; element.marks() == marks.as_slice());

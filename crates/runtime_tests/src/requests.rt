@@ -28,7 +28,11 @@ impl Meter<'_> {
     // After a call that made its requests from `start` on, none of which was refused.
     fn made(&self, rt: &impl Abort, start: u64, requests: u64, what: &str) {
         let end = self.alloc.requests();
-        assert!(rt; end.wrapping_sub(start) == requests, "{what}");
+        let found = end.wrapping_sub(start);
+        assert!(rt;
+            found == requests,
+            "{what}: {found} requests in place of {requests}"
+        );
         assert!(rt;
             self.turn <= start || end < self.turn,
             "a refusal was not told: {what}"
@@ -37,8 +41,12 @@ impl Meter<'_> {
 
     // After a call that was refused: it made no request after the one that is refused.
     fn refused(&self, rt: &impl Abort, start: u64, what: &str) {
-        assert!(rt; start < self.turn, "refused before its turn: {what}");
-        assert!(rt; self.alloc.requests() == self.turn, "{what}");
+        let (made, turn) = (self.alloc.requests(), self.turn);
+        assert!(rt; start < turn, "refused before request {turn}: {what}");
+        assert!(rt;
+            made == turn,
+            "{what}: request {made} after {turn} was refused"
+        );
     }
 }
 
@@ -58,8 +66,11 @@ fn take_one<H: Openings<Relay<A>>, A: Allocator + Copy>(
         }
         Err(error) => {
             meter.refused(rt, start, "an event");
-            assert!(rt; error == StepError::OutOfMemory);
-            assert!(rt; is_as_before(rt, world, before.as_slice()));
+            assert!(rt; error == StepError::OutOfMemory, "{event:?}: {error:?}");
+            assert!(rt;
+                is_as_before(rt, world, before.as_slice()),
+                "{event:?} was refused"
+            );
             take_again(rt, world, event, *want);
         }
     }
@@ -74,7 +85,7 @@ fn is_as_before<H: Openings<Relay<A>>, A: Allocator + Copy>(
     look_around(rt, world).as_slice() == before
 }
 
-// Takes a step that is not refused again.
+// Takes a step again, which is not refused this time.
 fn take_again<H: Openings<Relay<A>>, A: Allocator + Copy>(
     rt: &impl Abort,
     world: &mut World<Relay<A>, H, A>,
@@ -199,7 +210,7 @@ fn shelve<H: Openings<Relay<A>>, A: Allocator + Copy>(
     );
 }
 
-// That element arrives.
+// Element 2 arrives, for which a letter waits on the shelf.
 fn install<H: Openings<Relay<A>>, A: Allocator + Copy>(
     rt: &(impl Abort + AllocGlobal),
     meter: &Meter<'_>,

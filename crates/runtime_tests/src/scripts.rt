@@ -198,7 +198,7 @@ fn overtake<H: Openings<Tally<A>>, A: Allocator + Copy>(
     )
 }
 
-// Then element 0 arrives, and gets its letter.
+// Element 0 arrives after its letter, and gets it.
 fn arrive_second<H: Openings<Tally<A>>, A: Allocator + Copy>(
     rt: &impl Abort,
     world: &mut World<Tally<A>, H, A>,
@@ -248,7 +248,7 @@ fn miss<H: Openings<Tally<A>>, A: Allocator + Copy>(
     )
 }
 
-// It follows element 0, which arrives first.
+// Element 0 arrives, and after it the letter that was forwarded.
 fn arrive_first<H: Openings<Tally<A>>, A: Allocator + Copy>(
     rt: &impl Abort,
     world: &mut World<Tally<A>, H, A>,
@@ -308,7 +308,7 @@ fn a_letter_that_follows_its_element(rt: HostRuntime) {
     follows::<Brand>(&rt, chares);
 }
 
-// Returns whether a step of the first script was refused.
+// The first script, of a letter that comes before its element. Returns whether a step was refused.
 fn first_script<H: Openings<Tally<A>>, A: Allocator + Copy>(
     rt: &impl Abort,
     world: &mut World<Tally<A>, H, A>,

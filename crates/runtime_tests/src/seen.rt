@@ -121,18 +121,58 @@ fn add_pe<C: Chare<A>, H: Openings<C>, A: Allocator>(
     pe: &PeState<C, H, A>,
 ) {
     add(rt, seen, Seen::Posts(p, pe.count()));
-    for (_, element) in pe.room().iter() {
-        add_element(rt, seen, p, element);
-    }
+    add_room(rt, seen, p, pe);
     if let Some(item) = pe.hand() {
         add_parcel(rt, seen, Place::Hand(p, item.address), &item.parcel);
     }
+    add_shelf(rt, seen, p, pe);
+    add_outbox(rt, seen, p, pe);
+    add_notes(rt, seen, p, pe);
+}
+
+// The elements that stand on a PE.
+fn add_room<C: Chare<A>, H: Openings<C>, A: Allocator>(
+    rt: &impl Abort,
+    seen: &mut Vec<Seen>,
+    p: Pe,
+    pe: &PeState<C, H, A>,
+) {
+    for (_, element) in pe.room().iter() {
+        add_element(rt, seen, p, element);
+    }
+}
+
+// The letters that wait on its shelf.
+fn add_shelf<C: Chare<A>, H: Openings<C>, A: Allocator>(
+    rt: &impl Abort,
+    seen: &mut Vec<Seen>,
+    p: Pe,
+    pe: &PeState<C, H, A>,
+) {
     for letter in pe.shelf().iter() {
         add_letter(rt, seen, Place::Shelf(p), letter);
     }
+}
+
+// What is to leave it.
+fn add_outbox<C: Chare<A>, H: Openings<C>, A: Allocator>(
+    rt: &impl Abort,
+    seen: &mut Vec<Seen>,
+    p: Pe,
+    pe: &PeState<C, H, A>,
+) {
     for item in pe.outbox().iter() {
         add_item(rt, seen, p, item);
     }
+}
+
+// What it owes the board.
+fn add_notes<C: Chare<A>, H: Openings<C>, A: Allocator>(
+    rt: &impl Abort,
+    seen: &mut Vec<Seen>,
+    p: Pe,
+    pe: &PeState<C, H, A>,
+) {
     for note in pe.notes().iter() {
         add(rt, seen, Seen::Note(p, *note));
     }

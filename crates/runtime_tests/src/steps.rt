@@ -32,8 +32,8 @@ fn take_one<C: Chare<A>, H: Openings<C>, A: Allocator + Copy>(
         }
         Err(error) => error,
     };
-    assert!(rt; refused == StepError::OutOfMemory);
-    assert!(rt; account(world) == before);
+    assert!(rt; refused == StepError::OutOfMemory, "{event:?}: {refused:?}");
+    assert!(rt; account(world) == before, "{event:?} was refused");
     let reports = world.step(*event).expect(rt, "refused again");
     expect_reports(rt, event, reports.as_slice(), want);
     true

@@ -1,4 +1,4 @@
-//! The chare of the tests: it sends its amounts to its neighbor, one in each round, and adds up what comes.
+//! A chare of the tests that sends its amounts to its neighbor, one in each round, and adds up what comes.
 
 ghost use Rattle.std.specs.Prelude.{◌≡◌, ◌+◌, ◌<◌, ◌≤◌, length, slice_index, false, IfSome, IsNone, ◌↔◌};
 ghost use Rattle.std.specs.Int.{w32, to_be_bytes};

@@ -137,7 +137,12 @@ fn strange_events<H: Openings<Courier>>(rt: &impl Abort, world: &mut World<Couri
         Event::Resume(p0, e3),
     ];
     expect_nothing(rt, world, &of_a_stranger);
-    assert!(rt; world.pe(p3).is_none() && world.queue(p3).is_none() && world.word(e3).is_none());
+}
+
+// Whether a world of three PEs and three elements has neither a fourth PE nor a fourth element.
+fn has_no_fourth<H: Openings<Courier>>(rt: &impl Abort, world: &World<Courier, H>) -> bool {
+    let (p3, e3) = (pe(rt, 3), index(rt, 3));
+    world.pe(p3).is_none() && world.queue(p3).is_none() && world.word(e3).is_none()
 }
 
 // Events that are not enabled before anything has started.
@@ -164,6 +169,7 @@ fn nothing_happens<H: Openings<Courier>>(rt: &(impl Abort + AllocGlobal), chares
     strange_events(rt, &mut world);
     early_events(rt, &mut world);
     assert!(rt; has_account(&world, 0, 0, 0));
+    assert!(rt; has_no_fourth(rt, &world));
 }
 
 #[test]
@@ -332,7 +338,7 @@ fn letters_leave_the_shelf_in_order(rt: HostRuntime) {
     wait_on_the_shelf::<Brand>(&rt, chares);
 }
 
-// Element 1 gets its letter, and so finishes, while it waits for the end of round 1. It syncs no more.
+// Element 1 gets its letter, and so finishes, while it waits for the end of round 1. The board is told.
 fn finish_while_it_waits<H: Openings<Courier>>(rt: &impl Abort, world: &mut World<Courier, H>) {
     let (p1, e1) = (pe(rt, 1), index(rt, 1));
     run(
@@ -348,7 +354,7 @@ fn finish_while_it_waits<H: Openings<Courier>>(rt: &impl Abort, world: &mut Worl
     );
 }
 
-// It departs and goes on all the same.
+// Element 1, which has finished, departs and goes on all the same, and syncs no more.
 fn depart_and_go_on<H: Openings<Courier>>(rt: &impl Abort, world: &mut World<Courier, H>) {
     let (p0, p1, e1) = (pe(rt, 0), pe(rt, 1), index(rt, 1));
     let resumed = [

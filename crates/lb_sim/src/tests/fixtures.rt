@@ -32,10 +32,10 @@ pub(crate) const ON_ONE: &str = "step 5 procs 1 elements 3\n\
 /// A reader that gives so many bytes a call, and fails at one call, counted from 0, whatever comes after it.
 #[derive(Drop)]
 pub(crate) struct Slow<'a> {
-    pub rest: &'a [u8],
-    pub step: usize,
+    rest: &'a [u8],
+    step: usize,
     pub calls: usize,
-    pub fails_at: Option<usize>,
+    fails_at: Option<usize>,
 }
 
 impl<'a> Slow<'a> {
@@ -74,10 +74,10 @@ pub(crate) enum Failing {
 /// A writer that takes so many bytes a call, and fails at one call, counted from 0, whatever comes after it.
 #[derive(Drop)]
 pub(crate) struct Narrow {
-    pub taken: Vec<u8>,
-    pub step: usize,
-    pub calls: usize,
-    pub fails_at: (usize, Failing),
+    taken: Vec<u8>,
+    step: usize,
+    calls: usize,
+    fails_at: (usize, Failing),
 }
 
 impl Narrow {
@@ -124,7 +124,7 @@ pub(crate) fn replayed<W: Write>(alloc: Global, dump: &[u8], writer: &mut W) -> 
     simulate(alloc, &mut dump, writer, None)
 }
 
-/// Whether a replay that ended like the first one, and wrote these bytes, ended like the second one, with this text.
+/// Whether a replay, by how it ended and the bytes that it wrote, ended so with this text.
 pub(crate) fn is_end(found: Ended, written: &[u8], ended: Ended, text: &str) -> bool {
     found == ended && written == text.as_bytes()
 }

@@ -32,21 +32,31 @@ fn resumed<A: Allocator>(
     e: Index,
     round: Round,
 ) {
-    assert!(rt; count(before, Report::Resumed(e, round)) == 0);
+    assert!(rt;
+        count(before, Report::Resumed(e, round)) == 0,
+        "{e:?} after {round:?}"
+    );
     if round.get() == 0 {
         return;
     }
-    assert!(rt; count(before, Report::Decided(round)) == 1);
+    assert!(rt;
+        count(before, Report::Decided(round)) == 1,
+        "{e:?} after {round:?}"
+    );
     all_synced(rt, seen, before, round);
     let decision = board.decision_for(round).expect(rt, "no decision");
     let place = place_in(decision, e).expect(rt, "no place");
-    assert!(rt; count(seen, Seen::Stands(Place::Room(place), e)) == 1);
+    let stands = count(seen, Seen::Stands(Place::Room(place), e));
+    assert!(rt; stands == 1, "{e:?} after {round:?}");
 }
 
 fn all_synced(rt: &impl Abort, seen: &[Seen], before: &[Report], round: Round) {
     for one in seen {
         if let Seen::Word(x, _, _) = one {
-            assert!(rt; count(before, Report::Synced(*x, round)) == 1);
+            assert!(rt;
+                count(before, Report::Synced(*x, round)) == 1,
+                "{x:?} in {round:?}"
+            );
         }
     }
 }
@@ -72,15 +82,18 @@ fn decided<A: Allocator>(
     before: &[Report],
     round: Round,
 ) {
-    assert!(rt; count(before, Report::Decided(round)) == 0);
+    assert!(rt; count(before, Report::Decided(round)) == 0, "{round:?}");
     all_synced(rt, seen, before, round);
     let (snapshot, _) = board.rounds().last().expect(rt, "no round");
-    assert!(rt; snapshot.step() == round.get());
+    assert!(rt; snapshot.step() == round.get(), "{round:?}");
     for one in seen {
         if let Seen::Word(e, _, _) = one {
             let size = snapshot.sizes().as_slice().get(e.get() as usize);
             let (_, place) = *size.expect(rt, "not in the snapshot");
-            assert!(rt; count(seen, Seen::Stands(Place::Room(place), *e)) == 1);
+            assert!(rt;
+                count(seen, Seen::Stands(Place::Room(place), *e)) == 1,
+                "{e:?}"
+            );
         }
     }
 }
