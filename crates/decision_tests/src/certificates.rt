@@ -2,7 +2,7 @@
 //! division for each flaw.
 
 use crate::fixtures::{
-    FORGED_DIVISIONS, ForgedDivision, fenced, list, loads, pairs, pe, sizes, unfenced,
+    FORGED_DIVISIONS, ForgedDivision, fenced, full_loads, list, loads, pairs, pe, sizes, unfenced,
 };
 use crate::reference;
 use chare_index::{Limits, Pe};
@@ -134,12 +134,6 @@ fn more_blocks_than_a_machine_has_pes(rt: HostRuntime) {
     let stops = continued(&rt, &[0], 1);
     let found = verdict(&rt, &[5, 7], 300, 7, (&cuts, &stops));
     assert_eq!(rt; found, Ok(()));
-}
-
-fn full_loads(rt: &(impl Abort + AllocGlobal)) -> Loads {
-    let most = Limits::ELEMENTS as usize;
-    let units = vec![in rt.alloc(); Limits::LOAD; most].expect(rt, "out of memory");
-    Loads::new(units).expect(rt, "refused a full array")
 }
 
 #[test]

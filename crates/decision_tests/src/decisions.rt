@@ -3,17 +3,14 @@
 ghost use Rattle.std.specs.Prelude.{◌≤◌};
 
 use crate::fixtures::{
-    FORGED_DIVISIONS, ForgedDivision, MOVING, NAMING, decision, decision_with, division, fenced,
-    index, list, moves, naming, pe, snapshot, unfenced,
+    EXAMPLE, FORGED_DIVISIONS, ForgedDivision, MOVING, NAMING, decision, decision_with, division,
+    fenced, index, list, moves, naming, pe, snapshot, stops, unfenced,
 };
 use block_assignment::NameError;
 use chare_index::{Index, Pe};
-use lb_certificates::{Division, Flaw, Floor, Loads, Naming, Sizes, Snapshot};
+use lb_certificates::{Division, Flaw, Loads, Naming, Sizes, Snapshot};
 use lb_strategy::{Decision, Moves, PlanError, check, plan};
 use std::process::Abort;
-
-// The elements of the example.
-const EXAMPLE: [(u32, u32, u32); 3] = [(1, 10, 0), (1, 9, 1), (2, 8, 0)];
 
 // What the check says of this decision on the example.
 fn judged(rt: &(impl Abort + AllocGlobal), decision: &Decision) -> Result<(), Flaw> {
@@ -211,20 +208,13 @@ const SIX: [(u32, u32, u32); 6] = [
     (1, 3, 2),
 ];
 
-fn has_stops(decision: &Decision, expected: &[u32]) -> bool {
-    match &decision.division.floor {
-        Floor::Fence(stops) => stops.as_slice() == expected,
-        Floor::Zero => false,
-    }
-}
-
 // Whether the plan for three PEs has these stops.
 fn is_planned_with_stops(
     rt: &(impl Abort + AllocGlobal),
     taken: &Snapshot,
     expected: &[u32],
 ) -> bool {
-    has_stops(&planned(rt, taken, 3), expected)
+    stops(&planned(rt, taken, 3).division) == expected
 }
 
 #[test]

@@ -2,10 +2,10 @@
 
 ghost use Rattle.std.specs.Prelude.{◌≤◌};
 
-use crate::fixtures::{loads, unfenced};
+use crate::fixtures::{full_loads, is_division, loads, unfenced};
 use crate::reference;
 use chain_partition::{Prefix, Probe, divide, probe, probe_on};
-use lb_certificates::{Division, Flaw, Floor, Loads, Units, check_division};
+use lb_certificates::{Division, Flaw, Loads, Units, check_division};
 use std::process::Abort;
 
 fn divided(rt: &(impl Abort + AllocGlobal), loads: &Loads, pes: u32) -> Division
@@ -13,21 +13,6 @@ fn divided(rt: &(impl Abort + AllocGlobal), loads: &Loads, pes: u32) -> Division
     requires few_pes { pes ≤ 256 }
 {
     divide(rt.alloc(), loads, pes).expect(rt, "out of memory")
-}
-
-// The stops of a fence, or none for the floor zero.
-fn stops(division: &Division) -> &[u32] {
-    match &division.floor {
-        Floor::Zero => &[],
-        Floor::Fence(stops) => stops.as_slice(),
-    }
-}
-
-// Whether a division has this bottleneck, these cuts and these stops.
-fn is_division(division: &Division, bottleneck: u64, cuts: &[u32], fence: &[u32]) -> bool {
-    division.bottleneck == bottleneck
-        && division.cuts.as_slice() == cuts
-        && stops(division) == fence
 }
 
 // Loads, a number of PEs, and the bottleneck, the cuts and the stops of their division.
@@ -145,11 +130,6 @@ fn loads_of_ranges_by_running_sums(rt: HostRuntime) {
             "{first}..{end}"
         );
     }
-}
-
-fn full_loads(rt: &(impl Abort + AllocGlobal)) -> Loads {
-    let units = vec![in rt.alloc(); 4_294_967_295; 65_536].expect(rt, "out of memory");
-    Loads::new(units).expect(rt, "refused a full array")
 }
 
 #[test]

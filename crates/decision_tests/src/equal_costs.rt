@@ -3,7 +3,7 @@
 ghost use Rattle.std.specs.Prelude.{◌≡◌, ◌≤◌, length};
 ghost use Rattle.lb_certificates.specs.Naming.{IsNaming};
 
-use crate::fixtures::{sizes, table};
+use crate::fixtures::{cost_of, sizes, table};
 use block_assignment::{CostTable, name_blocks};
 use std::process::Abort;
 
@@ -38,21 +38,6 @@ fn are_numbers(names: &[u32]) -> bool {
         }
     }
     true
-}
-
-// What these names cost, if each is used once.
-fn cost_of(table: &CostTable, names: &[u32]) -> Option<u64>
-    requires { length names.now ≡ table.now.blocks }
-{
-    let mut cost = 0u64;
-    for b in 0..table.blocks() {
-        let name = names[b as usize];
-        if name >= table.blocks() || names[..b as usize].contains(&name) {
-            return None;
-        }
-        cost = cost.saturating_add(table.cost(b, name));
-    }
-    Some(cost)
 }
 
 // What the names cost that are found for blocks of so many elements each, and the names.

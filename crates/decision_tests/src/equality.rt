@@ -1,8 +1,8 @@
 //! Equality is of whole values: any part that differs makes a difference.
 
 use crate::fixtures::{
-    DIVISION, MOVING, NAMING, decision, decision_with, division, fenced, loads, sizes, snapshot,
-    unfenced,
+    DIVISION, EXAMPLE, MOVING, NAMING, decision, decision_with, division, fenced, loads, sizes,
+    snapshot, unfenced,
 };
 use lb_certificates::{Division, Snapshot};
 use lb_strategy::Decision;
@@ -100,15 +100,13 @@ fn is_example_of(
     procs: u32,
     elements: &[(u32, u32, u32)],
 ) -> bool {
-    let example = snapshot(rt, 2, &[(1, 10, 0), (1, 9, 1), (2, 8, 0)]);
-    snapshot(rt, procs, elements) == example
+    snapshot(rt, procs, elements) == snapshot(rt, 2, &EXAMPLE)
 }
 
 #[test]
 fn a_snapshot_with_one_element_changed_is_another(rt: HostRuntime) {
-    let example: [(u32, u32, u32); 3] = [(1, 10, 0), (1, 9, 1), (2, 8, 0)];
-    assert!(rt; is_example_of(&rt, 2, &example));
-    assert!(rt; !is_example_of(&rt, 3, &example));
+    assert!(rt; is_example_of(&rt, 2, &EXAMPLE));
+    assert!(rt; !is_example_of(&rt, 3, &EXAMPLE));
     const CHANGED: [&[(u32, u32, u32)]; 5] = [
         &[(1, 10, 0), (1, 9, 1), (3, 8, 0)],
         &[(1, 10, 0), (1, 7, 1), (2, 8, 0)],

@@ -1,5 +1,7 @@
 //! What the tests are made of: numbers, lists, snapshots and cost tables. What can't be made ends the test.
 
+ghost use Rattle.std.specs.Prelude.{◌≡◌, length};
+
 use block_assignment::CostTable;
 use chare_index::{Index, Pe};
 use lb_certificates::{
@@ -22,6 +24,12 @@ pub(crate) fn index(rt: &(impl Abort + AllocGlobal), place: u32) -> Index {
 
 pub(crate) fn loads(rt: &(impl Abort + AllocGlobal), units: &[Units]) -> Loads {
     Loads::new(list(rt, units)).expect(rt, "too many loads")
+}
+
+/// As many loads as there may be, each as great as it may be.
+pub(crate) fn full_loads(rt: &(impl Abort + AllocGlobal)) -> Loads {
+    let units = vec![in rt.alloc(); 4_294_967_295; 65_536].expect(rt, "out of memory");
+    Loads::new(units).expect(rt, "refused a full array")
 }
 
 /// The bytes and the PE of each element.
@@ -61,6 +69,26 @@ pub(crate) fn unfenced(rt: &(impl Abort + AllocGlobal), bottleneck: u64, cuts: &
     }
 }
 
+/// The stops of a fence, or none for the floor zero.
+pub(crate) fn stops(division: &Division) -> &[u32] {
+    match &division.floor {
+        Floor::Zero => &[],
+        Floor::Fence(stops) => stops.as_slice(),
+    }
+}
+
+/// Whether a division has this bottleneck, these cuts and these stops.
+pub(crate) fn is_division(
+    division: &Division,
+    bottleneck: u64,
+    cuts: &[u32],
+    fence: &[u32],
+) -> bool {
+    division.bottleneck == bottleneck
+        && division.cuts.as_slice() == cuts
+        && stops(division) == fence
+}
+
 /// Cuts and stops with the bottleneck 2, and what a check says of these on the example.
 pub(crate) type ForgedDivision = (&'static [u32], &'static [u32], Result<(), Flaw>);
 
@@ -92,6 +120,9 @@ pub(crate) fn prices(rt: &(impl Abort + AllocGlobal), u: &[i64], v: &[i64]) -> P
     }
 }
 
+/// The elements of the example: their loads, bytes and PEs.
+pub(crate) const EXAMPLE: [(u32, u32, u32); 3] = [(1, 10, 0), (1, 9, 1), (2, 8, 0)];
+
 /// The snapshot at step 5 of elements with these loads, bytes and PEs.
 pub(crate) fn snapshot(
     rt: &(impl Abort + AllocGlobal),
@@ -117,6 +148,21 @@ pub(crate) fn table(rt: &(impl Abort + AllocGlobal), sizes: &Sizes, ends: &[u32]
     assert!(rt; 2 <= count && count <= 257, "no blocks, or too many");
     assert!(rt; cuts.divides(sizes.len()), "no division");
     CostTable::of(rt.alloc(), sizes, &cuts).expect(rt, "out of memory")
+}
+
+/// What these names cost, if each is used once.
+pub(crate) fn cost_of(table: &CostTable, names: &[u32]) -> Option<u64>
+    requires { length names.now ≡ table.now.blocks }
+{
+    let mut cost = 0u64;
+    for b in 0..table.blocks() {
+        let name = names[b as usize];
+        if name >= table.blocks() || names[..b as usize].contains(&name) {
+            return None;
+        }
+        cost = cost.saturating_add(table.cost(b, name));
+    }
+    Some(cost)
 }
 
 /// The moves with these numbers: of an element, its present PE and its planned one.

@@ -3,7 +3,7 @@
 ghost use Rattle.std.specs.Prelude.{◌≡◌, ◌≤◌, length};
 ghost use Rattle.lb_certificates.specs.Naming.{IsNaming};
 
-use crate::fixtures::{sizes, table};
+use crate::fixtures::{cost_of, sizes, table};
 use block_assignment::{CostTable, NameError, name_blocks};
 use lb_certificates::{Naming, Prices};
 use std::process::Abort;
@@ -150,21 +150,6 @@ fn a_full_array_on_all_pes(rt: HostRuntime) {
     let table = table(&rt, &sizes(&rt, &full_pairs(&rt)), &full_cuts(&rt));
     assert!(rt; table.blocks() == 256);
     assert!(rt; named_for(&rt, &table) == (256, 256 * 255 * 1_048_576));
-}
-
-// What these names cost, if each is used once.
-fn cost_of(table: &CostTable, names: &[u32]) -> Option<u64>
-    requires { length names.now ≡ table.now.blocks }
-{
-    let mut cost = 0u64;
-    for b in 0..table.blocks() {
-        let name = names[b as usize];
-        if name >= table.blocks() || names[..b as usize].contains(&name) {
-            return None;
-        }
-        cost = cost.saturating_add(table.cost(b, name));
-    }
-    Some(cost)
 }
 
 // The least cost of all namings of at most four blocks, each of them tried.

@@ -2,24 +2,14 @@
 
 ghost use Rattle.std.specs.Prelude.{◌≤◌};
 
-use crate::fixtures::{loads, snapshot};
+use crate::fixtures::{EXAMPLE, full_loads, is_division, loads, snapshot};
 use chain_partition::divide_with;
 use chare_index::{Gate, NoGate};
-use lb_certificates::{Division, Floor, Loads, Snapshot, Units};
+use lb_certificates::{Division, Loads, Snapshot};
 use lb_strategy::{Decision, check, plan_with};
 use std::process::Abort;
 use std::sync::atomic::{AtomicU64, Ordering};
 use std::thread::Threads;
-
-// Whether a division has this bottleneck, these cuts and a fence of these stops.
-fn is_division(division: &Division, bottleneck: u64, cuts: &[u32], expected: &[u32]) -> bool {
-    let Floor::Fence(stops) = &division.floor else {
-        return false;
-    };
-    division.bottleneck == bottleneck
-        && division.cuts.as_slice() == cuts
-        && stops.as_slice() == expected
-}
 
 fn divided<R: Threads + Sync + Abort + AllocGlobal>(
     rt: &R,
@@ -45,14 +35,9 @@ fn any_number_of_workers_divides_the_same(rt: HostRuntime) {
     }
 }
 
-fn full_array(rt: &(impl Abort + AllocGlobal)) -> Loads {
-    let units: Vec<Units> = vec![in rt.alloc(); 4_294_967_295; 65_536].expect(rt, "out of memory");
-    Loads::new(units).expect(rt, "refused a full array")
-}
-
 #[test]
 fn many_workers_divide_a_full_array(rt: HostRuntime) {
-    let division = divided(&rt, &full_array(&rt), 1, 64);
+    let division = divided(&rt, &full_loads(&rt), 1, 64);
     assert!(rt; is_division(&division, 281_474_976_645_120, &[0, 65_536], &[0, 65_535]));
 }
 
@@ -86,7 +71,7 @@ impl Gate for Meeting {
 
 // Whether two workers at this gate divide a full array in halves.
 fn divides_in_halves<R: Threads + Sync + Abort + AllocGlobal>(rt: &R, gate: &Meeting) -> bool {
-    let division = divide_with(rt, rt.alloc(), &full_array(rt), 2, 2, gate);
+    let division = divide_with(rt, rt.alloc(), &full_loads(rt), 2, 2, gate);
     let division = division.expect(rt, "out of memory");
     division.cuts.as_slice() == [0, 32_768, 65_536].as_slice()
 }
@@ -131,6 +116,6 @@ fn is_example_planned<R: Threads + Sync + Abort + AllocGlobal>(rt: &R, example: 
 
 #[test]
 fn three_workers_plan_the_example(rt: HostRuntime) {
-    let example = snapshot(&rt, 2, &[(1, 10, 0), (1, 9, 1), (2, 8, 0)]);
+    let example = snapshot(&rt, 2, &EXAMPLE);
     assert!(rt; is_example_planned(&rt, &example));
 }

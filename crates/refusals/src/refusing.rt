@@ -82,14 +82,19 @@ fn sums_told(alloc: Global, refused: Outcome, summed: Outcome) -> Result<u64, Fa
     each_refusal(alloc, 9, |lent| sum_told(lent, refused, summed))
 }
 
-// Thirty requests.
-fn thirty(alloc: Lent<'_>) -> Outcome {
-    for n in 0..30u32 {
+// So many requests.
+fn ask(alloc: Lent<'_>, requests: u32) -> Outcome {
+    for n in 0..requests {
         if Box::new(alloc, n).is_err() {
             return Outcome::Refused;
         }
     }
     Outcome::Right
+}
+
+// Thirty requests.
+fn thirty(alloc: Lent<'_>) -> Outcome {
+    ask(alloc, 30)
 }
 
 #[test]
@@ -186,12 +191,7 @@ fn each_run_is_looked_at(rt: HostRuntime) {
 
 // A thousand requests.
 fn asks_for_more(alloc: Lent<'_>) -> Outcome {
-    for n in 0..1000u32 {
-        if Box::new(alloc, n).is_err() {
-            return Outcome::Refused;
-        }
-    }
-    Outcome::Right
+    ask(alloc, 1000)
 }
 
 // Each refusal of an attempt that comes to this outcome without a request.
