@@ -1,4 +1,4 @@
-ghost use Rattle.std.specs.Prelude.{◌≡◌, ℕ, ◌+◌, ◌-◌, ◌^◌, ◌<◌, ◌≤◌, length, slice_index, sum_by, IfOk};
+ghost use Rattle.std.specs.Prelude.{◌≡◌, ℕ, ◌+◌, ◌-◌, ◌^◌, ◌<◌, ◌≤◌, length, slice_index, sum_by, IfOk, OnOk, []};
 ghost use Rattle.lb_certificates.specs.Chain.{IsDivision};
 ghost use Rattle.lb_certificates.specs.Measured.{IsSizes};
 ghost use Rattle.lb_certificates.specs.Naming.{naming_cost, moved_bytes, IsNaming};
@@ -53,14 +53,8 @@ impl<A: Allocator + Copy> CostTable<A> {
         // the table is gone finds there memory that is mapped.
         let list = pairs.len() * 3 / 2 + 2;
         let mut costs = Vec::with_capacity(alloc, list.max(blocks * blocks))?;
-        let mut room = vec![in alloc; 0u64; blocks]?;
-        let row = room.as_mut_slice();
-        for b in 0..blocks {
-            let first = cuts[b] as usize;
-            let end = cuts[b + 1] as usize;
-            fill_row(row, &pairs[first..end]);
-            costs.extend_from_slice(row)?;
-        }
+        let mut row = vec![in alloc; 0u64; blocks]?;
+        push_rows(&mut costs, &mut row, pairs, cuts)?;
         Ok(CostTable {
             count: blocks as u32,
             costs,
@@ -110,6 +104,31 @@ impl<A: Allocator> CostTable<A> {
     {
         self.count
     }
+}
+
+// Adds the costs of each block, made in this row.
+fn push_rows<A: Allocator>(
+    costs: &mut Vec<u64, A>,
+    row: &mut [u64],
+    pairs: &[(u32, Pe)],
+    cuts: &[u32],
+) -> Result<(), AllocError>
+    requires empty { costs.old.items ≡ [] }
+    requires width { length row.old ≡ length cuts.now - 1 }
+    requires sizes { IsSizes pairs.now }
+    requires some_block { 1 < length cuts.now }
+    requires few_blocks { length cuts.now ≤ Limits.PES + 1 }
+    requires divides { IsDivision 0 (length pairs.now) (length cuts.now - 1) cuts.now }
+    ensures table { OnOk result (IsTable (record { blocks = length cuts.now - 1; costs = costs.new.items })) }
+    ensures exact { OnOk result (IsTableOf pairs.now cuts.now (record { blocks = length cuts.now - 1; costs = costs.new.items })) }
+{
+    for b in 0..cuts.len() - 1 {
+        let first = cuts[b] as usize;
+        let end = cuts[b + 1] as usize;
+        fill_row(row, &pairs[first..end]);
+        costs.extend_from_slice(row)?;
+    }
+    Ok(())
 }
 
 // What the block of these elements costs on each PE: its bytes, less those that stand there.

@@ -1,3 +1,1 @@
-pub mod Internal
-pub mod Simulation
-pub mod Text
+pub mod Statuses

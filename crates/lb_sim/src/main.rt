@@ -1,31 +1,22 @@
 //! `lb_sim [--procs P] FILE` replays a dump of the load database off line: it prints the least division of the
 //! elements into consecutive blocks, with the fence that proves it, the PE of each block and the bytes that move.
 //!
-//! - [`simulation`]: the engine, from the bytes of a reader to the bytes of a writer, and the run of the program.
-//! - [`text`] and [`fault`]: what is printed.
-//! - [`output`]: writes it out.
-//! - [`noted`]: keeps the error of a read that failed.
-//! - [`ended`]: how a replay ended, and the status for it.
 //! - [`words`] and [`request`]: the words of the command line, and what they ask for.
+//! - [`replay`]: the replay that they ask for, by `lb_replay`, and the status for its end.
 #![tactic(auto)]
 
 ghost use Rattle.std.specs.Prelude.{◌≤◌};
 ghost use Rattle.std.specs.Option.{ForSome};
 
-mod ended;
-mod fault;
-mod noted;
-mod output;
+mod replay;
 mod request;
-mod simulation;
 #[cfg(test)]
 mod tests;
-mod text;
 mod words;
 
 use chare_index::Limits;
+use replay::run;
 use request::Asked;
-use simulation::run;
 use std::fs::File;
 use std::process::ExitCode;
 use std::{env, io};

@@ -1,7 +1,4 @@
-//! The program's parts on worked dumps, with readers, writers and allocators that fail.
+//! The words of a command line, runs on a worked dump, and the statuses.
 
-mod failures;
-mod fixtures;
-mod refused_memory;
-mod replays;
+mod runs;
 mod words;

@@ -1,0 +1,3 @@
+pub mod Internal
+pub mod Simulation
+pub mod Text

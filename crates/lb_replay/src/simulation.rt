@@ -1,0 +1,122 @@
+ghost use Rattle.std.specs.Prelude.{◌≡◌, ◌≤◌, ◌⊎◌, ℕ, List, Option, Some, IfOk, IfErr};
+ghost use Rattle.std.specs.Option.{ForSome};
+ghost use Rattle.std.specs.String.{string_bytes};
+ghost use Rattle.lb_strategy.specs.declared.error.PlanError.TheVariants.{OutOfMemory};
+ghost use Rattle.lb_replay.specs.Text.{fault_line};
+ghost use Rattle.lb_replay.specs.Internal.{without_memory};
+ghost use Rattle.lb_replay.specs.Simulation.{EndsReplay, IsPlanned, IsReplay, IsReplayFault, ReportsFault, ReportsUnread};
+
+use crate::ended::Ended;
+use crate::fault::{Fault, NO_MEMORY, fault_line};
+use crate::noted::Noted;
+use crate::output::write_out;
+use crate::text::decision_text;
+use chare_index::Limits;
+use lb_certificates::Snapshot;
+use lb_dump::{DumpError, read_from};
+use lb_strategy::{PlanError, plan};
+use std::alloc::Allocator;
+use std::io::{self, Read, Write};
+
+/// Replays a dump off line: reads it, plans its balancing step for `procs` PEs (1 to 256), or as many as the
+/// dump has, and writes the text of the decision, or the one line of a fault, and nothing else.
+///
+/// Out of memory is a fault of the dump while that is read, and then one of the plan. The line is the same.
+///
+/// What is printed is one function of the bytes read and the number of PEs: the clause `one_text`.
+pub fn simulate<A: Allocator + Copy, R: Read, W: Write>(
+    alloc: A,
+    reader: &mut R,
+    writer: &mut W,
+    procs: Option<u32>,
+) -> Ended
+    requires some_pe { ForSome procs (λ p. 1 ≤ p) }
+    requires few_pes { ForSome procs (λ p. p ≤ Limits.PES) }
+    ensures ends { EndsReplay A (R.remaining reader.old) (R.remaining reader.new) procs (W.contents writer.old) (W.contents writer.new) result }
+    ensures one_text { (bytes text other : List ℕ) → IsReplay A (Some bytes) procs text → IsReplay A (Some bytes) procs other → text ≡ other }
+{
+    match replay(alloc, reader, procs) {
+        Ok(text) if write_out(writer, text.as_bytes()) => Ended::Printed,
+        Ok(_) => Ended::WriteFailed,
+        Err(fault) => report(alloc, writer, fault),
+    }
+}
+
+/// Replays the dump in a file as [`simulate`] does, and returns also the system's reason where a read failed. A file
+/// that could not be opened is reported as a dump that was not read.
+pub fn replay_file<A: Allocator + Copy, R: Read + Drop, W: Write>(
+    alloc: A,
+    file: io::Result<R>,
+    writer: &mut W,
+    procs: Option<u32>,
+) -> (Ended, Option<io::Error>)
+    requires some_pe { ForSome procs (λ p. 1 ≤ p) }
+    requires few_pes { ForSome procs (λ p. p ≤ Limits.PES) }
+    ensures opened { IfOk file (λ file. (rest : Option (List ℕ)) × EndsReplay A (R.remaining file) rest procs (W.contents writer.old) (W.contents writer.new) result.0) }
+    ensures unopened { IfErr file (λ _. ReportsUnread (W.contents writer.old) (W.contents writer.new) result.0) }
+    ensures reason { IfErr file (λ reason. result.1 ≡ Some reason) }
+{
+    match file {
+        Ok(reader) => {
+            let mut noted = Noted::new(reader);
+            let ended = simulate(alloc, &mut noted, writer, procs);
+            (ended, noted.failure())
+        }
+        Err(reason) => {
+            let ended = report(alloc, writer, Fault::Dump(DumpError::Read));
+            (ended, Some(reason))
+        }
+    }
+}
+
+// The text of the decision, made whole, or the fault that kept it from being made.
+fn replay<A: Allocator + Copy, R: Read>(
+    alloc: A,
+    reader: &mut R,
+    procs: Option<u32>,
+) -> Result<String<A>, Fault>
+    requires some_pe { ForSome procs (λ p. 1 ≤ p) }
+    requires few_pes { ForSome procs (λ p. p ≤ Limits.PES) }
+    ensures text { IfOk result (λ text. IsReplay A (R.remaining reader.old) procs (string_bytes text)) }
+    ensures fault { IfErr result (IsReplayFault (R.remaining reader.old) (R.remaining reader.new)) }
+{
+    let snapshot = read_from(alloc, reader)?;
+    let pes = procs.unwrap_or(snapshot.procs());
+    Ok(planned_text(alloc, &snapshot, pes)?)
+}
+
+// The text of the decision that is planned for a snapshot.
+fn planned_text<A: Allocator + Copy, B: Allocator>(
+    alloc: A,
+    snapshot: &Snapshot<B>,
+    pes: u32,
+) -> Result<String<A>, PlanError>
+    requires some_pe { 1 ≤ pes }
+    requires few_pes { pes ≤ Limits.PES }
+    ensures text { IfOk result (λ text. IsPlanned A snapshot.now pes (string_bytes text)) }
+    ensures fault { IfErr result (λ error. error ≡ OutOfMemory) }
+{
+    let decision = plan(alloc, snapshot, pes)?;
+    Ok(decision_text(alloc, snapshot, pes, &decision)?)
+}
+
+// Writes the line of a fault, or that it is out of memory.
+fn report<A: Allocator, W: Write>(alloc: A, writer: &mut W, fault: Fault) -> Ended
+    ensures { ReportsFault (W.contents writer.old) (W.contents writer.new) fault result ⊎ ReportsFault (W.contents writer.old) (W.contents writer.new) (without_memory fault) result }
+{
+    let Ok(line) = fault_line(alloc, fault) else {
+        return report_line(writer, fault.without_memory(), NO_MEMORY.as_bytes());
+    };
+    report_line(writer, fault, line.as_bytes())
+}
+
+fn report_line<W: Write>(writer: &mut W, fault: Fault, line: &[u8]) -> Ended
+    requires { line.now ≡ fault_line fault }
+    ensures { ReportsFault (W.contents writer.old) (W.contents writer.new) fault result }
+{
+    if write_out(writer, line) {
+        Ended::at(fault)
+    } else {
+        Ended::WriteFailed
+    }
+}

@@ -1,0 +1,147 @@
+//! The printed text of a decision. It is made whole before any of it goes out.
+
+ghost use Rattle.std.specs.Prelude.{◌≡◌, ◌++◌, OnOk, IfOk, length};
+ghost use Rattle.std.specs.List.{flat_map};
+ghost use Rattle.std.specs.String.{string_bytes};
+ghost use Rattle.lb_certificates.specs.Chain.{IsDivision};
+ghost use Rattle.lb_strategy.specs.Decisions.{IsRight};
+ghost use Rattle.lb_replay.specs.Text.{head_line, bottleneck_line, floor_line, blank_number, block_start, block_line, block_lines, pe_line, moved_line, decision_text};
+
+use lb_certificates::{Floor, Loads, Snapshot};
+use lb_strategy::Decision;
+use std::alloc::{AllocError, Allocator};
+
+/// The text of a decision for `pes` PEs on the snapshot: its division with the floor, a line for each block, and
+/// the bytes that move.
+///
+/// # Errors
+///
+/// Out of memory.
+#[tactic(auto, using(crate::proofs::RightTexts::divides_from_right, crate::proofs::RightTexts::named_from_right))]
+pub(crate) fn decision_text<A: Allocator, B: Allocator, C: Allocator>(
+    alloc: A,
+    snapshot: &Snapshot<B>,
+    pes: u32,
+    decision: &Decision<C>,
+) -> Result<String<A>, AllocError>
+    requires { IsRight snapshot.now.loads snapshot.now.sizes pes decision.now }
+    ensures text { IfOk result (λ text. string_bytes text ≡ decision_text snapshot.now pes decision.now) }
+{
+    let loads = snapshot.loads();
+    let cuts = decision.division.cuts.as_slice();
+    let mut text = String::new(alloc);
+    push_head(&mut text, snapshot.step(), pes, loads.len())?;
+    push_bottleneck(&mut text, decision.division.bottleneck)?;
+    push_floor(&mut text, &decision.division.floor)?;
+    push_blocks(&mut text, loads, cuts, decision.naming.as_slice())?;
+    push_moved(&mut text, decision.moved)?;
+    Ok(text)
+}
+
+fn push_head<A: Allocator>(
+    text: &mut String<A>,
+    step: u32,
+    pes: u32,
+    elements: usize,
+) -> Result<(), AllocError>
+    ensures { OnOk result (string_bytes text.new ≡ string_bytes text.old ++ head_line step pes elements) }
+{
+    writeln!(text, "step {step} procs {pes} elements {elements}")
+}
+
+fn push_bottleneck<A: Allocator>(text: &mut String<A>, bottleneck: u64) -> Result<(), AllocError>
+    ensures { OnOk result (string_bytes text.new ≡ string_bytes text.old ++ bottleneck_line bottleneck) }
+{
+    writeln!(text, "bottleneck {bottleneck}")
+}
+
+fn push_floor<A: Allocator, B: Allocator>(
+    text: &mut String<A>,
+    floor: &Floor<B>,
+) -> Result<(), AllocError>
+    ensures { OnOk result (string_bytes text.new ≡ string_bytes text.old ++ floor_line floor.now) }
+{
+    let Floor::Fence(stops) = floor else {
+        return text.push_str("fence zero\n");
+    };
+    text.push_str("fence")?;
+    push_numbers(text, stops.as_slice())?;
+    text.push_str("\n")
+}
+
+// A blank and a number, for each.
+fn push_numbers<A: Allocator>(text: &mut String<A>, numbers: &[u32]) -> Result<(), AllocError>
+    ensures { OnOk result (string_bytes text.new ≡ string_bytes text.old ++ flat_map blank_number numbers.now) }
+{
+    for number in numbers {
+        write!(text, " {number}")?;
+    }
+    Ok(())
+}
+
+#[tactic(auto, using(crate::proofs::BlockLines::block_lines_more))]
+fn push_blocks<A: Allocator, B: Allocator>(
+    text: &mut String<A>,
+    loads: &Loads<B>,
+    cuts: &[u32],
+    names: &[u32],
+) -> Result<(), AllocError>
+    requires { IsDivision 0 (length loads.now) (length names.now) cuts.now }
+    ensures { OnOk result (string_bytes text.new ≡ string_bytes text.old ++ block_lines loads.now cuts.now names.now (length names.now)) }
+{
+    for b in 0..names.len() {
+        let first = cuts[b];
+        let end = cuts[b + 1];
+        let load = loads.load(first as usize, end as usize);
+        push_block(text, b, first, end, load, names[b])?;
+    }
+    Ok(())
+}
+
+fn push_block<A: Allocator>(
+    text: &mut String<A>,
+    b: usize,
+    first: u32,
+    end: u32,
+    load: u64,
+    pe: u32,
+) -> Result<(), AllocError>
+    ensures { OnOk result (string_bytes text.new ≡ string_bytes text.old ++ block_line b first end load pe) }
+{
+    push_block_start(text, b, first, end, load)?;
+    push_pe(text, first, end, pe)
+}
+
+// A block, without its PE.
+fn push_block_start<A: Allocator>(
+    text: &mut String<A>,
+    b: usize,
+    first: u32,
+    end: u32,
+    load: u64,
+) -> Result<(), AllocError>
+    ensures { OnOk result (string_bytes text.new ≡ string_bytes text.old ++ block_start b first end load) }
+{
+    write!(text, "block {b} {first}..{end} load {load} pe ")
+}
+
+// The PE of a block, and a dash for one that has no element.
+fn push_pe<A: Allocator>(
+    text: &mut String<A>,
+    first: u32,
+    end: u32,
+    pe: u32,
+) -> Result<(), AllocError>
+    ensures { OnOk result (string_bytes text.new ≡ string_bytes text.old ++ pe_line first end pe) }
+{
+    if first == end {
+        return text.push_str("-\n");
+    }
+    writeln!(text, "{pe}")
+}
+
+fn push_moved<A: Allocator>(text: &mut String<A>, moved: u64) -> Result<(), AllocError>
+    ensures { OnOk result (string_bytes text.new ≡ string_bytes text.old ++ moved_line moved) }
+{
+    writeln!(text, "moved {moved}")
+}

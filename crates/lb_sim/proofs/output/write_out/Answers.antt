@@ -1,9 +1,0 @@
-use Rattle.std.proofs.Common.{sym, subst}
-use Rattle.std.proofs.lemmas.List.{take_rest}
-use Rattle.lb_sim.proofs.Sends.{Sent, sent_more}
-use Rattle.lb_sim.proofs.output.write_out.Goals as goal
-
-pub loop-rest-preserved : goal.loop-rest-preserved
-loop-rest-preserved g c =
-    subst (λ r. Sent (g.W.Write.contents c.args.writer.now) (g.W.Write.contents c.write.new.self) c.args.bytes.now r) (sym (take_rest c.loop-rest.rest.now c.in-Ok.n))
-    (sent_more (g.W.Write.contents c.args.writer.now) (g.W.Write.contents c.loop-rest.writer) (g.W.Write.contents c.write.new.self) c.args.bytes.now c.loop-rest.rest.now c.in-Ok.n c.loop-rest.invariant c.in-Ok.ensures.bound c.in-Ok.ensures.bytes)

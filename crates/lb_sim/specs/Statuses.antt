@@ -1,0 +1,14 @@
+-- The status that the program exits with.
+use Rattle.std.specs.Prelude.{ℕ}
+use Rattle.lb_dump.specs.declared.error.DumpError.{DumpError}
+use Rattle.lb_strategy.specs.declared.error.PlanError.{PlanError}
+use Rattle.lb_replay.specs.declared.ended.Ended.{Ended}
+use Rattle.lb_replay.specs.declared.ended.Ended.TheVariants.{Printed, WriteFailed}
+
+-- 0 where the text was printed, 3 for a fault of the dump, 5 where memory or the output failed
+abbrev pub status_of : Ended → ℕ
+status_of Printed = 0
+status_of (Ended.Dump DumpError.OutOfMemory) = 5
+status_of (Ended.Dump e) = 3
+status_of (Ended.Plan PlanError.OutOfMemory) = 5
+status_of WriteFailed = 5

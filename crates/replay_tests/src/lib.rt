@@ -1,0 +1,12 @@
+//! Tests of whole replays, from the bytes of a dump to the text of a decision: worked dumps, dumps with a fault, readers,
+//! writers and allocators that fail. They use public calls only.
+#![tactic(auto)]
+
+#[cfg(test)]
+mod failures;
+#[cfg(test)]
+mod fixtures;
+#[cfg(test)]
+mod refused_memory;
+#[cfg(test)]
+mod replays;
