@@ -5,8 +5,8 @@ ghost use Rattle.clap.specs.declared.error.kind.ErrorKind.TheVariants.{DisplayHe
 
 use crate::request::Asked;
 use chare_index::Limits;
-use clap::{Arg, ArgAction, Command, Error, value_parser};
-use std::alloc::Global;
+use clap::{Arg, ArgAction, ArgMatches, Command, Error, value_parser};
+use std::alloc::{AllocError, Global};
 
 /// The status where the words of the command line cannot be had, or are refused.
 pub const NO_WORDS: u8 = 2;
@@ -29,26 +29,43 @@ pub fn asked<'a>(alloc: Global, words: &'a [&'a str]) -> Result<Asked<'a>, Error
     ensures some_pe { IfOk result (λ asked. ForSome asked.procs (λ p. 1 ≤ p)) }
     ensures few_pes { IfOk result (λ asked. ForSome asked.procs (λ p. p ≤ Limits.PES)) }
 {
-    let file = Arg::new(alloc, "file")
+    let matches = command(alloc)?.try_get_matches_from(words)?;
+    Ok(found(&matches))
+}
+
+// The words that are understood: `lb_sim [--procs P] FILE`.
+fn command<'a>(alloc: Global) -> Result<Command<'a>, AllocError> {
+    let command = Command::new(alloc, "lb_sim").version("0.1.0").about(
+        "Replays a dump of the load database and prints the decision of its balancing step",
+    );
+    command.arg(file(alloc))?.arg(procs(alloc))
+}
+
+fn file<'a>(alloc: Global) -> Arg<'a> {
+    Arg::new(alloc, "file")
         .value_name("FILE")
         .help("A dump of the load database")
         .required(true)
-        .action(ArgAction::Set);
-    let procs = Arg::new(alloc, "procs")
+        .action(ArgAction::Set)
+}
+
+fn procs<'a>(alloc: Global) -> Arg<'a> {
+    Arg::new(alloc, "procs")
         .long("procs")
         .value_name("P")
         .help("Plans for P processors in place of the dump's own number")
         .action(ArgAction::Set)
-        .value_parser(value_parser!(u32).range(1..=i64::from(Limits::PES)));
-    let command = Command::new(alloc, "lb_sim")
-        .version("0.1.0")
-        .about("Replays a dump of the load database and prints the decision of its balancing step")
-        .arg(file)?
-        .arg(procs)?;
-    let matches = command.try_get_matches_from(words)?;
+        .value_parser(value_parser!(u32).range(1..=i64::from(Limits::PES)))
+}
+
+// What was found among the words.
+fn found<'a>(matches: &ArgMatches<'a>) -> Asked<'a>
+    ensures some_pe { ForSome result.procs (λ p. 1 ≤ p) }
+    ensures few_pes { ForSome result.procs (λ p. p ≤ Limits.PES) }
+{
     let procs = matches.get_one::<u32>("procs");
-    Ok(Asked {
+    Asked {
         file: matches.get_str("file").unwrap_or(""),
         procs: procs.filter(|&p| 1 <= p && p <= Limits::PES),
-    })
+    }
 }
