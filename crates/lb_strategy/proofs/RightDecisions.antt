@@ -7,7 +7,7 @@ use Rattle.lb_certificates.specs.Certificate.{IsCertified}
 use Rattle.lb_certificates.specs.Chain.{IsDivision, IsLeastDivision}
 use Rattle.lb_certificates.specs.declared.division.Division.{Division}
 use Rattle.chare_index.specs.declared.limits.TheConstants.Limits.{PES}
-use Rattle.lb_certificates.specs.Naming.{block_cost, block_of, blocks_between, bytes_moved, naming_cost, AreBlocks, price_at, IsCheapest, IsFirstCheapest, IsLeastNaming, IsNaming, Proves}
+use Rattle.lb_certificates.specs.Naming.{block_cost, block_of, blocks_between, bytes_moved, naming_cost, AreBlocks, price_at, IsCheapest, IsFirstCheapest, IsLeastNaming, IsNamed, IsNaming, Proves}
 use Rattle.lb_certificates.proofs.BlockSums.{cheapest_from_named, moved_is_cost}
 use Rattle.lb_certificates.proofs.LeastDivisions.{least_from_certified}
 use Rattle.lb_certificates.proofs.LeastNamings.{least_by}
@@ -15,7 +15,7 @@ use Rattle.lb_certificates.proofs.Totals.{total_same}
 use Rattle.block_assignment.specs.Table.{Table, cost_at, IsTableOf}
 use Rattle.lb_strategy.specs.declared.decision.Decision.{Decision}
 use Rattle.lb_strategy.specs.Moves.{HasPlace}
-use Rattle.lb_strategy.specs.Decisions.{right_moves, IsNamedRight, IsRight}
+use Rattle.lb_strategy.specs.Decisions.{IsNamedRight, IsRight}
 
 pub least_from_right : {A : Type 0} (loads : List ℕ) (sizes : List (ℕ × ℕ)) (p : ℕ) (d : Decision A) → IsRight loads sizes p d → IsLeastDivision loads p d.division.bottleneck d.division.cuts
 least_from_right loads sizes p d right = least_from_certified loads p d.division right.division
@@ -70,7 +70,7 @@ blocks_from_certified loads sizes p d certified counted some few =
     }
 
 -- a naming costs by the table of its blocks what it moves
-moved_by_table : (sizes : List (ℕ × ℕ)) (cuts names : List ℕ) (t : Table) → AreBlocks sizes cuts → IsTableOf sizes cuts t → IsNaming t.blocks names → naming_cost t.blocks (cost_at t) names ≡ bytes_moved sizes cuts names
+pub moved_by_table : (sizes : List (ℕ × ℕ)) (cuts names : List ℕ) (t : Table) → AreBlocks sizes cuts → IsTableOf sizes cuts t → IsNaming t.blocks names → naming_cost t.blocks (cost_at t) names ≡ bytes_moved sizes cuts names
 moved_by_table sizes cuts names t blocks table naming =
     let by_block : naming_cost t.blocks (cost_at t) names ≡ naming_cost t.blocks (block_cost sizes cuts) names = total_same t.blocks (λ b. cost_at t b (slice_index names b)) (λ b. block_cost sizes cuts b (slice_index names b)) (λ b inside. table.exact b (slice_index names b) inside (naming.below b inside)) in
     by_block ∙ ap (λ n. naming_cost n (block_cost sizes cuts) names) table.counted ∙ sym (moved_is_cost sizes cuts names (blocks_between cuts) blocks.divides)
@@ -92,16 +92,11 @@ proved_by_table sizes cuts names u v t blocks table naming proved =
       adds_up = proved.adds_up ∙ ap pos (moved_by_table sizes cuts names t blocks table naming);
     }
 
--- a certified division, named and priced by the table of its blocks, with the bytes of the table and the moves
-pub right_from_table : {A : Type 0} (loads : List ℕ) (sizes : List (ℕ × ℕ)) (p : ℕ) (d : Decision A) (t : Table) → IsCertified loads p d.division → AreBlocks sizes d.division.cuts → IsTableOf sizes d.division.cuts t → IsNaming t.blocks d.naming → Proves t.blocks (cost_at t) (naming_cost t.blocks (cost_at t) d.naming) d.prices.u d.prices.v → d.moved ≡ naming_cost t.blocks (cost_at t) d.naming → d.moves ≡ right_moves sizes d → IsRight loads sizes p d
-right_from_table loads sizes p d t division blocks table naming proved moved moves =
+-- a naming of the blocks, priced by their table
+pub named_by_table : (sizes : List (ℕ × ℕ)) (cuts names : List ℕ) (u v : List ℤ) (t : Table) → AreBlocks sizes cuts → IsTableOf sizes cuts t → IsNaming t.blocks names → Proves t.blocks (cost_at t) (naming_cost t.blocks (cost_at t) names) u v → IsNamed sizes cuts names u v
+named_by_table sizes cuts names u v t blocks table naming proved =
     record {
-      division = division;
-      named = record {
-        blocks = blocks;
-        naming = subst (λ n. IsNaming n d.naming) table.counted naming;
-        proved = proved_by_table sizes d.division.cuts d.naming d.prices.u d.prices.v t blocks table naming proved;
-      };
-      moved = moved ∙ moved_by_table sizes d.division.cuts d.naming t blocks table naming;
-      moves = moves;
+      blocks = blocks;
+      naming = subst (λ n. IsNaming n names) table.counted naming;
+      proved = proved_by_table sizes cuts names u v t blocks table naming proved;
     }

@@ -2,7 +2,7 @@ ghost use Rattle.std.specs.Prelude.{◌≡◌, ◌<◌, ◌≤◌, ℕ, length, 
 ghost use Rattle.chain_partition.specs.Chosen.{IsChosen};
 ghost use Rattle.lb_certificates.specs.Certificate.{IsCertified};
 ghost use Rattle.lb_certificates.specs.Chain.{IsLeastDivision};
-ghost use Rattle.lb_certificates.specs.Naming.{IsCheapest, IsLeastNaming};
+ghost use Rattle.lb_certificates.specs.Naming.{AreBlocks, IsCheapest, IsLeastNaming, IsNamed, blocks_between, bytes_moved};
 ghost use Rattle.lb_strategy.specs.Decisions.{IsRight};
 ghost use Rattle.lb_strategy.specs.Moves.{HasPlace};
 ghost use Rattle.lb_strategy.specs.declared.error.PlanError.TheVariants.{OutOfMemory};
@@ -13,7 +13,7 @@ use crate::moves::moves_of;
 use block_assignment::{CostTable, name_blocks};
 use chain_partition::{divide, divide_with};
 use chare_index::{Gate, Limits};
-use lb_certificates::{Division, Snapshot};
+use lb_certificates::{Cuts, Division, Naming, Prices, Sizes, Snapshot};
 use std::alloc::Allocator;
 use std::thread::Threads;
 
@@ -25,7 +25,6 @@ use std::thread::Threads;
 /// # Errors
 ///
 /// [`OutOfMemory`](PlanError::OutOfMemory) where a list was refused.
-#[tactic(auto, using(crate::proofs::RightDecisions::least_from_right, crate::proofs::RightDecisions::cheapest_from_right))]
 pub fn plan<A: Allocator + Copy, B: Allocator>(
     alloc: A,
     snapshot: &Snapshot<B>,
@@ -51,7 +50,6 @@ pub fn plan<A: Allocator + Copy, B: Allocator>(
 /// # Errors
 ///
 /// [`OutOfMemory`](PlanError::OutOfMemory) where a list was refused.
-#[tactic(auto, using(crate::proofs::RightDecisions::least_from_right, crate::proofs::RightDecisions::cheapest_from_right))]
 pub fn plan_with<R: Threads + Sync, G: Gate + Sync, A: Allocator + Copy, B: Allocator>(
     rt: &R,
     alloc: A,
@@ -90,16 +88,14 @@ fn complete<A: Allocator + Copy, B: Allocator>(
     requires certified { IsCertified snapshot.now.loads pes division }
     ensures chosen { IfOk result (λ d. IsChosen snapshot.now.loads pes d.division) }
     ensures right { IfOk result (IsRight snapshot.now.loads snapshot.now.sizes pes) }
+    ensures least { IfOk result (λ d. IsLeastDivision snapshot.now.loads pes d.division.bottleneck d.division.cuts) }
+    ensures cheapest { IfOk result (λ d. IsCheapest snapshot.now.sizes d.division.cuts pes d.naming) }
     ensures least_naming { IfOk result (λ d. IsLeastNaming snapshot.now.sizes d.division.cuts pes d.naming) }
     ensures places { IfOk result (λ d. (i : ℕ) → i < length snapshot.now.sizes → HasPlace d.division.cuts d.naming i) }
     ensures only_memory { IfErr result (λ error. error ≡ OutOfMemory) }
 {
     let sizes = snapshot.sizes();
-    let table = CostTable::of(alloc, sizes, &division.cuts)?;
-    let (naming, prices) = name_blocks(alloc, &table)?;
-    let moved = table.cost_of(naming.as_slice());
-    // The list of the moves, the greatest of a decision, finds the table's room free.
-    drop(table);
+    let (naming, prices, moved) = named(alloc, sizes, &division.cuts)?;
     let pairs = sizes.as_slice();
     let moves = moves_of(alloc, pairs, division.cuts.as_slice(), naming.as_slice())?;
     Ok(Decision {
@@ -109,4 +105,23 @@ fn complete<A: Allocator + Copy, B: Allocator>(
         moved,
         moves,
     })
+}
+
+// The least naming of these blocks, with its prices, and the bytes that it moves. The table's room is free again before
+// the list of the moves is made, the greatest of a decision.
+fn named<A: Allocator + Copy, B: Allocator>(
+    alloc: A,
+    sizes: &Sizes<B>,
+    cuts: &Cuts<A>,
+) -> Result<(Naming<A>, Prices<A>, u64), PlanError>
+    requires blocks { AreBlocks sizes.now cuts.now }
+    ensures named { IfOk result (λ found. IsNamed sizes.now cuts.now found.0 found.1.u found.1.v) }
+    ensures least_naming { IfOk result (λ found. IsLeastNaming sizes.now cuts.now (blocks_between cuts.now) found.0) }
+    ensures moved { IfOk result (λ found. found.2 ≡ bytes_moved sizes.now cuts.now found.0) }
+    ensures only_memory { IfErr result (λ error. error ≡ OutOfMemory) }
+{
+    let table = CostTable::of(alloc, sizes, cuts)?;
+    let (naming, prices) = name_blocks(alloc, &table)?;
+    let moved = table.cost_of(naming.as_slice());
+    Ok((naming, prices, moved))
 }
