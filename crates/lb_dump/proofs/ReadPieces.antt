@@ -1,6 +1,6 @@
 -- A dump that comes from a reader, piece by piece.
 use Rattle.std.proofs.Common.{◌≡◌, ℕ, ◌≤◌, ◌⊎◌, inl, inr, List, ◌++◌, length, take, drop, Option, Some, None, Result, Ok, Err, sym, ap, subst, ◌∙◌, arith, length-take, length-append}
-use Rattle.std.specs.Prelude.{IfSome}
+use Rattle.std.specs.Prelude.{IfErr, IfSome, ⊤}
 use Rattle.std.specs.Io.KnownBytes.{Consumes}
 use Rattle.std.proofs.KnownBytes.{Consumes-trans}
 use Rattle.std.proofs.lemmas.List.{take-append-le, take-take}
@@ -10,10 +10,6 @@ use Rattle.lb_dump.specs.declared.error.DumpError.TheVariants.{Magic, Short, Pro
 use Rattle.lb_dump.specs.Faults.{IsBroken, IsFault}
 use Rattle.lb_dump.specs.Reading.{Progress, Feeds, EndsText, IsAnswer}
 use Rattle.lb_dump.proofs.GoodTexts.{broken_append}
-
--- the bytes that were read stand at the start of the buffer
-pub read_bytes : (n len : ℕ) (buffer rest now : List ℕ) → now ≡ take len (buffer ++ rest) → n ≤ length buffer → length buffer ≤ len → take n now ≡ take n buffer
-read_bytes n len buffer rest now is inside long = ap (take n) is ∙ take-take n len (buffer ++ rest) (omega arith) ∙ take-append-le n buffer rest inside
 
 -- a fault that a byte brings is the first one of the text
 pub fault_by : (text : List ℕ) (e : DumpError) → IsBroken text e → IsFault text e
@@ -45,18 +41,15 @@ fed_broken (Some bytes) now after text piece dump new e is_text so_far came fed 
           | inr broken ↦ inr (fault_by bytes e (subst (λ t. IsBroken t e) (sym came) (broken_append (text ++ piece) rest e broken)))
         ]
 
--- the answer is that to all bytes, or that the reader failed
-pub told : (old : Option (List ℕ)) (result : Result Taken DumpError) (e : DumpError) → result ≡ Err e → IfSome old (λ bytes. (e ≡ OutOfMemory) ⊎ IsFault bytes e) → IfSome old (λ bytes. (result ≡ Err Read) ⊎ IsAnswer bytes result)
-told None result e is fault = tt
-told (Some bytes) result e is fault = inr (subst (λ (r : Result Taken DumpError). IsAnswer bytes r) (sym is) fault)
+-- the fault of all bytes, or that the reader failed
+pub faulted : (old : Option (List ℕ)) (result : Result ⊤ DumpError) (e : DumpError) → result ≡ Err e → IfSome old (λ bytes. (e ≡ OutOfMemory) ⊎ IsFault bytes e) → IfErr result (λ f. IfSome old (λ bytes. (f ≡ Read) ⊎ ((f ≡ OutOfMemory) ⊎ IsFault bytes f)))
+faulted None (Ok a) e is fault = tt
+faulted None (Err f) e is fault = tt
+faulted (Some bytes) result e is fault = subst (λ (r : Result ⊤ DumpError). IfErr r (λ f. (f ≡ Read) ⊎ ((f ≡ OutOfMemory) ⊎ IsFault bytes f))) (sym is) (inr fault)
 
 -- a piece without a fault is put at the end of the text
 pub fed : (text piece : List ℕ) (dump new : Progress) → dump ≡ Ok text → Feeds dump piece (Ok tt) new → new ≡ Ok (text ++ piece)
 fed text piece dump new is_text step = (subst (λ (p : Progress). Feeds p piece (Ok tt) new) is_text step).1
-
--- a buffer that is read into keeps its length
-pub buffer_len : (len : ℕ) (buffer items : List ℕ) → length items ≡ len → length buffer ≡ len → length (take len (buffer ++ drop (length buffer) items)) ≡ len
-buffer_len len buffer items stored lent = omega (arith, length-take len (buffer ++ drop (length buffer) items), length-append buffer (drop (length buffer) items))
 
 -- the answer at the end of a text is an answer to it
 pub answer_at_end : (text : List ℕ) (result : Result Taken DumpError) → EndsText text result → IsAnswer text result

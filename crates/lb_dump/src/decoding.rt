@@ -1,4 +1,4 @@
-ghost use Rattle.std.specs.Prelude.{◌≡◌, ◌⊎◌, List, ℕ, IfSome, IsErrOf, MatchResult, OnOk, Err};
+ghost use Rattle.std.specs.Prelude.{◌≡◌, ◌⊎◌, List, [], ℕ, length, IfErr, IfSome, IsErrOf, MatchResult, OnOk, Ok, Err};
 ghost use Rattle.std.specs.Io.KnownBytes.{Consumes, IsAtEnd};
 ghost use Rattle.lb_dump.specs.Reading.{IsAnswer};
 ghost use Rattle.lb_certificates.specs.Measured.{Taken};
@@ -52,12 +52,28 @@ pub fn read_from<R: Read, A: Allocator + Copy>(
     let mut piece = Vec::new(alloc);
     piece.resize(PIECE_LEN, 0)?;
     let mut dump = DumpReader::new(alloc);
+    feed_from(&mut dump, reader, &mut piece)?;
+    dump.end()
+}
+
+// Feeds a dump, of which nothing has come, what the reader gives to its end.
+fn feed_from<R: Read, A: Allocator>(
+    dump: &mut DumpReader<A>,
+    reader: &mut R,
+    piece: &mut [u8],
+) -> Result<(), DumpError>
+    requires fresh { dump.old ≡ Ok [] }
+    requires room { length piece.old ≡ PIECE_LEN }
+    ensures ended { OnOk result ((text : List ℕ) × (dump.new ≡ Ok text) × Consumes (R.remaining reader.old) (R.remaining reader.new) text × IsAtEnd (R.remaining reader.new)) }
+    ensures fault { IfErr result (λ e. IfSome (R.remaining reader.old) (λ bytes. (e ≡ DumpError.Read) ⊎ ((e ≡ DumpError.OutOfMemory) ⊎ IsFault bytes e))) }
+    ensures failed { IfErr result (λ e. e ≡ DumpError.Read → (text : List ℕ) × Consumes (R.remaining reader.old) (R.remaining reader.new) text × IsGood text) }
+{
     for _ in 0..CALLS {
-        let Ok(len) = reader.read(&mut piece) else {
+        let Ok(len) = reader.read(piece) else {
             return Err(DumpError::Read);
         };
         if len == 0 {
-            return dump.end();
+            return Ok(());
         }
         dump.feed(&piece[..len])?;
     }

@@ -1,4 +1,4 @@
-use Rattle.std.proofs.Common.{◌≡◌, true, false, Result, Ok, Err, IsOk, IsErr, refl, rules}
+use Rattle.std.proofs.Common.{◌≡◌, true, false, Result, Ok, Err, IsOk, IsErr, refl, inl, inr, rules}
 use Rattle.lb_strategy.specs.Decisions.{IsRight}
 use Rattle.lb_strategy.proofs.RightDecisions.{place_from_right}
 use Rattle.lb_strategy.proofs.checking.check_parts.Goals as goal
@@ -22,3 +22,7 @@ returns-clause-places g c =
       moves = search rules;
     } in
     place_from_right c.args.loads.now c.args.sizes.now c.args.pes c.args.decision.now right
+
+pub returns-then-moved-decision-clause-first_flaw : goal.returns-then-moved-decision-clause-first_flaw
+returns-then-moved-decision-clause-first_flaw g c =
+    inr (inr (inl (c.in_ok-check_division.ensures.exact.0 refl, c.in_ok-moved.ensures.exact.0 refl, refl, search rules)))
