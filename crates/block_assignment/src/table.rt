@@ -106,7 +106,7 @@ impl<A: Allocator> CostTable<A> {
     }
 }
 
-// Adds the costs of each block, made in this row.
+// Puts the costs of all blocks, block by block, into the empty list `costs`. `row` is room for those of one block.
 fn push_rows<A: Allocator>(
     costs: &mut Vec<u64, A>,
     row: &mut [u64],

@@ -1,9 +1,8 @@
 -- A dump that comes from a reader, piece by piece.
-use Rattle.std.proofs.Common.{◌≡◌, ℕ, ◌≤◌, ◌⊎◌, inl, inr, List, ◌++◌, length, take, drop, Option, Some, None, Result, Ok, Err, sym, ap, subst, ◌∙◌, arith, length-take, length-append}
+use Rattle.std.proofs.Common.{◌≡◌, ℕ, ◌⊎◌, inl, inr, List, ◌++◌, Option, Some, None, Result, Ok, Err, sym, subst}
 use Rattle.std.specs.Prelude.{IfErr, IfSome, ⊤}
 use Rattle.std.specs.Io.KnownBytes.{Consumes}
 use Rattle.std.proofs.KnownBytes.{Consumes-trans}
-use Rattle.std.proofs.lemmas.List.{take-append-le, take-take}
 use Rattle.lb_certificates.specs.Measured.{Taken}
 use Rattle.lb_dump.specs.declared.error.DumpError.{DumpError}
 use Rattle.lb_dump.specs.declared.error.DumpError.TheVariants.{Magic, Short, Procs, Count, Size, Place, Trailing, Read, Write, OutOfMemory}
@@ -41,7 +40,7 @@ fed_broken (Some bytes) now after text piece dump new e is_text so_far came fed 
           | inr broken ↦ inr (fault_by bytes e (subst (λ t. IsBroken t e) (sym came) (broken_append (text ++ piece) rest e broken)))
         ]
 
--- the fault of all bytes, or that the reader failed
+-- the fault of all bytes, or out of memory, or that the reader failed
 pub faulted : (old : Option (List ℕ)) (result : Result ⊤ DumpError) (e : DumpError) → result ≡ Err e → IfSome old (λ bytes. (e ≡ OutOfMemory) ⊎ IsFault bytes e) → IfErr result (λ f. IfSome old (λ bytes. (f ≡ Read) ⊎ ((f ≡ OutOfMemory) ⊎ IsFault bytes f)))
 faulted None (Ok a) e is fault = tt
 faulted None (Err f) e is fault = tt

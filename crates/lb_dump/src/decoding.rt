@@ -56,7 +56,7 @@ pub fn read_from<R: Read, A: Allocator + Copy>(
     dump.end()
 }
 
-// Feeds a dump, of which nothing has come, what the reader gives to its end.
+// Feeds `dump`, which has no bytes yet, all that `reader` gives to its end. `piece` is room for the bytes of one call.
 fn feed_from<R: Read, A: Allocator>(
     dump: &mut DumpReader<A>,
     reader: &mut R,

@@ -7,7 +7,7 @@
 //! ```
 //! use lb_replay::{Ended, simulate};
 //!
-//! // No elements on three PEs, at step 7.
+//! // No elements on three PEs, at step 7, replayed for one PE.
 //! let mut dump = b"LBD1\0\0\0\x07\0\0\0\x03\0\0\0\0".as_slice();
 //! let mut text = Vec::new(alloc);
 //! assert!(simulate(alloc, &mut dump, &mut text, Some(1)) == Ended::Printed);

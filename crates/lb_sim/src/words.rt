@@ -58,7 +58,7 @@ fn procs<'a>(alloc: Global) -> Arg<'a> {
         .value_parser(value_parser!(u32).range(1..=i64::from(Limits::PES)))
 }
 
-// What was found among the words.
+// What the words ask for. A number out of range, which clap refuses, would count as none.
 fn found<'a>(matches: &ArgMatches<'a>) -> Asked<'a>
     ensures some_pe { ForSome result.procs (λ p. 1 ≤ p) }
     ensures few_pes { ForSome result.procs (λ p. p ≤ Limits.PES) }

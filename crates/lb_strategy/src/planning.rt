@@ -107,8 +107,8 @@ fn complete<A: Allocator + Copy, B: Allocator>(
     })
 }
 
-// The least naming of these blocks, with its prices, and the bytes that it moves. The table's room is free again before
-// the list of the moves is made, the greatest of a decision.
+// The least naming of these blocks, with its prices, and the bytes that it moves. The table is dropped on return, so its
+// room is free for the greatest list of a decision, that of the moves.
 fn named<A: Allocator + Copy, B: Allocator>(
     alloc: A,
     sizes: &Sizes<B>,

@@ -11,7 +11,7 @@ use lb_replay::Ended;
 use lb_strategy::PlanError;
 use std::io;
 
-// Three elements on two PEs, at step 5.
+// Three elements on two PEs, at step 5: the dump in `data/`.
 const EXAMPLE: [u8; 52] = *b"LBD1\0\0\0\x05\0\0\0\x02\0\0\0\x03\
     \0\0\0\x01\0\0\0\x0a\0\0\0\0\
     \0\0\0\x01\0\0\0\x09\0\0\0\x01\
