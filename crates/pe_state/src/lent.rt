@@ -60,8 +60,7 @@ pub(crate) fn execute<C: Chare<A>, H: Openings<C>, A: Allocator + Copy, G: Gate>
     *count = posted;
     *outbox = back;
     *reports = told;
-    let note = answer?;
-    Ok(note)
+    answer
 }
 
 /// Resumes an element, which stands in the room, and returns the note that is owed for it.
@@ -106,8 +105,7 @@ pub(crate) fn resume<C: Chare<A>, H: Openings<C>, A: Allocator + Copy, G: Gate>(
     *count = posted;
     *outbox = back;
     *reports = told;
-    let note = answer?;
-    Ok(note)
+    answer
 }
 
 /// Owes the board a note, if there is one, in room that was made for it.

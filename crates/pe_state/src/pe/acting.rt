@@ -88,13 +88,9 @@ impl<C: Chare<A>, H: Openings<C>, A: Allocator + Copy> PeState<C, H, A> {
         };
         match parcel {
             Carried::Letter(letter) => {
-                let acted = self.act_on_letter(gate, letter, address, reporting, reports)?;
-                Ok(acted)
+                self.act_on_letter(gate, letter, address, reporting, reports)
             }
-            Carried::Element(element) => {
-                let acted = self.act_on_element(element, address, reporting, reports)?;
-                Ok(acted)
-            }
+            Carried::Element(element) => self.act_on_element(element, address, reporting, reports),
         }
     }
 }
@@ -121,8 +117,7 @@ impl<C: Chare<A>, H: Openings<C>, A: Allocator + Copy> PeState<C, H, A> {
         ensures same_reports { OnErr result (reports.new.items ≡ reports.old.items) }
     {
         let Some(element) = self.room.element(letter.to()) else {
-            let acted = self.pass_on(letter, look, reporting, reports)?;
-            return Ok(acted);
+            return self.pass_on(letter, look, reporting, reports);
         };
         if !element.progress().started {
             self.hold(Carried::Letter(letter), look);
