@@ -1,19 +1,13 @@
 //! The worked rows: four elements of which one reports first, a database with no elements in the last round,
 //! and two rounds of two elements.
 
-ghost use Rattle.std.specs.Prelude.{◌≡◌, ◌≤◌};
+ghost use Rattle.std.specs.Prelude.{◌≤◌};
 
-use crate::fixtures::pe;
 use chare_index::{Pe, Round};
 use lb_certificates::{Snapshot, Units};
 use lb_database::{DbError, LoadDb};
 use std::process::Abort;
-
-fn round(rt: &impl Abort, number: u32) -> Round
-    ensures { result ≡ number }
-{
-    Round::new(number).expect(rt, "no such round")
-}
+use test_fixtures::{pe, round};
 
 type Element = (Option<Units>, Option<(u32, Pe)>);
 
@@ -63,7 +57,7 @@ fn is_in_round(db: &LoadDb, round: Round, len: usize, is_complete: bool) -> bool
 // A database of four elements, of which element 2 has done all the work that is counted, and reported.
 fn begun(rt: &(impl Abort + AllocGlobal)) -> LoadDb {
     let mut db = LoadDb::new(rt.alloc(), 4).expect(rt, "out of memory");
-    let reported = db.report(2, round(rt, 1), 5, pe(rt, 0));
+    let reported = db.report(2, round(1), 5, pe(0));
     assert!(rt; reported.is_ok() && db.charge(2, u32::MAX).is_ok() && db.charge(2, 1).is_ok());
     db
 }
@@ -85,7 +79,7 @@ fn refuses_to_go_on(db: &mut LoadDb) -> bool {
 fn four_elements_of_which_one_reported(rt: HostRuntime) {
     let mut db = begun(&rt);
     let before = seen(&db);
-    assert!(rt; has(&db, 2, u32::MAX, Some((5, pe(&rt, 0)))));
+    assert!(rt; has(&db, 2, u32::MAX, Some((5, pe(0)))));
     assert!(rt; refuses_to_go_on(&mut db));
     assert!(rt; refuses_a_snapshot(&db));
     assert!(rt; seen(&db) == before);
@@ -98,7 +92,12 @@ type Refused = (u32, u32, u32, DbError);
 fn is_refused(rt: &impl Abort, db: &mut LoadDb, report: &Refused) -> bool {
     let &(i, number, bytes, error) = report;
     let before = seen(db);
-    let answer = db.report(i, round(rt, number), bytes, pe(rt, 0));
+    let answer = db.report(
+        i,
+        Round::new(number).expect(rt, "no such round"),
+        bytes,
+        pe(0),
+    );
     answer == Err(error) && seen(db) == before
 }
 
@@ -121,7 +120,7 @@ fn reports_that_are_refused(rt: HostRuntime) {
 
 // The answer to a report of one byte of an element.
 fn report_a_byte(rt: &impl Abort, db: &mut LoadDb, i: u32, number: u32) -> Result<(), DbError> {
-    db.report(i, round(rt, number), 1, pe(rt, 0))
+    db.report(i, Round::new(number).expect(rt, "no such round"), 1, pe(0))
 }
 
 // What the other three elements do: each reports one byte.
@@ -141,9 +140,9 @@ fn taken(rt: &impl Abort, db: &LoadDb, step: u32, pes: u32) -> Snapshot
 }
 
 // Whether this is the snapshot of the four elements.
-fn is_of_four(rt: &impl Abort, taken: &Snapshot) -> bool {
+fn is_of_four(taken: &Snapshot) -> bool {
     let loads = [0, 0, 4_294_967_295, 0];
-    let place = pe(rt, 0);
+    let place = pe(0);
     let sizes = [(1, place), (1, place), (5, place), (1, place)];
     (taken.step(), taken.procs()) == (1, 1)
         && taken.loads().as_slice() == loads.as_slice()
@@ -154,31 +153,31 @@ fn is_of_four(rt: &impl Abort, taken: &Snapshot) -> bool {
 fn a_full_load_is_taken(rt: HostRuntime) {
     let mut db = begun(&rt);
     report_the_others(&rt, &mut db);
-    assert!(rt; is_of_four(&rt, &taken(&rt, &db, 1, 1)));
+    assert!(rt; is_of_four(&taken(&rt, &db, 1, 1)));
 }
 
 // A database of no elements in the last round.
 fn worn(rt: &(impl Abort + AllocGlobal)) -> LoadDb {
-    let last = round(rt, 2_147_483_648);
+    let last = round(2_147_483_648);
     LoadDb::at(rt.alloc(), 0, last).expect(rt, "out of memory")
 }
 
 // Whether it is that one, and has nothing for its first five indexes.
-fn is_worn(rt: &impl Abort, db: &LoadDb) -> bool {
+fn is_worn(db: &LoadDb) -> bool {
     for i in 0..5 {
         if element(db, i) != (None, None) {
             return false;
         }
     }
-    is_in_round(db, round(rt, 2_147_483_648), 0, true)
+    is_in_round(db, round(2_147_483_648), 0, true)
 }
 
 #[test]
 fn no_elements(rt: HostRuntime) {
     let mut db = worn(&rt);
-    assert!(rt; is_worn(&rt, &db));
+    assert!(rt; is_worn(&db));
     assert!(rt; db.next_round() == Err(DbError::Worn));
-    assert!(rt; is_worn(&rt, &db), "after the refusal");
+    assert!(rt; is_worn(&db), "after the refusal");
 }
 
 #[test]
@@ -190,7 +189,7 @@ fn no_elements_are_taken(rt: HostRuntime) {
 // What an element of the two does: it works, reports and works on.
 fn work(rt: &impl Abort, db: &mut LoadDb, i: u32) {
     assert!(rt; db.charge(i, 7).is_ok());
-    let answer = db.report(i, round(rt, 1), 1_048_576, pe(rt, 255));
+    let answer = db.report(i, round(1), 1_048_576, pe(255));
     assert!(rt; answer.is_ok());
     assert!(rt; db.charge(i, 2).is_ok(), "after the report");
 }
@@ -206,7 +205,7 @@ fn reported(rt: &(impl Abort + AllocGlobal)) -> LoadDb {
 #[test]
 fn work_after_a_report_is_counted(rt: HostRuntime) {
     let db = reported(&rt);
-    let report = Some((1_048_576, pe(&rt, 255)));
+    let report = Some((1_048_576, pe(255)));
     assert!(rt; has(&db, 0, 9, report) && has(&db, 1, 9, report));
     assert!(rt; db.is_complete(), "not complete");
 }
@@ -221,7 +220,7 @@ fn begun_anew(rt: &(impl Abort + AllocGlobal)) -> LoadDb {
 #[test]
 fn the_next_round_has_nothing(rt: HostRuntime) {
     let db = begun_anew(&rt);
-    assert!(rt; is_in_round(&db, round(&rt, 2), 2, false));
+    assert!(rt; is_in_round(&db, round(2), 2, false));
     assert!(rt; has(&db, 0, 0, None) && has(&db, 1, 0, None));
 }
 

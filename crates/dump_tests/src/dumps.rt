@@ -3,12 +3,13 @@
 
 ghost use Rattle.std.specs.Prelude.{◌<◌};
 
-use crate::fixtures::{EXAMPLE, Sink, Source, example, fed_byte_by_byte, has_text, is_example};
+use crate::fixtures::{example, fed_byte_by_byte, has_text, is_example};
 use lb_certificates::Snapshot;
 use lb_dump::{DumpError, DumpReader, decode, format_laws, read_from, write_to};
 use std::alloc::Global;
 use std::io::ErrorKind;
 use std::process::Abort;
+use test_fixtures::{EXAMPLE_DUMP, Sink, Source};
 
 // What these pieces give, or why they give nothing.
 fn fed(alloc: Global, pieces: &[&[u8]]) -> Result<Snapshot, DumpError> {
@@ -29,8 +30,8 @@ fn give(rt: &(impl Abort + AllocGlobal), pieces: &[&[u8]], text: &[u8]) -> bool 
 
 #[test]
 fn the_example(rt: HostRuntime) {
-    assert!(rt; has_text(&rt, &example(&rt), &EXAMPLE));
-    assert!(rt; is_example(&rt, decode(rt.alloc(), &EXAMPLE)));
+    assert!(rt; has_text(&rt, &example(&rt), &EXAMPLE_DUMP));
+    assert!(rt; is_example(decode(rt.alloc(), &EXAMPLE_DUMP)));
 }
 
 // Whether a list of bytes that a snapshot is written to gets this text.
@@ -42,22 +43,22 @@ fn is_written(rt: &impl AllocGlobal, snapshot: &Snapshot, text: &[u8]) -> bool {
 
 #[test]
 fn the_example_is_written(rt: HostRuntime) {
-    assert!(rt; is_written(&rt, &example(&rt), &EXAMPLE));
+    assert!(rt; is_written(&rt, &example(&rt), &EXAMPLE_DUMP));
 }
 
 #[test]
 fn in_any_pieces(rt: HostRuntime) {
     for cut in 0..=52usize {
-        let (start, rest) = EXAMPLE.split_at(cut);
+        let (start, rest) = EXAMPLE_DUMP.split_at(cut);
         let pieces: [&[u8]; 5] = [&[], start, &[], rest, &[]];
-        assert!(rt; give(&rt, &pieces, &EXAMPLE), "cut at {cut}");
+        assert!(rt; give(&rt, &pieces, &EXAMPLE_DUMP), "cut at {cut}");
     }
 }
 
 #[test]
 fn the_example_byte_by_byte(rt: HostRuntime) {
-    let found = fed_byte_by_byte(rt.alloc(), &EXAMPLE);
-    assert!(rt; is_example(&rt, found));
+    let found = fed_byte_by_byte(rt.alloc(), &EXAMPLE_DUMP);
+    assert!(rt; is_example(found));
 }
 
 // Whether a reader that is given this text byte by byte returns the fault from the byte at this offset on, from each
@@ -82,7 +83,7 @@ fn has_fault(alloc: Global, text: &[u8], from: usize, fault: DumpError) -> bool 
 #[test]
 fn each_prefix_is_short(rt: HostRuntime) {
     for len in 0..52u32 {
-        let start = &EXAMPLE[..len as usize];
+        let start = &EXAMPLE_DUMP[..len as usize];
         let found = has_fault(rt.alloc(), start, start.len(), DumpError::Short(len));
         assert!(rt; found, "{len} bytes");
     }
@@ -109,7 +110,7 @@ fn fault_of_255(offset: usize) -> Option<DumpError> {
 fn with_255(offset: usize) -> [u8; 52]
     requires inside { offset < 52 }
 {
-    let mut text = EXAMPLE;
+    let mut text = EXAMPLE_DUMP;
     text[offset] = 255;
     text
 }
@@ -193,12 +194,12 @@ fn no_elements(rt: HostRuntime) {
 #[test]
 fn first_faults(rt: HostRuntime) {
     let mut surplus = [7; 55];
-    surplus[..52].copy_from_slice(&EXAMPLE);
+    surplus[..52].copy_from_slice(&EXAMPLE_DUMP);
     assert!(rt; has_fault(rt.alloc(), &surplus, 52, DumpError::Trailing));
-    let mut place = EXAMPLE;
+    let mut place = EXAMPLE_DUMP;
     place[51] = 2;
     assert!(rt; has_fault(rt.alloc(), &place, 51, DumpError::Place(2)));
-    let mut count = EXAMPLE;
+    let mut count = EXAMPLE_DUMP;
     count[13] = 1;
     count[14] = 0;
     count[15] = 1;
@@ -224,7 +225,7 @@ fn expect_end_of_reading(
     kind: ErrorKind,
 ) {
     for call in 0..calls {
-        let mut source = Source::new(&EXAMPLE, at_once, Some((call, kind)));
+        let mut source = Source::new(&EXAMPLE_DUMP, at_once, Some((call, kind)));
         let next = call.saturating_add(1);
         let found = ends_reading(rt.alloc(), &mut source, DumpError::Read, next);
         assert!(rt; found, "call {call} of {calls}, {kind:?}");
@@ -247,8 +248,8 @@ fn a_reader_that_fails_once(rt: HostRuntime) {
 
 // Whether the example is read from a reader that gives so many bytes a call, and fails after so many calls.
 fn reads_all(rt: &(impl Abort + AllocGlobal), at_once: usize, calls: usize) -> bool {
-    let mut source = Source::new(&EXAMPLE, at_once, Some((calls, ErrorKind::Other)));
-    let found = is_example(rt, read_from(rt.alloc(), &mut source));
+    let mut source = Source::new(&EXAMPLE_DUMP, at_once, Some((calls, ErrorKind::Other)));
+    let found = is_example(read_from(rt.alloc(), &mut source));
     found && source.calls == calls
 }
 
@@ -261,8 +262,8 @@ fn a_reader_that_does_not_fail(rt: HostRuntime) {
 
 // Whether the example is read from a reader that gives so many bytes a call and does not fail.
 fn reads_in_pieces(rt: &(impl Abort + AllocGlobal), at_once: usize) -> bool {
-    let mut source = Source::new(&EXAMPLE, at_once, None);
-    is_example(rt, read_from(rt.alloc(), &mut source))
+    let mut source = Source::new(&EXAMPLE_DUMP, at_once, None);
+    is_example(read_from(rt.alloc(), &mut source))
 }
 
 #[test]
@@ -274,7 +275,7 @@ fn pieces_of_each_length(rt: HostRuntime) {
 
 // Whether the size of element 0, which is out of range, is the fault of a reader that fails after so many calls.
 fn has_size_first(alloc: Global, at_once: usize, calls: usize) -> bool {
-    let mut wrong = EXAMPLE;
+    let mut wrong = EXAMPLE_DUMP;
     wrong[20] = 255;
     let mut source = Source::new(&wrong, at_once, Some((calls, ErrorKind::Other)));
     ends_reading(alloc, &mut source, DumpError::Size(0), calls)
@@ -291,7 +292,7 @@ fn a_fault_before_a_failure(rt: HostRuntime) {
 // Whether the writing of a snapshot fails after so many calls of its writer, which then has a start of the example.
 fn ends_writing(sink: &mut Sink, snapshot: &Snapshot, calls: usize) -> bool {
     let fault = write_to(sink, snapshot).err();
-    fault == Some(DumpError::Write) && sink.calls == calls && EXAMPLE.starts_with(&sink.taken)
+    fault == Some(DumpError::Write) && sink.calls == calls && EXAMPLE_DUMP.starts_with(&sink.taken)
 }
 
 // A writer of the example that takes so many bytes a call, and so has so many calls, has to end the writing at each
@@ -329,7 +330,7 @@ fn a_writer_that_fails_once(rt: HostRuntime) {
 fn writes_all(rt: &impl AllocGlobal, snapshot: &Snapshot, at_once: usize, calls: usize) -> bool {
     let mut sink = Sink::new(rt, at_once, calls, None);
     let wrote = write_to(&mut sink, snapshot).is_ok();
-    wrote && sink.calls == calls && sink.taken.as_slice() == EXAMPLE.as_slice()
+    wrote && sink.calls == calls && sink.taken.as_slice() == EXAMPLE_DUMP.as_slice()
 }
 
 #[test]

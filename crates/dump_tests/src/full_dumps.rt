@@ -1,12 +1,13 @@
 //! The most elements, encoded, written and read. The text has more than one block of the writer and more than one
 //! piece of the reader.
 
-use crate::fixtures::{self, Sink, Source, full, full_text, has_text, is_full};
+use crate::fixtures::{self, full, full_text, has_text, is_full};
 use lb_certificates::Snapshot;
 use lb_dump::{DumpError, decode, read_from, write_to};
 use std::alloc::Global;
 use std::io::ErrorKind;
 use std::process::Abort;
+use test_fixtures::{Sink, Source};
 
 // Whether this is the text of the snapshot.
 fn is_encoded(rt: &(impl Abort + AllocGlobal), text: &[u8]) -> bool {

@@ -1,11 +1,12 @@
 //! The calls of a board.
 
-use crate::fixtures::{assert_requests, pe, round};
+use crate::fixtures::assert_requests;
 use at_sync::{Board, BoardError};
 use chare_index::{NoGate, Round};
 use refusing_alloc::{Outcome, Refusing};
 use std::alloc::Allocator;
 use std::thread::Threads;
+use test_fixtures::{pe, round};
 
 // What a new board of three elements comes to.
 fn opens<A: Allocator + Copy>(alloc: A) -> Outcome {

@@ -1,10 +1,11 @@
 //! The load database.
 
-use crate::fixtures::{assert_requests, pe, round};
+use crate::fixtures::assert_requests;
 use chare_index::Round;
 use lb_database::{DbError, LoadDb};
 use refusing_alloc::Outcome;
 use std::alloc::Allocator;
+use test_fixtures::{pe, round};
 
 // What a database of three elements comes to, which is to be in this round.
 fn opens<A: Allocator>(answer: &Result<LoadDb<A>, DbError>, round: Round) -> Outcome {

@@ -1,6 +1,6 @@
 //! Divisions, namings and whole decisions.
 
-use crate::fixtures::{Lent, assert_requests, example, five, pe, three};
+use crate::fixtures::{Lent, assert_requests, example, five, three};
 use block_assignment::{CostTable, NameError, name_blocks};
 use chain_partition::{Prefix, Probe, divide, divide_with, probe, probe_on};
 use chare_index::{Index, NoGate};
@@ -10,6 +10,7 @@ use refusing_alloc::Outcome;
 use std::alloc::{AllocError, Allocator};
 use std::process::Abort;
 use std::thread::Threads;
+use test_fixtures::pe;
 
 // The requests of a division.
 const DIVIDING: u64 = 3;

@@ -1,10 +1,11 @@
 //! Dumps, read and written.
 
-use crate::fixtures::{EXAMPLE, assert_requests, example, is_example};
+use crate::fixtures::{assert_requests, example};
 use lb_certificates::Snapshot;
 use lb_dump::{DumpError, DumpReader, decode, encode, read_from};
 use refusing_alloc::Outcome;
 use std::alloc::{AllocError, Allocator};
+use test_fixtures::{EXAMPLE_DUMP, is_example};
 
 // What a reading of the example came to.
 pub(crate) fn read<A: Allocator>(answer: Result<Snapshot<A>, DumpError>) -> Outcome {
@@ -17,7 +18,7 @@ pub(crate) fn read<A: Allocator>(answer: Result<Snapshot<A>, DumpError>) -> Outc
 
 // The example at once.
 fn decodes<A: Allocator + Copy>(alloc: A) -> Outcome {
-    read(decode(alloc, &EXAMPLE))
+    read(decode(alloc, &EXAMPLE_DUMP))
 }
 
 #[test]
@@ -28,7 +29,7 @@ fn decoded(rt: HostRuntime) {
 
 // The example from a reader of bytes.
 fn reads<A: Allocator + Copy>(alloc: A) -> Outcome {
-    read(read_from(alloc, &mut EXAMPLE.as_slice()))
+    read(read_from(alloc, &mut EXAMPLE_DUMP.as_slice()))
 }
 
 #[test]
@@ -44,7 +45,7 @@ fn read_from_a_reader(rt: HostRuntime) {
 // The example in two pieces. After a refusal the reader stays out of memory.
 fn in_pieces<A: Allocator + Copy>(alloc: A) -> Outcome {
     let mut reader = DumpReader::new(alloc);
-    let (start, rest) = EXAMPLE.split_at(20);
+    let (start, rest) = EXAMPLE_DUMP.split_at(20);
     let first = reader.feed(start);
     let second = reader.feed(rest);
     if first.is_err() && second != first {
@@ -62,7 +63,7 @@ fn read_in_pieces(rt: HostRuntime) {
 // The example byte by byte, whatever each of them leads to.
 fn byte_by_byte<A: Allocator + Copy>(alloc: A) -> Outcome {
     let mut reader = DumpReader::new(alloc);
-    for byte in &EXAMPLE {
+    for byte in &EXAMPLE_DUMP {
         let _ = reader.feed(&[*byte]);
     }
     read(reader.end())
@@ -76,7 +77,7 @@ fn read_byte_by_byte(rt: HostRuntime) {
 
 // Whether the example is encoded as it should be.
 fn is_encoded<A: Allocator>(alloc: A, example: &Snapshot) -> Result<bool, AllocError> {
-    Ok(encode(alloc, example)?.as_slice() == EXAMPLE.as_slice())
+    Ok(encode(alloc, example)?.as_slice() == EXAMPLE_DUMP.as_slice())
 }
 
 fn encodes<A: Allocator>(alloc: A, example: &Snapshot) -> Outcome {

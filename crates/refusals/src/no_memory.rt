@@ -1,7 +1,7 @@
 //! Calls that promise to take no memory make no request.
 
 use crate::dumps::read;
-use crate::fixtures::{EXAMPLE, Lent, example, five, pe, round, three};
+use crate::fixtures::{Lent, example, five, three};
 use block_assignment::CostTable;
 use chain_partition::Prefix;
 use chare_index::Index;
@@ -12,6 +12,7 @@ use lb_strategy::{Decision, check, plan};
 use refusing_alloc::{Outcome, Refusing};
 use std::alloc::{AllocError, Allocator, Global};
 use std::process::Abort;
+use test_fixtures::{EXAMPLE_DUMP, pe, round};
 
 // Whether element `i` does its work in the first round and reports it on PE 0, and then does more.
 fn takes_part<A: Allocator>(db: &mut LoadDb<A>, i: u32) -> bool {
@@ -60,15 +61,15 @@ fn fed<'a>(rt: &impl Abort, alloc: Lent<'a>) -> DumpReader<Lent<'a>> {
     let mut reader = DumpReader::new(alloc);
     assert!(rt; reader.feed(&[]).is_ok());
     assert!(rt; alloc.requests() == 0);
-    assert!(rt; reader.feed(&EXAMPLE).is_ok());
+    assert!(rt; reader.feed(&EXAMPLE_DUMP).is_ok());
     reader
 }
 
 // Whether a reader that has read the example takes no bytes, and refuses more and the end behind them.
 fn refuses_more<A: Allocator + Copy>(mut reader: DumpReader<A>) -> bool {
     let no_bytes = reader.feed(&[]).is_ok();
-    let once = reader.feed(&EXAMPLE).is_err();
-    let twice = reader.feed(&EXAMPLE).is_err();
+    let once = reader.feed(&EXAMPLE_DUMP).is_err();
+    let twice = reader.feed(&EXAMPLE_DUMP).is_err();
     no_bytes && once && twice && reader.end().is_err()
 }
 
@@ -93,7 +94,7 @@ fn the_end_of_a_reader(rt: HostRuntime) {
 // Whether the example is written as it should be.
 fn is_written<A: Allocator>(alloc: Global, example: &Snapshot<A>) -> bool {
     let mut written = Vec::new(alloc);
-    write_to(&mut written, example).is_ok() && written.as_slice() == EXAMPLE.as_slice()
+    write_to(&mut written, example).is_ok() && written.as_slice() == EXAMPLE_DUMP.as_slice()
 }
 
 #[test]

@@ -1,14 +1,15 @@
 //! Readers and writers that fail at each call and then go on: any error counts as a failure, and no call is tried
 //! again.
 
-use crate::fixtures::{EXAMPLE, Failing, Narrow, Slow, TEXT, ends, is_end, replayed};
+use crate::fixtures::{TEXT, ends, has, is_end, replayed};
 use lb_dump::DumpError;
 use lb_replay::Ended;
 use std::io::{self, ErrorKind, Write};
+use test_fixtures::{EXAMPLE_DUMP, Sink, Source};
 
 // Whether a reader that fails at this call is not called again, and its failure is what is written.
 fn ends_at_failure(rt: &impl AllocGlobal, call: usize) -> bool {
-    let mut reader = Slow::new(&EXAMPLE, 5, Some(call));
+    let mut reader = Source::new(&EXAMPLE_DUMP, 5, Some((call, ErrorKind::Interrupted)));
     let end = Ended::Dump(DumpError::Read);
     let found = ends(rt, &mut reader, None, "dump: read failed\n", end);
     found && reader.calls == call.saturating_add(1)
@@ -20,7 +21,7 @@ fn a_reader_that_fails_at_each_call(rt: HostRuntime) {
     for call in 0..12 {
         assert!(rt; ends_at_failure(&rt, call), "call {call}");
     }
-    let mut reader = Slow::new(&EXAMPLE, 5, Some(12));
+    let mut reader = Source::new(&EXAMPLE_DUMP, 5, Some((12, ErrorKind::Interrupted)));
     assert!(rt; ends(&rt, &mut reader, None, TEXT, Ended::Printed));
 }
 
@@ -31,31 +32,37 @@ fn ends_at_write(
     dump: &[u8],
     text: &str,
     step: usize,
-    fails_at: (usize, Failing),
+    fails: (usize, Option<ErrorKind>),
 ) -> bool {
-    let mut writer = Narrow::new(rt, step, fails_at);
+    let (call, error) = fails;
+    let mut writer = Sink::new(rt, step, call, error);
     let ended = replayed(rt.alloc(), dump, &mut writer);
-    let (call, _) = fails_at;
-    ended == Ended::WriteFailed
-        && writer.has(call.saturating_add(1), text, step.saturating_mul(call))
+    let taken = step.saturating_mul(call);
+    ended == Ended::WriteFailed && has(&writer, call.saturating_add(1), text, taken)
 }
 
 #[test]
 fn a_writer_that_fails_at_each_call(rt: HostRuntime) {
     // Fourteen calls for 110 bytes.
     for call in 0..14 {
-        let failed = ends_at_write(&rt, &EXAMPLE, TEXT, 8, (call, Failing::Error));
+        let failed = ends_at_write(
+            &rt,
+            &EXAMPLE_DUMP,
+            TEXT,
+            8,
+            (call, Some(ErrorKind::Interrupted)),
+        );
         assert!(rt; failed, "an error at call {call}");
-        let failed = ends_at_write(&rt, &EXAMPLE, TEXT, 8, (call, Failing::Nothing));
+        let failed = ends_at_write(&rt, &EXAMPLE_DUMP, TEXT, 8, (call, None));
         assert!(rt; failed, "nothing taken at call {call}");
     }
 }
 
 // Whether a writer that takes so many bytes a call, and fails after so many calls, has the whole text of the example.
 fn prints_all(rt: &impl AllocGlobal, step: usize, calls: usize) -> bool {
-    let mut writer = Narrow::new(rt, step, (calls, Failing::Error));
-    let ended = replayed(rt.alloc(), &EXAMPLE, &mut writer);
-    ended == Ended::Printed && writer.has(calls, TEXT, TEXT.len())
+    let mut writer = Sink::new(rt, step, calls, Some(ErrorKind::Interrupted));
+    let ended = replayed(rt.alloc(), &EXAMPLE_DUMP, &mut writer);
+    ended == Ended::Printed && has(&writer, calls, TEXT, TEXT.len())
 }
 
 #[test]
@@ -69,7 +76,7 @@ fn a_writer_that_fails_at_no_call(rt: HostRuntime) {
 fn the_line_of_a_fault_fails_too(rt: HostRuntime) {
     let line = "dump: not LBD1\n";
     for call in 0..15 {
-        let failed = ends_at_write(&rt, b"LBD2", line, 1, (call, Failing::Error));
+        let failed = ends_at_write(&rt, b"LBD2", line, 1, (call, Some(ErrorKind::Interrupted)));
         assert!(rt; failed, "call {call}");
     }
 }
@@ -111,7 +118,7 @@ impl Write for Held {
 // Whether a replay of the example ends so, where such a writer gives out this text.
 fn gives(rt: &impl AllocGlobal, fails: bool, end: Ended, text: &str) -> bool {
     let mut writer = Held::new(rt, fails);
-    let ended = replayed(rt.alloc(), &EXAMPLE, &mut writer);
+    let ended = replayed(rt.alloc(), &EXAMPLE_DUMP, &mut writer);
     is_end(ended, &writer.given, end, text)
 }
 

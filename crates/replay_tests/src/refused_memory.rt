@@ -1,12 +1,13 @@
 //! Each request of a replay for memory is refused in turn.
 
-use crate::fixtures::{EXAMPLE, TEXT};
+use crate::fixtures::TEXT;
 use lb_dump::{DumpError, read_from};
 use lb_replay::{Ended, simulate};
 use lb_strategy::PlanError;
 use refusing_alloc::{Failure, Outcome, Refusing, each_refusal};
 use std::alloc::Global;
 use std::test::Fail;
+use test_fixtures::EXAMPLE_DUMP;
 
 // The requests to read the example: the piece, the head, and the two lists of the snapshot.
 const TO_READ: u64 = 4;
@@ -29,13 +30,13 @@ fn outcome(ended: Ended, written: &[u8]) -> Outcome {
 }
 
 fn attempted(alloc: &Refusing<Global>, written: &mut Vec<u8>) -> Outcome {
-    let ended = simulate(alloc, &mut EXAMPLE.as_slice(), written, None);
+    let ended = simulate(alloc, &mut EXAMPLE_DUMP.as_slice(), written, None);
     outcome(ended, written)
 }
 
 // What a reading of the example comes to, over such an allocator.
 fn read(alloc: &Refusing<Global>) -> Outcome {
-    match read_from(alloc, &mut EXAMPLE.as_slice()).err() {
+    match read_from(alloc, &mut EXAMPLE_DUMP.as_slice()).err() {
         None => Outcome::Right,
         Some(DumpError::OutOfMemory) => Outcome::Refused,
         Some(_) => Outcome::Wrong,
@@ -59,7 +60,7 @@ fn memory_refused_at_each_request(rt: HostRuntime) -> Result<(), Fail> {
 fn ended_at_request(rt: &impl AllocGlobal, number: u64) -> Ended {
     let alloc = Refusing::new(rt.alloc(), number);
     let mut written = Vec::new(rt.alloc());
-    simulate(&alloc, &mut EXAMPLE.as_slice(), &mut written, None)
+    simulate(&alloc, &mut EXAMPLE_DUMP.as_slice(), &mut written, None)
 }
 
 #[test]

@@ -3,27 +3,28 @@
 ghost use Rattle.std.specs.Prelude.{◌≤◌, ◌<◌};
 ghost use Rattle.std.specs.Option.{ForSome};
 
-use crate::fixtures::{EXAMPLE, ON_ONE, Slow, TEXT, ends, is_end, replayed, replays};
+use crate::fixtures::{ON_ONE, TEXT, ends, is_end, replayed, replays};
 use chare_index::Limits;
 use lb_dump::DumpError;
 use lb_replay::{Ended, replay_file};
 use std::alloc::AllocError;
 use std::io::{self, ErrorKind, Read};
 use std::process::Abort;
+use test_fixtures::{EXAMPLE_DUMP, Source};
 
 // The example and one byte more.
 fn longer() -> [u8; 53] {
     let mut longer = [0; 53];
-    longer[..52].copy_from_slice(&EXAMPLE);
+    longer[..52].copy_from_slice(&EXAMPLE_DUMP);
     longer
 }
 
 #[test]
 fn the_example_and_its_faults(rt: HostRuntime) {
-    assert!(rt; replays(&rt, &EXAMPLE, TEXT, Ended::Printed));
+    assert!(rt; replays(&rt, &EXAMPLE_DUMP, TEXT, Ended::Printed));
     let short = "dump: ends at byte 15\n";
     let end = Ended::Dump(DumpError::Short(15));
-    assert!(rt; replays(&rt, &EXAMPLE[..15], short, end));
+    assert!(rt; replays(&rt, &EXAMPLE_DUMP[..15], short, end));
     let trailing = "dump: bytes after the last element\n";
     let end = Ended::Dump(DumpError::Trailing);
     assert!(rt; replays(&rt, &longer(), trailing, end));
@@ -47,7 +48,7 @@ struct Changed {
 }
 
 fn is_reported(rt: &impl AllocGlobal, row: &Changed) -> bool {
-    let mut changed = EXAMPLE;
+    let mut changed = EXAMPLE_DUMP;
     if let Some(byte) = changed.get_mut(row.place) {
         *byte = row.byte;
     }
@@ -96,7 +97,7 @@ fn is_short(rt: &(impl Abort + AllocGlobal), start: &[u8], len: u32) -> bool {
 #[test]
 fn each_prefix_is_short(rt: HostRuntime) {
     for len in 0..52u32 {
-        let start = &EXAMPLE[..len as usize];
+        let start = &EXAMPLE_DUMP[..len as usize];
         assert!(rt; is_short(&rt, start, len), "{len} bytes");
     }
 }
@@ -108,7 +109,7 @@ fn no_elements_and_one_block(rt: HostRuntime) {
         block 0 0..0 load 0 pe -\nblock 1 0..0 load 0 pe -\nblock 2 0..0 load 0 pe -\n\
         moved 0\n";
     assert!(rt; replays(&rt, empty, text, Ended::Printed));
-    let mut example = EXAMPLE.as_slice();
+    let mut example = EXAMPLE_DUMP.as_slice();
     assert!(rt; ends(&rt, &mut example, Some(1), ON_ONE, Ended::Printed));
 }
 
@@ -255,7 +256,7 @@ fn prints_file(rt: &impl AllocGlobal, procs: Option<u32>, text: &str) -> bool
 {
     ends_file(
         rt,
-        Ok(EXAMPLE.as_slice()),
+        Ok(EXAMPLE_DUMP.as_slice()),
         procs,
         text,
         (Ended::Printed, None),
@@ -280,7 +281,7 @@ fn a_file_that_was_not_opened(rt: HostRuntime) {
 
 // Whether a replay of the example ends where its reader fails at this call, with the reason.
 fn fails_at(rt: &impl AllocGlobal, call: usize) -> bool {
-    let file = Ok(Slow::new(&EXAMPLE, 20, Some(call)));
+    let file = Ok(Source::new(&EXAMPLE_DUMP, 20, Some((call, ErrorKind::Interrupted))));
     let end = (Ended::Dump(DumpError::Read), Some(ErrorKind::Interrupted));
     ends_file(rt, file, None, UNREAD, end)
 }

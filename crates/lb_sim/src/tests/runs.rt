@@ -1,4 +1,4 @@
-//! Runs on a worked dump, and the statuses.
+//! Runs on a dump of no elements, and the statuses.
 
 ghost use Rattle.std.specs.Prelude.{◌≤◌};
 ghost use Rattle.std.specs.Option.{ForSome};
@@ -11,25 +11,22 @@ use lb_replay::Ended;
 use lb_strategy::PlanError;
 use std::io;
 
-// Three elements on two PEs, at step 5: the dump in `data/`.
-const EXAMPLE: [u8; 52] = *b"LBD1\0\0\0\x05\0\0\0\x02\0\0\0\x03\
-    \0\0\0\x01\0\0\0\x0a\0\0\0\0\
-    \0\0\0\x01\0\0\0\x09\0\0\0\x01\
-    \0\0\0\x02\0\0\0\x08\0\0\0\0";
+// No elements on two PEs, at step 5.
+const DUMP: [u8; 16] = *b"LBD1\0\0\0\x05\0\0\0\x02\0\0\0\0";
 
-const TEXT: &str = "step 5 procs 2 elements 3\n\
-    bottleneck 2\n\
-    fence 0 1 2\n\
-    block 0 0..2 load 2 pe 1\n\
-    block 1 2..3 load 2 pe 0\n\
-    moved 10\n";
+const TEXT: &str = "step 5 procs 2 elements 0\n\
+    bottleneck 0\n\
+    fence zero\n\
+    block 0 0..0 load 0 pe -\n\
+    block 1 0..0 load 0 pe -\n\
+    moved 0\n";
 
-// The text of the example on one PE.
-const ON_ONE: &str = "step 5 procs 1 elements 3\n\
-    bottleneck 4\n\
-    fence 0 2\n\
-    block 0 0..3 load 4 pe 0\n\
-    moved 9\n";
+// Its text on one PE.
+const ON_ONE: &str = "step 5 procs 1 elements 0\n\
+    bottleneck 0\n\
+    fence zero\n\
+    block 0 0..0 load 0 pe -\n\
+    moved 0\n";
 
 // Whether a run had this status and no reason, and wrote this text.
 fn is_status(found: (u8, Option<io::Error>), written: &[u8], status: u8, text: &str) -> bool {
@@ -57,8 +54,8 @@ fn tells_letters(rt: &impl AllocGlobal, procs: Option<u32>) -> bool
 
 #[test]
 fn runs_and_their_statuses(rt: HostRuntime) {
-    assert!(rt; runs(&rt, &EXAMPLE, None, TEXT, 0));
-    assert!(rt; runs(&rt, &EXAMPLE, Some(1), ON_ONE, 0));
+    assert!(rt; runs(&rt, &DUMP, None, TEXT, 0));
+    assert!(rt; runs(&rt, &DUMP, Some(1), ON_ONE, 0));
     assert!(rt; tells_letters(&rt, None));
     assert!(rt; tells_letters(&rt, Some(256)));
 }

@@ -1,0 +1,88 @@
+use std::io::{self, Error, ErrorKind, Read, Write};
+
+/// A reader that gives so many bytes a call, and fails at one call, counted from 0, whatever comes after it.
+#[derive(Drop)]
+pub struct Source<'a> {
+    rest: &'a [u8],
+    at_once: usize,
+    /// How often it was called.
+    pub calls: usize,
+    fails: Option<(usize, ErrorKind)>,
+}
+
+impl<'a> Source<'a> {
+    /// A reader of these bytes. It fails at the call of this number, if any, with an error of this kind.
+    pub fn new(rest: &'a [u8], at_once: usize, fails: Option<(usize, ErrorKind)>) -> Source<'a> {
+        Source {
+            rest,
+            at_once,
+            calls: 0,
+            fails,
+        }
+    }
+}
+
+impl Read for Source<'_> {
+    fn read(&mut self, buf: &mut [u8]) -> io::Result<usize> {
+        let call = self.calls;
+        self.calls = call.saturating_add(1);
+        if let Some((at, kind)) = self.fails
+            && at == call
+        {
+            return Err(Error::from(kind));
+        }
+        let len = self.rest.len().min(self.at_once).min(buf.len());
+        let (now, rest) = self.rest.split_at(len);
+        buf[..len].copy_from_slice(now);
+        self.rest = rest;
+        Ok(len)
+    }
+}
+
+/// A writer that takes so many bytes a call, and fails at one call, counted from 0, whatever comes after it: with an
+/// error, or where there is none by taking nothing.
+#[derive(Drop)]
+pub struct Sink {
+    /// What it has taken.
+    pub taken: Vec<u8>,
+    at_once: usize,
+    /// How often it was called.
+    pub calls: usize,
+    fails_at: usize,
+    error: Option<ErrorKind>,
+}
+
+impl Sink {
+    /// A writer that has taken nothing. It fails at the call of this number, with an error of this kind, if any.
+    pub fn new(
+        rt: &impl AllocGlobal,
+        at_once: usize,
+        fails_at: usize,
+        error: Option<ErrorKind>,
+    ) -> Sink {
+        Sink {
+            taken: Vec::new(rt.alloc()),
+            at_once,
+            calls: 0,
+            fails_at,
+            error,
+        }
+    }
+}
+
+impl Write for Sink {
+    fn write(&mut self, buf: &[u8]) -> io::Result<usize> {
+        let call = self.calls;
+        self.calls = call.saturating_add(1);
+        if call == self.fails_at {
+            return self.error.map_or(Ok(0), |kind| Err(Error::from(kind)));
+        }
+        let len = buf.len().min(self.at_once);
+        self.taken.extend_from_slice(&buf[..len])?;
+        Ok(len)
+    }
+
+    fn flush(&mut self) -> io::Result<()> {
+        Ok(())
+    }
+}
