@@ -3,13 +3,13 @@
 
 ghost use Rattle.std.specs.Prelude.{◌<◌};
 
-use crate::fixtures::{example, fed_byte_by_byte, has_text, is_example};
+use crate::fixtures::{fed_byte_by_byte, has_text, is_example};
 use lb_certificates::Snapshot;
 use lb_dump::{DumpError, DumpReader, decode, format_laws, read_from, write_to};
 use std::alloc::Global;
 use std::io::ErrorKind;
 use std::process::Abort;
-use test_fixtures::{EXAMPLE_DUMP, Sink, Source};
+use test_fixtures::{EXAMPLE_DUMP, Sink, Source, example};
 
 // What these pieces give, or why they give nothing.
 fn fed(alloc: Global, pieces: &[&[u8]]) -> Result<Snapshot, DumpError> {
@@ -30,7 +30,8 @@ fn give(rt: &(impl Abort + AllocGlobal), pieces: &[&[u8]], text: &[u8]) -> bool 
 
 #[test]
 fn the_example(rt: HostRuntime) {
-    assert!(rt; has_text(&rt, &example(&rt), &EXAMPLE_DUMP));
+    let example = example(rt.alloc()).expect(&rt, "out of memory");
+    assert!(rt; has_text(&rt, &example, &EXAMPLE_DUMP));
     assert!(rt; is_example(decode(rt.alloc(), &EXAMPLE_DUMP)));
 }
 
@@ -43,7 +44,8 @@ fn is_written(rt: &impl AllocGlobal, snapshot: &Snapshot, text: &[u8]) -> bool {
 
 #[test]
 fn the_example_is_written(rt: HostRuntime) {
-    assert!(rt; is_written(&rt, &example(&rt), &EXAMPLE_DUMP));
+    let example = example(rt.alloc()).expect(&rt, "out of memory");
+    assert!(rt; is_written(&rt, &example, &EXAMPLE_DUMP));
 }
 
 #[test]
@@ -303,7 +305,7 @@ fn expect_end_of_writing(
     calls: usize,
     error: Option<ErrorKind>,
 ) {
-    let snapshot = example(rt);
+    let snapshot = example(rt.alloc()).expect(rt, "out of memory");
     for call in 0..calls {
         let mut sink = Sink::new(rt, at_once, call, error);
         let found = ends_writing(&mut sink, &snapshot, call.saturating_add(1));
@@ -335,7 +337,7 @@ fn writes_all(rt: &impl AllocGlobal, snapshot: &Snapshot, at_once: usize, calls:
 
 #[test]
 fn a_writer_that_does_not_fail(rt: HostRuntime) {
-    let snapshot = example(&rt);
+    let snapshot = example(rt.alloc()).expect(&rt, "out of memory");
     assert!(rt; writes_all(&rt, &snapshot, 1, 52));
     assert!(rt; writes_all(&rt, &snapshot, 5, 12));
     assert!(rt; writes_all(&rt, &snapshot, 64, 2));

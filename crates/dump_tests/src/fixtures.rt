@@ -1,4 +1,4 @@
-//! What the tests are made of: the worked dump and a full one, as snapshots and as bytes. What can't be made ends the
+//! What the tests are made of: a full dump, as a snapshot and as bytes. What can't be made ends the
 //! test.
 
 use chare_index::Pe;
@@ -6,27 +6,7 @@ use lb_certificates::{Loads, Sizes, Snapshot, Units};
 use lb_dump::{DumpError, DumpReader, encode};
 use std::alloc::Global;
 use std::process::Abort;
-use test_fixtures::pe;
-
-/// The example.
-pub(crate) fn example(rt: &(impl Abort + AllocGlobal)) -> Snapshot {
-    let pairs = [(10, pe(0)), (9, pe(1)), (8, pe(0))];
-    let loads = [1, 1, 2].to_vec(rt.alloc()).expect(rt, "out of memory");
-    let pairs = pairs.to_vec(rt.alloc()).expect(rt, "out of memory");
-    snapshot(rt, (5, 2), loads, pairs)
-}
-
-// The snapshot at this step, on so many PEs.
-fn snapshot(
-    rt: &impl Abort,
-    head: (u32, u32),
-    loads: Vec<Units>,
-    pairs: Vec<(u32, Pe)>,
-) -> Snapshot {
-    let loads = Loads::new(loads).expect(rt, "too many loads");
-    let sizes = Sizes::new(pairs).expect(rt, "past a limit");
-    Snapshot::new(head.0, head.1, loads, sizes).expect(rt, "no snapshot")
-}
+use test_fixtures::push_element;
 
 /// Whether the example was found.
 pub(crate) fn is_example(found: Result<Snapshot, DumpError>) -> bool {
@@ -71,7 +51,9 @@ fn full_sizes(rt: &(impl Abort + AllocGlobal)) -> Vec<(u32, Pe)> {
 
 /// The most elements on the most PEs, at the greatest step.
 pub(crate) fn full(rt: &(impl Abort + AllocGlobal)) -> Snapshot {
-    snapshot(rt, (u32::MAX, 256), full_loads(rt), full_sizes(rt))
+    let loads = Loads::new(full_loads(rt)).expect(rt, "too many loads");
+    let sizes = Sizes::new(full_sizes(rt)).expect(rt, "past a limit");
+    Snapshot::new(u32::MAX, 256, loads, sizes).expect(rt, "no snapshot")
 }
 
 /// Whether it was found.
@@ -80,20 +62,12 @@ pub(crate) fn is_full(rt: &(impl Abort + AllocGlobal), found: Result<Snapshot, D
     found == full(rt)
 }
 
-fn push_number(rt: &impl Abort, text: &mut Vec<u8>, number: u32) {
-    let pushed = text.extend_from_slice(&number.to_be_bytes());
-    pushed.expect(rt, "out of memory");
-}
-
-/// Its 786,448 bytes, number by number.
+/// Its 786,448 bytes, element by element.
 pub(crate) fn full_text(rt: &(impl Abort + AllocGlobal)) -> Vec<u8> {
     let head = b"LBD1\xff\xff\xff\xff\0\0\x01\0\0\x01\0\0";
     let mut text = Vec::from_slice(rt.alloc(), head).expect(rt, "out of memory");
     for i in 0..65_536u32 {
-        let (load, size, place) = full_element(i);
-        push_number(rt, &mut text, load);
-        push_number(rt, &mut text, size);
-        push_number(rt, &mut text, place);
+        push_element(&mut text, full_element(i)).expect(rt, "out of memory");
     }
     text
 }

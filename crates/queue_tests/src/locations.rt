@@ -2,13 +2,13 @@
 
 ghost use Rattle.std.specs.Prelude.{◌≡◌, ◌<◌, IfOk, All};
 
-use crate::seats::pe;
 use chare_index::{Index, Pe};
 use pe_queues::{Locations, PeCount};
 use std::alloc::{AllocError, Global};
 use std::marker::Brand;
 use std::test::Fail;
 use std::thread::{self, Threads};
+use test_fixtures::pe;
 
 // Elements 0 to 3 on two PEs, two on each.
 fn four_elements<P: PeCount>(alloc: Global, pes: u32) -> Result<Locations<P>, AllocError>

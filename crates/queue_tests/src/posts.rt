@@ -3,12 +3,13 @@
 ghost use Rattle.std.specs.Prelude.{◌≡◌, ◌<◌, All, IfOk};
 ghost use Rattle.pe_queues.specs.Seats.{pes};
 
-use crate::seats::{next, pe, two_seats};
+use crate::seats::{next, two_seats};
 use chare_index::Pe;
 use pe_queues::{Full, Post, PostError, Seat, Unsettled};
 use std::alloc::{AllocError, Allocator};
 use std::sync::Wait;
 use std::test::Fail;
+use test_fixtures::pe;
 
 // Whether one place takes a value and refuses a second one, gives the first one back and is empty then.
 fn fills_and_empties<R: Wait, A: Allocator>(

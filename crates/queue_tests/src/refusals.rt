@@ -2,13 +2,14 @@
 
 ghost use Rattle.std.specs.Prelude.{◌≡◌, IfOk};
 
-use crate::seats::{pe, two_seats};
+use crate::seats::two_seats;
 use pe_queues::{Full, Locations, PeCount, Post, PostError};
 use refusing_alloc::{Failure, Outcome, Refusing, each_refusal};
 use std::alloc::{AllocError, Allocator, Global};
 use std::marker::Brand;
 use std::sync::Wait;
 use std::test::Fail;
+use test_fixtures::pe;
 
 // No call here makes as many requests.
 const MOST_TURNS: u64 = 40;

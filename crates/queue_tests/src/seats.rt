@@ -1,9 +1,8 @@
 //! The seats of a post, as the tests use them.
 
-ghost use Rattle.std.specs.Prelude.{◌≡◌, ◌<◌, All, IfOk, IfSome, length};
+ghost use Rattle.std.specs.Prelude.{◌≡◌, All, IfOk, IfSome, length};
 ghost use Rattle.pe_queues.specs.Seats.{pes};
 
-use chare_index::Pe;
 use pe_queues::{Post, PostError, Seat};
 use std::alloc::Allocator;
 use std::test::Fail;
@@ -35,12 +34,4 @@ pub(crate) fn two_seats<T: Drop, A: Allocator + Copy>(
         (Some(first), Some(second)) => Ok((post, first, second)),
         _ => Err(PostError::SeatsOut),
     }
-}
-
-/// The PE of this number.
-pub(crate) fn pe(number: u32) -> Pe
-    requires below_limit { number < 256 }
-    ensures value { result ≡ number }
-{
-    Pe::new(number).unwrap()
 }

@@ -5,13 +5,14 @@ ghost use Rattle.std.specs.Prelude.{◌≡◌, ◌<◌, ◌≤◌, ◌+◌, All,
 ghost use Rattle.std.specs.Thread.{IsSync};
 ghost use Rattle.pe_queues.specs.Seats.{pes};
 
-use crate::seats::{next, pe};
+use crate::seats::next;
 use pe_queues::{Full, Post, Seat};
 use std::alloc::{AllocError, Global};
 use std::cell::Cell;
 use std::sync::Wait;
 use std::test::Fail;
 use std::thread::{self, Threads};
+use test_fixtures::pe;
 
 const EACH: u32 = 1_000;
 

@@ -1,6 +1,6 @@
 //! Divisions, namings and whole decisions.
 
-use crate::fixtures::{Lent, assert_requests, example, five, three};
+use crate::fixtures::{Lent, assert_requests, five};
 use block_assignment::{CostTable, NameError, name_blocks};
 use chain_partition::{Prefix, Probe, divide, divide_with, probe, probe_on};
 use chare_index::{Index, NoGate};
@@ -10,7 +10,7 @@ use refusing_alloc::Outcome;
 use std::alloc::{AllocError, Allocator};
 use std::process::Abort;
 use std::thread::Threads;
-use test_fixtures::pe;
+use test_fixtures::{example, example_sizes, pe};
 
 // The requests of a division.
 const DIVIDING: u64 = 3;
@@ -144,7 +144,7 @@ fn tables<A: Allocator + Copy>(alloc: A, sizes: &Sizes, cuts: &Cuts) -> Result<b
 
 #[test]
 fn cost_tables(rt: HostRuntime) {
-    let sizes = three(&rt, rt.alloc());
+    let sizes = example_sizes(rt.alloc()).expect(&rt, "out of memory");
     let cuts = cuts(&rt);
     let attempt = |alloc: Lent<'_>| Outcome::from(tables(alloc, &sizes, &cuts));
     assert_requests(&rt, attempt, 2, "the costs and a row");
@@ -161,7 +161,7 @@ fn names<A: Allocator + Copy>(alloc: A, table: &CostTable) -> Outcome {
 
 #[test]
 fn namings(rt: HostRuntime) {
-    let sizes = three(&rt, rt.alloc());
+    let sizes = example_sizes(rt.alloc()).expect(&rt, "out of memory");
     let cuts = cuts(&rt);
     assert!(rt; cuts.as_slice().len() == 3 && cuts.divides(sizes.len()));
     let table = CostTable::of(rt.alloc(), &sizes, &cuts).expect(&rt, "out of memory");
@@ -202,7 +202,7 @@ fn one_plans<A: Allocator + Copy>(alloc: A, example: &Snapshot) -> Outcome {
 
 #[test]
 fn whole_decisions(rt: HostRuntime) {
-    let example = example(&rt, rt.alloc());
+    let example = example(rt.alloc()).expect(&rt, "out of memory");
     let attempt = |alloc: Lent<'_>| one_plans(alloc, &example);
     let things = "those of `divide`, `CostTable::of` and `name_blocks`, and the moves";
     assert_requests(&rt, attempt, DIVIDING + 2 + NAMING + 1, things);
@@ -219,7 +219,7 @@ fn three_plan<R: Threads + Sync, A: Allocator + Copy>(
 
 #[test]
 fn whole_decisions_by_three_workers(rt: HostRuntime) {
-    let example = example(&rt, rt.alloc());
+    let example = example(rt.alloc()).expect(&rt, "out of memory");
     let attempt = |alloc: Lent<'_>| three_plan(&rt, alloc, &example);
     let things = "none for the workers";
     assert_requests(&rt, attempt, DIVIDING + 2 + NAMING + 1, things);

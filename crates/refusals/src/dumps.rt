@@ -1,11 +1,11 @@
 //! Dumps, read and written.
 
-use crate::fixtures::{assert_requests, example};
+use crate::fixtures::assert_requests;
 use lb_certificates::Snapshot;
 use lb_dump::{DumpError, DumpReader, decode, encode, read_from};
 use refusing_alloc::Outcome;
 use std::alloc::{AllocError, Allocator};
-use test_fixtures::{EXAMPLE_DUMP, is_example};
+use test_fixtures::{EXAMPLE_DUMP, example, is_example};
 
 // What a reading of the example came to.
 pub(crate) fn read<A: Allocator>(answer: Result<Snapshot<A>, DumpError>) -> Outcome {
@@ -86,6 +86,6 @@ fn encodes<A: Allocator>(alloc: A, example: &Snapshot) -> Outcome {
 
 #[test]
 fn encoded(rt: HostRuntime) {
-    let example = example(&rt, rt.alloc());
+    let example = example(rt.alloc()).expect(&rt, "out of memory");
     assert_requests(&rt, |alloc| encodes(alloc, &example), 1, "the text");
 }

@@ -1,7 +1,7 @@
 //! Calls that promise to take no memory make no request.
 
 use crate::dumps::read;
-use crate::fixtures::{Lent, example, five, three};
+use crate::fixtures::{Lent, five};
 use block_assignment::CostTable;
 use chain_partition::Prefix;
 use chare_index::Index;
@@ -12,7 +12,7 @@ use lb_strategy::{Decision, check, plan};
 use refusing_alloc::{Outcome, Refusing};
 use std::alloc::{AllocError, Allocator, Global};
 use std::process::Abort;
-use test_fixtures::{EXAMPLE_DUMP, pe, round};
+use test_fixtures::{EXAMPLE_DUMP, example, example_sizes, pe, round};
 
 // Whether element `i` does its work in the first round and reports it on PE 0, and then does more.
 fn takes_part<A: Allocator>(db: &mut LoadDb<A>, i: u32) -> bool {
@@ -100,7 +100,7 @@ fn is_written<A: Allocator>(alloc: Global, example: &Snapshot<A>) -> bool {
 #[test]
 fn a_dump_that_is_written(rt: HostRuntime) {
     let alloc = Refusing::new(rt.alloc(), 0);
-    let snapshot = example(&rt, &alloc);
+    let snapshot = example(&alloc).expect(&rt, "out of memory");
     let made = alloc.requests();
     assert!(rt; is_written(rt.alloc(), &snapshot));
     assert!(rt; alloc.requests() == made);
@@ -132,9 +132,11 @@ fn is_planned_well<A: Allocator + Copy>(alloc: A, snapshot: &Snapshot<A>) -> boo
 #[test]
 fn a_decision_that_is_checked(rt: HostRuntime) {
     let alone = Refusing::new(rt.alloc(), 0);
-    assert!(rt; is_planned(&alone, &example(&rt, &alone)));
+    let snapshot = example(&alone).expect(&rt, "out of memory");
+    assert!(rt; is_planned(&alone, &snapshot));
     let alloc = Refusing::new(rt.alloc(), 0);
-    assert!(rt; is_planned_well(&alloc, &example(&rt, &alloc)));
+    let snapshot = example(&alloc).expect(&rt, "out of memory");
+    assert!(rt; is_planned_well(&alloc, &snapshot));
     assert!(rt;
         alloc.requests() == alone.requests(),
         "those of the plan alone"
@@ -155,7 +157,7 @@ fn is_read(alloc: Lent<'_>, sizes: &Sizes, cuts: &Cuts) -> Result<bool, AllocErr
 fn a_table_that_is_read(rt: HostRuntime) {
     let alloc = Refusing::new(rt.alloc(), 0);
     let cuts = Cuts::new(Vec::from_slice(rt.alloc(), &[0, 2, 3]).expect(&rt, "out of memory"));
-    let sizes = three(&rt, rt.alloc());
+    let sizes = example_sizes(rt.alloc()).expect(&rt, "out of memory");
     assert!(rt; is_read(&alloc, &sizes, &cuts) == Ok(true));
 }
 
@@ -175,7 +177,7 @@ fn stays<A: Allocator + Copy>(alloc: A, example: &Snapshot) -> bool {
 
 #[test]
 fn a_place_that_is_read(rt: HostRuntime) {
-    let example = example(&rt, rt.alloc());
+    let example = example(rt.alloc()).expect(&rt, "out of memory");
     let alone = Refusing::new(rt.alloc(), 0);
     assert!(rt; is_planned(&alone, &example));
     let alloc = Refusing::new(rt.alloc(), 0);

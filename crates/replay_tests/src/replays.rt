@@ -10,7 +10,7 @@ use lb_replay::{Ended, replay_file};
 use std::alloc::AllocError;
 use std::io::{self, ErrorKind, Read};
 use std::process::Abort;
-use test_fixtures::{EXAMPLE_DUMP, Source};
+use test_fixtures::{EXAMPLE_DUMP, Source, push_element};
 
 // The example and one byte more.
 fn longer() -> [u8; 53] {
@@ -139,11 +139,6 @@ fn the_most_blocks_are_printed(rt: HostRuntime) {
     assert!(rt; replays(&rt, empty, &text, Ended::Printed));
 }
 
-fn push_number(rt: &impl Abort, dump: &mut Vec<u8>, number: u32) {
-    let pushed = dump.extend_from_slice(&number.to_be_bytes());
-    pushed.expect(rt, "out of memory");
-}
-
 // The load, the size and the place of element `i` of the moving front. The load is heavier within 20 elements of
 // element 190.
 fn front_element(i: u32) -> (u32, u32, u32)
@@ -159,10 +154,7 @@ fn moving_front(rt: &(impl Abort + AllocGlobal)) -> Vec<u8> {
     let head = b"LBD1\0\0\0\x0c\0\0\0\x10\0\0\x01\x2c";
     let mut dump = Vec::from_slice(rt.alloc(), head).expect(rt, "out of memory");
     for i in 0..300u32 {
-        let (load, size, place) = front_element(i);
-        push_number(rt, &mut dump, load);
-        push_number(rt, &mut dump, size);
-        push_number(rt, &mut dump, place);
+        push_element(&mut dump, front_element(i)).expect(rt, "out of memory");
     }
     dump
 }

@@ -1,18 +1,28 @@
+ghost use Rattle.std.specs.Prelude.{◌≡◌, []};
+
 use std::io::{self, Error, ErrorKind, Read, Write};
 
 /// A reader that gives so many bytes a call, and fails at one call, counted from 0, whatever comes after it.
 #[derive(Drop)]
 pub struct Source<'a> {
-    rest: &'a [u8],
-    at_once: usize,
+    /// What it has yet to give.
+    pub rest: &'a [u8],
+    /// The most bytes that it gives in one call.
+    pub at_once: usize,
     /// How often it was called.
     pub calls: usize,
-    fails: Option<(usize, ErrorKind)>,
+    /// The call at which it fails, and the kind of the error.
+    pub fails: Option<(usize, ErrorKind)>,
 }
 
 impl<'a> Source<'a> {
     /// A reader of these bytes. It fails at the call of this number, if any, with an error of this kind.
-    pub fn new(rest: &'a [u8], at_once: usize, fails: Option<(usize, ErrorKind)>) -> Source<'a> {
+    pub fn new(rest: &'a [u8], at_once: usize, fails: Option<(usize, ErrorKind)>) -> Source<'a>
+        ensures not_called { result.calls ≡ 0 }
+        ensures rest { result.rest.now ≡ rest.now }
+        ensures at_once { result.at_once ≡ at_once }
+        ensures fails { result.fails ≡ fails }
+    {
         Source {
             rest,
             at_once,
@@ -45,11 +55,14 @@ impl Read for Source<'_> {
 pub struct Sink {
     /// What it has taken.
     pub taken: Vec<u8>,
-    at_once: usize,
+    /// The most bytes that it takes in one call.
+    pub at_once: usize,
     /// How often it was called.
     pub calls: usize,
-    fails_at: usize,
-    error: Option<ErrorKind>,
+    /// The call at which it fails.
+    pub fails_at: usize,
+    /// The kind of the error.
+    pub error: Option<ErrorKind>,
 }
 
 impl Sink {
@@ -59,7 +72,13 @@ impl Sink {
         at_once: usize,
         fails_at: usize,
         error: Option<ErrorKind>,
-    ) -> Sink {
+    ) -> Sink
+        ensures nothing_taken { result.taken.items ≡ [] }
+        ensures not_called { result.calls ≡ 0 }
+        ensures at_once { result.at_once ≡ at_once }
+        ensures fails_at { result.fails_at ≡ fails_at }
+        ensures error { result.error ≡ error }
+    {
         Sink {
             taken: Vec::new(rt.alloc()),
             at_once,

@@ -1,5 +1,9 @@
+ghost use Rattle.std.specs.Prelude.{◌≡◌, ◌↔◌, IfSome, IsTrue};
+ghost use Rattle.test_fixtures.specs.Worked.{three_elements, three_sizes};
+
 use crate::numbers::pe;
-use lb_certificates::Snapshot;
+use chare_index::Pe;
+use lb_certificates::{Loads, Sizes, Snapshot};
 use std::alloc::Allocator;
 
 /// The dump of the example: three elements on two PEs, at step 5.
@@ -9,11 +13,36 @@ pub const EXAMPLE_DUMP: [u8; 52] = *b"LBD1\
     \0\0\0\x01\0\0\0\x09\0\0\0\x01\
     \0\0\0\x02\0\0\0\x08\0\0\0\0";
 
+/// The sizes and the PEs of the example, or `None` where memory is refused.
+pub fn example_sizes<A: Allocator>(alloc: A) -> Option<Sizes<A>>
+    ensures value { IfSome result (λ sizes. sizes ≡ three_sizes) }
+{
+    let pairs = [(10, pe(0)), (9, pe(1)), (8, pe(0))];
+    Sizes::new(Vec::from_slice(alloc, &pairs).ok()?)
+}
+
+/// The example, or `None` where memory is refused.
+pub fn example<A: Allocator + Copy>(alloc: A) -> Option<Snapshot<A>>
+    ensures value { IfSome result (λ snapshot. snapshot ≡ three_elements) }
+{
+    let loads = Loads::new(Vec::from_slice(alloc, &[1, 1, 2]).ok()?)?;
+    Snapshot::new(5, 2, loads, example_sizes(alloc)?)
+}
+
 /// Whether this is the example.
-pub fn is_example<A: Allocator>(snapshot: &Snapshot<A>) -> bool {
+pub fn is_example<A: Allocator>(snapshot: &Snapshot<A>) -> bool
+    ensures value { IsTrue result ↔ (snapshot.now ≡ three_elements) }
+{
     let sizes = [(10, pe(0)), (9, pe(1)), (8, pe(0))];
     snapshot.step() == 5
         && snapshot.procs() == 2
         && snapshot.loads().as_slice() == [1, 1, 2].as_slice()
-        && snapshot.sizes().as_slice() == sizes.as_slice()
+        && same_pairs(snapshot.sizes().as_slice(), sizes.as_slice())
+}
+
+// Whether these are the same sizes and places.
+fn same_pairs(some: &[(u32, Pe)], others: &[(u32, Pe)]) -> bool
+    ensures { IsTrue result ↔ (some.now ≡ others.now) }
+{
+    some == others
 }
