@@ -1,6 +1,11 @@
-ghost use Rattle.std.specs.Prelude.{◌≡◌, ◌≢◌, ◌≤◌, ◌⊎◌, IfOk};
+ghost use Rattle.std.specs.Prelude.{◌≡◌, ◌≢◌, ◌≤◌, ◌⊎◌, ◌↔◌, ℕ, IfOk, Some, codes, is_some, true};
 ghost use Rattle.std.specs.Option.{ForSome};
+ghost use Rattle.clap.specs.Built.{FitsChain, TakesValue};
 ghost use Rattle.clap.specs.Values.{kind_of};
+ghost use Rattle.clap.specs.Walk.{texts};
+ghost use Rattle.clap.specs.Words.{FailsBy, app_of, fault_of, first_value, found_of, one_text, rule_of};
+ghost use Rattle.lb_sim.specs.CommandLine.{Spells, file_in, file_rule, procs_in, procs_rule, program};
+ghost use Rattle.lb_sim.specs.Internal.{NamesFile};
 ghost use Rattle.clap.specs.declared.error.kind.ErrorKind.TheVariants.{DisplayHelp, DisplayVersion};
 
 use crate::request::Asked;
@@ -26,6 +31,9 @@ pub fn words_status(error: &Error) -> u8
 /// The words are not `[--procs P] FILE` with a P of 1 to 256 (`Limits::PES`), help or the version is asked for, or
 /// it is out of memory. The error has the text to print; [`words_status`] is the status for it.
 pub fn asked<'a>(alloc: Global, words: &'a [&'a str]) -> Result<Asked<'a>, Error>
+    ensures faults { FailsBy (fault_of program (texts words.now)) result }
+    ensures file { IfOk result (λ asked. file_in (texts words.now) ≡ Some asked.file.now) }
+    ensures procs { IfOk result (λ asked. (n : ℕ) → (asked.procs ≡ Some n) ↔ Spells (procs_in (texts words.now)) n) }
     ensures some_pe { IfOk result (λ asked. ForSome asked.procs (λ p. 1 ≤ p)) }
     ensures few_pes { IfOk result (λ asked. ForSome asked.procs (λ p. p ≤ Limits.PES)) }
 {
@@ -33,15 +41,22 @@ pub fn asked<'a>(alloc: Global, words: &'a [&'a str]) -> Result<Asked<'a>, Error
     Ok(found(&matches))
 }
 
-// The words that are understood: `lb_sim [--procs P] FILE`.
-fn command<'a>(alloc: Global) -> Result<Command<'a>, AllocError> {
+// The words that are understood: `lb_sim [--procs P] FILE`, and those for help and for the version, which clap adds.
+fn command<'a>(alloc: Global) -> Result<Command<'a>, AllocError>
+    ensures program { IfOk result (λ command. app_of command ≡ program) }
+    ensures named { IfOk result NamesFile }
+{
     let command = Command::new(alloc, "lb_sim").version("0.1.0").about(
         "Replays a dump of the load database and prints the decision of its balancing step",
     );
     command.arg(file(alloc))?.arg(procs(alloc))
 }
 
-fn file<'a>(alloc: Global) -> Arg<'a> {
+fn file<'a>(alloc: Global) -> Arg<'a>
+    ensures rule { rule_of result ≡ file_rule }
+    ensures fits { FitsChain result }
+    ensures takes { TakesValue result }
+{
     Arg::new(alloc, "file")
         .value_name("FILE")
         .help("A dump of the load database")
@@ -49,7 +64,10 @@ fn file<'a>(alloc: Global) -> Arg<'a> {
         .action(ArgAction::Set)
 }
 
-fn procs<'a>(alloc: Global) -> Arg<'a> {
+fn procs<'a>(alloc: Global) -> Arg<'a>
+    ensures rule { rule_of result ≡ procs_rule }
+    ensures fits { FitsChain result }
+{
     Arg::new(alloc, "procs")
         .long("procs")
         .value_name("P")
@@ -58,14 +76,26 @@ fn procs<'a>(alloc: Global) -> Arg<'a> {
         .value_parser(value_parser!(u32).range(1..=i64::from(Limits::PES)))
 }
 
-// What the words ask for. A number out of range, which clap refuses, would count as none.
+// What the words ask for.
 fn found<'a>(matches: &ArgMatches<'a>) -> Asked<'a>
+    requires named { is_some (first_value (found_of matches.now) (codes "file")) ≡ true }
+    ensures file { first_value (found_of matches.now) (codes "file") ≡ Some result.file.now }
+    ensures procs { (n : ℕ) → (result.procs ≡ Some n) ↔ Spells (one_text (found_of matches.now) (codes "procs")) n }
     ensures some_pe { ForSome result.procs (λ p. 1 ≤ p) }
     ensures few_pes { ForSome result.procs (λ p. p ≤ Limits.PES) }
 {
-    let procs = matches.get_one::<u32>("procs");
     Asked {
-        file: matches.get_str("file").unwrap_or(""),
-        procs: procs.filter(|&p| 1 <= p && p <= Limits::PES),
+        file: matches.get_str("file").unwrap(),
+        procs: number_in(matches),
     }
+}
+
+// The number of PEs asked for. One out of range, which clap refuses, would count as none.
+fn number_in<'a>(matches: &ArgMatches<'a>) -> Option<u32>
+    ensures procs { (n : ℕ) → (result ≡ Some n) ↔ Spells (one_text (found_of matches.now) (codes "procs")) n }
+    ensures some_pe { ForSome result (λ p. 1 ≤ p) }
+    ensures few_pes { ForSome result (λ p. p ≤ Limits.PES) }
+{
+    let number = matches.get_one::<u32>("procs");
+    number.filter(|&p| 1 <= p && p <= Limits::PES)
 }

@@ -1,4 +1,5 @@
-//! What the tests of several crates are made of: PEs and rounds, the worked dump, rows of dumps, and readers and writers that fail.
+//! What the tests of several crates are made of: PEs and rounds, the example and its dump, rows of dumps, and readers
+//! and writers that fail.
 #![tactic(auto)]
 
 mod numbers;

@@ -4,6 +4,10 @@ ghost use Rattle.test_fixtures.specs.Rows.{row};
 use std::alloc::AllocError;
 
 /// Adds an element to a dump: its load, its size and its place, four bytes each, the highest first.
+///
+/// # Errors
+///
+/// Out of memory.
 pub fn push_element(dump: &mut Vec<u8>, element: (u32, u32, u32)) -> Result<(), AllocError>
     ensures appended { OnOk result (dump.new.items ≡ dump.old.items ++ row element) }
 {

@@ -1,0 +1,45 @@
+-- What the words of a command line ask for, as clap reads them: `lb_sim [--procs P] FILE`.
+use Rattle.std.specs.Prelude.{ℕ, ◌≡◌, ◌≤◌, List, Option, None, Some, codes, pos, true}
+use Rattle.std.specs.Str.Parse.{IsNumeral, digits_value, without_leading_plus}
+use Rattle.clap.specs.Words.{App, Rule, Text, first_of, matches_of, new_app, new_rule, one_of, with_rule}
+use Rattle.clap.specs.declared.builder.ArgAction.TheVariants.{Set}
+use Rattle.clap.specs.declared.builder.value_parser.ValueParser.TheVariants.{Signed}
+use Rattle.chare_index.specs.declared.limits.TheConstants.Limits.{PES}
+
+-- the dump, which has to be named
+abbrev pub file_rule : Rule
+file_rule = record (new_rule (codes "file")) {
+  action = Some Set;
+  value_names = 1;
+  required = true;
+}
+
+-- a number of PEs in place of the dump's own
+abbrev pub procs_rule : Rule
+procs_rule = record (new_rule (codes "procs")) {
+  long = Some (codes "procs");
+  action = Some Set;
+  value_names = 1;
+  parser = Some (Signed (pos 1) (pos PES));
+}
+
+-- the program before its words are declared: it has a version
+abbrev pub versioned : App
+versioned = let plain = new_app (codes "lb_sim") in record plain { top = record plain.top { has_version = true } }
+
+-- the program with its words, to which clap adds those that ask for help and for the version
+abbrev pub program : App
+program = with_rule (with_rule versioned file_rule) procs_rule
+
+-- the word that names the file
+abbrev pub file_in : List Text → Option Text
+file_in words = first_of (codes "file") (matches_of program words)
+
+-- the word that says how many PEs there are to be
+abbrev pub procs_in : List Text → Option Text
+procs_in words = one_of (codes "procs") (matches_of program words)
+
+-- the word spells a number of PEs that there may be
+abbrev pub Spells : Option Text → ℕ → Type 0
+Spells None n = ⊥
+Spells (Some word) n = IsNumeral 10 (without_leading_plus word) × (n ≡ digits_value 10 (without_leading_plus word)) × (1 ≤ n) × (n ≤ PES)
