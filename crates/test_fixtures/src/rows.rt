@@ -1,4 +1,4 @@
-ghost use Rattle.std.specs.Prelude.{◌≡◌, ◌++◌, OnOk};
+ghost use Rattle.std.specs.Prelude.{◌≡◌, ◌++◌, OnErr, OnOk};
 ghost use Rattle.test_fixtures.specs.Rows.{row};
 
 use std::alloc::AllocError;
@@ -7,9 +7,10 @@ use std::alloc::AllocError;
 ///
 /// # Errors
 ///
-/// Out of memory.
+/// Out of memory. The dump is as it was.
 pub fn push_element(dump: &mut Vec<u8>, element: (u32, u32, u32)) -> Result<(), AllocError>
     ensures appended { OnOk result (dump.new.items ≡ dump.old.items ++ row element) }
+    ensures err { OnErr result (dump.new.items ≡ dump.old.items) }
 {
     let (load, size, place) = element;
     let [l0, l1, l2, l3] = load.to_be_bytes();

@@ -1,10 +1,10 @@
-ghost use Rattle.std.specs.Prelude.{◌≡◌, ◌↔◌, IfSome, IsTrue};
+ghost use Rattle.std.specs.Prelude.{◌≡◌, ◌↔◌, IfOk, IsTrue};
 ghost use Rattle.test_fixtures.specs.Worked.{three_elements, three_sizes};
 
 use crate::numbers::pe;
 use chare_index::Pe;
 use lb_certificates::{Loads, Sizes, Snapshot};
-use std::alloc::Allocator;
+use std::alloc::{AllocError, Allocator};
 
 /// The dump of the example: three elements on two PEs, at step 5.
 pub const EXAMPLE_DUMP: [u8; 52] = *b"LBD1\
@@ -13,20 +13,29 @@ pub const EXAMPLE_DUMP: [u8; 52] = *b"LBD1\
     \0\0\0\x01\0\0\0\x09\0\0\0\x01\
     \0\0\0\x02\0\0\0\x08\0\0\0\0";
 
-/// The sizes and the PEs of the example, or `None` where memory is refused.
-pub fn example_sizes<A: Allocator>(alloc: A) -> Option<Sizes<A>>
-    ensures value { IfSome result (λ sizes. sizes ≡ three_sizes) }
+/// The sizes and the PEs of the example.
+///
+/// # Errors
+///
+/// Out of memory.
+pub fn example_sizes<A: Allocator>(alloc: A) -> Result<Sizes<A>, AllocError>
+    ensures value { IfOk result (λ sizes. sizes ≡ three_sizes) }
 {
     let pairs = [(10, pe(0)), (9, pe(1)), (8, pe(0))];
-    Sizes::new(Vec::from_slice(alloc, &pairs).ok()?)
+    Ok(Sizes::new(Vec::from_slice(alloc, &pairs)?).unwrap())
 }
 
-/// The example, or `None` where memory is refused.
-pub fn example<A: Allocator + Copy>(alloc: A) -> Option<Snapshot<A>>
-    ensures value { IfSome result (λ snapshot. snapshot ≡ three_elements) }
+/// The example.
+///
+/// # Errors
+///
+/// Out of memory.
+pub fn example<A: Allocator + Copy>(alloc: A) -> Result<Snapshot<A>, AllocError>
+    ensures value { IfOk result (λ snapshot. snapshot ≡ three_elements) }
 {
-    let loads = Loads::new(Vec::from_slice(alloc, &[1, 1, 2]).ok()?)?;
-    Snapshot::new(5, 2, loads, example_sizes(alloc)?)
+    let loads = Loads::new(Vec::from_slice(alloc, &[1, 1, 2])?).unwrap();
+    let sizes = example_sizes(alloc)?;
+    Ok(Snapshot::new(5, 2, loads, sizes).unwrap())
 }
 
 /// Whether this is the example.
