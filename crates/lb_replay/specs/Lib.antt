@@ -1,3 +1,4 @@
 pub mod Internal
 pub mod Simulation
+pub mod Statuses
 pub mod Text

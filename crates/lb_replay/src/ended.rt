@@ -1,5 +1,6 @@
 ghost use Rattle.std.specs.Prelude.{◌≡◌};
 ghost use Rattle.lb_replay.specs.Internal.{ended_at};
+ghost use Rattle.lb_replay.specs.Statuses.{status_of};
 
 use crate::fault::Fault;
 use lb_dump::DumpError;
@@ -19,6 +20,20 @@ pub enum Ended {
 }
 
 impl Ended {
+    /// The status that a program exits with: 0 where the text was printed, 3 for a fault of the dump, and 5 where
+    /// memory or the output failed.
+    pub fn status(self) -> u8
+        ensures value { result ≡ status_of self }
+    {
+        match self {
+            Ended::Printed => 0,
+            Ended::Dump(DumpError::OutOfMemory)
+            | Ended::Plan(PlanError::OutOfMemory)
+            | Ended::WriteFailed => 5,
+            Ended::Dump(_) => 3,
+        }
+    }
+
     /// The end of a replay that reported this fault.
     pub(crate) fn at(fault: Fault) -> Ended
         ensures value { result ≡ ended_at fault }

@@ -2,7 +2,8 @@
 //! elements into consecutive blocks, with the fence that proves it, the PE of each block and the bytes that move.
 //!
 //! - [`simulate`]: the replay, from the bytes of a reader to the bytes of a writer; [`replay_file`]: that of a file.
-//! - [`Ended`]: how a replay ended.
+//! - [`Ended`]: how a replay ended, and the status for it.
+//! - [`run`]: what a program does that was [`Asked`] for the replay of a file.
 //!
 //! ```
 //! use lb_replay::{Ended, simulate};
@@ -19,8 +20,10 @@ mod ended;
 mod fault;
 mod noted;
 mod output;
+mod request;
 mod simulation;
 mod text;
 
 pub use ended::Ended;
+pub use request::{Asked, run};
 pub use simulation::{replay_file, simulate};

@@ -1,22 +1,19 @@
 //! `lb_sim [--procs P] FILE` replays a dump of the load database off line: it prints the least division of the
 //! elements into consecutive blocks, with the fence that proves it, the PE of each block and the bytes that move.
 //!
-//! - [`words`] and [`request`]: the words of the command line, and what they ask for.
-//! - [`replay`]: the replay that they ask for, by `lb_replay`, and the status for its end.
+//! - [`words`]: the words of the command line, what they ask for, and the status where they ask for no replay.
+//! - `lb_replay::run`: the replay that they ask for, and the status for its end.
 #![tactic(auto)]
 
 ghost use Rattle.std.specs.Prelude.{◌≤◌};
 ghost use Rattle.std.specs.Option.{ForSome};
 
-mod replay;
-mod request;
 #[cfg(test)]
 mod tests;
 mod words;
 
 use chare_index::Limits;
-use replay::run;
-use request::Asked;
+use lb_replay::{Asked, run};
 use std::fs::File;
 use std::process::ExitCode;
 use std::{env, io};

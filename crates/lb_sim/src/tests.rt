@@ -1,4 +1,130 @@
-//! The words of a command line, runs on a worked dump, and the statuses.
+//! The words of the command line.
 
-mod runs;
-mod words;
+use crate::words::{asked, words_status};
+use lb_replay::Asked;
+use std::alloc::Global;
+
+// Words, and what they ask for.
+#[derive(Debug)]
+struct Asking {
+    words: &'static [&'static str],
+    file: &'static str,
+    procs: Option<u32>,
+}
+
+fn is_asked(alloc: Global, row: &Asking) -> bool {
+    let Ok(Asked { file, procs }) = asked(alloc, row.words) else {
+        return false;
+    };
+    file == row.file && procs == row.procs
+}
+
+const ASKING: [Asking; 8] = [
+    Asking {
+        words: &["lb_sim", "f"],
+        file: "f",
+        procs: None,
+    },
+    Asking {
+        words: &["lb_sim", "--procs", "2", "f"],
+        file: "f",
+        procs: Some(2),
+    },
+    Asking {
+        words: &["lb_sim", "--procs", "1", "f"],
+        file: "f",
+        procs: Some(1),
+    },
+    Asking {
+        words: &["lb_sim", "--procs", "256", "a dump.lbd1"],
+        file: "a dump.lbd1",
+        procs: Some(256),
+    },
+    Asking {
+        words: &["lb_sim", "--procs=77", "../g"],
+        file: "../g",
+        procs: Some(77),
+    },
+    Asking {
+        words: &["lb_sim", "g", "--procs", "77"],
+        file: "g",
+        procs: Some(77),
+    },
+    Asking {
+        words: &["another", "lb_sim"],
+        file: "lb_sim",
+        procs: None,
+    },
+    Asking {
+        words: &["lb_sim", "--procs", "3", "--", "--procs"],
+        file: "--procs",
+        procs: Some(3),
+    },
+];
+
+#[test]
+fn words_that_ask(rt: HostRuntime) {
+    for row in &ASKING {
+        assert!(rt; is_asked(rt.alloc(), row), "{row:?}");
+    }
+}
+
+// Words that ask for no replay, and the status for them.
+#[derive(Debug)]
+struct Refused {
+    words: &'static [&'static str],
+    status: u8,
+}
+
+fn is_refused(alloc: Global, row: &Refused) -> bool {
+    match asked(alloc, row.words) {
+        Ok(_) => false,
+        Err(error) => words_status(&error) == row.status,
+    }
+}
+
+const REFUSED: [Refused; 9] = [
+    Refused {
+        words: &["lb_sim"],
+        status: 2,
+    },
+    Refused {
+        words: &["lb_sim", "--procs", "0", "f"],
+        status: 2,
+    },
+    Refused {
+        words: &["lb_sim", "--procs", "257", "f"],
+        status: 2,
+    },
+    Refused {
+        words: &["lb_sim", "--procs", "two", "f"],
+        status: 2,
+    },
+    Refused {
+        words: &["lb_sim", "--procs", "2"],
+        status: 2,
+    },
+    Refused {
+        words: &["lb_sim", "f", "g"],
+        status: 2,
+    },
+    Refused {
+        words: &["lb_sim", "--pes", "2", "f"],
+        status: 2,
+    },
+    Refused {
+        words: &["lb_sim", "--help"],
+        status: 0,
+    },
+    Refused {
+        words: &["lb_sim", "--version"],
+        status: 0,
+    },
+];
+
+#[test]
+fn words_that_are_refused(rt: HostRuntime) {
+    for row in &REFUSED {
+        assert!(rt; is_refused(rt.alloc(), row), "{row:?}");
+    }
+}

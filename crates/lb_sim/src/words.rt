@@ -8,9 +8,9 @@ ghost use Rattle.lb_sim.specs.CommandLine.{Spells, file_in, file_rule, procs_in,
 ghost use Rattle.lb_sim.specs.Internal.{NamesFile};
 ghost use Rattle.clap.specs.declared.error.kind.ErrorKind.TheVariants.{DisplayHelp, DisplayVersion};
 
-use crate::request::Asked;
 use chare_index::Limits;
 use clap::{Arg, ArgAction, ArgMatches, Command, Error, value_parser};
+use lb_replay::Asked;
 use std::alloc::{AllocError, Global};
 
 /// The status where the words of the command line cannot be had, or are refused.

@@ -1,5 +1,5 @@
-//! Tests of whole replays, from the bytes of a dump to the text of a decision: worked dumps, dumps with a fault, readers,
-//! writers and allocators that fail. They use public calls only.
+//! Tests of whole replays, from the bytes of a dump to the text of a decision, and of runs: worked dumps, dumps with a
+//! fault, readers, writers and allocators that fail. They use public calls only.
 #![tactic(auto)]
 
 #[cfg(test)]
@@ -10,3 +10,5 @@ mod fixtures;
 mod refused_memory;
 #[cfg(test)]
 mod replays;
+#[cfg(test)]
+mod runs;

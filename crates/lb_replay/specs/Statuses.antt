@@ -1,4 +1,4 @@
--- The status that the program exits with.
+-- The status that a program exits with for the end of its replay.
 use Rattle.std.specs.Prelude.{ℕ}
 use Rattle.lb_dump.specs.declared.error.DumpError.{DumpError}
 use Rattle.lb_strategy.specs.declared.error.PlanError.{PlanError}

@@ -1,4 +1,4 @@
-use Rattle.lb_sim.proofs.replay.run.Goals as goal
+use Rattle.lb_replay.proofs.request.run.Goals as goal
 
 pub returns-clause-status : goal.returns-clause-status
 returns-clause-status g c =

@@ -1,32 +1,15 @@
-//! Runs on a dump of no elements, and the statuses.
+//! Runs, and the status for each end.
 
 ghost use Rattle.std.specs.Prelude.{◌≤◌};
 ghost use Rattle.std.specs.Option.{ForSome};
 
-use crate::replay::{run, status};
-use crate::request::Asked;
+use crate::fixtures::{ON_ONE, TEXT};
 use chare_index::Limits;
 use lb_dump::DumpError;
-use lb_replay::Ended;
+use lb_replay::{Asked, Ended, run};
 use lb_strategy::PlanError;
 use std::io;
-
-// No elements on two PEs, at step 5.
-const DUMP: [u8; 16] = *b"LBD1\0\0\0\x05\0\0\0\x02\0\0\0\0";
-
-const TEXT: &str = "step 5 procs 2 elements 0\n\
-    bottleneck 0\n\
-    fence zero\n\
-    block 0 0..0 load 0 pe -\n\
-    block 1 0..0 load 0 pe -\n\
-    moved 0\n";
-
-// Its text on one PE.
-const ON_ONE: &str = "step 5 procs 1 elements 0\n\
-    bottleneck 0\n\
-    fence zero\n\
-    block 0 0..0 load 0 pe -\n\
-    moved 0\n";
+use test_fixtures::EXAMPLE_DUMP;
 
 // Whether a run had this status and no reason, and wrote this text.
 fn is_status(found: (u8, Option<io::Error>), written: &[u8], status: u8, text: &str) -> bool {
@@ -54,18 +37,18 @@ fn tells_letters(rt: &impl AllocGlobal, procs: Option<u32>) -> bool
 
 #[test]
 fn runs_and_their_statuses(rt: HostRuntime) {
-    assert!(rt; runs(&rt, &DUMP, None, TEXT, 0));
-    assert!(rt; runs(&rt, &DUMP, Some(1), ON_ONE, 0));
+    assert!(rt; runs(&rt, &EXAMPLE_DUMP, None, TEXT, 0));
+    assert!(rt; runs(&rt, &EXAMPLE_DUMP, Some(1), ON_ONE, 0));
     assert!(rt; tells_letters(&rt, None));
     assert!(rt; tells_letters(&rt, Some(256)));
 }
 
 #[test]
 fn statuses(rt: HostRuntime) {
-    assert!(rt; status(Ended::Printed) == 0);
-    assert!(rt; status(Ended::Dump(DumpError::Magic)) == 3);
-    assert!(rt; status(Ended::Dump(DumpError::Read)) == 3);
-    assert!(rt; status(Ended::Dump(DumpError::OutOfMemory)) == 5);
-    assert!(rt; status(Ended::Plan(PlanError::OutOfMemory)) == 5);
-    assert!(rt; status(Ended::WriteFailed) == 5);
+    assert!(rt; Ended::Printed.status() == 0);
+    assert!(rt; Ended::Dump(DumpError::Magic).status() == 3);
+    assert!(rt; Ended::Dump(DumpError::Read).status() == 3);
+    assert!(rt; Ended::Dump(DumpError::OutOfMemory).status() == 5);
+    assert!(rt; Ended::Plan(PlanError::OutOfMemory).status() == 5);
+    assert!(rt; Ended::WriteFailed.status() == 5);
 }

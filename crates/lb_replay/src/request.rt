@@ -1,33 +1,25 @@
 ghost use Rattle.std.specs.Prelude.{◌≡◌, ◌≤◌, ℕ, List, Option, Some, IfOk, IfErr};
 ghost use Rattle.std.specs.Option.{ForSome};
 ghost use Rattle.lb_replay.specs.Simulation.{EndsReplay, ReportsUnread};
+ghost use Rattle.lb_replay.specs.Statuses.{status_of};
 ghost use Rattle.lb_replay.specs.declared.ended.Ended.{Ended};
-ghost use Rattle.lb_sim.specs.Statuses.{status_of};
 
-use crate::request::Asked;
+use crate::simulation::replay_file;
 use chare_index::Limits;
-use lb_dump::DumpError;
-use lb_replay::{Ended, replay_file};
-use lb_strategy::PlanError;
 use std::alloc::Allocator;
 use std::io::{self, Read, Write};
 
-/// The status that the program exits with: 0 where the text was printed, 3 for a fault of the dump, and 5 where
-/// memory or the output failed.
-pub fn status(ended: Ended) -> u8
-    ensures value { result ≡ status_of ended }
-{
-    match ended {
-        Ended::Printed => 0,
-        Ended::Dump(DumpError::OutOfMemory)
-        | Ended::Plan(PlanError::OutOfMemory)
-        | Ended::WriteFailed => 5,
-        Ended::Dump(_) => 3,
-    }
+/// What a run is asked for.
+#[derive(Clone, Copy, Debug, PartialEq, Eq)]
+pub struct Asked<'a> {
+    /// The file with the dump.
+    pub file: &'a str,
+    /// The number of blocks, 1 to 256 (`Limits::PES`), where one is asked for.
+    pub procs: Option<u32>,
 }
 
-/// Replays the dump in the file asked for, for the number of PEs asked for, and returns the status of its end, with
-/// the system's reason where a read failed.
+/// Replays the dump in the file asked for, for the number of PEs asked for, as [`replay_file`] does, and returns the
+/// status of its end, with the system's reason where a read failed.
 pub fn run<A: Allocator + Copy, R: Read + Drop, W: Write>(
     alloc: A,
     asked: Asked<'_>,
@@ -42,5 +34,5 @@ pub fn run<A: Allocator + Copy, R: Read + Drop, W: Write>(
     ensures reason { IfErr file (λ reason. result.1 ≡ Some reason) }
 {
     let (ended, reason) = replay_file(alloc, file, writer, asked.procs);
-    (status(ended), reason)
+    (ended.status(), reason)
 }
