@@ -1,5 +1,4 @@
-//! What the tests are made of: a full dump, as a snapshot and as bytes. What can't be made ends the
-//! test.
+//! What the tests are made of: a full dump, as a snapshot and as bytes. What can't be made ends the test.
 
 use chare_index::Pe;
 use lb_certificates::{Loads, Sizes, Snapshot, Units};
