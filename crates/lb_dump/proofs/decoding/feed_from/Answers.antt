@@ -18,3 +18,7 @@ loop-preserved g c =
     let piece = take c.in-Ok.len c.read.new.buf in
     let after = subst (λ (p : Progress). Feeds p piece (Ok tt) c.feed.new.self) before.1 c.in_ok-feed.ensures.fed in
     (before.0 ++ piece, after.1, Consumes-trans _ _ _ before.0 piece before.2 c.in-Ok.ensures.bytes.0, after.0, omega arith)
+
+-- a failure is no end
+pub returns-in_default-clause-ended : goal.returns-in_default-clause-ended
+returns-in_default-clause-ended g c = tt
