@@ -7,7 +7,7 @@ use Rattle.lb_certificates.specs.declared.division.Floor.TheVariants.{Zero, Fenc
 use Rattle.lb_certificates.specs.declared.flaw.Flaw.{Flaw}
 use Rattle.lb_certificates.specs.declared.flaw.Flaw.TheVariants.{CutCount, CutStart, CutOrder, CutEnd, Heavy, FenceCount, FenceStart, FenceOrder, FenceEnd, FenceLight, ZeroFloor}
 use Rattle.lb_certificates.specs.Chain.{IsDivision}
-use Rattle.lb_certificates.specs.Certificate.{MatchFloor, IsCertified, NoneAbove, IsFirstLight, range_load}
+use Rattle.lb_certificates.specs.Certificate.{HoldsFor, IsCertified, IsFence, IsFirstLight, MatchFloor, NoneAbove, NoneLight, range_load}
 use Rattle.lb_certificates.specs.Flaws.{Falls, HasFlaw, IsBefore, IsFirst, flaw_number, flaw_place}
 
 -- two facts about a floor that exclude each other at either kind
@@ -42,6 +42,11 @@ to_fence floor s at_zero at_fence e m = subst (λ f. MatchFloor f at_zero at_fen
 
 of_fence : {A : Type 0} (floor : Floor A) (s : List ℕ) (at_zero : Type 0) (at_fence : List ℕ → Type 0) → floor ≡ Fence s → at_fence s → MatchFloor floor at_zero at_fence
 of_fence floor s at_zero at_fence e m = subst (λ f. MatchFloor f at_zero at_fence) (sym e) m
+
+-- a fence with no light range holds
+pub fence_holds : {A : Type 0} (xs : List ℕ) (p bottleneck : ℕ) (floor : Floor A) (s : List ℕ) → floor ≡ Fence s → length s ≡ p + 1 → slice_index s 0 ≡ 0 → IsNonDecreasing s → slice_index s p < length xs → NoneLight xs p bottleneck s → HoldsFor xs p bottleneck floor
+fence_holds xs p bottleneck floor s e counted starts ordered ends heavy =
+    of_fence floor s (bottleneck ≡ 0) (IsFence xs p bottleneck) e (record { counted = counted; starts = starts; ordered = ordered; ends = ends; heavy = heavy })
 
 -- a light range is the first flaw where all else is right
 pub light_is_first : {A : Type 0} (xs : List ℕ) (p : ℕ) (d : Division A) (s : List ℕ) (i : ℕ) → IsDivision 0 (length xs) p d.cuts → NoneAbove xs p d.bottleneck d.cuts → d.floor ≡ Fence s → length s ≡ p + 1 → slice_index s 0 ≡ 0 → IsNonDecreasing s → slice_index s p < length xs → IsFirstLight xs p d.bottleneck s i → IsFirst (HasFlaw xs p d) (FenceLight i)
