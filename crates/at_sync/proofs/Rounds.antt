@@ -10,7 +10,7 @@ use Rattle.std.proofs.lemmas.List.Elements.{All-replicate}
 use Rattle.chain_partition.specs.Chosen.{IsChosen}
 use Rattle.chare_index.specs.declared.limits.TheConstants.Limits.{PES}
 use Rattle.lb_certificates.specs.Chain.{IsLeastDivision}
-use Rattle.lb_certificates.specs.Measured.{Taken}
+use Rattle.lb_snapshot.specs.Measured.{Taken}
 use Rattle.lb_certificates.specs.Naming.{blocks_between, IsCheapest}
 use Rattle.lb_database.specs.Measuring.{Measured, IsSnapshotOf, StandBelow, elements, opening}
 use Rattle.lb_database.specs.Refusals.{HasNextRound}

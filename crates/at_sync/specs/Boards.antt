@@ -7,7 +7,7 @@ use Rattle.std.specs.Option.{option_map}
 use Rattle.chare_index.specs.declared.limits.TheConstants.Limits.{PES, ROUND}
 use Rattle.chain_partition.specs.Chosen.{IsChosen}
 use Rattle.lb_certificates.specs.Chain.{IsLeastDivision}
-use Rattle.lb_certificates.specs.Measured.{Taken}
+use Rattle.lb_snapshot.specs.Measured.{Taken}
 use Rattle.lb_certificates.specs.Naming.{IsCheapest}
 use Rattle.lb_database.specs.Measuring.{Measured, IsComplete, IsSnapshotOf, StandBelow, elements, opening, with_charge, with_report}
 use Rattle.lb_strategy.specs.Decisions.{IsRight}

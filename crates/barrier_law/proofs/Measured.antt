@@ -2,7 +2,7 @@
 use Rattle.std.proofs.Common.{◌≡◌, ℕ, ◌<◌, ◌≤◌, List, length, Some, sym, subst}
 use Rattle.std.specs.Prelude.{Result, Contains, slice_get}
 use Rattle.at_sync.specs.Boards.{Kept, kept_of}
-use Rattle.lb_certificates.specs.Measured.{Taken}
+use Rattle.lb_snapshot.specs.Measured.{Taken}
 use Rattle.chares.specs.declared.report.Report.{Report}
 use Rattle.chares.specs.declared.report.Report.TheVariants.{Decided}
 use Rattle.chares.specs.Elements.{IsHistory}

@@ -1,7 +1,7 @@
 -- What is measured of a round is what the elements did for it. Source: the Charm++ manual on measurement-based load
 -- balancing, where the load of an object is what the runtime measured of its work, and is the forecast for what it will do.
 use Rattle.std.specs.Prelude.{◌≡◌, ℕ, List, length, Some, slice_get}
-use Rattle.lb_certificates.specs.Measured.{Taken}
+use Rattle.lb_snapshot.specs.Measured.{Taken}
 use Rattle.chares.specs.Steps.{Step}
 use Rattle.element_rounds.specs.Rounds.{IsPhase}
 use Rattle.round_agreement.specs.Agreement.{IsTakenOf}

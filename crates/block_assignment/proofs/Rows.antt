@@ -6,7 +6,7 @@ use Rattle.std.proofs.lemmas.List.Elements.{All-drop, All-append}
 use Rattle.std.proofs.lemmas.List.Sums.{sum_by-le, sum_by-take-le}
 use Rattle.std.proofs.lemmas.Nat.{mul-add-lt}
 use Rattle.chare_index.specs.declared.limits.TheConstants.Limits.{STATE_BYTES}
-use Rattle.lb_certificates.specs.Measured.{IsSizes}
+use Rattle.lb_snapshot.specs.Measured.{IsSizes}
 use Rattle.lb_certificates.specs.Naming.{moved_bytes, block_cost}
 
 -- no more bytes of an element move than it has

@@ -1,6 +1,6 @@
 ghost use Rattle.std.specs.Prelude.{◌≡◌, ℕ, ◌+◌, ◌-◌, ◌^◌, ◌<◌, ◌≤◌, length, slice_index, sum_by, IfOk, OnOk, []};
 ghost use Rattle.lb_certificates.specs.Chain.{IsDivision};
-ghost use Rattle.lb_certificates.specs.Measured.{IsSizes};
+ghost use Rattle.lb_snapshot.specs.Measured.{IsSizes};
 ghost use Rattle.lb_certificates.specs.Naming.{naming_cost, moved_bytes, IsNaming};
 ghost use Rattle.block_assignment.specs.Table.{Table, IsTable, IsTableOf, cost_at};
 

@@ -5,13 +5,13 @@ use Rattle.std.proofs.Math.Nat.{div-le_self, lt-mul-div-succ, mul-le-mul_left, m
 use Rattle.std.proofs.lemmas.Grind.{div_ceil_times}
 use Rattle.std.proofs.lemmas.List.{get_or_default}
 use Rattle.std.proofs.lemmas.List.Sums.{sum_by-take-le}
-use Rattle.lb_certificates.proofs.LoadSums.{sum_small}
-use Rattle.lb_certificates.specs.Chain.{load, peak, IsDivision, IsLeastPeak}
+use Rattle.lb_snapshot.proofs.LoadSums.{sum_small}
+use Rattle.lb_certificates.specs.Chain.{peak, IsDivision, IsLeastPeak}
+use Rattle.lb_snapshot.specs.Measured.{load, IsLoads}
 use Rattle.lb_certificates.specs.Certificate.{IsFence, MatchFloor, HoldsFor, IsCertified}
 use Rattle.lb_certificates.specs.declared.division.Division.{Division}
 use Rattle.lb_certificates.specs.declared.division.Floor.{Floor}
 use Rattle.lb_certificates.specs.declared.division.Floor.TheVariants.{Zero, Fence}
-use Rattle.lb_certificates.specs.Measured.{IsLoads}
 use Rattle.lb_certificates.proofs.Chains.{load_after, load_wider, block_load-le-peak}
 use Rattle.lb_certificates.proofs.LeastDivisions.{heavy_at}
 use Rattle.chain_partition.specs.Chosen.{IsChosen}

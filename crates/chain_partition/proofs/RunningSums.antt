@@ -2,8 +2,7 @@
 use Rattle.std.proofs.Common.{◌≡◌, ℕ, suc, zero, ◌+◌, ◌-◌, ◌<◌, ◌≤◌, inl, inr, List, [], ◌∷◌, length, slice_index, arith, add-one, refl, sym, subst}
 use Rattle.std.proofs.lemmas.Bool.{cases_lt}
 use Rattle.std.proofs.lemmas.Grind.{same_number_lists}
-use Rattle.lb_certificates.specs.Chain.{load}
-use Rattle.lb_certificates.specs.Measured.{IsLoads}
+use Rattle.lb_snapshot.specs.Measured.{load, IsLoads}
 use Rattle.lb_certificates.proofs.Chains.{load_after, load_wider}
 use Rattle.chain_partition.specs.Greedy.{IsGreatestEnd}
 use Rattle.chain_partition.specs.Sums.{AreSums, IsPrefix, loads_of}

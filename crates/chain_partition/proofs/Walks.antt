@@ -2,7 +2,7 @@
 use Rattle.std.proofs.Common.{◌≡◌, ℕ, suc, zero, ◌+◌, ◌-◌, ◌^◌, ◌<◌, ◌≤◌, min, max, inl, inr, List, ◌∷◌, [], ◌++◌, length, slice_index, arith, subst}
 use Rattle.std.proofs.lemmas.Bool.{cases_lt}
 use Rattle.std.proofs.lemmas.List.{get_or_append_left}
-use Rattle.lb_certificates.specs.Chain.{load}
+use Rattle.lb_snapshot.specs.Measured.{load}
 use Rattle.lb_certificates.specs.Certificate.{IsFence}
 use Rattle.lb_certificates.proofs.LeastDivisions.{fence_below}
 use Rattle.chain_partition.specs.Greedy.{CanFit, IsGreatestEnd, IsGreedy}

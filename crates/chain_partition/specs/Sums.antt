@@ -1,7 +1,6 @@
 -- The running sums of a chain, by which the load of any range of elements is one subtraction.
 use Rattle.std.specs.Prelude.{◌≡◌, ℕ, ◌+◌, ◌-◌, ◌≤◌, List, [], ◌∷◌, length, slice_index}
-use Rattle.lb_certificates.specs.Chain.{load}
-use Rattle.lb_certificates.specs.Measured.{IsLoads}
+use Rattle.lb_snapshot.specs.Measured.{load, IsLoads}
 
 -- the running sums of the first n loads: the load of the first k elements, for each k from 0 to n
 pub record AreSums (loads : List ℕ) (n : ℕ) (sums : List ℕ) : Type 0 where

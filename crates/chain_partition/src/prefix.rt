@@ -1,5 +1,5 @@
 ghost use Rattle.std.specs.Prelude.{◌≡◌, ◌≤◌, ◌↔◌, [], IsTrue, IfOk, length};
-ghost use Rattle.lb_certificates.specs.Chain.{load};
+ghost use Rattle.lb_snapshot.specs.Measured.{load};
 ghost use Rattle.chain_partition.specs.Sums.{IsPrefix, loads_of};
 
 use chare_index::Limits;
@@ -33,7 +33,7 @@ impl<A: Allocator> Prefix<A> {
     /// # Errors
     ///
     /// Out of memory, where the one list of the sums was refused. It takes half as much room again as the sums need.
-    #[tactic(auto, using(lb_certificates::proofs::LoadSums::next_fits))]
+    #[tactic(auto, using(lb_snapshot::proofs::LoadSums::next_fits))]
     pub fn of<B: Allocator>(alloc: A, loads: &Loads<B>) -> Result<Self, AllocError>
         ensures made { IfOk result (λ prefix. prefix ≡ loads.now) }
     {

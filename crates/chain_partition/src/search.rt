@@ -2,7 +2,8 @@
 //! tells more than whether its limit holds all elements, so half the walks serve.
 
 ghost use Rattle.std.specs.Prelude.{◌≡◌, ℕ, ◌-◌, ◌^◌, ◌<◌, ◌≤◌, All, length};
-ghost use Rattle.lb_certificates.specs.Chain.{IsLeastPeak, load};
+ghost use Rattle.lb_certificates.specs.Chain.{IsLeastPeak};
+ghost use Rattle.lb_snapshot.specs.Measured.{load};
 ghost use Rattle.chain_partition.specs.Search.{Enclose, Tells};
 ghost use Rattle.chain_partition.specs.Sums.{IsPrefix, loads_of};
 

@@ -9,7 +9,7 @@ ghost use Rattle.chares.specs.Posting.{posted};
 use crate::entry::Entry;
 use crate::sends::{SendError, Sends};
 use chare_index::{Gate, Index, Limits, Round};
-use lb_certificates::Units;
+use lb_snapshot::Units;
 use pup_pack::Pup;
 use std::alloc::Allocator;
 use std::marker::Brand;

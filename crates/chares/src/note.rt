@@ -2,7 +2,7 @@ ghost use Rattle.std.specs.Prelude.{◌≡◌};
 ghost use Rattle.chares.specs.Progressing.{is_finish};
 
 use chare_index::{Index, Pe, Round};
-use lb_certificates::Units;
+use lb_snapshot::Units;
 
 /// What a PE owes the board.
 #[derive(Clone, Copy, Debug, PartialEq, Eq)]

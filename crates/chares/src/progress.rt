@@ -6,7 +6,7 @@ ghost use Rattle.chares.specs.Progressing.{begun, charged, ending, ended};
 
 use crate::chare::Effect;
 use chare_index::{Limits, Round};
-use lb_certificates::Units;
+use lb_snapshot::Units;
 
 /// How far an element has come.
 #[derive(Clone, Copy, Debug, PartialEq, Eq)]

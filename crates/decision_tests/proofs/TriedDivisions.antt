@@ -4,7 +4,8 @@ use Rattle.std.specs.Option.{option_map_or}
 use Rattle.std.specs.List.Sorted.{IsNonDecreasing}
 use Rattle.std.proofs.lemmas.Bool.{cases_lt}
 use Rattle.std.proofs.lemmas.List.{get_or_default}
-use Rattle.lb_certificates.specs.Chain.{load, peak, IsDivision, IsLeastPeak, HasNoDivision}
+use Rattle.lb_certificates.specs.Chain.{peak, IsDivision, IsLeastPeak, HasNoDivision}
+use Rattle.lb_snapshot.specs.Measured.{load}
 
 -- a division less its first block divides the rest, and its peak is that block's load or the rest's peak
 pub behind_first : (xs : List ℕ) (first n rest : ℕ) (cuts : List ℕ) → IsDivision first n (rest + 1) cuts → IsDivision (slice_index cuts 1) n rest (drop 1 cuts) × (peak xs cuts ≡ max (load xs first (slice_index cuts 1)) (peak xs (drop 1 cuts)))

@@ -4,8 +4,8 @@
 ghost use Rattle.std.specs.Prelude.{◌≤◌};
 
 use chare_index::{Pe, Round};
-use lb_certificates::{Snapshot, Units};
 use lb_database::{DbError, LoadDb};
+use lb_snapshot::{Snapshot, Units};
 use std::process::Abort;
 use test_fixtures::{pe, round};
 

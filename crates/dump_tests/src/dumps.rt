@@ -4,8 +4,8 @@
 ghost use Rattle.std.specs.Prelude.{◌<◌};
 
 use crate::fixtures::{fed_byte_by_byte, has_text, is_example};
-use lb_certificates::Snapshot;
 use lb_dump::{DumpError, DumpReader, decode, format_laws, read_from, write_to};
+use lb_snapshot::Snapshot;
 use std::alloc::Global;
 use std::io::ErrorKind;
 use std::process::Abort;

@@ -1,8 +1,8 @@
 //! What the tests are made of: a full dump, as a snapshot and as bytes. What can't be made ends the test.
 
 use chare_index::Pe;
-use lb_certificates::{Loads, Sizes, Snapshot, Units};
 use lb_dump::{DumpError, DumpReader, encode};
+use lb_snapshot::{Loads, Sizes, Snapshot, Units};
 use std::alloc::Global;
 use std::process::Abort;
 use test_fixtures::push_element;

@@ -2,8 +2,8 @@
 //! piece of the reader.
 
 use crate::fixtures::{self, full, full_text, has_text, is_full};
-use lb_certificates::Snapshot;
 use lb_dump::{DumpError, decode, read_from, write_to};
+use lb_snapshot::Snapshot;
 use std::alloc::Global;
 use std::io::ErrorKind;
 use std::process::Abort;

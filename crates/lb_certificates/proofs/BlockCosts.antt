@@ -3,7 +3,7 @@ use Rattle.std.proofs.Common.{◌≡◌, ℕ, ◌+◌, ◌^◌, ◌<◌, ◌≤�
 use Rattle.std.proofs.lemmas.List.Sums.{sum_by-le, sum_by_more_le}
 use Rattle.std.proofs.Math.Nat.{mul-le-mul_right}
 use Rattle.chare_index.specs.declared.limits.TheConstants.Limits.{STATE_BYTES}
-use Rattle.lb_certificates.specs.Measured.{IsSizes}
+use Rattle.lb_snapshot.specs.Measured.{IsSizes}
 use Rattle.lb_certificates.specs.Naming.{moved_bytes}
 
 -- the bytes of elements are far below 2^64

@@ -3,7 +3,8 @@ use Rattle.std.proofs.Common.{◌≡◌, ℕ, suc, zero, ◌+◌, ◌-◌, ◌<�
 use Rattle.std.proofs.lemmas.List.Sums.{sum_by-append}
 use Rattle.std.proofs.Math.Nat.{le-max_left, le-max_right, max-le}
 use Rattle.std.proofs.Math.Seq.{take-add}
-use Rattle.lb_certificates.specs.Chain.{load, block_load, peak}
+use Rattle.lb_certificates.specs.Chain.{block_load, peak}
+use Rattle.lb_snapshot.specs.Measured.{load}
 
 -- the loads before a, and from a to b, are the loads before b
 pub load_after : (xs : List ℕ) (a b : ℕ) → a ≤ b → sum (take a xs) + load xs a b ≡ sum (take b xs)

@@ -4,8 +4,6 @@ pub mod Chains
 pub mod Duality
 pub mod LeastDivisions
 pub mod LeastNamings
-pub mod LoadSums
-pub mod Made
 pub mod MovedBytes
 pub mod NoFlaws
 pub mod NoNamingFlaws

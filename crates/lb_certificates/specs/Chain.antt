@@ -2,12 +2,9 @@
 -- can be: the chains-on-chains partitioning problem, whose tasks are the elements here. Source: A. Pinar and C. Aykanat, "Fast optimal load
 -- balancing algorithms for 1D partitioning", Journal of Parallel and Distributed Computing 64(8), 2004.
 -- That a load may be 0 and a block may be empty is this project's choice.
-use Rattle.std.specs.Prelude.{◌≡◌, ℕ, ◌+◌, ◌≤◌, max, List, [], ◌∷◌, length, sum, slice_index, slice_range}
+use Rattle.std.specs.Prelude.{◌≡◌, ℕ, ◌+◌, ◌≤◌, max, List, [], ◌∷◌, length, slice_index}
 use Rattle.std.specs.List.Sorted.{IsNonDecreasing}
-
--- the load of the elements a..b
-abbrev pub load : List ℕ → ℕ → ℕ → ℕ
-load loads a b = sum (slice_range loads a b)
+use Rattle.lb_snapshot.specs.Measured.{load}
 
 -- A division of the elements first..end into n blocks is a list of n + 1 cuts in non-decreasing order, from first
 -- to end. Block b is the elements cuts[b]..cuts[b + 1]. It may be empty, so these are the divisions into at most

@@ -6,7 +6,7 @@ ghost use Rattle.lb_certificates.specs.Flaws.{Falls, HasFlaw, IsFirst};
 
 use crate::division::{Division, Floor};
 use crate::flaw::Flaw;
-use crate::loads::Loads;
+use lb_snapshot::Loads;
 use std::alloc::Allocator;
 
 /// Checks a division of these loads into `pes` blocks, whoever made it. `Ok` means that its bottleneck is the

@@ -1,6 +1,6 @@
-//! What a load balancer is given, what it decides, and checkers whose `Ok` means that no decision is better.
+//! What a load balancer decides, and checkers whose `Ok` means that no decision is better.
 //!
-//! - [`Loads`], [`Sizes`] and [`Snapshot`]: the measured load, size and place of every element.
+//! - [`Loads`], [`Sizes`] and [`Snapshot`]: what it decides on, passed on from [`lb_snapshot`].
 //! - [`Division`], with [`Cuts`], [`Floor`] and [`Stops`]: the elements cut into consecutive blocks, and the
 //!   certificate that no other division has a lighter heaviest block.
 //! - [`Naming`] and [`Prices`], with [`PriceList`]: on which PE each block runs, and the certificate that no
@@ -26,22 +26,17 @@ mod cuts;
 mod division;
 mod division_check;
 mod flaw;
-mod loads;
 mod naming;
 mod naming_check;
 mod prices;
-mod sizes;
-mod snapshot;
 mod stops;
 
 pub use cuts::Cuts;
 pub use division::{Division, Floor};
 pub use division_check::check_division;
 pub use flaw::Flaw;
-pub use loads::{Loads, Units};
+pub use lb_snapshot::{Loads, Sizes, Snapshot, Units};
 pub use naming::Naming;
 pub use naming_check::check_naming;
 pub use prices::{PriceList, Prices};
-pub use sizes::Sizes;
-pub use snapshot::Snapshot;
 pub use stops::Stops;

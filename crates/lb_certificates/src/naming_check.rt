@@ -1,7 +1,7 @@
 ghost use Rattle.std.specs.Prelude.{◌≡◌, ℕ, ◌+◌, ◌-◌, ◌*◌, ◌<◌, ◌≤◌, ◌↔◌, All, length, slice_index, sum_by, IsTrue, IsOk, IfOk, OnOk, IfErr, MatchBool, MatchOption, pos, neg_ℤ, ◌≤ℤ◌, ◌^◌};
 ghost use Rattle.lb_certificates.specs.Chain.{IsDivision};
 ghost use Rattle.lb_certificates.specs.Flaws.{AreApart, Repeats, HasNamingFlaw, IsFirst, IsFirstHigh, IsHigh, IsLow};
-ghost use Rattle.lb_certificates.specs.Measured.{IsSizes};
+ghost use Rattle.lb_snapshot.specs.Measured.{IsSizes};
 ghost use Rattle.lb_certificates.specs.Naming.{blocks_between, block_cost, bytes_moved, moved_bytes, price_at, price_sum, AreBlocks, IsCheapest, IsNamed, IsNaming, Proves};
 
 use crate::block_costs::write_costs;
@@ -10,8 +10,8 @@ use crate::division_check::rises;
 use crate::flaw::Flaw;
 use crate::naming::Naming;
 use crate::prices::Prices;
-use crate::sizes::Sizes;
 use chare_index::{Limits, Pe};
+use lb_snapshot::Sizes;
 use std::alloc::Allocator;
 use std::marker::Model;
 

@@ -4,7 +4,7 @@ use Rattle.std.specs.Prelude.{All, IsSome, IfSome, is_none, count_by}
 use Rattle.std.proofs.lemmas.List.Sums.{sum_by-cons}
 use Rattle.std.proofs.lemmas.List.{get_or-map, length-map}
 use Rattle.chare_index.specs.declared.limits.TheConstants.Limits.{PES, STATE_BYTES}
-use Rattle.lb_certificates.specs.Measured.{IsSizes, IsTaken}
+use Rattle.lb_snapshot.specs.Measured.{IsSizes, IsTaken}
 use Rattle.lb_database.specs.Measuring.{Measured, AreReports, StandBelow}
 
 -- how many are missing, report by report

@@ -4,7 +4,7 @@
 -- That a load stops at a limit is this project's choice.
 use Rattle.std.specs.Prelude.{◌≡◌, ℕ, ◌+◌, ◌<◌, ◌≤◌, min, List, length, All, map, replicate, slice_index, slice_index_or, slice_set, Option, None, Some, IsSome, IfSome}
 use Rattle.chare_index.specs.declared.limits.TheConstants.Limits.{ELEMENTS, ROUND, LOAD, STATE_BYTES}
-use Rattle.lb_certificates.specs.Measured.{Taken, IsLoads}
+use Rattle.lb_snapshot.specs.Measured.{Taken, IsLoads}
 
 -- What was measured so far in the round: the units charged to each element, and of each element that has
 -- reported the packed size in bytes and the PE on which it stands

@@ -8,7 +8,7 @@ ghost use Rattle.lb_database.specs.Refusals.{RefusesNew, RefusesCharge, IsReport
 use crate::error::DbError;
 use crate::lists::{copied_loads, filled, reported_sizes};
 use chare_index::{Limits, Pe, Round};
-use lb_certificates::{Snapshot, Units};
+use lb_snapshot::{Snapshot, Units};
 use std::alloc::{AllocError, Allocator, Global};
 use std::marker::Model;
 

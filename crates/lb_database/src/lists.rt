@@ -2,11 +2,11 @@
 //! and an empty one asks for none.
 
 ghost use Rattle.std.specs.Prelude.{◌≡◌, ◌<◌, All, length, map, replicate, Some, IfOk, IsSome, OnErr};
-ghost use Rattle.lb_certificates.specs.Measured.{IsLoads};
+ghost use Rattle.lb_snapshot.specs.Measured.{IsLoads};
 ghost use Rattle.lb_database.specs.Measuring.{AreReports};
 
 use chare_index::Pe;
-use lb_certificates::{Loads, Sizes, Units};
+use lb_snapshot::{Loads, Sizes, Units};
 use std::alloc::{AllocError, Allocator};
 
 /// A list of `n` values that are all this one.
@@ -24,7 +24,7 @@ pub(crate) fn filled<T: Copy, A: Allocator>(
 }
 
 /// The loads of a snapshot: a copy of these.
-#[tactic(auto, using(lb_certificates::proofs::Made::made_where))]
+#[tactic(auto, using(lb_snapshot::proofs::Made::made_where))]
 pub(crate) fn copied_loads<A: Allocator>(alloc: A, units: &[Units]) -> Result<Loads<A>, AllocError>
     requires { IsLoads units.now }
     ensures items { IfOk result (λ loads. loads ≡ units.now) }
@@ -36,7 +36,7 @@ pub(crate) fn copied_loads<A: Allocator>(alloc: A, units: &[Units]) -> Result<Lo
 }
 
 /// The sizes of a snapshot: what all elements have reported.
-#[tactic(auto, using(lb_certificates::proofs::Made::made_where, crate::proofs::Reports::sizes_there))]
+#[tactic(auto, using(lb_snapshot::proofs::Made::made_where, crate::proofs::Reports::sizes_there))]
 pub(crate) fn reported_sizes<A: Allocator>(
     alloc: A,
     reports: &[Option<(u32, Pe)>],

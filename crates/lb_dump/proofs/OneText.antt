@@ -6,7 +6,7 @@ use Rattle.std.proofs.lemmas.Grind.{same_number_lists}
 use Rattle.std.proofs.lemmas.List.{same_lists}
 use Rattle.std.proofs.lemmas.Option.{get_or_from_slice_get}
 use Rattle.chare_index.specs.declared.limits.TheConstants.Limits.{STATE_BYTES}
-use Rattle.lb_certificates.specs.Measured.{Taken}
+use Rattle.lb_snapshot.specs.Measured.{Taken}
 use Rattle.lb_dump.specs.Format.{word, IsBytes, load_in, size_in, place_in, whole_len, IsText, procs_at, count_at, load_at, size_at, place_at, in_element}
 use Rattle.lb_dump.specs.Faults.{IsGoodTo, IsGood, IsBroken, IsShort, IsFault}
 use Rattle.lb_dump.specs.Reading.{IsAnswer}

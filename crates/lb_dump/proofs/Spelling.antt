@@ -5,7 +5,7 @@ use Rattle.std.proofs.KnownBytes.{Appends-trans}
 use borrow.Author.Count.{below_more}
 use Rattle.std.proofs.lemmas.Bool.{cases_lt}
 use Rattle.std.proofs.lemmas.List.{get_or_append_left, get_or-append_right, append-nil}
-use Rattle.lb_certificates.specs.Measured.{Taken}
+use Rattle.lb_snapshot.specs.Measured.{Taken}
 use Rattle.lb_dump.specs.Format.{word, letters, load_in, size_in, place_in, IsSnapshot, IsBytes, IsText, step_at, procs_at, count_at, head_len, load_at, size_at, place_at, element_len, in_element}
 use Rattle.lb_dump.specs.Internal.{IsPrefix, IsRun}
 use Rattle.lb_dump.specs.Writing.{Puts}

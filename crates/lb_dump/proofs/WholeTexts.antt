@@ -2,7 +2,7 @@
 use Rattle.std.proofs.Common.{◌≡◌, ℕ, ◌<◌, List, Some, length, get_or, refl, sym, ap, subst, ◌∙◌, arith}
 use Rattle.std.specs.Prelude.{Option, SomeIff}
 use Rattle.std.proofs.lemmas.Option.{slice_get-get_or}
-use Rattle.lb_certificates.specs.Measured.{IsTaken, IsLoads, IsSizes}
+use Rattle.lb_snapshot.specs.Measured.{IsTaken, IsLoads, IsSizes}
 use Rattle.lb_dump.specs.Format.{IsBytes, IsText, count_in, load_at, load_in, place_at, place_in, procs_in, size_at, size_in, step_at, step_in}
 use Rattle.lb_dump.specs.Held.{AreKept, front_text}
 use Rattle.lb_dump.proofs.HeldTexts.{front-length, front-word, front-element, front-bytes, load_of_element, size_of_element, place_of_element}

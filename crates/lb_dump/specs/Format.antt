@@ -1,6 +1,6 @@
 -- The format LBD1 of a snapshot: the four bytes LBD1, then numbers of four bytes each, the highest byte first.
 use Rattle.std.specs.Prelude.{◌≡◌, ℕ, ◌+◌, ◌*◌, ◌^◌, ◌<◌, List, [], ◌∷◌, length, slice_index, slice_get, Some}
-use Rattle.lb_certificates.specs.Measured.{Taken, IsTaken, IsLoads, IsSizes}
+use Rattle.lb_snapshot.specs.Measured.{Taken, IsTaken, IsLoads, IsSizes}
 
 -- the length of a number
 abbrev pub word_len : ℕ

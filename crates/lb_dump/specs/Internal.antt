@@ -1,6 +1,6 @@
 -- Parts of the text of a snapshot, for the proofs of the functions that write it. No public clause has these words.
 use Rattle.std.specs.Prelude.{◌≡◌, ℕ, ◌+◌, ◌*◌, ◌<◌, List, length, slice_index, slice_get, Some}
-use Rattle.lb_certificates.specs.Measured.{Taken}
+use Rattle.lb_snapshot.specs.Measured.{Taken}
 use Rattle.lb_dump.specs.Format.{word, letters, head_len, element_len, load_at, size_at, place_at, step_in, procs_in, count_in, load_in, size_in, place_in, IsBytes}
 
 -- the text of a snapshot up to element n

@@ -1,6 +1,6 @@
 -- What the calls that read a dump return.
 use Rattle.std.specs.Prelude.{◌≡◌, ℕ, ◌++◌, ◌⊎◌, List, length, Option, Some, None, Result, Ok, Err, ⊤}
-use Rattle.lb_certificates.specs.Measured.{Taken}
+use Rattle.lb_snapshot.specs.Measured.{Taken}
 use Rattle.lb_dump.specs.Format.{whole_len, IsText}
 use Rattle.lb_dump.specs.Faults.{IsGood, IsBroken, IsFault}
 use Rattle.lb_dump.specs.declared.error.DumpError.{DumpError}

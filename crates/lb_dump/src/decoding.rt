@@ -1,14 +1,14 @@
 ghost use Rattle.std.specs.Prelude.{◌≡◌, ◌⊎◌, List, [], ℕ, length, IfErr, IfSome, IsErrOf, MatchResult, OnOk, Ok, Err};
 ghost use Rattle.std.specs.Io.KnownBytes.{Consumes, IsAtEnd};
 ghost use Rattle.lb_dump.specs.Reading.{IsAnswer};
-ghost use Rattle.lb_certificates.specs.Measured.{Taken};
+ghost use Rattle.lb_snapshot.specs.Measured.{Taken};
 ghost use Rattle.lb_dump.specs.declared.error.DumpError.{DumpError};
 ghost use Rattle.lb_dump.specs.Faults.{IsGood, IsFault};
 ghost use Rattle.lb_dump.specs.Format.{IsText};
 
 use crate::error::DumpError;
 use crate::reader::DumpReader;
-use lb_certificates::Snapshot;
+use lb_snapshot::Snapshot;
 use std::alloc::Allocator;
 use std::io::Read;
 

@@ -70,7 +70,7 @@ fn numbers_of(element: &[u8], procs: u32, i: usize) -> Result<(u32, u32, Pe), Du
 }
 
 // The PE with this number.
-#[tactic(auto, using(lb_certificates::proofs::Made::made_where))]
+#[tactic(auto, using(lb_snapshot::proofs::Made::made_where))]
 fn pe(number: u32) -> Pe
     requires { number < Limits.PES }
     ensures { result ≡ number }

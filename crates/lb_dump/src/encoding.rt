@@ -4,7 +4,7 @@ ghost use Rattle.lb_dump.specs.Internal.{IsPrefix};
 
 use crate::format::{ELEMENT_LEN, HEAD_LEN, LETTERS};
 use chare_index::Pe;
-use lb_certificates::{Snapshot, Units};
+use lb_snapshot::{Snapshot, Units};
 use std::alloc::{AllocError, Allocator};
 
 // The letters, the step, the number of PEs and the number of elements.

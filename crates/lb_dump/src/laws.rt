@@ -1,5 +1,5 @@
 ghost use Rattle.std.specs.Prelude.{◌≡◌, ◌++◌, ℕ, List};
-ghost use Rattle.lb_certificates.specs.Measured.{Taken};
+ghost use Rattle.lb_snapshot.specs.Measured.{Taken};
 ghost use Rattle.lb_dump.specs.declared.error.DumpError.{DumpError};
 ghost use Rattle.lb_dump.specs.Format.{IsText};
 ghost use Rattle.lb_dump.specs.Faults.{IsGood, IsBroken, IsFault};

@@ -8,7 +8,7 @@
 //! ```
 //! use lb_dump::{DumpError, decode, encode};
 //!
-//! // `snapshot` is an `lb_certificates::Snapshot`.
+//! // `snapshot` is an `lb_snapshot::Snapshot`.
 //! let text = encode(alloc, &snapshot)?;
 //! assert_eq!(decode(alloc, &text[..15]), Err(DumpError::Short(15)));
 //! assert_eq!(decode(alloc, &text), Ok(snapshot));

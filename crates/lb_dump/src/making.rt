@@ -10,7 +10,7 @@ use crate::error::DumpError;
 use crate::format::{COUNT_AT, ELEMENT_LEN, HEAD_LEN, PROCS_AT, STEP_AT, word};
 use crate::held::Held;
 use chare_index::Pe;
-use lb_certificates::{Loads, Sizes, Snapshot};
+use lb_snapshot::{Loads, Sizes, Snapshot};
 use std::alloc::Allocator;
 
 /// The snapshot, where the text ends here, or `Short` where it is not whole. It takes no memory.

@@ -9,7 +9,7 @@ use crate::format::HEAD_LEN;
 use crate::held::{Held, take_elements};
 use crate::judging::judge_head;
 use crate::making::snapshot_at_end;
-use lb_certificates::Snapshot;
+use lb_snapshot::Snapshot;
 use std::alloc::{Allocator, Global};
 use std::marker::Model;
 

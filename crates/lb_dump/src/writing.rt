@@ -8,7 +8,7 @@ use crate::encoding::{element_at, elements_of, head_of};
 use crate::error::DumpError;
 use crate::format::ELEMENT_LEN;
 use chare_index::Pe;
-use lb_certificates::{Snapshot, Units};
+use lb_snapshot::{Snapshot, Units};
 use std::alloc::Allocator;
 use std::io::Write;
 

@@ -1,6 +1,6 @@
 -- What is printed is one function of the bytes read and the number of PEs.
 use Rattle.std.proofs.Common.{◌≡◌, ℕ, List, ◌++◌, length, Option, Some, ap, sym, ◌∙◌, subst}
-use Rattle.lb_certificates.specs.Measured.{Taken}
+use Rattle.lb_snapshot.specs.Measured.{Taken}
 use Rattle.lb_dump.proofs.OneText.{one_snapshot}
 use Rattle.lb_strategy.specs.declared.decision.Decision.{Decision}
 use Rattle.lb_strategy.proofs.OneDecisions.{IsSame, one_decision}

@@ -1,7 +1,7 @@
 -- How a replay of a dump ends, and what its writer holds then.
 use Rattle.std.specs.Prelude.{◌≡◌, ℕ, ◌≤◌, ◌⊎◌, List, length, take, Option, IfSome, unwrap_or}
 use Rattle.std.specs.Io.KnownBytes.{Appends, Consumes, IsAtEnd}
-use Rattle.lb_certificates.specs.Measured.{Taken}
+use Rattle.lb_snapshot.specs.Measured.{Taken}
 use Rattle.lb_certificates.specs.Naming.{IsLeastNaming}
 use Rattle.chain_partition.specs.Chosen.{IsChosen}
 use Rattle.lb_dump.specs.Faults.{IsFault, IsGood}

@@ -4,7 +4,7 @@ ghost use Rattle.std.specs.Cmp.Lexicographic.{pointwise, lists_per};
 ghost use Rattle.std.specs.List.{filter};
 ghost use Rattle.std.specs.Option.{option_to_list};
 ghost use Rattle.lb_certificates.specs.Chain.{IsDivision};
-ghost use Rattle.lb_certificates.specs.Measured.{IsSizes};
+ghost use Rattle.lb_snapshot.specs.Measured.{IsSizes};
 ghost use Rattle.lb_certificates.specs.Naming.{blocks_between, block_of, AreBlocks, IsNaming};
 ghost use Rattle.lb_strategy.specs.Moves.{same_move, is_move, moves_below, planned_pe};
 

@@ -7,7 +7,7 @@ use Rattle.std.proofs.lemmas.List.Elements.{All-head, All-tail}
 use Rattle.std.proofs.lemmas.List.Sums.{sum_by-cons}
 use Rattle.pup_pack.specs.declared.error.PupError.{PupError}
 use Rattle.at_sync.specs.Boards.{BoardState, Kept, kept_of}
-use Rattle.lb_certificates.specs.Measured.{Taken}
+use Rattle.lb_snapshot.specs.Measured.{Taken}
 use Rattle.lb_database.specs.Measuring.{Measured, IsComplete, IsSnapshotOf, report_of}
 use Rattle.chares.specs.declared.carried.Carried.TheVariants.{Letter, Element}
 use Rattle.chares.specs.declared.note.Mark.TheVariants.{Synced}

@@ -5,7 +5,7 @@
 use Rattle.std.specs.Prelude.{◌≡◌, ℕ, ◌+◌, ◌<◌, ◌≤◌, List, length, All, Contains, Bool, true, false, ◌==◌, ◌⊎◌, None, Some, IfSome, slice_get}
 use Rattle.std.specs.Map.{values_of}
 use Rattle.chare_index.specs.declared.limits.TheConstants.Limits.{LOAD}
-use Rattle.lb_certificates.specs.Measured.{Taken}
+use Rattle.lb_snapshot.specs.Measured.{Taken}
 use Rattle.lb_database.specs.Measuring.{Measured, elements, report_of}
 use Rattle.chares.specs.declared.carried.Carried.TheVariants.{Letter, Element}
 use Rattle.chares.specs.declared.note.Mark.TheVariants.{Synced}

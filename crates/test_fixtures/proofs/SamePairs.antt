@@ -4,7 +4,7 @@ use Rattle.std.specs.Bool.{Decides}
 use Rattle.std.specs.Cmp.Lexicographic.{pointwise}
 use Rattle.std.proofs.lemmas.Bool.Decides.{Decides-and, Decides-eqb}
 use Rattle.std.proofs.lemmas.Slice.Eq.{slice_eq-Decides}
-use Rattle.lb_certificates.specs.Measured.{same_size}
+use Rattle.lb_snapshot.specs.Measured.{same_size}
 
 same_pair : (a b : ℕ × ℕ) → (a.0 ≡ b.0) × (a.1 ≡ b.1) → a ≡ b
 same_pair a b (first, second) = ap (λ x. (x, a.1)) first ∙ ap (λ y. (b.0, y)) second

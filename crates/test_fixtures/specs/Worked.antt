@@ -1,6 +1,6 @@
 -- The example that the worked dump holds.
 use Rattle.std.specs.Prelude.{ℕ, [], ◌∷◌, List}
-use Rattle.lb_certificates.specs.Measured.{Taken}
+use Rattle.lb_snapshot.specs.Measured.{Taken}
 
 -- the sizes and the places of three elements on two PEs
 abbrev pub three_sizes : List (ℕ × ℕ)

@@ -3,7 +3,7 @@ ghost use Rattle.test_fixtures.specs.Worked.{three_elements, three_sizes};
 
 use crate::numbers::pe;
 use chare_index::Pe;
-use lb_certificates::{Loads, Sizes, Snapshot};
+use lb_snapshot::{Loads, Sizes, Snapshot};
 use std::alloc::{AllocError, Allocator};
 
 /// The dump of the example: three elements on two PEs, at step 5.

@@ -1,5 +1,5 @@
 use Rattle.std.proofs.Common.{◌≡◌, ◌+◌, max, min, length, arith, rules, subst}
-use Rattle.lb_certificates.specs.Chain.{load}
+use Rattle.lb_snapshot.specs.Measured.{load}
 use Rattle.chain_partition.specs.Sums.{loads_of}
 use Rattle.chain_partition.proofs.Walks.{Walked, walk_more, walk_fits, walk_stops}
 use Rattle.chain_partition.proofs.search.tell.Goals as goal

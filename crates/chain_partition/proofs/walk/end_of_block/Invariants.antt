@@ -1,5 +1,5 @@
 use Rattle.std.proofs.Common.{◌+◌, ◌-◌, ◌<◌, ◌≤◌, length}
-use Rattle.lb_certificates.specs.Chain.{load}
+use Rattle.lb_snapshot.specs.Measured.{load}
 use Rattle.chain_partition.specs.Sums.{loads_of}
 use Rattle.chain_partition.proofs.walk.end_of_block.Given as goal
 

@@ -1,5 +1,5 @@
 use Rattle.std.proofs.Common.{◌≡◌, arith}
-use Rattle.lb_certificates.proofs.Made.{made_where}
+use Rattle.lb_snapshot.proofs.Made.{made_where}
 use Rattle.lb_dump.specs.Format.{IsBytes}
 use Rattle.lb_dump.proofs.WholeTexts.{IsWhole, loads_are, sizes_are, is_taken, text_is, value_made}
 use Rattle.lb_dump.proofs.making.snapshot_of.Goals as goal

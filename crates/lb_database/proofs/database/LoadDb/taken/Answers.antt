@@ -1,6 +1,6 @@
 use Rattle.std.proofs.Common.{◌≡◌, ◌∙◌, sym, ap, map, Some, length}
-use Rattle.lb_certificates.specs.Measured.{IsTaken}
-use Rattle.lb_certificates.proofs.Made.{made_where}
+use Rattle.lb_snapshot.specs.Measured.{IsTaken}
+use Rattle.lb_snapshot.proofs.Made.{made_where}
 use Rattle.lb_database.proofs.Reports.{placed_there}
 use Rattle.lb_database.proofs.database.LoadDb.taken.Goals as goal
 

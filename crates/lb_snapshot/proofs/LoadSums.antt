@@ -3,7 +3,7 @@ use Rattle.std.proofs.Common.{ℕ, ◌+◌, ◌*◌, ◌^◌, ◌<◌, ◌≤◌
 use Rattle.std.proofs.lemmas.List.Sums.{sum_by-le, sum_by_more_le}
 use Rattle.std.proofs.Math.Nat.{mul-le-mul_right}
 use Rattle.chare_index.specs.declared.limits.TheConstants.Limits.{ELEMENTS, LOAD}
-use Rattle.lb_certificates.specs.Measured.{IsLoads}
+use Rattle.lb_snapshot.specs.Measured.{IsLoads}
 
 pub sum_small : (loads : List ℕ) → IsLoads loads → sum loads ≤ ELEMENTS * LOAD
 sum_small loads h =

@@ -1,11 +1,15 @@
 -- What is measured of the elements of a chare array in one round, and the limits that it keeps.
-use Rattle.std.specs.Prelude.{Bool, ◌==◌, ◌&&◌, ◌≡◌, ℕ, ◌<◌, ◌≤◌, List, length, All}
+use Rattle.std.specs.Prelude.{Bool, ◌==◌, ◌&&◌, ◌≡◌, ℕ, ◌<◌, ◌≤◌, List, length, sum, slice_range, All}
 use Rattle.chare_index.specs.declared.limits.TheConstants.Limits.{ELEMENTS, PES, LOAD, STATE_BYTES}
 
 -- one load for each element
 pub record IsLoads (loads : List ℕ) : Type 0 where
   pub few : length loads ≤ ELEMENTS
   pub small : All (λ units. units ≤ LOAD) loads
+
+-- the load of the elements a..b
+abbrev pub load : List ℕ → ℕ → ℕ → ℕ
+load loads a b = sum (slice_range loads a b)
 
 -- a packed size in bytes, and the PE on which the element stands, for each element
 pub record IsSizes (sizes : List (ℕ × ℕ)) : Type 0 where

@@ -1,8 +1,7 @@
 ghost use Rattle.std.specs.Prelude.{◌≡◌, ℕ, List, ◌≤◌, [], length, sum, IsTrue, ◌↔◌, SomeIff, bytes_eq};
 ghost use Rattle.std.specs.Cmp.{partial_equiv_from_equiv};
 ghost use Rattle.std.specs.Cmp.Lexicographic.{nat_list_eq_equiv};
-ghost use Rattle.lb_certificates.specs.Measured.{IsLoads};
-ghost use Rattle.lb_certificates.specs.Chain.{load};
+ghost use Rattle.lb_snapshot.specs.Measured.{IsLoads, load};
 
 use chare_index::Limits;
 use std::alloc::{AllocError, Allocator, Global};

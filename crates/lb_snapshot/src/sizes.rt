@@ -1,7 +1,7 @@
 ghost use Rattle.std.specs.Prelude.{◌≡◌, ℕ, ◌≤◌, All, List, [], length, IsTrue, ◌↔◌, SomeIff};
 ghost use Rattle.std.specs.Cmp.{and_per, nat_eq_equiv, on_per, partial_equiv_from_equiv};
 ghost use Rattle.std.specs.Cmp.Lexicographic.{pointwise, lists_per};
-ghost use Rattle.lb_certificates.specs.Measured.{same_size, IsSizes};
+ghost use Rattle.lb_snapshot.specs.Measured.{same_size, IsSizes};
 
 use chare_index::{Limits, Pe};
 use std::alloc::{AllocError, Allocator, Global};

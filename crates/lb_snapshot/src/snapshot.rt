@@ -1,7 +1,7 @@
 ghost use Rattle.std.specs.Prelude.{◌≡◌, ◌<◌, ◌↔◌, All, IsTrue, SomeIff, length, ◌&&◌, ◌==◌, bytes_eq};
 ghost use Rattle.std.specs.Cmp.{and_per, nat_eq_equiv, on_per, partial_equiv_from_equiv};
 ghost use Rattle.std.specs.Cmp.Lexicographic.{pointwise, lists_per, nat_list_eq_equiv};
-ghost use Rattle.lb_certificates.specs.Measured.{same_size, Taken, IsTaken};
+ghost use Rattle.lb_snapshot.specs.Measured.{same_size, Taken, IsTaken};
 
 use crate::loads::Loads;
 use crate::sizes::Sizes;

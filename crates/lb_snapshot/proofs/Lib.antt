@@ -1,0 +1,2 @@
+pub mod LoadSums
+pub mod Made
