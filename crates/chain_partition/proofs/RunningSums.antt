@@ -1,6 +1,7 @@
 -- Running sums, the loads that they are the sums of, and the end of a block by them.
-use Rattle.std.proofs.Common.{◌≡◌, ℕ, suc, zero, ◌+◌, ◌-◌, ◌<◌, ◌≤◌, inl, inr, List, [], ◌∷◌, length, slice_index, arith, add-one, refl, sym, subst}
+use Rattle.std.proofs.Common.{◌≡◌, ◌∙◌, ℕ, suc, zero, ◌+◌, ◌-◌, ◌<◌, ◌≤◌, inl, inr, List, [], ◌∷◌, ◌++◌, length, length-append, slice_index, arith, add-one, refl, sym, subst}
 use Rattle.std.proofs.lemmas.Bool.{cases_lt}
+use Rattle.std.proofs.lemmas.List.{get_or_append_left, get_or_push}
 use Rattle.std.proofs.lemmas.Grind.{same_number_lists}
 use Rattle.lb_snapshot.specs.Measured.{load, IsLoads}
 use Rattle.lb_certificates.proofs.Chains.{load_after, load_wider}
@@ -32,6 +33,20 @@ load_of_sums (a ∷ []) k inside = absurd (omega arith)
 load_of_sums (a ∷ b ∷ sums) zero inside = refl
 load_of_sums (a ∷ b ∷ sums) (suc k) inside =
     rw add-one (let e : slice_index (loads_of (b ∷ sums)) k ≡ slice_index (b ∷ sums) (k + 1) - slice_index (b ∷ sums) k = load_of_sums (b ∷ sums) k (omega arith) in rw add-one at e)
+
+-- one more sum
+pub sums_more : (xs sums : List ℕ) (n total : ℕ) → AreSums xs n sums → n < length xs → total ≡ slice_index sums n + slice_index xs n → AreSums xs (n + 1) (sums ++ total ∷ [])
+sums_more xs sums n total h inside last =
+    record {
+      counted = omega (arith, length-append sums (total ∷ []), h.counted);
+      each = λ k within. elim (cases_lt k (n + 1)) [
+        | inl earlier ↦ get_or_append_left sums (total ∷ []) 0 k (omega (arith, h.counted)) ∙ h.each k (omega arith)
+        | inr latest ↦
+            let same : n + 1 ≡ k = omega arith in
+            let read : slice_index (sums ++ total ∷ []) (n + 1) ≡ total = get_or_push sums total 0 (n + 1) (omega (arith, h.counted)) in
+            subst (λ j. slice_index (sums ++ total ∷ []) j ≡ load xs 0 j) same (omega (arith, read, last, h.each n (omega arith), load_more xs 0 n 0 (omega arith) inside))
+      ];
+    }
 
 -- the running sums of a list are those of no other
 pub loads_of_sums : (xs sums : List ℕ) → AreSums xs (length xs) sums → loads_of sums ≡ xs

@@ -18,7 +18,6 @@ use std::alloc::{AllocError, Allocator};
 /// # Errors
 ///
 /// Out of memory, where the running sums or one of the two lists of `pes + 1` numbers were refused.
-#[tactic(auto, using(crate::proofs::Bottlenecks::certified_from_chosen, lb_certificates::proofs::LeastDivisions::least_from_certified))]
 pub fn divide<A: Allocator + Copy, B: Allocator>(
     alloc: A,
     loads: &Loads<B>,

@@ -26,7 +26,6 @@ const MOST_WORKERS: usize = Limits::PROBE_WORKERS as usize;
 /// # Errors
 ///
 /// Out of memory, where the running sums or one of the two lists of `pes + 1` numbers were refused.
-#[tactic(auto, using(crate::proofs::Bottlenecks::certified_from_chosen, crate::proofs::ChosenOnce::only_from_chosen, lb_certificates::proofs::LeastDivisions::least_from_certified))]
 pub fn divide_with<R: Threads + Sync, G: Gate + Sync, A: Allocator + Copy, B: Allocator>(
     rt: &R,
     alloc: A,

@@ -1,5 +1,5 @@
 -- Flaws against certificates.
-use Rattle.std.proofs.Common.{◌≡◌, ◌≢◌, ℕ, ◌+◌, ◌<◌, ◌≤◌, inl, inr, List, length, slice_index, arith, subst, sym}
+use Rattle.std.proofs.Common.{◌≡◌, ◌≢◌, ℕ, ◌+◌, ◌<◌, ◌≤◌, ◌↔◌, inl, inr, List, length, slice_index, Result, Ok, Err, IsOk, IsErr, OnOk, IfErr, arith, refl, subst, sym}
 use Rattle.std.specs.List.Sorted.{IsNonDecreasing}
 use Rattle.lb_certificates.specs.declared.division.Division.{Division}
 use Rattle.lb_certificates.specs.declared.division.Floor.{Floor}
@@ -36,6 +36,23 @@ flawless xs p d h ZeroFloor flawed =
     floors_apart d.floor _ _ _ _ (λ is_zero no. no is_zero) (λ s fence no. no) h.floor_holds flawed
 flawless xs p d h _ flawed = flawed
 
+-- where what holds has no flaw, a refusal for a first flaw is exact
+pub refused_exactly : {T : Type 0} (applies : Flaw → Type 0) (holds : Type 0) (answer : Result T Flaw) (flaw : Flaw) → (holds → (other : Flaw) → ¬ (applies other)) → IsErr answer → IsFirst applies flaw → IsOk answer ↔ holds
+refused_exactly applies holds (Ok _) flaw flawless_where refused first = absurd cc
+refused_exactly applies holds (Err _) flaw flawless_where refused first =
+    (λ accepted. absurd cc, λ held. absurd (flawless_where held flaw first.applies_itself))
+
+-- an answer about the floor, where cuts and blocks are right: one that accepts is for a certified division
+pub certified_where_ok : {A T : Type 0} (xs : List ℕ) (p : ℕ) (d : Division A) (answer : Result T Flaw) → IsDivision 0 (length xs) p d.cuts → NoneAbove xs p d.bottleneck d.cuts → OnOk answer (HoldsFor xs p d.bottleneck d.floor) → IsOk answer → IsCertified xs p d
+certified_where_ok xs p d (Ok _) division within floor accepted =
+    record { divides = division; within = within; floor_holds = floor }
+certified_where_ok xs p d (Err _) division within floor accepted = absurd cc
+
+-- a certified division gets no answer that names a flaw
+pub ok_where_certified : {A T : Type 0} (xs : List ℕ) (p : ℕ) (d : Division A) (answer : Result T Flaw) → IfErr answer (IsFirst (HasFlaw xs p d)) → IsCertified xs p d → IsOk answer
+ok_where_certified xs p d (Ok _) first certified = refl
+ok_where_certified xs p d (Err flaw) first certified = absurd (flawless xs p d certified flaw first.applies_itself)
+
 -- what holds of any floor whose kind is a fence, and the other way round
 to_fence : {A : Type 0} (floor : Floor A) (s : List ℕ) (at_zero : Type 0) (at_fence : List ℕ → Type 0) → floor ≡ Fence s → MatchFloor floor at_zero at_fence → at_fence s
 to_fence floor s at_zero at_fence e m = subst (λ f. MatchFloor f at_zero at_fence) e m
@@ -48,30 +65,64 @@ pub fence_holds : {A : Type 0} (xs : List ℕ) (p bottleneck : ℕ) (floor : Flo
 fence_holds xs p bottleneck floor s e counted starts ordered ends heavy =
     of_fence floor s (bottleneck ≡ 0) (IsFence xs p bottleneck) e (record { counted = counted; starts = starts; ordered = ordered; ends = ends; heavy = heavy })
 
--- a light range is the first flaw where all else is right
+-- before its n-th kind there is no flaw, where all that is looked at before it is right
+nothing_before : {A : Type 0} (xs : List ℕ) (p : ℕ) (d : Division A) (s : List ℕ) (n : ℕ) → IsDivision 0 (length xs) p d.cuts → NoneAbove xs p d.bottleneck d.cuts → d.floor ≡ Fence s → n ≤ 10 → (6 < n → length s ≡ p + 1) → (7 < n → slice_index s 0 ≡ 0) → (8 < n → IsNonDecreasing s) → (9 < n → slice_index s p < length xs) → (other : Flaw) → flaw_number other < n → ¬ (HasFlaw xs p d other)
+nothing_before xs p d s n division within e few counted starts ordered ends CutCount h flawed = flawed division.counted
+nothing_before xs p d s n division within e few counted starts ordered ends CutStart h flawed = flawed division.starts
+nothing_before xs p d s n division within e few counted starts ordered ends CutOrder h (k, inside, falls) =
+    absurd (omega (arith, falls, division.ordered k (k + 1) 0 (omega arith) inside))
+nothing_before xs p d s n division within e few counted starts ordered ends CutEnd h flawed = flawed division.ends
+nothing_before xs p d s n division within e few counted starts ordered ends (Heavy b) h (inside, heavy) =
+    absurd (omega (arith, heavy, within b inside))
+nothing_before xs p d s n division within e few counted starts ordered ends FenceCount h flawed =
+    to_fence d.floor s ⊥ (λ s. length s ≢ p + 1) e flawed (counted h)
+nothing_before xs p d s n division within e few counted starts ordered ends FenceStart h flawed =
+    to_fence d.floor s ⊥ (λ s. slice_index s 0 ≢ 0) e flawed (starts h)
+nothing_before xs p d s n division within e few counted starts ordered ends FenceOrder h flawed =
+    let (k, inside, falls) = to_fence d.floor s ⊥ Falls e flawed in
+    absurd (omega (arith, falls, ordered h k (k + 1) 0 (omega arith) inside))
+nothing_before xs p d s n division within e few counted starts ordered ends FenceEnd h flawed =
+    absurd (omega (arith, ends h, to_fence d.floor s ⊥ (λ s. length xs ≤ slice_index s p) e flawed))
+nothing_before xs p d s n division within e few counted starts ordered ends _ h flawed = absurd (omega arith)
+
+-- a flaw that names no place is the first where there is none of a lower number
+first_of_its_kind : (applies : Flaw → Type 0) (flaw : Flaw) → flaw_place flaw ≡ (0, 0) → applies flaw → ((other : Flaw) → flaw_number other < flaw_number flaw → ¬ (applies other)) → IsFirst applies flaw
+first_of_its_kind applies flaw e flawed lower =
+    record {
+      applies_itself = flawed;
+      no_lower_number = lower;
+      no_lower_place = λ other same earlier found. not_before (flaw_place other) (subst (IsBefore (flaw_place other)) e earlier);
+    }
+  where
+    not_before : (place : ℕ × ℕ) → ¬ (IsBefore place (0, 0))
+    not_before place (inl lower) = absurd (omega (arith, lower))
+    not_before place (inr tied) = absurd (omega (arith, tied.1))
+
+-- each flaw of a fence is the first, where all that is looked at before it is right
+pub count_is_first : {A : Type 0} (xs : List ℕ) (p : ℕ) (d : Division A) (s : List ℕ) → IsDivision 0 (length xs) p d.cuts → NoneAbove xs p d.bottleneck d.cuts → d.floor ≡ Fence s → length s ≢ p + 1 → IsFirst (HasFlaw xs p d) FenceCount
+count_is_first xs p d s division within e wrong =
+    first_of_its_kind (HasFlaw xs p d) FenceCount refl (of_fence d.floor s ⊥ (λ s. length s ≢ p + 1) e wrong) (nothing_before xs p d s 6 division within e (omega arith) (λ h. absurd (omega (arith, h))) (λ h. absurd (omega (arith, h))) (λ h. absurd (omega (arith, h))) (λ h. absurd (omega (arith, h))))
+
+pub start_is_first : {A : Type 0} (xs : List ℕ) (p : ℕ) (d : Division A) (s : List ℕ) → IsDivision 0 (length xs) p d.cuts → NoneAbove xs p d.bottleneck d.cuts → d.floor ≡ Fence s → length s ≡ p + 1 → slice_index s 0 ≢ 0 → IsFirst (HasFlaw xs p d) FenceStart
+start_is_first xs p d s division within e counted wrong =
+    first_of_its_kind (HasFlaw xs p d) FenceStart refl (of_fence d.floor s ⊥ (λ s. slice_index s 0 ≢ 0) e wrong) (nothing_before xs p d s 7 division within e (omega arith) (λ h. counted) (λ h. absurd (omega (arith, h))) (λ h. absurd (omega (arith, h))) (λ h. absurd (omega (arith, h))))
+
+pub order_is_first : {A : Type 0} (xs : List ℕ) (p : ℕ) (d : Division A) (s : List ℕ) → IsDivision 0 (length xs) p d.cuts → NoneAbove xs p d.bottleneck d.cuts → d.floor ≡ Fence s → length s ≡ p + 1 → slice_index s 0 ≡ 0 → Falls s → IsFirst (HasFlaw xs p d) FenceOrder
+order_is_first xs p d s division within e counted starts wrong =
+    first_of_its_kind (HasFlaw xs p d) FenceOrder refl (of_fence d.floor s ⊥ Falls e wrong) (nothing_before xs p d s 8 division within e (omega arith) (λ h. counted) (λ h. starts) (λ h. absurd (omega (arith, h))) (λ h. absurd (omega (arith, h))))
+
+pub end_is_first : {A : Type 0} (xs : List ℕ) (p : ℕ) (d : Division A) (s : List ℕ) → IsDivision 0 (length xs) p d.cuts → NoneAbove xs p d.bottleneck d.cuts → d.floor ≡ Fence s → length s ≡ p + 1 → slice_index s 0 ≡ 0 → IsNonDecreasing s → length xs ≤ slice_index s p → IsFirst (HasFlaw xs p d) FenceEnd
+end_is_first xs p d s division within e counted starts ordered wrong =
+    first_of_its_kind (HasFlaw xs p d) FenceEnd refl (of_fence d.floor s ⊥ (λ s. length xs ≤ slice_index s p) e wrong) (nothing_before xs p d s 9 division within e (omega arith) (λ h. counted) (λ h. starts) (λ h. ordered) (λ h. absurd (omega (arith, h))))
+
 pub light_is_first : {A : Type 0} (xs : List ℕ) (p : ℕ) (d : Division A) (s : List ℕ) (i : ℕ) → IsDivision 0 (length xs) p d.cuts → NoneAbove xs p d.bottleneck d.cuts → d.floor ≡ Fence s → length s ≡ p + 1 → slice_index s 0 ≡ 0 → IsNonDecreasing s → slice_index s p < length xs → IsFirstLight xs p d.bottleneck s i → IsFirst (HasFlaw xs p d) (FenceLight i)
 light_is_first {A} xs p d s i division within e counted starts ordered ends first =
     record {
       applies_itself = of_fence d.floor s ⊥ (λ s. (0 < i) × (i ≤ p) × (range_load xs s i < d.bottleneck)) e (first.positive, first.inside, first.light);
-      no_lower_number = lower;
+      no_lower_number = nothing_before xs p d s 10 division within e (omega arith) (λ h. counted) (λ h. starts) (λ h. ordered) (λ h. ends);
       no_lower_place = earlier;
     }
   where
-    lower : (other : Flaw) → flaw_number other < 10 → ¬ (HasFlaw xs p d other)
-    lower CutCount h flawed = flawed division.counted
-    lower CutStart h flawed = flawed division.starts
-    lower CutOrder h (k, inside, falls) = absurd (omega (arith, falls, division.ordered k (k + 1) 0 (omega arith) inside))
-    lower CutEnd h flawed = flawed division.ends
-    lower (Heavy b) h (inside, heavy) = absurd (omega (arith, heavy, within b inside))
-    lower FenceCount h flawed = to_fence d.floor s ⊥ (λ s. length s ≢ p + 1) e flawed counted
-    lower FenceStart h flawed = to_fence d.floor s ⊥ (λ s. slice_index s 0 ≢ 0) e flawed starts
-    lower FenceOrder h flawed =
-        let (k, inside, falls) = to_fence d.floor s ⊥ Falls e flawed in
-        absurd (omega (arith, falls, ordered k (k + 1) 0 (omega arith) inside))
-    lower FenceEnd h flawed =
-        absurd (omega (arith, ends, to_fence d.floor s ⊥ (λ s. length xs ≤ slice_index s p) e flawed))
-    lower _ h flawed = absurd (omega arith)
-
     earlier : (other : Flaw) → flaw_number other ≡ 10 → IsBefore (flaw_place other) (i, 0) → ¬ (HasFlaw xs p d other)
     earlier (FenceLight j) same (inr tied) flawed = absurd (omega (arith, tied.1))
     earlier (FenceLight j) same (inl lower) flawed =

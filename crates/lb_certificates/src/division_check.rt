@@ -20,7 +20,7 @@ use std::alloc::Allocator;
 ///
 /// The fence is the certificate of the lower bound of A. Pinar and C. Aykanat, JPDC 64(8), 2004: a probe at
 /// the bottleneck less one ends short of the last element.
-#[tactic(auto, using(crate::proofs::LeastDivisions::least_from_certified, crate::proofs::NoFlaws::flawless))]
+#[tactic(auto, using(crate::proofs::LeastDivisions::least_from_certified, crate::proofs::NoFlaws::certified_where_ok, crate::proofs::NoFlaws::ok_where_certified))]
 pub fn check_division<A: Allocator, B: Allocator>(
     loads: &Loads<A>,
     pes: u32,
