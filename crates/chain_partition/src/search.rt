@@ -29,7 +29,6 @@ pub(crate) struct Bounds {
 }
 
 /// The least limit within which `pes` blocks can hold all elements, which lies within these bounds.
-#[tactic(auto, using(crate::proofs::Bottlenecks::least_from_bounds, crate::proofs::Bottlenecks::bounds_ordered))]
 pub(crate) fn least_bottleneck(sums: &[u64], pes: u32, bounds: Bounds) -> u64
     requires valid { IsPrefix sums.now }
     requires some_pe { 1 ≤ pes }

@@ -1,7 +1,7 @@
-use Rattle.std.proofs.Common.{◌≤◌, arith}
-use Rattle.chain_partition.specs.Search.{Enclose}
+use Rattle.std.proofs.Common.{◌≡◌, ◌≤◌, arith, subst}
+use Rattle.chain_partition.specs.Search.{Enclose, StopBelow}
 use Rattle.chain_partition.specs.Sums.{loads_of}
-use Rattle.chain_partition.proofs.Bottlenecks.{bounds_ordered, narrowed_above, narrowed_below}
+use Rattle.chain_partition.proofs.Bottlenecks.{bounds_ordered, least_from_bounds, narrowed_above, narrowed_below}
 use Rattle.chain_partition.proofs.search.least_bottleneck.Goals as goal
 use Rattle.chain_partition.proofs.search.least_bottleneck.Goals.{in-Fits, in-Stops}
 
@@ -22,3 +22,9 @@ loop-low-preserved c =
     ] in
     let ordered : c.match-tell.low ≤ c.match-tell.high = overflow_sub-limit c in
     record { enclosed = enclosed; from = omega arith; below = λ apart. omega arith }
+
+pub returns : goal.returns
+returns c =
+    let enclosed = c.loop-low.invariant.enclosed in
+    let met : c.loop-low.low ≡ c.loop-low.high = omega (arith, bounds_ordered (loads_of c.args.sums.now) c.args.pes c.loop-low.low c.loop-low.high enclosed.stops enclosed.fits) in
+    record { least = least_from_bounds (loads_of c.args.sums.now) c.args.pes c.loop-low.high enclosed.fits (subst (λ n. StopBelow (loads_of c.args.sums.now) c.args.pes n) met enclosed.stops) }
