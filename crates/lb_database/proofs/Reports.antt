@@ -1,11 +1,12 @@
 -- Lists of reports: whether one is missing, and those that are there.
-use Rattle.std.proofs.Common.{◌≡◌, ℕ, suc, zero, ◌+◌, ◌<◌, ◌≤◌, List, [], ◌∷◌, length, get_or, map, refl, ap, sym, subst, arith, cond, Option, None, Some}
-use Rattle.std.specs.Prelude.{All, IsSome, IfSome, is_none, count_by}
-use Rattle.std.proofs.lemmas.List.Sums.{sum_by-cons}
-use Rattle.std.proofs.lemmas.List.{get_or-map, length-map}
+use Rattle.std.proofs.Common.{◌≡◌, ℕ, suc, zero, ◌+◌, ◌-◌, ◌<◌, ◌≤◌, List, [], ◌∷◌, length, get_or, map, refl, ap, sym, ◌∙◌, subst, arith, cond, false, Option, None, Some}
+use Rattle.std.specs.Prelude.{All, IsSome, IfSome, is_none, is_some, count_by, slice_set}
+use Rattle.std.proofs.lemmas.List.Sums.{sum_by-cons, sum_by-set}
+use Rattle.std.proofs.lemmas.List.Elements.{All-set}
+use Rattle.std.proofs.lemmas.List.{get_or-map, length-map, length-set, set-get_or}
 use Rattle.chare_index.specs.declared.limits.TheConstants.Limits.{PES, STATE_BYTES}
 use Rattle.lb_snapshot.specs.Measured.{IsSizes, IsTaken}
-use Rattle.lb_database.specs.Measuring.{Measured, AreReports, StandBelow}
+use Rattle.lb_database.specs.Measuring.{Measured, IsMeasured, AreReports, StandBelow, with_report}
 
 -- how many are missing, report by report
 count_there : {X : Type 0} (x : X) (reports : List (Option X)) → count_by is_none (Some x ∷ reports) ≡ 0 + count_by is_none reports
@@ -30,6 +31,39 @@ all_there (None ∷ reports) none k d inside = absurd (omega (arith, none, count
 all_there (Some x ∷ reports) none zero d inside = refl
 all_there (Some x ∷ reports) none (suc k) d inside =
     all_there reports (omega (arith, none, count_there x reports)) k d (omega arith)
+
+-- a report that is put where it stood changes nothing
+pub same_reports : {X : Type 0} (reports : List (Option X)) (i : ℕ) (report : Option X) → report ≡ get_or reports i report → slice_set reports i report ≡ reports
+same_reports reports i report stood = ap (λ r. slice_set reports i r) stood ∙ set-get_or reports i report
+
+-- with the report of one that was missing, one less is counted
+count_less : {X : Type 0} (reports : List (Option X)) (i : ℕ) (x : X) (report : Option X) → i < length reports → report ≡ get_or reports i report → false ≡ is_some report → count_by is_none (slice_set reports i (Some x)) + 1 ≡ count_by is_none reports
+count_less reports i x None inside stood none =
+    let counted = sum_by-set (λ r. cond (is_none r) 1 0) reports i (Some x) None inside in
+    let more = rw (sym stood) at counted in
+    omega (arith, more)
+count_less reports i x (Some y) inside stood none = cc
+
+-- where it was missing, their number is not 0
+pub some_missing : {X : Type 0} (reports : List (Option X)) (i : ℕ) (x : X) (report : Option X) (missing : ℕ) → i < length reports → report ≡ get_or reports i report → false ≡ is_some report → missing ≡ count_by is_none reports → 1 ≤ missing
+some_missing reports i x report missing inside stood none counted = omega (arith, counted, count_less reports i x report inside stood none)
+
+-- and with its report their number is one less
+pub missing_less : {X : Type 0} (reports : List (Option X)) (i : ℕ) (x : X) (report : Option X) (missing : ℕ) → i < length reports → report ≡ get_or reports i report → false ≡ is_some report → missing ≡ count_by is_none reports → missing - 1 ≡ count_by is_none (slice_set reports i (Some x))
+missing_less reports i x report missing inside stood none counted = omega (arith, counted, count_less reports i x report inside stood none)
+
+-- with one more report within the limit, what is measured keeps the limits
+pub measured_more : (m : Measured) (i bytes place : ℕ) → bytes ≤ STATE_BYTES → IsMeasured m → IsMeasured (with_report m i bytes place)
+measured_more m i bytes place fits measured = record {
+  started = measured.started;
+  numbered = measured.numbered;
+  charged_within = measured.charged_within;
+  reported_within = record {
+    few = omega (arith, measured.reported_within.few, length-set m.reports i (Some (bytes, place)));
+    small = All-set (λ report. IfSome report (λ size. size.0 ≤ STATE_BYTES)) m.reports i (Some (bytes, place)) fits measured.reported_within.small;
+  };
+  paired = omega (arith, measured.paired, length-set m.reports i (Some (bytes, place)));
+}
 
 -- what holds of each report holds of each size that was reported
 pub each_there : {X : Type 0} (P : X → Type 0) (sizes : List X) (reports : List (Option X)) → map Some sizes ≡ reports → All (λ report. IfSome report P) reports → All P sizes

@@ -1,7 +1,24 @@
-use Rattle.std.proofs.Common.{◌≡◌, ℕ, ◌-◌, ◌<◌, ◌++◌, length, slice_index, arith, rules}
+use Rattle.std.proofs.Common.{◌≡◌, ℕ, ◌-◌, ◌<◌, ◌++◌, length, slice_index, arith, rules, subst}
 use Rattle.lb_certificates.specs.Naming.{block_cost}
-use Rattle.block_assignment.proofs.Rows.{rows_more}
+use Rattle.block_assignment.proofs.Rows.{HasRows, sizes_part, block_within, rows_more, table_of_rows, exact_of_rows}
 use Rattle.block_assignment.proofs.table.push_rows.Goals as goal
+
+pub offset_bounds-pairs-first : goal.offset_bounds-pairs-first
+offset_bounds-pairs-first g c =
+    let part = block_within (length c.args.pairs.now) (length c.args.cuts.now - 1) c.args.cuts.now c.loop-b.b c.requires.divides c.loop-b-test.true in
+    omega (arith, part.0, part.1, c.requires.sizes.few)
+
+pub slice_bounds-fill_row-count : goal.slice_bounds-fill_row-count
+slice_bounds-fill_row-count g c = (block_within (length c.args.pairs.now) (length c.args.cuts.now - 1) c.args.cuts.now c.loop-b.b c.requires.divides c.loop-b-test.true).0
+
+pub slice_bounds-fill_row-start : goal.slice_bounds-fill_row-start
+slice_bounds-fill_row-start g c = (block_within (length c.args.pairs.now) (length c.args.cuts.now - 1) c.args.cuts.now c.loop-b.b c.requires.divides c.loop-b-test.true).0
+
+pub slice_bounds-fill_row-end : goal.slice_bounds-fill_row-end
+slice_bounds-fill_row-end g c = (block_within (length c.args.pairs.now) (length c.args.cuts.now - 1) c.args.cuts.now c.loop-b.b c.requires.divides c.loop-b-test.true).1
+
+pub fill_row-requires : goal.fill_row-requires
+fill_row-requires g c = sizes_part c.args.pairs.now _ _ c.requires.sizes
 
 pub loop-b-preserved : goal.loop-b-preserved
 loop-b-preserved g c =
@@ -12,3 +29,17 @@ loop-b-preserved g c =
       rows = rw appended (rows_more c.args.pairs.now c.args.cuts.now (length c.args.cuts.now - 1) c.loop-b.b c.loop-b.costs.items c.fill_row.new.row c.requires.sizes c.loop-b.invariant.rows width exact);
       width = width;
     }
+
+pub returns-clause-table : goal.returns-clause-table
+returns-clause-table g c =
+    let blocks : ℕ = length c.args.cuts.now - 1 in
+    let all : c.loop-b.b ≡ blocks = omega (arith, c.loop-b-test.false, c.loop-b.auto.b-end) in
+    let rows : HasRows c.args.pairs.now c.args.cuts.now blocks blocks c.loop-b.costs.items = subst (λ b. HasRows c.args.pairs.now c.args.cuts.now blocks b c.loop-b.costs.items) all c.loop-b.invariant.rows in
+    table_of_rows c.args.pairs.now c.args.cuts.now blocks c.loop-b.costs.items (omega (arith, c.requires.some_block)) (omega (arith, c.requires.few_blocks)) rows
+
+pub returns-clause-exact : goal.returns-clause-exact
+returns-clause-exact g c =
+    let blocks : ℕ = length c.args.cuts.now - 1 in
+    let all : c.loop-b.b ≡ blocks = omega (arith, c.loop-b-test.false, c.loop-b.auto.b-end) in
+    let rows : HasRows c.args.pairs.now c.args.cuts.now blocks blocks c.loop-b.costs.items = subst (λ b. HasRows c.args.pairs.now c.args.cuts.now blocks b c.loop-b.costs.items) all c.loop-b.invariant.rows in
+    exact_of_rows c.args.pairs.now c.args.cuts.now c.loop-b.costs.items rows

@@ -1,6 +1,6 @@
-use Rattle.std.proofs.Common.{◌≡◌, ℕ, ◌<◌, ◌++◌, length, take, drop, slice_index, arith, sym, subst, refl}
+use Rattle.std.proofs.Common.{◌≡◌, ℕ, ◌<◌, ◌++◌, MatchOption, length, take, drop, slice_index, arith, ap, sym, ◌∙◌, subst, refl}
 use Rattle.std.proofs.lemmas.List.{get_or_read}
-use Rattle.block_assignment.specs.Search.{State, IsSized, IsMatched, IsRelaxed}
+use Rattle.block_assignment.specs.Search.{State, IsSized, IsMatched, IsNearest, IsRelaxed}
 use Rattle.block_assignment.proofs.Sums.{cost_small}
 use Rattle.block_assignment.proofs.Prices.{rebate_small}
 use Rattle.block_assignment.proofs.Trees.{written, planted_tree, Plants}
@@ -64,3 +64,12 @@ returns-clause-tree g c =
           subst (λ cost. IsRelaxed 0 cost (slice_index s.paid s.named) (slice_index s.rebate p) s.named (slice_index c.fill-2.new.self.items p) (slice_index s.from p) (slice_index c.scan.new.distance p) (slice_index c.scan.new.from p)) (c.row.ensures.costs p inside) h2;
     } in
     rw (w, w2) (planted_tree s c.fill.new.self.items c.fill-2.new.self.items s.from c.scan.new.distance c.scan.new.from sized matched unnamed plants)
+
+pub returns-clause-nearest : goal.returns-clause-nearest
+returns-clause-nearest g c =
+    let s : State = record { table = c.self.inside.table.now; named = c.self.inside.named; names = c.self.inside.names.items; holders = c.self.inside.holders.items; paid = c.self.inside.paid.items; rebate = c.self.inside.rebate.items; rank = c.self.inside.rank.items; distance = c.self.inside.distance.items; from = c.self.inside.from.items } in
+    let v : c.args.self.now ≡ s = sym c.self.view_is in
+    let w : take c.fill-2.new.self.len (c.scan.new.distance ++ drop (length c.scan.new.distance) c.fill-2.new.self.items) ≡ c.scan.new.distance = written _ _ _ (omega arith) in
+    let h = rw c.deref-2.ensures.value at c.scan.ensures.nearest in
+    let counted : length c.row.result.now ≡ c.args.self.now.table.blocks = c.row.ensures.counted ∙ ap (λ (z : State). z.table.blocks) (sym v) in
+    rw w (subst (λ n. MatchOption c.scan.result ((p : ℕ) → p < n → 0 < slice_index c.fill.new.self.items p) (IsNearest c.fill.new.self.items c.scan.new.distance n)) counted h)

@@ -11,7 +11,7 @@ loop-units-preserved g c =
     let appended : c.push_reserved-in-loop-units.new.self.items ≡ c.loop-units.sums.items ++ (c.loop-units.total + c.from-total.result) ∷ [] = c.push_reserved-in-loop-units.ensures.items in
     let last : slice_index (c.loop-units.sums.items ++ (c.loop-units.total + c.from-total.result) ∷ []) (c.loop-units.units-index + 1) ≡ c.loop-units.total + c.from-total.result = get_or_push c.loop-units.sums.items (c.loop-units.total + c.from-total.result) 0 (c.loop-units.units-index + 1) c.loop-units.invariant.sums.counted in
     let summed : AreSums c.args.loads.now (c.loop-units.units-index + 1) c.push_reserved-in-loop-units.new.self.items =
-        rw appended (sums_more c.args.loads.now c.loop-units.sums.items c.loop-units.units-index (c.loop-units.total + c.from-total.result) c.loop-units.invariant.sums inside total)
+    rw appended (sums_more c.args.loads.now c.loop-units.sums.items c.loop-units.units-index (c.loop-units.total + c.from-total.result) c.loop-units.invariant.sums inside total)
     in
     record { sums = summed; last = rw appended last; room = search rules; filled = search rules }
 
