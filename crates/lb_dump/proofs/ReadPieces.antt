@@ -1,5 +1,5 @@
 -- A dump that comes from a reader, piece by piece.
-use Rattle.std.proofs.Common.{◌≡◌, ℕ, ◌⊎◌, inl, inr, List, ◌++◌, Option, Some, None, Result, Ok, Err, sym, subst}
+use Rattle.std.proofs.Common.{◌≡◌, ℕ, ◌⊎◌, inl, inr, List, [], ◌++◌, Option, Some, None, Result, Ok, Err, sym, subst}
 use Rattle.std.specs.Prelude.{IfErr, IfSome, ⊤}
 use Rattle.std.specs.Io.KnownBytes.{Consumes}
 use Rattle.std.proofs.KnownBytes.{Consumes-trans}
@@ -22,6 +22,15 @@ fault_by text Trailing broken = broken
 fault_by text Read broken = broken
 fault_by text Write broken = broken
 fault_by text OutOfMemory broken = broken
+
+-- a first piece that is refused is answered by its fault
+pub fed_fault : (text : List ℕ) (e : DumpError) (start new : Progress) → start ≡ Ok [] → Feeds start text (Err e) new → IsAnswer text (Err e)
+fed_fault text e start new fresh feeds =
+    let fed_first : Feeds (Ok []) text (Err e) new = subst (λ p. Feeds p text (Err e) new) fresh feeds in
+    elim fed_first.0 [
+      | inl memory ↦ inl memory
+      | inr broken ↦ inr (fault_by text e broken)
+    ]
 
 -- what a piece with a fault says of all that the reader has
 pub fed_broken : (old now after : Option (List ℕ)) (text piece : List ℕ) (dump new : Progress) (e : DumpError) → dump ≡ Ok text → Consumes old now text → Consumes now after piece → Feeds dump piece (Err e) new → IfSome old (λ bytes. (e ≡ OutOfMemory) ⊎ IsFault bytes e)

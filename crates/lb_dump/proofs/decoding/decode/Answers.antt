@@ -1,8 +1,27 @@
 use Rattle.std.proofs.Common.{◌≡◌, subst, [], Ok}
+use Rattle.std.proofs.lemmas.Result.{err_from_is_err_and}
 use Rattle.lb_dump.specs.Reading.{IsAnswer, EndsReading, Progress}
-use Rattle.lb_dump.proofs.OneText.{answered}
-use Rattle.lb_dump.proofs.ReadPieces.{fed, answer_at_end}
+use Rattle.lb_dump.proofs.OneText.{answered, refused}
+use Rattle.lb_dump.proofs.ReadPieces.{fed, fed_fault, answer_at_end}
 use Rattle.lb_dump.proofs.decoding.decode.Goals as goal
+
+pub returns-in_err-feed-clause-answer : goal.returns-in_err-feed-clause-answer
+returns-in_err-feed-clause-answer g c =
+    let p = err_from_is_err_and c.from_residual.result c.from_residual.ensures.1 in
+    let answer : IsAnswer c.args.bytes.now c.from_residual.result = rw (p.1, p.2) (fed_fault c.args.bytes.now c.in_err-feed.field-0.0 c.new-reader.result c.feed.new.self c.new-reader.ensures.value c.in_err-feed.ensures.fed) in
+    answer
+
+pub returns-in_err-feed-clause-again : goal.returns-in_err-feed-clause-again
+returns-in_err-feed-clause-again g c =
+    let p = err_from_is_err_and c.from_residual.result c.from_residual.ensures.1 in
+    let answer : IsAnswer c.args.bytes.now c.from_residual.result = rw (p.1, p.2) (fed_fault c.args.bytes.now c.in_err-feed.field-0.0 c.new-reader.result c.feed.new.self c.new-reader.ensures.value c.in_err-feed.ensures.fed) in
+    λ s is. answered s c.args.bytes.now c.from_residual.result answer is
+
+pub returns-in_err-feed-clause-first : goal.returns-in_err-feed-clause-first
+returns-in_err-feed-clause-first g c =
+    let p = err_from_is_err_and c.from_residual.result c.from_residual.ensures.1 in
+    let answer : IsAnswer c.args.bytes.now c.from_residual.result = rw (p.1, p.2) (fed_fault c.args.bytes.now c.in_err-feed.field-0.0 c.new-reader.result c.feed.new.self c.new-reader.ensures.value c.in_err-feed.ensures.fed) in
+    λ e fault. refused c.args.bytes.now e c.from_residual.result answer fault
 
 pub returns-clause-again : goal.returns-clause-again
 returns-clause-again g c =

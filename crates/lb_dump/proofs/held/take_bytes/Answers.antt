@@ -1,4 +1,5 @@
 use Rattle.std.proofs.Common.{ap, arith, length, length-append}
+use Rattle.std.proofs.lemmas.Grind.{common_steps}
 use Rattle.std.proofs.lemmas.Result.{err_from_is_err_and}
 use Rattle.lb_dump.specs.Held.{text_of}
 use Rattle.lb_dump.proofs.GoodTexts.{refused_by, whole_len-append}
@@ -16,3 +17,12 @@ take_run-requires-2-clause-within g c =
     let front = c.split_at.result.0.now in
     let taken = c.in_ok-take_part.ensures.taken.0 in
     omega (arith, whole_len-append text front (text_of c.take_part.new.held) taken (omega (arith, text-length c.args.held.now c.requires.held, c.requires.headed)), ap length taken, length-append text front, ap length c.split_at.ensures.by_index.0, length-append front c.split_at.result.1.now, c.requires.within)
+
+pub returns-then-is_empty-2-clause-taken : goal.returns-then-is_empty-2-clause-taken
+returns-then-is_empty-2-clause-taken g c = grind (arith, common_steps)
+
+pub returns-clause-taken : goal.returns-clause-taken
+returns-clause-taken g c = grind (arith, common_steps)
+
+pub returns-clause-broken : goal.returns-clause-broken
+returns-clause-broken g c = grind (arith, common_steps)
