@@ -1,12 +1,11 @@
 -- The costs of one block, and of the blocks before it.
-use Rattle.std.proofs.Common.{◌≡◌, ℕ, ◌+◌, ◌-◌, ◌*◌, ◌^◌, ◌<◌, ◌≤◌, ◌==◌, inl, inr, List, ◌++◌, All, length, take, drop, get_or, slice_index, sum_by, arith, ap, sym, ◌∙◌, subst, refl}
+use Rattle.std.proofs.Common.{◌≡◌, ℕ, ◌+◌, ◌-◌, ◌*◌, ◌^◌, ◌<◌, ◌≤◌, ◌==◌, inl, inr, List, ◌++◌, All, length, drop, get_or, slice_index, sum_by, arith, ap, sym, ◌∙◌, subst, refl}
 use Rattle.std.proofs.lemmas.Bool.{cases_lt, cond_both}
-use Rattle.std.proofs.lemmas.List.{get_or_append_left, get_or-append_right, length-drop, length-take, length-append, get_or_default}
-use Rattle.std.proofs.lemmas.List.Elements.{All-take, All-drop, All-append}
+use Rattle.std.proofs.lemmas.List.{get_or_append_left, get_or-append_right, length-drop, length-append, get_or_default}
+use Rattle.std.proofs.lemmas.List.Elements.{All-drop, All-append}
 use Rattle.std.proofs.lemmas.List.Sums.{sum_by-le, sum_by-take-le}
 use Rattle.std.proofs.lemmas.Nat.{mul-add-lt}
 use Rattle.chare_index.specs.declared.limits.TheConstants.Limits.{PES, STATE_BYTES}
-use Rattle.lb_certificates.specs.Chain.{IsDivision}
 use Rattle.lb_snapshot.specs.Measured.{IsSizes}
 use Rattle.lb_certificates.specs.Naming.{moved_bytes, block_cost}
 use Rattle.block_assignment.specs.Table.{IsTable, IsTableOf}
@@ -14,20 +13,6 @@ use Rattle.block_assignment.specs.Table.{IsTable, IsTableOf}
 -- no more bytes of an element move than it has
 moved_le : (size : ℕ × ℕ) (p : ℕ) → moved_bytes size p ≤ size.0
 moved_le size p = cond_both (size.1 == p) 0 size.0 (λ n. n ≤ size.0) (λ _. omega arith) (λ _. omega arith)
-
--- the sizes of some elements in a row
-pub sizes_part : (sizes : List (ℕ × ℕ)) (first count : ℕ) → IsSizes sizes → IsSizes (take count (drop first sizes))
-sizes_part sizes first count h =
-    record {
-      few = omega (arith, length-take count (drop first sizes), length-drop first sizes, h.few);
-      small = All-take (λ (size : ℕ × ℕ). size.0 ≤ STATE_BYTES) count (drop first sizes) (All-drop (λ (size : ℕ × ℕ). size.0 ≤ STATE_BYTES) first sizes h.small);
-    }
-
--- a block ends at or behind its start, and within the elements
-pub block_within : (n blocks : ℕ) (cuts : List ℕ) (b : ℕ) → IsDivision 0 n blocks cuts → b < blocks → (slice_index cuts b ≤ slice_index cuts (b + 1)) × (slice_index cuts (b + 1) ≤ n)
-block_within n blocks cuts b h inside =
-    let last : slice_index cuts (b + 1) ≤ slice_index cuts blocks = h.ordered (b + 1) blocks 0 (omega arith) (omega (arith, h.counted)) in
-    (h.ordered b (b + 1) 0 (omega arith) (omega (arith, h.counted)), omega (arith, last, h.ends))
 
 pub block_cost_small : (sizes : List (ℕ × ℕ)) (cuts : List ℕ) (b p : ℕ) → IsSizes sizes → block_cost sizes cuts b p ≤ 2 ^ 36
 block_cost_small sizes cuts b p h =

@@ -36,7 +36,7 @@ flawless xs p d h ZeroFloor flawed =
     floors_apart d.floor _ _ _ _ (λ is_zero no. no is_zero) (λ s fence no. no) h.floor_holds flawed
 flawless xs p d h _ flawed = flawed
 
--- where what holds has no flaw, a refusal for a first flaw is exact
+-- where a claim that holds has no flaw, a refusal that names the first flaw is exact
 pub refused_exactly : {T : Type 0} (applies : Flaw → Type 0) (holds : Type 0) (answer : Result T Flaw) (flaw : Flaw) → (holds → (other : Flaw) → ¬ (applies other)) → IsErr answer → IsFirst applies flaw → IsOk answer ↔ holds
 refused_exactly applies holds (Ok _) flaw flawless_where refused first = absurd cc
 refused_exactly applies holds (Err _) flaw flawless_where refused first =
@@ -65,7 +65,7 @@ pub fence_holds : {A : Type 0} (xs : List ℕ) (p bottleneck : ℕ) (floor : Flo
 fence_holds xs p bottleneck floor s e counted starts ordered ends heavy =
     of_fence floor s (bottleneck ≡ 0) (IsFence xs p bottleneck) e (record { counted = counted; starts = starts; ordered = ordered; ends = ends; heavy = heavy })
 
--- before its n-th kind there is no flaw, where all that is looked at before it is right
+-- no flaw with a number below n applies, where all that these flaws are about is right
 nothing_before : {A : Type 0} (xs : List ℕ) (p : ℕ) (d : Division A) (s : List ℕ) (n : ℕ) → IsDivision 0 (length xs) p d.cuts → NoneAbove xs p d.bottleneck d.cuts → d.floor ≡ Fence s → n ≤ 10 → (6 < n → length s ≡ p + 1) → (7 < n → slice_index s 0 ≡ 0) → (8 < n → IsNonDecreasing s) → (9 < n → slice_index s p < length xs) → (other : Flaw) → flaw_number other < n → ¬ (HasFlaw xs p d other)
 nothing_before xs p d s n division within e few counted starts ordered ends CutCount h flawed = flawed division.counted
 nothing_before xs p d s n division within e few counted starts ordered ends CutStart h flawed = flawed division.starts
@@ -86,8 +86,8 @@ nothing_before xs p d s n division within e few counted starts ordered ends Fenc
 nothing_before xs p d s n division within e few counted starts ordered ends _ h flawed = absurd (omega arith)
 
 -- a flaw that names no place is the first where there is none of a lower number
-first_of_its_kind : (applies : Flaw → Type 0) (flaw : Flaw) → flaw_place flaw ≡ (0, 0) → applies flaw → ((other : Flaw) → flaw_number other < flaw_number flaw → ¬ (applies other)) → IsFirst applies flaw
-first_of_its_kind applies flaw e flawed lower =
+first_by_number : (applies : Flaw → Type 0) (flaw : Flaw) → flaw_place flaw ≡ (0, 0) → applies flaw → ((other : Flaw) → flaw_number other < flaw_number flaw → ¬ (applies other)) → IsFirst applies flaw
+first_by_number applies flaw e flawed lower =
     record {
       applies_itself = flawed;
       no_lower_number = lower;
@@ -101,19 +101,19 @@ first_of_its_kind applies flaw e flawed lower =
 -- each flaw of a fence is the first, where all that is looked at before it is right
 pub count_is_first : {A : Type 0} (xs : List ℕ) (p : ℕ) (d : Division A) (s : List ℕ) → IsDivision 0 (length xs) p d.cuts → NoneAbove xs p d.bottleneck d.cuts → d.floor ≡ Fence s → length s ≢ p + 1 → IsFirst (HasFlaw xs p d) FenceCount
 count_is_first xs p d s division within e wrong =
-    first_of_its_kind (HasFlaw xs p d) FenceCount refl (of_fence d.floor s ⊥ (λ s. length s ≢ p + 1) e wrong) (nothing_before xs p d s 6 division within e (omega arith) (λ h. absurd (omega (arith, h))) (λ h. absurd (omega (arith, h))) (λ h. absurd (omega (arith, h))) (λ h. absurd (omega (arith, h))))
+    first_by_number (HasFlaw xs p d) FenceCount refl (of_fence d.floor s ⊥ (λ s. length s ≢ p + 1) e wrong) (nothing_before xs p d s 6 division within e (omega arith) (λ h. absurd (omega (arith, h))) (λ h. absurd (omega (arith, h))) (λ h. absurd (omega (arith, h))) (λ h. absurd (omega (arith, h))))
 
 pub start_is_first : {A : Type 0} (xs : List ℕ) (p : ℕ) (d : Division A) (s : List ℕ) → IsDivision 0 (length xs) p d.cuts → NoneAbove xs p d.bottleneck d.cuts → d.floor ≡ Fence s → length s ≡ p + 1 → slice_index s 0 ≢ 0 → IsFirst (HasFlaw xs p d) FenceStart
 start_is_first xs p d s division within e counted wrong =
-    first_of_its_kind (HasFlaw xs p d) FenceStart refl (of_fence d.floor s ⊥ (λ s. slice_index s 0 ≢ 0) e wrong) (nothing_before xs p d s 7 division within e (omega arith) (λ h. counted) (λ h. absurd (omega (arith, h))) (λ h. absurd (omega (arith, h))) (λ h. absurd (omega (arith, h))))
+    first_by_number (HasFlaw xs p d) FenceStart refl (of_fence d.floor s ⊥ (λ s. slice_index s 0 ≢ 0) e wrong) (nothing_before xs p d s 7 division within e (omega arith) (λ h. counted) (λ h. absurd (omega (arith, h))) (λ h. absurd (omega (arith, h))) (λ h. absurd (omega (arith, h))))
 
 pub order_is_first : {A : Type 0} (xs : List ℕ) (p : ℕ) (d : Division A) (s : List ℕ) → IsDivision 0 (length xs) p d.cuts → NoneAbove xs p d.bottleneck d.cuts → d.floor ≡ Fence s → length s ≡ p + 1 → slice_index s 0 ≡ 0 → Falls s → IsFirst (HasFlaw xs p d) FenceOrder
 order_is_first xs p d s division within e counted starts wrong =
-    first_of_its_kind (HasFlaw xs p d) FenceOrder refl (of_fence d.floor s ⊥ Falls e wrong) (nothing_before xs p d s 8 division within e (omega arith) (λ h. counted) (λ h. starts) (λ h. absurd (omega (arith, h))) (λ h. absurd (omega (arith, h))))
+    first_by_number (HasFlaw xs p d) FenceOrder refl (of_fence d.floor s ⊥ Falls e wrong) (nothing_before xs p d s 8 division within e (omega arith) (λ h. counted) (λ h. starts) (λ h. absurd (omega (arith, h))) (λ h. absurd (omega (arith, h))))
 
 pub end_is_first : {A : Type 0} (xs : List ℕ) (p : ℕ) (d : Division A) (s : List ℕ) → IsDivision 0 (length xs) p d.cuts → NoneAbove xs p d.bottleneck d.cuts → d.floor ≡ Fence s → length s ≡ p + 1 → slice_index s 0 ≡ 0 → IsNonDecreasing s → length xs ≤ slice_index s p → IsFirst (HasFlaw xs p d) FenceEnd
 end_is_first xs p d s division within e counted starts ordered wrong =
-    first_of_its_kind (HasFlaw xs p d) FenceEnd refl (of_fence d.floor s ⊥ (λ s. length xs ≤ slice_index s p) e wrong) (nothing_before xs p d s 9 division within e (omega arith) (λ h. counted) (λ h. starts) (λ h. ordered) (λ h. absurd (omega (arith, h))))
+    first_by_number (HasFlaw xs p d) FenceEnd refl (of_fence d.floor s ⊥ (λ s. length xs ≤ slice_index s p) e wrong) (nothing_before xs p d s 9 division within e (omega arith) (λ h. counted) (λ h. starts) (λ h. ordered) (λ h. absurd (omega (arith, h))))
 
 pub light_is_first : {A : Type 0} (xs : List ℕ) (p : ℕ) (d : Division A) (s : List ℕ) (i : ℕ) → IsDivision 0 (length xs) p d.cuts → NoneAbove xs p d.bottleneck d.cuts → d.floor ≡ Fence s → length s ≡ p + 1 → slice_index s 0 ≡ 0 → IsNonDecreasing s → slice_index s p < length xs → IsFirstLight xs p d.bottleneck s i → IsFirst (HasFlaw xs p d) (FenceLight i)
 light_is_first {A} xs p d s i division within e counted starts ordered ends first =

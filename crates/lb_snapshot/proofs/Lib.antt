@@ -1,2 +1,3 @@
 pub mod LoadSums
 pub mod Made
+pub mod Parts

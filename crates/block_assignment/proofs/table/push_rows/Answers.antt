@@ -1,6 +1,8 @@
 use Rattle.std.proofs.Common.{◌≡◌, ℕ, ◌-◌, ◌<◌, ◌++◌, length, slice_index, arith, rules, subst}
 use Rattle.lb_certificates.specs.Naming.{block_cost}
-use Rattle.block_assignment.proofs.Rows.{HasRows, sizes_part, block_within, rows_more, table_of_rows, exact_of_rows}
+use Rattle.lb_snapshot.proofs.Parts.{sizes_part}
+use Rattle.lb_certificates.proofs.Chains.{block_within}
+use Rattle.block_assignment.proofs.Rows.{HasRows, rows_more, table_of_rows, exact_of_rows}
 use Rattle.block_assignment.proofs.table.push_rows.Goals as goal
 
 pub offset_bounds-pairs-first : goal.offset_bounds-pairs-first

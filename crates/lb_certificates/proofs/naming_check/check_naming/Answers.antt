@@ -7,10 +7,16 @@ use Rattle.lb_certificates.proofs.naming_check.check_naming.Goals as goal
 
 pub returns-in_err-check_cuts-clause-exact : goal.returns-in_err-check_cuts-clause-exact
 returns-in_err-check_cuts-clause-exact g c =
-    let first : IsFirst (HasNamingFlaw c.args.sizes.now c.args.cuts.now c.args.naming.now c.args.prices.now.u c.args.prices.now.v) c.in_err-check_cuts.field-0.0 = search rules in
-    refused_exactly (HasNamingFlaw c.args.sizes.now c.args.cuts.now c.args.naming.now c.args.prices.now.u c.args.prices.now.v) (IsNamed c.args.sizes.now c.args.cuts.now c.args.naming.now c.args.prices.now.u c.args.prices.now.v) c.from_residual.result c.in_err-check_cuts.field-0.0 (named_flawless c.args.sizes.now c.args.cuts.now c.args.naming.now c.args.prices.now.u c.args.prices.now.v) c.from_residual.ensures.0 first
+    let applies = HasNamingFlaw c.args.sizes.now c.args.cuts.now c.args.naming.now c.args.prices.now.u c.args.prices.now.v in
+    let named = IsNamed c.args.sizes.now c.args.cuts.now c.args.naming.now c.args.prices.now.u c.args.prices.now.v in
+    let flawless = named_flawless c.args.sizes.now c.args.cuts.now c.args.naming.now c.args.prices.now.u c.args.prices.now.v in
+    let first : IsFirst applies c.in_err-check_cuts.field-0.0 = search rules in
+    refused_exactly applies named c.from_residual.result c.in_err-check_cuts.field-0.0 flawless c.from_residual.ensures.0 first
 
 pub returns-in_err-check_names-clause-exact : goal.returns-in_err-check_names-clause-exact
 returns-in_err-check_names-clause-exact g c =
-    let first : IsFirst (HasNamingFlaw c.args.sizes.now c.args.cuts.now c.args.naming.now c.args.prices.now.u c.args.prices.now.v) c.in_err-check_names.field-0.0 = search rules in
-    refused_exactly (HasNamingFlaw c.args.sizes.now c.args.cuts.now c.args.naming.now c.args.prices.now.u c.args.prices.now.v) (IsNamed c.args.sizes.now c.args.cuts.now c.args.naming.now c.args.prices.now.u c.args.prices.now.v) c.from_residual-in_err-check_names.result c.in_err-check_names.field-0.0 (named_flawless c.args.sizes.now c.args.cuts.now c.args.naming.now c.args.prices.now.u c.args.prices.now.v) c.from_residual-in_err-check_names.ensures.0 first
+    let applies = HasNamingFlaw c.args.sizes.now c.args.cuts.now c.args.naming.now c.args.prices.now.u c.args.prices.now.v in
+    let named = IsNamed c.args.sizes.now c.args.cuts.now c.args.naming.now c.args.prices.now.u c.args.prices.now.v in
+    let flawless = named_flawless c.args.sizes.now c.args.cuts.now c.args.naming.now c.args.prices.now.u c.args.prices.now.v in
+    let first : IsFirst applies c.in_err-check_names.field-0.0 = search rules in
+    refused_exactly applies named c.from_residual-in_err-check_names.result c.in_err-check_names.field-0.0 flawless c.from_residual-in_err-check_names.ensures.0 first

@@ -7,21 +7,16 @@ use Rattle.lb_dump.proofs.decoding.decode.Goals as goal
 
 pub returns-in_err-feed-clause-answer : goal.returns-in_err-feed-clause-answer
 returns-in_err-feed-clause-answer g c =
-    let p = err_from_is_err_and c.from_residual.result c.from_residual.ensures.1 in
-    let answer : IsAnswer c.args.bytes.now c.from_residual.result = rw (p.1, p.2) (fed_fault c.args.bytes.now c.in_err-feed.field-0.0 c.new-reader.result c.feed.new.self c.new-reader.ensures.value c.in_err-feed.ensures.fed) in
-    answer
+    let told = err_from_is_err_and c.from_residual.result c.from_residual.ensures.1 in
+    rw (told.1, told.2) (fed_fault c.args.bytes.now c.in_err-feed.field-0.0 c.new-reader.result c.feed.new.self c.new-reader.ensures.value c.in_err-feed.ensures.fed)
 
 pub returns-in_err-feed-clause-again : goal.returns-in_err-feed-clause-again
 returns-in_err-feed-clause-again g c =
-    let p = err_from_is_err_and c.from_residual.result c.from_residual.ensures.1 in
-    let answer : IsAnswer c.args.bytes.now c.from_residual.result = rw (p.1, p.2) (fed_fault c.args.bytes.now c.in_err-feed.field-0.0 c.new-reader.result c.feed.new.self c.new-reader.ensures.value c.in_err-feed.ensures.fed) in
-    λ s is. answered s c.args.bytes.now c.from_residual.result answer is
+    λ s is. answered s c.args.bytes.now c.from_residual.result (returns-in_err-feed-clause-answer g c) is
 
 pub returns-in_err-feed-clause-first : goal.returns-in_err-feed-clause-first
 returns-in_err-feed-clause-first g c =
-    let p = err_from_is_err_and c.from_residual.result c.from_residual.ensures.1 in
-    let answer : IsAnswer c.args.bytes.now c.from_residual.result = rw (p.1, p.2) (fed_fault c.args.bytes.now c.in_err-feed.field-0.0 c.new-reader.result c.feed.new.self c.new-reader.ensures.value c.in_err-feed.ensures.fed) in
-    λ e fault. refused c.args.bytes.now e c.from_residual.result answer fault
+    λ e fault. refused c.args.bytes.now e c.from_residual.result (returns-in_err-feed-clause-answer g c) fault
 
 pub returns-clause-again : goal.returns-clause-again
 returns-clause-again g c =

@@ -6,14 +6,19 @@ use Rattle.chain_partition.proofs.prefix.Prefix.of.Goals as goal
 
 pub loop-units-preserved : goal.loop-units-preserved
 loop-units-preserved g c =
-    let inside : c.loop-units.units-index < length c.args.loads.now = search rules in
-    let total : c.loop-units.total + c.from-total.result ≡ slice_index c.loop-units.sums.items c.loop-units.units-index + slice_index c.args.loads.now c.loop-units.units-index = search rules in
-    let appended : c.push_reserved-in-loop-units.new.self.items ≡ c.loop-units.sums.items ++ (c.loop-units.total + c.from-total.result) ∷ [] = c.push_reserved-in-loop-units.ensures.items in
-    let last : slice_index (c.loop-units.sums.items ++ (c.loop-units.total + c.from-total.result) ∷ []) (c.loop-units.units-index + 1) ≡ c.loop-units.total + c.from-total.result = get_or_push c.loop-units.sums.items (c.loop-units.total + c.from-total.result) 0 (c.loop-units.units-index + 1) c.loop-units.invariant.sums.counted in
-    let summed : AreSums c.args.loads.now (c.loop-units.units-index + 1) c.push_reserved-in-loop-units.new.self.items =
-    rw appended (sums_more c.args.loads.now c.loop-units.sums.items c.loop-units.units-index (c.loop-units.total + c.from-total.result) c.loop-units.invariant.sums inside total)
-    in
-    record { sums = summed; last = rw appended last; room = search rules; filled = search rules }
+    let xs = c.args.loads.now in
+    let sums = c.loop-units.sums.items in
+    let n = c.loop-units.units-index in
+    let total = c.loop-units.total + c.from-total.result in
+    let inside : n < length xs = search rules in
+    let added : total ≡ slice_index sums n + slice_index xs n = search rules in
+    let appended : c.push_reserved-in-loop-units.new.self.items ≡ sums ++ total ∷ [] = c.push_reserved-in-loop-units.ensures.items in
+    record {
+      sums = rw appended (sums_more xs sums n total c.loop-units.invariant.sums inside added);
+      last = rw appended (get_or_push sums total 0 (n + 1) c.loop-units.invariant.sums.counted);
+      room = search rules;
+      filled = search rules;
+    }
 
 pub invariant_of-result : goal.invariant_of-result
 invariant_of-result g c =
