@@ -10,6 +10,7 @@ pub mod Raises
 pub mod Reaches
 pub mod Rows
 pub mod Scans
+pub mod Steps
 pub mod Sums
 pub mod Tight
 pub mod Trees

@@ -98,6 +98,17 @@ first_by_number applies flaw e flawed lower =
     not_before place (inl lower) = absurd (omega (arith, lower))
     not_before place (inr tied) = absurd (omega (arith, tied.1))
 
+-- a last cut other than the number of elements is the first flaw, where the cuts are right but for that
+pub cut_end_is_first : {A : Type 0} (xs : List ℕ) (p : ℕ) (d : Division A) → length d.cuts ≡ p + 1 → slice_index d.cuts 0 ≡ 0 → IsNonDecreasing d.cuts → slice_index d.cuts p ≢ length xs → IsFirst (HasFlaw xs p d) CutEnd
+cut_end_is_first xs p d counted starts ordered wrong =
+    first_by_number (HasFlaw xs p d) CutEnd refl wrong lower
+  where
+    lower : (other : Flaw) → flaw_number other < 4 → ¬ (HasFlaw xs p d other)
+    lower CutCount h flawed = flawed counted
+    lower CutStart h flawed = flawed starts
+    lower CutOrder h (k, inside, falls) = absurd (omega (arith, falls, ordered k (k + 1) 0 (omega arith) inside))
+    lower _ h flawed = absurd (omega arith)
+
 -- each flaw of a fence is the first, where all that is looked at before it is right
 pub count_is_first : {A : Type 0} (xs : List ℕ) (p : ℕ) (d : Division A) (s : List ℕ) → IsDivision 0 (length xs) p d.cuts → NoneAbove xs p d.bottleneck d.cuts → d.floor ≡ Fence s → length s ≢ p + 1 → IsFirst (HasFlaw xs p d) FenceCount
 count_is_first xs p d s division within e wrong =

@@ -1,5 +1,6 @@
 pub mod BlockLines
 pub mod Endings
 pub mod OneTexts
+pub mod PeLines
 pub mod RightTexts
 pub mod Sends

@@ -82,7 +82,7 @@ fn replay<A: Allocator + Copy, R: Read>(
 {
     let snapshot = read_from(alloc, reader)?;
     let pes = procs.unwrap_or(snapshot.procs());
-    Ok(planned_text(alloc, &snapshot, pes)?)
+    planned_text(alloc, &snapshot, pes).map_err(Fault::from)
 }
 
 // The text of the decision that is planned for a snapshot.
@@ -97,7 +97,7 @@ fn planned_text<A: Allocator + Copy, B: Allocator>(
     ensures fault { IfErr result (λ error. error ≡ OutOfMemory) }
 {
     let decision = plan(alloc, snapshot, pes)?;
-    Ok(decision_text(alloc, snapshot, pes, &decision)?)
+    decision_text(alloc, snapshot, pes, &decision).map_err(PlanError::from)
 }
 
 // Writes the line of a fault, or that it is out of memory.

@@ -6,6 +6,12 @@ use Rattle.lb_dump.proofs.GoodTexts.{refused_by, surplus, whole_len-append}
 use Rattle.lb_dump.proofs.HeldFacts.{text-length}
 use Rattle.lb_dump.proofs.held.take_elements.Goals as goal
 
+pub returns-then-room-eq0-clause-taken : goal.returns-then-room-eq0-clause-taken
+returns-then-room-eq0-clause-taken g c = tt
+
+pub returns-then-room-eq0-clause-full : goal.returns-then-room-eq0-clause-full
+returns-then-room-eq0-clause-full g c = λ _. refl
+
 pub returns-then-room-eq0-clause-broken : goal.returns-then-room-eq0-clause-broken
 returns-then-room-eq0-clause-broken g c =
     let text = text_of c.args.held.now in

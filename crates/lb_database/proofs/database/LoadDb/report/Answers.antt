@@ -1,3 +1,6 @@
+use Rattle.std.proofs.Common.{rules}
+use Rattle.lb_database.specs.Refusals.{RefusesReport}
+use Rattle.lb_database.specs.declared.error.DbError.TheVariants.{Twice}
 use Rattle.lb_database.proofs.Reports.{same_reports, some_missing, missing_less, measured_more}
 use Rattle.lb_database.proofs.database.LoadDb.report.Goals as goal
 
@@ -32,3 +35,11 @@ invariant_of-self-2 g c =
       measured_more (record { round = self.round; loads = self.loads.items; reports = self.reports.items }) c.args.i c.args.bytes c.args.pe c.if-bytes-gt-STATE_BYTES.false c.self.invariant.0,
       missing_less self.reports.items c.args.i (c.args.bytes, c.args.pe) c.in_ok-report.report.now self.missing item.3.0 item.1 c.if-is_some.ensures c.self.invariant.1,
     )
+
+pub returns-then-is_some-clause-answer : goal.returns-then-is_some-clause-answer
+returns-then-is_some-clause-answer g c =
+    let refused : RefusesReport c.args.self.now c.args.i c.args.round c.args.bytes Twice = (search rules, search rules, search rules) in
+    refused
+
+pub returns-then-is_some-clause-ok : goal.returns-then-is_some-clause-ok
+returns-then-is_some-clause-ok g c = tt
