@@ -48,7 +48,6 @@ impl<'a> Model for Claim<'a> {
 ///
 /// That the prices prove the naming cheapest is the duality of the assignment problem: R. K. Ahuja,
 /// T. L. Magnanti and J. B. Orlin, "Network Flows", 1993, chapter 12.
-#[tactic(auto, using(crate::proofs::BlockSums::cheapest_from_named, crate::proofs::NoNamingFlaws::named_flawless))]
 pub fn check_naming<A: Allocator, B: Allocator>(
     sizes: &Sizes<A>,
     cuts: &Cuts<B>,
@@ -235,7 +234,6 @@ fn block_bytes(claim: &Claim<'_>, blocks: u32, b: u32, p: u32) -> u64
 }
 
 // The bytes of all blocks that move to their names.
-#[tactic(auto, using(crate::proofs::BlockSums::moved_is_cost))]
 fn moved_by(claim: &Claim<'_>, blocks: u32) -> u64
     requires sizes { IsSizes claim.now.sizes }
     requires divides { IsDivision 0 (length claim.now.sizes) blocks claim.now.cuts }
