@@ -1,1 +1,3 @@
 pub mod Reports
+mod Refused
+mod Pairs

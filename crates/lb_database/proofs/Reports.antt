@@ -1,12 +1,13 @@
 -- Lists of reports: whether one is missing, and those that are there.
-use Rattle.std.proofs.Common.{◌≡◌, ℕ, suc, zero, ◌+◌, ◌-◌, ◌<◌, ◌≤◌, List, [], ◌∷◌, length, get_or, map, refl, ap, sym, ◌∙◌, subst, arith, cond, false, Option, None, Some}
+use Rattle.std.proofs.Common.{◌≡◌, ℕ, suc, zero, ◌+◌, ◌-◌, ◌*◌, ◌<◌, ◌≤◌, List, [], ◌∷◌, length, get_or, map, replicate, refl, ap, sym, ◌∙◌, subst, arith, cond, false, Option, None, Some}
 use Rattle.std.specs.Prelude.{All, IsSome, IfSome, is_none, is_some, count_by, slice_set}
 use Rattle.std.proofs.lemmas.List.Sums.{sum_by-cons, sum_by-set}
-use Rattle.std.proofs.lemmas.List.Elements.{All-set}
-use Rattle.std.proofs.lemmas.List.{get_or-map, length-map, length-set, set-get_or}
-use Rattle.chare_index.specs.declared.limits.TheConstants.Limits.{PES, STATE_BYTES}
+use Rattle.std.proofs.lemmas.List.Elements.{All-replicate, All-set}
+use Rattle.std.proofs.lemmas.List.Folds.{sum_by-replicate}
+use Rattle.std.proofs.lemmas.List.{get_or-map, length-map, length-replicate, length-set, set-get_or}
+use Rattle.chare_index.specs.declared.limits.TheConstants.Limits.{ELEMENTS, LOAD, PES, ROUND, STATE_BYTES}
 use Rattle.lb_snapshot.specs.Measured.{IsSizes, IsTaken}
-use Rattle.lb_database.specs.Measuring.{Measured, IsMeasured, AreReports, StandBelow, with_report}
+use Rattle.lb_database.specs.Measuring.{Measured, IsMeasured, AreReports, StandBelow, opening, with_report}
 
 -- how many are missing, report by report
 count_there : {X : Type 0} (x : X) (reports : List (Option X)) → count_by is_none (Some x ∷ reports) ≡ 0 + count_by is_none reports
@@ -31,6 +32,28 @@ all_there (None ∷ reports) none k d inside = absurd (omega (arith, none, count
 all_there (Some x ∷ reports) none zero d inside = refl
 all_there (Some x ∷ reports) none (suc k) d inside =
     all_there reports (omega (arith, none, count_there x reports)) k d (omega arith)
+
+-- all are missing as a round begins
+pub all_missing : (n : ℕ) → n ≡ count_by (is_none {T = ℕ × ℕ}) (replicate n None)
+all_missing n =
+    let counted : count_by (is_none {T = ℕ × ℕ}) (replicate n None) ≡ n * 1 = sum_by-replicate (λ r. cond (is_none r) 1 0) n None in
+    omega arith
+
+-- and it keeps the limits
+pub opening_measured : (round n : ℕ) → 0 < round → round ≤ ROUND → n ≤ ELEMENTS → IsMeasured (opening round n)
+opening_measured round n started numbered few = record {
+  started = started;
+  numbered = numbered;
+  charged_within = record {
+    few = omega (arith, few, length-replicate {A = ℕ} n 0);
+    small = All-replicate (λ units. units ≤ LOAD) n 0 (omega arith);
+  };
+  reported_within = record {
+    few = omega (arith, few, length-replicate {A = Option (ℕ × ℕ)} n None);
+    small = All-replicate (λ report. IfSome report (λ size. size.0 ≤ STATE_BYTES)) n None tt;
+  };
+  paired = length-replicate {A = ℕ} n 0 ∙ sym (length-replicate {A = Option (ℕ × ℕ)} n None);
+}
 
 -- a report that is put where it stood changes nothing
 pub same_reports : {X : Type 0} (reports : List (Option X)) (i : ℕ) (report : Option X) → report ≡ get_or reports i report → slice_set reports i report ≡ reports

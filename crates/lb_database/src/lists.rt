@@ -36,7 +36,6 @@ pub(crate) fn copied_loads<A: Allocator>(alloc: A, units: &[Units]) -> Result<Lo
 }
 
 /// The sizes of a snapshot: what all elements have reported.
-#[tactic(auto, using(lb_snapshot::proofs::Made::made_where, crate::proofs::Reports::sizes_there))]
 pub(crate) fn reported_sizes<A: Allocator>(
     alloc: A,
     reports: &[Option<(u32, Pe)>],

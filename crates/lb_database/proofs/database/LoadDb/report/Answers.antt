@@ -1,6 +1,8 @@
-use Rattle.std.proofs.Common.{rules}
-use Rattle.lb_database.specs.Refusals.{RefusesReport}
-use Rattle.lb_database.specs.declared.error.DbError.TheVariants.{Twice}
+use Rattle.std.proofs.Common.{ap}
+use Rattle.lb_database.specs.Measuring.{with_report}
+use Rattle.lb_database.specs.Refusals.{IsReport, RefusesReport}
+use Rattle.lb_database.specs.declared.error.DbError.TheVariants.{Stranger, Twice}
+use Rattle.lb_database.proofs.Refused.{none_refused, passed_on, report_taken, stranger_refused, too_large_refused, twice_refused, wrong_round_refused}
 use Rattle.lb_database.proofs.Reports.{same_reports, some_missing, missing_less, measured_more}
 use Rattle.lb_database.proofs.database.LoadDb.report.Goals as goal
 
@@ -36,10 +38,51 @@ invariant_of-self-2 g c =
       missing_less self.reports.items c.args.i (c.args.bytes, c.args.pe) c.in_ok-report.report.now self.missing item.3.0 item.1 c.if-is_some.ensures c.self.invariant.1,
     )
 
+pub returns-in_err-report-clause-answer : goal.returns-in_err-report-clause-answer
+returns-in_err-report-clause-answer g c =
+    let error = none_refused c.get_mut.result Stranger c.in_err-report.field-0.0 c.in_err-report.ensures.value in
+    let item = rw error.0 at c.get_mut.ensures.item in
+    let refused = stranger_refused _ c.args.self.now c.args.i c.args.round c.args.bytes c.self.view_is c.self.invariant.0 item.3 in
+    passed_on c.from_residual.result (λ _. IsReport c.args.self.now c.args.i c.args.round c.args.bytes) (RefusesReport c.args.self.now c.args.i c.args.round c.args.bytes) Stranger (rw error.1 at c.from_residual.ensures.1) refused
+
+pub returns-then-ne-clause-answer : goal.returns-then-ne-clause-answer
+returns-then-ne-clause-answer g c =
+    let item = rw c.in_ok-report.ensures.ok_part at c.get_mut.ensures.item in
+    wrong_round_refused _ c.args.self.now c.args.i c.args.round c.args.bytes c.self.view_is c.self.invariant.0 item.3.0 c.if-ne.ensures
+
 pub returns-then-is_some-clause-answer : goal.returns-then-is_some-clause-answer
 returns-then-is_some-clause-answer g c =
-    let refused : RefusesReport c.args.self.now c.args.i c.args.round c.args.bytes Twice = (search rules, search rules, search rules) in
+    let item = rw c.in_ok-report.ensures.ok_part at c.get_mut.ensures.item in
+    let refused : RefusesReport c.args.self.now c.args.i c.args.round c.args.bytes Twice = twice_refused _ c.args.self.now c.args.i c.args.round c.args.bytes c.in_ok-report.report.now c.self.view_is c.self.invariant.0 item.3.0 item.1 c.if-ne.ensures c.if-is_some.ensures in
     refused
 
 pub returns-then-is_some-clause-ok : goal.returns-then-is_some-clause-ok
 returns-then-is_some-clause-ok g c = tt
+
+pub returns-then-bytes-gt-STATE_BYTES-clause-answer : goal.returns-then-bytes-gt-STATE_BYTES-clause-answer
+returns-then-bytes-gt-STATE_BYTES-clause-answer g c =
+    let item = rw c.in_ok-report.ensures.ok_part at c.get_mut.ensures.item in
+    too_large_refused _ c.args.self.now c.args.i c.args.round c.args.bytes c.in_ok-report.report.now c.self.view_is c.self.invariant.0 item.3.0 item.1 c.if-ne.ensures c.if-is_some.ensures c.if-bytes-gt-STATE_BYTES.true
+
+pub returns-clause-answer : goal.returns-clause-answer
+returns-clause-answer g c =
+    let item = rw c.in_ok-report.ensures.ok_part at c.get_mut.ensures.item in
+    report_taken _ c.args.self.now c.args.i c.args.round c.args.bytes c.in_ok-report.report.now c.self.view_is c.self.invariant.0 item.3.0 item.1 c.if-ne.ensures c.if-is_some.ensures c.if-bytes-gt-STATE_BYTES.false
+
+pub returns-clause-ok : goal.returns-clause-ok
+returns-clause-ok g c = ap (λ m. with_report m c.args.i c.args.bytes c.args.pe) c.self.view_is
+
+pub returns-then-ne-clause-err : goal.returns-then-ne-clause-err
+returns-then-ne-clause-err g c =
+    let stood = rw c.in_ok-report.ensures.ok_part at c.get_mut.ensures.value in
+    rw (same_reports c.self.inside.reports.items c.args.i c.in_ok-report.report.now stood) c.self.view_is
+
+pub returns-then-is_some-clause-err : goal.returns-then-is_some-clause-err
+returns-then-is_some-clause-err g c =
+    let stood = rw c.in_ok-report.ensures.ok_part at c.get_mut.ensures.value in
+    rw (same_reports c.self.inside.reports.items c.args.i c.in_ok-report.report.now stood) c.self.view_is
+
+pub returns-then-bytes-gt-STATE_BYTES-clause-err : goal.returns-then-bytes-gt-STATE_BYTES-clause-err
+returns-then-bytes-gt-STATE_BYTES-clause-err g c =
+    let stood = rw c.in_ok-report.ensures.ok_part at c.get_mut.ensures.value in
+    rw (same_reports c.self.inside.reports.items c.args.i c.in_ok-report.report.now stood) c.self.view_is
