@@ -31,22 +31,58 @@ pub fn name_blocks<A: Allocator + Copy, B: Allocator>(
     ensures bounded { IfOk result (λ answer. AreWithin (greatest table.now.costs) answer.1.u answer.1.v) }
     ensures only_memory { IfErr result (λ error. error ≡ OutOfMemory) }
 {
-    let blocks = table.blocks();
-    let mut u = vec![in alloc; 0i64; blocks as usize]?;
-    let mut v = vec![in alloc; 0i64; blocks as usize]?;
-    let mut search = Search::new(alloc, table)?;
-    for _ in 0..blocks {
-        search.name_next();
-    }
-    let (mut names, paid, rebate) = search.into_parts();
-    rename(alloc, table, &paid, &rebate, &mut names)?;
-    write_paid(&paid, &mut u);
-    write_rebates(&rebate, &mut v);
+    let blocks = table.blocks() as usize;
+    let mut u = vec![in alloc; 0i64; blocks]?;
+    let mut v = vec![in alloc; 0i64; blocks]?;
+    let names = name_and_price(alloc, table, &mut u, &mut v)?;
     let prices = Prices {
         u: PriceList::new(u),
         v: PriceList::new(v),
     };
     Ok((Naming::new(names), prices))
+}
+
+// The least naming. The prices of the blocks are written into `u`, and those of the PEs into `v`.
+fn name_and_price<A: Allocator + Copy, B: Allocator>(
+    alloc: A,
+    table: &CostTable<B>,
+    u: &mut [i64],
+    v: &mut [i64],
+) -> Result<Vec<u32, A>, AllocError>
+    requires blocks { length u.old ≡ table.now.blocks }
+    requires pes { length v.old ≡ table.now.blocks }
+    ensures naming { IfOk result (λ names. IsNaming table.now.blocks names.items) }
+    ensures proved { IfOk result (λ names. Proves table.now.blocks (cost_at table.now) (naming_cost table.now.blocks (cost_at table.now) names.items) u.new v.new) }
+    ensures least_naming { IfOk result (λ names. IsFirstCheapest table.now.blocks (naming_cost table.now.blocks (cost_at table.now)) names.items) }
+    ensures bounded { IfOk result (λ _. AreWithin (greatest table.now.costs) u.new v.new) }
+{
+    let (mut names, paid, rebate) = cheapest(alloc, table)?;
+    write_paid(&paid, u);
+    write_rebates(&rebate, v);
+    let renamed = rename(alloc, table, &paid, &rebate, &mut names);
+    drop(paid);
+    drop(rebate);
+    renamed?;
+    Ok(names)
+}
+
+// A cheapest naming, what each block pays and what each PE gives back.
+fn cheapest<A: Allocator + Copy, B: Allocator>(
+    alloc: A,
+    table: &CostTable<B>,
+) -> Result<(Vec<u32, A>, Vec<u64, A>, Vec<u64, A>), AllocError>
+    ensures tight { IfOk result (λ parts. IsTight table.now.blocks (cost_at table.now) parts.1.items parts.2.items parts.0.items) }
+    ensures paid { IfOk result (λ parts. length parts.1.items ≡ table.now.blocks) }
+    ensures rebates { IfOk result (λ parts. length parts.2.items ≡ table.now.blocks) }
+    ensures paid_small { IfOk result (λ parts. (b : ℕ) → b < table.now.blocks → slice_index parts.1.items b ≤ greatest table.now.costs) }
+    ensures rebates_small { IfOk result (λ parts. (p : ℕ) → p < table.now.blocks → slice_index parts.2.items p ≤ greatest table.now.costs) }
+    ensures costs_small { IfOk result (λ _. greatest table.now.costs ≤ 2 ^ 36) }
+{
+    let mut search = Search::new(alloc, table)?;
+    for _ in 0..table.blocks() {
+        search.name_next();
+    }
+    Ok(search.into_parts())
 }
 
 // Of all cheapest namings, the first in dictionary order. The prices stay as they are: the cheapest namings are those

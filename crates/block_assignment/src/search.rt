@@ -5,7 +5,7 @@
 //! the Society for Industrial and Applied Mathematics 5(1), 1957; R. Jonker and A. Volgenant, "A shortest augmenting
 //! path algorithm for dense and sparse linear assignment problems", Computing 38, 1987.
 
-ghost use Rattle.std.specs.Prelude.{◌≡◌, ℕ, ◌+◌, ◌^◌, ◌<◌, ◌≤◌, length, slice_index, slice_index_or, IfOk, MatchOption, Some, None};
+ghost use Rattle.std.specs.Prelude.{◌≡◌, ℕ, ◌+◌, ◌^◌, ◌<◌, ◌≤◌, length, slice_index, slice_index_or, replicate, IfOk, MatchOption, Some, None};
 ghost use Rattle.block_assignment.specs.Table.{cost_at};
 ghost use Rattle.block_assignment.specs.Search.{State, IsSized, IsMatched, IsTree, IsPath, IsSmall, IsNearest, IsRaised, unscanned};
 
@@ -62,16 +62,19 @@ impl<'t, A: Allocator + Copy, B: Allocator> Search<'t, A, B> {
         ensures none_named { IfOk result (λ s. s.named ≡ 0) }
     {
         let blocks = table.blocks() as usize;
+        let (names, holders) = no_names(alloc, blocks)?;
+        let (paid, rebate) = no_prices(alloc, blocks)?;
+        let (rank, distance, from) = no_tree(alloc, blocks)?;
         Ok(Search {
             table,
             named: 0,
-            names: vec![in alloc; 0; blocks]?,
-            holders: vec![in alloc; None; blocks]?,
-            paid: vec![in alloc; 0; blocks]?,
-            rebate: vec![in alloc; 0; blocks]?,
-            rank: vec![in alloc; 0; blocks]?,
-            distance: vec![in alloc; 0; blocks]?,
-            from: vec![in alloc; 0; blocks]?,
+            names,
+            holders,
+            paid,
+            rebate,
+            rank,
+            distance,
+            from,
         })
     }
 }
@@ -236,6 +239,47 @@ impl<A: Allocator, B: Allocator> Search<'_, A, B> {
         self.holders[pe as usize] = Some(self.named as u32);
         self.named += 1;
     }
+}
+
+// Room for the names, and PEs that no block has.
+fn no_names<A: Allocator + Copy>(
+    alloc: A,
+    blocks: usize,
+) -> Result<(Vec<u32, A>, Vec<Option<u32>, A>), AllocError>
+    ensures names { IfOk result (λ lists. length lists.0.items ≡ blocks) }
+    ensures holders { IfOk result (λ lists. lists.1.items ≡ replicate blocks None) }
+{
+    let names = vec![in alloc; 0; blocks]?;
+    let holders = vec![in alloc; None; blocks]?;
+    Ok((names, holders))
+}
+
+// Blocks that pay nothing, and PEs that give nothing back.
+fn no_prices<A: Allocator + Copy>(
+    alloc: A,
+    blocks: usize,
+) -> Result<(Vec<u64, A>, Vec<u64, A>), AllocError>
+    ensures paid { IfOk result (λ lists. lists.0.items ≡ replicate blocks 0) }
+    ensures rebate { IfOk result (λ lists. lists.1.items ≡ replicate blocks 0) }
+{
+    let paid = vec![in alloc; 0; blocks]?;
+    let rebate = vec![in alloc; 0; blocks]?;
+    Ok((paid, rebate))
+}
+
+// Room for a tree: when each PE was scanned, how far it is from the root, and the block before it.
+fn no_tree<A: Allocator + Copy>(
+    alloc: A,
+    blocks: usize,
+) -> Result<(Vec<u32, A>, Vec<u64, A>, Vec<u32, A>), AllocError>
+    ensures rank { IfOk result (λ lists. length lists.0.items ≡ blocks) }
+    ensures distance { IfOk result (λ lists. length lists.1.items ≡ blocks) }
+    ensures from { IfOk result (λ lists. length lists.2.items ≡ blocks) }
+{
+    let rank = vec![in alloc; 0; blocks]?;
+    let distance = vec![in alloc; 0; blocks]?;
+    let from = vec![in alloc; 0; blocks]?;
+    Ok((rank, distance, from))
 }
 
 // Lets each block of the tree but the root pay as much more as the tree reached past its PE.

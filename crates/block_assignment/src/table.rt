@@ -46,17 +46,10 @@ impl<A: Allocator + Copy> CostTable<A> {
         requires divides { IsDivision 0 (length sizes.now) (length cuts.now - 1) cuts.now }
         ensures table { IfOk result (IsTableOf sizes.now cuts.now) }
     {
-        let pairs = sizes.as_slice();
         let cuts = cuts.as_slice();
-        let blocks = cuts.len() - 1;
-        // Room for a list of all elements too, three numbers of 32 bits for each: a caller that lists the moves when
-        // the table is gone finds there memory that is mapped.
-        let list = pairs.len() * 3 / 2 + 2;
-        let mut costs = Vec::with_capacity(alloc, list.max(blocks * blocks))?;
-        let mut row = vec![in alloc; 0u64; blocks]?;
-        push_rows(&mut costs, &mut row, pairs, cuts)?;
+        let costs = costs_of(alloc, sizes.as_slice(), cuts)?;
         Ok(CostTable {
-            count: blocks as u32,
+            count: (cuts.len() - 1) as u32,
             costs,
         })
     }
@@ -104,6 +97,31 @@ impl<A: Allocator> CostTable<A> {
     {
         self.count
     }
+}
+
+// The costs of all blocks, block by block.
+fn costs_of<A: Allocator + Copy>(
+    alloc: A,
+    pairs: &[(u32, Pe)],
+    cuts: &[u32],
+) -> Result<Vec<u64, A>, AllocError>
+    requires sizes { IsSizes pairs.now }
+    requires some_block { 1 < length cuts.now }
+    requires few_blocks { length cuts.now ≤ Limits.PES + 1 }
+    requires divides { IsDivision 0 (length pairs.now) (length cuts.now - 1) cuts.now }
+    ensures table { IfOk result (λ costs. IsTable (record { blocks = length cuts.now - 1; costs = costs.items })) }
+    ensures exact { IfOk result (λ costs. IsTableOf pairs.now cuts.now (record { blocks = length cuts.now - 1; costs = costs.items })) }
+{
+    let blocks = cuts.len() - 1;
+    // Room for a list of all elements too, three numbers of 32 bits for each: a caller that lists the moves when the
+    // table is gone finds there memory that is mapped.
+    let list = pairs.len() * 3 / 2 + 2;
+    let mut costs = Vec::with_capacity(alloc, list.max(blocks * blocks))?;
+    let mut row = vec![in alloc; 0u64; blocks]?;
+    let pushed = push_rows(&mut costs, &mut row, pairs, cuts);
+    drop(row);
+    pushed?;
+    Ok(costs)
 }
 
 // Puts the costs of all blocks, block by block, into the empty list `costs`. `row` is room for those of one block.

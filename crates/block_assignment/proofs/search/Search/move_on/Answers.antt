@@ -28,8 +28,6 @@ loop-b-smaller g c =
     let path : IsPath s = c.requires.path in
     let named : c.loop-b.b < s.named = omega (arith, ap (λ (z : State). z.named) r, c.loop-b-test.true) in
     let before : c.index-before.result.now ≡ slice_index names c.loop-b.b = get_or_read names c.loop-b.b c.index-before.result.now (omega (arith, moving.names_length, named, c.requires.unnamed)) c.index-before.ensures 0 in
-    let moved : IsMoving s (set names c.loop-b.b c.loop-b.pe) (set holders c.loop-b.pe (Some c.loop-b.b)) c.index-before.result.now = subst (λ q. IsMoving s (set names c.loop-b.b c.loop-b.pe) (set holders c.loop-b.pe (Some c.loop-b.b)) q) (sym before) (moving_more s names holders c.loop-b.pe c.loop-b.b (omega arith) path moving c.loop-b.invariant.reaches named) in
-    let counted : length c.loop-b.self-inside.from.items ≡ s.table.blocks = ap (λ (z : State). length z.from) (sym r) ∙ c.requires.sized.from_length in
     let less = next_earlier s names holders c.loop-b.pe c.loop-b.b path moving c.loop-b.invariant.reaches named in
     subst (λ q. slice_index s.rank q < slice_index s.rank c.loop-b.pe) (sym before) less.1
 

@@ -13,7 +13,6 @@ scan-requires-clause-low g c =
     let sized : IsSized s = subst (λ z. IsSized z) v c.requires.sized in
     let matched : IsMatched s = subst (λ z. IsMatched z) v c.requires.matched in
     let unnamed : s.named < s.table.blocks = subst (λ (z : State). z.named < z.table.blocks) v c.requires.unnamed in
-    let block : s.named < s.table.blocks = unnamed in
     let paid : c.index.result.now ≡ slice_index s.paid s.named = get_or_read s.paid s.named c.index.result.now (omega (arith, unnamed, sized.paid_length)) c.index.ensures 0 in
     rw c.deref.ensures.value (λ p inside.
     let within : p < s.table.blocks = omega (arith, inside, c.row.ensures.counted) in
@@ -27,7 +26,6 @@ scan-requires-clause-small g c =
     let matched : IsMatched s = subst (λ z. IsMatched z) v c.requires.matched in
     let unnamed : s.named < s.table.blocks = subst (λ (z : State). z.named < z.table.blocks) v c.requires.unnamed in
     let block : s.named < s.table.blocks = unnamed in
-    let paid : c.index.result.now ≡ slice_index s.paid s.named = get_or_read s.paid s.named c.index.result.now (omega (arith, unnamed, sized.paid_length)) c.index.ensures 0 in
     rw c.deref.ensures.value (λ p inside.
     let within : p < s.table.blocks = omega (arith, inside, c.row.ensures.counted) in
     omega (arith, c.row.ensures.costs p within, cost_small s.table s.named p sized.is_table block within, rebate_small s sized.is_table matched unnamed p within))
@@ -36,11 +34,7 @@ pub returns-clause-matched : goal.returns-clause-matched
 returns-clause-matched g c =
     let s : State = record { table = c.self.inside.table.now; named = c.self.inside.named; names = c.self.inside.names.items; holders = c.self.inside.holders.items; paid = c.self.inside.paid.items; rebate = c.self.inside.rebate.items; rank = c.self.inside.rank.items; distance = c.self.inside.distance.items; from = c.self.inside.from.items } in
     let v : c.args.self.now ≡ s = sym c.self.view_is in
-    let sized : IsSized s = subst (λ z. IsSized z) v c.requires.sized in
     let matched : IsMatched s = subst (λ z. IsMatched z) v c.requires.matched in
-    let unnamed : s.named < s.table.blocks = subst (λ (z : State). z.named < z.table.blocks) v c.requires.unnamed in
-    let block : s.named < s.table.blocks = unnamed in
-    let paid : c.index.result.now ≡ slice_index s.paid s.named = get_or_read s.paid s.named c.index.result.now (omega (arith, unnamed, sized.paid_length)) c.index.ensures 0 in
     record { below = matched.below; apart = matched.apart; known = matched.known; held = matched.held; low = matched.low; tight = matched.tight; free = matched.free }
 
 pub returns-clause-tree : goal.returns-clause-tree
@@ -50,7 +44,6 @@ returns-clause-tree g c =
     let sized : IsSized s = subst (λ z. IsSized z) v c.requires.sized in
     let matched : IsMatched s = subst (λ z. IsMatched z) v c.requires.matched in
     let unnamed : s.named < s.table.blocks = subst (λ (z : State). z.named < z.table.blocks) v c.requires.unnamed in
-    let block : s.named < s.table.blocks = unnamed in
     let paid : c.index.result.now ≡ slice_index s.paid s.named = get_or_read s.paid s.named c.index.result.now (omega (arith, unnamed, sized.paid_length)) c.index.ensures 0 in
     let w : take c.fill-2.new.self.len (c.scan.new.distance ++ drop (length c.scan.new.distance) c.fill-2.new.self.items) ≡ c.scan.new.distance = written _ _ _ (omega arith) in
     let w2 : take c.self.inside.from.len (c.scan.new.from ++ drop (length c.scan.new.from) c.self.inside.from.items) ≡ c.scan.new.from = written _ _ _ (omega arith) in

@@ -15,7 +15,6 @@ raise_paid-requires-clause-small g c =
     let unnamed : s.named < s.table.blocks = subst (λ (z : State). z.named < z.table.blocks) v c.requires.unnamed in
     let tree : IsTree c.args.rank s = subst (λ z. IsTree c.args.rank z) v c.requires.tree in
     let near : IsNearest s.rank s.distance s.table.blocks c.args.pe = subst (λ (z : State). IsNearest z.rank z.distance z.table.blocks c.args.pe) v c.requires.nearest in
-    let unheld : slice_index_or s.holders c.args.pe None ≡ None = subst (λ (z : State). slice_index_or z.holders c.args.pe None ≡ None) v c.requires.free in
     let reach : c.index-reach.result.now ≡ slice_index s.distance c.args.pe = get_or_read s.distance c.args.pe c.index-reach.result.now (omega (arith, near.inside, sized.distance_length)) c.index-reach.ensures 0 in
     let short : slice_index s.distance c.args.pe ≤ 2 ^ 37 = distance_small c.args.rank s sized.is_table matched tree unnamed c.args.pe near.inside in
     rw c.deref_mut.ensures.value (λ b inside. omega (arith, reach, short, inside, sized.paid_length, paid_small s sized.is_table matched unnamed b (omega (arith, inside, sized.paid_length))))
@@ -29,10 +28,9 @@ overflow_add-index_mut g c =
     let unnamed : s.named < s.table.blocks = subst (λ (z : State). z.named < z.table.blocks) v c.requires.unnamed in
     let tree : IsTree c.args.rank s = subst (λ z. IsTree c.args.rank z) v c.requires.tree in
     let near : IsNearest s.rank s.distance s.table.blocks c.args.pe = subst (λ (z : State). IsNearest z.rank z.distance z.table.blocks c.args.pe) v c.requires.nearest in
-    let unheld : slice_index_or s.holders c.args.pe None ≡ None = subst (λ (z : State). slice_index_or z.holders c.args.pe None ≡ None) v c.requires.free in
     let reach : c.index-reach.result.now ≡ slice_index s.distance c.args.pe = get_or_read s.distance c.args.pe c.index-reach.result.now (omega (arith, near.inside, sized.distance_length)) c.index-reach.ensures 0 in
     let short : slice_index s.distance c.args.pe ≤ 2 ^ 37 = distance_small c.args.rank s sized.is_table matched tree unnamed c.args.pe near.inside in
-    let w : take c.self.inside.paid.len (c.raise_paid.new.paid ++ drop (length c.raise_paid.new.paid) c.self.inside.paid.items) ≡ c.raise_paid.new.paid = written _ _ _ (omega arith) in
+    let w : take c.self.inside.paid.len (c.raise_paid.new.paid ++ drop (length c.raise_paid.new.paid) c.self.inside.paid.items) ≡ c.raise_paid.new.paid = written _ _ _ (omega (arith, c.raise_paid.auto.paid, c.deref_mut.ensures.len)) in
     let counted : length c.raise_paid.new.paid ≡ s.table.blocks = omega (arith, sized.paid_length) in
     let firsts : length (take s.named s.names) ≡ s.named = omega (arith, length-take s.named s.names, sized.names_length, unnamed) in
     let others : (b : ℕ) → s.named ≤ b → slice_index c.raise_paid.new.paid b ≡ slice_index s.paid b = λ b past. (let h = rw (c.deref.ensures.value, c.deref_mut.ensures.value) at c.raise_paid.ensures.others in h b (omega (arith, past, firsts))) in
@@ -48,7 +46,6 @@ raise_rebates-requires-clause-small g c =
     let unnamed : s.named < s.table.blocks = subst (λ (z : State). z.named < z.table.blocks) v c.requires.unnamed in
     let tree : IsTree c.args.rank s = subst (λ z. IsTree c.args.rank z) v c.requires.tree in
     let near : IsNearest s.rank s.distance s.table.blocks c.args.pe = subst (λ (z : State). IsNearest z.rank z.distance z.table.blocks c.args.pe) v c.requires.nearest in
-    let unheld : slice_index_or s.holders c.args.pe None ≡ None = subst (λ (z : State). slice_index_or z.holders c.args.pe None ≡ None) v c.requires.free in
     let reach : c.index-reach.result.now ≡ slice_index s.distance c.args.pe = get_or_read s.distance c.args.pe c.index-reach.result.now (omega (arith, near.inside, sized.distance_length)) c.index-reach.ensures 0 in
     let short : slice_index s.distance c.args.pe ≤ 2 ^ 37 = distance_small c.args.rank s sized.is_table matched tree unnamed c.args.pe near.inside in
     rw c.deref_mut-2.ensures.value (λ p inside. omega (arith, reach, short, inside, sized.rebate_length, rebate_small s sized.is_table matched unnamed p (omega (arith, inside, sized.rebate_length))))
@@ -59,14 +56,11 @@ repriced g c =
     let s : State = record { table = c.self.inside.table.now; named = c.self.inside.named; names = c.self.inside.names.items; holders = c.self.inside.holders.items; paid = c.self.inside.paid.items; rebate = c.self.inside.rebate.items; rank = c.self.inside.rank.items; distance = c.self.inside.distance.items; from = c.self.inside.from.items } in
     let v : c.args.self.now ≡ s = sym c.self.view_is in
     let sized : IsSized s = subst (λ z. IsSized z) v c.requires.sized in
-    let matched : IsMatched s = subst (λ z. IsMatched z) v c.requires.matched in
     let unnamed : s.named < s.table.blocks = subst (λ (z : State). z.named < z.table.blocks) v c.requires.unnamed in
-    let tree : IsTree c.args.rank s = subst (λ z. IsTree c.args.rank z) v c.requires.tree in
     let near : IsNearest s.rank s.distance s.table.blocks c.args.pe = subst (λ (z : State). IsNearest z.rank z.distance z.table.blocks c.args.pe) v c.requires.nearest in
     let unheld : slice_index_or s.holders c.args.pe None ≡ None = subst (λ (z : State). slice_index_or z.holders c.args.pe None ≡ None) v c.requires.free in
     let reach : c.index-reach.result.now ≡ slice_index s.distance c.args.pe = get_or_read s.distance c.args.pe c.index-reach.result.now (omega (arith, near.inside, sized.distance_length)) c.index-reach.ensures 0 in
-    let short : slice_index s.distance c.args.pe ≤ 2 ^ 37 = distance_small c.args.rank s sized.is_table matched tree unnamed c.args.pe near.inside in
-    let w : take c.self.inside.paid.len (c.raise_paid.new.paid ++ drop (length c.raise_paid.new.paid) c.self.inside.paid.items) ≡ c.raise_paid.new.paid = written _ _ _ (omega arith) in
+    let w : take c.self.inside.paid.len (c.raise_paid.new.paid ++ drop (length c.raise_paid.new.paid) c.self.inside.paid.items) ≡ c.raise_paid.new.paid = written _ _ _ (omega (arith, c.raise_paid.auto.paid, c.deref_mut.ensures.len)) in
     let counted : length c.raise_paid.new.paid ≡ s.table.blocks = omega (arith, sized.paid_length) in
     let firsts : length (take s.named s.names) ≡ s.named = omega (arith, length-take s.named s.names, sized.names_length, unnamed) in
     let others : (b : ℕ) → s.named ≤ b → slice_index c.raise_paid.new.paid b ≡ slice_index s.paid b = λ b past. (let h = rw (c.deref.ensures.value, c.deref_mut.ensures.value) at c.raise_paid.ensures.others in h b (omega (arith, past, firsts))) in
@@ -92,10 +86,9 @@ returns-clause-matched g c =
     let v : c.args.self.now ≡ s = sym c.self.view_is in
     let sized : IsSized s = subst (λ z. IsSized z) v c.requires.sized in
     let matched : IsMatched s = subst (λ z. IsMatched z) v c.requires.matched in
-    let unnamed : s.named < s.table.blocks = subst (λ (z : State). z.named < z.table.blocks) v c.requires.unnamed in
     let tree : IsTree c.args.rank s = subst (λ z. IsTree c.args.rank z) v c.requires.tree in
-    let w : take c.self.inside.paid.len (c.raise_paid.new.paid ++ drop (length c.raise_paid.new.paid) c.self.inside.paid.items) ≡ c.raise_paid.new.paid = written _ _ _ (omega arith) in
-    let w2 : take c.self.inside.rebate.len (c.raise_rebates.new.rebate ++ drop (length c.raise_rebates.new.rebate) c.self.inside.rebate.items) ≡ c.raise_rebates.new.rebate = written _ _ _ (omega arith) in
+    let w : take c.self.inside.paid.len (c.raise_paid.new.paid ++ drop (length c.raise_paid.new.paid) c.self.inside.paid.items) ≡ c.raise_paid.new.paid = written _ _ _ (omega (arith, c.raise_paid.auto.paid, c.deref_mut.ensures.len)) in
+    let w2 : take c.self.inside.rebate.len (c.raise_rebates.new.rebate ++ drop (length c.raise_rebates.new.rebate) c.self.inside.rebate.items) ≡ c.raise_rebates.new.rebate = written _ _ _ (omega (arith, c.raise_rebates.auto.rebate, c.deref_mut-2.ensures.len)) in
     rw (w, w2) (repriced_matched c.args.rank s c.args.pe (set c.raise_paid.new.paid s.named (c.index_mut-2.result.now + c.index-reach.result.now)) c.raise_rebates.new.rebate sized matched tree (repriced g c))
 
 pub returns-clause-path : goal.returns-clause-path
@@ -104,8 +97,7 @@ returns-clause-path g c =
     let v : c.args.self.now ≡ s = sym c.self.view_is in
     let sized : IsSized s = subst (λ z. IsSized z) v c.requires.sized in
     let matched : IsMatched s = subst (λ z. IsMatched z) v c.requires.matched in
-    let unnamed : s.named < s.table.blocks = subst (λ (z : State). z.named < z.table.blocks) v c.requires.unnamed in
     let tree : IsTree c.args.rank s = subst (λ z. IsTree c.args.rank z) v c.requires.tree in
-    let w : take c.self.inside.paid.len (c.raise_paid.new.paid ++ drop (length c.raise_paid.new.paid) c.self.inside.paid.items) ≡ c.raise_paid.new.paid = written _ _ _ (omega arith) in
-    let w2 : take c.self.inside.rebate.len (c.raise_rebates.new.rebate ++ drop (length c.raise_rebates.new.rebate) c.self.inside.rebate.items) ≡ c.raise_rebates.new.rebate = written _ _ _ (omega arith) in
+    let w : take c.self.inside.paid.len (c.raise_paid.new.paid ++ drop (length c.raise_paid.new.paid) c.self.inside.paid.items) ≡ c.raise_paid.new.paid = written _ _ _ (omega (arith, c.raise_paid.auto.paid, c.deref_mut.ensures.len)) in
+    let w2 : take c.self.inside.rebate.len (c.raise_rebates.new.rebate ++ drop (length c.raise_rebates.new.rebate) c.self.inside.rebate.items) ≡ c.raise_rebates.new.rebate = written _ _ _ (omega (arith, c.raise_rebates.auto.rebate, c.deref_mut-2.ensures.len)) in
     rw (w, w2) (repriced_path c.args.rank s c.args.pe (set c.raise_paid.new.paid s.named (c.index_mut-2.result.now + c.index-reach.result.now)) c.raise_rebates.new.rebate sized matched tree (repriced g c))

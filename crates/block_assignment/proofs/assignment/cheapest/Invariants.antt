@@ -1,6 +1,6 @@
 use Rattle.std.proofs.Common.{◌≡◌}
 use Rattle.block_assignment.specs.Search.{IsSized, IsMatched, IsSmall}
-use Rattle.block_assignment.proofs.assignment.name_blocks.Given as goal
+use Rattle.block_assignment.proofs.assignment.cheapest.Given as goal
 
 abbrev pub invariant-loop : goal.invariant-loop
 invariant-loop g l =
