@@ -35,7 +35,7 @@ pub fn check<A: Allocator, B: Allocator>(
 }
 
 // The same for the loads and the sizes of a snapshot.
-#[tactic(auto, using(crate::proofs::RightDecisions::least_from_right, crate::proofs::RightDecisions::cheapest_from_right, crate::proofs::RightDecisions::named_from_right, crate::proofs::RightDecisions::place_from_right))]
+#[tactic(auto, using(crate::proofs::RightDecisions::named_from_right))]
 fn check_parts<A: Allocator, B: Allocator>(
     loads: &Loads<A>,
     sizes: &Sizes<A>,

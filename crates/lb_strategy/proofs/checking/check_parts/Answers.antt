@@ -1,6 +1,5 @@
 use Rattle.std.proofs.Common.{◌≡◌, true, false, Result, Ok, Err, IsOk, IsErr, refl, inl, inr, rules}
-use Rattle.lb_strategy.specs.Decisions.{IsRight}
-use Rattle.lb_strategy.proofs.RightDecisions.{place_from_right}
+use Rattle.lb_strategy.proofs.RightDecisions.{cheapest_from_right, least_from_right, place_from_right}
 use Rattle.lb_strategy.proofs.checking.check_parts.Goals as goal
 
 not_both : {A B : Type 0} (r : Result A B) → IsOk r → IsErr r → ⊥
@@ -13,15 +12,28 @@ returns-in_err-moved-clause-exact g c = (
   λ right. let bad : false ≡ true = c.in_err-moved.ensures.exact.1 right.named in cc,
 )
 
+pub returns-clause-exact : goal.returns-clause-exact
+returns-clause-exact g c = (
+  λ ok. record {
+    division = c.in_ok-check_division.ensures.exact.0 refl;
+    named = c.in_ok-moved.ensures.exact.0 refl;
+    moved = search rules;
+    moves = search rules;
+  },
+  λ right. refl,
+)
+
+pub returns-clause-least : goal.returns-clause-least
+returns-clause-least g c =
+    least_from_right c.args.loads.now c.args.sizes.now c.args.pes c.args.decision.now ((returns-clause-exact g c).0 refl)
+
+pub returns-clause-cheapest : goal.returns-clause-cheapest
+returns-clause-cheapest g c =
+    cheapest_from_right c.args.loads.now c.args.sizes.now c.args.pes c.args.decision.now ((returns-clause-exact g c).0 refl)
+
 pub returns-clause-places : goal.returns-clause-places
 returns-clause-places g c =
-    let right : IsRight c.args.loads.now c.args.sizes.now c.args.pes c.args.decision.now = record {
-      division = c.in_ok-check_division.ensures.exact.0 refl;
-      named = c.in_ok-moved.ensures.exact.0 refl;
-      moved = search rules;
-      moves = search rules;
-    } in
-    place_from_right c.args.loads.now c.args.sizes.now c.args.pes c.args.decision.now right
+    place_from_right c.args.loads.now c.args.sizes.now c.args.pes c.args.decision.now ((returns-clause-exact g c).0 refl)
 
 pub returns-then-moved-decision-clause-first_flaw : goal.returns-then-moved-decision-clause-first_flaw
 returns-then-moved-decision-clause-first_flaw g c =
