@@ -1,8 +1,9 @@
 -- A dump that comes from a reader, piece by piece.
-use Rattle.std.proofs.Common.{◌≡◌, ℕ, ◌⊎◌, inl, inr, List, [], ◌++◌, Option, Some, None, Result, Ok, Err, sym, subst}
+use Rattle.std.proofs.Common.{◌≡◌, ℕ, ◌⊎◌, inl, inr, List, [], ◌++◌, Option, Some, None, Result, Ok, Err, ap, ◌∙◌, sym, subst}
 use Rattle.std.specs.Prelude.{IfErr, IfSome, ⊤}
-use Rattle.std.specs.Io.KnownBytes.{Consumes}
+use Rattle.std.specs.Io.KnownBytes.{Consumes, IsAtEnd}
 use Rattle.std.proofs.KnownBytes.{Consumes-trans}
+use Rattle.std.proofs.lemmas.List.{append-nil}
 use Rattle.lb_snapshot.specs.Measured.{Taken}
 use Rattle.lb_dump.specs.declared.error.DumpError.{DumpError}
 use Rattle.lb_dump.specs.declared.error.DumpError.TheVariants.{Magic, Short, Procs, Count, Size, Place, Trailing, Read, Write, OutOfMemory}
@@ -63,3 +64,17 @@ fed text piece dump new is_text step = (subst (λ (p : Progress). Feeds p piece 
 pub answer_at_end : (text : List ℕ) (result : Result Taken DumpError) → EndsText text result → IsAnswer text result
 answer_at_end text (Ok s) ends = ends
 answer_at_end text (Err e) ends = inr ends
+
+-- the fault of all bytes is an answer to them, unless the reader failed
+pub fault_answers : (old : Option (List ℕ)) (e : DumpError) → IfSome old (λ bytes. (e ≡ Read) ⊎ ((e ≡ OutOfMemory) ⊎ IsFault bytes e)) → IfSome old (λ bytes. (◌≡◌ {A = Result Taken DumpError} (Err e) (Err Read)) ⊎ IsAnswer bytes (Err e))
+fault_answers None e fault = tt
+fault_answers (Some bytes) e (inl failed) = inl (ap Err failed)
+fault_answers (Some bytes) e (inr fault) = inr fault
+
+-- the answer at the end of the text is one to all bytes, where the text is all that the reader had
+pub all_answered : (old new : Option (List ℕ)) (text : List ℕ) (result : Result Taken DumpError) → Consumes old new text → IsAtEnd new → EndsText text result → IfSome old (λ bytes. (result ≡ Err Read) ⊎ IsAnswer bytes result)
+all_answered None new text result came end ends = tt
+all_answered (Some bytes) None text result came end ends = absurd came
+all_answered (Some bytes) (Some rest) text result came end ends =
+    let all : bytes ≡ text = came ∙ ap (λ r. text ++ r) end ∙ append-nil text in
+    inr (subst (λ t. IsAnswer t result) (sym all) (answer_at_end text result ends))

@@ -49,14 +49,28 @@ pub fn read_from<R: Read, A: Allocator + Copy>(
     ensures at_end { OnOk result (IsAtEnd (R.remaining reader.new)) }
     ensures failed { IsErrOf result DumpError.Read → (text : List ℕ) × Consumes (R.remaining reader.old) (R.remaining reader.new) text × IsGood text }
 {
-    let mut piece = Vec::new(alloc);
-    piece.resize(PIECE_LEN, 0)?;
     let mut dump = DumpReader::new(alloc);
-    feed_from(&mut dump, reader, &mut piece)?;
+    feed_all(alloc, &mut dump, reader)?;
     dump.end()
 }
 
-// Feeds `dump`, which has no bytes yet, all that `reader` gives to its end. `piece` is room for the bytes of one call.
+// Feeds `dump`, which has no bytes yet, all that `reader` gives to its end.
+fn feed_all<R: Read, A: Allocator + Copy>(
+    alloc: A,
+    dump: &mut DumpReader<A>,
+    reader: &mut R,
+) -> Result<(), DumpError>
+    requires { dump.old ≡ Ok [] }
+    ensures ended { OnOk result ((text : List ℕ) × (dump.new ≡ Ok text) × Consumes (R.remaining reader.old) (R.remaining reader.new) text × IsAtEnd (R.remaining reader.new)) }
+    ensures fault { IfErr result (λ e. IfSome (R.remaining reader.old) (λ bytes. (e ≡ DumpError.Read) ⊎ ((e ≡ DumpError.OutOfMemory) ⊎ IsFault bytes e))) }
+    ensures failed { IfErr result (λ e. e ≡ DumpError.Read → (text : List ℕ) × Consumes (R.remaining reader.old) (R.remaining reader.new) text × IsGood text) }
+{
+    let mut piece = Vec::new(alloc);
+    piece.resize(PIECE_LEN, 0)?;
+    feed_from(dump, reader, &mut piece)
+}
+
+// The same, with `piece` as the room for the bytes of one call.
 fn feed_from<R: Read, A: Allocator>(
     dump: &mut DumpReader<A>,
     reader: &mut R,

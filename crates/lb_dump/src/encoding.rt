@@ -1,4 +1,4 @@
-ghost use Rattle.std.specs.Prelude.{◌≡◌, ◌<◌, ◌≤◌, ℕ, length, slice_index, slice_get, Some, IfOk};
+ghost use Rattle.std.specs.Prelude.{◌≡◌, ◌<◌, ◌≤◌, ℕ, length, slice_index, slice_get, Some, IfOk, OnOk, []};
 ghost use Rattle.lb_dump.specs.Format.{IsSnapshot, IsText, IsBytes, letters, word, step_at, procs_at, count_at, load_at, size_at, place_at};
 ghost use Rattle.lb_dump.specs.Internal.{IsPrefix};
 
@@ -71,18 +71,30 @@ pub(crate) fn element_at(loads: &[Units], sizes: &[(u32, Pe)], i: usize) -> [u8;
 /// # Errors
 ///
 /// Out of memory.
-#[tactic(auto, using(crate::proofs::Spelling::whole_text))]
 pub fn encode<A: Allocator, B: Allocator>(
     alloc: A,
     snapshot: &Snapshot<B>,
 ) -> Result<Vec<u8, A>, AllocError>
     ensures text { IfOk result (λ text. IsText snapshot.now text.items) }
 {
+    let count = snapshot.loads().len();
+    let mut text = Vec::with_capacity(alloc, HEAD_LEN + ELEMENT_LEN * count)?;
+    push_text(&mut text, snapshot)?;
+    Ok(text)
+}
+
+// Puts the text of a snapshot into a list that is empty.
+fn push_text<A: Allocator, B: Allocator>(
+    text: &mut Vec<u8, A>,
+    snapshot: &Snapshot<B>,
+) -> Result<(), AllocError>
+    requires { text.old.items ≡ [] }
+    ensures { OnOk result (IsText snapshot.now text.new.items) }
+{
     let (loads, sizes) = elements_of(snapshot);
-    let mut text = Vec::with_capacity(alloc, HEAD_LEN + ELEMENT_LEN * loads.len())?;
     text.extend_from_slice(&head_of(snapshot))?;
     for i in 0..loads.len() {
         text.extend_from_slice(&element_at(loads, sizes, i))?;
     }
-    Ok(text)
+    Ok(())
 }

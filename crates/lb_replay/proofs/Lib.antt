@@ -4,3 +4,4 @@ pub mod OneTexts
 pub mod PeLines
 pub mod RightTexts
 pub mod Sends
+pub mod Turned

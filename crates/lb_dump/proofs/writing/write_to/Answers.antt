@@ -3,7 +3,7 @@ use Rattle.std.proofs.lemmas.Result.{err_from_is_err_and}
 use Rattle.std.proofs.KnownBytes.{Appends-trans}
 use Rattle.lb_dump.specs.Format.{element_len}
 use Rattle.lb_dump.specs.Internal.{IsPrefix, IsRun}
-use Rattle.lb_dump.proofs.Spelling.{joined, head_in_part, block_in_part}
+use Rattle.lb_dump.proofs.Spelling.{joined, head_in_part, block_in_part, whole_text}
 use Rattle.lb_dump.proofs.writing.write_to.Goals as goal
 
 pub returns-in_err-put : goal.returns-in_err-put
@@ -30,3 +30,8 @@ loop-first-preserved g c =
     let block = take (element_len * count) c.fill.new.block in
     let run : IsRun s.loads s.sizes c.loop-first.first count block = rw (c.elements_of.ensures.loads, c.elements_of.ensures.sizes) at c.fill.ensures in
     (before.0 ++ block, subst (λ n. IsPrefix s n (before.0 ++ block)) (omega arith) (joined s c.loop-first.first count before.0 block before.1 run), Appends-trans _ _ _ before.0 block before.2 c.in_ok-put-2.ensures, omega arith)
+
+pub returns : goal.returns
+returns g c =
+    let before = c.loop-first.invariant in
+    record { written = (before.0, whole_text c.args.snapshot.now c.loop-first.first before.0 c.elements_of.ensures.snapshot (omega (arith, ap length c.elements_of.ensures.loads, before.3)) before.1, before.2) }
