@@ -2,14 +2,28 @@
 //! division for each flaw.
 
 use crate::fixtures::{
-    FORGED_DIVISIONS, ForgedDivision, fenced, full_loads, list, loads, pairs, pe, sizes, unfenced,
+    FORGED_DIVISIONS, ForgedDivision, assert_for, fenced, full_loads, is_list, list, loads, pairs,
+    pe, push, same, sizes, unfenced,
 };
 use crate::reference;
 use chare_index::{Limits, Pe};
-use lb_certificates::{Cuts, Flaw, Loads, Sizes, Snapshot, Stops, Units, check_division};
+use lb_certificates::{Cuts, Division, Flaw, Loads, Sizes, Snapshot, Stops, Units, check_division};
 use std::process::Abort;
 
-// What the check says of a division with a fence.
+// What the check says of this division.
+fn judged(
+    rt: &(impl Abort + AllocGlobal),
+    units: &[Units],
+    pes: u32,
+    division: &Division,
+) -> Result<(), Flaw> {
+    let loads = loads(rt, units);
+    let found = check_division(&loads, pes, division);
+    drop(loads);
+    found
+}
+
+// What it says of one with a fence.
 fn verdict(
     rt: &(impl Abort + AllocGlobal),
     units: &[Units],
@@ -18,7 +32,9 @@ fn verdict(
     parts: (&[u32], &[u32]),
 ) -> Result<(), Flaw> {
     let division = fenced(rt, bottleneck, parts.0, parts.1);
-    check_division(&loads(rt, units), pes, &division)
+    let found = judged(rt, units, pes, &division);
+    drop(division);
+    found
 }
 
 // What it says of one with the floor zero.
@@ -30,7 +46,9 @@ fn verdict_unfenced(
     cuts: &[u32],
 ) -> Result<(), Flaw> {
     let division = unfenced(rt, bottleneck, cuts);
-    check_division(&loads(rt, units), pes, &division)
+    let found = judged(rt, units, pes, &division);
+    drop(division);
+    found
 }
 
 // Whether a forged division of the example has its flaw.
@@ -42,14 +60,14 @@ fn is_found(rt: &(impl Abort + AllocGlobal), forged: &ForgedDivision) -> bool {
 #[test]
 fn each_forged_division_has_its_flaw(rt: HostRuntime) {
     for forged in &FORGED_DIVISIONS {
-        assert!(rt; is_found(&rt, forged), "{forged:?}");
+        assert_for(&rt, is_found(&rt, forged), forged);
     }
 }
 
 #[test]
 fn a_floor_of_zero_for_a_bottleneck_above_0_has_its_flaw(rt: HostRuntime) {
     let found = verdict_unfenced(&rt, &[1, 1, 2], 2, 2, &[0, 2, 3]);
-    assert_eq!(rt; found, Err(Flaw::ZeroFloor));
+    assert_for(&rt, found == Err(Flaw::ZeroFloor), found);
 }
 
 // What it says of two blocks of five elements, for so many PEs and with this bottleneck.
@@ -72,7 +90,7 @@ fn any_number_of_pes_may_be_asked_for(rt: HostRuntime) {
         (u32::MAX, Err(Flaw::CutCount)),
     ];
     for &(pes, expected) in &ROWS {
-        assert!(rt; halves(&rt, pes, 9) == expected, "{pes} PEs");
+        assert_for(&rt, halves(&rt, pes, 9) == expected, ("PEs", pes));
     }
 }
 
@@ -84,10 +102,7 @@ fn any_bottleneck_may_be_claimed(rt: HostRuntime) {
         (u64::MAX, Err(Flaw::FenceLight(1))),
     ];
     for &(bottleneck, expected) in &ROWS {
-        assert!(rt;
-            halves(&rt, 2, bottleneck) == expected,
-            "bottleneck {bottleneck}"
-        );
+        assert_for(&rt, halves(&rt, 2, bottleneck) == expected, bottleneck);
     }
 }
 
@@ -107,23 +122,23 @@ fn a_bottleneck_of_0_needs_no_fence(rt: HostRuntime) {
         (&[0, 0, 0], 0, &[0], Err(Flaw::CutEnd)),
     ];
     for row in &ROWS {
-        assert!(rt; is_judged_so(&rt, row), "{row:?}");
+        assert_for(&rt, is_judged_so(&rt, row), row);
     }
 }
 
 #[test]
 fn a_bottleneck_of_0_may_have_a_fence(rt: HostRuntime) {
     let three = verdict(&rt, &[0, 0, 0], 2, 0, (&[0, 3, 3], &[0, 0, 2]));
-    assert!(rt; three == Ok(()), "three elements");
+    assert_for(&rt, three == Ok(()), "three elements");
     let none = verdict(&rt, &[], 1, 0, (&[0, 0], &[0, 0]));
-    assert!(rt; none == Err(Flaw::FenceEnd), "no elements");
+    assert_for(&rt, none == Err(Flaw::FenceEnd), "no elements");
 }
 
 // These numbers, and then the last one as often as it takes to have 301 of them.
 fn continued(rt: &(impl Abort + AllocGlobal), start: &[u32], last: u32) -> Vec<u32> {
     let mut numbers = list(rt, start);
     for _ in start.len()..301 {
-        numbers.push(last).expect(rt, "out of memory");
+        push(rt, &mut numbers, last);
     }
     numbers
 }
@@ -133,27 +148,38 @@ fn more_blocks_than_a_machine_has_pes(rt: HostRuntime) {
     let cuts = continued(&rt, &[0, 1], 2);
     let stops = continued(&rt, &[0], 1);
     let found = verdict(&rt, &[5, 7], 300, 7, (&cuts, &stops));
-    assert_eq!(rt; found, Ok(()));
+    drop(stops);
+    drop(cuts);
+    assert_for(&rt, found == Ok(()), found);
 }
 
 #[test]
 fn a_full_array_of_full_loads(rt: HostRuntime) {
-    let full = full_loads(&rt);
-    assert!(rt; full.len() == 65_536);
+    let full = full_loads(&rt, 4_294_967_295);
     let division = fenced(&rt, 281_474_976_645_120, &[0, 65_536], &[0, 65_535]);
-    assert!(rt; check_division(&full, 1, &division).is_ok());
+    assert_for(&rt, full.len() == 65_536, "length");
+    assert_for(&rt, check_division(&full, 1, &division).is_ok(), "division");
+    drop(division);
+    drop(full);
 }
 
 // Whether there may be one load more than these.
 fn takes_one_more(rt: &(impl Abort + AllocGlobal), loads: Loads) -> bool {
     let mut units = loads.into_vec();
-    units.push(0).expect(rt, "out of memory");
-    Loads::new(units).is_some()
+    push(rt, &mut units, 0);
+    let taken = Loads::new(units);
+    let found = taken.is_some();
+    drop(taken);
+    found
 }
 
 #[test]
 fn a_full_array_takes_no_other_load(rt: HostRuntime) {
-    assert!(rt; !takes_one_more(&rt, full_loads(&rt)));
+    assert_for(
+        &rt,
+        !takes_one_more(&rt, full_loads(&rt, 4_294_967_295)),
+        "one load more",
+    );
 }
 
 // The snapshot of these loads and sizes at step 5, where they make one.
@@ -173,19 +199,22 @@ fn is_example(snapshot: &Snapshot, pairs: &[(u32, Pe)]) -> bool {
     let loads = snapshot.loads();
     snapshot.step() == 5
         && snapshot.procs() == 2
-        && loads.as_slice() == [1, 1, 2].as_slice()
+        && same(loads.as_slice(), &[1, 1, 2])
         && !loads.is_empty()
         && loads.len() == 3
         && loads.load(1, 3) == 3
         && !snapshot.sizes().is_empty()
-        && snapshot.sizes().as_slice() == pairs
+        && same(snapshot.sizes().as_slice(), pairs)
 }
 
 #[test]
 fn the_example_is_a_snapshot(rt: HostRuntime) {
     let placed = [(10, 0), (9, 1), (8, 0)];
     let snapshot = taken(&rt, 2, &[1, 1, 2], &placed).expect(&rt, "refused the example");
-    assert!(rt; is_example(&snapshot, &pairs(&rt, &placed)));
+    let pairs = pairs(&rt, &placed);
+    assert_for(&rt, is_example(&snapshot, &pairs), "not the example");
+    drop(pairs);
+    drop(snapshot);
 }
 
 // A number of PEs, loads, sizes, and whether these make a snapshot.
@@ -193,12 +222,15 @@ type Taken = (u32, &'static [Units], &'static [(u32, u32)], bool);
 
 fn is_made_so(rt: &(impl Abort + AllocGlobal), row: &Taken) -> bool {
     let &(procs, units, placed, made) = row;
-    taken(rt, procs, units, placed).is_some() == made
+    let taken = taken(rt, procs, units, placed);
+    let found = taken.is_some();
+    drop(taken);
+    found == made
 }
 
 #[test]
 fn a_snapshot_within_its_limits(rt: HostRuntime) {
-    const ROWS: [Taken; 6] = [
+    static ROWS: [Taken; 6] = [
         (0, &[], &[], false),
         (1, &[], &[], true),
         (256, &[], &[], true),
@@ -207,42 +239,61 @@ fn a_snapshot_within_its_limits(rt: HostRuntime) {
         (1, &[1, 1, 2], &[(10, 0), (9, 1), (8, 0)], false),
     ];
     for row in &ROWS {
-        assert!(rt; is_made_so(&rt, row), "{row:?}");
+        assert_for(&rt, is_made_so(&rt, row), row);
     }
 }
 
-// Whether there may be sizes of so many elements, all without bytes.
-fn are_sizes(rt: &(impl Abort + AllocGlobal), elements: usize) -> bool {
-    let pairs = vec![in rt.alloc(); (0, pe(rt, 0)); elements].expect(rt, "out of memory");
-    Sizes::new(pairs).is_some()
+// How many sizes come back.
+fn count_of(sizes: Sizes) -> usize {
+    let pairs = sizes.into_vec();
+    let count = pairs.len();
+    drop(pairs);
+    count
+}
+
+// Whether there may be these sizes.
+fn are_sizes(pairs: Vec<(u32, Pe)>) -> bool {
+    let sizes = Sizes::new(pairs);
+    let found = sizes.is_some();
+    drop(sizes);
+    found
+}
+
+// So many elements, all without bytes.
+fn without_bytes(rt: &(impl Abort + AllocGlobal), elements: usize) -> Vec<(u32, Pe)> {
+    vec![in rt.alloc(); (0, pe(rt, 0)); elements].expect(rt, "out of memory")
 }
 
 #[test]
 fn sizes_within_their_limits(rt: HostRuntime) {
     let largest = sizes(&rt, &[(1_048_576, 255)]);
-    assert!(rt; largest.into_vec().len() == 1);
-    let larger = Sizes::new(pairs(&rt, &[(1_048_577, 0)]));
-    assert!(rt; larger.is_none(), "one byte too many");
-    let too_many = Limits::ELEMENTS as usize + 1;
-    assert!(rt; !are_sizes(&rt, too_many), "one element too many");
+    assert_for(&rt, count_of(largest) == 1, "as many bytes as there may be");
+    let larger = pairs(&rt, &[(1_048_577, 0)]);
+    assert_for(&rt, !are_sizes(larger), "one byte too many");
+    let too_many = without_bytes(&rt, Limits::ELEMENTS as usize + 1);
+    assert_for(&rt, !are_sizes(too_many), "one element too many");
 }
 
 // Whether these cuts are seen, and come back.
 fn cuts_come_back(rt: &(impl Abort + AllocGlobal), ends: &[u32]) -> bool {
     let cuts = Cuts::new(list(rt, ends));
-    cuts.as_slice() == ends && cuts.into_vec().as_slice() == ends
+    let seen = same(cuts.as_slice(), ends);
+    let back = is_list(cuts.into_vec(), ends);
+    seen && back
 }
 
 // Whether these stops do.
 fn stops_come_back(rt: &(impl Abort + AllocGlobal), ends: &[u32]) -> bool {
     let stops = Stops::new(list(rt, ends));
-    stops.as_slice() == ends && stops.into_vec().as_slice() == ends
+    let seen = same(stops.as_slice(), ends);
+    let back = is_list(stops.into_vec(), ends);
+    seen && back
 }
 
 #[test]
 fn lists_come_back(rt: HostRuntime) {
-    assert!(rt; cuts_come_back(&rt, &[0, 3, 5]));
-    assert!(rt; stops_come_back(&rt, &[0, 3, 4]));
+    assert_for(&rt, cuts_come_back(&rt, &[0, 3, 5]), "cuts");
+    assert_for(&rt, stops_come_back(&rt, &[0, 3, 4]), "stops");
 }
 
 // Loads, a number of PEs, and the least bottleneck of all divisions.
@@ -250,7 +301,10 @@ type Least = (&'static [Units], u32, Option<u64>);
 
 fn is_least(rt: &(impl Abort + AllocGlobal), row: &Least) -> bool {
     let &(units, pes, least) = row;
-    reference::least_peak(&loads(rt, units), pes) == least
+    let loads = loads(rt, units);
+    let found = reference::least_peak(&loads, pes);
+    drop(loads);
+    found == least
 }
 
 #[test]
@@ -265,6 +319,6 @@ fn the_reference_tries_every_division(rt: HostRuntime) {
         (&[5, 7], 4, Some(7)),
     ];
     for row in &ROWS {
-        assert!(rt; is_least(&rt, row), "{row:?}");
+        assert_for(&rt, is_least(&rt, row), row);
     }
 }

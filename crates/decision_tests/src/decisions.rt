@@ -3,28 +3,28 @@
 ghost use Rattle.std.specs.Prelude.{◌≤◌};
 
 use crate::fixtures::{
-    EXAMPLE, FORGED_DIVISIONS, ForgedDivision, MOVING, NAMING, decision, decision_with, division,
-    fenced, index, list, moves, naming, pe, snapshot, stops, unfenced,
+    EXAMPLE, FORGED_DIVISIONS, ForgedDivision, MOVING, NAMING, assert_for, decision, decision_with,
+    division, fenced, full_loads, index, moves, naming, pe, push, same, snapshot, stops, unfenced,
 };
 use block_assignment::NameError;
 use chare_index::{Index, Pe};
-use lb_certificates::{Division, Flaw, Loads, Naming, Sizes, Snapshot};
+use lb_certificates::{Division, Flaw, Naming, Sizes, Snapshot};
 use lb_strategy::{Decision, Moves, PlanError, check, plan};
 use std::process::Abort;
 
-// What the check says of this decision on the example.
-fn judged(rt: &(impl Abort + AllocGlobal), decision: &Decision) -> Result<(), Flaw> {
-    check(&snapshot(rt, 2, &EXAMPLE), 2, decision)
-}
-
-// What it says of the decision with these parts.
+// What the check says of the decision with these parts on the example.
 fn verdict(
     rt: &(impl Abort + AllocGlobal),
     division: Division,
     names: (&[u32], &[i64], &[i64]),
     moving: (u64, &[(u32, u32, u32)]),
 ) -> Result<(), Flaw> {
-    judged(rt, &decision_with(rt, division, names, moving))
+    let decision = decision_with(rt, division, names, moving);
+    let example = snapshot(rt, 2, &EXAMPLE);
+    let found = check(&example, 2, &decision);
+    drop(example);
+    drop(decision);
+    found
 }
 
 // Whether the example decision with a forged division has the division's flaw.
@@ -36,14 +36,15 @@ fn is_division_found(rt: &(impl Abort + AllocGlobal), forged: &ForgedDivision) -
 #[test]
 fn each_forged_division_has_its_flaw(rt: HostRuntime) {
     for forged in &FORGED_DIVISIONS {
-        assert!(rt; is_division_found(&rt, forged), "{forged:?}");
+        assert_for(&rt, is_division_found(&rt, forged), forged);
     }
 }
 
 #[test]
 fn a_floor_of_zero_is_forged(rt: HostRuntime) {
     let forged = unfenced(&rt, 2, &[0, 2, 3]);
-    assert!(rt; verdict(&rt, forged, NAMING, MOVING) == Err(Flaw::ZeroFloor));
+    let found = verdict(&rt, forged, NAMING, MOVING);
+    assert_for(&rt, found == Err(Flaw::ZeroFloor), found);
 }
 
 // Names, prices of blocks and of PEs, and the flaw of the example decision with these.
@@ -69,7 +70,7 @@ fn each_forged_naming_has_its_flaw(rt: HostRuntime) {
         (&[0, 1], &[10, 1], &[-1, 0], Flaw::PriceGap),
     ];
     for forged in &FORGED {
-        assert!(rt; is_naming_found(&rt, forged), "{forged:?}");
+        assert_for(&rt, is_naming_found(&rt, forged), forged);
     }
 }
 
@@ -83,14 +84,14 @@ fn are_moves_found(rt: &(impl Abort + AllocGlobal), forged: &ForgedMoves) -> boo
 
 #[test]
 fn each_forged_list_of_moves_has_its_flaw(rt: HostRuntime) {
-    const FORGED: [ForgedMoves; 4] = [
+    static FORGED: [ForgedMoves; 4] = [
         (17, &[(0, 0, 1)], Flaw::MovedWrong),
         (10, &[], Flaw::MovesWrong),
         (10, &[(0, 0, 1), (1, 1, 0)], Flaw::MovesWrong),
         (10, &[(1, 1, 0)], Flaw::MovesWrong),
     ];
     for forged in &FORGED {
-        assert!(rt; are_moves_found(&rt, forged), "{forged:?}");
+        assert_for(&rt, are_moves_found(&rt, forged), forged);
     }
 }
 
@@ -105,7 +106,10 @@ fn place_by(example: &Snapshot, decision: &Decision, index: Index) -> Option<u32
 
 // Where an element of the example is to run by the decision on it.
 fn place_of(rt: &(impl Abort + AllocGlobal), example: &Snapshot, i: u32) -> Option<u32> {
-    place_by(example, &decision(rt), index(rt, i))
+    let decision = decision(rt);
+    let place = place_by(example, &decision, index(rt, i));
+    drop(decision);
+    place
 }
 
 #[test]
@@ -113,8 +117,13 @@ fn an_element_runs_where_its_block_does(rt: HostRuntime) {
     let example = snapshot(&rt, 2, &EXAMPLE);
     const PLACES: [(u32, u32); 3] = [(0, 1), (1, 1), (2, 0)];
     for &(i, planned) in &PLACES {
-        assert!(rt; place_of(&rt, &example, i) == Some(planned), "element {i}");
+        assert_for(
+            &rt,
+            place_of(&rt, &example, i) == Some(planned),
+            ("element", i),
+        );
     }
+    drop(example);
 }
 
 // What a decision is to say.
@@ -142,8 +151,8 @@ fn are_rows(moves: &[(Index, Pe, Pe)], rows: &[(u32, u32, u32)]) -> bool {
 
 fn says(decision: &Decision, row: Row<'_>) -> bool {
     decision.division.bottleneck == row.bottleneck
-        && decision.division.cuts.as_slice() == row.cuts
-        && decision.naming.as_slice() == row.names
+        && same(decision.division.cuts.as_slice(), row.cuts)
+        && same(decision.naming.as_slice(), row.names)
         && decision.moved == row.moved
         && are_rows(decision.moves.as_slice(), row.moves)
 }
@@ -167,14 +176,12 @@ fn plans(
     requires some_pe { 1 ≤ pes }
     requires few_pes { pes ≤ 4 }
 {
-    plans_on(rt, &snapshot(rt, procs, elements), pes, row)
-}
-
-fn plans_on(rt: &(impl Abort + AllocGlobal), taken: &Snapshot, pes: u32, row: Row<'_>) -> bool
-    requires some_pe { 1 ≤ pes }
-    requires few_pes { pes ≤ 4 }
-{
-    is_planned(taken, pes, &planned(rt, taken, pes), row)
+    let taken = snapshot(rt, procs, elements);
+    let decision = planned(rt, &taken, pes);
+    let found = is_planned(&taken, pes, &decision, row);
+    drop(decision);
+    drop(taken);
+    found
 }
 
 fn is_planned(taken: &Snapshot, pes: u32, decision: &Decision, row: Row<'_>) -> bool
@@ -195,7 +202,7 @@ fn the_examples_are_planned(rt: HostRuntime) {
         moved: 0,
         moves: &[],
     };
-    assert!(rt; plans(&rt, 2, &swapped, 2, row), "swapped");
+    assert_for(&rt, plans(&rt, 2, &swapped, 2, row), "swapped");
 }
 
 // Six elements on three PEs.
@@ -214,7 +221,10 @@ fn is_planned_with_stops(
     taken: &Snapshot,
     expected: &[u32],
 ) -> bool {
-    stops(&planned(rt, taken, 3).division) == expected
+    let decision = planned(rt, taken, 3);
+    let found = same(stops(&decision.division), expected);
+    drop(decision);
+    found
 }
 
 #[test]
@@ -226,13 +236,18 @@ fn six_elements_are_planned_for_three(rt: HostRuntime) {
         moved: 10,
         moves: &[(0, 0, 1), (3, 1, 0), (4, 1, 2)],
     };
-    assert!(rt; plans(&rt, 3, &SIX, 3, row), "six");
+    assert_for(&rt, plans(&rt, 3, &SIX, 3, row), "six");
 }
 
 #[test]
 fn six_elements_have_their_fence(rt: HostRuntime) {
     let six = snapshot(&rt, 3, &SIX);
-    assert!(rt; is_planned_with_stops(&rt, &six, &[0, 1, 2, 3]));
+    assert_for(
+        &rt,
+        is_planned_with_stops(&rt, &six, &[0, 1, 2, 3]),
+        "stops",
+    );
+    drop(six);
 }
 
 #[test]
@@ -244,7 +259,7 @@ fn the_example_is_planned_for_two_and_for_one(rt: HostRuntime) {
         moved: 10,
         moves: &[(0, 0, 1)],
     };
-    assert!(rt; plans(&rt, 2, &EXAMPLE, 2, row), "two PEs");
+    assert_for(&rt, plans(&rt, 2, &EXAMPLE, 2, row), "two PEs");
     let row = Row {
         bottleneck: 4,
         cuts: &[0, 3],
@@ -252,7 +267,7 @@ fn the_example_is_planned_for_two_and_for_one(rt: HostRuntime) {
         moved: 9,
         moves: &[(1, 1, 0)],
     };
-    assert!(rt; plans(&rt, 2, &EXAMPLE, 1, row), "one PE");
+    assert_for(&rt, plans(&rt, 2, &EXAMPLE, 1, row), "one PE");
 }
 
 #[test]
@@ -265,7 +280,7 @@ fn the_first_of_the_cheapest_namings_is_planned(rt: HostRuntime) {
         moved: 8,
         moves: &[(1, 0, 1)],
     };
-    assert!(rt; plans(&rt, 2, &two, 2, row), "two");
+    assert_for(&rt, plans(&rt, 2, &two, 2, row), "two");
     let four: [(u32, u32, u32); 2] = [(5, 8, 3), (7, 8, 3)];
     let row = Row {
         bottleneck: 7,
@@ -274,7 +289,7 @@ fn the_first_of_the_cheapest_namings_is_planned(rt: HostRuntime) {
         moved: 8,
         moves: &[(0, 3, 0)],
     };
-    assert!(rt; plans(&rt, 4, &four, 4, row), "four");
+    assert_for(&rt, plans(&rt, 4, &four, 4, row), "four");
 }
 
 // The decision with other names and other moves.
@@ -290,15 +305,19 @@ fn renamed(decision: Decision, naming: Naming, moves: Moves) -> Decision {
 
 // Whether the plan for two PEs is accepted with the names 1 and 0, where the first element moves.
 fn is_accepted_renamed(rt: &(impl Abort + AllocGlobal), taken: &Snapshot) -> bool {
-    let (naming, moves) = (naming(rt, &[1, 0]), moves(rt, &[(0, 0, 1)]));
+    let naming = naming(rt, &[1, 0]);
+    let moves = moves(rt, &[(0, 0, 1)]);
     let other = renamed(planned(rt, taken, 2), naming, moves);
-    check(taken, 2, &other).is_ok()
+    let accepted = check(taken, 2, &other).is_ok();
+    drop(other);
+    accepted
 }
 
 #[test]
 fn each_cheapest_naming_is_accepted(rt: HostRuntime) {
     let two = snapshot(&rt, 2, &[(1, 8, 0), (1, 8, 0)]);
-    assert!(rt; is_accepted_renamed(&rt, &two));
+    assert_for(&rt, is_accepted_renamed(&rt, &two), "refused");
+    drop(two);
 }
 
 #[test]
@@ -310,20 +329,23 @@ fn no_elements_are_planned(rt: HostRuntime) {
         moved: 0,
         moves: &[],
     };
-    assert!(rt; plans(&rt, 3, &[], 3, row), "no elements");
+    assert_for(&rt, plans(&rt, 3, &[], 3, row), "no elements");
 }
 
-// As many elements as there may be, with 8 bytes each, whose blocks of 256 stand each on the PE behind its own.
-fn full(rt: &(impl Abort + AllocGlobal)) -> Snapshot {
-    let mut units = Vec::new(rt.alloc());
+// As many sizes of 8 bytes as there may be, in blocks of 256 that stand each on the PE behind its own.
+fn full_sizes(rt: &(impl Abort + AllocGlobal)) -> Sizes {
     let mut pairs = Vec::new(rt.alloc());
     for i in 0..65_536u32 {
         let pair = (8, pe(rt, (i / 256 + 1) % 256));
-        units.push(1).expect(rt, "out of memory");
-        pairs.push(pair).expect(rt, "out of memory");
+        push(rt, &mut pairs, pair);
     }
-    let loads = Loads::new(units).expect(rt, "too many loads");
-    let sizes = Sizes::new(pairs).expect(rt, "past a limit");
+    Sizes::new(pairs).expect(rt, "past a limit")
+}
+
+// As many elements as there may be, with these sizes and loads of 1.
+fn full(rt: &(impl Abort + AllocGlobal)) -> Snapshot {
+    let loads = full_loads(rt, 1);
+    let sizes = full_sizes(rt);
     Snapshot::new(1, 256, loads, sizes).expect(rt, "no snapshot")
 }
 
@@ -332,9 +354,11 @@ fn mixed(rt: &(impl Abort + AllocGlobal)) -> Snapshot {
     let mut rows = Vec::new(rt.alloc());
     for i in 0..300u32 {
         let row = (i * 5 % 7, i * 3 % 11, i * i % 13);
-        rows.push(row).expect(rt, "out of memory");
+        push(rt, &mut rows, row);
     }
-    snapshot(rt, 13, &rows)
+    let mixed = snapshot(rt, 13, &rows);
+    drop(rows);
+    mixed
 }
 
 // What the check says of the plan for this snapshot.
@@ -342,67 +366,96 @@ fn checked(rt: &(impl Abort + AllocGlobal), taken: &Snapshot, pes: u32) -> Resul
     requires some_pe { 1 ≤ pes }
     requires few_pes { pes ≤ 256 }
 {
-    check(taken, pes, &planned(rt, taken, pes))
+    let decision = planned(rt, taken, pes);
+    let found = check(taken, pes, &decision);
+    drop(decision);
+    found
 }
 
 #[test]
 fn each_number_of_pes_has_its_plan(rt: HostRuntime) {
     let mixed = mixed(&rt);
     for pes in 1..=256 {
-        assert!(rt; checked(&rt, &mixed, pes).is_ok(), "{pes} PEs");
+        assert_for(&rt, checked(&rt, &mixed, pes).is_ok(), ("PEs", pes));
     }
+    drop(mixed);
 }
 
-fn is_copied(taken: &Snapshot) -> bool {
-    taken.clone().is_ok_and(|copy| copy == *taken)
-}
-
-fn is_decision_copied(decision: &Decision) -> bool {
-    decision.clone().is_ok_and(|copy| copy == *decision)
+fn is_copied(rt: &(impl Abort + AllocGlobal), taken: &Snapshot) -> bool {
+    let copy = taken.clone().expect(rt, "out of memory");
+    let same = copy == *taken;
+    drop(copy);
+    same
 }
 
 fn is_plan_copied(rt: &(impl Abort + AllocGlobal), taken: &Snapshot) -> bool {
-    is_decision_copied(&planned(rt, taken, 4))
+    let decision = planned(rt, taken, 4);
+    let copy = decision.clone().expect(rt, "out of memory");
+    let same = copy == decision;
+    drop(copy);
+    drop(decision);
+    same
 }
 
 #[test]
 fn a_copy_is_equal(rt: HostRuntime) {
     let mixed = mixed(&rt);
-    assert!(rt; is_copied(&mixed));
-    assert!(rt; is_plan_copied(&rt, &mixed));
+    assert_for(&rt, is_copied(&rt, &mixed), "snapshot");
+    assert_for(&rt, is_plan_copied(&rt, &mixed), "decision");
+    drop(mixed);
 }
 
-// The bottleneck, the bytes moved and the number of moves of the plan for a full array, and its names.
-fn full_plan(rt: &(impl Abort + AllocGlobal), pes: u32) -> ((u64, u64, usize), Vec<u32>)
+// The plan for a full array.
+fn full_plan(rt: &(impl Abort + AllocGlobal), pes: u32) -> Decision
     requires some_pe { 1 ≤ pes }
     requires few_pes { pes ≤ 256 }
 {
-    let decision = planned(rt, &full(rt), pes);
-    let moves = decision.moves.as_slice().len();
-    let names = list(rt, decision.naming.as_slice());
-    ((decision.division.bottleneck, decision.moved, moves), names)
+    let full = full(rt);
+    let decision = planned(rt, &full, pes);
+    drop(full);
+    decision
 }
 
-#[test]
-fn a_full_array_on_all_pes(rt: HostRuntime) {
-    let (numbers, names) = full_plan(&rt, 256);
-    assert!(rt; numbers == (256, 0, 0), "{numbers:?}");
+// Its bottleneck, its bytes moved and its number of moves.
+fn numbers_of(decision: &Decision) -> (u64, u64, usize) {
+    let moves = decision.moves.as_slice().len();
+    (decision.division.bottleneck, decision.moved, moves)
+}
+
+// Each block has the name behind its own number.
+fn expect_names_behind(rt: &impl Abort, names: &[u32]) {
     for b in 0..256u32 {
         let name = names.get(b as usize).copied();
-        assert!(rt; name == Some((b + 1) % 256), "block {b}");
+        assert_for(rt, name == Some((b + 1) % 256), ("block", b));
     }
 }
 
 #[test]
+fn a_full_array_on_all_pes(rt: HostRuntime) {
+    let decision = full_plan(&rt, 256);
+    let numbers = numbers_of(&decision);
+    assert_for(&rt, numbers == (256, 0, 0), numbers);
+    expect_names_behind(&rt, decision.naming.as_slice());
+    drop(decision);
+}
+
+#[test]
 fn a_full_array_on_one_pe(rt: HostRuntime) {
-    let (numbers, _) = full_plan(&rt, 1);
-    assert!(rt; numbers == (65_536, 522_240, 65_280), "{numbers:?}");
+    let decision = full_plan(&rt, 1);
+    let numbers = numbers_of(&decision);
+    drop(decision);
+    assert_for(&rt, numbers == (65_536, 522_240, 65_280), numbers);
 }
 
 #[test]
 fn the_error_has_its_number_and_text(rt: HostRuntime) {
     let error = PlanError::from(NameError::OutOfMemory);
-    assert!(rt; error == PlanError::OutOfMemory && error as u8 == 2);
+    assert_for(
+        &rt,
+        error == PlanError::OutOfMemory && error as u8 == 2,
+        error,
+    );
     let text = format!(in rt.alloc(); "{error}").expect(&rt, "out of memory");
-    assert!(rt; text.as_str() == "out of memory");
+    assert_for(&rt, text.as_str() == "out of memory", text.as_str());
+    drop(text);
 }

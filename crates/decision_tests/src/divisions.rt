@@ -2,7 +2,9 @@
 
 ghost use Rattle.std.specs.Prelude.{◌≤◌};
 
-use crate::fixtures::{full_loads, is_division, loads, unfenced};
+use crate::fixtures::{
+    assert_for, ends_of, full_loads, is_division, is_list, loads, prefix, push, unfenced,
+};
 use crate::reference;
 use chain_partition::{Prefix, Probe, divide, probe, probe_on};
 use lb_certificates::{Division, Flaw, Loads, Units, check_division};
@@ -20,13 +22,13 @@ type Divided = (&'static [Units], u32, u64, &'static [u32], &'static [u32]);
 
 fn is_divided_so(rt: &(impl Abort + AllocGlobal), row: &Divided) -> bool {
     let &(units, pes, bottleneck, cuts, fence) = row;
-    assert!(rt; 1 <= pes && pes <= 256, "{pes} PEs");
-    is_division(
-        &divided(rt, &loads(rt, units), pes),
-        bottleneck,
-        cuts,
-        fence,
-    )
+    assert_for(rt, 1 <= pes && pes <= 256, ("PEs", pes));
+    let loads = loads(rt, units);
+    let division = divided(rt, &loads, pes);
+    let found = is_division(&division, bottleneck, cuts, fence);
+    drop(division);
+    drop(loads);
+    found
 }
 
 #[test]
@@ -41,25 +43,26 @@ fn the_examples_have_their_divisions(rt: HostRuntime) {
         (&[1, 1, 2], 1, 4, &[0, 3], &[0, 2]),
     ];
     for row in &ROWS {
-        assert!(rt; is_divided_so(&rt, row), "{row:?}");
+        assert_for(&rt, is_divided_so(&rt, row), row);
     }
 }
 
 #[test]
 fn blocks_of_equal_counts_are_heavier(rt: HostRuntime) {
     let five = loads(&rt, &[1, 2, 3, 4, 5]);
-    assert!(rt; five.len() == 5 && five.load(2, 5) == 12);
+    assert_for(&rt, five.len() == 5 && five.load(2, 5) == 12, "loads");
     let halves = unfenced(&rt, 9, &[0, 2, 5]);
-    assert!(rt; check_division(&five, 2, &halves) == Err(Flaw::Heavy(1)));
+    let found = check_division(&five, 2, &halves);
+    drop(halves);
+    drop(five);
+    assert_for(&rt, found == Err(Flaw::Heavy(1)), found);
 }
 
 // Whether a probe fits, or does not, with these cuts or stops.
 fn is_probe(answer: Probe, fits: bool, expected: &[u32]) -> bool {
-    let (fitted, ends) = match answer {
-        Probe::Fits(cuts) => (true, cuts.into_vec()),
-        Probe::Stops(stops) => (false, stops.into_vec()),
-    };
-    fitted == fits && ends.as_slice() == expected
+    let (fitted, ends) = ends_of(answer);
+    let same_ends = is_list(ends, expected);
+    fitted == fits && same_ends
 }
 
 // A limit, whether five elements fit into two blocks within it, and the cuts or the stops.
@@ -68,28 +71,22 @@ type Probed = (u64, bool, &'static [u32]);
 // Whether a probe of these loads for two PEs comes to this.
 fn is_probed_so(rt: &(impl Abort + AllocGlobal), five: &Loads, row: &Probed) -> bool {
     let &(limit, fits, ends) = row;
-    is_probe(
-        probe(rt.alloc(), five, 2, limit).expect(rt, "out of memory"),
-        fits,
-        ends,
-    )
+    let answer = probe(rt.alloc(), five, 2, limit).expect(rt, "out of memory");
+    is_probe(answer, fits, ends)
 }
 
 // Whether a probe on their running sums does.
 fn is_probed_on_sums(rt: &(impl Abort + AllocGlobal), five: &Prefix, row: &Probed) -> bool {
     let &(limit, fits, ends) = row;
-    is_probe(
-        probe_on(rt.alloc(), five, 2, limit).expect(rt, "out of memory"),
-        fits,
-        ends,
-    )
+    let answer = probe_on(rt.alloc(), five, 2, limit).expect(rt, "out of memory");
+    is_probe(answer, fits, ends)
 }
 
 #[test]
 fn probes_fit_or_stop(rt: HostRuntime) {
     let five = loads(&rt, &[1, 2, 3, 4, 5]);
-    let prefix = Prefix::of(rt.alloc(), &five).expect(&rt, "out of memory");
-    assert!(rt; prefix.len() == 5);
+    let prefix = prefix(&rt, &[1, 2, 3, 4, 5]);
+    assert_for(&rt, prefix.len() == 5, "length");
     const ROWS: [Probed; 4] = [
         (9, true, &[0, 3, 5]),
         (8, false, &[0, 3, 4]),
@@ -97,12 +94,11 @@ fn probes_fit_or_stop(rt: HostRuntime) {
         (u64::MAX, true, &[0, 5, 5]),
     ];
     for row in &ROWS {
-        assert!(rt; is_probed_so(&rt, &five, row), "{row:?}");
-        assert!(rt;
-            is_probed_on_sums(&rt, &prefix, row),
-            "{row:?} on running sums"
-        );
+        assert_for(&rt, is_probed_so(&rt, &five, row), row);
+        assert_for(&rt, is_probed_on_sums(&rt, &prefix, row), (row, "on sums"));
     }
+    drop(prefix);
+    drop(five);
 }
 
 // The load of a range, where the chain has it.
@@ -115,8 +111,8 @@ fn load_of(prefix: &Prefix, first: usize, end: usize) -> Option<u64> {
 
 #[test]
 fn loads_of_ranges_by_running_sums(rt: HostRuntime) {
-    let prefix = Prefix::of(rt.alloc(), &loads(&rt, &[1, 2, 3, 4, 5])).expect(&rt, "out of memory");
-    assert!(rt; prefix.len() == 5 && !prefix.is_empty());
+    let prefix = prefix(&rt, &[1, 2, 3, 4, 5]);
+    assert_for(&rt, prefix.len() == 5 && !prefix.is_empty(), "length");
     const ROWS: [(usize, usize, u64); 5] = [
         (0, 0, 0),
         (0, 5, 15),
@@ -124,18 +120,20 @@ fn loads_of_ranges_by_running_sums(rt: HostRuntime) {
         (4, 5, 5),
         (5, 5, 0),
     ];
-    for &(first, end, load) in &ROWS {
-        assert!(rt;
-            load_of(&prefix, first, end) == Some(load),
-            "{first}..{end}"
-        );
+    for row in &ROWS {
+        assert_for(&rt, load_of(&prefix, row.0, row.1) == Some(row.2), row);
     }
+    drop(prefix);
 }
 
 #[test]
 fn a_full_array_of_full_loads(rt: HostRuntime) {
-    let division = divided(&rt, &full_loads(&rt), 1);
-    assert!(rt; is_division(&division, 281_474_976_645_120, &[0, 65_536], &[0, 65_535]));
+    let full = full_loads(&rt, 4_294_967_295);
+    let division = divided(&rt, &full, 1);
+    let found = is_division(&division, 281_474_976_645_120, &[0, 65_536], &[0, 65_535]);
+    drop(division);
+    drop(full);
+    assert_for(&rt, found, "another division");
 }
 
 // The chain of so many loads, each of them 0, 1 or 7, with this number.
@@ -144,7 +142,7 @@ fn chain(rt: &(impl Abort + AllocGlobal), length: u32, number: usize) -> Vec<Uni
     let mut units = Vec::new(rt.alloc());
     let mut rest = number;
     for _ in 0..length {
-        units.push(choices[rest % 3]).expect(rt, "out of memory");
+        push(rt, &mut units, choices[rest % 3]);
         rest /= 3;
     }
     units
@@ -156,8 +154,10 @@ fn is_least(rt: &(impl Abort + AllocGlobal), loads: &Loads, pes: u32) -> bool
     requires few_pes { pes ≤ 256 }
 {
     let division = divided(rt, loads, pes);
-    let least = reference::least_peak(loads, pes);
-    least == Some(division.bottleneck) && check_division(loads, pes, &division).is_ok()
+    let bottleneck = division.bottleneck;
+    let certified = check_division(loads, pes, &division).is_ok();
+    drop(division);
+    certified && reference::least_peak(loads, pes) == Some(bottleneck)
 }
 
 // The chain of this length and number has least divisions for up to four PEs.
@@ -165,8 +165,10 @@ fn expect_least(rt: &(impl Abort + AllocGlobal), length: u32, number: usize) {
     let units = chain(rt, length, number);
     let loads = loads(rt, &units);
     for pes in 1..=4 {
-        assert!(rt; is_least(rt, &loads, pes), "loads {units:?} on {pes}");
+        assert_for(rt, is_least(rt, &loads, pes), (units.as_slice(), pes));
     }
+    drop(loads);
+    drop(units);
 }
 
 // All chains of this length have least divisions for up to four PEs.

@@ -3,7 +3,7 @@
 ghost use Rattle.std.specs.Prelude.{◌≡◌, ◌≤◌, length};
 ghost use Rattle.lb_certificates.specs.Naming.{IsNaming};
 
-use crate::fixtures::{cost_of, sizes, table};
+use crate::fixtures::{assert_for, cost_of, is_list, push, table};
 use block_assignment::{CostTable, name_blocks};
 use std::process::Abort;
 
@@ -16,17 +16,19 @@ fn table_of(
 ) -> CostTable {
     let mut cuts = Vec::new(rt.alloc());
     for b in 0..=blocks {
-        cuts.push(b.saturating_mul(each))
-            .expect(rt, "out of memory");
+        push(rt, &mut cuts, b.saturating_mul(each));
     }
-    table(rt, &sizes(rt, pairs), &cuts)
+    let table = table(rt, pairs, &cuts);
+    drop(cuts);
+    table
 }
 
 // The names that are found.
 fn names_of(rt: &(impl Abort + AllocGlobal), table: &CostTable) -> Vec<u32>
     ensures { IsNaming table.now.blocks result.items }
 {
-    let (naming, _) = name_blocks(rt.alloc(), table).expect(rt, "out of memory");
+    let (naming, prices) = name_blocks(rt.alloc(), table).expect(rt, "out of memory");
+    drop(prices);
     naming.into_vec()
 }
 
@@ -49,57 +51,71 @@ fn named(
 ) -> (u64, Vec<u32>) {
     let table = table_of(rt, pairs, blocks, each);
     let names = names_of(rt, &table);
-    (table.cost_of(&names), names)
+    let cost = table.cost_of(&names);
+    drop(table);
+    (cost, names)
 }
 
 #[test]
 fn equal_costs(rt: HostRuntime) {
     let mut pairs = Vec::new(rt.alloc());
     for i in 0..65_536u32 {
-        pairs.push((1, i % 256)).expect(&rt, "out of memory");
+        push(&rt, &mut pairs, (1, i % 256));
     }
     let (cost, names) = named(&rt, &pairs, 256, 256);
-    assert!(rt; cost == 256 * 255 && are_numbers(&names));
+    drop(pairs);
+    assert_for(&rt, cost == 256 * 255 && are_numbers(&names), cost);
+    drop(names);
 }
 
 #[test]
 fn costs_of_zero(rt: HostRuntime) {
     let mut pairs = Vec::new(rt.alloc());
     for i in 0..256u32 {
-        pairs.push((0, i)).expect(&rt, "out of memory");
+        push(&rt, &mut pairs, (0, i));
     }
     let (cost, names) = named(&rt, &pairs, 256, 1);
-    assert!(rt; cost == 0 && are_numbers(&names));
+    drop(pairs);
+    assert_for(&rt, cost == 0 && are_numbers(&names), cost);
+    drop(names);
 }
 
 #[test]
 fn all_blocks_cheapest_on_one_pe(rt: HostRuntime) {
     let mut pairs = Vec::new(rt.alloc());
     for i in 0..256u32 {
-        pairs.push((i + 1, 77)).expect(&rt, "out of memory");
+        push(&rt, &mut pairs, (i + 1, 77));
     }
-    let (cost, _) = named(&rt, &pairs, 256, 1);
-    assert!(rt; cost == 255 * 256 / 2, "{cost}");
+    let (cost, names) = named(&rt, &pairs, 256, 1);
+    drop(names);
+    drop(pairs);
+    assert_for(&rt, cost == 255 * 256 / 2, cost);
 }
 
 // Blocks 2 k and 2 k + 1 have an element each on PEs 254 - 2 k and 255 - 2 k, so they cost the same there.
 fn equal_pairs(rt: &(impl Abort + AllocGlobal)) -> Vec<(u32, u32)> {
     let mut pairs = Vec::new(rt.alloc());
     for i in 0..512u32 {
-        pairs
-            .push((1, 254 - i / 4 * 2 + i % 2))
-            .expect(rt, "out of memory");
+        push(rt, &mut pairs, (1, 254 - i / 4 * 2 + i % 2));
     }
     pairs
 }
 
-#[test]
-fn pairs_of_equal_blocks(rt: HostRuntime) {
-    let (_, names) = named(&rt, &equal_pairs(&rt), 256, 2);
+// The names of these blocks are in pairs too.
+fn expect_names_of_pairs(rt: &impl Abort, names: &[u32]) {
     for b in 0..256u32 {
         let name = names.get(b as usize).copied();
-        assert!(rt; name == Some(254 - b / 2 * 2 + b % 2), "block {b}");
+        assert_for(rt, name == Some(254 - b / 2 * 2 + b % 2), ("block", b));
     }
+}
+
+#[test]
+fn pairs_of_equal_blocks(rt: HostRuntime) {
+    let pairs = equal_pairs(&rt);
+    let (_, names) = named(&rt, &pairs, 256, 2);
+    drop(pairs);
+    expect_names_of_pairs(&rt, &names);
+    drop(names);
 }
 
 // The naming of this number, in dictionary order of all lists of names of so many blocks, at most five.
@@ -123,7 +139,7 @@ fn all_namings(rt: &(impl Abort + AllocGlobal), blocks: u32) -> Vec<[u32; 5]>
     for code in 0..blocks.saturating_pow(blocks) {
         let names = numbered(code, blocks);
         if are_apart(&names[..blocks as usize]) {
-            namings.push(names).expect(rt, "out of memory");
+            push(rt, &mut namings, names);
         }
     }
     namings
@@ -158,8 +174,9 @@ fn first_of(table: &CostTable, namings: &[[u32; 5]]) -> [u32; 5]
 
 // Whether the names that are found are the first of all.
 fn is_first(rt: &(impl Abort + AllocGlobal), table: &CostTable, namings: &[[u32; 5]]) -> bool {
-    assert!(rt; table.blocks() <= 5, "too many blocks");
-    names_of(rt, table).as_slice() == &first_of(table, namings)[..table.blocks() as usize]
+    assert_for(rt, table.blocks() <= 5, "too many blocks");
+    let first = first_of(table, namings);
+    is_list(names_of(rt, table), &first[..table.blocks() as usize])
 }
 
 // A table whose costs differ by 0 or 1, by the bits of a number: an element for each block and PE.
@@ -168,25 +185,34 @@ fn table_of_bits(rt: &(impl Abort + AllocGlobal), blocks: u32, bits: u32) -> Cos
     let mut rest = bits;
     for _ in 0..blocks {
         for p in 0..blocks {
-            pairs.push((rest % 2, p)).expect(rt, "out of memory");
+            push(rt, &mut pairs, (rest % 2, p));
             rest /= 2;
         }
     }
-    table_of(rt, &pairs, blocks, blocks)
+    let table = table_of(rt, &pairs, blocks, blocks);
+    drop(pairs);
+    table
 }
 
 // All tables of so many blocks whose costs differ by 0 or 1 have the first of these namings that costs the least.
 fn expect_first(rt: &(impl Abort + AllocGlobal), blocks: u32, namings: &[[u32; 5]]) {
     for bits in 0..2u32.saturating_pow(blocks.saturating_mul(blocks)) {
         let table = table_of_bits(rt, blocks, bits);
-        assert!(rt; is_first(rt, &table, namings), "{blocks} blocks, {bits}");
+        assert_for(
+            rt,
+            is_first(rt, &table, namings),
+            ("blocks and bits", blocks, bits),
+        );
+        drop(table);
     }
 }
 
 #[test]
 fn all_tables_of_two_costs(rt: HostRuntime) {
     for blocks in 1..=4u32 {
-        expect_first(&rt, blocks, &all_namings(&rt, blocks));
+        let namings = all_namings(&rt, blocks);
+        expect_first(&rt, blocks, &namings);
+        drop(namings);
     }
 }
 
@@ -197,7 +223,7 @@ fn elements(rt: &(impl Abort + AllocGlobal), blocks: u32, number: u32) -> Vec<(u
     for _ in 0..blocks.saturating_mul(3) {
         seed = seed.wrapping_mul(1_664_525).wrapping_add(1_013_904_223);
         let pair = (seed / 65_536 % 3, seed / 1_048_576 % 5);
-        pairs.push(pair).expect(rt, "out of memory");
+        push(rt, &mut pairs, pair);
     }
     pairs
 }
@@ -205,14 +231,23 @@ fn elements(rt: &(impl Abort + AllocGlobal), blocks: u32, number: u32) -> Vec<(u
 // Two hundred tables of so many blocks of three elements have the first of these namings that costs the least.
 fn expect_first_of_equals(rt: &(impl Abort + AllocGlobal), blocks: u32, namings: &[[u32; 5]]) {
     for number in 0..200u32 {
-        let table = table_of(rt, &elements(rt, blocks, number), blocks, 3);
-        assert!(rt; is_first(rt, &table, namings), "{blocks} blocks, {number}");
+        let elements = elements(rt, blocks, number);
+        let table = table_of(rt, &elements, blocks, 3);
+        drop(elements);
+        assert_for(
+            rt,
+            is_first(rt, &table, namings),
+            ("blocks and number", blocks, number),
+        );
+        drop(table);
     }
 }
 
 #[test]
 fn small_tables_with_many_equal_costs(rt: HostRuntime) {
     for blocks in 1..=5u32 {
-        expect_first_of_equals(&rt, blocks, &all_namings(&rt, blocks));
+        let namings = all_namings(&rt, blocks);
+        expect_first_of_equals(&rt, blocks, &namings);
+        drop(namings);
     }
 }

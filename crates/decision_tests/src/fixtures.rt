@@ -3,15 +3,39 @@
 ghost use Rattle.std.specs.Prelude.{◌≡◌, length};
 
 use block_assignment::CostTable;
+use chain_partition::{Prefix, Probe};
 use chare_index::{Index, Pe};
 use lb_certificates::{
     Cuts, Division, Flaw, Floor, Loads, Naming, PriceList, Prices, Sizes, Snapshot, Stops, Units,
 };
 use lb_strategy::{Decision, Moves};
+use std::fmt::Debug;
 use std::process::Abort;
+
+/// Ends the test where this does not hold, with what it was to hold for.
+pub(crate) fn assert_for<R: Debug + Copy>(rt: &impl Abort, holds: bool, row: R) {
+    assert!(rt; holds, "{row:?}");
+}
 
 pub(crate) fn list<T: Copy>(rt: &(impl Abort + AllocGlobal), items: &[T]) -> Vec<T> {
     Vec::from_slice(rt.alloc(), items).expect(rt, "out of memory")
+}
+
+/// Adds an item to a list.
+pub(crate) fn push<T: Copy>(rt: &impl Abort, items: &mut Vec<T>, item: T) {
+    items.push(item).expect(rt, "out of memory");
+}
+
+/// Whether these are the same items.
+pub(crate) fn same<T: PartialEq>(some: &[T], others: &[T]) -> bool {
+    some == others
+}
+
+/// Whether a list is made of these items.
+pub(crate) fn is_list<T: Copy + PartialEq>(list: Vec<T>, items: &[T]) -> bool {
+    let found = same(&list, items);
+    drop(list);
+    found
 }
 
 pub(crate) fn pe(rt: &(impl Abort + AllocGlobal), number: u32) -> Pe {
@@ -26,9 +50,9 @@ pub(crate) fn loads(rt: &(impl Abort + AllocGlobal), units: &[Units]) -> Loads {
     Loads::new(list(rt, units)).expect(rt, "too many loads")
 }
 
-/// As many loads as there may be, each as great as it may be.
-pub(crate) fn full_loads(rt: &(impl Abort + AllocGlobal)) -> Loads {
-    let units = vec![in rt.alloc(); 4_294_967_295; 65_536].expect(rt, "out of memory");
+/// As many loads as there may be, all of them this one.
+pub(crate) fn full_loads(rt: &(impl Abort + AllocGlobal), load: Units) -> Loads {
+    let units = vec![in rt.alloc(); load; 65_536].expect(rt, "out of memory");
     Loads::new(units).expect(rt, "refused a full array")
 }
 
@@ -37,7 +61,7 @@ pub(crate) fn pairs(rt: &(impl Abort + AllocGlobal), elements: &[(u32, u32)]) ->
     let mut pairs = Vec::new(rt.alloc());
     for &(bytes, place) in elements {
         let pair = (bytes, pe(rt, place));
-        pairs.push(pair).expect(rt, "out of memory");
+        push(rt, &mut pairs, pair);
     }
     pairs
 }
@@ -85,8 +109,8 @@ pub(crate) fn is_division(
     fence: &[u32],
 ) -> bool {
     division.bottleneck == bottleneck
-        && division.cuts.as_slice() == cuts
-        && stops(division) == fence
+        && same(division.cuts.as_slice(), cuts)
+        && same(stops(division), fence)
 }
 
 /// Cuts and stops with the bottleneck 2, and what a check says of these on the example.
@@ -123,31 +147,73 @@ pub(crate) fn prices(rt: &(impl Abort + AllocGlobal), u: &[i64], v: &[i64]) -> P
 /// The elements of the example: their loads, bytes and PEs.
 pub(crate) const EXAMPLE: [(u32, u32, u32); 3] = [(1, 10, 0), (1, 9, 1), (2, 8, 0)];
 
+// The loads of elements with these loads, bytes and PEs.
+fn loads_of(rt: &(impl Abort + AllocGlobal), elements: &[(u32, u32, u32)]) -> Loads {
+    let mut units = Vec::new(rt.alloc());
+    for element in elements {
+        push(rt, &mut units, element.0);
+    }
+    Loads::new(units).expect(rt, "too many loads")
+}
+
+// Their bytes and PEs.
+fn sizes_of(rt: &(impl Abort + AllocGlobal), elements: &[(u32, u32, u32)]) -> Sizes {
+    let mut pairs = Vec::new(rt.alloc());
+    for &(_, bytes, place) in elements {
+        let pair = (bytes, pe(rt, place));
+        push(rt, &mut pairs, pair);
+    }
+    Sizes::new(pairs).expect(rt, "past a limit")
+}
+
 /// The snapshot at step 5 of elements with these loads, bytes and PEs.
 pub(crate) fn snapshot(
     rt: &(impl Abort + AllocGlobal),
     procs: u32,
     elements: &[(u32, u32, u32)],
 ) -> Snapshot {
-    let mut units = Vec::new(rt.alloc());
-    let mut pairs = Vec::new(rt.alloc());
-    for &(load, bytes, place) in elements {
-        let pair = (bytes, pe(rt, place));
-        units.push(load).expect(rt, "out of memory");
-        pairs.push(pair).expect(rt, "out of memory");
-    }
-    let loads = Loads::new(units).expect(rt, "too many loads");
-    let sizes = Sizes::new(pairs).expect(rt, "past a limit");
+    let loads = loads_of(rt, elements);
+    let sizes = sizes_of(rt, elements);
     Snapshot::new(5, procs, loads, sizes).expect(rt, "no snapshot")
 }
 
-/// The cost table of the blocks between these cuts, which have to divide the elements.
-pub(crate) fn table(rt: &(impl Abort + AllocGlobal), sizes: &Sizes, ends: &[u32]) -> CostTable {
-    let cuts = Cuts::new(list(rt, ends));
+/// The running sums of these loads.
+pub(crate) fn prefix(rt: &(impl Abort + AllocGlobal), units: &[Units]) -> Prefix {
+    let loads = loads(rt, units);
+    let prefix = Prefix::of(rt.alloc(), &loads).expect(rt, "out of memory");
+    drop(loads);
+    prefix
+}
+
+/// Whether a probe fits, and its ends.
+pub(crate) fn ends_of(answer: Probe) -> (bool, Vec<u32>) {
+    match answer {
+        Probe::Fits(cuts) => (true, cuts.into_vec()),
+        Probe::Stops(stops) => (false, stops.into_vec()),
+    }
+}
+
+// The cost table of these elements and blocks.
+fn table_on(rt: &(impl Abort + AllocGlobal), sizes: &Sizes, cuts: &Cuts) -> CostTable {
     let count = cuts.as_slice().len();
-    assert!(rt; 2 <= count && count <= 257, "no blocks, or too many");
-    assert!(rt; cuts.divides(sizes.len()), "no division");
-    CostTable::of(rt.alloc(), sizes, &cuts).expect(rt, "out of memory")
+    assert_for(rt, 2 <= count && count <= 257, "no blocks, or too many");
+    assert_for(rt, cuts.divides(sizes.len()), "no division");
+    CostTable::of(rt.alloc(), sizes, cuts).expect(rt, "out of memory")
+}
+
+/// The cost table of elements with these bytes and PEs, and of the blocks between these cuts, which have to
+/// divide them.
+pub(crate) fn table(
+    rt: &(impl Abort + AllocGlobal),
+    elements: &[(u32, u32)],
+    ends: &[u32],
+) -> CostTable {
+    let sizes = sizes(rt, elements);
+    let cuts = Cuts::new(list(rt, ends));
+    let table = table_on(rt, &sizes, &cuts);
+    drop(cuts);
+    drop(sizes);
+    table
 }
 
 /// What these names cost, if each is used once.
@@ -170,7 +236,7 @@ pub(crate) fn moves(rt: &(impl Abort + AllocGlobal), rows: &[(u32, u32, u32)]) -
     let mut moves = Vec::new(rt.alloc());
     for &(moved, present, planned) in rows {
         let step = (index(rt, moved), pe(rt, present), pe(rt, planned));
-        moves.push(step).expect(rt, "out of memory");
+        push(rt, &mut moves, step);
     }
     Moves::new(moves)
 }

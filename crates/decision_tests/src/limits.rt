@@ -1,5 +1,6 @@
 //! Each limit by its number.
 
+use crate::fixtures::assert_for;
 use chare_index::Limits;
 
 #[test]
@@ -17,7 +18,7 @@ fn each_limit_has_its_number(rt: HostRuntime) {
         (Limits::PROBE_WORKERS as u64, 64),
         (Limits::IDLE_TURNS as u64, 1_099_511_627_776),
     ];
-    for (limit, number) in &ROWS {
-        assert!(rt; limit == number, "{limit}, not {number}");
+    for row in &ROWS {
+        assert_for(&rt, row.0 == row.1, row);
     }
 }

@@ -1,6 +1,6 @@
 //! The worked namings, with one forged naming for each flaw.
 
-use crate::fixtures::{list, naming, prices, sizes};
+use crate::fixtures::{assert_for, is_list, list, naming, prices, same, sizes};
 use lb_certificates::{Cuts, Flaw, Naming, PriceList, check_naming};
 use std::process::Abort;
 
@@ -13,10 +13,16 @@ fn verdict(
     u: &[i64],
     v: &[i64],
 ) -> Result<u64, Flaw> {
+    let sizes = sizes(rt, pairs);
     let cuts = Cuts::new(list(rt, cuts));
     let naming = naming(rt, names);
     let prices = prices(rt, u, v);
-    check_naming(&sizes(rt, pairs), &cuts, &naming, &prices)
+    let found = check_naming(&sizes, &cuts, &naming, &prices);
+    drop(prices);
+    drop(naming);
+    drop(cuts);
+    drop(sizes);
+    found
 }
 
 // Cuts, names, prices of blocks and of PEs, and what the check says of these on the example.
@@ -71,7 +77,7 @@ fn each_forged_naming_has_its_flaw(rt: HostRuntime) {
         (&[0, 2, 3], &[], &[10, 1], &[-1, 0], Err(Flaw::NameCount)),
     ];
     for forged in &FORGED {
-        assert!(rt; is_found(&rt, forged), "{forged:?}");
+        assert_for(&rt, is_found(&rt, forged), forged);
     }
 }
 
@@ -85,9 +91,9 @@ fn other_namings_by_hand(rt: HostRuntime) {
         &[6, 3, 4],
         &[-2, -1, 0],
     );
-    assert!(rt; found == Ok(10), "six elements: {found:?}");
+    assert_for(&rt, found == Ok(10), ("six elements", found));
     let found = verdict(&rt, &[(7, 5)], &[0, 1], &[0], &[7], &[0]);
-    assert!(rt; found == Ok(7), "a PE that is no name: {found:?}");
+    assert_for(&rt, found == Ok(7), ("a PE that is no name", found));
 }
 
 // What it says of no elements in so many blocks, of which 256 have names, where each price is this one.
@@ -99,7 +105,10 @@ fn verdict_on_none(
     let cuts = vec![in rt.alloc(); 0; blocks.saturating_add(1)].expect(rt, "out of memory");
     let names: Vec<u32> = (0..256).collect(rt.alloc()).expect(rt, "out of memory");
     let prices = [price; 256];
-    verdict(rt, &[], &cuts, &names, &prices, &prices)
+    let found = verdict(rt, &[], &cuts, &names, &prices, &prices);
+    drop(names);
+    drop(cuts);
+    found
 }
 
 #[test]
@@ -112,24 +121,28 @@ fn prices_at_the_ends_of_their_range(rt: HostRuntime) {
     ];
     for &(blocks, price, expected) in &ROWS {
         let found = verdict_on_none(&rt, blocks, price);
-        assert!(rt; found == expected, "{blocks} blocks, prices of {price}");
+        assert_for(&rt, found == expected, ("blocks and price", blocks, price));
     }
 }
 
 // Whether these names are seen, and come back.
 fn names_come_back(rt: &(impl Abort + AllocGlobal), names: &[u32]) -> bool {
     let naming = Naming::new(list(rt, names));
-    naming.as_slice() == names && naming.into_vec().as_slice() == names
+    let seen = same(naming.as_slice(), names);
+    let back = is_list(naming.into_vec(), names);
+    seen && back
 }
 
 // Whether these prices do.
 fn prices_come_back(rt: &(impl Abort + AllocGlobal), given: &[i64]) -> bool {
     let prices = PriceList::new(list(rt, given));
-    prices.as_slice() == given && prices.into_vec().as_slice() == given
+    let seen = same(prices.as_slice(), given);
+    let back = is_list(prices.into_vec(), given);
+    seen && back
 }
 
 #[test]
 fn names_and_prices_come_back(rt: HostRuntime) {
-    assert!(rt; names_come_back(&rt, &[1, 0]));
-    assert!(rt; prices_come_back(&rt, &[-1, 0]));
+    assert_for(&rt, names_come_back(&rt, &[1, 0]), "names");
+    assert_for(&rt, prices_come_back(&rt, &[-1, 0]), "prices");
 }

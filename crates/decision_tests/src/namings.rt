@@ -3,7 +3,7 @@
 ghost use Rattle.std.specs.Prelude.{◌≡◌, ◌≤◌, length};
 ghost use Rattle.lb_certificates.specs.Naming.{IsNaming};
 
-use crate::fixtures::{cost_of, sizes, table};
+use crate::fixtures::{assert_for, cost_of, is_list, push, table};
 use block_assignment::{CostTable, NameError, name_blocks};
 use lb_certificates::{Naming, Prices};
 use std::process::Abort;
@@ -18,7 +18,7 @@ fn costs(rt: &(impl Abort + AllocGlobal), table: &CostTable) -> Vec<u64> {
     let mut costs = Vec::new(rt.alloc());
     for b in 0..table.blocks() {
         for p in 0..table.blocks() {
-            costs.push(table.cost(b, p)).expect(rt, "out of memory");
+            push(rt, &mut costs, table.cost(b, p));
         }
     }
     costs
@@ -33,7 +33,7 @@ fn sum(prices: &[i64]) -> i64 {
 }
 
 fn has_costs(rt: &(impl Abort + AllocGlobal), table: &CostTable, bytes: &[u64]) -> bool {
-    costs(rt, table).as_slice() == bytes
+    is_list(costs(rt, table), bytes)
 }
 
 // The sum of all prices.
@@ -45,8 +45,9 @@ fn total(prices: Prices) -> i64 {
 fn is_named(rt: &(impl Abort + AllocGlobal), table: &CostTable, names: &[u32], cost: i64) -> bool {
     let (naming, prices) = named(rt, table);
     let moved = table.cost_of(naming.as_slice());
-    let same = naming.as_slice() == names && i128::from(moved) == i128::from(cost);
-    same && total(prices) == cost
+    let same_names = is_list(naming.into_vec(), names);
+    let total = total(prices);
+    same_names && i128::from(moved) == i128::from(cost) && total == cost
 }
 
 // The elements of an example, the cuts of its blocks, their costs, their names and what these cost.
@@ -61,13 +62,15 @@ type Example = (
 // Whether the blocks of an example have their costs and their names.
 fn is_as_said(rt: &(impl Abort + AllocGlobal), example: &Example) -> bool {
     let &(pairs, cuts, bytes, names, cost) = example;
-    let table = table(rt, &sizes(rt, pairs), cuts);
-    has_costs(rt, &table, bytes) && is_named(rt, &table, names, cost)
+    let table = table(rt, pairs, cuts);
+    let found = has_costs(rt, &table, bytes) && is_named(rt, &table, names, cost);
+    drop(table);
+    found
 }
 
 #[test]
 fn the_examples_have_their_names(rt: HostRuntime) {
-    const EXAMPLES: [Example; 5] = [
+    static EXAMPLES: [Example; 5] = [
         (
             &[(10, 0), (9, 1), (8, 0)],
             &[0, 2, 3],
@@ -99,25 +102,32 @@ fn the_examples_have_their_names(rt: HostRuntime) {
         (&[(7, 5)], &[0, 1], &[7], &[0], 7),
     ];
     for example in &EXAMPLES {
-        assert!(rt; is_as_said(&rt, example), "{example:?}");
+        assert_for(&rt, is_as_said(&rt, example), example);
     }
 }
 
-// What it costs that each of two blocks has its own number.
-fn numbered(rt: &(impl Abort + AllocGlobal), pairs: &[(u32, u32)], cuts: &[u32]) -> Option<u64> {
-    let table = table(rt, &sizes(rt, pairs), cuts);
+// What it costs that each of two blocks has its own number, by this table.
+fn cost_of_two(table: &CostTable) -> Option<u64> {
     if table.blocks() != 2 {
         return None;
     }
     Some(table.cost(0, 0).saturating_add(table.cost(1, 1)))
 }
 
+// The same by the table of these elements and blocks.
+fn numbered(rt: &(impl Abort + AllocGlobal), pairs: &[(u32, u32)], cuts: &[u32]) -> Option<u64> {
+    let table = table(rt, pairs, cuts);
+    let cost = cost_of_two(&table);
+    drop(table);
+    cost
+}
+
 #[test]
 fn blocks_that_keep_their_numbers_move_more(rt: HostRuntime) {
     let three = numbered(&rt, &[(10, 0), (9, 1), (8, 0)], &[0, 2, 3]);
-    assert!(rt; three == Some(17), "three elements: {three:?}");
+    assert_for(&rt, three == Some(17), ("three elements", three));
     let swapped = numbered(&rt, &[(8, 1), (8, 1), (8, 0), (8, 0)], &[0, 2, 4]);
-    assert!(rt; swapped == Some(32), "swapped: {swapped:?}");
+    assert_for(&rt, swapped == Some(32), ("swapped", swapped));
 }
 
 // As many elements as there may be, with as many bytes as there may be.
@@ -125,7 +135,7 @@ fn full_pairs(rt: &(impl Abort + AllocGlobal)) -> Vec<(u32, u32)> {
     let mut pairs = Vec::new(rt.alloc());
     for i in 0..65_536u32 {
         let pair = (1_048_576, i * 7 % 256);
-        pairs.push(pair).expect(rt, "out of memory");
+        push(rt, &mut pairs, pair);
     }
     pairs
 }
@@ -134,22 +144,37 @@ fn full_pairs(rt: &(impl Abort + AllocGlobal)) -> Vec<(u32, u32)> {
 fn full_cuts(rt: &(impl Abort + AllocGlobal)) -> Vec<u32> {
     let mut cuts = Vec::new(rt.alloc());
     for b in 0..257u32 {
-        cuts.push(b * 256).expect(rt, "out of memory");
+        push(rt, &mut cuts, b * 256);
     }
     cuts
+}
+
+// The cost table of these elements and blocks.
+fn full_table(rt: &(impl Abort + AllocGlobal)) -> CostTable {
+    let pairs = full_pairs(rt);
+    let cuts = full_cuts(rt);
+    let table = table(rt, &pairs, &cuts);
+    drop(cuts);
+    drop(pairs);
+    table
 }
 
 // How many names are found, and the sum of all prices.
 fn named_for(rt: &(impl Abort + AllocGlobal), table: &CostTable) -> (usize, i64) {
     let (naming, prices) = named(rt, table);
-    (naming.into_vec().len(), total(prices))
+    let names = naming.into_vec();
+    let count = names.len();
+    drop(names);
+    (count, total(prices))
 }
 
 #[test]
 fn a_full_array_on_all_pes(rt: HostRuntime) {
-    let table = table(&rt, &sizes(&rt, &full_pairs(&rt)), &full_cuts(&rt));
-    assert!(rt; table.blocks() == 256);
-    assert!(rt; named_for(&rt, &table) == (256, 256 * 255 * 1_048_576));
+    let table = full_table(&rt);
+    assert_for(&rt, table.blocks() == 256, "blocks");
+    let found = named_for(&rt, &table);
+    drop(table);
+    assert_for(&rt, found == (256, 256 * 255 * 1_048_576), found);
 }
 
 // The least cost of all namings of at most four blocks, each of them tried.
@@ -173,8 +198,11 @@ fn least_cost(table: &CostTable) -> Option<u64>
 fn is_cheapest(rt: &(impl Abort + AllocGlobal), table: &CostTable) -> bool
     requires { table.now.blocks ≤ 4 }
 {
-    let (naming, _) = named(rt, table);
-    cost_of(table, naming.as_slice()) == least_cost(table)
+    let (naming, prices) = named(rt, table);
+    drop(prices);
+    let cost = cost_of(table, naming.as_slice());
+    drop(naming);
+    cost == least_cost(table)
 }
 
 // The elements of this number of blocks, two in each, with sizes of 0 to 7 on PEs 0 to 4.
@@ -184,7 +212,7 @@ fn elements(rt: &(impl Abort + AllocGlobal), blocks: u32, number: u32) -> Vec<(u
     for _ in 0..blocks.saturating_mul(2) {
         seed = seed.wrapping_mul(1_664_525).wrapping_add(1_013_904_223);
         let pair = (seed / 65_536 % 8, seed / 1_048_576 % 5);
-        pairs.push(pair).expect(rt, "out of memory");
+        push(rt, &mut pairs, pair);
     }
     pairs
 }
@@ -198,8 +226,10 @@ fn are_cheapest(
 ) -> bool
     requires few { blocks ≤ 4 }
 {
-    let table = table(rt, &sizes(rt, pairs), cuts);
-    table.blocks() == blocks && is_cheapest(rt, &table)
+    let table = table(rt, pairs, cuts);
+    let found = table.blocks() == blocks && is_cheapest(rt, &table);
+    drop(table);
+    found
 }
 
 // Sixty tables of the blocks between these cuts, two elements in each, are named at the least cost.
@@ -208,10 +238,8 @@ fn expect_cheapest(rt: &(impl Abort + AllocGlobal), cuts: &[u32], blocks: u32)
 {
     for number in 0..60 {
         let pairs = elements(rt, blocks, number);
-        assert!(rt;
-            are_cheapest(rt, &pairs, cuts, blocks),
-            "elements {pairs:?}"
-        );
+        assert_for(rt, are_cheapest(rt, &pairs, cuts, blocks), pairs.as_slice());
+        drop(pairs);
     }
 }
 
@@ -225,5 +253,5 @@ fn small_tables_are_named_at_the_least_cost(rt: HostRuntime) {
 
 #[test]
 fn the_error_has_its_number(rt: HostRuntime) {
-    assert!(rt; NameError::OutOfMemory as u8 == 2);
+    assert_for(&rt, NameError::OutOfMemory as u8 == 2, "number");
 }

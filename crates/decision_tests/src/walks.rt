@@ -2,8 +2,8 @@
 
 ghost use Rattle.std.specs.Prelude.{◌≤◌};
 
-use crate::fixtures::{list, loads};
-use chain_partition::{Prefix, Probe, probe_on};
+use crate::fixtures::{assert_for, ends_of, list, prefix, push};
+use chain_partition::{Probe, probe_on};
 use lb_certificates::Units;
 use std::process::Abort;
 
@@ -22,11 +22,12 @@ fn plain_end(units: &[Units], first: usize, limit: u64) -> usize {
 // Whether these are the ends of blocks that a plain walk fills.
 fn are_plain_ends(ends: &[u32], units: &[Units], limit: u64) -> bool {
     let mut first = 0;
-    for &end in ends.iter().skip(1) {
-        if end as usize != plain_end(units, first, limit) {
+    for b in 1..ends.len() {
+        let end = ends[b] as usize;
+        if end != plain_end(units, first, limit) {
             return false;
         }
-        first = end as usize;
+        first = end;
     }
     ends.first() == Some(&0)
 }
@@ -35,16 +36,10 @@ fn probed(rt: &(impl Abort + AllocGlobal), units: &[Units], pes: u32, limit: u64
     requires some_pe { 1 ≤ pes }
     requires few_pes { pes ≤ 256 }
 {
-    let prefix = Prefix::of(rt.alloc(), &loads(rt, units)).expect(rt, "out of memory");
-    probe_on(rt.alloc(), &prefix, pes, limit).expect(rt, "out of memory")
-}
-
-// Whether a probe fits, and its ends.
-fn ends_of(answer: Probe) -> (bool, Vec<u32>) {
-    match answer {
-        Probe::Fits(cuts) => (true, cuts.into_vec()),
-        Probe::Stops(stops) => (false, stops.into_vec()),
-    }
+    let prefix = prefix(rt, units);
+    let answer = probe_on(rt.alloc(), &prefix, pes, limit).expect(rt, "out of memory");
+    drop(prefix);
+    answer
 }
 
 // Whether the last of these ends is that of the last element.
@@ -62,7 +57,7 @@ fn probed_ends(rt: &(impl Abort + AllocGlobal), units: &[Units], pes: u32, limit
 {
     let (fits, ends) = ends_of(probed(rt, units, pes, limit));
     let whole = is_whole(&ends, units);
-    assert!(rt; whole == fits, "loads {units:?} on {pes} within {limit}");
+    assert_for(rt, whole == fits, (units, pes, limit));
     ends
 }
 
@@ -77,9 +72,22 @@ fn some_units(rt: &(impl Abort + AllocGlobal), number: u64) -> Vec<Units> {
     for i in 0..number % 41 {
         let load = scattered(number.wrapping_mul(64).wrapping_add(i)) % 16;
         let load = if i % 3 == 0 { 0 } else { load as Units };
-        units.push(load).expect(rt, "out of memory");
+        push(rt, &mut units, load);
     }
     units
+}
+
+// So many blocks of these loads end where a plain walk ends.
+fn expect_plain_ends(rt: &(impl Abort + AllocGlobal), units: &[Units], pes: u32, limit: u64)
+    requires some_pe { 1 ≤ pes }
+    requires few_pes { pes ≤ 256 }
+{
+    let ends = probed_ends(rt, units, pes, limit);
+    let counted = ends.len() == pes as usize + 1;
+    let plain = are_plain_ends(&ends, units, limit);
+    drop(ends);
+    assert_for(rt, counted, ("count", units, pes, limit));
+    assert_for(rt, plain, (units, pes, limit));
 }
 
 #[test]
@@ -87,11 +95,7 @@ fn blocks_end_where_a_plain_walk_ends(rt: HostRuntime) {
     for number in 0u64..1000 {
         let units = some_units(&rt, number);
         let (pes, limit) = (1 + (number % 7) as u32, scattered(number) % 64);
-        let ends = probed_ends(&rt, &units, pes, limit);
-        assert!(rt; ends.len() == pes as usize + 1, "list {number}");
-        assert!(rt;
-            are_plain_ends(&ends, &units, limit),
-            "loads {units:?} on {pes} within {limit}"
-        );
+        expect_plain_ends(&rt, &units, pes, limit);
+        drop(units);
     }
 }

@@ -2,7 +2,7 @@
 
 ghost use Rattle.std.specs.Prelude.{◌≤◌};
 
-use crate::fixtures::{EXAMPLE, full_loads, is_division, loads, snapshot};
+use crate::fixtures::{EXAMPLE, assert_for, full_loads, is_division, loads, same, snapshot};
 use chain_partition::divide_with;
 use chare_index::{Gate, NoGate};
 use lb_certificates::{Division, Loads, Snapshot};
@@ -31,14 +31,20 @@ fn any_number_of_workers_divides_the_same(rt: HostRuntime) {
     for workers in 1..=64 {
         let division = divided(&rt, &five, 2, workers);
         let found = is_division(&division, 9, &[0, 3, 5], &[0, 3, 4]);
-        assert!(rt; found, "{workers} workers");
+        drop(division);
+        assert_for(&rt, found, ("workers", workers));
     }
+    drop(five);
 }
 
 #[test]
 fn many_workers_divide_a_full_array(rt: HostRuntime) {
-    let division = divided(&rt, &full_loads(&rt), 1, 64);
-    assert!(rt; is_division(&division, 281_474_976_645_120, &[0, 65_536], &[0, 65_535]));
+    let full = full_loads(&rt, 4_294_967_295);
+    let division = divided(&rt, &full, 1, 64);
+    let found = is_division(&division, 281_474_976_645_120, &[0, 65_536], &[0, 65_535]);
+    drop(division);
+    drop(full);
+    assert_for(&rt, found, "another division");
 }
 
 // How many turns a worker waits for the other.
@@ -71,9 +77,12 @@ impl Gate for Meeting {
 
 // Whether two workers at this gate divide a full array in halves.
 fn divides_in_halves<R: Threads + Sync + Abort + AllocGlobal>(rt: &R, gate: &Meeting) -> bool {
-    let division = divide_with(rt, rt.alloc(), &full_loads(rt), 2, 2, gate);
-    let division = division.expect(rt, "out of memory");
-    division.cuts.as_slice() == [0, 32_768, 65_536].as_slice()
+    let full = full_loads(rt, 4_294_967_295);
+    let division = divide_with(rt, rt.alloc(), &full, 2, 2, gate).expect(rt, "out of memory");
+    drop(full);
+    let found = same(division.cuts.as_slice(), &[0, 32_768, 65_536]);
+    drop(division);
+    found
 }
 
 #[test]
@@ -83,14 +92,15 @@ fn two_probes_overlap(rt: HostRuntime) {
         second: AtomicU64::new(0),
         missed: AtomicU64::new(0),
     };
-    assert!(rt; divides_in_halves(&rt, &gate));
+    assert_for(&rt, divides_in_halves(&rt, &gate), "halves");
     let seen = (
         gate.first.load(Ordering::SeqCst),
         gate.second.load(Ordering::SeqCst),
     );
-    assert!(rt; seen == (1, 1), "each worker passes with its number");
+    assert_for(&rt, seen == (1, 1), "each worker passes with its number");
     let missed = gate.missed.load(Ordering::SeqCst);
-    assert!(rt; missed == 0, "each sees the other in time");
+    assert_for(&rt, missed == 0, "each sees the other in time");
+    drop(gate);
 }
 
 // Whether this is the decision on the example.
@@ -99,7 +109,7 @@ fn is_planned(planned: &Decision) -> bool {
         return false;
     };
     is_division(&planned.division, 2, &[0, 2, 3], &[0, 1, 2])
-        && planned.naming.as_slice() == [1, 0].as_slice()
+        && same(planned.naming.as_slice(), &[1, 0])
         && (step.0.get(), step.1.get(), step.2.get()) == (0, 0, 1)
         && planned.moved == 10
 }
@@ -111,11 +121,14 @@ fn planned<R: Threads + Sync + Abort + AllocGlobal>(rt: &R, example: &Snapshot) 
 // Whether three workers plan the example, and the check accepts the plan.
 fn is_example_planned<R: Threads + Sync + Abort + AllocGlobal>(rt: &R, example: &Snapshot) -> bool {
     let planned = planned(rt, example);
-    is_planned(&planned) && check(example, 2, &planned).is_ok()
+    let found = is_planned(&planned) && check(example, 2, &planned).is_ok();
+    drop(planned);
+    found
 }
 
 #[test]
 fn three_workers_plan_the_example(rt: HostRuntime) {
     let example = snapshot(&rt, 2, &EXAMPLE);
-    assert!(rt; is_example_planned(&rt, &example));
+    assert_for(&rt, is_example_planned(&rt, &example), "another plan");
+    drop(example);
 }

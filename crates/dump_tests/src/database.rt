@@ -3,6 +3,7 @@
 
 ghost use Rattle.std.specs.Prelude.{◌≤◌};
 
+use crate::fixtures::{assert_for, same};
 use chare_index::{Pe, Round};
 use lb_database::{DbError, LoadDb};
 use lb_snapshot::{Snapshot, Units};
@@ -54,11 +55,23 @@ fn is_in_round(db: &LoadDb, round: Round, len: usize, is_complete: bool) -> bool
         && db.is_complete() == is_complete
 }
 
-// A database of four elements, of which element 2 has done all the work that is counted, and reported.
-fn begun(rt: &(impl Abort + AllocGlobal)) -> LoadDb {
-    let mut db = LoadDb::new(rt.alloc(), 4).expect(rt, "out of memory");
+// A database of so many elements.
+fn made(rt: &(impl Abort + AllocGlobal), len: u32) -> LoadDb
+    requires few { len ≤ 65536 }
+{
+    LoadDb::new(rt.alloc(), len).expect(rt, "out of memory")
+}
+
+// Whether element 2 can do all the work that is counted and more, and report.
+fn begins(db: &mut LoadDb) -> bool {
     let reported = db.report(2, round(1), 5, pe(0));
-    assert!(rt; reported.is_ok() && db.charge(2, u32::MAX).is_ok() && db.charge(2, 1).is_ok());
+    reported.is_ok() && db.charge(2, u32::MAX).is_ok() && db.charge(2, 1).is_ok()
+}
+
+// A database of four elements, of which element 2 has done so.
+fn begun(rt: &(impl Abort + AllocGlobal)) -> LoadDb {
+    let mut db = made(rt, 4);
+    assert_for(rt, begins(&mut db), "element 2");
     db
 }
 
@@ -79,25 +92,33 @@ fn refuses_to_go_on(db: &mut LoadDb) -> bool {
 fn four_elements_of_which_one_reported(rt: HostRuntime) {
     let mut db = begun(&rt);
     let before = seen(&db);
-    assert!(rt; has(&db, 2, u32::MAX, Some((5, pe(0)))));
-    assert!(rt; refuses_to_go_on(&mut db));
-    assert!(rt; refuses_a_snapshot(&db));
-    assert!(rt; seen(&db) == before);
+    assert_for(&rt, has(&db, 2, u32::MAX, Some((5, pe(0)))), "element 2");
+    assert_for(&rt, refuses_to_go_on(&mut db), "it goes on");
+    assert_for(&rt, refuses_a_snapshot(&db), "a snapshot");
+    assert_for(&rt, seen(&db) == before, "a change");
+    drop(db);
+}
+
+// The answer to a report of an element that has so many bytes, for the round of this number.
+fn report(
+    rt: &impl Abort,
+    db: &mut LoadDb,
+    i: u32,
+    number: u32,
+    bytes: u32,
+) -> Result<(), DbError> {
+    let round = Round::new(number).expect(rt, "no such round");
+    db.report(i, round, bytes, pe(0))
 }
 
 // The element, the round and the bytes of a report, and why it is refused.
 type Refused = (u32, u32, u32, DbError);
 
 // Whether a database refuses it, and stays as it was.
-fn is_refused(rt: &impl Abort, db: &mut LoadDb, report: &Refused) -> bool {
-    let &(i, number, bytes, error) = report;
+fn is_refused(rt: &impl Abort, db: &mut LoadDb, row: &Refused) -> bool {
+    let &(i, number, bytes, error) = row;
     let before = seen(db);
-    let answer = db.report(
-        i,
-        Round::new(number).expect(rt, "no such round"),
-        bytes,
-        pe(0),
-    );
+    let answer = report(rt, db, i, number, bytes);
     answer == Err(error) && seen(db) == before
 }
 
@@ -114,20 +135,16 @@ fn reports_that_are_refused(rt: HostRuntime) {
         (2, 1, 1_048_577, DbError::Twice),
     ];
     for report in &REFUSED {
-        assert!(rt; is_refused(&rt, &mut db, report), "{report:?}");
+        assert_for(&rt, is_refused(&rt, &mut db, report), report);
     }
-}
-
-// The answer to a report of one byte of an element.
-fn report_a_byte(rt: &impl Abort, db: &mut LoadDb, i: u32, number: u32) -> Result<(), DbError> {
-    db.report(i, Round::new(number).expect(rt, "no such round"), 1, pe(0))
+    drop(db);
 }
 
 // What the other three elements do: each reports one byte.
 fn report_the_others(rt: &impl Abort, db: &mut LoadDb) {
-    assert!(rt; report_a_byte(rt, db, 0, 1).is_ok(), "the report of 0");
-    assert!(rt; report_a_byte(rt, db, 1, 1).is_ok(), "the report of 1");
-    assert!(rt; report_a_byte(rt, db, 3, 1).is_ok(), "the report of 3");
+    assert_for(rt, report(rt, db, 0, 1, 1).is_ok(), "the report of 0");
+    assert_for(rt, report(rt, db, 1, 1, 1).is_ok(), "the report of 1");
+    assert_for(rt, report(rt, db, 3, 1, 1).is_ok(), "the report of 3");
 }
 
 // The snapshot of a database whose elements stand on so many PEs.
@@ -141,19 +158,27 @@ fn taken(rt: &impl Abort, db: &LoadDb, step: u32, pes: u32) -> Snapshot
 
 // Whether this is the snapshot of the four elements.
 fn is_of_four(taken: &Snapshot) -> bool {
-    let loads = [0, 0, 4_294_967_295, 0];
     let place = pe(0);
     let sizes = [(1, place), (1, place), (5, place), (1, place)];
     (taken.step(), taken.procs()) == (1, 1)
-        && taken.loads().as_slice() == loads.as_slice()
-        && taken.sizes().as_slice() == sizes.as_slice()
+        && same(taken.loads().as_slice(), &[0, 0, 4_294_967_295, 0])
+        && same(taken.sizes().as_slice(), &sizes)
+}
+
+// Whether that snapshot is taken of a database.
+fn gives_the_four(rt: &impl Abort, db: &LoadDb) -> bool {
+    let taken = taken(rt, db, 1, 1);
+    let same = is_of_four(&taken);
+    drop(taken);
+    same
 }
 
 #[test]
 fn a_full_load_is_taken(rt: HostRuntime) {
     let mut db = begun(&rt);
     report_the_others(&rt, &mut db);
-    assert!(rt; is_of_four(&taken(&rt, &db, 1, 1)));
+    assert_for(&rt, gives_the_four(&rt, &db), "another snapshot");
+    drop(db);
 }
 
 // A database of no elements in the last round.
@@ -175,28 +200,39 @@ fn is_worn(db: &LoadDb) -> bool {
 #[test]
 fn no_elements(rt: HostRuntime) {
     let mut db = worn(&rt);
-    assert!(rt; is_worn(&db));
-    assert!(rt; db.next_round() == Err(DbError::Worn));
-    assert!(rt; is_worn(&db), "after the refusal");
+    assert_for(&rt, is_worn(&db), "at first");
+    assert_for(&rt, db.next_round() == Err(DbError::Worn), "it goes on");
+    assert_for(&rt, is_worn(&db), "after the refusal");
+    drop(db);
+}
+
+// How many elements a snapshot of a database has.
+fn count_taken(rt: &impl Abort, db: &LoadDb) -> usize {
+    let taken = taken(rt, db, 9, 256);
+    let count = taken.loads().len();
+    drop(taken);
+    count
 }
 
 #[test]
 fn no_elements_are_taken(rt: HostRuntime) {
-    let taken = taken(&rt, &worn(&rt), 9, 256);
-    assert_eq!(rt; taken.loads().len(), 0);
+    let db = worn(&rt);
+    let count = count_taken(&rt, &db);
+    drop(db);
+    assert_for(&rt, count == 0, count);
 }
 
 // What an element of the two does: it works, reports and works on.
 fn work(rt: &impl Abort, db: &mut LoadDb, i: u32) {
-    assert!(rt; db.charge(i, 7).is_ok());
+    assert_for(rt, db.charge(i, 7).is_ok(), "before the report");
     let answer = db.report(i, round(1), 1_048_576, pe(255));
-    assert!(rt; answer.is_ok());
-    assert!(rt; db.charge(i, 2).is_ok(), "after the report");
+    assert_for(rt, answer.is_ok(), "the report");
+    assert_for(rt, db.charge(i, 2).is_ok(), "after the report");
 }
 
 // A database of two elements that have done their work and reported.
 fn reported(rt: &(impl Abort + AllocGlobal)) -> LoadDb {
-    let mut db = LoadDb::new(rt.alloc(), 2).expect(rt, "out of memory");
+    let mut db = made(rt, 2);
     work(rt, &mut db, 0);
     work(rt, &mut db, 1);
     db
@@ -206,8 +242,13 @@ fn reported(rt: &(impl Abort + AllocGlobal)) -> LoadDb {
 fn work_after_a_report_is_counted(rt: HostRuntime) {
     let db = reported(&rt);
     let report = Some((1_048_576, pe(255)));
-    assert!(rt; has(&db, 0, 9, report) && has(&db, 1, 9, report));
-    assert!(rt; db.is_complete(), "not complete");
+    assert_for(
+        &rt,
+        has(&db, 0, 9, report) && has(&db, 1, 9, report),
+        "other work",
+    );
+    assert_for(&rt, db.is_complete(), "not complete");
+    drop(db);
 }
 
 // The same database in its next round.
@@ -220,15 +261,22 @@ fn begun_anew(rt: &(impl Abort + AllocGlobal)) -> LoadDb {
 #[test]
 fn the_next_round_has_nothing(rt: HostRuntime) {
     let db = begun_anew(&rt);
-    assert!(rt; is_in_round(&db, round(2), 2, false));
-    assert!(rt; has(&db, 0, 0, None) && has(&db, 1, 0, None));
+    assert_for(&rt, is_in_round(&db, round(2), 2, false), "another round");
+    assert_for(
+        &rt,
+        has(&db, 0, 0, None) && has(&db, 1, 0, None),
+        "some work",
+    );
+    drop(db);
 }
 
 #[test]
 fn the_next_round_has_its_own_reports(rt: HostRuntime) {
     let mut db = begun_anew(&rt);
-    assert!(rt; report_a_byte(&rt, &mut db, 0, 1) == Err(DbError::WrongRound));
-    assert!(rt; report_a_byte(&rt, &mut db, 0, 2).is_ok());
+    let late = report(&rt, &mut db, 0, 1, 1);
+    assert_for(&rt, late == Err(DbError::WrongRound), "for round 1");
+    assert_for(&rt, report(&rt, &mut db, 0, 2, 1).is_ok(), "for round 2");
+    drop(db);
 }
 
 // An error, its number and its text.
@@ -237,7 +285,9 @@ type Said = (DbError, u8, &'static str);
 fn is_said(rt: &(impl Abort + AllocGlobal), row: &Said) -> bool {
     let &(error, number, text) = row;
     let said = format!(in rt.alloc(); "{error}").expect(rt, "out of memory");
-    error as u8 == number && said.as_str() == text
+    let same = error as u8 == number && said.as_str() == text;
+    drop(said);
+    same
 }
 
 #[test]
@@ -252,6 +302,6 @@ fn numbers_and_texts(rt: HostRuntime) {
         (DbError::Worn, 7, "no round is left"),
     ];
     for row in &ERRORS {
-        assert!(rt; is_said(&rt, row), "{row:?}");
+        assert_for(&rt, is_said(&rt, row), row);
     }
 }

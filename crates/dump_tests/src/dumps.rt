@@ -3,7 +3,9 @@
 
 ghost use Rattle.std.specs.Prelude.{◌<◌};
 
-use crate::fixtures::{fed_byte_by_byte, has_text, is_example};
+use crate::fixtures::{
+    assert_for, decodes_to, ended, fed_byte_by_byte, has_text, is_example, same,
+};
 use lb_dump::{DumpError, DumpReader, decode, format_laws, read_from, write_to};
 use lb_snapshot::Snapshot;
 use std::alloc::Global;
@@ -11,75 +13,103 @@ use std::io::ErrorKind;
 use std::process::Abort;
 use test_fixtures::{EXAMPLE_DUMP, Sink, Source, example};
 
-// What these pieces give, or why they give nothing.
-fn fed(alloc: Global, pieces: &[&[u8]]) -> Result<Snapshot, DumpError> {
-    let mut reader = DumpReader::new(alloc);
+// Gives a reader these pieces.
+fn feed_pieces(reader: &mut DumpReader, pieces: &[&[u8]]) -> Result<(), DumpError> {
     for &piece in pieces {
         reader.feed(piece)?;
     }
-    reader.end()
+    Ok(())
+}
+
+// What these pieces give, or why they give nothing.
+fn fed(alloc: Global, pieces: &[&[u8]]) -> Result<Snapshot, DumpError> {
+    let mut reader = DumpReader::new(alloc);
+    let fed = feed_pieces(&mut reader, pieces);
+    ended(reader, fed)
 }
 
 // Whether these pieces give a snapshot that has this text.
 fn give(rt: &(impl Abort + AllocGlobal), pieces: &[&[u8]], text: &[u8]) -> bool {
-    match fed(rt.alloc(), pieces) {
-        Ok(snapshot) => has_text(rt, &snapshot, text),
+    let found = fed(rt.alloc(), pieces);
+    let same = match &found {
+        Ok(snapshot) => has_text(rt, snapshot, text),
         Err(_) => false,
-    }
+    };
+    drop(found);
+    same
 }
 
 #[test]
 fn the_example(rt: HostRuntime) {
     let example = example(rt.alloc()).expect(&rt, "out of memory");
-    assert!(rt; has_text(&rt, &example, &EXAMPLE_DUMP));
-    assert!(rt; is_example(decode(rt.alloc(), &EXAMPLE_DUMP)));
+    assert_for(&rt, has_text(&rt, &example, &EXAMPLE_DUMP), "encoded");
+    drop(example);
+    let found = decode(rt.alloc(), &EXAMPLE_DUMP);
+    assert_for(&rt, is_example(found), "decoded");
 }
 
 // Whether a list of bytes that a snapshot is written to gets this text.
 fn is_written(rt: &impl AllocGlobal, snapshot: &Snapshot, text: &[u8]) -> bool {
     let mut out: Vec<u8> = Vec::new(rt.alloc());
-    let wrote = write_to(&mut out, snapshot).is_ok();
-    wrote && out.as_slice() == text
+    let written = write_to(&mut out, snapshot).is_ok() && same(&out, text);
+    drop(out);
+    written
 }
 
 #[test]
 fn the_example_is_written(rt: HostRuntime) {
     let example = example(rt.alloc()).expect(&rt, "out of memory");
-    assert!(rt; is_written(&rt, &example, &EXAMPLE_DUMP));
+    assert_for(
+        &rt,
+        is_written(&rt, &example, &EXAMPLE_DUMP),
+        "another text",
+    );
+    drop(example);
+}
+
+// Whether these two pieces, with empty ones before, between and behind them, give the example.
+fn give_the_example(rt: &(impl Abort + AllocGlobal), start: &[u8], rest: &[u8]) -> bool {
+    give(rt, &[&[], start, &[], rest, &[]], &EXAMPLE_DUMP)
 }
 
 #[test]
 fn in_any_pieces(rt: HostRuntime) {
     for cut in 0..=52usize {
         let (start, rest) = EXAMPLE_DUMP.split_at(cut);
-        let pieces: [&[u8]; 5] = [&[], start, &[], rest, &[]];
-        assert!(rt; give(&rt, &pieces, &EXAMPLE_DUMP), "cut at {cut}");
+        assert_for(&rt, give_the_example(&rt, start, rest), cut);
     }
 }
 
 #[test]
 fn the_example_byte_by_byte(rt: HostRuntime) {
     let found = fed_byte_by_byte(rt.alloc(), &EXAMPLE_DUMP);
-    assert!(rt; is_example(found));
+    assert_for(&rt, is_example(found), "another snapshot");
 }
 
-// Whether a reader that is given this text byte by byte returns the fault from the byte at this offset on, from each
-// `feed` and then from `end`, and nothing before.
-fn keeps_fault(alloc: Global, text: &[u8], from: usize, fault: DumpError) -> bool {
-    let mut reader = DumpReader::new(alloc);
+// Whether a reader that is given this text byte by byte returns the fault from each `feed` from the byte at this offset
+// on, and nothing before.
+fn feeds_fault(reader: &mut DumpReader, text: &[u8], from: usize, fault: DumpError) -> bool {
     for (offset, byte) in text.iter().enumerate() {
         let expected = if offset < from { Ok(()) } else { Err(fault) };
         if reader.feed(&[*byte]) != expected {
             return false;
         }
     }
-    reader.end().err() == Some(fault)
+    true
+}
+
+// Whether it does so, and then returns the fault from `end`.
+fn keeps_fault(alloc: Global, text: &[u8], from: usize, fault: DumpError) -> bool {
+    let mut reader = DumpReader::new(alloc);
+    let fed = feeds_fault(&mut reader, text, from, fault);
+    let at_end = reader.end().err();
+    fed && at_end == Some(fault)
 }
 
 // Whether this text has the fault where it is decoded at once, and from the byte at this offset on where it comes byte
 // by byte.
 fn has_fault(alloc: Global, text: &[u8], from: usize, fault: DumpError) -> bool {
-    decode(alloc, text).err() == Some(fault) && keeps_fault(alloc, text, from, fault)
+    decodes_to(alloc, text, Some(fault)) && keeps_fault(alloc, text, from, fault)
 }
 
 #[test]
@@ -87,7 +117,7 @@ fn each_prefix_is_short(rt: HostRuntime) {
     for len in 0..52u32 {
         let start = &EXAMPLE_DUMP[..len as usize];
         let found = has_fault(rt.alloc(), start, start.len(), DumpError::Short(len));
-        assert!(rt; found, "{len} bytes");
+        assert_for(&rt, found, len);
     }
 }
 
@@ -122,14 +152,14 @@ fn is_told(rt: &(impl Abort + AllocGlobal), text: &[u8], fault: Option<DumpError
     if fault.is_none() {
         return give(rt, &[text], text);
     }
-    decode(rt.alloc(), text).err() == fault
+    decodes_to(rt.alloc(), text, fault)
 }
 
 #[test]
 fn one_byte_is_255(rt: HostRuntime) {
     for offset in 0..52usize {
         let text = with_255(offset);
-        assert!(rt; is_told(&rt, &text, fault_of_255(offset)), "{offset}");
+        assert_for(&rt, is_told(&rt, &text, fault_of_255(offset)), offset);
     }
 }
 
@@ -147,7 +177,9 @@ fn are_faults_of_two(
 ) -> bool {
     let (start, rest) = pieces;
     let mut reader = DumpReader::new(alloc);
-    reader.feed(start).err() == first && reader.feed(rest).err() == second
+    let found = reader.feed(start).err() == first && reader.feed(rest).err() == second;
+    drop(reader);
+    found
 }
 
 // Where the example with byte 255 at this offset is cut, its fault has to come with the piece that brings it.
@@ -164,7 +196,7 @@ fn expect_with_its_piece(
             None
         };
         let found = are_faults_of_two(rt.alloc(), text.split_at(cut), early, fault);
-        assert!(rt; found, "{offset}, cut at {cut}");
+        assert_for(rt, found, (offset, "cut at", cut));
     }
 }
 
@@ -187,29 +219,46 @@ fn a_fault_comes_with_its_piece(rt: HostRuntime) {
 #[test]
 fn no_elements(rt: HostRuntime) {
     let text = b"LBD1\0\0\0\x05\0\0\0\x02\0\0\0\0\0";
+    let (start, rest) = text.split_at(16);
+    assert_for(&rt, give(&rt, &[start], start), "16 bytes");
     let trailing = Some(DumpError::Trailing);
-    assert!(rt; give(&rt, &[&text[..16]], &text[..16]));
-    assert!(rt; decode(rt.alloc(), text).err() == trailing);
-    assert!(rt; are_faults_of_two(rt.alloc(), text.split_at(16), None, trailing));
+    assert_for(&rt, decodes_to(rt.alloc(), text, trailing), "17 bytes");
+    let found = are_faults_of_two(rt.alloc(), (start, rest), None, trailing);
+    assert_for(&rt, found, "in two pieces");
 }
 
-#[test]
-fn first_faults(rt: HostRuntime) {
+// A text has to have this fault, from the byte at this offset on.
+fn expect_fault(rt: &(impl Abort + AllocGlobal), text: &[u8], from: usize, fault: DumpError) {
+    assert_for(rt, has_fault(rt.alloc(), text, from, fault), (text, fault));
+}
+
+// The example and three bytes more.
+fn surplus() -> [u8; 55] {
     let mut surplus = [7; 55];
     surplus[..52].copy_from_slice(&EXAMPLE_DUMP);
-    assert!(rt; has_fault(rt.alloc(), &surplus, 52, DumpError::Trailing));
-    let mut place = EXAMPLE_DUMP;
-    place[51] = 2;
-    assert!(rt; has_fault(rt.alloc(), &place, 51, DumpError::Place(2)));
+    surplus
+}
+
+// The example with a count of one element more than the most.
+fn one_too_many() -> [u8; 52] {
     let mut count = EXAMPLE_DUMP;
     count[13] = 1;
     count[14] = 0;
     count[15] = 1;
-    assert!(rt; has_fault(rt.alloc(), &count, 15, DumpError::Count));
-    assert!(rt; has_fault(rt.alloc(), b"LX", 1, DumpError::Magic));
-    assert!(rt; has_fault(rt.alloc(), b"LBD2\0", 3, DumpError::Magic));
+    count
+}
+
+#[test]
+fn first_faults(rt: HostRuntime) {
+    expect_fault(&rt, &surplus(), 52, DumpError::Trailing);
+    let mut place = EXAMPLE_DUMP;
+    place[51] = 2;
+    expect_fault(&rt, &place, 51, DumpError::Place(2));
+    expect_fault(&rt, &one_too_many(), 15, DumpError::Count);
+    expect_fault(&rt, b"LX", 1, DumpError::Magic);
+    expect_fault(&rt, b"LBD2\0", 3, DumpError::Magic);
     let procs = b"LBD1\0\0\0\0\0\0\0\0\0";
-    assert!(rt; has_fault(rt.alloc(), procs, 11, DumpError::Procs));
+    expect_fault(&rt, procs, 11, DumpError::Procs);
 }
 
 // Whether the reading of a text ends with this fault, after so many calls of its reader.
@@ -230,7 +279,7 @@ fn expect_end_of_reading(
         let mut source = Source::new(&EXAMPLE_DUMP, at_once, Some((call, kind)));
         let next = call.saturating_add(1);
         let found = ends_reading(rt.alloc(), &mut source, DumpError::Read, next);
-        assert!(rt; found, "call {call} of {calls}, {kind:?}");
+        assert_for(rt, found, (call, "of", calls, kind));
     }
 }
 
@@ -257,9 +306,9 @@ fn reads_all(rt: &(impl Abort + AllocGlobal), at_once: usize, calls: usize) -> b
 
 #[test]
 fn a_reader_that_does_not_fail(rt: HostRuntime) {
-    assert!(rt; reads_all(&rt, 1, 53));
-    assert!(rt; reads_all(&rt, 7, 9));
-    assert!(rt; reads_all(&rt, 64, 2));
+    assert_for(&rt, reads_all(&rt, 1, 53), "1 byte a call");
+    assert_for(&rt, reads_all(&rt, 7, 9), "7 bytes a call");
+    assert_for(&rt, reads_all(&rt, 64, 2), "64 bytes a call");
 }
 
 // Whether the example is read from a reader that gives so many bytes a call and does not fail.
@@ -271,7 +320,7 @@ fn reads_in_pieces(rt: &(impl Abort + AllocGlobal), at_once: usize) -> bool {
 #[test]
 fn pieces_of_each_length(rt: HostRuntime) {
     for at_once in 1..=52usize {
-        assert!(rt; reads_in_pieces(&rt, at_once), "{at_once} bytes a call");
+        assert_for(&rt, reads_in_pieces(&rt, at_once), at_once);
     }
 }
 
@@ -286,9 +335,9 @@ fn has_size_first(alloc: Global, at_once: usize, calls: usize) -> bool {
 #[test]
 fn a_fault_before_a_failure(rt: HostRuntime) {
     // Byte 23 ends the size of element 0.
-    assert!(rt; has_size_first(rt.alloc(), 1, 24));
-    assert!(rt; has_size_first(rt.alloc(), 7, 4));
-    assert!(rt; has_size_first(rt.alloc(), 64, 1));
+    assert_for(&rt, has_size_first(rt.alloc(), 1, 24), "1 byte a call");
+    assert_for(&rt, has_size_first(rt.alloc(), 7, 4), "7 bytes a call");
+    assert_for(&rt, has_size_first(rt.alloc(), 64, 1), "64 bytes a call");
 }
 
 // Whether the writing of a snapshot fails after so many calls of its writer, which then has a start of the example.
@@ -297,19 +346,32 @@ fn ends_writing(sink: &mut Sink, snapshot: &Snapshot, calls: usize) -> bool {
     fault == Some(DumpError::Write) && sink.calls == calls && EXAMPLE_DUMP.starts_with(&sink.taken)
 }
 
+// Whether it does where the writer, which takes so many bytes a call, fails in this way at this call.
+fn ends_at_call(
+    rt: &impl AllocGlobal,
+    snapshot: &Snapshot,
+    at_once: usize,
+    call: usize,
+    error: Option<ErrorKind>,
+) -> bool {
+    let mut sink = Sink::new(rt, at_once, call, error);
+    let ends = ends_writing(&mut sink, snapshot, call.saturating_add(1));
+    drop(sink);
+    ends
+}
+
 // A writer of the example that takes so many bytes a call, and so has so many calls, has to end the writing at each
 // call at which it fails in this way.
 fn expect_end_of_writing(
     rt: &(impl Abort + AllocGlobal),
+    snapshot: &Snapshot,
     at_once: usize,
     calls: usize,
     error: Option<ErrorKind>,
 ) {
-    let snapshot = example(rt.alloc()).expect(rt, "out of memory");
     for call in 0..calls {
-        let mut sink = Sink::new(rt, at_once, call, error);
-        let found = ends_writing(&mut sink, &snapshot, call.saturating_add(1));
-        assert!(rt; found, "call {call} of {calls}, {error:?}");
+        let ends = ends_at_call(rt, snapshot, at_once, call, error);
+        assert_for(rt, ends, (call, "of", calls, error));
     }
 }
 
@@ -320,33 +382,40 @@ fn a_writer_that_fails_once(rt: HostRuntime) {
         Some(ErrorKind::Interrupted),
         Some(ErrorKind::Other),
     ];
+    let example = example(rt.alloc()).expect(&rt, "out of memory");
     for &error in &ERRORS {
         // The head of 16 bytes is written first, and then the three elements.
-        expect_end_of_writing(&rt, 1, 52, error);
-        expect_end_of_writing(&rt, 5, 12, error);
-        expect_end_of_writing(&rt, 64, 2, error);
+        expect_end_of_writing(&rt, &example, 1, 52, error);
+        expect_end_of_writing(&rt, &example, 5, 12, error);
+        expect_end_of_writing(&rt, &example, 64, 2, error);
     }
+    drop(example);
 }
 
 // Whether a writer that takes so many bytes a call, and fails after so many calls, has the whole example.
 fn writes_all(rt: &impl AllocGlobal, snapshot: &Snapshot, at_once: usize, calls: usize) -> bool {
     let mut sink = Sink::new(rt, at_once, calls, None);
     let wrote = write_to(&mut sink, snapshot).is_ok();
-    wrote && sink.calls == calls && sink.taken.as_slice() == EXAMPLE_DUMP.as_slice()
+    let all = wrote && sink.calls == calls && same(&sink.taken, &EXAMPLE_DUMP);
+    drop(sink);
+    all
 }
 
 #[test]
 fn a_writer_that_does_not_fail(rt: HostRuntime) {
     let snapshot = example(rt.alloc()).expect(&rt, "out of memory");
-    assert!(rt; writes_all(&rt, &snapshot, 1, 52));
-    assert!(rt; writes_all(&rt, &snapshot, 5, 12));
-    assert!(rt; writes_all(&rt, &snapshot, 64, 2));
+    assert_for(&rt, writes_all(&rt, &snapshot, 1, 52), "1 byte a call");
+    assert_for(&rt, writes_all(&rt, &snapshot, 5, 12), "5 bytes a call");
+    assert_for(&rt, writes_all(&rt, &snapshot, 64, 2), "64 bytes a call");
+    drop(snapshot);
 }
 
 // Whether this is the text of a fault.
 fn is_in_words(rt: &(impl Abort + AllocGlobal), fault: DumpError, text: &str) -> bool {
     let words = fault.to_string(rt.alloc()).expect(rt, "out of memory");
-    words.as_str() == text
+    let same = words.as_str() == text;
+    drop(words);
+    same
 }
 
 #[test]
@@ -364,8 +433,9 @@ fn numbers_and_words(rt: HostRuntime) {
         (DumpError::OutOfMemory, 10),
     ];
     for row in &FAULTS {
-        assert!(rt; row.0.number() == row.1, "{row:?}");
+        assert_for(&rt, row.0.number() == row.1, row);
     }
-    assert!(rt; is_in_words(&rt, DumpError::Short(9), "the dump ends after 9 bytes"));
+    let text = "the dump ends after 9 bytes";
+    assert_for(&rt, is_in_words(&rt, DumpError::Short(9), text), text);
     format_laws();
 }

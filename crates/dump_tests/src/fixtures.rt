@@ -1,22 +1,44 @@
 //! What the tests are made of: a full dump, as a snapshot and as bytes. What can't be made ends the test.
 
 use chare_index::Pe;
-use lb_dump::{DumpError, DumpReader, encode};
+use lb_dump::{DumpError, DumpReader, decode, encode};
 use lb_snapshot::{Loads, Sizes, Snapshot, Units};
 use std::alloc::Global;
+use std::fmt::Debug;
 use std::process::Abort;
 use test_fixtures::push_element;
 
+/// Ends the test where this does not hold, with what it was to hold for.
+pub(crate) fn assert_for<R: Debug + Copy>(rt: &impl Abort, holds: bool, row: R) {
+    assert!(rt; holds, "{row:?}");
+}
+
+/// Whether these lists are the same.
+pub(crate) fn same<T: PartialEq>(some: &[T], others: &[T]) -> bool {
+    some == others
+}
+
 /// Whether the example was found.
 pub(crate) fn is_example(found: Result<Snapshot, DumpError>) -> bool {
-    let Ok(found) = found else { return false };
-    test_fixtures::is_example(&found)
+    let same = match &found {
+        Ok(found) => test_fixtures::is_example(found),
+        Err(_) => false,
+    };
+    drop(found);
+    same
+}
+
+/// Whether a text that is decoded has this fault, or none.
+pub(crate) fn decodes_to(alloc: Global, text: &[u8], fault: Option<DumpError>) -> bool {
+    decode(alloc, text).err() == fault
 }
 
 /// Whether a snapshot has this text.
 pub(crate) fn has_text(rt: &(impl Abort + AllocGlobal), snapshot: &Snapshot, text: &[u8]) -> bool {
     let encoded = encode(rt.alloc(), snapshot).expect(rt, "out of memory");
-    encoded.as_slice() == text
+    let has = same(&encoded, text);
+    drop(encoded);
+    has
 }
 
 // The load, the size and the place of element `i` of a full array: loads of all widths, up to the greatest size.
@@ -55,10 +77,22 @@ pub(crate) fn full(rt: &(impl Abort + AllocGlobal)) -> Snapshot {
     Snapshot::new(u32::MAX, 256, loads, sizes).expect(rt, "no snapshot")
 }
 
+// Whether a snapshot is the full one.
+fn equals_full(rt: &(impl Abort + AllocGlobal), found: &Snapshot) -> bool {
+    let full = full(rt);
+    let same = *found == full;
+    drop(full);
+    same
+}
+
 /// Whether it was found.
 pub(crate) fn is_full(rt: &(impl Abort + AllocGlobal), found: Result<Snapshot, DumpError>) -> bool {
-    let Ok(found) = found else { return false };
-    found == full(rt)
+    let same = match &found {
+        Ok(found) => equals_full(rt, found),
+        Err(_) => false,
+    };
+    drop(found);
+    same
 }
 
 /// Its 786,448 bytes, element by element.
@@ -71,11 +105,28 @@ pub(crate) fn full_text(rt: &(impl Abort + AllocGlobal)) -> Vec<u8> {
     text
 }
 
-/// What a reader gives for a text that comes byte by byte, or why it gives nothing.
-pub(crate) fn fed_byte_by_byte(alloc: Global, text: &[u8]) -> Result<Snapshot, DumpError> {
-    let mut reader = DumpReader::new(alloc);
+/// What a reader gives at the end, or why it gives nothing, where this is how it took the text.
+pub(crate) fn ended(reader: DumpReader, fed: Result<(), DumpError>) -> Result<Snapshot, DumpError> {
+    match fed {
+        Ok(()) => reader.end(),
+        Err(fault) => {
+            drop(reader);
+            Err(fault)
+        }
+    }
+}
+
+// Gives a reader a text byte by byte.
+fn feed_bytes(reader: &mut DumpReader, text: &[u8]) -> Result<(), DumpError> {
     for byte in text {
         reader.feed(&[*byte])?;
     }
-    reader.end()
+    Ok(())
+}
+
+/// What a reader gives for a text that comes byte by byte, or why it gives nothing.
+pub(crate) fn fed_byte_by_byte(alloc: Global, text: &[u8]) -> Result<Snapshot, DumpError> {
+    let mut reader = DumpReader::new(alloc);
+    let fed = feed_bytes(&mut reader, text);
+    ended(reader, fed)
 }

@@ -1,81 +1,103 @@
 //! The most elements, encoded, written and read. The text has more than one block of the writer and more than one
 //! piece of the reader.
 
-use crate::fixtures::{self, full, full_text, has_text, is_full};
+use crate::fixtures::{self, assert_for, decodes_to, full, full_text, has_text, is_full, same};
 use lb_dump::{DumpError, decode, read_from, write_to};
 use lb_snapshot::Snapshot;
-use std::alloc::Global;
 use std::io::ErrorKind;
 use std::process::Abort;
 use test_fixtures::{Sink, Source};
 
 // Whether this is the text of the snapshot.
 fn is_encoded(rt: &(impl Abort + AllocGlobal), text: &[u8]) -> bool {
-    text.len() == 786_448 && has_text(rt, &full(rt), text)
+    let full = full(rt);
+    let encoded = has_text(rt, &full, text);
+    drop(full);
+    encoded && text.len() == 786_448
 }
 
 #[test]
 fn encoded(rt: HostRuntime) {
-    assert!(rt; is_encoded(&rt, &full_text(&rt)), "another text");
+    let text = full_text(&rt);
+    assert_for(&rt, is_encoded(&rt, &text), "another text");
+    drop(text);
 }
 
 #[test]
 fn decoded(rt: HostRuntime) {
-    let found = decode(rt.alloc(), &full_text(&rt));
-    assert!(rt; is_full(&rt, found), "another snapshot");
+    let text = full_text(&rt);
+    let found = decode(rt.alloc(), &text);
+    drop(text);
+    assert_for(&rt, is_full(&rt, found), "another snapshot");
 }
 
 // Whether a writer that takes so many bytes a call has this text of a snapshot.
 fn writes(rt: &impl AllocGlobal, at_once: usize, snapshot: &Snapshot, text: &[u8]) -> bool {
     let mut sink = Sink::new(rt, at_once, usize::MAX, None);
-    write_to(&mut sink, snapshot).is_ok() && sink.taken.as_slice() == text
+    let written = write_to(&mut sink, snapshot).is_ok() && same(&sink.taken, text);
+    drop(sink);
+    written
 }
 
 #[test]
 fn written(rt: HostRuntime) {
     let snapshot = full(&rt);
     let text = full_text(&rt);
-    assert!(rt; writes(&rt, 1_000, &snapshot, &text));
-    assert!(rt; writes(&rt, 1_000_000, &snapshot, &text));
+    assert_for(&rt, writes(&rt, 1_000, &snapshot, &text), 1_000);
+    assert_for(&rt, writes(&rt, 1_000_000, &snapshot, &text), 1_000_000);
+    drop(text);
+    drop(snapshot);
 }
 
-// Whether this reader gives the snapshot.
-fn reads(rt: &(impl Abort + AllocGlobal), source: &mut Source<'_>) -> bool {
-    is_full(rt, read_from(rt.alloc(), source))
+// Whether a reader of this text that gives so many bytes a call gives the snapshot.
+fn reads(rt: &(impl Abort + AllocGlobal), text: &[u8], at_once: usize) -> bool {
+    let mut source = Source::new(text, at_once, None);
+    is_full(rt, read_from(rt.alloc(), &mut source))
 }
 
 #[test]
 fn read_in_pieces(rt: HostRuntime) {
     let text = full_text(&rt);
-    assert!(rt; reads(&rt, &mut Source::new(&text, 1_000, None)));
-    assert!(rt; reads(&rt, &mut Source::new(&text, 65_536, None)));
-    assert!(rt; reads(&rt, &mut Source::new(&text, 1_000_000, None)));
+    assert_for(&rt, reads(&rt, &text, 1_000), 1_000);
+    assert_for(&rt, reads(&rt, &text, 65_536), 65_536);
+    assert_for(&rt, reads(&rt, &text, 1_000_000), 1_000_000);
+    drop(text);
+}
+
+// A reader of this text that gives one byte a call has to give the snapshot, by so many calls and the one at the end.
+fn expect_full(rt: &(impl Abort + AllocGlobal), text: &[u8]) {
+    let mut source = Source::new(text, 1, Some((786_449, ErrorKind::Other)));
+    let found = read_from(rt.alloc(), &mut source);
+    assert_for(rt, is_full(rt, found), "another snapshot");
+    assert_for(rt, source.calls == 786_449, "other calls");
 }
 
 #[test]
 fn read_byte_by_byte(rt: HostRuntime) {
     let text = full_text(&rt);
-    let mut source = Source::new(&text, 1, Some((786_449, ErrorKind::Other)));
-    assert!(rt; reads(&rt, &mut source), "another snapshot");
-    assert!(rt; source.calls == 786_449);
+    expect_full(&rt, &text);
+    drop(text);
 }
 
 #[test]
 fn fed_byte_by_byte(rt: HostRuntime) {
-    let found = fixtures::fed_byte_by_byte(rt.alloc(), &full_text(&rt));
-    assert!(rt; is_full(&rt, found), "another snapshot");
+    let text = full_text(&rt);
+    let found = fixtures::fed_byte_by_byte(rt.alloc(), &text);
+    drop(text);
+    assert_for(&rt, is_full(&rt, found), "another snapshot");
 }
 
-// Whether a text has this fault.
-fn has_fault(alloc: Global, text: &[u8], fault: DumpError) -> bool {
-    decode(alloc, text).err() == Some(fault)
+// A text has to have this fault.
+fn expect_fault(rt: &(impl Abort + AllocGlobal), text: &[u8], fault: DumpError) {
+    assert_for(rt, decodes_to(rt.alloc(), text, Some(fault)), fault);
 }
 
 #[test]
 fn one_byte_too_few_or_too_many(rt: HostRuntime) {
     let mut text = full_text(&rt);
-    assert!(rt; text.pop().is_some());
-    assert!(rt; has_fault(rt.alloc(), &text, DumpError::Short(786_447)));
+    assert_for(&rt, text.pop().is_some(), "no bytes");
+    expect_fault(&rt, &text, DumpError::Short(786_447));
     text.extend_from_slice(&[0, 0]).expect(&rt, "out of memory");
-    assert!(rt; has_fault(rt.alloc(), &text, DumpError::Trailing));
+    expect_fault(&rt, &text, DumpError::Trailing);
+    drop(text);
 }

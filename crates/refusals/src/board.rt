@@ -1,29 +1,37 @@
 //! The calls of a board.
 
-use crate::fixtures::assert_requests;
+use crate::fixtures::{Lent, assert_for, assert_requests};
 use at_sync::{Board, BoardError};
 use chare_index::{NoGate, Round};
 use refusing_alloc::{Outcome, Refusing};
-use std::alloc::Allocator;
+use std::alloc::{AllocError, Allocator};
+use std::process::Abort;
 use std::thread::Threads;
 use test_fixtures::{pe, round};
 
-// What a new board of three elements comes to.
-fn opens<A: Allocator + Copy>(alloc: A) -> Outcome {
-    let Ok(board) = Board::new(alloc, 3, 2) else {
+// What a board comes to that is to have three elements.
+fn opens<A: Allocator>(answer: Result<Board<A>, AllocError>) -> Outcome {
+    let Ok(board) = answer else {
         return Outcome::Refused;
     };
-    if board.len() == 3 {
+    let len = board.len();
+    drop(board);
+    if len == 3 {
         Outcome::Right
     } else {
         Outcome::Wrong
     }
 }
 
+// The same of a new board.
+fn opens_new(alloc: Lent<'_>) -> Outcome {
+    opens(Board::new(alloc, 3, 2))
+}
+
 #[test]
 fn new_boards(rt: HostRuntime) {
     let things = "the loads, the reports and who has finished";
-    assert_requests(&rt, |alloc| opens(alloc), 3, things);
+    assert_requests(&rt, opens_new, 3, things);
 }
 
 // Two elements on two PEs, both of which have reported, or `None` where there is no memory for them. A report that is
@@ -33,6 +41,11 @@ fn two_reported<A: Allocator + Copy>(alloc: A) -> Option<Board<A>> {
     let _taken = board.report(0, round(1), 3, 5, pe(0)).is_ok();
     let _taken = board.report(1, round(1), 3, 5, pe(1)).is_ok();
     Some(board)
+}
+
+// The same, where no memory for them ends the test.
+fn two<A: Allocator + Copy>(rt: &impl Abort, alloc: A) -> Board<A> {
+    two_reported(alloc).expect(rt, "out of memory")
 }
 
 // Whether the board waits for the decision of its first round.
@@ -62,9 +75,14 @@ fn all_stay<A: Allocator>(board: &Board<A>) -> bool {
     }
 }
 
+// Whether the board decides its first round.
+fn decides_first<A: Allocator + Copy>(board: &mut Board<A>) -> bool {
+    board.decide() == Ok(round(1))
+}
+
 // Whether the board decides its first round, and that alone, so that both elements stay.
 fn decides<A: Allocator + Copy>(board: &mut Board<A>) -> bool {
-    board.decide() == Ok(round(1)) && has_one_round(board) && all_stay(board)
+    decides_first(board) && has_one_round(board) && all_stay(board)
 }
 
 // The outcome of a decision. Where it was refused, the same call now decides the round.
@@ -75,20 +93,27 @@ fn asked_again<A: Allocator + Copy>(board: &mut Board<A>, outcome: Outcome) -> O
     outcome
 }
 
-// What a decision comes to.
-fn one_decides<A: Allocator + Copy>(alloc: A) -> Outcome {
-    let Some(mut board) = two_reported(alloc) else {
+// What a decision of a board comes to.
+fn is_decided<A: Allocator + Copy>(board: Option<Board<A>>) -> Outcome {
+    let Some(mut board) = board else {
         return Outcome::Refused;
     };
     let answer = board.decide();
     let outcome = comes_to(&board, answer);
-    asked_again(&mut board, outcome)
+    let outcome = asked_again(&mut board, outcome);
+    drop(board);
+    outcome
+}
+
+// The same of two elements that have reported.
+fn one_decides(alloc: Lent<'_>) -> Outcome {
+    is_decided(two_reported(alloc))
 }
 
 #[test]
 fn decisions_of_a_board(rt: HostRuntime) {
     let things = "those of the board, of one plan and of the pair that is kept";
-    assert_requests(&rt, |alloc| one_decides(alloc), 22, things);
+    assert_requests(&rt, one_decides, 22, things);
 }
 
 // The same of a decision by three workers.
@@ -98,7 +123,9 @@ fn three_decide<R: Threads + Sync, A: Allocator + Copy>(rt: &R, alloc: A) -> Out
     };
     let answer = board.decide_with(rt, 3, &NoGate);
     let outcome = comes_to(&board, answer);
-    asked_again(&mut board, outcome)
+    let outcome = asked_again(&mut board, outcome);
+    drop(board);
+    outcome
 }
 
 #[test]
@@ -116,27 +143,33 @@ fn one_finishes<A: Allocator + Copy>(alloc: A) -> bool {
     let Some(mut board) = two_reported(alloc) else {
         return false;
     };
-    board.finish(0).is_ok() && board.is_complete() && !board.all_finished()
+    let finished = board.finish(0).is_ok() && board.is_complete() && !board.all_finished();
+    drop(board);
+    finished
 }
 
 #[test]
 fn no_other_call_of_a_new_board_takes_memory(rt: HostRuntime) {
     let alloc = Refusing::new(rt.alloc(), 0);
-    assert!(rt; one_finishes(&alloc));
-    assert!(rt; alloc.requests() == 3, "those of the new board");
+    assert_for(&rt, one_finishes(&alloc), "one finishes");
+    assert_for(&rt, alloc.requests() == 3, "those of the new board");
 }
 
 // Whether the round that was just decided is handed out.
 fn hands_out<A: Allocator>(board: Board<A>) -> bool {
-    board.decision_for(round(1)).is_some() && board.into_rounds().len() == 1
+    let decided = board.decision_for(round(1)).is_some();
+    let rounds = board.into_rounds();
+    let len = rounds.len();
+    drop(rounds);
+    decided && len == 1
 }
 
 #[test]
 fn no_other_call_takes_memory_after_a_decision(rt: HostRuntime) {
     let alloc = Refusing::new(rt.alloc(), 0);
-    let mut board = two_reported(&alloc).expect(&rt, "out of memory");
-    assert!(rt; board.decide() == Ok(round(1)));
+    let mut board = two(&rt, &alloc);
+    assert_for(&rt, decides_first(&mut board), "decided");
     let decided = alloc.requests();
-    assert!(rt; hands_out(board));
-    assert!(rt; alloc.requests() == decided, "those of the decision");
+    assert_for(&rt, hands_out(board), "handed out");
+    assert_for(&rt, alloc.requests() == decided, "those of the decision");
 }

@@ -1,9 +1,19 @@
-//! Five loads, and how refusals are counted. What can't be made ends the test.
+//! What the tests start from, whether lists are the same, and how refusals are counted. What can't be made ends the
+//! test.
 
-use lb_certificates::Loads;
+use block_assignment::CostTable;
+use chain_partition::Prefix;
+use lb_certificates::{Cuts, Loads, Snapshot};
 use refusing_alloc::{Outcome, Refusing, each_refusal};
-use std::alloc::Global;
+use std::alloc::{Allocator, Global};
+use std::fmt::Debug;
 use std::process::Abort;
+use test_fixtures::{example, example_sizes};
+
+/// Ends the test where this does not hold, with what it was to hold for.
+pub(crate) fn assert_for<R: Debug + Copy>(rt: &impl Abort, holds: bool, row: R) {
+    assert!(rt; holds, "{row:?}");
+}
 
 /// An allocator that may refuse a request, lent.
 pub(crate) type Lent<'a> = &'a Refusing<Global>;
@@ -17,6 +27,44 @@ pub(crate) fn five(rt: &(impl Abort + AllocGlobal)) -> Loads {
     Loads::new(units).expect(rt, "too many loads")
 }
 
+/// The running sums of five.
+pub(crate) fn sums<A: Allocator>(rt: &(impl Abort + AllocGlobal), alloc: A) -> Prefix<A> {
+    let five = five(rt);
+    let sums = Prefix::of(alloc, &five).expect(rt, "out of memory");
+    drop(five);
+    sums
+}
+
+/// The example.
+pub(crate) fn snapshot<A: Allocator + Copy>(rt: &impl Abort, alloc: A) -> Snapshot<A> {
+    example(alloc).expect(rt, "out of memory")
+}
+
+/// The cuts of the example's two blocks.
+pub(crate) fn cuts(rt: &(impl Abort + AllocGlobal)) -> Cuts {
+    Cuts::new(Vec::from_slice(rt.alloc(), &[0, 2, 3]).expect(rt, "out of memory"))
+}
+
+/// The table of the costs of the example's two blocks.
+pub(crate) fn table<A: Allocator + Copy>(
+    rt: &(impl Abort + AllocGlobal),
+    alloc: A,
+) -> CostTable<A> {
+    let sizes = example_sizes(rt.alloc()).expect(rt, "out of memory");
+    let cuts = cuts(rt);
+    let divided = cuts.as_slice().len() == 3 && cuts.divides(sizes.len());
+    assert_for(rt, divided, "two blocks");
+    let table = CostTable::of(alloc, &sizes, &cuts).expect(rt, "out of memory");
+    drop(cuts);
+    drop(sizes);
+    table
+}
+
+/// Whether these are the same items.
+pub(crate) fn same<T: PartialEq>(some: &[T], others: &[T]) -> bool {
+    some == others
+}
+
 /// Asserts that an attempt makes so many requests, for these things, each of which is refused and told.
 pub(crate) fn assert_requests<F: Fn(&Refusing<Global>) -> Outcome>(
     rt: &(impl Abort + AllocGlobal),
@@ -28,5 +76,5 @@ pub(crate) fn assert_requests<F: Fn(&Refusing<Global>) -> Outcome>(
 {
     let refusals = each_refusal(rt.alloc(), MOST_TURNS, attempt);
     let refusals = refusals.expect(rt, "a refusal was not told");
-    assert_eq!(rt; refusals, requests, "{things}");
+    assert_for(rt, refusals == requests, (things, refusals, requests));
 }

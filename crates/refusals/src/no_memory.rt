@@ -1,18 +1,18 @@
 //! Calls that promise to take no memory make no request.
 
-use crate::dumps::read;
-use crate::fixtures::{Lent, five};
+use crate::dumps::end;
+use crate::fixtures::{Lent, assert_for, same, snapshot, sums, table};
 use block_assignment::CostTable;
 use chain_partition::Prefix;
 use chare_index::Index;
-use lb_certificates::{Cuts, Loads, Sizes, Snapshot, check_division, check_naming};
+use lb_certificates::{Snapshot, check_division, check_naming};
 use lb_database::LoadDb;
 use lb_dump::{DumpReader, write_to};
 use lb_strategy::{Decision, check, plan};
 use refusing_alloc::{Outcome, Refusing};
-use std::alloc::{AllocError, Allocator, Global};
+use std::alloc::{Allocator, Global};
 use std::process::Abort;
-use test_fixtures::{EXAMPLE_DUMP, example, example_sizes, pe, round};
+use test_fixtures::{EXAMPLE_DUMP, example, pe, round};
 
 // Whether element `i` does its work in the first round and reports it on PE 0, and then does more.
 fn takes_part<A: Allocator>(db: &mut LoadDb<A>, i: u32) -> bool {
@@ -46,22 +46,24 @@ fn goes_on<A: Allocator + Copy>(alloc: A) -> bool {
     let Ok(mut db) = LoadDb::new(alloc, 3) else {
         return false;
     };
-    refuses(&mut db) && has_whole_round(&mut db) && has_begun(&db)
+    let right = refuses(&mut db) && has_whole_round(&mut db) && has_begun(&db);
+    drop(db);
+    right
 }
 
 #[test]
 fn a_database_that_was_made(rt: HostRuntime) {
     let alloc = Refusing::new(rt.alloc(), 0);
-    assert!(rt; goes_on(&alloc));
-    assert!(rt; alloc.requests() == 2, "its two lists");
+    assert_for(&rt, goes_on(&alloc), "goes on");
+    assert_for(&rt, alloc.requests() == 2, "its two lists");
 }
 
 // A reader that has read no bytes, without a request, and then the example.
 fn fed<'a>(rt: &impl Abort, alloc: Lent<'a>) -> DumpReader<Lent<'a>> {
     let mut reader = DumpReader::new(alloc);
-    assert!(rt; reader.feed(&[]).is_ok());
-    assert!(rt; alloc.requests() == 0);
-    assert!(rt; reader.feed(&EXAMPLE_DUMP).is_ok());
+    assert_for(rt, reader.feed(&[]).is_ok(), "no bytes");
+    assert_for(rt, alloc.requests() == 0, "requests");
+    assert_for(rt, reader.feed(&EXAMPLE_DUMP).is_ok(), "the example");
     reader
 }
 
@@ -70,7 +72,8 @@ fn refuses_more<A: Allocator + Copy>(mut reader: DumpReader<A>) -> bool {
     let no_bytes = reader.feed(&[]).is_ok();
     let once = reader.feed(&EXAMPLE_DUMP).is_err();
     let twice = reader.feed(&EXAMPLE_DUMP).is_err();
-    no_bytes && once && twice && reader.end().is_err()
+    let at_end = reader.end().err().is_some();
+    no_bytes && once && twice && at_end
 }
 
 #[test]
@@ -78,8 +81,8 @@ fn a_reader_of_no_bytes_and_of_too_many(rt: HostRuntime) {
     let alloc = Refusing::new(rt.alloc(), 0);
     let reader = fed(&rt, &alloc);
     let made = alloc.requests();
-    assert!(rt; refuses_more(reader));
-    assert!(rt; alloc.requests() == made);
+    assert_for(&rt, refuses_more(reader), "refuses more");
+    assert_for(&rt, alloc.requests() == made, "those of the reader");
 }
 
 #[test]
@@ -87,23 +90,26 @@ fn the_end_of_a_reader(rt: HostRuntime) {
     let alloc = Refusing::new(rt.alloc(), 0);
     let reader = fed(&rt, &alloc);
     let made = alloc.requests();
-    assert!(rt; read(reader.end()) == Outcome::Right);
-    assert!(rt; alloc.requests() == made);
+    assert_for(&rt, end(reader) == Outcome::Right, "the example");
+    assert_for(&rt, alloc.requests() == made, "those of the reader");
 }
 
 // Whether the example is written as it should be.
-fn is_written<A: Allocator>(alloc: Global, example: &Snapshot<A>) -> bool {
+fn is_written<A: Allocator>(alloc: Global, example: Snapshot<A>) -> bool {
     let mut written = Vec::new(alloc);
-    write_to(&mut written, example).is_ok() && written.as_slice() == EXAMPLE_DUMP.as_slice()
+    let right = write_to(&mut written, &example).is_ok() && same(written.as_slice(), &EXAMPLE_DUMP);
+    drop(written);
+    drop(example);
+    right
 }
 
 #[test]
 fn a_dump_that_is_written(rt: HostRuntime) {
     let alloc = Refusing::new(rt.alloc(), 0);
-    let snapshot = example(&alloc).expect(&rt, "out of memory");
+    let snapshot = snapshot(&rt, &alloc);
     let made = alloc.requests();
-    assert!(rt; is_written(rt.alloc(), &snapshot));
-    assert!(rt; alloc.requests() == made);
+    assert_for(&rt, is_written(rt.alloc(), snapshot), "written");
+    assert_for(&rt, alloc.requests() == made, "those of the example");
 }
 
 // Whether the decision on the example is accepted, in parts and whole, and not for three PEs.
@@ -118,47 +124,66 @@ fn is_accepted<A: Allocator>(snapshot: &Snapshot<A>, decision: &Decision<A>) -> 
 
 // Whether a decision is planned for the snapshot.
 fn is_planned<A: Allocator + Copy, B: Allocator>(alloc: A, snapshot: &Snapshot<B>) -> bool {
-    plan(alloc, snapshot, 2).is_ok()
+    let answer = plan(alloc, snapshot, 2);
+    let planned = answer.is_ok();
+    drop(answer);
+    planned
 }
 
 // Whether the decision planned for the snapshot is accepted.
 fn is_planned_well<A: Allocator + Copy>(alloc: A, snapshot: &Snapshot<A>) -> bool {
-    match &plan(alloc, snapshot, 2) {
-        Ok(decision) => is_accepted(snapshot, decision),
-        Err(_) => false,
-    }
+    let Ok(decision) = plan(alloc, snapshot, 2) else {
+        return false;
+    };
+    let accepted = is_accepted(snapshot, &decision);
+    drop(decision);
+    accepted
+}
+
+// Whether a decision is planned for the example, which is made first.
+fn plans<A: Allocator + Copy>(alloc: A) -> bool {
+    let Ok(snapshot) = example(alloc) else {
+        return false;
+    };
+    let planned = is_planned(alloc, &snapshot);
+    drop(snapshot);
+    planned
+}
+
+// The same, where the decision is accepted too.
+fn plans_well<A: Allocator + Copy>(alloc: A) -> bool {
+    let Ok(snapshot) = example(alloc) else {
+        return false;
+    };
+    let planned = is_planned_well(alloc, &snapshot);
+    drop(snapshot);
+    planned
 }
 
 #[test]
 fn a_decision_that_is_checked(rt: HostRuntime) {
     let alone = Refusing::new(rt.alloc(), 0);
-    let snapshot = example(&alone).expect(&rt, "out of memory");
-    assert!(rt; is_planned(&alone, &snapshot));
+    assert_for(&rt, plans(&alone), "the plan alone");
     let alloc = Refusing::new(rt.alloc(), 0);
-    let snapshot = example(&alloc).expect(&rt, "out of memory");
-    assert!(rt; is_planned_well(&alloc, &snapshot));
-    assert!(rt;
-        alloc.requests() == alone.requests(),
-        "those of the plan alone"
-    );
+    assert_for(&rt, plans_well(&alloc), "accepted");
+    let same = alloc.requests() == alone.requests();
+    assert_for(&rt, same, "those of the plan alone");
 }
 
-// Whether the example's costs are read without a request.
-fn is_read(alloc: Lent<'_>, sizes: &Sizes, cuts: &Cuts) -> Result<bool, AllocError> {
-    if cuts.as_slice().len() != 3 || !cuts.divides(sizes.len()) {
-        return Ok(false);
-    }
-    let table = CostTable::of(alloc, sizes, cuts)?;
-    let made = alloc.requests();
-    Ok(table.blocks() == 2 && table.cost(1, 1) == 8 && alloc.requests() == made)
+// Whether a table of two blocks ends with the cost of 8.
+fn has_last_cost<A: Allocator>(table: CostTable<A>) -> bool {
+    let right = table.blocks() == 2 && table.cost(1, 1) == 8;
+    drop(table);
+    right
 }
 
 #[test]
 fn a_table_that_is_read(rt: HostRuntime) {
     let alloc = Refusing::new(rt.alloc(), 0);
-    let cuts = Cuts::new(Vec::from_slice(rt.alloc(), &[0, 2, 3]).expect(&rt, "out of memory"));
-    let sizes = example_sizes(rt.alloc()).expect(&rt, "out of memory");
-    assert!(rt; is_read(&alloc, &sizes, &cuts) == Ok(true));
+    let table = table(&rt, &alloc);
+    let made = alloc.requests();
+    assert_for(&rt, has_last_cost(table), "the last cost");
+    assert_for(&rt, alloc.requests() == made, "those of the table");
 }
 
 // Whether the last element of the example stays on PE 0 by the decision planned for it.
@@ -172,33 +197,35 @@ fn stays<A: Allocator + Copy>(alloc: A, example: &Snapshot) -> bool {
     let Ok(decision) = plan(alloc, example, 2) else {
         return false;
     };
-    decision.place_of(last) == pe(0)
+    let stays = decision.place_of(last) == pe(0);
+    drop(decision);
+    stays
 }
 
 #[test]
 fn a_place_that_is_read(rt: HostRuntime) {
-    let example = example(rt.alloc()).expect(&rt, "out of memory");
+    let example = snapshot(&rt, rt.alloc());
     let alone = Refusing::new(rt.alloc(), 0);
-    assert!(rt; is_planned(&alone, &example));
+    assert_for(&rt, is_planned(&alone, &example), "the plan alone");
     let alloc = Refusing::new(rt.alloc(), 0);
-    assert!(rt; stays(&alloc, &example));
-    assert!(rt;
-        alloc.requests() == alone.requests(),
-        "those of the plan alone"
-    );
+    assert_for(&rt, stays(&alloc, &example), "stays");
+    drop(example);
+    let same = alloc.requests() == alone.requests();
+    assert_for(&rt, same, "those of the plan alone");
 }
 
-// Whether loads of five are told without a request.
-fn are_summed(alloc: Lent<'_>, five: &Loads) -> Result<bool, AllocError> {
-    let prefix = Prefix::of(alloc, five)?;
-    let made = alloc.requests();
-    let told = prefix.len() == 5 && !prefix.is_empty() && prefix.load(1, 3) == 5;
-    Ok(told && alloc.requests() == made)
+// Whether running sums tell loads of five.
+fn are_told<A: Allocator>(sums: Prefix<A>) -> bool {
+    let told = sums.len() == 5 && !sums.is_empty() && sums.load(1, 3) == 5;
+    drop(sums);
+    told
 }
 
 #[test]
 fn loads_by_running_sums(rt: HostRuntime) {
     let alloc = Refusing::new(rt.alloc(), 0);
-    let five = five(&rt);
-    assert!(rt; are_summed(&alloc, &five) == Ok(true));
+    let sums = sums(&rt, &alloc);
+    let made = alloc.requests();
+    assert_for(&rt, are_told(sums), "the loads");
+    assert_for(&rt, alloc.requests() == made, "those of the sums");
 }

@@ -1,23 +1,44 @@
 //! Which request is refused, and what each way to answer a refusal leads to.
 
-use crate::fixtures::Lent;
+use crate::fixtures::{Lent, assert_for};
 use refusing_alloc::{Failure, Outcome, Refusing, each_refusal};
 use std::alloc::{AllocError, Allocator, Global};
+use std::process::Abort;
 use std::sync::atomic::{AtomicU64, Ordering};
 use std::thread::{self, Threads};
+
+// The sum of these numbers.
+fn sum_of(numbers: &[u64]) -> u64 {
+    let mut sum = 0u64;
+    for n in numbers {
+        sum = sum.wrapping_add(*n);
+    }
+    sum
+}
+
+// The sum of two numbers, put into a list that has room for one.
+fn sum_in<A: Allocator>(numbers: &mut Vec<u64, A>) -> Result<u64, AllocError> {
+    numbers.push(20)?;
+    numbers.reserve_exact(5)?;
+    numbers.push(22)?;
+    numbers.shrink_to_fit();
+    Ok(sum_of(numbers.as_slice()))
+}
 
 // Two requests, the second of them to grow. To shrink and to give back are none.
 fn sum_of_two<A: Allocator>(alloc: A) -> Result<u64, AllocError> {
     let mut numbers = Vec::with_capacity(alloc, 1)?;
-    numbers.push(20u64)?;
-    numbers.reserve_exact(5)?;
-    numbers.push(22)?;
-    numbers.shrink_to_fit();
-    Ok(numbers.iter().fold(0u64, |sum, n| sum.wrapping_add(*n)))
+    let sum = sum_in(&mut numbers);
+    drop(numbers);
+    sum
 }
 
 fn sums(alloc: Lent<'_>) -> Outcome {
-    Outcome::from(sum_of_two(alloc).map(|sum| sum == 42))
+    match sum_of_two(alloc) {
+        Ok(42) => Outcome::Right,
+        Ok(_) => Outcome::Wrong,
+        Err(AllocError) => Outcome::Refused,
+    }
 }
 
 // The request to refuse, the sum that is made then, and how many requests were made.
@@ -40,12 +61,12 @@ fn one_request_is_refused(rt: HostRuntime) {
         (3, Ok(42), 2),
     ];
     for row in &ROWS {
-        assert!(rt; is_summed(rt.alloc(), row), "{row:?}");
+        assert_for(&rt, is_summed(rt.alloc(), row), row);
     }
 }
 
 // How many of five thousand requests are granted.
-fn granted(alloc: Lent<'_>) -> u32 {
+fn granted<A: Allocator + Copy>(alloc: A) -> u32 {
     let mut granted = 0u32;
     for n in 0..5000u32 {
         if Box::new(alloc, n).is_ok() {
@@ -64,9 +85,9 @@ fn granted_to_two<R: Threads>(rt: &R, alloc: Lent<'_>) -> u32 {
 #[test]
 fn two_threads_share_one_refusal(rt: HostRuntime) {
     let alloc = Refusing::new(rt.alloc(), 9);
-    assert!(rt; granted_to_two(&rt, &alloc) == 9999);
-    assert!(rt; alloc.requests() == 10_000);
-    assert!(rt; alloc.has_refused());
+    assert_for(&rt, granted_to_two(&rt, &alloc) == 9999, "granted");
+    assert_for(&rt, alloc.requests() == 10_000, "requests");
+    assert_for(&rt, alloc.has_refused(), "refused");
 }
 
 // An attempt at a sum of two, which comes to these outcomes where it is refused and where it has its sum.
@@ -83,7 +104,7 @@ fn sums_told(alloc: Global, refused: Outcome, summed: Outcome) -> Result<u64, Fa
 }
 
 // So many requests.
-fn ask(alloc: Lent<'_>, requests: u32) -> Outcome {
+fn ask<A: Allocator + Copy>(alloc: A, requests: u32) -> Outcome {
     for n in 0..requests {
         if Box::new(alloc, n).is_err() {
             return Outcome::Refused;
@@ -99,8 +120,10 @@ fn thirty(alloc: Lent<'_>) -> Outcome {
 
 #[test]
 fn each_of_many_requests_is_refused(rt: HostRuntime) {
-    assert!(rt; each_refusal(rt.alloc(), 31, thirty) == Ok(30));
-    assert!(rt; each_refusal(rt.alloc(), 30, thirty) == Err(Failure::TooManyTurns(30)));
+    let alloc = rt.alloc();
+    assert_for(&rt, each_refusal(alloc, 31, thirty) == Ok(30), "31 turns");
+    let too_few = Err(Failure::TooManyTurns(30));
+    assert_for(&rt, each_refusal(alloc, 30, thirty) == too_few, "30 turns");
 }
 
 // The request of thirty to refuse, what they come to, how many were made, and whether one was refused.
@@ -123,7 +146,7 @@ fn one_of_many_requests_is_refused(rt: HostRuntime) {
         (31, Outcome::Right, 30, false),
     ];
     for row in &ROWS {
-        assert!(rt; is_thirty(rt.alloc(), row), "{row:?}");
+        assert_for(&rt, is_thirty(rt.alloc(), row), row);
     }
 }
 
@@ -143,9 +166,14 @@ fn second_told(alloc: Global, outcome: Outcome) -> Result<u64, Failure> {
 
 #[test]
 fn the_second_refusal_is_looked_at_too(rt: HostRuntime) {
-    assert!(rt; second_told(rt.alloc(), Outcome::Refused) == Ok(2));
-    assert!(rt; second_told(rt.alloc(), Outcome::Right) == Err(Failure::Ignored(2)));
-    assert!(rt; second_told(rt.alloc(), Outcome::Wrong) == Err(Failure::Wrong(2)));
+    const ROWS: [(Outcome, Result<u64, Failure>); 3] = [
+        (Outcome::Refused, Ok(2)),
+        (Outcome::Right, Err(Failure::Ignored(2))),
+        (Outcome::Wrong, Err(Failure::Wrong(2))),
+    ];
+    for row in &ROWS {
+        assert_for(&rt, second_told(rt.alloc(), row.0) == row.1, row);
+    }
 }
 
 // A sum of two in the first runs, and then this outcome without a request.
@@ -185,7 +213,7 @@ fn each_run_is_looked_at(rt: HostRuntime) {
         (5, Outcome::Wrong, Ok(2)),
     ];
     for row in &ROWS {
-        assert!(rt; are_looked_at(rt.alloc(), row), "{row:?}");
+        assert_for(&rt, are_looked_at(rt.alloc(), row), row);
     }
 }
 
@@ -201,45 +229,44 @@ fn asks_for_none(alloc: Global, most_turns: u64, outcome: Outcome) -> Result<u64
 
 #[test]
 fn attempts_without_a_fault(rt: HostRuntime) {
-    assert!(rt; each_refusal(rt.alloc(), 3, sums) == Ok(2));
-    assert!(rt; asks_for_none(rt.alloc(), 1, Outcome::Right) == Ok(0));
+    let alloc = rt.alloc();
+    assert_for(&rt, each_refusal(alloc, 3, sums) == Ok(2), "sums");
+    let none = asks_for_none(alloc, 1, Outcome::Right);
+    assert_for(&rt, none == Ok(0), "no requests");
 }
 
-// Whether an attempt that asks for nothing fails in this way.
-fn fails_at_once(alloc: Global, outcome: Outcome, failure: Failure) -> bool {
-    asks_for_none(alloc, 9, outcome) == Err(failure)
+// Asserts that attempts that ask for nothing fail as they should, and those that ask for more than there are turns.
+fn assert_faults_without_a_sum(rt: &(impl Abort + AllocGlobal)) {
+    let alloc = rt.alloc();
+    let wrong = asks_for_none(alloc, 9, Outcome::Wrong);
+    assert_for(rt, wrong == Err(Failure::Wrong(1)), wrong);
+    let refused = asks_for_none(alloc, 9, Outcome::Refused);
+    assert_for(rt, refused == Err(Failure::GaveUp(1)), refused);
+    let two = each_refusal(alloc, 2, sums);
+    assert_for(rt, two == Err(Failure::TooManyTurns(2)), two);
+    let nine = each_refusal(alloc, 9, asks_for_more);
+    assert_for(rt, nine == Err(Failure::TooManyTurns(9)), nine);
 }
 
-// Whether an attempt fails in this way that comes to these outcomes where it is refused and where it has its sum.
-fn fails(alloc: Global, refused: Outcome, summed: Outcome, failure: Failure) -> bool {
-    sums_told(alloc, refused, summed) == Err(failure)
+// What an attempt comes to where it is refused and where it has its sum, and the way in which it fails.
+type FaultRow = (Outcome, Outcome, Failure);
+
+fn fails(alloc: Global, row: &FaultRow) -> bool {
+    sums_told(alloc, row.0, row.1) == Err(row.2)
 }
 
 #[test]
 fn each_fault_is_found(rt: HostRuntime) {
-    let alloc = rt.alloc();
-    assert!(rt; fails_at_once(alloc, Outcome::Wrong, Failure::Wrong(1)));
-    assert!(rt; fails_at_once(alloc, Outcome::Refused, Failure::GaveUp(1)));
-    assert!(rt; fails(alloc, Outcome::Wrong, Outcome::Right, Failure::Wrong(1)));
-    assert!(rt; fails(alloc, Outcome::Right, Outcome::Right, Failure::Ignored(1)));
-    assert!(rt;
-        fails(
-            alloc,
-            Outcome::Refused,
-            Outcome::Wrong,
-            Failure::WrongAfter(1)
-        )
-    );
-    assert!(rt;
-        fails(
-            alloc,
-            Outcome::Refused,
-            Outcome::Refused,
-            Failure::GaveUpAfter(1)
-        )
-    );
-    assert!(rt; each_refusal(alloc, 2, sums) == Err(Failure::TooManyTurns(2)));
-    assert!(rt; each_refusal(alloc, 9, asks_for_more) == Err(Failure::TooManyTurns(9)));
+    const ROWS: [FaultRow; 4] = [
+        (Outcome::Wrong, Outcome::Right, Failure::Wrong(1)),
+        (Outcome::Right, Outcome::Right, Failure::Ignored(1)),
+        (Outcome::Refused, Outcome::Wrong, Failure::WrongAfter(1)),
+        (Outcome::Refused, Outcome::Refused, Failure::GaveUpAfter(1)),
+    ];
+    for row in &ROWS {
+        assert_for(&rt, fails(rt.alloc(), row), row);
+    }
+    assert_faults_without_a_sum(&rt);
 }
 
 // A failure, and the words in which it is told.
@@ -247,10 +274,12 @@ type Told = (Failure, &'static str);
 
 fn is_told(alloc: Global, row: &Told) -> bool {
     let (failure, text) = *row;
-    match format!(in alloc; "{failure}") {
-        Ok(told) => told.as_str() == text,
-        Err(AllocError) => false,
-    }
+    let Ok(told) = format!(in alloc; "{failure}") else {
+        return false;
+    };
+    let same = told.as_str() == text;
+    drop(told);
+    same
 }
 
 #[test]
@@ -271,6 +300,6 @@ fn each_fault_is_told(rt: HostRuntime) {
         (Failure::TooManyTurns(9), "9 turns did not end the refusals"),
     ];
     for row in &TEXTS {
-        assert!(rt; is_told(rt.alloc(), row), "{}", row.1);
+        assert_for(&rt, is_told(rt.alloc(), row), row);
     }
 }

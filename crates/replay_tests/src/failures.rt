@@ -1,7 +1,7 @@
 //! Readers and writers that fail at each call and then go on: any error counts as a failure, and no call is tried
 //! again.
 
-use crate::fixtures::{TEXT, ends, has, is_end, replayed};
+use crate::fixtures::{TEXT, assert_for, ends, has, is_end, replayed};
 use lb_dump::DumpError;
 use lb_replay::Ended;
 use std::io::{self, ErrorKind, Write};
@@ -19,10 +19,11 @@ fn ends_at_failure(rt: &impl AllocGlobal, call: usize) -> bool {
 fn a_reader_that_fails_at_each_call(rt: HostRuntime) {
     // Eleven calls for the bytes, and one at the end.
     for call in 0..12 {
-        assert!(rt; ends_at_failure(&rt, call), "call {call}");
+        assert_for(&rt, ends_at_failure(&rt, call), call);
     }
     let mut reader = Source::new(&EXAMPLE_DUMP, 5, Some((12, ErrorKind::Interrupted)));
-    assert!(rt; ends(&rt, &mut reader, None, TEXT, Ended::Printed));
+    let printed = ends(&rt, &mut reader, None, TEXT, Ended::Printed);
+    assert_for(&rt, printed, "no failure");
 }
 
 // Whether a replay of this dump ends where its writer, which takes so many bytes a call, fails so at this call. The
@@ -38,7 +39,9 @@ fn ends_at_write(
     let mut writer = Sink::new(rt, step, call, error);
     let ended = replayed(rt.alloc(), dump, &mut writer);
     let taken = step.saturating_mul(call);
-    ended == Ended::WriteFailed && has(&writer, call.saturating_add(1), text, taken)
+    let ends = ended == Ended::WriteFailed && has(&writer, call.saturating_add(1), text, taken);
+    drop(writer);
+    ends
 }
 
 #[test]
@@ -52,9 +55,9 @@ fn a_writer_that_fails_at_each_call(rt: HostRuntime) {
             8,
             (call, Some(ErrorKind::Interrupted)),
         );
-        assert!(rt; failed, "an error at call {call}");
+        assert_for(&rt, failed, ("an error at call", call));
         let failed = ends_at_write(&rt, &EXAMPLE_DUMP, TEXT, 8, (call, None));
-        assert!(rt; failed, "nothing taken at call {call}");
+        assert_for(&rt, failed, ("nothing taken at call", call));
     }
 }
 
@@ -62,14 +65,16 @@ fn a_writer_that_fails_at_each_call(rt: HostRuntime) {
 fn prints_all(rt: &impl AllocGlobal, step: usize, calls: usize) -> bool {
     let mut writer = Sink::new(rt, step, calls, Some(ErrorKind::Interrupted));
     let ended = replayed(rt.alloc(), &EXAMPLE_DUMP, &mut writer);
-    ended == Ended::Printed && has(&writer, calls, TEXT, TEXT.len())
+    let prints = ended == Ended::Printed && has(&writer, calls, TEXT, TEXT.len());
+    drop(writer);
+    prints
 }
 
 #[test]
 fn a_writer_that_fails_at_no_call(rt: HostRuntime) {
-    assert!(rt; prints_all(&rt, 8, 14), "8 bytes a call");
-    assert!(rt; prints_all(&rt, 1, 110), "1 byte a call");
-    assert!(rt; prints_all(&rt, 1000, 1), "1000 bytes a call");
+    assert_for(&rt, prints_all(&rt, 8, 14), "8 bytes a call");
+    assert_for(&rt, prints_all(&rt, 1, 110), "1 byte a call");
+    assert_for(&rt, prints_all(&rt, 1000, 1), "1000 bytes a call");
 }
 
 #[test]
@@ -77,7 +82,7 @@ fn the_line_of_a_fault_fails_too(rt: HostRuntime) {
     let line = "dump: not LBD1\n";
     for call in 0..15 {
         let failed = ends_at_write(&rt, b"LBD2", line, 1, (call, Some(ErrorKind::Interrupted)));
-        assert!(rt; failed, "call {call}");
+        assert_for(&rt, failed, call);
     }
 }
 
@@ -119,11 +124,17 @@ impl Write for Held {
 fn gives(rt: &impl AllocGlobal, fails: bool, end: Ended, text: &str) -> bool {
     let mut writer = Held::new(rt, fails);
     let ended = replayed(rt.alloc(), &EXAMPLE_DUMP, &mut writer);
-    is_end(ended, &writer.given, end, text)
+    let gives = is_end(ended, &writer.given, end, text);
+    drop(writer);
+    gives
 }
 
 #[test]
 fn what_was_written_is_flushed(rt: HostRuntime) {
-    assert!(rt; gives(&rt, false, Ended::Printed, TEXT), "flushed");
-    assert!(rt; gives(&rt, true, Ended::WriteFailed, ""), "the flush fails");
+    assert_for(&rt, gives(&rt, false, Ended::Printed, TEXT), "flushed");
+    assert_for(
+        &rt,
+        gives(&rt, true, Ended::WriteFailed, ""),
+        "the flush fails",
+    );
 }

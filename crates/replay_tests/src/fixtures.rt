@@ -6,8 +6,15 @@ ghost use Rattle.std.specs.Option.{ForSome};
 use chare_index::Limits;
 use lb_replay::{Ended, simulate};
 use std::alloc::Global;
+use std::fmt::Debug;
 use std::io::{Read, Write};
+use std::process::Abort;
 use test_fixtures::{Sink, Source};
+
+/// Ends the test where this does not hold, with what it was to hold for.
+pub(crate) fn assert_for<R: Debug + Copy>(rt: &impl Abort, holds: bool, row: R) {
+    assert!(rt; holds, "{row:?}");
+}
 
 /// The text of the example.
 pub(crate) const TEXT: &str = "step 5 procs 2 elements 3\n\
@@ -36,9 +43,14 @@ pub(crate) fn replayed<W: Write>(alloc: Global, dump: &[u8], writer: &mut W) -> 
     simulate(alloc, &mut dump, writer, None)
 }
 
+/// Whether these are the bytes of this text.
+pub(crate) fn same(written: &[u8], text: &str) -> bool {
+    written == text.as_bytes()
+}
+
 /// Whether a replay, by how it ended and the bytes that it wrote, ended so with this text.
 pub(crate) fn is_end(found: Ended, written: &[u8], ended: Ended, text: &str) -> bool {
-    found == ended && written == text.as_bytes()
+    found == ended && same(written, text)
 }
 
 /// Whether a replay from this reader, for this number of PEs, writes this text and ends so.
@@ -54,7 +66,9 @@ pub(crate) fn ends<R: Read>(
 {
     let mut written = Vec::new(rt.alloc());
     let found = simulate(rt.alloc(), reader, &mut written, procs);
-    is_end(found, &written, ended, text)
+    let ends = is_end(found, &written, ended, text);
+    drop(written);
+    ends
 }
 
 /// Whether a replay of these bytes, seven at a time, writes this text and ends so.

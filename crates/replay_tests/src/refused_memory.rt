@@ -1,6 +1,6 @@
 //! Each request of a replay for memory is refused in turn.
 
-use crate::fixtures::TEXT;
+use crate::fixtures::{TEXT, assert_for};
 use lb_dump::{DumpError, read_from};
 use lb_replay::{Ended, simulate};
 use lb_strategy::PlanError;
@@ -29,9 +29,18 @@ fn outcome(ended: Ended, written: &[u8]) -> Outcome {
     }
 }
 
-fn attempted(alloc: &Refusing<Global>, written: &mut Vec<u8>) -> Outcome {
-    let ended = simulate(alloc, &mut EXAMPLE_DUMP.as_slice(), written, None);
-    outcome(ended, written)
+// How a replay of the example ends, over such an allocator.
+fn ended(alloc: &Refusing<Global>, written: &mut Vec<u8>) -> Ended {
+    simulate(alloc, &mut EXAMPLE_DUMP.as_slice(), written, None)
+}
+
+// What such a replay comes to. Its text has memory of its own.
+fn attempted(rt: &impl AllocGlobal, alloc: &Refusing<Global>) -> Outcome {
+    let mut written = Vec::new(rt.alloc());
+    let ended = ended(alloc, &mut written);
+    let outcome = outcome(ended, &written);
+    drop(written);
+    outcome
 }
 
 // What a reading of the example comes to, over such an allocator.
@@ -45,14 +54,16 @@ fn read(alloc: &Refusing<Global>) -> Outcome {
 
 // How many requests of a replay are refused, one in each attempt.
 fn requests_of_a_replay(rt: &impl AllocGlobal) -> Result<u64, Failure> {
-    let attempt = |alloc: &Refusing<Global>| attempted(alloc, &mut Vec::new(rt.alloc()));
+    let attempt = |alloc: &Refusing<Global>| attempted(rt, alloc);
     each_refusal(rt.alloc(), 80, attempt)
 }
 
 #[test]
 fn memory_refused_at_each_request(rt: HostRuntime) -> Result<(), Fail> {
-    assert!(rt; each_refusal(rt.alloc(), 80, read)? == TO_READ);
-    assert!(rt; requests_of_a_replay(&rt)? == IN_ALL);
+    let to_read = each_refusal(rt.alloc(), 80, read)?;
+    assert_for(&rt, to_read == TO_READ, to_read);
+    let in_all = requests_of_a_replay(&rt)?;
+    assert_for(&rt, in_all == IN_ALL, in_all);
     Ok(())
 }
 
@@ -60,7 +71,9 @@ fn memory_refused_at_each_request(rt: HostRuntime) -> Result<(), Fail> {
 fn ended_at_request(rt: &impl AllocGlobal, number: u64) -> Ended {
     let alloc = Refusing::new(rt.alloc(), number);
     let mut written = Vec::new(rt.alloc());
-    simulate(&alloc, &mut EXAMPLE_DUMP.as_slice(), &mut written, None)
+    let ended = ended(&alloc, &mut written);
+    drop(written);
+    ended
 }
 
 #[test]
@@ -71,6 +84,6 @@ fn the_fault_is_that_of_the_dump_or_the_plan(rt: HostRuntime) {
         } else {
             Ended::Plan(PlanError::OutOfMemory)
         };
-        assert!(rt; ended_at_request(&rt, number) == wanted, "request {number}");
+        assert_for(&rt, ended_at_request(&rt, number) == wanted, number);
     }
 }

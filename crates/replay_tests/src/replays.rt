@@ -3,7 +3,7 @@
 ghost use Rattle.std.specs.Prelude.{◌≤◌, ◌<◌};
 ghost use Rattle.std.specs.Option.{ForSome};
 
-use crate::fixtures::{ON_ONE, TEXT, ends, is_end, replayed, replays};
+use crate::fixtures::{ON_ONE, TEXT, assert_for, ends, is_end, replayed, replays};
 use chare_index::Limits;
 use lb_dump::DumpError;
 use lb_replay::{Ended, replay_file};
@@ -21,21 +21,23 @@ fn longer() -> [u8; 53] {
 
 #[test]
 fn the_example_and_its_faults(rt: HostRuntime) {
-    assert!(rt; replays(&rt, &EXAMPLE_DUMP, TEXT, Ended::Printed));
+    assert_for(&rt, replays(&rt, &EXAMPLE_DUMP, TEXT, Ended::Printed), TEXT);
     let short = "dump: ends at byte 15\n";
     let end = Ended::Dump(DumpError::Short(15));
-    assert!(rt; replays(&rt, &EXAMPLE_DUMP[..15], short, end));
+    assert_for(&rt, replays(&rt, &EXAMPLE_DUMP[..15], short, end), short);
     let trailing = "dump: bytes after the last element\n";
     let end = Ended::Dump(DumpError::Trailing);
-    assert!(rt; replays(&rt, &longer(), trailing, end));
+    assert_for(&rt, replays(&rt, &longer(), trailing, end), trailing);
 }
 
 #[test]
 fn no_bytes_and_other_letters(rt: HostRuntime) {
     let short = "dump: ends at byte 0\n";
-    assert!(rt; replays(&rt, &[], short, Ended::Dump(DumpError::Short(0))));
+    let end = Ended::Dump(DumpError::Short(0));
+    assert_for(&rt, replays(&rt, &[], short, end), short);
     let other = "dump: not LBD1\n";
-    assert!(rt; replays(&rt, b"LBD2", other, Ended::Dump(DumpError::Magic)));
+    let end = Ended::Dump(DumpError::Magic);
+    assert_for(&rt, replays(&rt, b"LBD2", other, end), other);
 }
 
 // A byte that the example has at a place, the line that is written then, and its fault.
@@ -84,21 +86,23 @@ fn a_changed_byte_is_reported(rt: HostRuntime) {
         },
     ];
     for row in &ROWS {
-        assert!(rt; is_reported(&rt, row), "{row:?}");
+        assert_for(&rt, is_reported(&rt, row), row);
     }
 }
 
 // Whether these first bytes of the example, so many, are reported as too few.
 fn is_short(rt: &(impl Abort + AllocGlobal), start: &[u8], len: u32) -> bool {
     let line = format!(in rt.alloc(); "dump: ends at byte {len}\n").expect(rt, "out of memory");
-    replays(rt, start, &line, Ended::Dump(DumpError::Short(len)))
+    let short = replays(rt, start, &line, Ended::Dump(DumpError::Short(len)));
+    drop(line);
+    short
 }
 
 #[test]
 fn each_prefix_is_short(rt: HostRuntime) {
     for len in 0..52u32 {
         let start = &EXAMPLE_DUMP[..len as usize];
-        assert!(rt; is_short(&rt, start, len), "{len} bytes");
+        assert_for(&rt, is_short(&rt, start, len), len);
     }
 }
 
@@ -108,9 +112,14 @@ fn no_elements_and_one_block(rt: HostRuntime) {
     let text = "step 0 procs 3 elements 0\nbottleneck 0\nfence zero\n\
         block 0 0..0 load 0 pe -\nblock 1 0..0 load 0 pe -\nblock 2 0..0 load 0 pe -\n\
         moved 0\n";
-    assert!(rt; replays(&rt, empty, text, Ended::Printed));
+    assert_for(
+        &rt,
+        replays(&rt, empty, text, Ended::Printed),
+        "no elements",
+    );
     let mut example = EXAMPLE_DUMP.as_slice();
-    assert!(rt; ends(&rt, &mut example, Some(1), ON_ONE, Ended::Printed));
+    let printed = ends(&rt, &mut example, Some(1), ON_ONE, Ended::Printed);
+    assert_for(&rt, printed, "one block");
 }
 
 #[test]
@@ -119,7 +128,7 @@ fn the_first_of_the_cheapest_namings_is_printed(rt: HostRuntime) {
         \0\0\0\x01\0\0\0\x08\0\0\0\0\0\0\0\x01\0\0\0\x08\0\0\0\0";
     let text = "step 0 procs 2 elements 2\nbottleneck 1\nfence 0 0 0\n\
         block 0 0..1 load 1 pe 0\nblock 1 1..2 load 1 pe 1\nmoved 8\n";
-    assert!(rt; replays(&rt, two, text, Ended::Printed));
+    assert_for(&rt, replays(&rt, two, text, Ended::Printed), text);
 }
 
 // Adds the text for no elements on 256 PEs.
@@ -136,7 +145,12 @@ fn the_most_blocks_are_printed(rt: HostRuntime) {
     let empty = b"LBD1\0\0\0\0\0\0\x01\0\0\0\0\0";
     let mut text = String::new(rt.alloc());
     push_text_of_256(&mut text).expect(&rt, "out of memory");
-    assert!(rt; replays(&rt, empty, &text, Ended::Printed));
+    assert_for(
+        &rt,
+        replays(&rt, empty, &text, Ended::Printed),
+        "another text",
+    );
+    drop(text);
 }
 
 // The load, the size and the place of element `i` of the moving front. The load is heavier within 20 elements of
@@ -187,7 +201,7 @@ const FRONT_LINES: [&str; 20] = [
 fn output(rt: &(impl Abort + AllocGlobal), dump: &[u8]) -> Vec<u8> {
     let mut written = Vec::new(rt.alloc());
     let ended = replayed(rt.alloc(), dump, &mut written);
-    assert!(rt; ended == Ended::Printed);
+    assert_for(rt, ended == Ended::Printed, "no decision");
     written
 }
 
@@ -215,9 +229,12 @@ fn has_lines(text: &str, expected: &[&str]) -> bool {
 
 #[test]
 fn the_moving_front(rt: HostRuntime) {
-    let written = output(&rt, &moving_front(&rt));
+    let dump = moving_front(&rt);
+    let written = output(&rt, &dump);
+    drop(dump);
     let text = std::str::from_utf8(&written).ok().expect(&rt, "no text");
-    assert!(rt; has_lines(text, &FRONT_LINES), "{text}");
+    assert_for(&rt, has_lines(text, &FRONT_LINES), text);
+    drop(written);
 }
 
 // The kind of a reason.
@@ -238,7 +255,10 @@ fn ends_file<R: Read + Drop>(
 {
     let mut written = Vec::new(rt.alloc());
     let (ended, reason) = replay_file(rt.alloc(), file, &mut written, procs);
-    is_end(ended, &written, end.0, text) && kind(reason) == end.1
+    let ends = is_end(ended, &written, end.0, text);
+    drop(written);
+    let kind = kind(reason);
+    ends && kind == end.1
 }
 
 // Whether a replay of the example, in a file that was opened, prints this text.
@@ -257,8 +277,8 @@ fn prints_file(rt: &impl AllocGlobal, procs: Option<u32>, text: &str) -> bool
 
 #[test]
 fn a_file_that_was_opened(rt: HostRuntime) {
-    assert!(rt; prints_file(&rt, None, TEXT));
-    assert!(rt; prints_file(&rt, Some(1), ON_ONE));
+    assert_for(&rt, prints_file(&rt, None, TEXT), TEXT);
+    assert_for(&rt, prints_file(&rt, Some(1), ON_ONE), ON_ONE);
 }
 
 // The line where a file was not read.
@@ -268,7 +288,7 @@ const UNREAD: &str = "dump: read failed\n";
 fn a_file_that_was_not_opened(rt: HostRuntime) {
     let missing: io::Result<&[u8]> = Err(io::Error::from(ErrorKind::NotFound));
     let end = (Ended::Dump(DumpError::Read), Some(ErrorKind::NotFound));
-    assert!(rt; ends_file(&rt, missing, Some(1), UNREAD, end));
+    assert_for(&rt, ends_file(&rt, missing, Some(1), UNREAD, end), UNREAD);
 }
 
 // Whether a replay of the example ends where its reader fails at this call, with the reason.
@@ -281,6 +301,6 @@ fn fails_at(rt: &impl AllocGlobal, call: usize) -> bool {
 #[test]
 fn a_file_that_fails_has_its_reason(rt: HostRuntime) {
     for call in 0..3 {
-        assert!(rt; fails_at(&rt, call), "call {call}");
+        assert_for(&rt, fails_at(&rt, call), call);
     }
 }

@@ -3,7 +3,7 @@
 ghost use Rattle.std.specs.Prelude.{◌≤◌};
 ghost use Rattle.std.specs.Option.{ForSome};
 
-use crate::fixtures::{ON_ONE, TEXT};
+use crate::fixtures::{ON_ONE, TEXT, assert_for, same};
 use chare_index::Limits;
 use lb_dump::DumpError;
 use lb_replay::{Asked, Ended, run};
@@ -13,7 +13,7 @@ use test_fixtures::EXAMPLE_DUMP;
 
 // Whether a run had this status and no reason, and wrote this text.
 fn is_status(found: (u8, Option<io::Error>), written: &[u8], status: u8, text: &str) -> bool {
-    found.0 == status && found.1.is_none() && written == text.as_bytes()
+    found.0 == status && found.1.is_none() && same(written, text)
 }
 
 // Whether a run on these bytes, for this number of PEs, writes this text and has this status and no reason.
@@ -24,7 +24,9 @@ fn runs(rt: &impl AllocGlobal, bytes: &[u8], procs: Option<u32>, text: &str, sta
     let mut written = Vec::new(rt.alloc());
     let asked = Asked { file: "f", procs };
     let found = run(rt.alloc(), asked, Ok(bytes), &mut written);
-    is_status(found, &written, status, text)
+    let same = is_status(found, &written, status, text);
+    drop(written);
+    same
 }
 
 // Whether a run on other letters, for this number of PEs, has the status of a fault and its line.
@@ -37,18 +39,27 @@ fn tells_letters(rt: &impl AllocGlobal, procs: Option<u32>) -> bool
 
 #[test]
 fn runs_and_their_statuses(rt: HostRuntime) {
-    assert!(rt; runs(&rt, &EXAMPLE_DUMP, None, TEXT, 0));
-    assert!(rt; runs(&rt, &EXAMPLE_DUMP, Some(1), ON_ONE, 0));
-    assert!(rt; tells_letters(&rt, None));
-    assert!(rt; tells_letters(&rt, Some(256)));
+    assert_for(&rt, runs(&rt, &EXAMPLE_DUMP, None, TEXT, 0), "the example");
+    assert_for(
+        &rt,
+        runs(&rt, &EXAMPLE_DUMP, Some(1), ON_ONE, 0),
+        "it, on one PE",
+    );
+    assert_for(&rt, tells_letters(&rt, None), "other letters");
+    assert_for(&rt, tells_letters(&rt, Some(256)), "they, on 256 PEs");
 }
 
 #[test]
 fn statuses(rt: HostRuntime) {
-    assert!(rt; Ended::Printed.status() == 0);
-    assert!(rt; Ended::Dump(DumpError::Magic).status() == 3);
-    assert!(rt; Ended::Dump(DumpError::Read).status() == 3);
-    assert!(rt; Ended::Dump(DumpError::OutOfMemory).status() == 5);
-    assert!(rt; Ended::Plan(PlanError::OutOfMemory).status() == 5);
-    assert!(rt; Ended::WriteFailed.status() == 5);
+    const ENDS: [(Ended, u8); 6] = [
+        (Ended::Printed, 0),
+        (Ended::Dump(DumpError::Magic), 3),
+        (Ended::Dump(DumpError::Read), 3),
+        (Ended::Dump(DumpError::OutOfMemory), 5),
+        (Ended::Plan(PlanError::OutOfMemory), 5),
+        (Ended::WriteFailed, 5),
+    ];
+    for row in &ENDS {
+        assert_for(&rt, row.0.status() == row.1, row);
+    }
 }
