@@ -1,6 +1,6 @@
 //! What the tests are made of: numbers, lists, snapshots and cost tables. What can't be made ends the test.
 
-ghost use Rattle.std.specs.Prelude.{◌≡◌, length};
+ghost use Rattle.std.specs.Prelude.{◌≡◌, length, true};
 
 use block_assignment::CostTable;
 use chain_partition::{Prefix, Probe};
@@ -13,7 +13,9 @@ use std::fmt::Debug;
 use std::process::Abort;
 
 /// Ends the test where this does not hold, with what it was to hold for.
-pub(crate) fn assert_for<R: Debug + Copy>(rt: &impl Abort, holds: bool, row: R) {
+pub(crate) fn assert_for<R: Debug + Copy>(rt: &impl Abort, holds: bool, row: R)
+    ensures held { holds ≡ true }
+{
     assert!(rt; holds, "{row:?}");
 }
 

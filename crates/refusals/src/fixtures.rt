@@ -1,6 +1,8 @@
 //! What the tests start from, whether lists are the same, and how refusals are counted. What can't be made ends the
 //! test.
 
+ghost use Rattle.std.specs.Prelude.{◌≡◌, true};
+
 use block_assignment::CostTable;
 use chain_partition::Prefix;
 use lb_certificates::{Cuts, Loads, Snapshot};
@@ -11,7 +13,9 @@ use std::process::Abort;
 use test_fixtures::{example, example_sizes};
 
 /// Ends the test where this does not hold, with what it was to hold for.
-pub(crate) fn assert_for<R: Debug + Copy>(rt: &impl Abort, holds: bool, row: R) {
+pub(crate) fn assert_for<R: Debug + Copy>(rt: &impl Abort, holds: bool, row: R)
+    ensures held { holds ≡ true }
+{
     assert!(rt; holds, "{row:?}");
 }
 
