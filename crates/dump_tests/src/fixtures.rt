@@ -1,5 +1,7 @@
 //! What the tests are made of: a full dump, as a snapshot and as bytes. What can't be made ends the test.
 
+ghost use Rattle.std.specs.Prelude.{◌≡◌, true};
+
 use chare_index::Pe;
 use lb_dump::{DumpError, DumpReader, decode, encode};
 use lb_snapshot::{Loads, Sizes, Snapshot, Units};
@@ -9,7 +11,9 @@ use std::process::Abort;
 use test_fixtures::push_element;
 
 /// Ends the test where this does not hold, with what it was to hold for.
-pub(crate) fn assert_for<R: Debug + Copy>(rt: &impl Abort, holds: bool, row: R) {
+pub(crate) fn assert_for<R: Debug + Copy>(rt: &impl Abort, holds: bool, row: R)
+    ensures held { holds ≡ true }
+{
     assert!(rt; holds, "{row:?}");
 }
 

@@ -1,6 +1,6 @@
 //! The texts of the worked dump, and how a replay ends.
 
-ghost use Rattle.std.specs.Prelude.{◌≤◌};
+ghost use Rattle.std.specs.Prelude.{◌≡◌, ◌≤◌, true};
 ghost use Rattle.std.specs.Option.{ForSome};
 
 use chare_index::Limits;
@@ -12,7 +12,9 @@ use std::process::Abort;
 use test_fixtures::{Sink, Source};
 
 /// Ends the test where this does not hold, with what it was to hold for.
-pub(crate) fn assert_for<R: Debug + Copy>(rt: &impl Abort, holds: bool, row: R) {
+pub(crate) fn assert_for<R: Debug + Copy>(rt: &impl Abort, holds: bool, row: R)
+    ensures held { holds ≡ true }
+{
     assert!(rt; holds, "{row:?}");
 }
 
