@@ -1,23 +1,19 @@
 //! `lb_sim [--procs P] FILE` replays a dump of the load database off line: it prints the least division of the
 //! elements into consecutive blocks, with the fence that proves it, the PE of each block and the bytes that move.
 //!
-//! - [`words`]: the words of the command line, what they ask for, and the status where they ask for no replay.
+//! - `command_line::asked`: what the words of the command line ask for, and the status where they ask for no replay.
 //! - `lb_replay::run`: the replay that they ask for, and the status for its end.
 #![tactic(auto)]
 
 ghost use Rattle.std.specs.Prelude.{◌≤◌};
 ghost use Rattle.std.specs.Option.{ForSome};
 
-#[cfg(test)]
-mod tests;
-mod words;
-
 use chare_index::Limits;
+use command_line::{NO_WORDS, asked, words_status};
 use lb_replay::{Asked, run};
 use std::fs::File;
 use std::process::ExitCode;
 use std::{env, io};
-use words::{NO_WORDS, asked, words_status};
 
 fn main(rt: HostRuntime) -> ExitCode {
     let Ok(args) = env::args(&rt) else {

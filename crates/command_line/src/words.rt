@@ -4,8 +4,8 @@ ghost use Rattle.clap.specs.Built.{FitsChain, TakesValue};
 ghost use Rattle.clap.specs.Values.{kind_of};
 ghost use Rattle.clap.specs.Walk.{texts};
 ghost use Rattle.clap.specs.Words.{FailsBy, app_of, fault_of, first_value, found_of, one_text, rule_of};
-ghost use Rattle.lb_sim.specs.CommandLine.{Spells, file_in, file_rule, procs_in, procs_rule, program};
-ghost use Rattle.lb_sim.specs.Internal.{NamesFile};
+ghost use Rattle.command_line.specs.CommandLine.{Spells, file_in, file_rule, procs_in, procs_rule, program};
+ghost use Rattle.command_line.specs.Internal.{NamesFile};
 ghost use Rattle.clap.specs.declared.error.kind.ErrorKind.TheVariants.{DisplayHelp, DisplayVersion};
 
 use chare_index::Limits;

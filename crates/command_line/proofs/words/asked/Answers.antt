@@ -4,8 +4,8 @@ use Rattle.clap.specs.Words.{App, HasMatchesOf, Text, first_of, found_of, is_sim
 use Rattle.clap.specs.declared.parser.matches.ArgMatches.{ArgMatches}
 use Rattle.clap.proofs.OnLiterals.{clap_on_literals}
 use Rattle.clap.proofs.WalkLemmas.{first_value-rows, one_text-rows}
-use Rattle.lb_sim.specs.CommandLine.{Spells, program}
-use Rattle.lb_sim.proofs.words.asked.Goals as goal
+use Rattle.command_line.specs.CommandLine.{Spells, program}
+use Rattle.command_line.proofs.words.asked.Goals as goal
 
 simple : is_simple program ≡ true
 unfolding clap_on_literals

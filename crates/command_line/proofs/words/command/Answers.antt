@@ -6,7 +6,7 @@ use Rattle.clap.specs.Built.{FitsChain, HasDistinctIds}
 use Rattle.clap.specs.Words.{first_value, found_of}
 use Rattle.clap.specs.declared.builder.arg.Arg.{Arg}
 use Rattle.clap.proofs.CallerLemmas.{required_in_chain}
-use Rattle.lb_sim.proofs.words.command.Goals as goal
+use Rattle.command_line.proofs.words.command.Goals as goal
 
 -- the two arguments have two ids
 distinct : (file procs : Arg) → file.id.now ≡ codes "file" → procs.id.now ≡ codes "procs" → HasDistinctIds (file ∷ procs ∷ [])

@@ -1,11 +1,12 @@
-//! The words of the command line.
+//! Command lines: what their words ask for, and the status where they ask for no replay.
 
-use crate::words::{asked, words_status};
+use crate::fixtures::assert_for;
+use command_line::{asked, words_status};
 use lb_replay::Asked;
 use std::alloc::Global;
 
 // Words, and what they ask for.
-#[derive(Debug)]
+#[derive(Clone, Copy, Debug)]
 struct Asking {
     words: &'static [&'static str],
     file: &'static str,
@@ -19,7 +20,7 @@ fn is_asked(alloc: Global, row: &Asking) -> bool {
     file == row.file && procs == row.procs
 }
 
-const ASKING: [Asking; 8] = [
+static ASKING: [Asking; 8] = [
     Asking {
         words: &["lb_sim", "f"],
         file: "f",
@@ -65,12 +66,12 @@ const ASKING: [Asking; 8] = [
 #[test]
 fn words_that_ask(rt: HostRuntime) {
     for row in &ASKING {
-        assert!(rt; is_asked(rt.alloc(), row), "{row:?}");
+        assert_for(&rt, is_asked(rt.alloc(), row), row);
     }
 }
 
 // Words that ask for no replay, and the status for them.
-#[derive(Debug)]
+#[derive(Clone, Copy, Debug)]
 struct Refused {
     words: &'static [&'static str],
     status: u8,
@@ -83,7 +84,7 @@ fn is_refused(alloc: Global, row: &Refused) -> bool {
     }
 }
 
-const REFUSED: [Refused; 9] = [
+static REFUSED: [Refused; 9] = [
     Refused {
         words: &["lb_sim"],
         status: 2,
@@ -125,6 +126,6 @@ const REFUSED: [Refused; 9] = [
 #[test]
 fn words_that_are_refused(rt: HostRuntime) {
     for row in &REFUSED {
-        assert!(rt; is_refused(rt.alloc(), row), "{row:?}");
+        assert_for(&rt, is_refused(rt.alloc(), row), row);
     }
 }
