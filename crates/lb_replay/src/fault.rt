@@ -1,4 +1,4 @@
-ghost use Rattle.std.specs.Prelude.{◌≡◌, IfOk};
+ghost use Rattle.std.specs.Prelude.{◌≡◌, [], OnOk, IfOk};
 ghost use Rattle.std.specs.String.{string_bytes};
 ghost use Rattle.lb_replay.specs.declared.fault.Fault.TheVariants.{Dump, Plan};
 ghost use Rattle.lb_replay.specs.Internal.{without_memory};
@@ -62,23 +62,31 @@ pub(crate) fn fault_line<A: Allocator>(alloc: A, fault: Fault) -> Result<String<
     }
 }
 
-// The line that reports a fault of the dump. Its numbers are `Limits::PES`, `Limits::ELEMENTS` and
-// `Limits::STATE_BYTES`.
+// The line that reports a fault of the dump.
 fn dump_line<A: Allocator>(alloc: A, fault: DumpError) -> Result<String<A>, AllocError>
     ensures line { IfOk result (λ line. string_bytes line ≡ dump_line fault) }
 {
     let mut line = String::new(alloc);
-    match fault {
-        DumpError::Magic => line.push_str("dump: not LBD1\n")?,
-        DumpError::Short(n) => writeln!(line, "dump: ends at byte {n}")?,
-        DumpError::Procs => line.push_str("dump: procs out of 1..256\n")?,
-        DumpError::Count => line.push_str("dump: more than 65536 elements\n")?,
-        DumpError::Size(i) => writeln!(line, "dump: element {i} has more than 1048576 bytes")?,
-        DumpError::Place(i) => writeln!(line, "dump: element {i} is on no processor")?,
-        DumpError::Trailing => line.push_str("dump: bytes after the last element\n")?,
-        DumpError::Read => line.push_str("dump: read failed\n")?,
-        DumpError::Write => line.push_str("dump: write failed\n")?,
-        DumpError::OutOfMemory => line.push_str(NO_MEMORY)?,
-    }
+    push_dump_line(&mut line, fault)?;
     Ok(line)
+}
+
+// Writes the line that reports a fault of the dump where nothing stands yet. Its numbers are `Limits::PES`,
+// `Limits::ELEMENTS` and `Limits::STATE_BYTES`.
+fn push_dump_line<A: Allocator>(line: &mut String<A>, fault: DumpError) -> Result<(), AllocError>
+    requires empty { string_bytes line.old ≡ [] }
+    ensures line { OnOk result (string_bytes line.new ≡ dump_line fault) }
+{
+    match fault {
+        DumpError::Magic => line.push_str("dump: not LBD1\n"),
+        DumpError::Short(n) => writeln!(line, "dump: ends at byte {n}"),
+        DumpError::Procs => line.push_str("dump: procs out of 1..256\n"),
+        DumpError::Count => line.push_str("dump: more than 65536 elements\n"),
+        DumpError::Size(i) => writeln!(line, "dump: element {i} has more than 1048576 bytes"),
+        DumpError::Place(i) => writeln!(line, "dump: element {i} is on no processor"),
+        DumpError::Trailing => line.push_str("dump: bytes after the last element\n"),
+        DumpError::Read => line.push_str("dump: read failed\n"),
+        DumpError::Write => line.push_str("dump: write failed\n"),
+        DumpError::OutOfMemory => line.push_str(NO_MEMORY),
+    }
 }

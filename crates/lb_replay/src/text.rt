@@ -1,6 +1,6 @@
 //! The printed text of a decision. It is made whole before any of it goes out.
 
-ghost use Rattle.std.specs.Prelude.{◌≡◌, ◌++◌, OnOk, IfOk, length};
+ghost use Rattle.std.specs.Prelude.{◌≡◌, ◌++◌, [], OnOk, IfOk, length};
 ghost use Rattle.std.specs.List.{flat_map};
 ghost use Rattle.std.specs.String.{string_bytes};
 ghost use Rattle.lb_certificates.specs.Chain.{IsDivision};
@@ -17,7 +17,6 @@ use std::alloc::{AllocError, Allocator};
 /// # Errors
 ///
 /// Out of memory.
-#[tactic(auto, using(crate::proofs::RightTexts::divides_from_right, crate::proofs::RightTexts::named_from_right))]
 pub(crate) fn decision_text<A: Allocator, B: Allocator, C: Allocator>(
     alloc: A,
     snapshot: &Snapshot<B>,
@@ -27,15 +26,30 @@ pub(crate) fn decision_text<A: Allocator, B: Allocator, C: Allocator>(
     requires { IsRight snapshot.now.loads snapshot.now.sizes pes decision.now }
     ensures text { IfOk result (λ text. string_bytes text ≡ decision_text snapshot.now pes decision.now) }
 {
+    let mut text = String::new(alloc);
+    push_decision(&mut text, snapshot, pes, decision)?;
+    Ok(text)
+}
+
+// Writes the text of a decision where nothing stands yet.
+#[tactic(auto, using(crate::proofs::RightTexts::divides_from_right, crate::proofs::RightTexts::named_from_right))]
+fn push_decision<A: Allocator, B: Allocator, C: Allocator>(
+    text: &mut String<A>,
+    snapshot: &Snapshot<B>,
+    pes: u32,
+    decision: &Decision<C>,
+) -> Result<(), AllocError>
+    requires empty { string_bytes text.old ≡ [] }
+    requires right { IsRight snapshot.now.loads snapshot.now.sizes pes decision.now }
+    ensures text { OnOk result (string_bytes text.new ≡ decision_text snapshot.now pes decision.now) }
+{
     let loads = snapshot.loads();
     let cuts = decision.division.cuts.as_slice();
-    let mut text = String::new(alloc);
-    push_head(&mut text, snapshot.step(), pes, loads.len())?;
-    push_bottleneck(&mut text, decision.division.bottleneck)?;
-    push_floor(&mut text, &decision.division.floor)?;
-    push_blocks(&mut text, loads, cuts, decision.naming.as_slice())?;
-    push_moved(&mut text, decision.moved)?;
-    Ok(text)
+    push_head(text, snapshot.step(), pes, loads.len())?;
+    push_bottleneck(text, decision.division.bottleneck)?;
+    push_floor(text, &decision.division.floor)?;
+    push_blocks(text, loads, cuts, decision.naming.as_slice())?;
+    push_moved(text, decision.moved)
 }
 
 fn push_head<A: Allocator>(

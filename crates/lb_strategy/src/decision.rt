@@ -1,4 +1,4 @@
-ghost use Rattle.std.specs.Prelude.{◌≡◌};
+ghost use Rattle.std.specs.Prelude.{◌≡◌, IfOk};
 ghost use Rattle.std.specs.List.Sorted.{IsNonDecreasing};
 ghost use Rattle.lb_certificates.specs.Naming.{block_of};
 ghost use Rattle.lb_strategy.specs.Moves.{planned_pe, HasPlace};
@@ -6,13 +6,12 @@ ghost use Rattle.lb_strategy.specs.Moves.{planned_pe, HasPlace};
 use crate::moves::Moves;
 use chare_index::{Index, Pe};
 use lb_certificates::{Division, Naming, Prices};
-use std::alloc::{Allocator, Global};
+use std::alloc::{AllocError, Allocator, Global};
 
 /// What a balancing step decides. It is plain data, under no condition: [`check`](crate::check) says whether every
 /// part of it is right.
 #[derive(Drop)]
 #[derive_where(Debug, PartialEq)]
-#[derive_where(Clone; A: Copy)]
 pub struct Decision<A: Allocator = Global> {
     /// The elements cut into consecutive blocks.
     pub division: Division<A>,
@@ -24,6 +23,44 @@ pub struct Decision<A: Allocator = Global> {
     pub moved: u64,
     /// The elements that move.
     pub moves: Moves<A>,
+}
+
+impl<A: Allocator + Copy> Clone for Decision<A> {
+    ghost is_clone = { λ v w. w ≡ v };
+
+    fn clone(&self) -> Result<Self, AllocError> {
+        let (division, naming) = clone_blocks(self)?;
+        let (prices, moves) = clone_lists(self)?;
+        Ok(Decision {
+            division,
+            naming,
+            prices,
+            moved: self.moved,
+            moves,
+        })
+    }
+}
+
+// The division and the naming. Few lists are owned at each way out so.
+fn clone_blocks<A: Allocator + Copy>(
+    decision: &Decision<A>,
+) -> Result<(Division<A>, Naming<A>), AllocError>
+    ensures division { IfOk result (λ parts. parts.0 ≡ decision.now.division) }
+    ensures naming { IfOk result (λ parts. parts.1 ≡ decision.now.naming) }
+{
+    let division = decision.division.clone()?;
+    Ok((division, decision.naming.clone()?))
+}
+
+// The prices and the moves.
+fn clone_lists<A: Allocator + Copy>(
+    decision: &Decision<A>,
+) -> Result<(Prices<A>, Moves<A>), AllocError>
+    ensures prices { IfOk result (λ parts. parts.0 ≡ decision.now.prices) }
+    ensures moves { IfOk result (λ parts. parts.1 ≡ decision.now.moves) }
+{
+    let prices = decision.prices.clone()?;
+    Ok((prices, decision.moves.clone()?))
 }
 
 impl<A: Allocator> Decision<A> {

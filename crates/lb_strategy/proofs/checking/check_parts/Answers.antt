@@ -38,3 +38,25 @@ returns-clause-places g c =
 pub returns-then-moved-decision-clause-first_flaw : goal.returns-then-moved-decision-clause-first_flaw
 returns-then-moved-decision-clause-first_flaw g c =
     inr (inr (inl (c.in_ok-check_division.ensures.exact.0 refl, c.in_ok-moved.ensures.exact.0 refl, refl, search rules)))
+
+pub returns-in_err-check_division-clause-exact : goal.returns-in_err-check_division-clause-exact
+returns-in_err-check_division-clause-exact g c = (
+  λ ok. absurd (not_both c.from_residual.result ok c.from_residual.ensures.0),
+  λ right. let bad : false ≡ true = c.in_err-check_division.ensures.exact.1 right.division in cc,
+)
+
+pub returns-then-moved-decision-clause-exact : goal.returns-then-moved-decision-clause-exact
+returns-then-moved-decision-clause-exact g c = (
+  λ ok. let bad : false ≡ true = ok in cc,
+  λ right. let told = right.moved in search (rules, told),
+)
+
+pub returns-then-not-tells_moves-clause-exact : goal.returns-then-not-tells_moves-clause-exact
+returns-then-not-tells_moves-clause-exact g c = (
+  λ ok. let bad : false ≡ true = ok in cc,
+  λ right. let told = right.moves in search (rules, told),
+)
+
+pub returns-then-not-tells_moves-clause-first_flaw : goal.returns-then-not-tells_moves-clause-first_flaw
+returns-then-not-tells_moves-clause-first_flaw g c =
+    inr (inr (inr (c.in_ok-check_division.ensures.exact.0 refl, c.in_ok-moved.ensures.exact.0 refl, refl, search rules, search rules)))

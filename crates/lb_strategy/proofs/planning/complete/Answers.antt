@@ -1,8 +1,14 @@
-use Rattle.std.proofs.Common.{◌≡◌, length, rules}
-use Rattle.lb_certificates.specs.Naming.{bytes_moved, IsNamed}
+use Rattle.std.proofs.Common.{◌≡◌, arith, length, rules, subst}
+use Rattle.lb_certificates.specs.Naming.{blocks_between, bytes_moved, IsLeastNaming, IsNamed}
 use Rattle.lb_strategy.proofs.RightDecisions.{cheapest_from_right, least_from_right, place_from_right}
 use Rattle.lb_strategy.specs.Moves.{moves_below}
 use Rattle.lb_strategy.proofs.planning.complete.Goals as goal
+
+pub returns-clause-least_naming : goal.returns-clause-least_naming
+returns-clause-least_naming g c =
+    let least : IsLeastNaming c.args.snapshot.now.sizes c.args.division.cuts (blocks_between c.args.division.cuts) c.in_ok-naming.naming = rw (← c.sizes-sizes.ensures.value) c.in_ok-naming.ensures.least_naming in
+    let counted : blocks_between c.args.division.cuts ≡ c.args.pes = omega (arith, c.requires.certified.divides.counted) in
+    subst (λ n. IsLeastNaming c.args.snapshot.now.sizes c.args.division.cuts n c.in_ok-naming.naming) counted least
 
 pub returns-clause-right : goal.returns-clause-right
 returns-clause-right g c =
