@@ -1,12 +1,12 @@
 -- What a call that was refused tells.
-use Rattle.std.proofs.Common.{◌≡◌, ℕ, suc, zero, ◌+◌, ◌<◌, ◌≤◌, List, length, get_or, refl, sym, ap, ◌∙◌, subst, arith, Bool, true, false, not, eqb, Option, None, Some, Result, Ok, Err}
-use Rattle.std.specs.Prelude.{IsNone, is_some, ok_or, MatchResult, IsErrAnd, OnErr}
+use Rattle.std.proofs.Common.{◌≡◌, ℕ, suc, zero, ◌<◌, ◌≤◌, List, length, get_or, refl, sym, ap, ◌∙◌, subst, arith, Bool, true, false, not, eqb, Option, None, Result, Ok, Err}
+use Rattle.std.specs.Prelude.{IsNone, is_some, MatchResult, IsErrAnd, OnErr}
 use Rattle.std.proofs.lemmas.Bool.{eqb-true, eqb-false, not-true, not-false}
 use Rattle.std.proofs.lemmas.List.{get_or_read}
-use Rattle.chare_index.specs.declared.limits.TheConstants.Limits.{ROUND, STATE_BYTES}
-use Rattle.lb_database.specs.Measuring.{Measured, IsMeasured, elements, report_of, IsComplete}
-use Rattle.lb_database.specs.Refusals.{RefusesReport, IsReport, RefusesNextRound, HasNextRound}
-use Rattle.lb_database.specs.declared.error.DbError.TheVariants.{Stranger, WrongRound, Twice, TooLarge, Worn}
+use Rattle.chare_index.specs.declared.limits.TheConstants.Limits.{STATE_BYTES}
+use Rattle.lb_database.specs.Measuring.{Measured, IsMeasured, elements, report_of}
+use Rattle.lb_database.specs.Refusals.{RefusesReport, IsReport}
+use Rattle.lb_database.specs.declared.error.DbError.TheVariants.{WrongRound, Twice, TooLarge}
 
 -- what holds of the error that `?` passes on holds of the result
 pub passed_on : {T E : Type 0} (r : Result T E) (P : T → Type 0) (Q : E → Type 0) (e : E) → IsErrAnd r (λ f. f ≡ e) → Q e → MatchResult r P Q
@@ -27,20 +27,10 @@ some_where_refused (suc n) succeeds = omega arith
 pub some_inside : (i n : ℕ) → i < n → 0 < n
 some_inside i n inside = omega arith
 
--- the error that `ok_or` gives is the one it was given, and only for `None`
-pub none_refused : {T E : Type 0} (o : Option T) (e f : E) → Err f ≡ ok_or o e → (o ≡ None) × (f ≡ e)
-none_refused None e f refused = (refl, cc)
-none_refused (Some x) e f refused = cc
-
 -- of an element, whether its report is there
 pub report_stood : {X : Type 0} (reports : List (Option X)) (i : ℕ) (report : Option X) (there : Bool) → i < length reports → report ≡ get_or reports i report → there ≡ is_some report → is_some (get_or reports i None) ≡ there
 report_stood reports i report there inside stood tested =
     sym (tested ∙ ap is_some (get_or_read reports i report inside stood None))
-
--- a report for no element
-pub stranger_refused : (m now : Measured) (i round bytes : ℕ) → m ≡ now → IsMeasured m → length m.reports ≤ i → RefusesReport now i round bytes Stranger
-stranger_refused m now i round bytes same measured past =
-    subst (λ m. RefusesReport m i round bytes Stranger) same (omega (arith, measured.paired, past))
 
 -- a report for another round
 pub wrong_round_refused : (m now : Measured) (i round bytes : ℕ) → m ≡ now → IsMeasured m → i < length m.reports → true ≡ not (eqb round m.round) → RefusesReport now i round bytes WrongRound
@@ -68,12 +58,3 @@ pub report_taken : (m now : Measured) (i round bytes : ℕ) (report : Option (�
 report_taken m now i round bytes report same measured inside stood own none fits =
     let first = first_report m i round bytes report measured inside stood own none in
     subst (λ m. IsReport m i round bytes) same (record { known = first.0; for_round = first.1; first = first.2; fits = fits })
-
--- no round after the last one
-pub worn_refused : (m now : Measured) → m ≡ now → IsMeasured m → IsComplete now → (m.round + 1 ≤ ROUND → ⊥) → RefusesNextRound now Worn
-worn_refused m now same measured complete past =
-    (complete, subst (λ m. m.round ≡ ROUND) same (omega (arith, measured.numbered, past)))
-
--- a round after one that is not the last
-pub next_round_there : (m now : Measured) → m ≡ now → IsComplete now → m.round + 1 ≤ ROUND → HasNextRound now
-next_round_there m now same complete below = (complete, subst (λ m. m.round < ROUND) same (omega (arith, below)))

@@ -82,9 +82,13 @@ impl<A: Allocator> LoadDb<A> {
         ensures ok { OnOk result (self.new ≡ with_charge self.old i units) }
         ensures err { OnErr result (self.new ≡ self.old) }
     {
-        let load = self.loads.get_mut(i as usize).ok_or(DbError::Stranger)?;
-        *load = saturating_sum(*load, units);
-        Ok(())
+        match self.loads.get_mut(i as usize) {
+            Some(load) => {
+                *load = saturating_sum(*load, units);
+                Ok(())
+            }
+            None => Err(DbError::Stranger),
+        }
     }
 
     /// Notes that element `i` waits at its place `pe` for the end of `round`, packed into so many bytes.
@@ -95,7 +99,9 @@ impl<A: Allocator> LoadDb<A> {
         ensures ok { OnOk result (self.new ≡ with_report self.old i bytes pe) }
         ensures err { OnErr result (self.new ≡ self.old) }
     {
-        let report = self.reports.get_mut(i as usize).ok_or(DbError::Stranger)?;
+        let Some(report) = self.reports.get_mut(i as usize) else {
+            return Err(DbError::Stranger);
+        };
         if round != self.round {
             return Err(DbError::WrongRound);
         }
@@ -174,7 +180,10 @@ impl<A: Allocator> LoadDb<A> {
         if !self.is_complete() {
             return Err(DbError::Incomplete);
         }
-        self.round = Round::new(self.round.get() + 1).ok_or(DbError::Worn)?;
+        let Some(round) = Round::new(self.round.get() + 1) else {
+            return Err(DbError::Worn);
+        };
+        self.round = round;
         self.loads.fill(0);
         self.reports.fill(None);
         self.missing = self.reports.len();

@@ -1,8 +1,8 @@
 use Rattle.std.proofs.Common.{ap}
 use Rattle.lb_database.specs.Measuring.{with_report}
-use Rattle.lb_database.specs.Refusals.{IsReport, RefusesReport}
-use Rattle.lb_database.specs.declared.error.DbError.TheVariants.{Stranger, Twice}
-use Rattle.lb_database.proofs.Refused.{none_refused, passed_on, report_taken, stranger_refused, too_large_refused, twice_refused, wrong_round_refused}
+use Rattle.lb_database.specs.Refusals.{RefusesReport}
+use Rattle.lb_database.specs.declared.error.DbError.TheVariants.{Twice}
+use Rattle.lb_database.proofs.Refused.{report_taken, too_large_refused, twice_refused, wrong_round_refused}
 use Rattle.lb_database.proofs.Reports.{same_reports, some_missing, missing_less, measured_more}
 use Rattle.lb_database.proofs.database.LoadDb.report.Goals as goal
 
@@ -11,49 +11,42 @@ invariant_of-self g c = c.self.invariant
 
 pub invariant_of-self-then-ne : goal.invariant_of-self-then-ne
 invariant_of-self-then-ne g c =
-    let stood = rw c.in_ok-report.ensures.ok_part at c.get_mut.ensures.value in
-    rw (same_reports c.self.inside.reports.items c.args.i c.in_ok-report.report.now stood) c.self.invariant
+    let stood = c.in-Some.ensures.value in
+    rw (same_reports c.self.inside.reports.items c.args.i c.in-Some.report.now stood) c.self.invariant
 
 pub invariant_of-self-then-is_some : goal.invariant_of-self-then-is_some
 invariant_of-self-then-is_some g c =
-    let stood = rw c.in_ok-report.ensures.ok_part at c.get_mut.ensures.value in
-    rw (same_reports c.self.inside.reports.items c.args.i c.in_ok-report.report.now stood) c.self.invariant
+    let stood = c.in-Some.ensures.value in
+    rw (same_reports c.self.inside.reports.items c.args.i c.in-Some.report.now stood) c.self.invariant
 
 pub invariant_of-self-then-bytes-gt-STATE_BYTES : goal.invariant_of-self-then-bytes-gt-STATE_BYTES
 invariant_of-self-then-bytes-gt-STATE_BYTES g c =
-    let stood = rw c.in_ok-report.ensures.ok_part at c.get_mut.ensures.value in
-    rw (same_reports c.self.inside.reports.items c.args.i c.in_ok-report.report.now stood) c.self.invariant
+    let stood = c.in-Some.ensures.value in
+    rw (same_reports c.self.inside.reports.items c.args.i c.in-Some.report.now stood) c.self.invariant
 
 pub overflow_sub-self : goal.overflow_sub-self
 overflow_sub-self g c =
     let self = c.self.inside in
-    let item = rw c.in_ok-report.ensures.ok_part at c.get_mut.ensures.item in
-    some_missing self.reports.items c.args.i (c.args.bytes, c.args.pe) c.in_ok-report.report.now self.missing item.3.0 item.1 c.if-is_some.ensures c.self.invariant.1
+    let item = c.in-Some.ensures.item in
+    some_missing self.reports.items c.args.i (c.args.bytes, c.args.pe) c.in-Some.report.now self.missing item.3.0 item.1 c.if-is_some.ensures c.self.invariant.1
 
 pub invariant_of-self-2 : goal.invariant_of-self-2
 invariant_of-self-2 g c =
     let self = c.self.inside in
-    let item = rw c.in_ok-report.ensures.ok_part at c.get_mut.ensures.item in (
+    let item = c.in-Some.ensures.item in (
       measured_more (record { round = self.round; loads = self.loads.items; reports = self.reports.items }) c.args.i c.args.bytes c.args.pe c.if-bytes-gt-STATE_BYTES.false c.self.invariant.0,
-      missing_less self.reports.items c.args.i (c.args.bytes, c.args.pe) c.in_ok-report.report.now self.missing item.3.0 item.1 c.if-is_some.ensures c.self.invariant.1,
+      missing_less self.reports.items c.args.i (c.args.bytes, c.args.pe) c.in-Some.report.now self.missing item.3.0 item.1 c.if-is_some.ensures c.self.invariant.1,
     )
-
-pub returns-in_err-report-clause-answer : goal.returns-in_err-report-clause-answer
-returns-in_err-report-clause-answer g c =
-    let error = none_refused c.get_mut.result Stranger c.in_err-report.field-0.0 c.in_err-report.ensures.value in
-    let item = rw error.0 at c.get_mut.ensures.item in
-    let refused = stranger_refused _ c.args.self.now c.args.i c.args.round c.args.bytes c.self.view_is c.self.invariant.0 item.3 in
-    passed_on c.from_residual.result (λ _. IsReport c.args.self.now c.args.i c.args.round c.args.bytes) (RefusesReport c.args.self.now c.args.i c.args.round c.args.bytes) Stranger (rw error.1 at c.from_residual.ensures.1) refused
 
 pub returns-then-ne-clause-answer : goal.returns-then-ne-clause-answer
 returns-then-ne-clause-answer g c =
-    let item = rw c.in_ok-report.ensures.ok_part at c.get_mut.ensures.item in
+    let item = c.in-Some.ensures.item in
     wrong_round_refused _ c.args.self.now c.args.i c.args.round c.args.bytes c.self.view_is c.self.invariant.0 item.3.0 c.if-ne.ensures
 
 pub returns-then-is_some-clause-answer : goal.returns-then-is_some-clause-answer
 returns-then-is_some-clause-answer g c =
-    let item = rw c.in_ok-report.ensures.ok_part at c.get_mut.ensures.item in
-    let refused : RefusesReport c.args.self.now c.args.i c.args.round c.args.bytes Twice = twice_refused _ c.args.self.now c.args.i c.args.round c.args.bytes c.in_ok-report.report.now c.self.view_is c.self.invariant.0 item.3.0 item.1 c.if-ne.ensures c.if-is_some.ensures in
+    let item = c.in-Some.ensures.item in
+    let refused : RefusesReport c.args.self.now c.args.i c.args.round c.args.bytes Twice = twice_refused _ c.args.self.now c.args.i c.args.round c.args.bytes c.in-Some.report.now c.self.view_is c.self.invariant.0 item.3.0 item.1 c.if-ne.ensures c.if-is_some.ensures in
     refused
 
 pub returns-then-is_some-clause-ok : goal.returns-then-is_some-clause-ok
@@ -61,28 +54,28 @@ returns-then-is_some-clause-ok g c = tt
 
 pub returns-then-bytes-gt-STATE_BYTES-clause-answer : goal.returns-then-bytes-gt-STATE_BYTES-clause-answer
 returns-then-bytes-gt-STATE_BYTES-clause-answer g c =
-    let item = rw c.in_ok-report.ensures.ok_part at c.get_mut.ensures.item in
-    too_large_refused _ c.args.self.now c.args.i c.args.round c.args.bytes c.in_ok-report.report.now c.self.view_is c.self.invariant.0 item.3.0 item.1 c.if-ne.ensures c.if-is_some.ensures c.if-bytes-gt-STATE_BYTES.true
+    let item = c.in-Some.ensures.item in
+    too_large_refused _ c.args.self.now c.args.i c.args.round c.args.bytes c.in-Some.report.now c.self.view_is c.self.invariant.0 item.3.0 item.1 c.if-ne.ensures c.if-is_some.ensures c.if-bytes-gt-STATE_BYTES.true
 
 pub returns-clause-answer : goal.returns-clause-answer
 returns-clause-answer g c =
-    let item = rw c.in_ok-report.ensures.ok_part at c.get_mut.ensures.item in
-    report_taken _ c.args.self.now c.args.i c.args.round c.args.bytes c.in_ok-report.report.now c.self.view_is c.self.invariant.0 item.3.0 item.1 c.if-ne.ensures c.if-is_some.ensures c.if-bytes-gt-STATE_BYTES.false
+    let item = c.in-Some.ensures.item in
+    report_taken _ c.args.self.now c.args.i c.args.round c.args.bytes c.in-Some.report.now c.self.view_is c.self.invariant.0 item.3.0 item.1 c.if-ne.ensures c.if-is_some.ensures c.if-bytes-gt-STATE_BYTES.false
 
 pub returns-clause-ok : goal.returns-clause-ok
 returns-clause-ok g c = ap (λ m. with_report m c.args.i c.args.bytes c.args.pe) c.self.view_is
 
 pub returns-then-ne-clause-err : goal.returns-then-ne-clause-err
 returns-then-ne-clause-err g c =
-    let stood = rw c.in_ok-report.ensures.ok_part at c.get_mut.ensures.value in
-    rw (same_reports c.self.inside.reports.items c.args.i c.in_ok-report.report.now stood) c.self.view_is
+    let stood = c.in-Some.ensures.value in
+    rw (same_reports c.self.inside.reports.items c.args.i c.in-Some.report.now stood) c.self.view_is
 
 pub returns-then-is_some-clause-err : goal.returns-then-is_some-clause-err
 returns-then-is_some-clause-err g c =
-    let stood = rw c.in_ok-report.ensures.ok_part at c.get_mut.ensures.value in
-    rw (same_reports c.self.inside.reports.items c.args.i c.in_ok-report.report.now stood) c.self.view_is
+    let stood = c.in-Some.ensures.value in
+    rw (same_reports c.self.inside.reports.items c.args.i c.in-Some.report.now stood) c.self.view_is
 
 pub returns-then-bytes-gt-STATE_BYTES-clause-err : goal.returns-then-bytes-gt-STATE_BYTES-clause-err
 returns-then-bytes-gt-STATE_BYTES-clause-err g c =
-    let stood = rw c.in_ok-report.ensures.ok_part at c.get_mut.ensures.value in
-    rw (same_reports c.self.inside.reports.items c.args.i c.in_ok-report.report.now stood) c.self.view_is
+    let stood = c.in-Some.ensures.value in
+    rw (same_reports c.self.inside.reports.items c.args.i c.in-Some.report.now stood) c.self.view_is
