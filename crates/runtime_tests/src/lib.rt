@@ -1,17 +1,13 @@
-//! Tests of the runtime: packed states, PEs call by call, worlds event by event, what elements report, and what is
-//! decided for them. They use public calls only, on worked examples whose answers come from outside, and on full sizes.
+//! Tests of the runtime: PEs call by call, worlds event by event, what elements report, and what is decided for them. They
+//! use public calls only, on worked examples whose answers come from outside, and on full sizes.
 #![tactic(auto)]
 
-#[cfg(test)]
-mod board;
 #[cfg(test)]
 mod courier;
 #[cfg(test)]
 mod fixtures;
 #[cfg(test)]
 mod no_memory;
-#[cfg(test)]
-mod packing;
 #[cfg(test)]
 mod pe;
 #[cfg(test)]

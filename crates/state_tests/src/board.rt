@@ -2,7 +2,7 @@
 
 ghost use Rattle.std.specs.Prelude.{◌≤◌};
 
-use crate::fixtures::{pe, round};
+use crate::fixtures::{assert_for, pe, round};
 use at_sync::{Board, BoardError};
 use chare_index::{Limits, NoGate};
 use lb_certificates::Units;
@@ -83,6 +83,7 @@ fn a_round_waits_for_every_report(rt: HostRuntime) {
     assert!(rt; again == Err(BoardError::Twice));
     assert!(rt; decides(&rt, &mut board, 1));
     assert!(rt; !board.is_complete());
+    drop(board);
 }
 
 #[test]
@@ -93,6 +94,7 @@ fn two_elements_stay(rt: HostRuntime) {
     assert!(rt; has_no_decision(&rt, &board, 0));
     assert!(rt; has_no_decision(&rt, &board, 2));
     assert!(rt; board.finish(2) == Err(BoardError::Stranger));
+    drop(board);
 }
 
 #[test]
@@ -106,6 +108,7 @@ fn three_workers_decide_the_same(rt: HostRuntime) {
     assert!(rt; !board.is_complete());
     assert!(rt; all_stay(&rt, &board, 1));
     assert!(rt; has_no_decision(&rt, &board, 2));
+    drop(board);
 }
 
 // Whether of three elements the first has finished, the second has not, and the third is none of the board's.
@@ -126,6 +129,7 @@ fn both_finish(rt: HostRuntime) {
     assert!(rt; board.all_finished());
     assert!(rt; board.finish(1).is_ok(), "again");
     assert!(rt; board.all_finished());
+    drop(board);
 }
 
 // Whether the first of two elements has reported in round 1, from PE 1, with the greatest load and size, and nothing
@@ -166,15 +170,20 @@ fn reports_that_are_refused_charge_nothing(rt: HostRuntime) {
     assert!(rt; first.is_ok());
     assert!(rt; only_the_first_reported(&rt, &board));
     for row in &REFUSED {
-        assert!(rt; is_refused_so(&rt, &mut board, row), "the report {row:?}");
-        assert!(rt; only_the_first_reported(&rt, &board), "after {row:?}");
+        assert_for(
+            &rt,
+            is_refused_so(&rt, &mut board, row),
+            ("the report", row),
+        );
+        assert_for(&rt, only_the_first_reported(&rt, &board), ("after", row));
     }
+    drop(board);
 }
 
 // No element has to report: the board decides a round at once.
 fn expect_round(rt: &impl Abort, board: &mut Board, number: u32) {
-    assert!(rt; board.is_complete(), "round {number}");
-    assert!(rt; decides(rt, board, number), "round {number}");
+    assert_for(rt, board.is_complete(), ("round", number));
+    assert_for(rt, decides(rt, board, number), ("decided", number));
 }
 
 #[test]
@@ -187,6 +196,7 @@ fn no_elements(rt: HostRuntime) {
     assert!(rt; board.rounds().len() == 3);
     let third = board.decision_for(round(&rt, 3)).expect(&rt, "not decided");
     assert!(rt; third.division.bottleneck == 0);
+    drop(board);
 }
 
 // A board whose second round was decided: both elements stood on PE 0, and the one of 9 bytes is to move.
@@ -208,6 +218,7 @@ fn an_element_moves(rt: HostRuntime) {
     assert!(rt; snapshot.loads().as_slice() == [1, 1].as_slice());
     assert!(rt; check(snapshot, 2, decision).is_ok());
     assert!(rt; decision.division.bottleneck == 1 && decision.moved == 9);
+    drop(rounds);
 }
 
 // The reports of a full array on 256 PEs, where each element has as much to do as any other.
@@ -215,7 +226,7 @@ fn full_array(rt: &(impl Abort + AllocGlobal)) -> Board {
     let mut board = board(rt, 65_536, 256);
     for i in 0..65_536 {
         let answer = report(rt, &mut board, i, 1, 4_294_967_295, 1_048_576, i % 256);
-        assert!(rt; answer.is_ok(), "the report of {i}");
+        assert_for(rt, answer.is_ok(), ("the report of", i));
     }
     board
 }
@@ -228,6 +239,7 @@ fn a_full_array(rt: HostRuntime) {
     let (snapshot, decision) = board.rounds().first().expect(&rt, "no round");
     assert!(rt; check(snapshot, 256, decision).is_ok());
     assert!(rt; decision.division.bottleneck == 1_099_511_627_520);
+    drop(board);
 }
 
 // A refusal, its number and its text.
@@ -251,6 +263,6 @@ fn numbers_and_texts(rt: HostRuntime) {
         (BoardError::Worn, 7, "no round is left"),
     ];
     for row in &ERRORS {
-        assert!(rt; is_told(&rt, row), "{row:?}");
+        assert_for(&rt, is_told(&rt, row), row);
     }
 }

@@ -1,5 +1,6 @@
 //! Packed states: the worked rows, types of a user's own, and packs of full size.
 
+use crate::fixtures::assert_for;
 use chare_index::{Gate, Index, NoGate, opening_pe};
 use pup_pack::{Bytes, Fields, Items, Pup, PupError};
 use std::alloc::{AllocError, Allocator, Global};
@@ -52,21 +53,17 @@ const STATE: [u8; 21] = [
 // A value is packed behind a byte that is there, into just these bytes.
 fn expect_pack<T: Pup<Global>>(rt: &(impl Abort + AllocGlobal), value: &T, want: &[u8]) {
     let mut out = Vec::from_slice(rt.alloc(), &[255]).expect(rt, "out of memory");
-    assert!(rt;
-        value.packed_len() as usize == want.len(),
-        "the length of {want:?}"
-    );
-    assert!(rt; value.pack_into(&mut out) == Ok(()), "the pack {want:?}");
-    assert!(rt;
-        out.as_slice().split_first() == Some((&255, want)),
-        "{out:?}"
-    );
+    let len = value.packed_len() as usize;
+    assert_for(rt, len == want.len(), ("the length of", want));
+    assert_for(rt, value.pack_into(&mut out) == Ok(()), ("the pack", want));
+    let packed = out.as_slice();
+    assert_for(rt, packed.split_first() == Some((&255, want)), packed);
 }
 
 // A value that is too long tells this length and is refused, which leaves the vector as it was.
 fn expect_too_long<T: Pup<Global>>(rt: &(impl Abort + AllocGlobal), value: &T, len: u32) {
     let mut out = Vec::from_slice(rt.alloc(), &[255]).expect(rt, "out of memory");
-    assert!(rt; value.packed_len() == len, "the length is not {len}");
+    assert_for(rt, value.packed_len() == len, ("the length is not", len));
     assert!(rt; value.pack_into(&mut out) == Err(PupError::TooLong));
     assert!(rt; out.as_slice() == [255].as_slice());
 }
@@ -80,7 +77,7 @@ fn refusal<T: Pup<Global> + Drop>(alloc: Global, bytes: &[u8]) -> Option<PupErro
 fn expect_short<T: Pup<Global> + Drop>(rt: &(impl Abort + AllocGlobal), bytes: &[u8]) {
     for end in 0..bytes.len() {
         let answer = refusal::<T>(rt.alloc(), &bytes[..end]);
-        assert!(rt; answer == Some(PupError::Short), "{end} bytes");
+        assert_for(rt, answer == Some(PupError::Short), ("bytes", end));
     }
 }
 
@@ -209,7 +206,7 @@ fn bytes_of_no_value(rt: HostRuntime) {
         },
     ];
     for row in &ROWS {
-        assert!(rt; is_unpacked_so(rt.alloc(), row), "{row:?}");
+        assert_for(&rt, is_unpacked_so(rt.alloc(), row), row);
     }
 }
 
@@ -399,8 +396,12 @@ fn expect_byte_list(
 ) {
     let list = Bytes::new(vec![in rt.alloc(); 7; count].expect(rt, "out of memory"));
     let mut out = Vec::new(rt.alloc());
-    assert!(rt; list.packed_len() == len, "the length of {count} bytes");
-    assert!(rt; list.pack_into(&mut out).err() == refusal, "{count} bytes");
+    assert_for(rt, list.packed_len() == len, ("the length of bytes", count));
+    assert_for(
+        rt,
+        list.pack_into(&mut out).err() == refusal,
+        ("bytes", count),
+    );
 }
 
 #[test]
@@ -414,7 +415,7 @@ fn expect_bytes(rt: &(impl Abort + AllocGlobal), head: &[u8], len: usize, want: 
     let mut bytes = Vec::from_slice(rt.alloc(), head).expect(rt, "out of memory");
     bytes.resize(len, 7).expect(rt, "out of memory");
     let answer = refusal::<Bytes>(rt.alloc(), &bytes);
-    assert!(rt; answer == want, "{head:?} and {len} bytes");
+    assert_for(rt, answer == want, ("head and bytes", head, len));
 }
 
 #[test]
@@ -443,7 +444,7 @@ fn refusals_of_packing(rt: HostRuntime) {
         (PupError::OutOfMemory, 4, "out of memory"),
     ];
     for row in &ERRORS {
-        assert!(rt; is_told(&rt, row), "{row:?}");
+        assert_for(&rt, is_told(&rt, row), row);
     }
 }
 
@@ -477,7 +478,7 @@ fn the_opening_places(rt: HostRuntime) {
         (65_535, 65_536, 256, 255),
     ];
     for row in &ROWS {
-        assert!(rt; begins_there(row), "element, elements, PEs, PE: {row:?}");
+        assert_for(&rt, begins_there(row), ("element, elements, PEs, PE", row));
     }
     NoGate.pass(7);
 }
