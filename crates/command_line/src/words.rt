@@ -1,4 +1,4 @@
-ghost use Rattle.std.specs.Prelude.{◌≡◌, ◌≢◌, ◌≤◌, ◌⊎◌, ◌↔◌, ℕ, IfOk, Some, codes, is_some, true};
+ghost use Rattle.std.specs.Prelude.{◌≡◌, ◌≢◌, ◌≤◌, ◌⊎◌, ◌↔◌, ℕ, IfOk, Some, codes, is_some, pos, true};
 ghost use Rattle.std.specs.Option.{ForSome};
 ghost use Rattle.clap.specs.Built.{FitsChain, TakesValue};
 ghost use Rattle.clap.specs.Values.{kind_of};
@@ -6,9 +6,11 @@ ghost use Rattle.clap.specs.Walk.{texts};
 ghost use Rattle.clap.specs.Words.{FailsBy, app_of, fault_of, first_value, found_of, one_text, rule_of};
 ghost use Rattle.command_line.specs.CommandLine.{Spells, file_in, file_rule, procs_in, procs_rule, program};
 ghost use Rattle.command_line.specs.Internal.{NamesFile};
+ghost use Rattle.clap.specs.declared.builder.value_parser.ValueParser.TheVariants.{Signed};
 ghost use Rattle.clap.specs.declared.error.kind.ErrorKind.TheVariants.{DisplayHelp, DisplayVersion};
 
 use chare_index::Limits;
+use clap::builder::ValueParser;
 use clap::{Arg, ArgAction, ArgMatches, Command, Error, value_parser};
 use lb_replay::Asked;
 use std::alloc::{AllocError, Global};
@@ -37,8 +39,10 @@ pub fn asked<'a>(alloc: Global, words: &'a [&'a str]) -> Result<Asked<'a>, Error
     ensures some_pe { IfOk result (λ asked. ForSome asked.procs (λ p. 1 ≤ p)) }
     ensures few_pes { IfOk result (λ asked. ForSome asked.procs (λ p. p ≤ Limits.PES)) }
 {
-    let matches = command(alloc)?.try_get_matches_from(words)?;
-    Ok(found(&matches))
+    match command(alloc)?.try_get_matches_from(words) {
+        Ok(matches) => Ok(found(&matches)),
+        Err(error) => Err(error),
+    }
 }
 
 // The words that are understood: `lb_sim [--procs P] FILE`, and those for help and for the version, which clap adds.
@@ -49,7 +53,10 @@ fn command<'a>(alloc: Global) -> Result<Command<'a>, AllocError>
     let command = Command::new(alloc, "lb_sim").version("0.1.0").about(
         "Replays a dump of the load database and prints the decision of its balancing step",
     );
-    command.arg(file(alloc))?.arg(procs(alloc))
+    match command.arg(file(alloc)) {
+        Ok(command) => command.arg(procs(alloc)),
+        Err(error) => Err(error),
+    }
 }
 
 fn file<'a>(alloc: Global) -> Arg<'a>
@@ -73,7 +80,14 @@ fn procs<'a>(alloc: Global) -> Arg<'a>
         .value_name("P")
         .help("Plans for P processors in place of the dump's own number")
         .action(ArgAction::Set)
-        .value_parser(value_parser!(u32).range(1..=i64::from(Limits::PES)))
+        .value_parser(number_of_pes())
+}
+
+// A number of PEs.
+fn number_of_pes<'a>() -> ValueParser<'a>
+    ensures { result ≡ Signed (pos 1) (pos Limits.PES) }
+{
+    value_parser!(u32).range(1..=i64::from(Limits::PES))
 }
 
 // What the words ask for.

@@ -127,6 +127,10 @@ broken_by text front rest piece e parts broken =
     let joined : (text ++ front) ++ rest ≡ text ++ piece = append_assoc text front rest ∙ ap (λ (p : List ℕ). text ++ p) (sym parts) in
     subst (λ t. IsBroken t e) joined (broken_append (text ++ front) rest e broken)
 
+-- a fault in a prefix of what is left of a text
+pub broken_left : (text front rest piece whole : List ℕ) (e : DumpError) → piece ≡ front ++ rest → text ++ piece ≡ whole → IsBroken (text ++ front) e → IsBroken whole e
+broken_left text front rest piece whole e parts all broken = subst (λ t. IsBroken t e) all (broken_by text front rest piece e parts broken)
+
 -- the answer to a prefix of what came, where it is refused
 pub refused_by : (text front rest piece : List ℕ) (e : DumpError) → piece ≡ front ++ rest → (e ≡ OutOfMemory) ⊎ IsBroken (text ++ front) e → (e ≡ OutOfMemory) ⊎ IsBroken (text ++ piece) e
 refused_by text front rest piece e parts (inl none) = inl none

@@ -103,5 +103,5 @@ kept_next procs loads more sizes pairs numbers kept loads_are sizes_are load siz
     only P x holds (suc k) d inside = absurd (omega arith)
 
 -- what was taken in and what was not are still the same text
-pub same_text : (front element after rest text : List ℕ) → rest ≡ element ++ after → front ++ rest ≡ text → (front ++ element) ++ after ≡ text
-same_text front element after rest text parts whole = append_assoc front element after ∙ ap (λ t. front ++ t) (sym parts) ∙ whole
+pub same_front : (new front element after rest text : List ℕ) → new ≡ front ++ element → rest ≡ element ++ after → front ++ rest ≡ text → new ++ after ≡ text
+same_front new front element after rest text next parts whole = ap (λ t. t ++ after) next ∙ append_assoc front element after ∙ ap (λ t. front ++ t) (sym parts) ∙ whole

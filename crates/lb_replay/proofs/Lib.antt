@@ -4,4 +4,3 @@ pub mod OneTexts
 pub mod PeLines
 pub mod RightTexts
 pub mod Sends
-pub mod Turned

@@ -3,6 +3,7 @@ ghost use Rattle.std.specs.Option.{ForSome};
 ghost use Rattle.std.specs.String.{string_bytes};
 ghost use Rattle.lb_strategy.specs.declared.error.PlanError.TheVariants.{OutOfMemory};
 ghost use Rattle.lb_replay.specs.Text.{fault_line};
+ghost use Rattle.lb_replay.specs.declared.fault.Fault.TheVariants.{Plan};
 ghost use Rattle.lb_replay.specs.Internal.{without_memory};
 ghost use Rattle.lb_replay.specs.Simulation.{EndsReplay, IsPlanned, IsReplay, IsReplayFault, ReportsFault, ReportsUnread};
 
@@ -14,7 +15,7 @@ use crate::text::decision_text;
 use chare_index::Limits;
 use lb_certificates::Snapshot;
 use lb_dump::{DumpError, read_from};
-use lb_strategy::{PlanError, plan};
+use lb_strategy::plan;
 use std::alloc::Allocator;
 use std::io::{self, Read, Write};
 
@@ -80,24 +81,30 @@ fn replay<A: Allocator + Copy, R: Read>(
     ensures text { IfOk result (λ text. IsReplay A (R.remaining reader.old) procs (string_bytes text)) }
     ensures fault { IfErr result (IsReplayFault (R.remaining reader.old) (R.remaining reader.new)) }
 {
-    let snapshot = read_from(alloc, reader)?;
-    let pes = procs.unwrap_or(snapshot.procs());
-    planned_text(alloc, &snapshot, pes).map_err(Fault::from)
+    match read_from(alloc, reader) {
+        Ok(snapshot) => {
+            let pes = procs.unwrap_or(snapshot.procs());
+            planned_text(alloc, &snapshot, pes)
+        }
+        Err(fault) => Err(Fault::Dump(fault)),
+    }
 }
 
-// The text of the decision that is planned for a snapshot.
+// The text of the decision that is planned for a snapshot, or that it is out of memory.
 fn planned_text<A: Allocator + Copy, B: Allocator>(
     alloc: A,
     snapshot: &Snapshot<B>,
     pes: u32,
-) -> Result<String<A>, PlanError>
+) -> Result<String<A>, Fault>
     requires some_pe { 1 ≤ pes }
     requires few_pes { pes ≤ Limits.PES }
     ensures text { IfOk result (λ text. IsPlanned A snapshot.now pes (string_bytes text)) }
-    ensures fault { IfErr result (λ error. error ≡ OutOfMemory) }
+    ensures fault { IfErr result (λ fault. fault ≡ Plan OutOfMemory) }
 {
-    let decision = plan(alloc, snapshot, pes)?;
-    decision_text(alloc, snapshot, pes, &decision).map_err(PlanError::from)
+    match plan(alloc, snapshot, pes) {
+        Ok(decision) => decision_text(alloc, snapshot, pes, &decision),
+        Err(fault) => Err(Fault::Plan(fault)),
+    }
 }
 
 // Writes the line of a fault, or that it is out of memory.

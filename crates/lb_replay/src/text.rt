@@ -1,14 +1,17 @@
 //! The printed text of a decision. It is made whole before any of it goes out.
 
-ghost use Rattle.std.specs.Prelude.{◌≡◌, ◌++◌, [], OnOk, IfOk, length};
+ghost use Rattle.std.specs.Prelude.{◌≡◌, ◌++◌, [], OnOk, IfOk, IfErr, length};
 ghost use Rattle.std.specs.List.{flat_map};
 ghost use Rattle.std.specs.String.{string_bytes};
 ghost use Rattle.lb_certificates.specs.Chain.{IsDivision};
 ghost use Rattle.lb_strategy.specs.Decisions.{IsRight};
+ghost use Rattle.lb_strategy.specs.declared.error.PlanError.TheVariants.{OutOfMemory};
+ghost use Rattle.lb_replay.specs.declared.fault.Fault.TheVariants.{Plan};
 ghost use Rattle.lb_replay.specs.Text.{head_line, bottleneck_line, floor_line, blank_number, block_start, block_line, block_lines, pe_line, moved_line, decision_text};
 
+use crate::fault::Fault;
 use lb_certificates::{Floor, Loads, Snapshot};
-use lb_strategy::Decision;
+use lb_strategy::{Decision, PlanError};
 use std::alloc::{AllocError, Allocator};
 
 /// The text of a decision for `pes` PEs on the snapshot: its division with the floor, a line for each block, and
@@ -16,19 +19,22 @@ use std::alloc::{AllocError, Allocator};
 ///
 /// # Errors
 ///
-/// Out of memory.
+/// Out of memory, as a fault of the plan.
 pub(crate) fn decision_text<A: Allocator, B: Allocator, C: Allocator>(
     alloc: A,
     snapshot: &Snapshot<B>,
     pes: u32,
     decision: &Decision<C>,
-) -> Result<String<A>, AllocError>
+) -> Result<String<A>, Fault>
     requires { IsRight snapshot.now.loads snapshot.now.sizes pes decision.now }
     ensures text { IfOk result (λ text. string_bytes text ≡ decision_text snapshot.now pes decision.now) }
+    ensures fault { IfErr result (λ fault. fault ≡ Plan OutOfMemory) }
 {
     let mut text = String::new(alloc);
-    push_decision(&mut text, snapshot, pes, decision)?;
-    Ok(text)
+    match push_decision(&mut text, snapshot, pes, decision) {
+        Ok(()) => Ok(text),
+        Err(_) => Err(Fault::Plan(PlanError::OutOfMemory)),
+    }
 }
 
 // Writes the text of a decision where nothing stands yet.
@@ -93,7 +99,6 @@ fn push_numbers<A: Allocator>(text: &mut String<A>, numbers: &[u32]) -> Result<(
     Ok(())
 }
 
-#[tactic(auto, using(crate::proofs::BlockLines::block_lines_more))]
 fn push_blocks<A: Allocator, B: Allocator>(
     text: &mut String<A>,
     loads: &Loads<B>,

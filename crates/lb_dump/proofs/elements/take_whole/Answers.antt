@@ -4,8 +4,8 @@ use Rattle.chare_index.specs.declared.limits.TheConstants.Limits.{LOAD, STATE_BY
 use Rattle.lb_dump.specs.Format.{IsBytes, load_at, procs_in}
 use Rattle.lb_dump.specs.Faults.{IsBroken, IsGood}
 use Rattle.lb_dump.specs.Held.{front_text}
-use Rattle.lb_dump.proofs.GoodTexts.{broken_by}
-use Rattle.lb_dump.proofs.NextElements.{IsFront, bytes_before, bytes_after, kept_next, few_pes, few_elements, next_is_good, next_is_broken, next_front, same_text}
+use Rattle.lb_dump.proofs.GoodTexts.{broken_left}
+use Rattle.lb_dump.proofs.NextElements.{IsFront, bytes_before, bytes_after, kept_next, few_pes, few_elements, next_is_good, next_is_broken, next_front, same_front}
 use Rattle.lb_dump.proofs.WordLaws.{word_below}
 use Rattle.lb_dump.proofs.elements.take_whole.Goals as goal
 
@@ -29,7 +29,7 @@ returns-in_err-load-clause-broken g c =
     let e = c.in_err-load.field-0.0 in
     let p = err_from_is_err_and c.from_residual-in_err-load.result c.from_residual-in_err-load.ensures.1 in
     let here : IsBroken (front_text head loads sizes ++ element) e = next_is_broken head loads sizes element c.len-in-loop-rest.result c.word-procs.result e (record { headed = c.requires.headed; paired = before.kept.paired; good = before.good }) (omega arith) (omega arith) (omega arith) c.word-procs.ensures.value c.in_err-load.ensures.fault in
-    rw (p.1, p.2) (inr (subst (λ t. IsBroken t e) before.joined (broken_by (front_text head loads sizes) element c.split_at.result.1.now c.loop-rest.rest.now e c.split_at.ensures.by_index.0 here)))
+    rw (p.1, p.2) (inr (broken_left (front_text head loads sizes) element c.split_at.result.1.now c.loop-rest.rest.now (front_text head c.args.loads.now.items c.args.sizes.now.items ++ c.args.bytes.now) e c.split_at.ensures.by_index.0 before.joined here))
 
 pub loop-rest-preserved : goal.loop-rest-preserved
 loop-rest-preserved g c =
@@ -51,7 +51,7 @@ loop-rest-preserved g c =
     let more : length c.push_reserved.new.self.items ≡ length loads + 1 = rw c.push_reserved.ensures.items (length-append loads _) in
     let pairs : length c.push_reserved-in-loop-rest.new.self.items ≡ length sizes + 1 = rw c.push_reserved-in-loop-rest.ensures.items (length-append sizes _) in
     record {
-      joined = ap (λ t. t ++ c.split_at.result.1.now) next ∙ same_text (front_text head loads sizes) element c.split_at.result.1.now c.loop-rest.rest.now _ c.split_at.ensures.by_index.0 before.joined;
+      joined = same_front (front_text head c.push_reserved.new.self.items c.push_reserved-in-loop-rest.new.self.items) (front_text head loads sizes) element c.split_at.result.1.now c.loop-rest.rest.now (front_text head c.args.loads.now.items c.args.sizes.now.items ++ c.args.bytes.now) next c.split_at.ensures.by_index.0 before.joined;
       bytes = bytes_after element c.split_at.result.1.now rest;
       kept = kept_next (procs_in head) loads c.push_reserved.new.self.items sizes c.push_reserved-in-loop-rest.new.self.items (c.in_ok-load.load, c.in_ok-load.size, c.in_ok-load.place) before.kept c.push_reserved.ensures.items c.push_reserved-in-loop-rest.ensures.items load_fits size_fits place_fits;
       good = subst IsGood (sym next) good;
