@@ -1,5 +1,5 @@
 -- The least PE that a block can have.
-use Rattle.std.proofs.Common.{◌≡◌, ◌≢◌, ◌⊎◌, ℕ, ◌-◌, ◌/◌, ◌%◌, ◌<◌, ◌≤◌, inl, inr, List, length, slice_index, arith, ap, sym, ◌∙◌}
+use Rattle.std.proofs.Common.{◌≡◌, ◌≢◌, ◌⊎◌, ℕ, ◌+◌, ◌-◌, ◌/◌, ◌%◌, ◌<◌, ◌≤◌, inl, inr, List, length, slice_index, arith, ap, sym, ◌∙◌, subst}
 use Rattle.std.proofs.lemmas.Bool.{cases_eq, cases_lt}
 use Rattle.std.proofs.lemmas.Nat.Bits.{bit_at-lt}
 use Rattle.lb_certificates.specs.Naming.{total, IsNaming}
@@ -79,6 +79,14 @@ least_chosen takers names left b chosen naming inside taken closed least others 
       taken = held_by_reached takers names others b naming other same inside left allowed taken closed;
     } in
     omega (arith, here, least j reached (ap (λ p. may_have takers b p) here ∙ allowed b inside))
+
+-- the block with the least PE, of one more block
+pub least_more : (takers : List (List ℕ)) (names left : List ℕ) (b j chosen next : ℕ) → ((k : ℕ) → k < j → IsFound (length takers) b left k → may_have takers b (slice_index names k) ≡ 1 → slice_index names chosen ≤ slice_index names k) → slice_index names next ≤ slice_index names chosen → (IsFound (length takers) b left j → may_have takers b (slice_index names j) ≡ 1 → slice_index names next ≤ slice_index names j) → (k : ℕ) → k < j + 1 → IsFound (length takers) b left k → may_have takers b (slice_index names k) ≡ 1 → slice_index names next ≤ slice_index names k
+least_more takers names left b j chosen next before less here k past found has =
+    elim (cases_eq k j) [
+      | inl e ↦ subst (λ m. slice_index names next ≤ slice_index names m) (sym e) (here (subst (λ m. IsFound (length takers) b left m) e found) (subst (λ m. may_have takers b (slice_index names m) ≡ 1) e has))
+      | inr other ↦ omega (arith, less, before k (omega (arith, past, other)) found has)
+    ]
 
 -- a block that may have no lesser PE of a later block has the least
 pub least_kept : (takers : List (List ℕ)) (names : List ℕ) (b : ℕ) → IsNaming (length takers) names → b < length takers → ((j : ℕ) → b < j → j < length takers → may_have takers b (slice_index names j) ≡ 1 → slice_index names b ≤ slice_index names j) → IsLeastAt takers names b

@@ -2,6 +2,7 @@ pub mod BlockBits
 pub mod Coverings
 pub mod Duality
 pub mod Exchanges
+pub mod Joinings
 pub mod LeastPes
 pub mod Moves
 pub mod Namings

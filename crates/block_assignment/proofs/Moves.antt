@@ -153,6 +153,25 @@ moving_more s names holders pe b few path moving e named =
         let other : k ≢ b = λ same. absurd (omega (arith, before, ap (λ q. slice_index s.rank q) earlier.0, ap (λ n. slice_index s.rank (slice_index s.names n)) same)) in
         there k other ∙ moving.kept k inside (omega (arith, before, earlier.1))
 
+-- the same, where the next PE was read before
+pub moving_next : (s : State) (names : List ℕ) (holders : List (Option ℕ)) (pe b before : ℕ) → s.named ≤ s.table.blocks → IsPath s → IsMoving s names holders pe → b ≡ slice_index s.from pe → b < s.named → before ≡ slice_index names b → IsMoving s (set names b pe) (set holders pe (Some b)) before
+moving_next s names holders pe b before few path moving e named read =
+    subst (λ q. IsMoving s (set names b pe) (set holders pe (Some b)) q) (sym read) (moving_more s names holders pe b few path moving e named)
+
+-- lists that are written over keep their lengths
+pub moved_sized : (s : State) (named b : ℕ) (names : List ℕ) (holders : List (Option ℕ)) (pe : ℕ) → IsSized s → IsMoving s names holders pe → IsSized (renamed s named (set names b pe) (set holders pe (Some b)))
+moved_sized s named b names holders pe sized moving =
+    record {
+      is_table = sized.is_table;
+      names_length = length-set names b pe ∙ moving.names_length;
+      holders_length = length-set holders pe (Some b) ∙ moving.holders_length;
+      paid_length = sized.paid_length;
+      rebate_length = sized.rebate_length;
+      rank_length = sized.rank_length;
+      distance_length = sized.distance_length;
+      from_length = sized.from_length;
+    }
+
 -- the root takes the last
 pub moving_ends : (s : State) (names : List ℕ) (holders : List (Option ℕ)) (pe b : ℕ) → s.named < s.table.blocks → IsMatched s → IsPath s → IsMoving s names holders pe → b ≡ slice_index s.from pe → s.named ≤ b → IsMatched (renamed s (s.named + 1) (set names s.named pe) (set holders pe (Some s.named)))
 moving_ends s names holders pe b unnamed matched path moving e past =

@@ -1,9 +1,10 @@
 -- The prices are changed once, when the tree has reached a free PE.
-use Rattle.std.proofs.Common.{◌≡◌, ◌≢◌, ◌⊎◌, ℕ, ◌+◌, ◌<◌, ◌≤◌, inl, inr, List, None, set, slice_index, slice_index_or, arith, ap, sym, ◌∙◌, subst, refl}
+use Rattle.std.proofs.Common.{◌≡◌, ◌≢◌, ◌⊎◌, ℕ, ◌+◌, ◌^◌, ◌<◌, ◌≤◌, inl, inr, List, None, length, take, set, slice_index, slice_index_or, arith, ap, sym, ◌∙◌, subst, refl}
 use Rattle.std.proofs.lemmas.Bool.{cases_eq, cases_lt}
-use Rattle.std.proofs.lemmas.List.{get_or-set_same, get_or-set_other}
+use Rattle.std.proofs.lemmas.List.{get_or-set_same, get_or-set_other, get_or-take, length-take, length-set}
 use Rattle.block_assignment.specs.Table.{cost_at}
 use Rattle.block_assignment.specs.Search.{State, IsSized, IsFree, IsMatched, IsAt, IsReached, IsTree, IsPath, IsNearest, IsRaised}
+use Rattle.block_assignment.proofs.Prices.{paid_small, rebate_small, distance_small}
 use Rattle.block_assignment.proofs.Trees.{free_if_unheld}
 
 abbrev pub repriced : State → List ℕ → List ℕ → List ℕ → State
@@ -152,3 +153,48 @@ repriced_path next s pe paid rebate sized matched tree new =
               omega (arith, rank_here, rank_kept q (of_before p inside named), tree.ranks q (matched.below (slice_index s.from p) named))
           | inr other ↦ omega (arith, rank_kept q (of_before p inside named), get_or-set_other s.rank pe p next 0 other, tree.earlier p inside (omega (arith, before, get_or-set_other s.rank pe p next 0 other)) named)
         ]
+
+-- the prices are to be changed, since the nearest PE is free
+pub record IsRaising (next : ℕ) (s : State) (pe : ℕ) : Type 0 where
+  pub sized : IsSized s
+  pub matched : IsMatched s
+  pub tree : IsTree next s
+  pub unnamed : s.named < s.table.blocks
+  pub near : IsNearest s.rank s.distance s.table.blocks pe
+  pub free : slice_index_or s.holders pe None ≡ None
+  pub in_rank : pe < length s.rank
+  pub in_distance : pe < length s.distance
+  pub firsts : length (take s.named s.names) ≡ s.named
+
+pub raising : (next : ℕ) (s old : State) (pe : ℕ) → s ≡ old → IsSized old → IsMatched old → IsTree next old → old.named < old.table.blocks → IsNearest old.rank old.distance old.table.blocks pe → slice_index_or old.holders pe None ≡ None → IsRaising next s pe
+raising next s old pe same sized matched tree unnamed near free =
+    subst (λ z. IsRaising next z pe) (sym same) (record {
+      sized = sized;
+      matched = matched;
+      tree = tree;
+      unnamed = unnamed;
+      near = near;
+      free = free;
+      in_rank = omega (arith, near.inside, sized.rank_length);
+      in_distance = omega (arith, near.inside, sized.distance_length);
+      firsts = omega (arith, length-take old.named old.names, sized.names_length, unnamed);
+    })
+
+-- prices stay far below 2^64
+pub raised_paid : (next : ℕ) (s : State) (pe reach : ℕ) → IsRaising next s pe → reach ≡ slice_index s.distance pe → (b : ℕ) → b < length s.paid → slice_index s.paid b + reach < 2 ^ 64
+raised_paid next s pe reach r read b inside =
+    omega (arith, read, distance_small next s r.sized.is_table r.matched r.tree r.unnamed pe r.near.inside, paid_small s r.sized.is_table r.matched r.unnamed b (omega (arith, inside, r.sized.paid_length)))
+
+pub raised_rebate : (next : ℕ) (s : State) (pe reach : ℕ) → IsRaising next s pe → reach ≡ slice_index s.distance pe → (p : ℕ) → p < length s.rebate → slice_index s.rebate p + reach < 2 ^ 64
+raised_rebate next s pe reach r read p inside =
+    omega (arith, read, distance_small next s r.sized.is_table r.matched r.tree r.unnamed pe r.near.inside, rebate_small s r.sized.is_table r.matched r.unnamed p (omega (arith, inside, r.sized.rebate_length)))
+
+-- PEs of named blocks are below the number of PEs, and those that were scanned no farther than the nearest
+pub names_below : (next : ℕ) (s : State) (pe : ℕ) → IsRaising next s pe → (b : ℕ) → b < length (take s.named s.names) → slice_index (take s.named s.names) b < length (set s.rank pe next)
+names_below next s pe r b inside =
+    let named : b < s.named = omega (arith, inside, r.firsts) in
+    omega (arith, get_or-take s.named s.names b 0 named, r.matched.below b named, length-set s.rank pe next, r.sized.rank_length)
+
+pub none_past : (next : ℕ) (s : State) (pe reach : ℕ) → IsRaising next s pe → reach ≡ slice_index s.distance pe → (p : ℕ) → p < length (set s.rank pe next) → 0 < slice_index (set s.rank pe next) p → slice_index s.distance p ≤ reach
+none_past next s pe reach r read p inside scanned =
+    omega (arith, read, none_farther next s pe r.tree r.near p (omega (arith, inside, length-set s.rank pe next, r.sized.rank_length)) scanned)

@@ -60,6 +60,17 @@ known_more takers next b i P before same here p past =
           (λ one. known.0 (sym kept ∙ one), λ holds. kept ∙ known.1 holds)
     ]
 
+-- one more block of which it is known whether it may have each PE
+pub all_known_more : (takers next : List (List ℕ)) (b n : ℕ) (P : ℕ → ℕ → Type 0) → ((k p : ℕ) → k < b → p < n → (may_have takers k p ≡ 1) ↔ P k p) → ((k p : ℕ) → k ≢ b → may_have next k p ≡ may_have takers k p) → ((p : ℕ) → p < n → (may_have next b p ≡ 1) ↔ P b p) → (k p : ℕ) → k < b + 1 → p < n → (may_have next k p ≡ 1) ↔ P k p
+all_known_more takers next b n P before same here k p past inside =
+    elim (cases_eq k b) [
+      | inl e ↦ subst (λ j. (may_have next j p ≡ 1) ↔ P j p) (sym e) (here p inside)
+      | inr other ↦
+          let known = before k p (omega (arith, past, other)) inside in
+          let kept = same k p other in
+          (λ one. known.0 (sym kept ∙ one), λ holds. kept ∙ known.1 holds)
+    ]
+
 -- an element that stands on a PE moves no byte there
 stays : (size : ℕ × ℕ) (p : ℕ) → size.1 ≡ p → moved_bytes size p ≡ 0
 stays size p e = ap (λ t. cond t 0 size.0) (eq-eqb _ _ e)

@@ -1,10 +1,11 @@
 -- The tree of the search grows.
-use Rattle.std.proofs.Common.{◌≡◌, ◌≢◌, ◌⊎◌, ℕ, ◌+◌, ◌-◌, ◌^◌, ◌<◌, ◌≤◌, inl, inr, List, Some, None, ◌++◌, length, take, drop, set, slice_index, slice_index_or, arith, ap, sym, ◌∙◌, subst, refl}
-use Rattle.std.proofs.lemmas.Bool.{cases_eq, cases_lt}
+use Rattle.std.proofs.Common.{◌≡◌, ◌≢◌, ◌⊎◌, ℕ, ◌+◌, ◌-◌, ◌^◌, ◌<◌, ◌≤◌, ◌==◌, inl, inr, cond, suc, Bool, List, [], ◌∷◌, Some, None, ◌++◌, length, take, drop, set, slice_index, slice_index_or, arith, ap, sym, ◌∙◌, subst, refl}
+use Rattle.std.proofs.lemmas.Bool.{cases_eq, cases_lt, eq-eqb, ne_eqb}
 use Rattle.std.proofs.lemmas.List.{get_or-set_same, get_or-set_other}
+use Rattle.std.proofs.lemmas.List.Sums.{sum_by-cons, sum_by-set}
 use Rattle.std.proofs.Math.Seq.{take-append_seam}
 use Rattle.block_assignment.specs.Table.{cost_at}
-use Rattle.block_assignment.specs.Search.{State, IsSized, IsFree, IsMatched, IsAt, IsReached, IsTree, IsNearest, IsRelaxed}
+use Rattle.block_assignment.specs.Search.{State, IsSized, IsFree, IsMatched, IsAt, IsReached, IsTree, IsNearest, IsRelaxed, unscanned}
 use Rattle.block_assignment.proofs.Coverings.{covers}
 use Rattle.block_assignment.proofs.Sums.{cost_small}
 use Rattle.block_assignment.proofs.Prices.{rebate_small}
@@ -24,6 +25,33 @@ free_if_unheld s p matched none b named here =
     let known : slice_index_or s.holders (slice_index s.names b) None ≡ Some b = matched.known b named in
     let same : slice_index_or s.holders p None ≡ Some b = subst (λ q. slice_index_or s.holders q None ≡ Some b) here known in
     cc
+
+pub grown_sized : (s : State) (rank distance from : List ℕ) → IsSized s → length rank ≡ s.table.blocks → length distance ≡ s.table.blocks → length from ≡ s.table.blocks → IsSized (grown s rank distance from)
+grown_sized s rank distance from sized ranks distances froms =
+    record {
+      is_table = sized.is_table;
+      names_length = sized.names_length;
+      holders_length = sized.holders_length;
+      paid_length = sized.paid_length;
+      rebate_length = sized.rebate_length;
+      rank_length = ranks;
+      distance_length = distances;
+      from_length = froms;
+    }
+
+pub grown_matched : (s : State) (rank distance from : List ℕ) → IsMatched s → IsMatched (grown s rank distance from)
+grown_matched s rank distance from matched =
+    record { below = matched.below; apart = matched.apart; known = matched.known; held = matched.held; low = matched.low; tight = matched.tight; free = matched.free }
+
+-- how many PEs were not scanned: all at first, and one less with each that is scanned
+pub none_scanned : (rank : List ℕ) → ((p : ℕ) → p < length rank → slice_index rank p ≡ 0) → unscanned rank ≡ length rank
+none_scanned [] none = refl
+none_scanned (r ∷ rank) none =
+    omega (arith, sum_by-cons (λ (n : ℕ). cond (n == 0) 1 0) r rank, ap {B = ℕ} (λ (t : Bool). cond t 1 0) (eq-eqb r 0 (none 0 (omega arith))), none_scanned rank (λ p inside. none (suc p) (omega (arith, inside))))
+
+pub one_scanned : (rank : List ℕ) (p next : ℕ) → p < length rank → slice_index rank p ≡ 0 → 0 < next → unscanned (set rank p next) + 1 ≡ unscanned rank
+one_scanned rank p next inside none some =
+    omega (arith, sum_by-set (λ (n : ℕ). cond (n == 0) 1 0) rank p next 0 inside, ap {B = ℕ} (λ (t : Bool). cond t 1 0) (eq-eqb (slice_index rank p) 0 none), ap {B = ℕ} (λ (t : Bool). cond t 1 0) (ne_eqb next 0 (λ e. absurd (omega (arith, e, some)))))
 
 -- ---- a tree of one block
 

@@ -36,3 +36,33 @@ returns-clause-least_naming g c =
     let naming : IsNaming blocks c.make_least.new.names = subst (λ n. IsNaming n c.make_least.new.names) counted c.make_least.ensures.naming in
     let tight : IsTight blocks cost c.args.paid.now c.args.rebate.now c.make_least.new.names = tight_if_allowed blocks cost c.args.paid.now c.args.rebate.now c.args.names.now c.make_least.new.names takers counted exact c.requires.tight naming c.make_least.ensures.allowed in
     first_from_least blocks cost c.args.paid.now c.args.rebate.now c.make_least.new.names takers counted exact tight c.make_least.ensures.least
+
+pub write_takers-requires-clause-paid : goal.write_takers-requires-clause-paid
+write_takers-requires-clause-paid g c = c.requires.paid
+
+pub write_takers-requires-clause-rebates : goal.write_takers-requires-clause-rebates
+write_takers-requires-clause-rebates g c = c.requires.rebates
+
+pub write_takers-requires-clause-small : goal.write_takers-requires-clause-small
+write_takers-requires-clause-small g c = c.requires.small
+
+pub write_takers-requires-clause-takers : goal.write_takers-requires-clause-takers
+write_takers-requires-clause-takers g c = omega (arith, c.deref_mut.ensures.len, c.in_ok-takers.ensures.len, c.blocks-blocks.ensures.value)
+
+pub make_least-requires-clause-few : goal.make_least-requires-clause-few
+make_least-requires-clause-few g c =
+    let same : c.deref.result.now ≡ c.write_takers.new.takers = c.deref.ensures.value ∙ written _ _ _ (omega arith) in
+    let counted : length c.deref.result.now ≡ c.args.table.now.blocks = ap (λ (xs : List (List ℕ)). length xs) same ∙ omega (arith, c.write_takers.auto.takers, c.deref_mut.ensures.len, c.in_ok-takers.ensures.len, c.blocks-blocks.ensures.value) in
+    omega (arith, counted, c.blocks-blocks.ensures.within_limits.few_blocks)
+
+pub make_least-requires-clause-next : goal.make_least-requires-clause-next
+make_least-requires-clause-next g c =
+    let same : c.deref.result.now ≡ c.write_takers.new.takers = c.deref.ensures.value ∙ written _ _ _ (omega arith) in
+    let counted : length c.deref.result.now ≡ c.args.table.now.blocks = ap (λ (xs : List (List ℕ)). length xs) same ∙ omega (arith, c.write_takers.auto.takers, c.deref_mut.ensures.len, c.in_ok-takers.ensures.len, c.blocks-blocks.ensures.value) in
+    omega (arith, counted, c.deref_mut-2.ensures.len, c.in_ok-next.ensures.len, c.blocks-blocks.ensures.value)
+
+pub make_least-requires-clause-naming : goal.make_least-requires-clause-naming
+make_least-requires-clause-naming g c =
+    let same : c.deref.result.now ≡ c.write_takers.new.takers = c.deref.ensures.value ∙ written _ _ _ (omega arith) in
+    let counted : length c.deref.result.now ≡ c.args.table.now.blocks = ap (λ (xs : List (List ℕ)). length xs) same ∙ omega (arith, c.write_takers.auto.takers, c.deref_mut.ensures.len, c.in_ok-takers.ensures.len, c.blocks-blocks.ensures.value) in
+    subst (λ n. IsNaming n c.args.names.now) (sym counted) c.requires.tight.naming

@@ -37,3 +37,18 @@ returns-clause-least c = λ others other allowed agree.
       (passing_ends _ _ _ _ _ _ c.loop-taken.invariant.1 c.requires.naming _ _ _ c.loop-taken.invariant.2 (omega arith)).1,
       least_chosen c.args.takers.now c.args.names.now c.left_by-left.result c.args.b c.choose-taken.result c.requires.naming c.requires.inside taken c.left_by-left.ensures.closed c.choose-taken.ensures.least others other allowed (λ k before. agree k before ∙ c.loop-taken.invariant.2.before k before),
     )
+
+pub returns-then-not-may_have_less-clause-naming : goal.returns-then-not-may_have_less-clause-naming
+returns-then-not-may_have_less-clause-naming c = c.requires.naming
+
+pub returns-then-not-may_have_less-clause-allowed : goal.returns-then-not-may_have_less-clause-allowed
+returns-then-not-may_have_less-clause-allowed c = c.requires.allowed
+
+pub returns-then-not-may_have_less-clause-before : goal.returns-then-not-may_have_less-clause-before
+returns-then-not-may_have_less-clause-before c = λ k before. refl
+
+pub returns-clause-naming : goal.returns-clause-naming
+returns-clause-naming c = c.loop-taken.invariant.2.naming
+
+pub returns-clause-before : goal.returns-clause-before
+returns-clause-before c = c.loop-taken.invariant.2.before

@@ -1,5 +1,6 @@
-use Rattle.std.proofs.Common.{sym, ◌≡◌, ◌≢◌, ℕ, Some, ◌+◌, ◌-◌, ◌^◌, ◌<◌, ◌≤◌, length, set, slice_index, arith, ap, ◌∙◌}
+use Rattle.std.proofs.Common.{sym, ◌≡◌, ◌≢◌, ℕ, Some, ◌+◌, ◌-◌, ◌^◌, ◌<◌, ◌≤◌, length, set, slice_index, arith, ap, ◌∙◌, subst, refl, MatchOption}
 use Rattle.std.proofs.lemmas.List.{get_or-set_same, get_or-set_other}
+use Rattle.block_assignment.specs.Search.{IsNearest}
 use Rattle.block_assignment.proofs.Scans.{Walked, walked_by, walked_kept, walked_nearer, nearest_by, taken, left}
 use Rattle.block_assignment.proofs.scan.scan.Goals.{then-rank-p-eq0+then-comes_first, then-way-far, else-way-far, then-rank-p-eq0+else-comes_first, else-rank-p-eq0}
 use Rattle.block_assignment.proofs.scan.scan.Goals as goal
@@ -75,3 +76,30 @@ loop-p-preserved c =
         nearest = nearest_by _ _ _ _ k c.loop-p.invariant.nearest (omega (arith, w.if-rank-p-eq0.false));
       })
     ]
+
+pub loop-p-init : goal.loop-p-init
+loop-p-init c =
+    record {
+      walked = record {
+        relaxed = λ p inside _. absurd (omega (arith, inside));
+        kept_distance = λ p _. refl;
+        kept_from = λ p _. refl;
+        to_do_distance = λ p _. refl;
+        to_do_from = λ p _. refl;
+      };
+      nearest = record { which = λ p inside. absurd (omega (arith, inside)); far = refl };
+    }
+
+pub returns-clause-relaxed : goal.returns-clause-relaxed
+returns-clause-relaxed c = λ p inside not_yet. c.loop-p.invariant.walked.relaxed p (omega (arith, inside, c.loop-p-test.false)) not_yet
+
+pub returns-clause-kept_distance : goal.returns-clause-kept_distance
+returns-clause-kept_distance c = c.loop-p.invariant.walked.kept_distance
+
+pub returns-clause-kept_from : goal.returns-clause-kept_from
+returns-clause-kept_from c = c.loop-p.invariant.walked.kept_from
+
+pub returns-clause-nearest : goal.returns-clause-nearest
+returns-clause-nearest c =
+    let end : c.loop-p.p ≡ length c.args.row.now = omega (arith, c.loop-p-test.false) in
+    subst (λ n. MatchOption c.loop-p.nearest ((p : ℕ) → p < n → 0 < slice_index c.args.rank.now p) (IsNearest c.args.rank.now c.loop-p.distance n)) end c.loop-p.invariant.nearest.which

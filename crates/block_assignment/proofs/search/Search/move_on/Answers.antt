@@ -1,7 +1,7 @@
 use Rattle.std.proofs.Common.{◌≡◌, ◌<◌, ◌≤◌, ◌+◌, ℕ, List, Option, Some, length, set, slice_index, arith, sym, ◌∙◌, subst, ap}
 use Rattle.std.proofs.lemmas.List.{get_or_read}
-use Rattle.block_assignment.specs.Search.{State, IsMatched, IsPath}
-use Rattle.block_assignment.proofs.Moves.{IsMoving, moving_starts, next_earlier, moving_more, moving_ends, renamed}
+use Rattle.block_assignment.specs.Search.{State, IsSized, IsMatched, IsPath}
+use Rattle.block_assignment.proofs.Moves.{IsMoving, moving_starts, next_earlier, moving_next, moved_sized, moving_ends, renamed}
 use Rattle.block_assignment.proofs.search.Search.move_on.Goals as goal
 
 pub index-requires-in-loop-b : goal.index-requires-in-loop-b
@@ -11,12 +11,10 @@ index-requires-in-loop-b g c =
     let holders : List (Option ℕ) = c.loop-b.self-inside.holders.items in
     let r = c.loop-b.invariant.rest in
     let moving : IsMoving s names holders c.loop-b.pe = c.loop-b.invariant.moving in
-    let path : IsPath s = c.requires.path in
     let named : c.loop-b.b < s.named = omega (arith, ap (λ (z : State). z.named) r, c.loop-b-test.true) in
     let before : c.index-before.result.now ≡ slice_index names c.loop-b.b = get_or_read names c.loop-b.b c.index-before.result.now (omega (arith, moving.names_length, named, c.requires.unnamed)) c.index-before.ensures 0 in
-    let moved : IsMoving s (set names c.loop-b.b c.loop-b.pe) (set holders c.loop-b.pe (Some c.loop-b.b)) c.index-before.result.now = subst (λ q. IsMoving s (set names c.loop-b.b c.loop-b.pe) (set holders c.loop-b.pe (Some c.loop-b.b)) q) (sym before) (moving_more s names holders c.loop-b.pe c.loop-b.b (omega arith) path moving c.loop-b.invariant.reaches named) in
     let counted : length c.loop-b.self-inside.from.items ≡ s.table.blocks = ap (λ (z : State). length z.from) (sym r) ∙ c.requires.sized.from_length in
-    omega (arith, counted, moved.inside)
+    omega (arith, counted, before, moving.below c.loop-b.b named)
 
 pub loop-b-smaller : goal.loop-b-smaller
 loop-b-smaller g c =
@@ -41,7 +39,7 @@ loop-b-preserved g c =
     let path : IsPath s = c.requires.path in
     let named : c.loop-b.b < s.named = omega (arith, ap (λ (z : State). z.named) r, c.loop-b-test.true) in
     let before : c.index-before.result.now ≡ slice_index names c.loop-b.b = get_or_read names c.loop-b.b c.index-before.result.now (omega (arith, moving.names_length, named, c.requires.unnamed)) c.index-before.ensures 0 in
-    let moved : IsMoving s (set names c.loop-b.b c.loop-b.pe) (set holders c.loop-b.pe (Some c.loop-b.b)) c.index-before.result.now = subst (λ q. IsMoving s (set names c.loop-b.b c.loop-b.pe) (set holders c.loop-b.pe (Some c.loop-b.b)) q) (sym before) (moving_more s names holders c.loop-b.pe c.loop-b.b (omega arith) path moving c.loop-b.invariant.reaches named) in
+    let moved : IsMoving s (set names c.loop-b.b c.loop-b.pe) (set holders c.loop-b.pe (Some c.loop-b.b)) c.index-before.result.now = moving_next s names holders c.loop-b.pe c.loop-b.b c.index-before.result.now (omega (arith, c.requires.unnamed)) path moving c.loop-b.invariant.reaches named before in
     let counted : length c.loop-b.self-inside.from.items ≡ s.table.blocks = ap (λ (z : State). length z.from) (sym r) ∙ c.requires.sized.from_length in
     let reaches : c.index-in-loop-b.result.now ≡ slice_index s.from c.index-before.result.now = get_or_read c.loop-b.self-inside.from.items c.index-before.result.now c.index-in-loop-b.result.now (omega (arith, counted, moved.inside)) c.index-in-loop-b.ensures 0 ∙ ap (λ (z : State). slice_index z.from c.index-before.result.now) (sym r) in
     record { rest = r; moving = moved; reaches = reaches }
@@ -56,6 +54,42 @@ returns-clause-matched g c =
     let path : IsPath s = c.requires.path in
     let past : s.named ≤ c.loop-b.b = omega (arith, ap (λ (z : State). z.named) r, c.loop-b-test.false) in
     subst (λ (z : State). IsMatched (renamed z (z.named + 1) (set names z.named c.loop-b.pe) (set holders c.loop-b.pe (Some z.named)))) r (moving_ends s names holders c.loop-b.pe c.loop-b.b c.requires.unnamed c.requires.matched path moving c.loop-b.invariant.reaches past)
+
+pub returns-clause-sized : goal.returns-clause-sized
+returns-clause-sized g c =
+    subst (λ (z : State). IsSized (renamed z (z.named + 1) (set c.loop-b.self-inside.names.items z.named c.loop-b.pe) (set c.loop-b.self-inside.holders.items c.loop-b.pe (Some z.named)))) c.loop-b.invariant.rest (moved_sized c.args.self.now (c.args.self.now.named + 1) c.args.self.now.named c.loop-b.self-inside.names.items c.loop-b.self-inside.holders.items c.loop-b.pe c.requires.sized c.loop-b.invariant.moving)
+
+pub returns-clause-table : goal.returns-clause-table
+returns-clause-table g c = ap (λ (z : State). z.table) (sym c.loop-b.invariant.rest)
+
+pub returns-clause-named : goal.returns-clause-named
+returns-clause-named g c = ap (λ (z : State). z.named + 1) (sym c.loop-b.invariant.rest)
+
+pub returns-clause-paid : goal.returns-clause-paid
+returns-clause-paid g c = ap (λ (z : State). z.paid) (sym c.loop-b.invariant.rest)
+
+pub returns-clause-rebate : goal.returns-clause-rebate
+returns-clause-rebate g c = ap (λ (z : State). z.rebate) (sym c.loop-b.invariant.rest)
+
+pub index-before-requires : goal.index-before-requires
+index-before-requires g c =
+    omega (arith, c.loop-b.invariant.moving.names_length, ap (λ (z : State). z.named) c.loop-b.invariant.rest, c.loop-b-test.true, c.requires.unnamed)
+
+pub index_mut-requires : goal.index_mut-requires
+index_mut-requires g c =
+    omega (arith, c.loop-b.invariant.moving.names_length, ap (λ (z : State). z.named) c.loop-b.invariant.rest, c.loop-b-test.true, c.requires.unnamed)
+
+pub index_mut-requires-in-loop-b : goal.index_mut-requires-in-loop-b
+index_mut-requires-in-loop-b g c =
+    omega (arith, c.loop-b.invariant.moving.holders_length, c.loop-b.invariant.moving.inside)
+
+pub index_mut-requires-2 : goal.index_mut-requires-2
+index_mut-requires-2 g c =
+    omega (arith, c.loop-b.invariant.moving.names_length, ap (λ (z : State). z.named) c.loop-b.invariant.rest, c.requires.unnamed)
+
+pub index_mut-requires-3 : goal.index_mut-requires-3
+index_mut-requires-3 g c =
+    omega (arith, c.loop-b.invariant.moving.holders_length, c.loop-b.invariant.moving.inside)
 
 pub loop-b-init : goal.loop-b-init
 loop-b-init g c =

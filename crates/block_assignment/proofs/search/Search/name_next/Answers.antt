@@ -1,22 +1,126 @@
-use Rattle.std.proofs.Common.{◌<◌, ℕ, slice_index, arith, ap}
+use Rattle.std.proofs.Common.{◌<◌, ◌+◌, ℕ, MatchOption, slice_index, arith, ap, sym, ◌∙◌, subst}
 use Rattle.block_assignment.specs.Table.{Table}
+use Rattle.block_assignment.specs.Search.{IsNearest}
 use Rattle.block_assignment.proofs.Prices.{small_from_matched, small_kept}
 use Rattle.block_assignment.proofs.Trees.{not_all_scanned}
 use Rattle.block_assignment.proofs.search.Search.name_next.Goals as goal
+
+pub loop-nearest-init : goal.loop-nearest-init
+loop-nearest-init g c =
+    let made = c.plant-nearest.ensures in
+    record {
+      sized = made.sized;
+      matched = made.matched;
+      tree = made.tree;
+      table = made.table;
+      named = made.named;
+      nearest = subst (λ (t : Table). MatchOption c.plant-nearest.result ((p : ℕ) → p < t.blocks → 0 < slice_index c.plant-nearest.new.self.rank p) (IsNearest c.plant-nearest.new.self.rank c.plant-nearest.new.self.distance t.blocks)) (sym made.table) made.nearest;
+      to_scan = omega (arith, made.unscanned, ap (λ (t : Table). t.blocks) made.table);
+    }
+
+pub loop-nearest-preserved : goal.loop-nearest-preserved
+loop-nearest-preserved g c =
+    let known = c.loop-nearest.invariant in
+    let next = c.join-nearest.ensures in
+    record {
+      sized = next.sized;
+      matched = next.matched;
+      tree = next.tree;
+      table = next.table ∙ known.table;
+      named = next.named ∙ known.named;
+      nearest = subst (λ (t : Table). MatchOption c.join-nearest.result ((p : ℕ) → p < t.blocks → 0 < slice_index c.join-nearest.new.self.rank p) (IsNearest c.join-nearest.new.self.rank c.join-nearest.new.self.distance t.blocks)) (sym next.table) next.nearest;
+      to_scan = omega (arith, next.unscanned, known.to_scan, ap (λ (t : Table). t.blocks) next.table);
+    }
+
+pub loop-nearest-smaller : goal.loop-nearest-smaller
+loop-nearest-smaller g c = omega (arith, c.join-nearest.ensures.unscanned)
+
+pub returns-in_default-index-clause-sized : goal.returns-in_default-index-clause-sized
+returns-in_default-index-clause-sized g c = c.move_on.ensures.sized
+
+pub returns-in_default-index-clause-matched : goal.returns-in_default-index-clause-matched
+returns-in_default-index-clause-matched g c = c.move_on.ensures.matched
 
 pub returns-in_default-index-clause-small : goal.returns-in_default-index-clause-small
 returns-in_default-index-clause-small g c =
     let fewer : c.raise.new.self.named < c.raise.new.self.table.blocks = omega (arith, c.raise.ensures.named, c.loop-nearest.invariant.named, ap (λ (t : Table). t.blocks) c.raise.ensures.table, ap (λ (t : Table). t.blocks) c.loop-nearest.invariant.table, c.requires.unnamed) in
     small_kept c.raise.new.self c.move_on.new.self c.move_on.ensures.table c.move_on.ensures.paid c.move_on.ensures.rebate (small_from_matched c.raise.new.self c.raise.ensures.sized.is_table c.raise.ensures.matched fewer)
 
-pub returns-clause-small : goal.returns-clause-small
-returns-clause-small g c =
+pub returns-in_default-index-clause-table : goal.returns-in_default-index-clause-table
+returns-in_default-index-clause-table g c = c.move_on.ensures.table ∙ c.raise.ensures.table ∙ c.loop-nearest.invariant.table
+
+pub returns-in_default-index-clause-named : goal.returns-in_default-index-clause-named
+returns-in_default-index-clause-named g c = c.move_on.ensures.named ∙ ap (λ n. n + 1) (c.raise.ensures.named ∙ c.loop-nearest.invariant.named)
+
+-- the loop does not end, since the tree has not scanned all PEs
+no_end : (g : _) (c : goal.In_default g) → ⊥
+no_end g c =
     let fewer : c.loop-nearest.self.named < c.loop-nearest.self.table.blocks = omega (arith, c.loop-nearest.invariant.named, ap (λ (t : Table). t.blocks) c.loop-nearest.invariant.table, c.requires.unnamed) in
     let all : (p : ℕ) → p < c.loop-nearest.self.table.blocks → 0 < slice_index c.loop-nearest.self.rank p = (let h = rw c.in_default.is at c.loop-nearest.invariant.nearest in h) in
-    absurd (not_all_scanned c.loop-nearest.rank c.loop-nearest.self c.loop-nearest.invariant.tree fewer all)
+    not_all_scanned c.loop-nearest.rank c.loop-nearest.self c.loop-nearest.invariant.tree fewer all
+
+pub returns-clause-sized : goal.returns-clause-sized
+returns-clause-sized g c = absurd (no_end g c)
+
+pub returns-clause-matched : goal.returns-clause-matched
+returns-clause-matched g c = absurd (no_end g c)
+
+pub returns-clause-small : goal.returns-clause-small
+returns-clause-small g c = absurd (no_end g c)
+
+pub returns-clause-table : goal.returns-clause-table
+returns-clause-table g c = absurd (no_end g c)
 
 pub returns-clause-named : goal.returns-clause-named
-returns-clause-named g c =
-    let fewer : c.loop-nearest.self.named < c.loop-nearest.self.table.blocks = omega (arith, c.loop-nearest.invariant.named, ap (λ (t : Table). t.blocks) c.loop-nearest.invariant.table, c.requires.unnamed) in
-    let all : (p : ℕ) → p < c.loop-nearest.self.table.blocks → 0 < slice_index c.loop-nearest.self.rank p = (let h = rw c.in_default.is at c.loop-nearest.invariant.nearest in h) in
-    absurd (not_all_scanned c.loop-nearest.rank c.loop-nearest.self c.loop-nearest.invariant.tree fewer all)
+returns-clause-named g c = absurd (no_end g c)
+
+pub plant-nearest-requires-clause-sized : goal.plant-nearest-requires-clause-sized
+plant-nearest-requires-clause-sized g c = c.requires.sized
+
+pub plant-nearest-requires-clause-matched : goal.plant-nearest-requires-clause-matched
+plant-nearest-requires-clause-matched g c = c.requires.matched
+
+pub plant-nearest-requires-clause-unnamed : goal.plant-nearest-requires-clause-unnamed
+plant-nearest-requires-clause-unnamed g c = c.requires.unnamed
+
+pub raise-requires-clause-sized : goal.raise-requires-clause-sized
+raise-requires-clause-sized g c = c.loop-nearest.invariant.sized
+
+pub raise-requires-clause-matched : goal.raise-requires-clause-matched
+raise-requires-clause-matched g c = c.loop-nearest.invariant.matched
+
+pub raise-requires-clause-tree : goal.raise-requires-clause-tree
+raise-requires-clause-tree g c = c.loop-nearest.invariant.tree
+
+pub raise-requires-clause-unnamed : goal.raise-requires-clause-unnamed
+raise-requires-clause-unnamed g c =
+    omega (arith, c.loop-nearest.invariant.named, ap (λ (t : Table). t.blocks) c.loop-nearest.invariant.table, c.requires.unnamed)
+
+pub join-nearest-requires-clause-sized : goal.join-nearest-requires-clause-sized
+join-nearest-requires-clause-sized g c = c.loop-nearest.invariant.sized
+
+pub join-nearest-requires-clause-matched : goal.join-nearest-requires-clause-matched
+join-nearest-requires-clause-matched g c = c.loop-nearest.invariant.matched
+
+pub join-nearest-requires-clause-tree : goal.join-nearest-requires-clause-tree
+join-nearest-requires-clause-tree g c = c.loop-nearest.invariant.tree
+
+pub join-nearest-requires-clause-unnamed : goal.join-nearest-requires-clause-unnamed
+join-nearest-requires-clause-unnamed g c =
+    omega (arith, c.loop-nearest.invariant.named, ap (λ (t : Table). t.blocks) c.loop-nearest.invariant.table, c.requires.unnamed)
+
+pub move_on-requires-clause-sized : goal.move_on-requires-clause-sized
+move_on-requires-clause-sized g c = c.raise.ensures.sized
+
+pub move_on-requires-clause-matched : goal.move_on-requires-clause-matched
+move_on-requires-clause-matched g c = c.raise.ensures.matched
+
+pub move_on-requires-clause-path : goal.move_on-requires-clause-path
+move_on-requires-clause-path g c = c.raise.ensures.path
+
+pub move_on-requires-clause-scanned : goal.move_on-requires-clause-scanned
+move_on-requires-clause-scanned g c = c.raise.ensures.scanned
+
+pub move_on-requires-clause-unnamed : goal.move_on-requires-clause-unnamed
+move_on-requires-clause-unnamed g c =
+    omega (arith, c.raise.ensures.named, ap (λ (t : Table). t.blocks) c.raise.ensures.table, c.loop-nearest.invariant.named, ap (λ (t : Table). t.blocks) c.loop-nearest.invariant.table, c.requires.unnamed)
