@@ -1,5 +1,5 @@
 -- Some elements in a row keep the limits of all.
-use Rattle.std.proofs.Common.{ℕ, ◌≤◌, List, length, take, drop, arith}
+use Rattle.std.proofs.Common.{ℕ, ◌≤◌, List, take, drop, arith}
 use Rattle.std.proofs.lemmas.List.{length-drop, length-take}
 use Rattle.std.proofs.lemmas.List.Elements.{All-drop, All-take}
 use Rattle.chare_index.specs.declared.limits.TheConstants.Limits.{STATE_BYTES}
