@@ -1,4 +1,9 @@
+pub mod Acting
 pub mod Below
+pub mod Fronts
+pub mod Handling
+pub mod Installing
 pub mod Keyed
+pub mod Lending
 pub mod Reasons
 pub mod Reports

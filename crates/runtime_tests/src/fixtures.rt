@@ -1,6 +1,6 @@
 //! What the tests are made of: numbers, chares and events. What can't be made ends the test.
 
-ghost use Rattle.std.specs.Prelude.{◌≡◌};
+ghost use Rattle.std.specs.Prelude.{◌≡◌, true};
 
 use crate::courier::Courier;
 use crate::relay::Relay;
@@ -8,7 +8,15 @@ use crate::tally::Tally;
 use chare_index::{Index, Pe, Round};
 use pup_pack::{Bytes, Items};
 use std::alloc::{AllocError, Allocator};
+use std::fmt::Debug;
 use std::process::Abort;
+
+/// Ends the test where this does not hold, with what it was to hold for.
+pub(crate) fn assert_for<R: Debug + Copy>(rt: &impl Abort, holds: bool, row: R)
+    ensures held { holds ≡ true }
+{
+    assert!(rt; holds, "{row:?}");
+}
 
 pub(crate) fn pe(rt: &impl Abort, number: u32) -> Pe
     ensures value { result ≡ number }

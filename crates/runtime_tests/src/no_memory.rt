@@ -106,6 +106,7 @@ fn quiet<H: Openings<Relay<A>>, A: Allocator + Copy>(
     look(rt, &mut at);
     send_in_vain(rt, &mut at);
     assert!(rt; made.requests() == requests);
+    drop(at);
 }
 
 #[test]

@@ -3,7 +3,7 @@
 
 ghost use Rattle.std.specs.Prelude.{◌≡◌, ◌∷◌, [], length, slice_get, Some};
 
-use crate::fixtures::{self, index, pe, round};
+use crate::fixtures::{self, assert_for, index, pe, round};
 use crate::tally::Tally;
 use chare_index::NoGate;
 use chares::{Mark, Note, Openings};
@@ -33,16 +33,13 @@ fn expect_act<H: Openings<Tally>>(
     want: Option<Acted>,
 ) {
     let acted = at.act(&NoGate).expect(rt, "refused");
-    assert!(rt; acted == want, "{acted:?} in place of {want:?}");
+    assert_for(rt, acted == want, (acted, want));
 }
 
 // The element that is looked for is believed to be there.
 fn look<H: Openings<Tally>>(rt: &impl Abort, at: &mut PeState<Tally, H>, e: u32, believed: u32) {
     let to = pe(rt, believed);
-    assert!(rt;
-        at.wants() == Some(index(rt, e)),
-        "element {e} is not looked for"
-    );
+    assert_for(rt, at.wants() == Some(index(rt, e)), e);
     assert!(rt; at.wants().is_some());
     assert!(rt; to.get() < at.pes());
     at.look(to);
@@ -204,6 +201,8 @@ fn starts<H: Openings<Tally>>(rt: &(impl Abort + AllocGlobal), first: Tally, sec
     let owed = Note::Sync(index(rt, 1), round(rt, 1), 5, 32, pe(rt, 1));
     assert!(rt; note == owed);
     assert!(rt; high.next_note().is_none());
+    drop(low);
+    drop(high);
 }
 
 #[test]
@@ -215,8 +214,8 @@ fn a_letter_waits_for_its_element_to_start(rt: HostRuntime) {
 // The marks of element 1 after its move, and the sum that it took along.
 fn moved<H: Openings<Tally>>(rt: &impl Abort, at: &PeState<Tally, H>, sum: u64, entries: usize) {
     let element = at.room().element(index(rt, 1)).expect(rt, "not here");
-    assert!(rt; element.chare().sum() == sum, "the sum is not {sum}");
-    assert!(rt; element.journal().len() == entries, "not {entries} entries");
+    assert_for(rt, element.chare().sum() == sum, sum);
+    assert_for(rt, element.journal().len() == entries, entries);
     let synced = Note::Sync(index(rt, 1), round(rt, 1), 5, 32, pe(rt, 1));
     let marks = [Mark::Resumed(round(rt, 0), pe(rt, 1)), Mark::Synced(synced)];
     assert!(rt; element.marks() == marks.as_slice());
@@ -257,6 +256,8 @@ fn follows<H: Openings<Tally>>(rt: &(impl Abort + AllocGlobal), first: Tally, se
     let (mut low, mut high) = departed::<H>(rt, first, second);
     forward(rt, &mut low, &mut high);
     arrive(rt, &mut low, &mut high);
+    drop(low);
+    drop(high);
 }
 
 #[test]
@@ -302,6 +303,8 @@ fn waits<H: Openings<Tally>>(rt: &(impl Abort + AllocGlobal), first: Tally, seco
     shelve(rt, &mut low);
     install(rt, &mut low, &mut high);
     go_on(rt, &mut low);
+    drop(low);
+    drop(high);
 }
 
 #[test]

@@ -4,6 +4,7 @@
 ghost use Rattle.std.specs.Prelude.{◌≡◌};
 
 use crate::courier::Courier;
+use crate::fixtures::assert_for;
 use crate::random::account::compare;
 use crate::random::draw::Draw;
 use crate::random::laws::{barrier, chase};
@@ -65,7 +66,7 @@ impl Happened {
 }
 
 fn expect_more(rt: &impl Abort, number: u32, few: u32, what: &str) {
-    assert!(rt; number > few, "{number} {what}");
+    assert_for(rt, number > few, (number, what));
 }
 
 // One event, with all that must be so after it.
@@ -106,6 +107,7 @@ fn many<C: Chare<Global>, H: Openings<C>>(
         let event = draw.event(rt, &world, pes, n);
         happen(rt, &mut world, &mut trace, happened, event);
     }
+    drop(world);
 }
 
 fn many_tallies(

@@ -2,7 +2,7 @@
 
 ghost use Rattle.std.specs.Prelude.{◌≡◌};
 
-use crate::fixtures::{elements, index, pe, pes, relay, round};
+use crate::fixtures::{assert_for, elements, index, pe, pes, relay, round};
 use crate::relay::Relay;
 use crate::seen::{Seen, look_around};
 use crate::steps::{expect_reports, opened};
@@ -29,24 +29,14 @@ impl Meter<'_> {
     fn made(&self, rt: &impl Abort, start: u64, requests: u64, what: &str) {
         let end = self.alloc.requests();
         let found = end.wrapping_sub(start);
-        assert!(rt;
-            found == requests,
-            "{what}: {found} requests in place of {requests}"
-        );
-        assert!(rt;
-            self.turn <= start || end < self.turn,
-            "a refusal was not told: {what}"
-        );
+        assert_for(rt, found == requests, (what, found));
+        assert_for(rt, self.turn <= start || end < self.turn, (what, end));
     }
 
     // After a call that was refused: it made no request after the one that is refused.
     fn refused(&self, rt: &impl Abort, start: u64, what: &str) {
         let (made, turn) = (self.alloc.requests(), self.turn);
-        assert!(rt; start < turn, "refused before request {turn}: {what}");
-        assert!(rt;
-            made == turn,
-            "{what}: request {made} after {turn} was refused"
-        );
+        assert_for(rt, start < turn && made == turn, (what, made));
     }
 }
 
@@ -66,11 +56,8 @@ fn take_one<H: Openings<Relay<A>>, A: Allocator + Copy>(
         }
         Err(error) => {
             meter.refused(rt, start, "an event");
-            assert!(rt; error == StepError::OutOfMemory, "{event:?}: {error:?}");
-            assert!(rt;
-                is_as_before(rt, world, before.as_slice()),
-                "{event:?} was refused"
-            );
+            assert_for(rt, error == StepError::OutOfMemory, (*event, error));
+            assert_for(rt, is_as_before(rt, world, before.as_slice()), *event);
             take_again(rt, world, event, *want);
         }
     }
@@ -288,6 +275,7 @@ fn script<H: Openings<Relay<A>>, A: Allocator + Copy>(
     install(rt, meter, &mut world);
     forward(rt, meter, &mut world);
     go_on(rt, meter, &mut world);
+    drop(world);
 }
 
 // The script where this request is refused, or none. It returns how many requests were made.

@@ -2,7 +2,7 @@
 
 ghost use Rattle.std.specs.Prelude.{◌≡◌};
 
-use crate::fixtures::{elements, index, pe, pes, round, tally};
+use crate::fixtures::{assert_for, elements, index, pe, pes, round, tally};
 use crate::steps::{has_account, opened, take};
 use crate::tally::Tally;
 use chare_index::{Index, Pe};
@@ -285,6 +285,7 @@ fn comes_before<H: Openings<Tally>>(rt: &(impl Abort + AllocGlobal), chares: Vec
     let world = opened::<Tally, H, Global>(rt, rt.alloc(), 3, chares);
     let mut world = world.expect(rt, "out of memory");
     assert!(rt; !first_script(rt, &mut world), "refused");
+    drop(world);
 }
 
 fn follows<H: Openings<Tally>>(rt: &(impl Abort + AllocGlobal), chares: Vec<Tally>)
@@ -294,6 +295,7 @@ fn follows<H: Openings<Tally>>(rt: &(impl Abort + AllocGlobal), chares: Vec<Tall
     let world = opened::<Tally, H, Global>(rt, rt.alloc(), 3, chares);
     let mut world = world.expect(rt, "out of memory");
     assert!(rt; !open(rt, &mut world) && !follow(rt, &mut world), "refused");
+    drop(world);
 }
 
 #[test]
@@ -330,7 +332,9 @@ fn refused_once<H: Openings<Tally<A>>, A: Allocator + Copy>(
     let Ok(mut world) = opened::<Tally<A>, H, A>(rt, alloc, 3, chares) else {
         return true;
     };
-    first_script(rt, &mut world)
+    let refused = first_script(rt, &mut world);
+    drop(world);
+    refused
 }
 
 // The same, where the chares are made of that memory too.
@@ -345,7 +349,7 @@ fn script<A: Allocator + Copy>(rt: &impl Abort, alloc: A) -> bool {
 fn is_refused(rt: &(impl Abort + AllocGlobal), turn: u64) -> bool {
     let alloc = Refusing::new(rt.alloc(), turn);
     let refused = script(rt, &alloc);
-    assert!(rt; refused == alloc.has_refused(), "request {turn}");
+    assert_for(rt, refused == alloc.has_refused(), turn);
     refused
 }
 

@@ -2,6 +2,7 @@
 
 ghost use Rattle.std.specs.Prelude.{◌≡◌};
 
+use crate::fixtures::assert_for;
 use chare_index::Pe;
 use chares::{Carried, Chare, Entry, Letter, Openings, Report};
 use rts_core::{Account, Event, Parcel, PeState, Queue, Room, StepError, World};
@@ -13,7 +14,7 @@ pub(crate) type Step<'a> = (Event, &'a [Report]);
 
 /// An event had just these reports.
 pub(crate) fn expect_reports(rt: &impl Abort, event: &Event, found: &[Report], want: &[Report]) {
-    assert!(rt; found == want, "{event:?} had {found:?}");
+    assert_for(rt, found == want, (event, found));
 }
 
 // Takes one step, which has just these reports, and returns whether it was refused once for memory. Then the account is
@@ -32,8 +33,8 @@ fn take_one<C: Chare<A>, H: Openings<C>, A: Allocator + Copy>(
         }
         Err(error) => error,
     };
-    assert!(rt; refused == StepError::OutOfMemory, "{event:?}: {refused:?}");
-    assert!(rt; account(world) == before, "{event:?} was refused");
+    assert_for(rt, refused == StepError::OutOfMemory, (*event, refused));
+    assert_for(rt, account(world) == before, *event);
     let reports = world.step(*event).expect(rt, "refused again");
     expect_reports(rt, event, reports.as_slice(), want);
     true

@@ -37,6 +37,7 @@ fn refused<H: Openings<Courier>>(
     let answer = world.step(Event::Start(pe(rt, 0), index(rt, 0)));
     assert!(rt; answer.err() == Some(want));
     assert!(rt; has_account(&world, 0, 0, 0));
+    drop(world);
 }
 
 fn one(rt: &(impl Abort + AllocGlobal), chare: Courier) -> Vec<Courier> {
@@ -85,6 +86,7 @@ fn starts<H: Openings<Courier>>(rt: &(impl Abort + AllocGlobal), chares: Vec<Cou
     let mut world = self::world::<H>(rt, 1, chares);
     start_and_sync(rt, &mut world);
     assert!(rt; has_account(&world, 0, 0, 0));
+    drop(world);
 }
 
 #[test]
@@ -170,6 +172,7 @@ fn nothing_happens<H: Openings<Courier>>(rt: &(impl Abort + AllocGlobal), chares
     early_events(rt, &mut world);
     assert!(rt; has_account(&world, 0, 0, 0));
     assert!(rt; has_no_fourth(rt, &world));
+    drop(world);
 }
 
 #[test]
@@ -225,6 +228,7 @@ fn waits_in_the_hand<H: Openings<Courier>>(rt: &(impl Abort + AllocGlobal), char
     let mut world = self::world::<H>(rt, 3, chares);
     reach_the_hand(rt, &mut world);
     leave_the_hand(rt, &mut world);
+    drop(world);
 }
 
 #[test]
@@ -330,6 +334,7 @@ fn wait_on_the_shelf<H: Openings<Courier>>(rt: &(impl Abort + AllocGlobal), char
     leave_the_shelf(rt, &mut world, p0);
     leave_the_shelf(rt, &mut world, p2);
     assert!(rt; has_account(&world, 3, 3, 0));
+    drop(world);
 }
 
 #[test]
@@ -388,6 +393,7 @@ fn goes_on_after_it_has_finished<H: Openings<Courier>>(
     finish_while_it_waits(rt, &mut world);
     depart_and_go_on(rt, &mut world);
     assert!(rt; world.board().has_finished(1) == Some(true));
+    drop(world);
 }
 
 #[test]

@@ -1,9 +1,10 @@
 //! The account of a world by hand: where each letter and each element is, beside what was reported.
 
+use crate::fixtures::assert_for;
 use crate::seen::{Seen, count, look_around};
 use chare_index::{Index, Pe};
 use chares::{Chare, LetterId, Openings, Report};
-use rts_core::World;
+use rts_core::{Account, World};
 use std::alloc::Allocator;
 use std::process::Abort;
 
@@ -43,10 +44,12 @@ fn counted<C: Chare<A>, H: Openings<C>, A: Allocator>(
     seen: &[Seen],
     trace: &[Report],
 ) {
-    let account = world.account();
-    assert!(rt; account.held == held_in(seen), "{account:?}");
-    assert!(rt; account.executed == executed_in(seen), "{account:?}");
-    assert!(rt; account.posted == posted_in(trace), "{account:?}");
+    let found = Account {
+        posted: posted_in(trace),
+        executed: executed_in(seen),
+        held: held_in(seen),
+    };
+    assert_for(rt, world.account() == found, found);
 }
 
 fn held_in(seen: &[Seen]) -> u64 {
@@ -85,32 +88,29 @@ fn compare_one(rt: &impl Abort, seen: &[Seen], trace: &[Report], one: &Seen) {
         Seen::Letter(id, to) => posted_once(rt, trace, id, *to),
         Seen::Executed(by, id, to) => executed_once(rt, trace, *by, id, *to),
         Seen::Posts(p, posts) => numbered(rt, trace, *p, *posts),
-        Seen::Word(e, _, _) => assert!(rt; count(seen, Seen::Element(*e)) == 1, "{e:?}"),
+        Seen::Word(e, _, _) => assert_for(rt, count(seen, Seen::Element(*e)) == 1, *e),
         Seen::Element(e) => known(rt, seen, *e),
         _ => {}
     }
 }
 
 fn posted_once(rt: &impl Abort, trace: &[Report], id: &LetterId, to: Index) {
-    assert!(rt; count(trace, Report::Posted(*id, to)) == 1, "{id:?}");
-    assert!(rt; count(trace, Report::Executed(*id, to)) == 0, "{id:?}");
+    assert_for(rt, count(trace, Report::Posted(*id, to)) == 1, *id);
+    assert_for(rt, count(trace, Report::Executed(*id, to)) == 0, *id);
 }
 
 fn executed_once(rt: &impl Abort, trace: &[Report], by: Index, id: &LetterId, to: Index) {
-    assert!(rt; by == to, "{id:?}");
-    assert!(rt; count(trace, Report::Posted(*id, to)) == 1, "{id:?}");
-    assert!(rt; count(trace, Report::Executed(*id, to)) == 1, "{id:?}");
+    assert_for(rt, by == to, *id);
+    assert_for(rt, count(trace, Report::Posted(*id, to)) == 1, *id);
+    assert_for(rt, count(trace, Report::Executed(*id, to)) == 1, *id);
 }
 
 // A letter that was posted is in one place, or was executed once.
 fn once(rt: &impl Abort, seen: &[Seen], trace: &[Report], id: &LetterId, to: Index) {
     let held = count(seen, Seen::Letter(*id, to));
     let executed = count(seen, Seen::Executed(to, *id, to));
-    assert!(rt; held.saturating_add(executed) == 1, "{id:?}");
-    assert!(rt;
-        count(trace, Report::Executed(*id, to)) == executed,
-        "{id:?}"
-    );
+    assert_for(rt, held.saturating_add(executed) == 1, *id);
+    assert_for(rt, count(trace, Report::Executed(*id, to)) == executed, *id);
 }
 
 // The letters of a PE were numbered from 0 upwards, as it posted them.
@@ -119,17 +119,17 @@ fn numbered(rt: &impl Abort, trace: &[Report], p: Pe, posts: u64) {
     for report in trace {
         if let Report::Posted((by, number), _) = report {
             if *by == p {
-                assert!(rt; u64::from(*number) == next, "{p:?}");
+                assert_for(rt, u64::from(*number) == next, p);
                 next = next.saturating_add(1);
             }
         }
     }
-    assert!(rt; next == posts, "{p:?}");
+    assert_for(rt, next == posts, p);
 }
 
 // An element that is somewhere is one of the array.
 fn known(rt: &impl Abort, seen: &[Seen], e: Index) {
-    assert!(rt; word(seen, e).is_some(), "{e:?}");
+    assert_for(rt, word(seen, e).is_some(), e);
 }
 
 // The word of an element.

@@ -1,5 +1,6 @@
 //! The laws of a trace, looked up by hand: when elements go on, and how letters chase them.
 
+use crate::fixtures::assert_for;
 use crate::seen::{Place, Seen, count};
 use at_sync::Board;
 use chare_index::{Index, Pe, Round};
@@ -32,30 +33,29 @@ fn resumed<A: Allocator>(
     e: Index,
     round: Round,
 ) {
-    assert!(rt;
+    assert_for(
+        rt,
         count(before, Report::Resumed(e, round)) == 0,
-        "{e:?} after {round:?}"
+        (e, round),
     );
     if round.get() == 0 {
         return;
     }
-    assert!(rt;
-        count(before, Report::Decided(round)) == 1,
-        "{e:?} after {round:?}"
-    );
+    assert_for(rt, count(before, Report::Decided(round)) == 1, (e, round));
     all_synced(rt, seen, before, round);
     let decision = board.decision_for(round).expect(rt, "no decision");
     let place = place_in(decision, e).expect(rt, "no place");
     let stands = count(seen, Seen::Stands(Place::Room(place), e));
-    assert!(rt; stands == 1, "{e:?} after {round:?}");
+    assert_for(rt, stands == 1, (e, round));
 }
 
 fn all_synced(rt: &impl Abort, seen: &[Seen], before: &[Report], round: Round) {
     for one in seen {
         if let Seen::Word(x, _, _) = one {
-            assert!(rt;
+            assert_for(
+                rt,
                 count(before, Report::Synced(*x, round)) == 1,
-                "{x:?} in {round:?}"
+                (*x, round),
             );
         }
     }
@@ -82,17 +82,18 @@ fn decided<A: Allocator>(
     before: &[Report],
     round: Round,
 ) {
-    assert!(rt; count(before, Report::Decided(round)) == 0, "{round:?}");
+    assert_for(rt, count(before, Report::Decided(round)) == 0, round);
     all_synced(rt, seen, before, round);
     let (snapshot, _) = board.rounds().last().expect(rt, "no round");
-    assert!(rt; snapshot.step() == round.get(), "{round:?}");
+    assert_for(rt, snapshot.step() == round.get(), round);
     for one in seen {
         if let Seen::Word(e, _, _) = one {
             let size = snapshot.sizes().as_slice().get(e.get() as usize);
             let (_, place) = *size.expect(rt, "not in the snapshot");
-            assert!(rt;
+            assert_for(
+                rt,
                 count(seen, Seen::Stands(Place::Room(place), *e)) == 1,
-                "{e:?}"
+                *e,
             );
         }
     }
@@ -111,7 +112,7 @@ fn chase_posted(rt: &impl Abort, trace: &[Report]) {
         if let Report::Posted(id, to) = report {
             let departures = count_after(trace, *report, Report::Departed(*to));
             let forwarded = count(trace, Report::Forwarded(*id));
-            assert!(rt; forwarded <= departures, "{report:?}");
+            assert_for(rt, forwarded <= departures, *report);
         }
     }
 }
@@ -121,8 +122,8 @@ fn chase_waiting(rt: &impl Abort, seen: &[Seen], trace: &[Report]) {
     for one in seen {
         if let Seen::Waits(place, id, to, hops) = one {
             let forwarded = count(trace, Report::Forwarded(*id));
-            assert!(rt; forwarded == *hops as usize, "{id:?}");
-            assert!(rt; may_wait(seen, *place, *to), "{id:?} for {to:?}");
+            assert_for(rt, forwarded == *hops as usize, *id);
+            assert_for(rt, may_wait(seen, *place, *to), (*id, *to));
         }
     }
 }

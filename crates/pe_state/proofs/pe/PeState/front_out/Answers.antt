@@ -1,6 +1,12 @@
-use Rattle.std.proofs.Common.{arith, refl}
+use Rattle.std.proofs.Common.{◌∙◌, ap, arith, refl}
+use Rattle.pe_state.specs.Pes.{front_address}
 use Rattle.pe_state.proofs.Below.{front_below}
+use Rattle.pe_state.proofs.Fronts.{front_address_is}
 use Rattle.pe_state.proofs.pe.PeState.front_out.Goals as goal
 
 pub returns-clause-below : goal.returns-clause-below
 returns-clause-below g c = front_below g.H.Openings.pes c.self.inside.outbox.items c.in_ok-front.front.now c.in_ok-front.ensures.lookup (omega (arith, c.in_ok-front.ensures.variant.0 refl)) c.self.invariant.6
+
+pub returns-clause-value : goal.returns-clause-value
+returns-clause-value g c =
+    front_address_is c.self.inside.outbox.items c.in_ok-front.front.now c.in_ok-front.ensures.lookup (omega (arith, c.in_ok-front.ensures.variant.0 refl)) ∙ ap (λ p. front_address p.outbox) c.self.view_is

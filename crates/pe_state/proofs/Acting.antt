@@ -1,0 +1,104 @@
+-- What Act comes to on a parcel that was taken out of the hand.
+use Rattle.pup_pack.specs.declared.error.PupError.{PupError}
+use Rattle.std.proofs.Common.{◌≡◌, ℕ, List, Option, [], ◌∷◌, Some, None, MatchOption, option_map, IsSome, is_some, true, false, Result, Ok, Err, IsOk, OnErr, IfErr, refl, ap, sym, subst, ◌∙◌}
+use Rattle.chares.specs.Elements.{ElementView, PackedView}
+use Rattle.chares.specs.Letters.{LetterView}
+use Rattle.chares.specs.Steps.{Step}
+use Rattle.chares.specs.declared.carried.Carried.TheVariants.{Letter, Element}
+use Rattle.chares.specs.declared.sends.SendError.{SendError}
+use Rattle.pe_state.specs.declared.acted.Acted.TheVariants.{Installed}
+use Rattle.chares.specs.declared.report.Report.TheVariants as Tells
+use Rattle.pe_state.specs.Pes.{PeView, Item, Parcel, Acting, installed, passing, on_letter, on_element, on_parcel, installing, acting, acting_on, pe_after, held}
+use Rattle.pe_state.specs.Refusals.{RefusesStep, RefusesAct, RefusesParcel}
+use Rattle.pe_state.specs.Rooms.{Refuses, found}
+use Rattle.pe_state.specs.declared.error.StepError.{StepError}
+use Rattle.pe_state.specs.declared.error.StepError.TheVariants.{OutOfMemory}
+
+-- The PE v has the item x in its hand, which is this parcel and this look.
+pub record Holds {C : Type 0} (pe v : PeView C) (x : Item) (parcel : Parcel) (look : Option ℕ) : Type 0 where
+  pub view_is : pe ≡ v
+  pub in_hand : v.hand ≡ Some x
+  pub parcel_is : x.parcel ≡ parcel
+  pub look_is : x.address ≡ look
+
+pub held_again : {C : Type 0} (pe v : PeView C) (h : Option Item) (x : Item) (parcel : Parcel) (look : Option ℕ) → Holds pe v x parcel look → pe ≡ held (record v { hand = h }) parcel look
+held_again pe v h x parcel look i =
+    i.view_is
+    ∙ ap (λ y. record v { hand = y }) i.in_hand
+    ∙ ap (λ p. held v p x.address) i.parcel_is
+    ∙ ap (λ a. held v parcel a) i.look_is
+
+pub after_same : {C : Type 0} (pe pe2 : PeView C) (a b : Option (Acting C)) → pe ≡ pe2 → a ≡ b → pe_after pe a ≡ pe_after pe2 b
+after_same pe pe2 a b e f = ap (λ p. pe_after p a) e ∙ ap (pe_after pe2) f
+
+module _ {C : Type 0} (step : Step C) (pack : C → List ℕ) (unpack : List ℕ → Result (C × ℕ) PupError) where
+  passing_without : (v : PeView C) (h : Option Item) (l : LetterView) (look : Option ℕ) → passing v l look ≡ passing (record v { hand = h }) l look
+  passing_without v h l None = refl
+  passing_without v h l (Some q) = refl
+
+  letter_without : (v : PeView C) (h : Option Item) (l : LetterView) (look : Option ℕ) (f : Option (ElementView C)) → on_letter step pack v l look f ≡ on_letter step pack (record v { hand = h }) l look f
+  letter_without v h l look None = passing_without v h l look
+  letter_without v h l look (Some el) = refl
+
+  installing_without : (v : PeView C) (h : Option Item) (p : PackedView) (r : Result (C × ℕ) PupError) → installing step pack unpack v p r ≡ installing step pack unpack (record v { hand = h }) p r
+  installing_without v h p (Ok x) = refl
+  installing_without v h p (Err e) = refl
+
+  element_without : (v : PeView C) (h : Option Item) (p : PackedView) (f : Option (ElementView C)) → on_element step pack unpack v p f ≡ on_element step pack unpack (record v { hand = h }) p f
+  element_without v h p None = installing_without v h p (unpack p.bytes)
+  element_without v h p (Some el) = refl
+
+  in_hand : (pe v : PeView C) (x : Item) (parcel : Parcel) (look : Option ℕ) → Holds pe v x parcel look → acting step pack unpack pe ≡ on_parcel step pack unpack v parcel look
+  in_hand pe v x parcel look i =
+      ap (acting step pack unpack) i.view_is
+      ∙ ap (acting_on step pack unpack v) i.in_hand
+      ∙ ap (λ p. on_parcel step pack unpack v p x.address) i.parcel_is
+      ∙ ap (on_parcel step pack unpack v parcel) i.look_is
+
+  pub acting_on_letter : (pe v : PeView C) (h : Option Item) (x : Item) (l : LetterView) (look : Option ℕ) → Holds pe v x (Letter l) look
+      → acting step pack unpack pe ≡ on_letter step pack (record v { hand = h }) l look (found l.to v.room)
+  acting_on_letter pe v h x l look i = in_hand pe v x (Letter l) look i ∙ letter_without v h l look (found l.to v.room)
+
+  pub acting_on_element : (pe v : PeView C) (h : Option Item) (x : Item) (p : PackedView) (look : Option ℕ) → Holds pe v x (Element p) look
+      → acting step pack unpack pe ≡ on_element step pack unpack (record v { hand = h }) p (found p.index v.room)
+  acting_on_element pe v h x p look i = in_hand pe v x (Element p) look i ∙ element_without v h p (found p.index v.room)
+
+  -- an element whose bytes unpack is installed, where none stands with its index
+  pub installs : (v : PeView C) (p : PackedView) (f : Option (ElementView C)) (chare : C) (k : ℕ) → f ≡ None → unpack p.bytes ≡ Ok (chare, k)
+      → on_element step pack unpack v p f ≡ Some (record { acted = Installed; pe = installed v p chare; reports = Tells.Installed p.index ∷ [] })
+  installs v p f chare k none e = ap (on_element step pack unpack v p) none ∙ ap (installing step pack unpack v p) e
+
+  whole_installs : (v : PeView C) (p : PackedView) (r : Result (C × ℕ) PupError) → IsOk r → IsSome (installing step pack unpack v p r)
+  whole_installs v p (Ok x) h = refl
+  whole_installs v p (Err e) h = cc
+
+  pub may_install : (v : PeView C) (p : PackedView) (f : Option (ElementView C)) → f ≡ None → IsOk (unpack p.bytes) → IsSome (on_element step pack unpack v p f)
+  may_install v p f none h = subst (λ (g : Option (ElementView C)). IsSome (on_element step pack unpack v p g)) (sym none) (whole_installs v p (unpack p.bytes) h)
+
+  -- where one stands nothing is enabled
+  pub stands_already : (v : PeView C) (p : PackedView) (f : Option (ElementView C)) → is_some f ≡ true → on_element step pack unpack v p f ≡ None
+  stands_already v p (Some el) h = refl
+  stands_already v p None h = cc
+
+pub lacking : {X T : Type 0} (now : X → T) (x : Option X) (f : Option T) → option_map now x ≡ f → is_some x ≡ false → f ≡ None
+lacking now (Some x) f e h = cc
+lacking now None f e h = sym e
+
+pub whatever : {T E : Type 0} (r : Result T E) (P : Type 0) → P → OnErr r P
+whatever (Ok x) P h = tt
+whatever (Err e) P h = h
+
+-- A refusal is what the handler of the element of the letter may answer, or for an element out of memory.
+pub refuses_letter : {C : Type 0} (refuses : Refuses C) (pe v : PeView C) (h : Option Item) (x : Item) (l : LetterView) (look : Option ℕ) → Holds pe v x (Letter l) look
+    → RefusesAct refuses pe ≡ RefusesParcel refuses (record v { hand = h }) (Letter l)
+refuses_letter refuses pe v h x l look i =
+    ap (RefusesAct refuses) i.view_is
+    ∙ ap {B = SendError → Type 0} (λ (hand : Option Item) (error : SendError). MatchOption hand ⊥ (λ x. RefusesParcel refuses v x.parcel error)) i.in_hand
+    ∙ ap (RefusesParcel refuses v) i.parcel_is
+
+memory_is_reason : (R : SendError → Type 0) (error : StepError) → error ≡ OutOfMemory → RefusesStep R error
+memory_is_reason R error e = subst (λ (v : StepError). RefusesStep R v) (sym e) tt
+
+pub memory_refuses : {T : Type 0} (R : SendError → Type 0) (r : Result T StepError) → IfErr r (λ error. error ≡ OutOfMemory) → IfErr r (RefusesStep R)
+memory_refuses R (Ok x) h = tt
+memory_refuses R (Err error) h = memory_is_reason R error h

@@ -1,0 +1,53 @@
+use Rattle.chares.specs.declared.carried.Carried.TheVariants.{Letter, Element}
+use Rattle.std.proofs.Common.{refl, sym, ◌∙◌}
+use Rattle.pe_state.proofs.Acting.{Holds, held_again, after_same, acting_on_letter, acting_on_element, refuses_letter, memory_refuses}
+use Rattle.pe_state.specs.Refusals.{RefusesAct}
+use Rattle.pe_state.proofs.pe.PeState.act_with.Goals as goal
+
+in_letter : (g : _) (c : goal.After-act_on_letter g) → Holds c.args.self.now (record { me = c.self.inside.me; n = c.self.inside.n; room = c.self.inside.room; hand = c.self.inside.hand; shelf = c.self.inside.shelf.items; outbox = c.self.inside.outbox.items; notes = c.self.inside.notes.items; count = c.self.inside.count; kept = c.self.inside.kept }) c.in-Some.field-0 (Letter c.in-Letter.letter) c.in-Some.field-0.address
+in_letter g c = record { view_is = sym c.self.view_is; in_hand = sym c.take.ensures.value ∙ c.in-Some.is; parcel_is = c.in-Letter.is; look_is = refl }
+
+pub returns-in-Letter-clause-answer : goal.returns-in-Letter-clause-answer
+returns-in-Letter-clause-answer g c = rw (acting_on_letter g.C.Chare.step g.C.Pup.pack g.C.Pup.unpack _ _ c.take.new.self _ _ _ (in_letter g c)) c.act_on_letter.ensures.answer
+
+pub returns-in-Letter-clause-ok : goal.returns-in-Letter-clause-ok
+returns-in-Letter-clause-ok g c = rw (after_same _ _ _ _ (held_again _ _ c.take.new.self _ _ _ (in_letter g c)) (acting_on_letter g.C.Chare.step g.C.Pup.pack g.C.Pup.unpack _ _ c.take.new.self _ _ _ (in_letter g c))) c.act_on_letter.ensures.ok
+
+pub returns-in-Letter-clause-err : goal.returns-in-Letter-clause-err
+returns-in-Letter-clause-err g c = rw (held_again _ _ c.take.new.self _ _ _ (in_letter g c)) c.act_on_letter.ensures.err
+
+pub returns-in-Letter-clause-enabled : goal.returns-in-Letter-clause-enabled
+returns-in-Letter-clause-enabled g c = rw (acting_on_letter g.C.Chare.step g.C.Pup.pack g.C.Pup.unpack _ _ c.take.new.self _ _ _ (in_letter g c)) c.act_on_letter.ensures.enabled
+
+pub returns-in-Letter-clause-reports : goal.returns-in-Letter-clause-reports
+returns-in-Letter-clause-reports g c = rw (acting_on_letter g.C.Chare.step g.C.Pup.pack g.C.Pup.unpack _ _ c.take.new.self _ _ _ (in_letter g c)) c.act_on_letter.ensures.reports
+
+pub returns-in-Letter-clause-same_reports : goal.returns-in-Letter-clause-same_reports
+returns-in-Letter-clause-same_reports g c = c.act_on_letter.ensures.same_reports
+
+in_element : (g : _) (c : goal.After-act_on_element g) → Holds c.args.self.now (record { me = c.self.inside.me; n = c.self.inside.n; room = c.self.inside.room; hand = c.self.inside.hand; shelf = c.self.inside.shelf.items; outbox = c.self.inside.outbox.items; notes = c.self.inside.notes.items; count = c.self.inside.count; kept = c.self.inside.kept }) c.in-Some.field-0 (Element c.in-Element.element) c.in-Some.field-0.address
+in_element g c = record { view_is = sym c.self.view_is; in_hand = sym c.take.ensures.value ∙ c.in-Some.is; parcel_is = c.in-Element.is; look_is = refl }
+
+pub returns-in-Element-clause-answer : goal.returns-in-Element-clause-answer
+returns-in-Element-clause-answer g c = rw (acting_on_element g.C.Chare.step g.C.Pup.pack g.C.Pup.unpack _ _ c.take.new.self _ _ _ (in_element g c)) c.act_on_element.ensures.answer
+
+pub returns-in-Element-clause-ok : goal.returns-in-Element-clause-ok
+returns-in-Element-clause-ok g c = rw (after_same _ _ _ _ (held_again _ _ c.take.new.self _ _ _ (in_element g c)) (acting_on_element g.C.Chare.step g.C.Pup.pack g.C.Pup.unpack _ _ c.take.new.self _ _ _ (in_element g c))) c.act_on_element.ensures.ok
+
+pub returns-in-Element-clause-err : goal.returns-in-Element-clause-err
+returns-in-Element-clause-err g c = rw (held_again _ _ c.take.new.self _ _ _ (in_element g c)) c.act_on_element.ensures.err
+
+pub returns-in-Element-clause-enabled : goal.returns-in-Element-clause-enabled
+returns-in-Element-clause-enabled g c = rw (acting_on_element g.C.Chare.step g.C.Pup.pack g.C.Pup.unpack _ _ c.take.new.self _ _ _ (in_element g c)) c.act_on_element.ensures.enabled
+
+pub returns-in-Element-clause-reports : goal.returns-in-Element-clause-reports
+returns-in-Element-clause-reports g c = rw (acting_on_element g.C.Chare.step g.C.Pup.pack g.C.Pup.unpack _ _ c.take.new.self _ _ _ (in_element g c)) c.act_on_element.ensures.reports
+
+pub returns-in-Element-clause-same_reports : goal.returns-in-Element-clause-same_reports
+returns-in-Element-clause-same_reports g c = c.act_on_element.ensures.same_reports
+
+pub returns-in-Letter-clause-refused : goal.returns-in-Letter-clause-refused
+returns-in-Letter-clause-refused g c = rw (refuses_letter g.C.Chare.refuses _ _ c.take.new.self _ _ _ (in_letter g c)) c.act_on_letter.ensures.refused
+
+pub returns-in-Element-clause-refused : goal.returns-in-Element-clause-refused
+returns-in-Element-clause-refused g c = memory_refuses (RefusesAct g.C.Chare.refuses c.args.self.now) _ c.act_on_element.ensures.only_memory
