@@ -159,7 +159,7 @@ pub struct Unread<A: Allocator = Global> {
 impl<C: Chare<A>, H: Openings<C>, A: Allocator> Element<C, H, A> {
     /// Executes a letter, on this PE, reports it, and returns the note that is owed for it. On a refusal the letter
     /// comes back, the element is unchanged, and what the handler posted before it was refused is taken back.
-    #[tactic(auto, using(crate::proofs::Histories::history_within, crate::proofs::Postings::rewound, crate::proofs::Postings::rewound_reports))]
+    #[tactic(auto, using(crate::proofs::Histories::history_within))]
     pub fn execute<G: Gate, P: Drop>(
         &mut self,
         gate: &G,
@@ -215,7 +215,7 @@ impl<C: Chare<A>, H: Openings<C>, A: Allocator> Element<C, H, A> {
 
     /// Goes on after this round, or starts where it is 0, on this PE, reports it, and returns the note that is owed for
     /// it. On a refusal the element is unchanged, and what the handler posted before it was refused is taken back.
-    #[tactic(auto, using(crate::proofs::Histories::history_within, crate::proofs::Postings::rewound, crate::proofs::Postings::rewound_reports))]
+    #[tactic(auto, using(crate::proofs::Histories::history_within))]
     pub fn resume<G: Gate, P: Drop>(
         &mut self,
         gate: &G,

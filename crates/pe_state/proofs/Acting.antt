@@ -80,10 +80,12 @@ module _ {C : Type 0} (step : Step C) (pack : C → List ℕ) (unpack : List ℕ
   stands_already v p (Some el) h = refl
   stands_already v p None h = cc
 
+-- an option that is seen as none is none
 pub lacking : {X T : Type 0} (now : X → T) (x : Option X) (f : Option T) → option_map now x ≡ f → is_some x ≡ false → f ≡ None
 lacking now (Some x) f e h = cc
 lacking now None f e h = sym e
 
+-- what holds however a call ends holds where it is refused
 pub whatever : {T E : Type 0} (r : Result T E) (P : Type 0) → P → OnErr r P
 whatever (Ok x) P h = tt
 whatever (Err e) P h = h
