@@ -34,6 +34,28 @@ module _ {C : Type 0} (pes : List (PeView C)) (i : ℕ) where
 pub queued_rest : (queues : List (List Parcel)) (i : ℕ) (queue : List Parcel) → i < length queues → queue ≡ get_or queues i queue → length (flat_map (flat_map letters_in) (drop i queues)) ≡ length (flat_map letters_in queue) + length (flat_map (flat_map letters_in) (drop (i + 1) queues))
 queued_rest queues i queue inside is = length_rest (flat_map letters_in) queues i queue inside is
 
+pub queued_end : (queues : List (List Parcel)) (i : ℕ) → length queues ≤ i → length (flat_map (flat_map letters_in) (drop i queues)) ≡ 0
+queued_end queues i past = at_drop_all (λ (v : List (List Parcel)). length (flat_map (flat_map letters_in) v)) queues i past
+
+-- the letters among parcels, and among those that are addressed
+pub among_rest : (parcels : List Parcel) (i : ℕ) (parcel : Parcel) → i < length parcels → parcel ≡ get_or parcels i parcel → length (flat_map letters_in (drop i parcels)) ≡ length (letters_in parcel) + length (flat_map letters_in (drop (i + 1) parcels))
+among_rest parcels i parcel inside is = length_rest letters_in parcels i parcel inside is
+
+pub among_end : (parcels : List Parcel) (i : ℕ) → length parcels ≤ i → length (flat_map letters_in (drop i parcels)) ≡ 0
+among_end parcels i past = at_drop_all (λ (v : List Parcel). length (flat_map letters_in v)) parcels i past
+
+pub addressed_rest : (items : List Item) (i : ℕ) (item : Item) → i < length items → item ≡ get_or items i item → length (flat_map (λ x. letters_in x.parcel) (drop i items)) ≡ length (letters_in item.parcel) + length (flat_map (λ x. letters_in x.parcel) (drop (i + 1) items))
+addressed_rest items i item inside is = length_rest (λ (x : Item). letters_in x.parcel) items i item inside is
+
+pub addressed_end : (items : List Item) (i : ℕ) → length items ≤ i → length (flat_map (λ x. letters_in x.parcel) (drop i items)) ≡ 0
+addressed_end items i past = at_drop_all (λ (v : List Item). length (flat_map (λ (x : Item). letters_in x.parcel) v)) items i past
+
+-- an outbox in two parts
+pub outbox_parts : (front back items outbox : List Item) → front ++ back ≡ items → items ≡ outbox → length (flat_map (λ x. letters_in x.parcel) outbox) ≡ length (flat_map (λ x. letters_in x.parcel) front) + length (flat_map (λ x. letters_in x.parcel) back)
+outbox_parts front back items outbox whole is =
+    let letters : Item → List LetterView = λ x. letters_in x.parcel in
+    ap (λ (v : List Item). length (flat_map letters v)) (sym (whole ∙ is)) ∙ (ap length (flat_map-append letters front back) ∙ length-append (flat_map letters front) (flat_map letters back))
+
 -- a queue in two parts
 pub queue_parts : (front back items queue : List Parcel) → front ++ back ≡ items → items ≡ queue → length (flat_map letters_in queue) ≡ length (flat_map letters_in front) + length (flat_map letters_in back)
 queue_parts front back items queue whole is =

@@ -1,7 +1,8 @@
 -- Where elements open.
 use Rattle.std.proofs.Common.{◌≡◌, ℕ, zero, suc, ◌+◌, ◌*◌, ◌<◌, ◌≤◌, List, [], ◌∷◌, ◌++◌, length, map, drop, Option, Some, None, Result, Ok, Err, cond, refl, sym, ap, subst, ◌∙◌, get_or, replicate, add-one, zero-add, arith}
 use Rattle.std.proofs.Math.Nat.{div-lt_iff_lt-mul, mul_comm, mul-lt-mul_of_pos_left}
-use Rattle.std.specs.Prelude.{All, OnOk, slice_get, slice_set}
+use Rattle.std.specs.Prelude.{All, IfOk, OnOk, slice_get, slice_set}
+use Rattle.std.specs.Result.{IsErr}
 use Rattle.std.specs.List.{range_with_len}
 use Rattle.std.specs.Map.{keys_of}
 use Rattle.std.specs.Ordering.{nat_cmp, is_eq}
@@ -141,3 +142,17 @@ opening_run step fits pack opened pes states words b h =
       pes = h;
       queues = All-replicate (All (IsParcelHistory step fits pack opened)) pes [] (All-nil (IsParcelHistory step fits pack opened));
     }
+
+-- a list of so many equal members, and one more
+pub replicate_more : {X : Type 0} (k : ℕ) (x : List X) (made after : List (List X)) → made ≡ replicate k [] → x ≡ [] → after ≡ made ++ x ∷ [] → after ≡ replicate (k + 1) []
+replicate_more {X} k x made after e none more =
+    more ∙ ap (λ v. v ++ x ∷ []) e ∙ ap (λ v. replicate k [] ++ v ∷ []) none ∙ at_end k ∙ ap (λ n. replicate n []) (sym (add-one k))
+  where
+    at_end : (k : ℕ) → ◌≡◌ {A = List (List X)} (replicate k [] ++ [] ∷ []) (replicate (suc k) [])
+    at_end zero = refl
+    at_end (suc k) = ap (λ v. [] ∷ v) (at_end k)
+
+-- nothing is owed for what was not made
+pub none_made : {T E : Type 0} (r : Result T E) (P : T → Type 0) → IsErr r → IfOk r P
+none_made (Ok x) P h = cc
+none_made (Err e) P h = tt
