@@ -1,14 +1,15 @@
 -- What Act comes to on a parcel that was taken out of the hand.
 use Rattle.pup_pack.specs.declared.error.PupError.{PupError}
-use Rattle.std.proofs.Common.{◌≡◌, ℕ, List, Option, [], ◌∷◌, Some, None, MatchOption, option_map, IsSome, is_some, true, false, Result, Ok, Err, IsOk, OnErr, IfErr, refl, ap, sym, subst, ◌∙◌}
+use Rattle.std.proofs.Common.{◌≡◌, ℕ, List, Option, [], ◌∷◌, Some, None, MatchOption, option_map, IsSome, is_some, true, false, Result, Ok, Err, IsOk, OnErr, IfErr, refl, ap, sym, subst, Bool, not, if◌then◌else◌, ◌∙◌}
 use Rattle.chares.specs.Elements.{ElementView, PackedView}
 use Rattle.chares.specs.Letters.{LetterView}
 use Rattle.chares.specs.Steps.{Step}
 use Rattle.chares.specs.declared.carried.Carried.TheVariants.{Letter, Element}
+use Rattle.chares.specs.declared.progress.Progress.{Progress}
 use Rattle.chares.specs.declared.sends.SendError.{SendError}
 use Rattle.pe_state.specs.declared.acted.Acted.TheVariants.{Installed}
 use Rattle.chares.specs.declared.report.Report.TheVariants as Tells
-use Rattle.pe_state.specs.Pes.{PeView, Item, Parcel, Acting, installed, passing, on_letter, on_element, on_parcel, installing, acting, acting_on, pe_after, held}
+use Rattle.pe_state.specs.Pes.{PeView, Item, Parcel, Acting, installed, passing, executed, on_letter, on_element, on_parcel, installing, acting, acting_on, pe_after, held}
 use Rattle.pe_state.specs.Refusals.{RefusesStep, RefusesAct, RefusesParcel}
 use Rattle.pe_state.specs.Rooms.{Refuses, found}
 use Rattle.pe_state.specs.declared.error.StepError.{StepError}
@@ -31,6 +32,14 @@ held_again pe v h x parcel look i =
 pub after_same : {C : Type 0} (pe pe2 : PeView C) (a b : Option (Acting C)) → pe ≡ pe2 → a ≡ b → pe_after pe a ≡ pe_after pe2 b
 after_same pe pe2 a b e f = ap (λ p. pe_after p a) e ∙ ap (pe_after pe2) f
 
+not_true : (b : Bool) → not b ≡ true → b ≡ false
+not_true true h = cc
+not_true false h = refl
+
+not_false : (b : Bool) → not b ≡ false → b ≡ true
+not_false true h = refl
+not_false false h = cc
+
 module _ {C : Type 0} (step : Step C) (pack : C → List ℕ) (unpack : List ℕ → Result (C × ℕ) PupError) where
   passing_without : (v : PeView C) (h : Option Item) (l : LetterView) (look : Option ℕ) → passing v l look ≡ passing (record v { hand = h }) l look
   passing_without v h l None = refl
@@ -39,6 +48,13 @@ module _ {C : Type 0} (step : Step C) (pack : C → List ℕ) (unpack : List ℕ
   letter_without : (v : PeView C) (h : Option Item) (l : LetterView) (look : Option ℕ) (f : Option (ElementView C)) → on_letter step pack v l look f ≡ on_letter step pack (record v { hand = h }) l look f
   letter_without v h l look None = passing_without v h l look
   letter_without v h l look (Some el) = refl
+
+  -- an element that has started executes its letter, and no other does
+  pub waits : (v : PeView C) (l : LetterView) (look : Option ℕ) (f : Option (ElementView C)) (el : ElementView C) (p : Progress) → f ≡ Some el → p ≡ el.progress → not p.started ≡ true → on_letter step pack v l look f ≡ None
+  waits v l look f el p e s h = ap (on_letter step pack v l look) e ∙ ap (λ b. if b then Some (executed step pack v l) else None) (sym (ap (λ x. x.started) s) ∙ not_true p.started h)
+
+  pub runs : (v : PeView C) (l : LetterView) (look : Option ℕ) (f : Option (ElementView C)) (el : ElementView C) (p : Progress) → f ≡ Some el → p ≡ el.progress → not p.started ≡ false → on_letter step pack v l look f ≡ Some (executed step pack v l)
+  runs v l look f el p e s h = ap (on_letter step pack v l look) e ∙ ap (λ b. if b then Some (executed step pack v l) else None) (sym (ap (λ x. x.started) s) ∙ not_false p.started h)
 
   installing_without : (v : PeView C) (h : Option Item) (p : PackedView) (r : Result (C × ℕ) PupError) → installing step pack unpack v p r ≡ installing step pack unpack (record v { hand = h }) p r
   installing_without v h p (Ok x) = refl

@@ -3,6 +3,7 @@ pub mod Below
 pub mod Fronts
 pub mod Handling
 pub mod Installing
+pub mod Keeping
 pub mod Keyed
 pub mod Lending
 pub mod Reasons

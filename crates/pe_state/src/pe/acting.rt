@@ -97,7 +97,6 @@ impl<C: Chare<A>, H: Openings<C>, A: Allocator + Copy> PeState<C, H, A> {
 
 impl<C: Chare<A>, H: Openings<C>, A: Allocator + Copy> PeState<C, H, A> {
     // Acts on a letter that was taken from the hand.
-    #[tactic(auto, using(crate::proofs::Reports::reported_none))]
     fn act_on_letter<G: Gate>(
         &mut self,
         gate: &G,
@@ -128,7 +127,6 @@ impl<C: Chare<A>, H: Openings<C>, A: Allocator + Copy> PeState<C, H, A> {
     }
 
     // Executes a letter by its element, which stands here and has started.
-    #[tactic(auto, using(crate::proofs::Below::posted_below, crate::proofs::Reasons::same_reason))]
     fn execute<G: Gate>(
         &mut self,
         gate: &G,

@@ -1,10 +1,71 @@
-use Rattle.std.proofs.Common.{None, ◌∙◌, ap}
+use Rattle.std.proofs.Common.{◌∷◌, None, refl, ◌∙◌, ap, subst}
+use Rattle.chares.specs.Posting.{reported}
+use Rattle.chares.specs.declared.carried.Carried.TheVariants as Carried
 use Rattle.chares.specs.declared.entry.Entry.TheVariants.{Letter}
+use Rattle.chares.specs.declared.report.Report.TheVariants as Tells
+use Rattle.pe_state.specs.Pes.{PeView, held, handler_posts}
+use Rattle.pe_state.specs.Refusals.{RefusesParcel}
+use Rattle.pe_state.proofs.Below.{posted_below}
 use Rattle.pe_state.proofs.Handling.{handled_is}
+use Rattle.pe_state.proofs.Keeping.{same_view, held_same, outbox_below, place_stays}
+use Rattle.pe_state.proofs.Reasons.{same_reason}
 use Rattle.pe_state.proofs.pe.PeState.execute.Goals as goal
+
+-- no memory for a note
+
+pub invariant_of-self : goal.invariant_of-self
+invariant_of-self g c = c.self.invariant
+
+pub returns-in_default-clause-err : goal.returns-in_default-clause-err
+returns-in_default-clause-err g c = held_same _ _ _ _ _ c.hold.ensures.ok (same_view _ _ _ _ _ _ refl refl c.reserve.ensures.items refl c.self.view_is)
+
+-- none for what comes back
+
+pub invariant_of-self-in_default-reserve : goal.invariant_of-self-in_default-reserve
+invariant_of-self-in_default-reserve g c =
+    let i = c.self.invariant in
+    (i.0, i.1, i.2, i.3, i.4, i.5, outbox_below _ _ _ c.reserve-2.ensures.items i.6, i.7, λ k. place_stays _ _ _ _ c.reserve-2.ensures.len c.reserve-2.ensures.capacity (i.8 k))
+
+pub returns-in_default-reserve-clause-err : goal.returns-in_default-reserve-clause-err
+returns-in_default-reserve-clause-err g c = held_same _ _ _ _ _ c.hold-in_default-reserve.ensures.ok (same_view _ _ _ _ _ _ refl c.reserve-2.ensures.items c.reserve.ensures.items refl c.self.view_is)
+
+-- the handler is refused
+
+pub invariant_of-self-in-Err : goal.invariant_of-self-in-Err
+invariant_of-self-in-Err g c =
+    let i = c.self.invariant in
+    let a = c.in-Err.ensures in
+    (i.0, i.1, i.2, i.3, a.numbered, i.5, outbox_below _ _ _ (a.same_outbox ∙ c.reserve-2.ensures.items) i.6, i.7, λ k. a.place)
+
+pub returns-in-Err-clause-err : goal.returns-in-Err-clause-err
+returns-in-Err-clause-err g c =
+    let a = c.in-Err.ensures in
+    held_same _ _ _ _ _ c.hold-in-Err.ensures.ok (same_view _ _ _ _ _ _ a.same_room (a.same_outbox ∙ c.reserve-2.ensures.items) c.reserve.ensures.items a.same_count c.self.view_is)
+    ∙ ap (λ l. held c.args.self.now (Carried.Letter l) c.args.look) a.letter
+
+pub returns-in-Err-clause-refused : goal.returns-in-Err-clause-refused
+returns-in-Err-clause-refused g c =
+    same_reason (RefusesParcel g.C.Chare.refuses c.args.self.now (Carried.Letter c.args.letter)) c.in-Err.unread.error c.from.result c.from.ensures
+    (λ k. subst (λ (v : PeView g.row.C.Denot). RefusesParcel g.C.Chare.refuses v (Carried.Letter c.args.letter) c.in-Err.unread.error) c.self.view_is (c.in-Err.ensures.refused k))
+
+pub returns-in-Err-clause-same_reports : goal.returns-in-Err-clause-same_reports
+returns-in-Err-clause-same_reports g c = c.in-Err.ensures.same_reports
+
+-- the handler answers
+
+pub invariant_of-self-2 : goal.invariant_of-self-2
+invariant_of-self-2 g c =
+    let i = c.self.invariant in
+    let a = c.in-Ok-answer.ensures in
+    (i.0, i.1, i.2, i.3, a.numbered, i.5, outbox_below _ _ _ a.outbox (posted_below _ c.self.inside.me c.self.inside.count c.reserve-2.new.self.items _ (outbox_below _ _ _ c.reserve-2.ensures.items i.6)), tt, λ k. a.place)
 
 pub returns-clause-ok : goal.returns-clause-ok
 returns-clause-ok g c =
     let a = c.in-Ok-answer.ensures in
     handled_is g.C.Chare.step g.C.Pup.pack _ _ c.args.letter.to (Letter c.args.letter) None _ _ _ _ _ _ _
     c.self.view_is (ap (λ p. p.hand) c.self.view_is ∙ c.requires.empty) a.room c.reserve-2.ensures.items a.outbox c.reserve.ensures.items a.note c.owe.ensures.owed a.count
+
+pub returns-clause-reports : goal.returns-clause-reports
+returns-clause-reports g c =
+    c.in-Ok-answer.ensures.reports
+    ∙ ap (λ (v : PeView g.row.C.Denot). reported c.args.reporting c.args.reports.now.items (Tells.Executed c.args.letter.id c.args.letter.to ∷ handler_posts g.C.Chare.step g.C.Pup.pack v c.args.letter.to (Letter c.args.letter))) c.self.view_is

@@ -1,10 +1,98 @@
-use Rattle.std.proofs.Common.{ap}
+use Rattle.std.proofs.Common.{refl, ap, subst, ◌∙◌}
+use Rattle.chares.specs.Posting.{reported}
 use Rattle.chares.specs.declared.entry.Entry.TheVariants.{Resumption}
+use Rattle.pe_state.specs.Pes.{PeView, resume_reports}
+use Rattle.pe_state.specs.Refusals.{RefusesResume}
+use Rattle.pe_state.proofs.Acting.{whatever}
+use Rattle.pe_state.proofs.Below.{posted_below}
 use Rattle.pe_state.proofs.Handling.{handled_is}
+use Rattle.pe_state.proofs.Keeping.{same_view, outbox_below, place_stays, no_answer, out_of_memory, refused_so}
 use Rattle.pe_state.proofs.pe.PeState.resume_with.Goals as goal
+
+-- no memory for a note
+
+pub invariant_of-self : goal.invariant_of-self
+invariant_of-self g c = c.self.invariant
+
+pub returns-in_err-reserve-clause-ok : goal.returns-in_err-reserve-clause-ok
+returns-in_err-reserve-clause-ok g c = no_answer _ _ c.from_residual.ensures.0
+
+pub returns-in_err-reserve-clause-err : goal.returns-in_err-reserve-clause-err
+returns-in_err-reserve-clause-err g c = whatever _ _ (same_view _ _ _ _ _ _ refl refl c.reserve.ensures.items refl c.self.view_is)
+
+pub returns-in_err-reserve-clause-refused : goal.returns-in_err-reserve-clause-refused
+returns-in_err-reserve-clause-refused g c = out_of_memory (RefusesResume g.C.Chare.refuses c.args.self.now c.args.index c.args.round) _ c.from_residual.ensures.1
+
+pub returns-in_err-reserve-clause-reports : goal.returns-in_err-reserve-clause-reports
+returns-in_err-reserve-clause-reports g c = no_answer _ _ c.from_residual.ensures.0
+
+pub returns-in_err-reserve-clause-same_reports : goal.returns-in_err-reserve-clause-same_reports
+returns-in_err-reserve-clause-same_reports g c = whatever _ _ refl
+
+-- none for what is posted
+
+pub invariant_of-self-in_err-reserve-2 : goal.invariant_of-self-in_err-reserve-2
+invariant_of-self-in_err-reserve-2 g c =
+    let i = c.self.invariant in
+    (i.0, i.1, i.2, i.3, i.4, i.5, outbox_below _ _ _ c.reserve-2.ensures.items i.6, i.7, λ k. place_stays _ _ _ _ c.reserve-2.ensures.len c.reserve-2.ensures.capacity (i.8 k))
+
+pub returns-in_err-reserve-2-clause-ok : goal.returns-in_err-reserve-2-clause-ok
+returns-in_err-reserve-2-clause-ok g c = no_answer _ _ c.from_residual-in_err-reserve-2.ensures.0
+
+pub returns-in_err-reserve-2-clause-err : goal.returns-in_err-reserve-2-clause-err
+returns-in_err-reserve-2-clause-err g c = whatever _ _ (same_view _ _ _ _ _ _ refl c.reserve-2.ensures.items c.reserve.ensures.items refl c.self.view_is)
+
+pub returns-in_err-reserve-2-clause-refused : goal.returns-in_err-reserve-2-clause-refused
+returns-in_err-reserve-2-clause-refused g c = out_of_memory (RefusesResume g.C.Chare.refuses c.args.self.now c.args.index c.args.round) _ c.from_residual-in_err-reserve-2.ensures.1
+
+pub returns-in_err-reserve-2-clause-reports : goal.returns-in_err-reserve-2-clause-reports
+returns-in_err-reserve-2-clause-reports g c = no_answer _ _ c.from_residual-in_err-reserve-2.ensures.0
+
+pub returns-in_err-reserve-2-clause-same_reports : goal.returns-in_err-reserve-2-clause-same_reports
+returns-in_err-reserve-2-clause-same_reports g c = whatever _ _ refl
+
+-- the handler is refused
+
+pub invariant_of-self-in_err-note : goal.invariant_of-self-in_err-note
+invariant_of-self-in_err-note g c =
+    let i = c.self.invariant in
+    let a = c.in_err-note.ensures in
+    (i.0, i.1, i.2, i.3, a.numbered, i.5, outbox_below _ _ _ (a.same_outbox ∙ c.reserve-2.ensures.items) i.6, i.7, λ k. a.place)
+
+pub returns-in_err-note-clause-ok : goal.returns-in_err-note-clause-ok
+returns-in_err-note-clause-ok g c = no_answer _ _ c.from_residual-in_err-note.ensures.0
+
+pub returns-in_err-note-clause-err : goal.returns-in_err-note-clause-err
+returns-in_err-note-clause-err g c =
+    let a = c.in_err-note.ensures in
+    whatever _ _ (same_view _ _ _ _ _ _ a.same_room (a.same_outbox ∙ c.reserve-2.ensures.items) c.reserve.ensures.items a.same_count c.self.view_is)
+
+pub returns-in_err-note-clause-refused : goal.returns-in_err-note-clause-refused
+returns-in_err-note-clause-refused g c =
+    refused_so (RefusesResume g.C.Chare.refuses c.args.self.now c.args.index c.args.round) _ _ c.from_residual-in_err-note.ensures.1
+    (λ k. subst (λ (v : PeView g.row.C.Denot). RefusesResume g.C.Chare.refuses v c.args.index c.args.round c.in_err-note.field-0.0) c.self.view_is (c.in_err-note.ensures.refused k))
+
+pub returns-in_err-note-clause-reports : goal.returns-in_err-note-clause-reports
+returns-in_err-note-clause-reports g c = no_answer _ _ c.from_residual-in_err-note.ensures.0
+
+pub returns-in_err-note-clause-same_reports : goal.returns-in_err-note-clause-same_reports
+returns-in_err-note-clause-same_reports g c = whatever _ _ c.in_err-note.ensures.same_reports
+
+-- the handler answers
+
+pub invariant_of-self-2 : goal.invariant_of-self-2
+invariant_of-self-2 g c =
+    let i = c.self.invariant in
+    let a = c.in_ok-note.ensures in
+    (i.0, i.1, i.2, i.3, a.numbered, i.5, outbox_below _ _ _ a.outbox (posted_below _ c.self.inside.me c.self.inside.count c.reserve-2.new.self.items _ (outbox_below _ _ _ c.reserve-2.ensures.items i.6)), tt, λ k. a.place)
 
 pub returns-clause-ok : goal.returns-clause-ok
 returns-clause-ok g c =
     let a = c.in_ok-note.ensures in
     handled_is g.C.Chare.step g.C.Pup.pack _ _ c.args.index (Resumption c.args.round) c.args.self.now.hand _ _ _ _ _ _ _
     c.self.view_is (ap (λ p. p.hand) c.self.view_is) a.room c.reserve-2.ensures.items a.outbox c.reserve.ensures.items a.note c.owe.ensures.owed a.count
+
+pub returns-clause-reports : goal.returns-clause-reports
+returns-clause-reports g c =
+    c.in_ok-note.ensures.reports
+    ∙ ap (λ (v : PeView g.row.C.Denot). reported c.args.reporting c.args.reports.now.items (resume_reports g.C.Chare.step g.C.Pup.pack v c.args.index c.args.round)) c.self.view_is
