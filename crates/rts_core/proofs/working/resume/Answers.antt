@@ -1,8 +1,11 @@
-use Rattle.std.proofs.Common.{rules}
+use Rattle.std.proofs.Common.{rules, ◌∙◌}
+use Rattle.rts_core.proofs.Steps.{went_on_is}
 use Rattle.rts_core.proofs.working.resume.Goals as goal
 
 pub returns-clause-ok : goal.returns-clause-ok
-returns-clause-ok g c = search rules
+returns-clause-ok g c =
+    went_on_is g.C.Chare.step g.C.Pup.pack c.args.p c.args.pe.now c.resume_reporting.new.self c.args.board.now c.args.e _ _ _ c.of-2.result
+    c.in-Some.ensures.value c.if-ne.ensures c.in_ok-resume_reporting.ensures.ok (c.of-2.ensures.made ∙ c.in_ok-resume_reporting.ensures.reports) c.new-reports.ensures.items
 
 pub returns-in_err-resume_reporting-clause-refused : goal.returns-in_err-resume_reporting-clause-refused
 returns-in_err-resume_reporting-clause-refused g c = search rules
