@@ -49,6 +49,10 @@ module _ {C : Type 0} (step : Step C) (pack : C → List ℕ) (unpack : List ℕ
   letter_without v h l look None = passing_without v h l look
   letter_without v h l look (Some el) = refl
 
+  -- nothing in the hand
+  pub idle : (pe v : PeView C) → v ≡ pe → None ≡ v.hand → acting step pack unpack pe ≡ None
+  idle pe v e none = ap (acting step pack unpack) (sym e) ∙ ap (acting_on step pack unpack v) (sym none)
+
   -- an element that has started executes its letter, and no other does
   pub waits : (v : PeView C) (l : LetterView) (look : Option ℕ) (f : Option (ElementView C)) (el : ElementView C) (p : Progress) → f ≡ Some el → p ≡ el.progress → not p.started ≡ true → on_letter step pack v l look f ≡ None
   waits v l look f el p e s h = ap (on_letter step pack v l look) e ∙ ap (λ b. if b then Some (executed step pack v l) else None) (sym (ap (λ x. x.started) s) ∙ not_true p.started h)
@@ -95,6 +99,9 @@ module _ {C : Type 0} (step : Step C) (pack : C → List ℕ) (unpack : List ℕ
   pub stands_already : (v : PeView C) (p : PackedView) (f : Option (ElementView C)) → is_some f ≡ true → on_element step pack unpack v p f ≡ None
   stands_already v p (Some el) h = refl
   stands_already v p None h = cc
+
+pub same_hand : {C : Type 0} (pe v : PeView C) (hand : Option Item) → v ≡ pe → hand ≡ None → None ≡ v.hand → record v { hand = hand } ≡ pe
+same_hand {C} pe v hand e new old = ap (λ h. record v { hand = h }) (new ∙ old) ∙ e
 
 -- an option that is seen as none is none
 pub lacking : {X T : Type 0} (now : X → T) (x : Option X) (f : Option T) → option_map now x ≡ f → is_some x ≡ false → f ≡ None

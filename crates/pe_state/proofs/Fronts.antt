@@ -18,3 +18,11 @@ front_wants_is (y ∷ ys) x e h = ap (λ i. unaddressed i.parcel i.address) e
 pub none_wanted : (outbox : List Item) → (0 < length outbox → false ≡ true) → None ≡ front_wants outbox
 none_wanted [] h = refl
 none_wanted (y ∷ ys) h = absurd (let b = h (omega arith) in cc)
+
+pub none_addressed : (outbox : List Item) → (0 < length outbox → false ≡ true) → None ≡ front_address outbox
+none_addressed [] h = refl
+none_addressed (y ∷ ys) h = absurd (let b = h (omega arith) in cc)
+
+pub none_first : {A : Type 0} (xs : List A) → (0 < length xs → false ≡ true) → None ≡ slice_get xs 0
+none_first [] h = refl
+none_first (y ∷ ys) h = absurd (let b = h (omega arith) in cc)

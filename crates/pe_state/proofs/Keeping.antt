@@ -41,7 +41,6 @@ pub no_value : {T E : Type 0} (r : Result T E) (P : T → Type 0) → IsErr r �
 no_value (Ok x) P h = cc
 no_value (Err e) P h = tt
 
--- the error is this one
 pub same_error : {T E : Type 0} (P : E → Type 0) (r : Result T E) (error : E) → IsErrAnd r (λ e. e ≡ error) → P error → IfErr r P
 same_error {T} {E} P (Ok x) error h p = tt
 same_error {T} {E} P (Err e) error h p = subst (λ (v : E). P v) (sym h) p
@@ -54,3 +53,7 @@ out_of_memory R (Err error) h = subst (λ (v : StepError). RefusesStep R v) (sym
 pub refused_so : {T : Type 0} (R : SendError → Type 0) (error : SendError) (r : Result T StepError) → IsErrAnd r (λ step. step ≡ step_error_of error) → (error ≢ Send.OutOfMemory → R error) → IfErr r (RefusesStep R)
 refused_so R error (Ok x) h k = tt
 refused_so R error (Err step) h k = same_reason R error step h k
+
+pub only_memory : {T : Type 0} (r : Result T StepError) → IsErrAnd r (λ error. error ≡ OutOfMemory) → IfErr r (λ error. error ≡ OutOfMemory)
+only_memory (Ok x) h = tt
+only_memory (Err error) h = h

@@ -5,6 +5,7 @@ pub mod Handling
 pub mod Installing
 pub mod Keeping
 pub mod Keyed
+pub mod Leaving
 pub mod Lending
 pub mod Reasons
 pub mod Reports

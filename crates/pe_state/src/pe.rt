@@ -355,7 +355,6 @@ impl<C: Chare<A>, H: Openings<C>, A: Allocator + Copy> PeState<C, H, A> {
     /// to the PE where it is to be. Where its round is decided and gives it this place the caller has seen; it stores
     /// the element's location word next, before any other step of this PE: see "Why the word is stored before the parcel
     /// leaves" in docs/EVENTS.md. The only refusal is [`OutOfMemory`](StepError::OutOfMemory).
-    #[tactic(auto, using(crate::proofs::Below::last_below))]
     pub fn depart(&mut self, index: Index, to: Pe) -> Result<(), StepError>
         requires waits { may_depart self.old index ≡ true }
         requires known { to < H.pes }

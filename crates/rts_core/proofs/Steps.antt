@@ -1,4 +1,4 @@
--- What Deliver, Flush and Depart make of their PE and of a queue or the words.
+-- What Deliver, Flush, Report, Depart and Resume make of their PE, and of a queue, the words or the board.
 use Rattle.std.proofs.Common.{◌≡◌, ℕ, List, [], ◌∷◌, ◌++◌, Option, Some, None, IsSome, IfSome, Result, Ok, Err, OnOk, Bool, true, false, not, ◌==◌, refl, ap, ◌∙◌}
 use Rattle.std.specs.Prelude.{slice_get, slice_set}
 use Rattle.std.specs.Option.{option_and_then}

@@ -68,7 +68,6 @@ impl<C: Chare<A>, H: Openings<C>, A: Allocator + Copy> PeState<C, H, A> {
     }
 
     // Acts, and adds what is to be reported where that is wanted.
-    #[tactic(auto, using(crate::proofs::Reports::reported_none))]
     fn act_with<G: Gate>(
         &mut self,
         gate: &G,

@@ -1,6 +1,9 @@
 use Rattle.chares.specs.declared.carried.Carried.TheVariants.{Letter, Element}
-use Rattle.std.proofs.Common.{refl, sym, ◌∙◌}
-use Rattle.pe_state.proofs.Acting.{Holds, held_again, after_same, acting_on_letter, acting_on_element, refuses_letter, memory_refuses}
+use Rattle.std.proofs.Common.{refl, sym, ap, subst, ◌∙◌}
+use Rattle.pe_state.specs.Pes.{acted_of, pe_after}
+use Rattle.pe_state.specs.Standing.{IsHandBelow}
+use Rattle.pe_state.proofs.Reports.{reported_none}
+use Rattle.pe_state.proofs.Acting.{Holds, held_again, idle, same_hand, after_same, acting_on_letter, acting_on_element, refuses_letter, memory_refuses}
 use Rattle.pe_state.specs.Refusals.{RefusesAct}
 use Rattle.pe_state.proofs.pe.PeState.act_with.Goals as goal
 
@@ -51,3 +54,45 @@ returns-in-Letter-clause-refused g c = rw (refuses_letter g.C.Chare.refuses _ _ 
 
 pub returns-in-Element-clause-refused : goal.returns-in-Element-clause-refused
 returns-in-Element-clause-refused g c = memory_refuses (RefusesAct g.C.Chare.refuses c.args.self.now) _ c.act_on_element.ensures.only_memory
+
+pub invariant_of-self : goal.invariant_of-self
+invariant_of-self g c =
+    let i = c.self.invariant in
+    (i.0, i.1, i.2, i.3, i.4, subst (λ h. IsHandBelow g.H.Openings.pes h) (sym c.in_default.ensures.after) tt, i.6, i.7, i.8)
+
+pub returns-in_default-clause-answer : goal.returns-in_default-clause-answer
+returns-in_default-clause-answer g c =
+    let nothing = idle g.C.Chare.step g.C.Pup.pack g.C.Pup.unpack c.args.self.now _ c.self.view_is c.in_default.ensures.value in
+    sym (ap acted_of nothing)
+
+pub returns-in_default-clause-ok : goal.returns-in_default-clause-ok
+returns-in_default-clause-ok g c =
+    let nothing = idle g.C.Chare.step g.C.Pup.pack g.C.Pup.unpack c.args.self.now _ c.self.view_is c.in_default.ensures.value in
+    same_hand c.args.self.now _ c.take.new.self c.self.view_is c.in_default.ensures.after c.in_default.ensures.value ∙ sym (ap (pe_after c.args.self.now) nothing)
+
+pub returns-in_default-clause-reports : goal.returns-in_default-clause-reports
+returns-in_default-clause-reports g c =
+    let nothing = idle g.C.Chare.step g.C.Pup.pack g.C.Pup.unpack c.args.self.now _ c.self.view_is c.in_default.ensures.value in
+    rw nothing (reported_none c.args.reporting c.args.reports.now.items)
+
+pub invariant_of-self-in-Letter : goal.invariant_of-self-in-Letter
+invariant_of-self-in-Letter g c =
+    let i = c.self.invariant in
+    (i.0, i.1, i.2, i.3, i.4, subst (λ h. IsHandBelow g.H.Openings.pes h) (sym c.in-Some.ensures.after) tt, i.6, i.7, i.8)
+
+pub invariant_of-self-in-Element : goal.invariant_of-self-in-Element
+invariant_of-self-in-Element g c =
+    let i = c.self.invariant in
+    (i.0, i.1, i.2, i.3, i.4, subst (λ h. IsHandBelow g.H.Openings.pes h) (sym c.in-Some.ensures.after) tt, i.6, i.7, i.8)
+
+pub act_on_letter-requires-clause-empty : goal.act_on_letter-requires-clause-empty
+act_on_letter-requires-clause-empty g c = c.in-Some.ensures.after
+
+pub act_on_letter-requires-clause-below : goal.act_on_letter-requires-clause-below
+act_on_letter-requires-clause-below g c = subst (λ h. IsHandBelow g.H.Openings.pes h) (sym c.in-Some.ensures.value) c.self.invariant.5
+
+pub act_on_element-requires-clause-empty : goal.act_on_element-requires-clause-empty
+act_on_element-requires-clause-empty g c = c.in-Some.ensures.after
+
+pub act_on_element-requires-clause-below : goal.act_on_element-requires-clause-below
+act_on_element-requires-clause-below g c = subst (λ h. IsHandBelow g.H.Openings.pes h) (sym c.in-Some.ensures.value) c.self.invariant.5

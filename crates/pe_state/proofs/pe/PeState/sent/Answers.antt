@@ -1,5 +1,15 @@
-use Rattle.std.proofs.Common.{rules}
+use Rattle.std.proofs.Common.{rules, ap, sym, arith, ◌∙◌}
+use Rattle.pe_state.specs.Pes.{PeView, front_parcel}
+use Rattle.pe_state.proofs.Below.{first_below, rest_below}
 use Rattle.pe_state.proofs.pe.PeState.sent.Goals as goal
 
 pub returns-clause-ok : goal.returns-clause-ok
 returns-clause-ok g c = search rules
+
+pub invariant_of-self : goal.invariant_of-self
+invariant_of-self g c =
+    let i = c.self.invariant in
+    (i.0, i.1, i.2, i.3, i.4, i.5, rest_below _ _ _ _ c.in-Some.ensures.items i.6, first_below _ _ _ _ c.in-Some.ensures.items i.6, λ k. omega (arith, c.in-Some.ensures.len, c.in-Some.ensures.capacity))
+
+pub returns-clause-value : goal.returns-clause-value
+returns-clause-value g c = ap (λ (p : PeView g.row.C.Denot). front_parcel p.outbox) (sym c.self.view_is) ∙ ap front_parcel c.in-Some.ensures.items
