@@ -3,17 +3,15 @@
 
 ghost use Rattle.std.specs.Prelude.{◌≡◌};
 
-use crate::courier::Courier;
 use crate::fixtures::assert_for;
 use crate::random::account::compare;
 use crate::random::draw::Draw;
 use crate::random::laws::{barrier, chase};
-use crate::relay::Relay;
 use crate::seen::look_around;
 use crate::steps::opened;
-use crate::tally::Tally;
 use chares::{Chare, Openings, Report};
 use rts_core::{Event, World};
+use sample_chares::{Courier, Relay, Tally};
 use std::alloc::Global;
 use std::marker::Brand;
 use std::process::Abort;

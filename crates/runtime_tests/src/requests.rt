@@ -2,14 +2,14 @@
 
 ghost use Rattle.std.specs.Prelude.{◌≡◌};
 
-use crate::fixtures::{assert_for, elements, index, pe, pes, relay, round};
-use crate::relay::Relay;
+use crate::fixtures::{assert_for, elements, index, pe, pes, round};
 use crate::seen::{Seen, look_around};
 use crate::steps::{expect_reports, opened};
 use chare_index::{Index, Pe};
 use chares::{Openings, Report};
 use refusing_alloc::Refusing;
 use rts_core::{Event, StepError, World};
+use sample_chares::Relay;
 use std::alloc::{AllocError, Allocator, Global};
 use std::marker::Brand;
 use std::process::Abort;
@@ -98,7 +98,7 @@ fn take<H: Openings<Relay<A>>, A: Allocator + Copy>(
 fn three<A: Allocator + Copy>(alloc: A) -> Result<Vec<Relay<A>, A>, AllocError> {
     let mut relays = Vec::with_capacity(alloc, 3)?;
     for _ in 0..3 {
-        let next = relay(alloc, 3, &[1, 0])?;
+        let next = Relay::with_body(alloc, 3, &[1, 0])?;
         if relays.push(next).is_err() {
             return Err(AllocError);
         }

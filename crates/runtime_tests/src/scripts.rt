@@ -2,15 +2,15 @@
 
 ghost use Rattle.std.specs.Prelude.{◌≡◌};
 
-use crate::fixtures::{assert_for, elements, index, pe, pes, round, tally};
+use crate::fixtures::{assert_for, elements, index, pe, pes, round};
 use crate::steps::{has_account, opened, take};
-use crate::tally::Tally;
 use chare_index::{Index, Pe};
 use chares::{Openings, Report};
 use lb_certificates::Floor;
 use lb_strategy::Decision;
 use refusing_alloc::Refusing;
 use rts_core::{Event, World};
+use sample_chares::Tally;
 use std::alloc::{AllocError, Allocator, Global};
 use std::marker::Brand;
 use std::process::Abort;
@@ -31,7 +31,7 @@ fn add_tally<A: Allocator + Copy>(
     first: u32,
     pad: usize,
 ) -> Result<(), AllocError> {
-    let next = tally(alloc, &[first, 0], pad)?;
+    let next = Tally::with_amounts(alloc, &[first, 0], pad)?;
     if tallies.push(next).is_err() {
         return Err(AllocError);
     }

@@ -2,12 +2,12 @@
 
 ghost use Rattle.std.specs.Prelude.{◌≡◌};
 
-use crate::courier::Courier;
-use crate::fixtures::{courier, elements, index, pe, pes, round};
+use crate::fixtures::{elements, index, pe, pes, round};
 use crate::steps::{has_account, opened, run};
 use chare_index::{Index, Pe};
 use chares::{Openings, Report};
 use rts_core::{Event, StepError, World};
+use sample_chares::Courier;
 use std::alloc::Global;
 use std::marker::Brand;
 use std::process::Abort;
@@ -50,7 +50,7 @@ fn one(rt: &(impl Abort + AllocGlobal), chare: Courier) -> Vec<Courier> {
 fn a_letter_to_no_element(rt: HostRuntime) {
     let chares = one(
         &rt,
-        courier(rt.alloc(), 1, 0, 0).expect(&rt, "out of memory"),
+        Courier::with_zeros(rt.alloc(), 1, 0, 0).expect(&rt, "out of memory"),
     );
     refused::<Brand>(&rt, chares, StepError::Stranger);
 }
@@ -59,7 +59,7 @@ fn a_letter_to_no_element(rt: HostRuntime) {
 fn a_body_that_is_too_long(rt: HostRuntime) {
     let chares = one(
         &rt,
-        courier(rt.alloc(), 0, 0, 1_025).expect(&rt, "out of memory"),
+        Courier::with_zeros(rt.alloc(), 0, 0, 1_025).expect(&rt, "out of memory"),
     );
     refused::<Brand>(&rt, chares, StepError::TooLong);
 }
@@ -93,7 +93,7 @@ fn starts<H: Openings<Courier>>(rt: &(impl Abort + AllocGlobal), chares: Vec<Cou
 fn an_element_may_pass_over_a_refused_send(rt: HostRuntime) {
     let chares = one(
         &rt,
-        courier(rt.alloc(), 1, 1, 0).expect(&rt, "out of memory"),
+        Courier::with_zeros(rt.alloc(), 1, 1, 0).expect(&rt, "out of memory"),
     );
     starts::<Brand>(&rt, chares);
 }
@@ -102,7 +102,7 @@ fn an_element_may_pass_over_a_refused_send(rt: HostRuntime) {
 fn three_to(rt: &(impl Abort + AllocGlobal), to: u32) -> Vec<Courier> {
     let mut chares = Vec::new(rt.alloc());
     for _ in 0..3 {
-        let next = courier(rt.alloc(), to, 0, 4).expect(rt, "out of memory");
+        let next = Courier::with_zeros(rt.alloc(), to, 0, 4).expect(rt, "out of memory");
         chares.push(next).expect(rt, "out of memory");
     }
     chares

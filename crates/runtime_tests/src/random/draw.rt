@@ -1,13 +1,11 @@
 //! Numbers, chares and events drawn at random, by a fixed generator: each run draws the same.
 
-use crate::courier::Courier;
-use crate::fixtures::{courier, index, pe, tally};
-use crate::relay::Relay;
-use crate::tally::Tally;
+use crate::fixtures::{index, pe};
 use chare_index::{Index, Pe, Round};
 use chares::{Chare, Openings};
 use pup_pack::Bytes;
 use rts_core::{Event, PeState, World};
+use sample_chares::{Courier, Relay, Tally};
 use std::alloc::Allocator;
 use std::process::Abort;
 
@@ -96,7 +94,7 @@ impl Draw {
         let mut chares = Vec::new(rt.alloc());
         for _ in 0..n {
             let amounts = [self.below(9), self.below(9), self.below(9), self.below(9)];
-            let next = tally(rt.alloc(), &amounts, 0).expect(rt, "out of memory");
+            let next = Tally::with_amounts(rt.alloc(), &amounts, 0).expect(rt, "out of memory");
             chares.push(next).expect(rt, "out of memory");
         }
         chares
@@ -106,7 +104,10 @@ impl Draw {
     pub(crate) fn couriers(&mut self, rt: &(impl Abort + AllocGlobal), n: u32) -> Vec<Courier> {
         let mut chares = Vec::new(rt.alloc());
         for _ in 0..n {
-            let next = courier(rt.alloc(), self.below(n), 0, 4).expect(rt, "out of memory");
+            let next = Courier::with_zeros(rt.alloc(), self.below(n), 0, 4).expect(
+                rt,
+                "out of memory",
+            );
             chares.push(next).expect(rt, "out of memory");
         }
         chares

@@ -2,12 +2,12 @@
 
 ghost use Rattle.std.specs.Prelude.{◌≡◌, ◌∷◌, []};
 
-use crate::fixtures::{index, pe, relay, round};
-use crate::relay::Relay;
+use crate::fixtures::{index, pe, round};
 use chare_index::NoGate;
 use chares::Openings;
 use pe_state::PeState;
 use refusing_alloc::Refusing;
+use sample_chares::Relay;
 use std::alloc::{Allocator, Global};
 use std::marker::Brand;
 use std::process::Abort;
@@ -112,6 +112,6 @@ fn quiet<H: Openings<Relay<A>>, A: Allocator + Copy>(
 #[test]
 fn calls_of_a_pe(rt: HostRuntime) {
     let alloc = Refusing::new(rt.alloc(), 0);
-    let chare = relay(&alloc, 1, &[0]).expect(&rt, "out of memory");
+    let chare = Relay::with_body(&alloc, 1, &[0]).expect(&rt, "out of memory");
     quiet::<Brand, &Refusing<Global>>(&rt, &alloc, &alloc, chare);
 }

@@ -1,5 +1,5 @@
--- The chare of the tests: it sends its amounts to its neighbor, one in each round, and adds up what comes.
-use Rattle.std.specs.Prelude.{◌≡◌, ℕ, zero, suc, ◌+◌, ◌<◌, ◌≤◌, ◌%◌, ◌*◌, min, List, [], ◌∷◌, ◌++◌, length, flat_map, All, slice_index, Bool, true, false, not, ◌&&◌, ◌==◌, if◌then◌else◌, nat_lt}
+-- A chare that sends its amounts to its neighbor, one in each round, and adds up what comes.
+use Rattle.std.specs.Prelude.{◌≡◌, ℕ, ◌+◌, ◌≤◌, ◌%◌, ◌*◌, min, List, [], ◌∷◌, ◌++◌, length, flat_map, All, slice_index, Bool, true, false, not, ◌&&◌, ◌==◌, if◌then◌else◌, nat_lt}
 use Rattle.std.specs.Int.{w32, w64, to_be_bytes, from_be_bytes}
 use Rattle.std.proofs.Common.{refl, arith, length-append}
 use Rattle.std.proofs.lemmas.Bool.Decides.{nat_tests}

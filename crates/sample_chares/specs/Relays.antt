@@ -1,4 +1,4 @@
--- A chare of the tests that hands on the rest of each letter, and starts a new one in each round.
+-- A chare that hands on the rest of each letter, and starts a new one in each round.
 use Rattle.std.specs.Prelude.{◌≡◌, ℕ, zero, suc, ◌+◌, ◌<◌, ◌≤◌, ◌%◌, List, [], ◌∷◌, ◌++◌, length, Bool, true, false, not, nat_lt}
 use Rattle.std.specs.Int.{w32, to_be_bytes}
 use Rattle.std.proofs.Common.{arith, length-append}

@@ -1,19 +1,20 @@
-//! A chare of the tests that sends its amounts to its neighbor, one in each round, and adds up what comes.
+//! A chare that sends its amounts to its neighbor, one in each round, and adds up what comes.
 
-ghost use Rattle.std.specs.Prelude.{◌≡◌, ◌+◌, ◌<◌, ◌≤◌, length, slice_index, false, IfSome, IsNone, ◌↔◌};
+ghost use Rattle.std.specs.Prelude.{◌≡◌, ◌+◌, ◌<◌, ◌≤◌, length, replicate, slice_index, false, IfOk, IfSome, IsNone, ◌↔◌};
 ghost use Rattle.std.specs.Int.{w32, to_be_bytes};
-ghost use Rattle.runtime_tests.specs.Tallies.{TallyView, amount_in, is_tally, of_parts};
+ghost use Rattle.sample_chares.specs.Tallies.{TallyView, amount_in, is_tally, of_parts};
 
+use crate::zeros::zeros;
 use chare_index::{Gate, Index, Round};
 use chares::{Chare, Effect, Here, SendError, Sends};
 use pup_pack::{Bytes, Fields, Items, Pup, PupError};
-use std::alloc::{Allocator, Global};
+use std::alloc::{AllocError, Allocator, Global};
 use std::marker::Model;
 
 /// A chare that sends its amounts to its neighbor, one in each round, and adds up what comes. It has at most 1,000
 /// amounts and 65,536 bytes of padding.
 #[derive(Drop)]
-pub(crate) struct Tally<A: Allocator = Global> {
+pub struct Tally<A: Allocator = Global> {
     posted: u32,
     got: u32,
     sum: u64,
@@ -23,7 +24,7 @@ pub(crate) struct Tally<A: Allocator = Global> {
 
 impl<A: Allocator> Model for Tally<A> {
     ghost use Rattle.std.specs.Prelude.{◌≡◌, true};
-    ghost use Rattle.runtime_tests.specs.Tallies.{TallyView, is_tally};
+    ghost use Rattle.sample_chares.specs.Tallies.{TallyView, is_tally};
 
     ghost Value = { TallyView };
 
@@ -37,14 +38,28 @@ type Parts<A> = (u32, (u32, (u64, (Items<u32, A>, Bytes<A>))));
 
 impl<A: Allocator> Tally<A> {
     /// A tally that has posted and got nothing, or `None` past a limit.
-    pub(crate) fn new(amounts: Items<u32, A>, pad: Bytes<A>) -> Option<Self>
+    pub fn new(amounts: Items<u32, A>, pad: Bytes<A>) -> Option<Self>
         ensures value { IfSome result (λ t. t ≡ record { posted = 0; got = 0; sum = 0; amounts = amounts; pad = pad }) }
     {
         Tally::of_parts((0, (0, (0, (amounts, pad)))))
     }
 
+    /// A tally with these amounts, and so many bytes of padding, all of them 0.
+    ///
+    /// # Errors
+    ///
+    /// Out of memory, or past a limit.
+    pub fn with_amounts(alloc: A, amounts: &[u32], pad: usize) -> Result<Self, AllocError>
+    where
+        A: Copy,
+        ensures value { IfOk result (λ t. t ≡ record { posted = 0; got = 0; sum = 0; amounts = amounts.now; pad = replicate pad 0 }) }
+    {
+        let amounts = Items::new(Vec::from_slice(alloc, amounts)?);
+        Tally::new(amounts, zeros(alloc, pad)?).ok_or(AllocError)
+    }
+
     /// The sum of the amounts that it has got.
-    pub(crate) fn sum(&self) -> u64
+    pub fn sum(&self) -> u64
         ensures value { result ≡ self.now.sum }
     {
         self.sum
@@ -86,7 +101,7 @@ impl<A: Allocator + Copy> Pup<A> for Tally<A> {
     ghost use Rattle.std.specs.Prelude.{◌≡◌, refl, true};
     ghost use Rattle.pup_pack.specs.Structs.{made, judged};
     ghost use Rattle.pup_pack.specs.Trips.{bytes_trips, judged_trips, list_trips, pair_trips, struct_trips, u32_trips, u64_trips};
-    ghost use Rattle.runtime_tests.specs.Tallies.{is_tally, of_parts, parts};
+    ghost use Rattle.sample_chares.specs.Tallies.{is_tally, of_parts, parts};
 
     ghost fits = { λ t. ⟦<Parts<A> as Pup<A>>⟧.fits (parts t) × (is_tally t ≡ true) };
 
@@ -122,7 +137,7 @@ impl<A: Allocator + Copy> Pup<A> for Tally<A> {
 }
 
 impl<A: Allocator + Copy> Chare<A> for Tally<A> {
-    ghost use Rattle.runtime_tests.specs.Tallies.{TallyRefuses, tally_packs, tally_step};
+    ghost use Rattle.sample_chares.specs.Tallies.{TallyRefuses, tally_packs, tally_step};
 
     ghost step = { tally_step };
 
@@ -168,32 +183,4 @@ impl<A: Allocator + Copy> Chare<A> for Tally<A> {
             finished: false,
         })
     }
-}
-
-// A tally with one of two amounts posted, one got, the sum 7, the amounts 5 and 6, and the padding 9.
-const PACKED: [u8; 33] = [
-    0, 0, 0, 1, 0, 0, 0, 1, 0, 0, 0, 0, 0, 0, 0, 7, 0, 0, 0, 2, 0, 0, 0, 5, 0, 0, 0, 6, 0, 0, 0, 1,
-    9,
-];
-
-#[test]
-fn a_tally_packs_and_unpacks(rt: HostRuntime) {
-    let (tally, len) = <Tally as Pup<Global>>::unpack(rt.alloc(), &PACKED).expect(&rt, "no tally");
-    assert!(rt; len == 33 && tally.packed_len() == 33 && tally.sum() == 7);
-    let mut out = Vec::new(rt.alloc());
-    assert!(rt; tally.pack_into(&mut out).is_ok());
-    assert!(rt; out.as_slice() == PACKED.as_slice());
-}
-
-// How a tally with so many amounts posted is refused, or `None` where it is one.
-fn refusal(alloc: Global, posted: u8) -> Option<PupError> {
-    let mut bytes = PACKED;
-    bytes[3] = posted;
-    <Tally as Pup<Global>>::unpack(alloc, &bytes).err()
-}
-
-#[test]
-fn more_posted_than_there_are_is_no_tally(rt: HostRuntime) {
-    assert!(rt; refusal(rt.alloc(), 2).is_none(), "2 posted");
-    assert!(rt; refusal(rt.alloc(), 3) == Some(PupError::Bad), "3 posted");
 }

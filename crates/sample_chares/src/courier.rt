@@ -1,20 +1,21 @@
-//! A chare of the tests that sends one body at each resumption, wherever it is told to, and finishes on a letter.
+//! A chare that sends one body at each resumption, wherever it is told to, and finishes on a letter.
 
-ghost use Rattle.std.specs.Prelude.{◌≡◌, ◌↔◌, [], ◌∷◌, ◌⊎◌, ◌≤◌, false, IfSome, IsNone, IsTrue, IfErr, MatchResult, OnOk, OnErr};
+ghost use Rattle.std.specs.Prelude.{◌≡◌, ◌↔◌, [], ◌∷◌, ◌⊎◌, ◌≤◌, replicate, false, IfOk, IfSome, IsNone, IsTrue, IfErr, MatchResult, OnOk, OnErr};
 ghost use Rattle.chare_index.specs.declared.limits.TheConstants.Limits.{ELEMENTS};
 ghost use Rattle.chares.specs.declared.sends.SendError.TheVariants.{Stranger, TooLong};
 ghost use Rattle.chares.specs.Posting.{posted, RefusesPut, IsPost};
-ghost use Rattle.runtime_tests.specs.Couriers.{is_courier, of_parts};
+ghost use Rattle.sample_chares.specs.Couriers.{is_courier, of_parts};
 
+use crate::zeros::zeros;
 use chare_index::{Gate, Index, Round};
 use chares::{Chare, Effect, Here, SendError, Sends};
 use pup_pack::{Bytes, Fields, Pup, PupError};
-use std::alloc::{Allocator, Global};
+use std::alloc::{AllocError, Allocator, Global};
 use std::marker::Model;
 
 /// A chare that sends one body at each resumption, and is then ready to be balanced. On a letter it finishes.
 #[derive(Drop)]
-pub(crate) struct Courier<A: Allocator = Global> {
+pub struct Courier<A: Allocator = Global> {
     to: u32,
     goes_on: u32,
     body: Bytes<A>,
@@ -22,7 +23,7 @@ pub(crate) struct Courier<A: Allocator = Global> {
 
 impl<A: Allocator> Model for Courier<A> {
     ghost use Rattle.std.specs.Prelude.{◌≡◌, true};
-    ghost use Rattle.runtime_tests.specs.Couriers.{CourierView, is_courier};
+    ghost use Rattle.sample_chares.specs.Couriers.{CourierView, is_courier};
 
     ghost Value = { CourierView };
 
@@ -37,10 +38,22 @@ type Parts<A> = (u32, (u32, Bytes<A>));
 impl<A: Allocator> Courier<A> {
     /// A courier to this element, with a body of at most 65,536 bytes, that goes on where its send is refused if
     /// `goes_on` is 1.
-    pub(crate) fn new(to: u32, goes_on: u32, body: Bytes<A>) -> Option<Self>
+    pub fn new(to: u32, goes_on: u32, body: Bytes<A>) -> Option<Self>
         ensures value { IfSome result (λ c. c ≡ record { to = to; goes_on = goes_on; body = body }) }
     {
         Courier::of_parts((to, (goes_on, body)))
+    }
+
+    /// A courier to this element, with a body of this length, all of it 0, that goes on where its send is refused if
+    /// `goes_on` is 1.
+    ///
+    /// # Errors
+    ///
+    /// Out of memory, or past the limit.
+    pub fn with_zeros(alloc: A, to: u32, goes_on: u32, len: usize) -> Result<Self, AllocError>
+        ensures value { IfOk result (λ c. c ≡ record { to = to; goes_on = goes_on; body = replicate len 0 }) }
+    {
+        Courier::new(to, goes_on, zeros(alloc, len)?).ok_or(AllocError)
     }
 
     // The courier with these fields, or `None` past the limit.
@@ -80,7 +93,7 @@ impl<A: Allocator + Copy> Pup<A> for Courier<A> {
     ghost use Rattle.std.specs.Prelude.{◌≡◌, refl, true};
     ghost use Rattle.pup_pack.specs.Structs.{made, judged};
     ghost use Rattle.pup_pack.specs.Trips.{bytes_trips, judged_trips, pair_trips, struct_trips, u32_trips};
-    ghost use Rattle.runtime_tests.specs.Couriers.{is_courier, of_parts, parts};
+    ghost use Rattle.sample_chares.specs.Couriers.{is_courier, of_parts, parts};
 
     ghost fits = { λ c. ⟦<Parts<A> as Pup<A>>⟧.fits (parts c) × (is_courier c ≡ true) };
 
@@ -108,7 +121,7 @@ impl<A: Allocator + Copy> Pup<A> for Courier<A> {
 }
 
 impl<A: Allocator + Copy> Chare<A> for Courier<A> {
-    ghost use Rattle.runtime_tests.specs.Couriers.{CourierRefuses, courier_packs, courier_step};
+    ghost use Rattle.sample_chares.specs.Couriers.{CourierRefuses, courier_packs, courier_step};
 
     ghost step = { courier_step };
 

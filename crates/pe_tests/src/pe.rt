@@ -3,18 +3,18 @@
 
 ghost use Rattle.std.specs.Prelude.{◌≡◌, ◌∷◌, [], length, slice_get, Some};
 
-use crate::fixtures::{self, assert_for, index, pe, round};
-use crate::tally::Tally;
+use crate::fixtures::{assert_for, index, pe, round};
 use chare_index::NoGate;
 use chares::{Mark, Note, Openings};
 use pe_state::{Acted, Parcel, PeState};
+use sample_chares::Tally;
 use std::marker::Brand;
 use std::mem::size_of;
 use std::process::Abort;
 
 // A tally with these amounts, and no padding.
 fn tally(rt: &(impl Abort + AllocGlobal), amounts: &[u32]) -> Tally {
-    fixtures::tally(rt.alloc(), amounts, 0).expect(rt, "no tally")
+    Tally::with_amounts(rt.alloc(), amounts, 0).expect(rt, "no tally")
 }
 
 // Resumes an element after a round, or starts it.

@@ -1,26 +1,26 @@
-//! A chare of the tests that starts a letter in each round, and hands on the rest of each letter that it gets.
+//! A chare that starts a letter in each round, and hands on the rest of each letter that it gets.
 
-ghost use Rattle.std.specs.Prelude.{◌≡◌, ◌+◌, ◌%◌, ◌<◌, ◌≤◌, ◌↔◌, false, IfSome, IsNone};
+ghost use Rattle.std.specs.Prelude.{◌≡◌, ◌+◌, ◌%◌, ◌<◌, ◌≤◌, ◌↔◌, false, IfOk, IfSome, IsNone};
 ghost use Rattle.chare_index.specs.declared.limits.TheConstants.Limits.{ELEMENTS};
-ghost use Rattle.runtime_tests.specs.Relays.{is_relay, of_parts};
+ghost use Rattle.sample_chares.specs.Relays.{is_relay, of_parts};
 
 use chare_index::{Gate, Index, Limits, Round};
 use chares::{Chare, Effect, Here, SendError, Sends};
 use pup_pack::{Bytes, Fields, Pup, PupError};
-use std::alloc::{Allocator, Global};
+use std::alloc::{AllocError, Allocator, Global};
 use std::marker::Model;
 
 /// A chare that starts a letter to its neighbor in each of so many rounds. The first byte of a letter that it gets is
 /// its work, and says how many elements further on the rest of the letter goes.
 #[derive(Drop)]
-pub(crate) struct Relay<A: Allocator = Global> {
+pub struct Relay<A: Allocator = Global> {
     left: u32,
     body: Bytes<A>,
 }
 
 impl<A: Allocator> Model for Relay<A> {
     ghost use Rattle.std.specs.Prelude.{◌≡◌, true};
-    ghost use Rattle.runtime_tests.specs.Relays.{RelayView, is_relay};
+    ghost use Rattle.sample_chares.specs.Relays.{RelayView, is_relay};
 
     ghost Value = { RelayView };
 
@@ -34,10 +34,22 @@ type Parts<A> = (u32, Bytes<A>);
 
 impl<A: Allocator> Relay<A> {
     /// A relay with so many rounds left, whose letters have this body, or `None` where that is longer than one may be.
-    pub(crate) fn new(left: u32, body: Bytes<A>) -> Option<Self>
+    pub fn new(left: u32, body: Bytes<A>) -> Option<Self>
         ensures value { IfSome result (λ r. r ≡ record { left = left; body = body }) }
     {
         Relay::of_parts((left, body))
+    }
+
+    /// A relay with so many rounds left, whose letters have this body.
+    ///
+    /// # Errors
+    ///
+    /// Out of memory, or past the limit.
+    pub fn with_body(alloc: A, left: u32, body: &[u8]) -> Result<Self, AllocError>
+        ensures value { IfOk result (λ r. r ≡ record { left = left; body = body.now }) }
+    {
+        let body = Bytes::new(Vec::from_slice(alloc, body)?);
+        Relay::new(left, body).ok_or(AllocError)
     }
 
     // The relay with these fields, or `None` past the limit.
@@ -66,7 +78,7 @@ impl<A: Allocator + Copy> Pup<A> for Relay<A> {
     ghost use Rattle.std.specs.Prelude.{◌≡◌, refl, true};
     ghost use Rattle.pup_pack.specs.Structs.{made, judged};
     ghost use Rattle.pup_pack.specs.Trips.{bytes_trips, judged_trips, pair_trips, struct_trips, u32_trips};
-    ghost use Rattle.runtime_tests.specs.Relays.{is_relay, of_parts, parts};
+    ghost use Rattle.sample_chares.specs.Relays.{is_relay, of_parts, parts};
 
     ghost fits = { λ r. ⟦<Parts<A> as Pup<A>>⟧.fits (parts r) × (is_relay r ≡ true) };
 
@@ -94,7 +106,7 @@ impl<A: Allocator + Copy> Pup<A> for Relay<A> {
 }
 
 impl<A: Allocator + Copy> Chare<A> for Relay<A> {
-    ghost use Rattle.runtime_tests.specs.Relays.{RelayRefuses, relay_packs, relay_step};
+    ghost use Rattle.sample_chares.specs.Relays.{RelayRefuses, relay_packs, relay_step};
 
     ghost step = { relay_step };
 

@@ -1,0 +1,33 @@
+//! A tally, packed and unpacked.
+
+use pup_pack::{Pup, PupError};
+use sample_chares::Tally;
+use std::alloc::Global;
+
+// A tally with one of two amounts posted, one got, the sum 7, the amounts 5 and 6, and the padding 9.
+const PACKED: [u8; 33] = [
+    0, 0, 0, 1, 0, 0, 0, 1, 0, 0, 0, 0, 0, 0, 0, 7, 0, 0, 0, 2, 0, 0, 0, 5, 0, 0, 0, 6, 0, 0, 0, 1,
+    9,
+];
+
+#[test]
+fn a_tally_packs_and_unpacks(rt: HostRuntime) {
+    let (tally, len) = <Tally as Pup<Global>>::unpack(rt.alloc(), &PACKED).expect(&rt, "no tally");
+    assert!(rt; len == 33 && tally.packed_len() == 33 && tally.sum() == 7);
+    let mut out = Vec::new(rt.alloc());
+    assert!(rt; tally.pack_into(&mut out).is_ok());
+    assert!(rt; out.as_slice() == PACKED.as_slice());
+}
+
+// How a tally with so many amounts posted is refused, or `None` where it is one.
+fn refusal(alloc: Global, posted: u8) -> Option<PupError> {
+    let mut bytes = PACKED;
+    bytes[3] = posted;
+    <Tally as Pup<Global>>::unpack(alloc, &bytes).err()
+}
+
+#[test]
+fn more_posted_than_there_are_is_no_tally(rt: HostRuntime) {
+    assert!(rt; refusal(rt.alloc(), 2).is_none(), "2 posted");
+    assert!(rt; refusal(rt.alloc(), 3) == Some(PupError::Bad), "3 posted");
+}
