@@ -455,7 +455,7 @@ fn the_error_has_its_number_and_text(rt: HostRuntime) {
         error == PlanError::OutOfMemory && error as u8 == 2,
         error,
     );
-    let text = format!(in rt.alloc(); "{error}").expect(&rt, "out of memory");
+    let text = error.to_string(rt.alloc()).expect(&rt, "out of memory");
     assert_for(&rt, text.as_str() == "out of memory", text.as_str());
     drop(text);
 }

@@ -270,10 +270,10 @@ pub(crate) fn decision(rt: &(impl Abort + AllocGlobal)) -> Decision {
 }
 
 /// The cuts and the stops of the example's decision.
-pub(crate) const DIVISION: (&[u32], &[u32]) = (&[0, 2, 3], &[0, 1, 2]);
+pub(crate) static DIVISION: (&[u32], &[u32]) = (&[0, 2, 3], &[0, 1, 2]);
 
 /// Its names, and its prices of blocks and of PEs.
-pub(crate) const NAMING: (&[u32], &[i64], &[i64]) = (&[1, 0], &[10, 1], &[-1, 0]);
+pub(crate) static NAMING: (&[u32], &[i64], &[i64]) = (&[1, 0], &[10, 1], &[-1, 0]);
 
 /// Its bytes moved, and its moves.
-pub(crate) const MOVING: (u64, &[(u32, u32, u32)]) = (10, &[(0, 0, 1)]);
+pub(crate) static MOVING: (u64, &[(u32, u32, u32)]) = (10, &[(0, 0, 1)]);

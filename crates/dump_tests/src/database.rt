@@ -284,7 +284,7 @@ type Said = (DbError, u8, &'static str);
 
 fn is_said(rt: &(impl Abort + AllocGlobal), row: &Said) -> bool {
     let &(error, number, text) = row;
-    let said = format!(in rt.alloc(); "{error}").expect(rt, "out of memory");
+    let said = error.to_string(rt.alloc()).expect(rt, "out of memory");
     let same = error as u8 == number && said.as_str() == text;
     drop(said);
     same

@@ -1,6 +1,6 @@
 //! Dumps, read and written.
 
-use crate::fixtures::{Lent, assert_requests, same, snapshot};
+use crate::fixtures::{Lent, assert_requests, assert_requests_on, same, snapshot};
 use lb_certificates::Snapshot;
 use lb_dump::{DumpError, DumpReader, decode, encode, read_from};
 use refusing_alloc::Outcome;
@@ -86,21 +86,25 @@ fn read_byte_by_byte(rt: HostRuntime) {
     assert_requests(&rt, byte_by_byte, 6, things);
 }
 
-// Whether the example is encoded as it should be.
-fn is_encoded<A: Allocator>(alloc: A, example: &Snapshot) -> Result<bool, AllocError> {
-    let text = encode(alloc, example)?;
-    let right = same(text.as_slice(), &EXAMPLE_DUMP);
-    drop(text);
-    Ok(right)
+// What a text comes to, which is to be that of the example.
+fn is_encoded<A: Allocator>(answer: Result<Vec<u8, A>, AllocError>) -> Outcome {
+    let outcome = match &answer {
+        Ok(text) if same(text.as_slice(), &EXAMPLE_DUMP) => Outcome::Right,
+        Ok(_) => Outcome::Wrong,
+        Err(AllocError) => Outcome::Refused,
+    };
+    drop(answer);
+    outcome
 }
 
-fn encodes<A: Allocator>(alloc: A, example: &Snapshot) -> Outcome {
-    Outcome::from(is_encoded(alloc, example))
+// What the text of the example comes to.
+fn encodes(alloc: Lent<'_>, example: &Snapshot) -> Outcome {
+    is_encoded(encode(alloc, example))
 }
 
 #[test]
 fn encoded(rt: HostRuntime) {
     let example = snapshot(&rt, rt.alloc());
-    assert_requests(&rt, |alloc| encodes(alloc, &example), 1, "the text");
+    assert_requests_on(&rt, encodes, &example, 1, "the text");
     drop(example);
 }

@@ -5,9 +5,9 @@ ghost use Rattle.std.specs.Prelude.{◌≡◌, true};
 
 use block_assignment::CostTable;
 use chain_partition::Prefix;
-use lb_certificates::{Cuts, Loads, Snapshot};
+use lb_certificates::{Cuts, Loads, Sizes, Snapshot};
 use refusing_alloc::{Outcome, Refusing, each_refusal};
-use std::alloc::{Allocator, Global};
+use std::alloc::{AllocError, Allocator, Global};
 use std::fmt::Debug;
 use std::process::Abort;
 use test_fixtures::{example, example_sizes};
@@ -49,6 +49,18 @@ pub(crate) fn cuts(rt: &(impl Abort + AllocGlobal)) -> Cuts {
     Cuts::new(Vec::from_slice(rt.alloc(), &[0, 2, 3]).expect(rt, "out of memory"))
 }
 
+/// The table of the costs of two blocks, or `None` where these cuts divide the elements into no two.
+pub(crate) fn table_of<A: Allocator + Copy>(
+    alloc: A,
+    sizes: &Sizes,
+    cuts: &Cuts,
+) -> Option<Result<CostTable<A>, AllocError>> {
+    if cuts.as_slice().len() != 3 || !cuts.divides(sizes.len()) {
+        return None;
+    }
+    Some(CostTable::of(alloc, sizes, cuts))
+}
+
 /// The table of the costs of the example's two blocks.
 pub(crate) fn table<A: Allocator + Copy>(
     rt: &(impl Abort + AllocGlobal),
@@ -56,12 +68,10 @@ pub(crate) fn table<A: Allocator + Copy>(
 ) -> CostTable<A> {
     let sizes = example_sizes(rt.alloc()).expect(rt, "out of memory");
     let cuts = cuts(rt);
-    let divided = cuts.as_slice().len() == 3 && cuts.divides(sizes.len());
-    assert_for(rt, divided, "two blocks");
-    let table = CostTable::of(alloc, &sizes, &cuts).expect(rt, "out of memory");
+    let table = table_of(alloc, &sizes, &cuts);
     drop(cuts);
     drop(sizes);
-    table
+    table.expect(rt, "two blocks").expect(rt, "out of memory")
 }
 
 /// Whether these are the same items.
@@ -81,4 +91,17 @@ pub(crate) fn assert_requests<F: Fn(&Refusing<Global>) -> Outcome>(
     let refusals = each_refusal(rt.alloc(), MOST_TURNS, attempt);
     let refusals = refusals.expect(rt, "a refusal was not told");
     assert_for(rt, refusals == requests, (things, refusals, requests));
+}
+
+/// Asserts the same of an attempt that reads what was made before it, with memory of its own.
+pub(crate) fn assert_requests_on<T, F: Fn(&Refusing<Global>, &T) -> Outcome>(
+    rt: &(impl Abort + AllocGlobal),
+    attempt: F,
+    on: &T,
+    requests: u64,
+    things: &str,
+)
+    requires callable { F.IsAlwaysCallable attempt }
+{
+    assert_requests(rt, |alloc| attempt(alloc, on), requests, things);
 }

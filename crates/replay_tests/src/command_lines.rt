@@ -6,7 +6,6 @@ use lb_replay::Asked;
 use std::alloc::Global;
 
 // Words, and what they ask for.
-#[derive(Clone, Copy, Debug)]
 struct Asking {
     words: &'static [&'static str],
     file: &'static str,
@@ -66,12 +65,11 @@ static ASKING: [Asking; 8] = [
 #[test]
 fn words_that_ask(rt: HostRuntime) {
     for row in &ASKING {
-        assert_for(&rt, is_asked(rt.alloc(), row), row);
+        assert_for(&rt, is_asked(rt.alloc(), row), row.words);
     }
 }
 
 // Words that ask for no replay, and the status for them.
-#[derive(Clone, Copy, Debug)]
 struct Refused {
     words: &'static [&'static str],
     status: u8,
@@ -126,6 +124,6 @@ static REFUSED: [Refused; 9] = [
 #[test]
 fn words_that_are_refused(rt: HostRuntime) {
     for row in &REFUSED {
-        assert_for(&rt, is_refused(rt.alloc(), row), row);
+        assert_for(&rt, is_refused(rt.alloc(), row), row.words);
     }
 }

@@ -41,7 +41,6 @@ fn no_bytes_and_other_letters(rt: HostRuntime) {
 }
 
 // A byte that the example has at a place, the line that is written then, and its fault.
-#[derive(Debug)]
 struct Changed {
     place: usize,
     byte: u8,
@@ -86,7 +85,7 @@ fn a_changed_byte_is_reported(rt: HostRuntime) {
         },
     ];
     for row in &ROWS {
-        assert_for(&rt, is_reported(&rt, row), row);
+        assert_for(&rt, is_reported(&rt, row), row.line);
     }
 }
 
