@@ -1,6 +1,7 @@
 -- A dump that comes from a reader, piece by piece.
-use Rattle.std.proofs.Common.{◌≡◌, ℕ, ◌⊎◌, inl, inr, List, [], ◌++◌, Option, Some, None, Result, Ok, Err, ap, ◌∙◌, sym, subst}
-use Rattle.std.specs.Prelude.{IfErr, IfSome, ⊤}
+use Rattle.std.proofs.Common.{◌≡◌, ℕ, ◌⊎◌, inl, inr, List, [], ◌++◌, Option, Some, None, Result, Ok, Err, ap, ◌∙◌, refl, sym, subst}
+use Rattle.std.specs.Prelude.{IfErr, IfOk, IfSome, IsErrOf, OnOk, ⊤}
+use Rattle.std.specs.Result.{IsErr, IsErrAnd}
 use Rattle.std.specs.Io.KnownBytes.{Consumes, IsAtEnd}
 use Rattle.std.proofs.KnownBytes.{Consumes-trans}
 use Rattle.std.proofs.lemmas.List.{append-nil}
@@ -8,7 +9,7 @@ use Rattle.lb_snapshot.specs.Measured.{Taken}
 use Rattle.lb_dump.specs.declared.error.DumpError.{DumpError}
 use Rattle.lb_dump.specs.declared.error.DumpError.TheVariants.{Magic, Short, Procs, Count, Size, Place, Trailing, Read, Write, OutOfMemory}
 use Rattle.lb_dump.specs.Faults.{IsBroken, IsFault}
-use Rattle.lb_dump.specs.Reading.{Progress, Feeds, EndsText, IsAnswer}
+use Rattle.lb_dump.specs.Reading.{Progress, Feeds, EndsReading, EndsText, IsAnswer}
 use Rattle.lb_dump.proofs.GoodTexts.{broken_append}
 
 -- a fault that a byte brings is the first one of the text
@@ -78,3 +79,33 @@ all_answered (Some bytes) None text result came end ends = absurd came
 all_answered (Some bytes) (Some rest) text result came end ends =
     let all : bytes ≡ text = came ∙ ap (λ r. text ++ r) end ∙ append-nil text in
     inr (subst (λ t. IsAnswer t result) (sym all) (answer_at_end text result ends))
+
+-- nothing is owed for an answer that does not come
+module _ {T E : Type 0} where
+  pub no_answer : (r : Result T E) (P : Type 0) → IsErr r → OnOk r P
+  no_answer (Ok x) P h = cc
+  no_answer (Err e) P h = tt
+
+  pub no_value : (r : Result T E) (P : T → Type 0) → IsErr r → IfOk r P
+  no_value (Ok x) P h = cc
+  no_value (Err e) P h = tt
+
+  -- what holds however the call ends
+  pub whatever : (r : Result T E) (P : Type 0) → P → OnOk r P
+  whatever (Ok x) P h = h
+  whatever (Err e) P h = tt
+
+-- an error passed on is the one that the call returned
+pub passed_on : {T : Type 0} (r : Result T DumpError) (error e : DumpError) (P : Type 0) → IsErrAnd r (λ f. f ≡ error) → (error ≡ e → P) → IsErrOf r e → P
+passed_on (Ok x) error e P is then failed = absurd is
+passed_on (Err f) error e P is then failed = then (cc)
+
+-- the end of a text is no failure of the reader
+pub no_failure : (r : Result Taken DumpError) (dump : Progress) (text : List ℕ) (P : Type 0) → dump ≡ Ok text → EndsReading dump r → IsErrOf r Read → P
+no_failure r dump text P is ends failed =
+    absurd (subst (λ (p : Progress). EndsReading p (Err Read)) is (subst (λ (a : Result Taken DumpError). EndsReading dump a) failed ends))
+
+-- the reader failed, whatever bytes it had
+pub read_failed : (old : Option (List ℕ)) → IfSome old (λ bytes. (Read ≡ Read) ⊎ ((Read ≡ OutOfMemory) ⊎ IsFault bytes Read))
+read_failed None = tt
+read_failed (Some bytes) = inl refl

@@ -23,7 +23,6 @@ const CALLS: u32 = 16_777_216;
 /// # Errors
 ///
 /// The first fault of the bytes from left to right, or [`OutOfMemory`](DumpError::OutOfMemory).
-#[tactic(auto, using(crate::proofs::OneText::answered, crate::proofs::OneText::refused))]
 pub fn decode<A: Allocator + Copy>(alloc: A, bytes: &[u8]) -> Result<Snapshot<A>, DumpError>
     ensures answer { IsAnswer bytes.now result }
     ensures again { (s : Taken) → IsText s bytes.now → MatchResult result (λ t. t ≡ s) (λ e. e ≡ DumpError.OutOfMemory) }

@@ -1,6 +1,6 @@
 use Rattle.std.proofs.Common.{◌≡◌, subst, [], Ok}
 use Rattle.std.proofs.lemmas.Result.{err_from_is_err_and}
-use Rattle.lb_dump.specs.Reading.{IsAnswer, EndsReading, Progress}
+use Rattle.lb_dump.specs.Reading.{EndsReading, Progress}
 use Rattle.lb_dump.proofs.OneText.{answered, refused}
 use Rattle.lb_dump.proofs.ReadPieces.{fed, fed_fault, answer_at_end}
 use Rattle.lb_dump.proofs.decoding.decode.Goals as goal
@@ -18,8 +18,13 @@ pub returns-in_err-feed-clause-first : goal.returns-in_err-feed-clause-first
 returns-in_err-feed-clause-first g c =
     λ e fault. refused c.args.bytes.now e c.from_residual.result (returns-in_err-feed-clause-answer g c) fault
 
-pub returns-clause-again : goal.returns-clause-again
-returns-clause-again g c =
+pub returns-clause-answer : goal.returns-clause-answer
+returns-clause-answer g c =
     let text : c.feed.new.self ≡ Ok c.args.bytes.now = fed [] c.args.bytes.now c.new-reader.result c.feed.new.self c.new-reader.ensures.value c.in_ok-feed.ensures.fed in
-    let answer : IsAnswer c.args.bytes.now c.end.result = answer_at_end c.args.bytes.now c.end.result (subst (λ (p : Progress). EndsReading p c.end.result) text c.end.ensures.ends) in
-    λ s is. answered s c.args.bytes.now c.end.result answer is
+    answer_at_end c.args.bytes.now c.end.result (subst (λ (p : Progress). EndsReading p c.end.result) text c.end.ensures.ends)
+
+pub returns-clause-again : goal.returns-clause-again
+returns-clause-again g c = λ s is. answered s c.args.bytes.now c.end.result (returns-clause-answer g c) is
+
+pub returns-clause-first : goal.returns-clause-first
+returns-clause-first g c = λ e fault. refused c.args.bytes.now e c.end.result (returns-clause-answer g c) fault

@@ -1,8 +1,8 @@
 use Rattle.std.proofs.Common.{◌++◌, ◌∙◌, ap, take, subst, Ok, Err, arith}
-use Rattle.std.proofs.KnownBytes.{Consumes-trans}
+use Rattle.std.proofs.KnownBytes.{Consumes-kept, Consumes-trans}
 use Rattle.std.proofs.lemmas.Result.{err_from_is_err_and}
 use Rattle.lb_dump.specs.Reading.{Feeds, Progress}
-use Rattle.lb_dump.proofs.ReadPieces.{fed_broken, faulted}
+use Rattle.lb_dump.proofs.ReadPieces.{fed_broken, faulted, no_answer, read_failed}
 use Rattle.lb_dump.proofs.decoding.feed_from.Goals as goal
 
 pub returns-in_err-feed-clause-fault : goal.returns-in_err-feed-clause-fault
@@ -22,3 +22,22 @@ loop-preserved g c =
 -- a failure is no end
 pub returns-in_default-clause-ended : goal.returns-in_default-clause-ended
 returns-in_default-clause-ended g c = tt
+
+pub returns-in_default-clause-fault : goal.returns-in_default-clause-fault
+returns-in_default-clause-fault g c = read_failed _
+
+pub returns-in_default-clause-failed : goal.returns-in_default-clause-failed
+returns-in_default-clause-failed g c =
+    let before = c.loop.invariant in
+    λ _. (before.0, Consumes-kept _ _ _ before.0 before.2 c.in_default.ensures.bytes, before.3)
+
+pub returns-in_err-feed-clause-ended : goal.returns-in_err-feed-clause-ended
+returns-in_err-feed-clause-ended g c = no_answer _ _ c.from_residual.ensures.0
+
+pub returns-clause-fault : goal.returns-clause-fault
+returns-clause-fault g c = read_failed _
+
+pub returns-clause-failed : goal.returns-clause-failed
+returns-clause-failed g c =
+    let before = c.loop.invariant in
+    λ _. (before.0, before.2, before.3)

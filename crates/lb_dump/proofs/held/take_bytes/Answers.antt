@@ -4,6 +4,7 @@ use Rattle.std.proofs.lemmas.Result.{err_from_is_err_and}
 use Rattle.lb_dump.specs.Held.{text_of}
 use Rattle.lb_dump.proofs.GoodTexts.{refused_by, whole_len-append}
 use Rattle.lb_dump.proofs.HeldFacts.{text-length}
+use Rattle.lb_dump.proofs.ReadPieces.{no_answer}
 use Rattle.lb_dump.proofs.held.take_bytes.Goals as goal
 
 pub returns-in_err-take_part-clause-broken : goal.returns-in_err-take_part-clause-broken
@@ -26,3 +27,12 @@ returns-clause-taken g c = grind (arith, common_steps)
 
 pub returns-clause-broken : goal.returns-clause-broken
 returns-clause-broken g c = grind (arith, common_steps)
+
+pub returns-in_err-take_part-clause-taken : goal.returns-in_err-take_part-clause-taken
+returns-in_err-take_part-clause-taken g c = no_answer _ _ c.from_residual.ensures.0
+
+pub returns-then-is_empty-clause-taken : goal.returns-then-is_empty-clause-taken
+returns-then-is_empty-clause-taken g c = c.take_run.ensures.taken
+
+pub returns-then-is_empty-clause-broken : goal.returns-then-is_empty-clause-broken
+returns-then-is_empty-clause-broken g c = c.take_run.ensures.broken

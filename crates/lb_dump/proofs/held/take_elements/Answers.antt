@@ -4,6 +4,7 @@ use Rattle.lb_dump.specs.Format.{whole_len}
 use Rattle.lb_dump.specs.Held.{text_of}
 use Rattle.lb_dump.proofs.GoodTexts.{refused_by, surplus, whole_len-append}
 use Rattle.lb_dump.proofs.HeldFacts.{text-length}
+use Rattle.lb_dump.proofs.ReadPieces.{no_answer}
 use Rattle.lb_dump.proofs.held.take_elements.Goals as goal
 
 pub returns-then-room-eq0-clause-taken : goal.returns-then-room-eq0-clause-taken
@@ -35,3 +36,12 @@ returns-else-is_empty-clause-broken g c =
     grind (arith, more, whole_len-append text front grown taken (omega (arith, text-length c.args.held.now c.requires.held, c.requires.headed)), ap length taken, length-append text front, ap length parts, length-append front rest, c.missing-room.ensures) in
     let all : grown ++ rest ≡ text ++ c.args.piece.now = ap (λ (t : List ℕ). t ++ rest) taken ∙ append_assoc text front rest ∙ ap (λ (p : List ℕ). text ++ p) (sym parts) in
     inr (surplus grown rest (text ++ c.args.piece.now) all c.in_ok-take_bytes.ensures.taken.1.good whole more)
+
+pub returns-in_err-take_bytes-clause-taken : goal.returns-in_err-take_bytes-clause-taken
+returns-in_err-take_bytes-clause-taken g c = no_answer _ _ c.from_residual.ensures.0
+
+pub returns-else-is_empty-clause-taken : goal.returns-else-is_empty-clause-taken
+returns-else-is_empty-clause-taken g c = tt
+
+pub returns-else-is_empty-clause-full : goal.returns-else-is_empty-clause-full
+returns-else-is_empty-clause-full g c = λ _. refl

@@ -1,6 +1,7 @@
 use Rattle.std.proofs.Common.{◌≡◌, ◌++◌, List, ℕ, ap, sym, inr, ◌∙◌, append_assoc}
 use Rattle.std.proofs.lemmas.Result.{err_from_is_err_and}
 use Rattle.lb_dump.proofs.GoodTexts.{broken_by}
+use Rattle.lb_dump.proofs.ReadPieces.{no_answer, no_value}
 use Rattle.lb_dump.proofs.reader.take_head.Goals as goal
 
 pub returns-in_err-judge_head-clause-broken : goal.returns-in_err-judge_head-clause-broken
@@ -18,3 +19,27 @@ returns-clause-joined g c =
 
 pub returns-clause-good : goal.returns-clause-good
 returns-clause-good g c = rw c.deref.ensures.value at c.in_ok-judge_head.ensures.first_fault
+
+pub returns-in_err-extend_from_slice-clause-joined : goal.returns-in_err-extend_from_slice-clause-joined
+returns-in_err-extend_from_slice-clause-joined g c = no_value _ _ c.from_residual.ensures.0
+
+pub returns-in_err-extend_from_slice-clause-good : goal.returns-in_err-extend_from_slice-clause-good
+returns-in_err-extend_from_slice-clause-good g c = no_answer _ _ c.from_residual.ensures.0
+
+pub returns-in_err-extend_from_slice-clause-filled : goal.returns-in_err-extend_from_slice-clause-filled
+returns-in_err-extend_from_slice-clause-filled g c = no_value _ _ c.from_residual.ensures.0
+
+pub returns-in_err-extend_from_slice-clause-short : goal.returns-in_err-extend_from_slice-clause-short
+returns-in_err-extend_from_slice-clause-short g c = no_answer _ _ c.from_residual.ensures.0
+
+pub returns-in_err-judge_head-clause-joined : goal.returns-in_err-judge_head-clause-joined
+returns-in_err-judge_head-clause-joined g c = no_value _ _ c.from_residual-in_err-judge_head.ensures.0
+
+pub returns-in_err-judge_head-clause-good : goal.returns-in_err-judge_head-clause-good
+returns-in_err-judge_head-clause-good g c = no_answer _ _ c.from_residual-in_err-judge_head.ensures.0
+
+pub returns-in_err-judge_head-clause-filled : goal.returns-in_err-judge_head-clause-filled
+returns-in_err-judge_head-clause-filled g c = no_value _ _ c.from_residual-in_err-judge_head.ensures.0
+
+pub returns-in_err-judge_head-clause-short : goal.returns-in_err-judge_head-clause-short
+returns-in_err-judge_head-clause-short g c = no_answer _ _ c.from_residual-in_err-judge_head.ensures.0
