@@ -11,7 +11,7 @@ use Rattle.chain_partition.specs.Chosen.{IsChosen}
 use Rattle.chare_index.specs.declared.limits.TheConstants.Limits.{PES}
 use Rattle.lb_certificates.specs.Chain.{IsLeastDivision}
 use Rattle.lb_snapshot.specs.Measured.{Taken}
-use Rattle.lb_certificates.specs.Naming.{blocks_between, IsCheapest}
+use Rattle.lb_certificates.specs.Naming.{blocks_between, IsCheapest, IsLeastNaming}
 use Rattle.lb_database.specs.Measuring.{Measured, IsSnapshotOf, StandBelow, elements, opening}
 use Rattle.lb_database.specs.Refusals.{HasNextRound}
 use Rattle.lb_strategy.specs.Decisions.{IsRight}
@@ -27,8 +27,8 @@ sized loads sizes p d right =
     omega (arith, end, right.named.blocks.divides.ends, right.division.divides.ends)
 
 -- what a plan for the snapshot of a round gives is best
-pub planned_best : {A : Type 0} (m : Measured) (pes r : ℕ) (taken : Taken) (d : Decision A) → r ≡ m.round → IsSnapshotOf m r pes taken → IsRight taken.loads taken.sizes pes d → IsChosen taken.loads pes d.division → IsLeastDivision taken.loads pes d.division.bottleneck d.division.cuts → IsCheapest taken.sizes d.division.cuts pes d.naming → ((i : ℕ) → i < length taken.sizes → HasPlace d.division.cuts d.naming i) → IsDecided (elements m) pes m.round (taken, d)
-planned_best m pes r taken d at_round snapshot right chosen least cheapest places =
+pub planned_best : {A : Type 0} (m : Measured) (pes r : ℕ) (taken : Taken) (d : Decision A) → r ≡ m.round → IsSnapshotOf m r pes taken → IsRight taken.loads taken.sizes pes d → IsChosen taken.loads pes d.division → IsLeastDivision taken.loads pes d.division.bottleneck d.division.cuts → IsCheapest taken.sizes d.division.cuts pes d.naming → IsLeastNaming taken.sizes d.division.cuts pes d.naming → ((i : ℕ) → i < length taken.sizes → HasPlace d.division.cuts d.naming i) → IsDecided (elements m) pes m.round (taken, d)
+planned_best m pes r taken d at_round snapshot right chosen least cheapest least_naming places =
     let all : length taken.loads ≡ elements m = ap length snapshot.loads_charged in
     record {
       at_step = snapshot.at_step ∙ at_round;
@@ -38,6 +38,7 @@ planned_best m pes r taken d at_round snapshot right chosen least cheapest place
       chosen = chosen;
       least = least;
       cheapest = cheapest;
+      least_naming = least_naming;
       places = λ i inside. places i (omega (arith, all, inside, sized taken.loads taken.sizes pes d right));
     }
 

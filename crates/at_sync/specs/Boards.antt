@@ -8,7 +8,7 @@ use Rattle.chare_index.specs.declared.limits.TheConstants.Limits.{PES, ROUND}
 use Rattle.chain_partition.specs.Chosen.{IsChosen}
 use Rattle.lb_certificates.specs.Chain.{IsLeastDivision}
 use Rattle.lb_snapshot.specs.Measured.{Taken}
-use Rattle.lb_certificates.specs.Naming.{IsCheapest}
+use Rattle.lb_certificates.specs.Naming.{IsCheapest, IsLeastNaming}
 use Rattle.lb_database.specs.Measuring.{Measured, IsComplete, IsSnapshotOf, StandBelow, elements, opening, with_charge, with_report}
 use Rattle.lb_strategy.specs.Decisions.{IsRight}
 use Rattle.lb_strategy.specs.Moves.{HasPlace}
@@ -54,8 +54,9 @@ after_decision b kept =
     record b { database = opening (b.database.round + 1) (elements b.database); rounds = b.rounds ++ kept ∷ [] }
 
 -- What is kept of round r is best: the snapshot is one of all n elements on pes PEs, taken at step r; every part of
--- the decision is right for it, and its division is the chosen one. So no division has a lighter heaviest block, no
--- naming of the blocks moves fewer bytes, and each element has a place.
+-- the decision is right for it, its division is the chosen one, and its naming the first of the cheapest. So no division
+-- has a lighter heaviest block, no naming of the blocks moves fewer bytes, each element has a place, and the snapshot
+-- determines all of the decision but its prices.
 pub record IsDecided {A : Type 0} (n pes r : ℕ) (kept : Kept A) : Type 0 where
   pub at_step : kept.0.step ≡ r
   pub on_pes : kept.0.procs ≡ pes
@@ -64,6 +65,7 @@ pub record IsDecided {A : Type 0} (n pes r : ℕ) (kept : Kept A) : Type 0 where
   pub chosen : IsChosen kept.0.loads pes kept.1.division
   pub least : IsLeastDivision kept.0.loads pes kept.1.division.bottleneck kept.1.division.cuts
   pub cheapest : IsCheapest kept.0.sizes kept.1.division.cuts pes kept.1.naming
+  pub least_naming : IsLeastNaming kept.0.sizes kept.1.division.cuts pes kept.1.naming
   pub places : (i : ℕ) → i < n → HasPlace kept.1.division.cuts kept.1.naming i
 
 -- what is kept of each round is best

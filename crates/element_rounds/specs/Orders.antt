@@ -42,7 +42,7 @@ resumption_of (Resumption round) = round ∷ []
 abbrev pub resumptions : List Done → List ℕ
 resumptions journal = flat_map resumption_of journal
 
--- The rounds of an element with this journal, this progress and these marks come in order: what it has not started is in
+-- The rounds of an element with this journal, this progress and these marks come in order: before it has started it is in
 -- round 0 and does not wait; its marks are its stops, and its resumptions are those for the rounds so far.
 pub record IsInOrder (journal : List Done) (p : Progress) (marks : List Mark) : Type 0 where
   pub fresh : p.started ≡ false → (p.round ≡ 0) × (p.synced ≡ false)

@@ -44,8 +44,11 @@ impl<A: Allocator> Model for LoadDb<A> {
 }
 
 impl<A: Allocator> LoadDb<A> {
-    /// A database of `n` elements in round 1, with no units and no reports. The only refusal is
-    /// [`DbError::OutOfMemory`].
+    /// A database of `n` elements in round 1, with no units and no reports.
+    ///
+    /// # Errors
+    ///
+    /// [`DbError::OutOfMemory`] where a list was refused.
     pub fn new(alloc: A, n: u32) -> Result<Self, DbError>
     where
         A: Copy,
@@ -56,8 +59,11 @@ impl<A: Allocator> LoadDb<A> {
         LoadDb::at(alloc, n, Round::new(1).unwrap())
     }
 
-    /// A database of `n` elements in the given round, with no units and no reports. The only refusal is
-    /// [`DbError::OutOfMemory`].
+    /// A database of `n` elements in the given round, with no units and no reports.
+    ///
+    /// # Errors
+    ///
+    /// [`DbError::OutOfMemory`] where a list was refused.
     pub fn at(alloc: A, n: u32, round: Round) -> Result<Self, DbError>
     where
         A: Copy,
@@ -76,7 +82,11 @@ impl<A: Allocator> LoadDb<A> {
     }
 
     /// Adds work units to the load of element `i`, which stops at [`Limits::LOAD`], whether the element has
-    /// reported or not. The only refusal is [`DbError::Stranger`].
+    /// reported or not.
+    ///
+    /// # Errors
+    ///
+    /// [`DbError::Stranger`] where there is no such element.
     pub fn charge(&mut self, i: u32, units: Units) -> Result<(), DbError>
         ensures answer { MatchResult result (λ _. i < elements self.old) (RefusesCharge self.old i) }
         ensures ok { OnOk result (self.new ≡ with_charge self.old i units) }
@@ -92,8 +102,12 @@ impl<A: Allocator> LoadDb<A> {
     }
 
     /// Notes that element `i` waits at its place `pe` for the end of `round`, packed into so many bytes.
-    /// Refusals, the first that applies: [`DbError::Stranger`], [`DbError::WrongRound`] where the database
-    /// is in another round, [`DbError::Twice`], and [`DbError::TooLarge`] above [`Limits::STATE_BYTES`].
+    ///
+    /// # Errors
+    ///
+    /// The first that applies: [`DbError::Stranger`] where there is no such element, [`DbError::WrongRound`] where the
+    /// database is in another round, [`DbError::Twice`] where the element has reported, and [`DbError::TooLarge`] above
+    /// [`Limits::STATE_BYTES`].
     pub fn report(&mut self, i: u32, round: Round, bytes: u32, pe: Pe) -> Result<(), DbError>
         ensures answer { MatchResult result (λ _. IsReport self.old i round bytes) (RefusesReport self.old i round bytes) }
         ensures ok { OnOk result (self.new ≡ with_report self.old i bytes pe) }
@@ -134,8 +148,11 @@ impl<A: Allocator> LoadDb<A> {
     }
 
     /// What a load balancer decides on, taken at `step` of a run on `pes` PEs. All elements have to stand on these,
-    /// which [`stands_on`](LoadDb::stands_on) tests. Refusals: [`DbError::Incomplete`] where an element
-    /// has not reported, then [`DbError::OutOfMemory`].
+    /// which [`stands_on`](LoadDb::stands_on) tests.
+    ///
+    /// # Errors
+    ///
+    /// [`DbError::Incomplete`] where an element has not reported, then [`DbError::OutOfMemory`] where a list was refused.
     pub fn snapshot(&self, step: u32, pes: u32) -> Result<Snapshot<A>, DbError>
     where
         A: Copy,
@@ -169,8 +186,11 @@ impl<A: Allocator> LoadDb<A> {
         Ok(Snapshot::new(step, pes, loads, sizes).unwrap())
     }
 
-    /// Begins the next round, with no units and no reports. Refusals, the first that applies:
-    /// [`DbError::Incomplete`] where an element has not reported, and [`DbError::Worn`] in round
+    /// Begins the next round, with no units and no reports.
+    ///
+    /// # Errors
+    ///
+    /// The first that applies: [`DbError::Incomplete`] where an element has not reported, and [`DbError::Worn`] in round
     /// [`Limits::ROUND`].
     pub fn next_round(&mut self) -> Result<(), DbError>
         ensures answer { MatchResult result (λ _. HasNextRound self.old) (RefusesNextRound self.old) }

@@ -31,7 +31,8 @@ module _ {C : Type 0} (step : Step C) (pack : C → List ℕ) (refuses : Refuses
   RefusesGoingOn p pe b e error =
       IsSome (went_on step pack p pe b e) × MatchOption (due pe b e) ⊥ (λ at. RefusesStep (RefusesResume refuses pe e at.0) error)
 
-  -- the step of a PE is refused only where it is enabled: for memory, or for what a handler may answer
+  -- The step of a PE is refused for memory, or for what a handler may answer: only where it is enabled, or, of the note
+  -- that is handed in, where one is owed. (The board is asked after the room for the report.)
   abbrev pub RefusesAt : {A : Type 0} → (List ℕ → Result (C × ℕ) PupError) → Event → Desk C A → StepError → Type 0
   RefusesAt unpack (Start p e) d error = RefusesStart d.pe e error
   RefusesAt unpack (Look p) d error = ⊥
