@@ -198,7 +198,7 @@ fn is_worn(db: &LoadDb) -> bool {
 }
 
 #[test]
-fn no_elements(rt: HostRuntime) {
+fn the_last_round_of_no_elements_has_no_next(rt: HostRuntime) {
     let mut db = worn(&rt);
     assert_for(&rt, is_worn(&db), "at first");
     assert_for(&rt, db.next_round() == Err(DbError::Worn), "it goes on");

@@ -7,21 +7,22 @@ use lb_replay::Ended;
 use std::io::{self, ErrorKind, Write};
 use test_fixtures::{EXAMPLE_DUMP, Sink, Source};
 
-// Whether a reader that fails at this call is not called again, and its failure is what is written.
-fn ends_at_failure(rt: &impl AllocGlobal, call: usize) -> bool {
-    let mut reader = Source::new(&EXAMPLE_DUMP, 5, Some((call, ErrorKind::Interrupted)));
+// Whether a reader that gives one byte a call, and fails after so many, is not called again, and its failure is what is
+// written.
+fn ends_at_failure(rt: &impl AllocGlobal, bytes: usize) -> bool {
+    let mut reader = Source::new(&EXAMPLE_DUMP, 1, Some((bytes, ErrorKind::Interrupted)));
     let end = Ended::Dump(DumpError::Read);
     let found = ends(rt, &mut reader, None, "dump: read failed\n", end);
-    found && reader.calls == call.saturating_add(1)
+    found && reader.calls == bytes.saturating_add(1)
 }
 
 #[test]
-fn a_reader_that_fails_at_each_call(rt: HostRuntime) {
-    // Eleven calls for the bytes, and one at the end.
-    for call in 0..12 {
-        assert_for(&rt, ends_at_failure(&rt, call), call);
+fn a_reader_that_fails_after_each_byte(rt: HostRuntime) {
+    for bytes in 0..=52 {
+        assert_for(&rt, ends_at_failure(&rt, bytes), bytes);
     }
-    let mut reader = Source::new(&EXAMPLE_DUMP, 5, Some((12, ErrorKind::Interrupted)));
+    // One call for each byte, and one at the end.
+    let mut reader = Source::new(&EXAMPLE_DUMP, 1, Some((53, ErrorKind::Interrupted)));
     let printed = ends(&rt, &mut reader, None, TEXT, Ended::Printed);
     assert_for(&rt, printed, "no failure");
 }

@@ -7,7 +7,7 @@ use chare_index::Limits;
 use lb_replay::{Ended, simulate};
 use std::alloc::Global;
 use std::fmt::Debug;
-use std::io::{Read, Write};
+use std::io::{self, ErrorKind, Read, Write};
 use std::process::Abort;
 use test_fixtures::{Sink, Source};
 
@@ -76,4 +76,9 @@ pub(crate) fn ends<R: Read>(
 /// Whether a replay of these bytes, seven at a time, writes this text and ends so.
 pub(crate) fn replays(rt: &impl AllocGlobal, bytes: &[u8], text: &str, ended: Ended) -> bool {
     ends(rt, &mut Source::new(bytes, 7, None), None, text, ended)
+}
+
+/// The kind of a reason.
+pub(crate) fn kind(reason: Option<io::Error>) -> Option<ErrorKind> {
+    Some(reason?.kind())
 }

@@ -3,13 +3,13 @@
 ghost use Rattle.std.specs.Prelude.{◌≤◌};
 ghost use Rattle.std.specs.Option.{ForSome};
 
-use crate::fixtures::{ON_ONE, TEXT, assert_for, same};
+use crate::fixtures::{ON_ONE, TEXT, assert_for, kind, same};
 use chare_index::Limits;
 use lb_dump::DumpError;
 use lb_replay::{Asked, Ended, run};
 use lb_strategy::PlanError;
-use std::io;
-use test_fixtures::EXAMPLE_DUMP;
+use std::io::{self, ErrorKind, Read};
+use test_fixtures::{EXAMPLE_DUMP, Source};
 
 // Whether a run had this status and no reason, and wrote this text.
 fn is_status(found: (u8, Option<io::Error>), written: &[u8], status: u8, text: &str) -> bool {
@@ -47,6 +47,33 @@ fn runs_and_their_statuses(rt: HostRuntime) {
     );
     assert_for(&rt, tells_letters(&rt, None), "other letters");
     assert_for(&rt, tells_letters(&rt, Some(256)), "they, on 256 PEs");
+}
+
+// Whether a run on a file whose reading fails writes so, and has the status of a fault and a reason of this kind.
+fn tells_failure<R: Read + Drop>(
+    rt: &impl AllocGlobal,
+    file: io::Result<R>,
+    expected: ErrorKind,
+) -> bool {
+    let mut written = Vec::new(rt.alloc());
+    let asked = Asked {
+        file: "f",
+        procs: None,
+    };
+    let (status, reason) = run(rt.alloc(), asked, file, &mut written);
+    let told = status == 3 && same(&written, "dump: read failed\n");
+    drop(written);
+    told && kind(reason) == Some(expected)
+}
+
+#[test]
+fn a_run_hands_the_reason_on(rt: HostRuntime) {
+    let missing: io::Result<&[u8]> = Err(io::Error::from(ErrorKind::NotFound));
+    let found = tells_failure(&rt, missing, ErrorKind::NotFound);
+    assert_for(&rt, found, "not opened");
+    let failing = Source::new(&EXAMPLE_DUMP, 20, Some((1, ErrorKind::WouldBlock)));
+    let found = tells_failure(&rt, Ok(failing), ErrorKind::WouldBlock);
+    assert_for(&rt, found, "a read that failed");
 }
 
 #[test]
