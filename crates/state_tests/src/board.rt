@@ -4,10 +4,12 @@ ghost use Rattle.std.specs.Prelude.{◌≤◌};
 
 use crate::fixtures::{assert_for, pe, round};
 use at_sync::{Board, BoardError};
-use chare_index::{Limits, NoGate};
+use chare_index::{Gate, Limits, NoGate};
 use lb_certificates::Units;
 use lb_strategy::{Decision, check};
 use std::process::Abort;
+use std::sync::atomic::{AtomicU64, Ordering};
+use std::thread::Threads;
 
 fn board(rt: &(impl Abort + AllocGlobal), n: u32, pes: u32) -> Board
     requires few { n ≤ Limits.ELEMENTS }
@@ -109,6 +111,61 @@ fn three_workers_decide_the_same(rt: HostRuntime) {
     assert!(rt; all_stay(&rt, &board, 1));
     assert!(rt; has_no_decision(&rt, &board, 2));
     drop(board);
+}
+
+// A gate that counts its calls by each of three workers, and those by anybody else.
+#[derive(Drop)]
+struct Counting {
+    first: AtomicU64,
+    second: AtomicU64,
+    third: AtomicU64,
+    others: AtomicU64,
+}
+
+impl Gate for Counting {
+    fn pass(&self, who: u32) {
+        let count = match who {
+            0 => &self.first,
+            1 => &self.second,
+            2 => &self.third,
+            _ => &self.others,
+        };
+        count.fetch_add(1, Ordering::SeqCst);
+    }
+}
+
+impl Counting {
+    fn new() -> Counting {
+        Counting {
+            first: AtomicU64::new(0),
+            second: AtomicU64::new(0),
+            third: AtomicU64::new(0),
+            others: AtomicU64::new(0),
+        }
+    }
+
+    // Whether each of the three has called it, as often as any other, and nobody else has.
+    fn counts_three_alike(&self) -> bool {
+        let often = self.first.load(Ordering::SeqCst);
+        let alike = self.second.load(Ordering::SeqCst) == often
+            && self.third.load(Ordering::SeqCst) == often;
+        often >= 1 && alike && self.others.load(Ordering::SeqCst) == 0
+    }
+}
+
+// Whether three workers at this gate decide the round.
+fn three_decide<R: Threads + Sync + Abort>(rt: &R, board: &mut Board, gate: &Counting) -> bool {
+    board.decide_with(rt, 3, gate) == Ok(round(rt, 1))
+}
+
+#[test]
+fn each_of_three_workers_passes_with_its_number(rt: HostRuntime) {
+    let mut board = two_reported(&rt);
+    let gate = Counting::new();
+    assert!(rt; three_decide(&rt, &mut board, &gate));
+    drop(board);
+    assert!(rt; gate.counts_three_alike());
+    drop(gate);
 }
 
 // Whether of three elements the first has finished, the second has not, and the third is none of the board's.
