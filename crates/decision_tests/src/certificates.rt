@@ -2,12 +2,13 @@
 //! division for each flaw.
 
 use crate::fixtures::{
-    FORGED_DIVISIONS, ForgedDivision, assert_for, fenced, full_loads, is_list, list, loads, pairs,
-    pe, push, same, sizes, unfenced,
+    FORGED_DIVISIONS, ForgedDivision, assert_for, fenced, full_loads, index, is_list, list, loads,
+    pairs, pe, push, same, sizes, unfenced,
 };
 use crate::reference;
 use chare_index::{Limits, Pe};
 use lb_certificates::{Cuts, Division, Flaw, Loads, Sizes, Snapshot, Stops, Units, check_division};
+use lb_strategy::Moves;
 use std::process::Abort;
 
 // What the check says of this division.
@@ -290,10 +291,20 @@ fn stops_come_back(rt: &(impl Abort + AllocGlobal), ends: &[u32]) -> bool {
     seen && back
 }
 
+// Whether the move of an element from one PE to another does.
+fn moves_come_back(rt: &(impl Abort + AllocGlobal)) -> bool {
+    let steps = [(index(rt, 0), pe(rt, 0), pe(rt, 1))];
+    let moves = Moves::new(list(rt, &steps));
+    let seen = same(moves.as_slice(), &steps);
+    let back = is_list(moves.into_vec(), &steps);
+    seen && back
+}
+
 #[test]
 fn lists_come_back(rt: HostRuntime) {
     assert_for(&rt, cuts_come_back(&rt, &[0, 3, 5]), "cuts");
     assert_for(&rt, stops_come_back(&rt, &[0, 3, 4]), "stops");
+    assert_for(&rt, moves_come_back(&rt), "moves");
 }
 
 // Loads, a number of PEs, and the least bottleneck of all divisions.

@@ -193,7 +193,7 @@ fn is_planned(taken: &Snapshot, pes: u32, decision: &Decision, row: Row<'_>) -> 
 }
 
 #[test]
-fn the_examples_are_planned(rt: HostRuntime) {
+fn blocks_that_stand_swapped_stay_so(rt: HostRuntime) {
     let swapped: [(u32, u32, u32); 4] = [(1, 8, 1), (1, 8, 1), (1, 8, 0), (1, 8, 0)];
     let row = Row {
         bottleneck: 2,
@@ -202,7 +202,7 @@ fn the_examples_are_planned(rt: HostRuntime) {
         moved: 0,
         moves: &[],
     };
-    assert_for(&rt, plans(&rt, 2, &swapped, 2, row), "swapped");
+    assert_for(&rt, plans(&rt, 2, &swapped, 2, row), "four elements");
 }
 
 // Six elements on three PEs.

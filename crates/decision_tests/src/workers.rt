@@ -1,11 +1,12 @@
-//! Divisions and plans by several workers: they are those of one, and two workers probe at the same time.
+//! Divisions and plans by several workers: they are those of one, each worker passes the gate with its own number in
+//! each of its probes, and two workers probe at the same time.
 
 ghost use Rattle.std.specs.Prelude.{◌≤◌};
 
 use crate::fixtures::{EXAMPLE, assert_for, full_loads, is_division, loads, same, snapshot};
 use chain_partition::divide_with;
 use chare_index::{Gate, NoGate};
-use lb_certificates::{Division, Loads, Snapshot};
+use lb_certificates::{Division, Loads, Snapshot, Units};
 use lb_strategy::{Decision, check, plan_with};
 use std::process::Abort;
 use std::sync::atomic::{AtomicU64, Ordering};
@@ -45,6 +46,105 @@ fn many_workers_divide_a_full_array(rt: HostRuntime) {
     drop(division);
     drop(full);
     assert_for(&rt, found, "another division");
+}
+
+// A gate that counts its calls by each of four workers, and those by anybody else.
+#[derive(Drop)]
+struct Counting {
+    first: AtomicU64,
+    second: AtomicU64,
+    third: AtomicU64,
+    fourth: AtomicU64,
+    others: AtomicU64,
+}
+
+impl Gate for Counting {
+    fn pass(&self, who: u32) {
+        let count = match who {
+            0 => &self.first,
+            1 => &self.second,
+            2 => &self.third,
+            3 => &self.fourth,
+            _ => &self.others,
+        };
+        count.fetch_add(1, Ordering::SeqCst);
+    }
+}
+
+impl Counting {
+    fn new() -> Counting {
+        Counting {
+            first: AtomicU64::new(0),
+            second: AtomicU64::new(0),
+            third: AtomicU64::new(0),
+            fourth: AtomicU64::new(0),
+            others: AtomicU64::new(0),
+        }
+    }
+
+    // How often each of the four has called it, and last how often anybody else has.
+    fn counts(&self) -> [u64; 5] {
+        [
+            self.first.load(Ordering::SeqCst),
+            self.second.load(Ordering::SeqCst),
+            self.third.load(Ordering::SeqCst),
+            self.fourth.load(Ordering::SeqCst),
+            self.others.load(Ordering::SeqCst),
+        ]
+    }
+}
+
+// Whether so many workers have called a gate, each as often as any other and at least so often, and nobody else has.
+fn are_alike(counts: &[u64; 5], workers: u32, least: u64) -> bool {
+    let often = counts[0];
+    for who in 0..5u32 {
+        let expected = if who < workers { often } else { 0 };
+        if counts[who as usize] != expected {
+            return false;
+        }
+    }
+    often >= least
+}
+
+// How often each number passes where so many workers divide these loads for two PEs.
+fn counted<R: Threads + Sync + Abort + AllocGlobal>(rt: &R, loads: &Loads, workers: u32) -> [u64; 5]
+    requires some_worker { 1 ≤ workers }
+    requires few_workers { workers ≤ 64 }
+{
+    let gate = Counting::new();
+    let division = divide_with(rt, rt.alloc(), loads, 2, workers, &gate).expect(
+        rt,
+        "out of memory",
+    );
+    drop(division);
+    let counts = gate.counts();
+    drop(gate);
+    counts
+}
+
+// Where one to four workers divide these loads, each of them passes at least so often, with its own number.
+fn expect_own_numbers<R: Threads + Sync + Abort + AllocGlobal>(
+    rt: &R,
+    units: &[Units],
+    least: u64,
+) {
+    let loads = loads(rt, units);
+    for workers in 1..=4 {
+        let counts = counted(rt, &loads, workers);
+        assert_for(rt, are_alike(&counts, workers, least), (workers, counts));
+    }
+    drop(loads);
+}
+
+#[test]
+fn each_worker_passes_with_its_own_number(rt: HostRuntime) {
+    expect_own_numbers(&rt, &[1, 2, 3, 4, 5], 1);
+}
+
+// The search is for 5 and begins between 5 and 10. No worker tries 5 in the first round, so there is a second one.
+#[test]
+fn each_worker_passes_in_each_round(rt: HostRuntime) {
+    expect_own_numbers(&rt, &[5, 1, 1, 1, 1, 1], 2);
 }
 
 // How many turns a worker waits for the other.
@@ -114,13 +214,21 @@ fn is_planned(planned: &Decision) -> bool {
         && planned.moved == 10
 }
 
-fn planned<R: Threads + Sync + Abort + AllocGlobal>(rt: &R, example: &Snapshot) -> Decision {
-    plan_with(rt, rt.alloc(), example, 2, 3, &NoGate).expect(rt, "out of memory")
+fn planned<R: Threads + Sync + Abort + AllocGlobal, G: Gate + Sync>(
+    rt: &R,
+    example: &Snapshot,
+    gate: &G,
+) -> Decision {
+    plan_with(rt, rt.alloc(), example, 2, 3, gate).expect(rt, "out of memory")
 }
 
-// Whether three workers plan the example, and the check accepts the plan.
-fn is_example_planned<R: Threads + Sync + Abort + AllocGlobal>(rt: &R, example: &Snapshot) -> bool {
-    let planned = planned(rt, example);
+// Whether three workers at this gate plan the example, and the check accepts the plan.
+fn is_example_planned<R: Threads + Sync + Abort + AllocGlobal, G: Gate + Sync>(
+    rt: &R,
+    example: &Snapshot,
+    gate: &G,
+) -> bool {
+    let planned = planned(rt, example, gate);
     let found = is_planned(&planned) && check(example, 2, &planned).is_ok();
     drop(planned);
     found
@@ -129,6 +237,25 @@ fn is_example_planned<R: Threads + Sync + Abort + AllocGlobal>(rt: &R, example: 
 #[test]
 fn three_workers_plan_the_example(rt: HostRuntime) {
     let example = snapshot(&rt, 2, &EXAMPLE);
-    assert_for(&rt, is_example_planned(&rt, &example), "another plan");
+    assert_for(
+        &rt,
+        is_example_planned(&rt, &example, &NoGate),
+        "another plan",
+    );
     drop(example);
+}
+
+#[test]
+fn each_of_three_workers_that_plan_passes_with_its_own_number(rt: HostRuntime) {
+    let example = snapshot(&rt, 2, &EXAMPLE);
+    let gate = Counting::new();
+    assert_for(
+        &rt,
+        is_example_planned(&rt, &example, &gate),
+        "another plan",
+    );
+    drop(example);
+    let counts = gate.counts();
+    drop(gate);
+    assert_for(&rt, are_alike(&counts, 3, 1), counts);
 }
