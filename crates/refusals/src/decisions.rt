@@ -1,4 +1,4 @@
-//! Divisions, namings and whole decisions.
+//! Divisions, namings and whole decisions, and copies of a snapshot and of a decision.
 
 use crate::fixtures::{
     Lent, assert_requests, assert_requests_on, cuts, five, same, snapshot, sums, table, table_of,
@@ -10,14 +10,18 @@ use lb_certificates::{Cuts, Division, Floor, Loads, Naming, Prices, Sizes, Snaps
 use lb_strategy::{Decision, PlanError, check, plan, plan_with};
 use refusing_alloc::Outcome;
 use std::alloc::{AllocError, Allocator};
+use std::process::Abort;
 use std::thread::Threads;
-use test_fixtures::{example_sizes, pe};
+use test_fixtures::{example, example_sizes, pe};
 
 // The requests of a division.
 const DIVIDING: u64 = 3;
 
 // The requests of the search for names: two lists of prices, seven of the search, and two of the exchange.
 const NAMING: u64 = 11;
+
+// The requests of a whole decision: those of a division, of the table of costs and of the naming, and one for all moves.
+const PLANNING: u64 = DIVIDING + 2 + NAMING + 1;
 
 // What running sums come to, which are to be those of five.
 fn are_summed<A: Allocator>(answer: Result<Prefix<A>, AllocError>) -> Outcome {
@@ -231,7 +235,7 @@ fn one_plans(alloc: Lent<'_>, example: &Snapshot) -> Outcome {
 fn whole_decisions(rt: HostRuntime) {
     let example = snapshot(&rt, rt.alloc());
     let things = "those of `divide`, `CostTable::of` and `name_blocks`, and the moves";
-    assert_requests_on(&rt, one_plans, &example, DIVIDING + 2 + NAMING + 1, things);
+    assert_requests_on(&rt, one_plans, &example, PLANNING, things);
     drop(example);
 }
 
@@ -244,7 +248,89 @@ fn three_plan<R: Threads + Sync>(rt: &R, alloc: Lent<'_>, example: &Snapshot) ->
 fn whole_decisions_by_three_workers(rt: HostRuntime) {
     let example = snapshot(&rt, rt.alloc());
     let attempt = |alloc: Lent<'_>| three_plan(&rt, alloc, &example);
-    let things = "none for the workers";
-    assert_requests(&rt, attempt, DIVIDING + 2 + NAMING + 1, things);
+    assert_requests(&rt, attempt, PLANNING, "none for the workers");
+    drop(example);
+}
+
+// Six elements of 1 unit and 8 bytes, all of which stand on PE 1 of two.
+fn six(rt: &(impl Abort + AllocGlobal)) -> Snapshot {
+    let units = vec![in rt.alloc(); 1; 6].expect(rt, "out of memory");
+    let loads = Loads::new(units).expect(rt, "too many loads");
+    let pairs = vec![in rt.alloc(); (8, pe(1)); 6].expect(rt, "out of memory");
+    let sizes = Sizes::new(pairs).expect(rt, "past a limit");
+    Snapshot::new(5, 2, loads, sizes).expect(rt, "no snapshot")
+}
+
+// Whether this is the whole decision on these six for one PE, to which all of them move.
+fn all_move<A: Allocator>(six: &Snapshot, decision: &Decision<A>) -> bool {
+    is_division(&decision.division, 6, &[0, 6], &[0, 5])
+        && same(decision.naming.as_slice(), &[0])
+        && decision.moved == 48
+        && decision.moves.as_slice().len() == 6
+        && check(six, 1, decision).is_ok()
+}
+
+// What a plan for these six comes to.
+fn one_plans_six(alloc: Lent<'_>, six: &Snapshot) -> Outcome {
+    let answer = plan(alloc, six, 1);
+    let outcome = match &answer {
+        Ok(decision) if all_move(six, decision) => Outcome::Right,
+        Err(PlanError::OutOfMemory) => Outcome::Refused,
+        _ => Outcome::Wrong,
+    };
+    drop(answer);
+    outcome
+}
+
+#[test]
+fn whole_decisions_of_many_moves(rt: HostRuntime) {
+    let six = six(&rt);
+    let things = "one for six moves too";
+    assert_requests_on(&rt, one_plans_six, &six, PLANNING, things);
+    drop(six);
+}
+
+// What a copy comes to, which is to be equal to what it was made from.
+fn is_copied<T: PartialEq + Drop>(answer: Result<T, AllocError>, original: &T) -> Outcome {
+    let outcome = match &answer {
+        Ok(copy) if copy == original => Outcome::Right,
+        Ok(_) => Outcome::Wrong,
+        Err(AllocError) => Outcome::Refused,
+    };
+    drop(answer);
+    outcome
+}
+
+// What a copy of the example comes to, and the example before it.
+fn copies_example(alloc: Lent<'_>) -> Outcome {
+    let Ok(example) = example(alloc) else {
+        return Outcome::Refused;
+    };
+    let outcome = is_copied(example.clone(), &example);
+    drop(example);
+    outcome
+}
+
+#[test]
+fn copies_of_a_snapshot(rt: HostRuntime) {
+    let things = "the loads and the sizes, twice";
+    assert_requests(&rt, copies_example, 2 + 2, things);
+}
+
+// What a copy of the plan for the example comes to, and the plan before it.
+fn copies_plan(alloc: Lent<'_>, example: &Snapshot) -> Outcome {
+    let Ok(decision) = plan(alloc, example, 2) else {
+        return Outcome::Refused;
+    };
+    let outcome = is_copied(decision.clone(), &decision);
+    drop(decision);
+    outcome
+}
+
+#[test]
+fn copies_of_a_decision(rt: HostRuntime) {
+    let example = snapshot(&rt, rt.alloc());
+    let things = "those of the plan; cuts, stops, names, prices of blocks and of PEs, and moves";
+    assert_requests_on(&rt, copies_plan, &example, PLANNING + 6, things);
     drop(example);
 }
