@@ -11,7 +11,7 @@ use Rattle.chares.specs.declared.sends.SendError.TheVariants.{Stranger, TooLong,
 use Rattle.chares.specs.Steps.{Outcome}
 use Rattle.pup_pack.specs.Lists.{IsCounted, pack_bytes}
 
--- the element that it sends to, whether it goes on where that is refused (1, or else 0), and the body
+-- the element that it sends to, a number that is 1 where it goes on after its send is refused, and the body
 pub record CourierView : Type 0 where
   pub to : ℕ
   pub goes_on : ℕ
@@ -44,7 +44,7 @@ courier_step c me n (Resumption round) = record { state = c; effect = record { u
 abbrev pub CourierRefuses : CourierView → ℕ → ℕ → ℕ → Entry (List ℕ) → SendError → Type 0
 CourierRefuses c me n count (Resumption round) Stranger = (c.goes_on ≢ 1) × (n ≤ c.to)
 CourierRefuses c me n count (Resumption round) TooLong = (c.goes_on ≢ 1) × (c.to < n) × (BODY_BYTES < length c.body)
-CourierRefuses c me n count (Resumption round) Worn = count ≡ LETTERS
+CourierRefuses c me n count (Resumption round) Worn = (c.to < n) × (length c.body ≤ BODY_BYTES) × (count ≡ LETTERS)
 CourierRefuses c me n count _ _ = ⊥
 
 -- what a courier packs into

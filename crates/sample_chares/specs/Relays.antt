@@ -44,10 +44,11 @@ abbrev pub relay_step : RelayView → ℕ → ℕ → Entry (List ℕ) → Outco
 relay_step r me n (Letter body) = on_letter r me n body
 relay_step r me n (Resumption round) = on_resume r me n r.left
 
--- it answers an error where no letter number is left, or the rest of a letter is too long
+-- it answers an error where no letter number is left for what it would send, or the rest of a letter is too long
 abbrev pub RelayRefuses : RelayView → ℕ → ℕ → ℕ → Entry (List ℕ) → SendError → Type 0
-RelayRefuses r me n count _ Worn = count ≡ LETTERS
-RelayRefuses r me n count (Letter body) TooLong = BODY_BYTES < length body
+RelayRefuses r me n count (Letter (first ∷ rest)) TooLong = BODY_BYTES < length rest
+RelayRefuses r me n count (Letter (first ∷ rest)) Worn = (length rest ≤ BODY_BYTES) × (count ≡ LETTERS)
+RelayRefuses r me n count (Resumption round) Worn = (0 < r.left) × (count ≡ LETTERS)
 RelayRefuses r me n count _ _ = ⊥
 
 -- what a relay packs into

@@ -1,5 +1,5 @@
 -- A chare that sends its amounts to its neighbor, one in each round, and adds up what comes.
-use Rattle.std.specs.Prelude.{◌≡◌, ℕ, ◌+◌, ◌≤◌, ◌%◌, ◌*◌, min, List, [], ◌∷◌, ◌++◌, length, flat_map, All, slice_index, Bool, true, false, not, ◌&&◌, ◌==◌, if◌then◌else◌, nat_lt}
+use Rattle.std.specs.Prelude.{◌≡◌, ℕ, ◌+◌, ◌<◌, ◌≤◌, ◌%◌, ◌*◌, min, List, [], ◌∷◌, ◌++◌, length, flat_map, All, slice_index, Bool, true, false, not, ◌&&◌, ◌==◌, if◌then◌else◌, nat_lt}
 use Rattle.std.specs.Int.{w32, w64, to_be_bytes, from_be_bytes}
 use Rattle.std.proofs.Common.{refl, arith, length-append}
 use Rattle.std.proofs.lemmas.Bool.Decides.{nat_tests}
@@ -70,7 +70,7 @@ tally_step t me n (Resumption round) = on_resume t me n
 
 -- it answers an error only where no letter number is left for its amount
 abbrev pub TallyRefuses : TallyView → ℕ → ℕ → ℕ → Entry (List ℕ) → SendError → Type 0
-TallyRefuses t me n count (Resumption round) Worn = count ≡ LETTERS
+TallyRefuses t me n count (Resumption round) Worn = (t.posted < length t.amounts) × (count ≡ LETTERS)
 TallyRefuses t me n count _ _ = ⊥
 
 -- what a tally packs into

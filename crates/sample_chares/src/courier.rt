@@ -1,16 +1,17 @@
 //! A chare that sends one body at each resumption, wherever it is told to, and finishes on a letter.
 
-ghost use Rattle.std.specs.Prelude.{◌≡◌, ◌↔◌, [], ◌∷◌, ◌⊎◌, ◌≤◌, replicate, false, IfOk, IfSome, IsNone, IsTrue, IfErr, MatchResult, OnOk, OnErr};
+ghost use Rattle.std.specs.Prelude.{◌≡◌, ◌≢◌, ◌↔◌, [], ◌∷◌, ◌⊎◌, ◌≤◌, replicate, false, IfOk, IfSome, IsNone, IsTrue, IfErr, MatchResult, OnOk, OnErr};
 ghost use Rattle.chare_index.specs.declared.limits.TheConstants.Limits.{ELEMENTS};
 ghost use Rattle.chares.specs.declared.sends.SendError.TheVariants.{Stranger, TooLong};
 ghost use Rattle.chares.specs.Posting.{posted, RefusesPut, IsPost};
+ghost use Rattle.pup_pack.specs.declared.error.PupError.TheVariants.{Bad, OutOfMemory};
 ghost use Rattle.sample_chares.specs.Couriers.{is_courier, of_parts};
 
 use crate::zeros::zeros;
 use chare_index::{Gate, Index, Round};
 use chares::{Chare, Effect, Here, SendError, Sends};
 use pup_pack::{Bytes, Fields, Pup, PupError};
-use std::alloc::{AllocError, Allocator, Global};
+use std::alloc::{Allocator, Global};
 use std::marker::Model;
 
 /// A chare that sends one body at each resumption, and is then ready to be balanced. On a letter it finishes.
@@ -37,9 +38,10 @@ type Parts<A> = (u32, (u32, Bytes<A>));
 
 impl<A: Allocator> Courier<A> {
     /// A courier to this element, with a body of at most 65,536 bytes, that goes on where its send is refused if
-    /// `goes_on` is 1.
+    /// `goes_on` is 1, or `None` where the body is longer.
     pub fn new(to: u32, goes_on: u32, body: Bytes<A>) -> Option<Self>
         ensures value { IfSome result (λ c. c ≡ record { to = to; goes_on = goes_on; body = body }) }
+        ensures refused { IsNone result ↔ (is_courier (record { to = to; goes_on = goes_on; body = body }) ≡ false) }
     {
         Courier::of_parts((to, (goes_on, body)))
     }
@@ -49,11 +51,13 @@ impl<A: Allocator> Courier<A> {
     ///
     /// # Errors
     ///
-    /// Out of memory, or past the limit.
-    pub fn with_zeros(alloc: A, to: u32, goes_on: u32, len: usize) -> Result<Self, AllocError>
+    /// The first that applies: [`OutOfMemory`](PupError::OutOfMemory), or [`Bad`](PupError::Bad) where the body is longer
+    /// than 65,536 bytes.
+    pub fn with_zeros(alloc: A, to: u32, goes_on: u32, len: usize) -> Result<Self, PupError>
         ensures value { IfOk result (λ c. c ≡ record { to = to; goes_on = goes_on; body = replicate len 0 }) }
+        ensures refused { IfErr result (λ error. error ≢ OutOfMemory → (error ≡ Bad) × (is_courier (record { to = to; goes_on = goes_on; body = replicate len 0 }) ≡ false)) }
     {
-        Courier::new(to, goes_on, zeros(alloc, len)?).ok_or(AllocError)
+        Courier::new(to, goes_on, zeros(alloc, len)?).ok_or(PupError::Bad)
     }
 
     // The courier with these fields, or `None` past the limit.

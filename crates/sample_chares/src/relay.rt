@@ -1,17 +1,19 @@
 //! A chare that starts a letter in each round, and hands on the rest of each letter that it gets.
 
-ghost use Rattle.std.specs.Prelude.{◌≡◌, ◌+◌, ◌%◌, ◌<◌, ◌≤◌, ◌↔◌, false, IfOk, IfSome, IsNone};
+ghost use Rattle.std.specs.Prelude.{◌≡◌, ◌≢◌, ◌+◌, ◌%◌, ◌<◌, ◌≤◌, ◌↔◌, false, IfErr, IfOk, IfSome, IsNone};
 ghost use Rattle.chare_index.specs.declared.limits.TheConstants.Limits.{ELEMENTS};
+ghost use Rattle.pup_pack.specs.declared.error.PupError.TheVariants.{Bad, OutOfMemory};
 ghost use Rattle.sample_chares.specs.Relays.{is_relay, of_parts};
 
 use chare_index::{Gate, Index, Limits, Round};
 use chares::{Chare, Effect, Here, SendError, Sends};
 use pup_pack::{Bytes, Fields, Pup, PupError};
-use std::alloc::{AllocError, Allocator, Global};
+use std::alloc::{Allocator, Global};
 use std::marker::Model;
 
 /// A chare that starts a letter to its neighbor in each of so many rounds. The first byte of a letter that it gets is
-/// its work, and says how many elements further on the rest of the letter goes.
+/// its work, and says how many elements further on the rest of the letter goes. Each of its handlers passes the gate
+/// with the index of its element.
 #[derive(Drop)]
 pub struct Relay<A: Allocator = Global> {
     left: u32,
@@ -36,6 +38,7 @@ impl<A: Allocator> Relay<A> {
     /// A relay with so many rounds left, whose letters have this body, or `None` where that is longer than one may be.
     pub fn new(left: u32, body: Bytes<A>) -> Option<Self>
         ensures value { IfSome result (λ r. r ≡ record { left = left; body = body }) }
+        ensures refused { IsNone result ↔ (is_relay (record { left = left; body = body }) ≡ false) }
     {
         Relay::of_parts((left, body))
     }
@@ -44,12 +47,14 @@ impl<A: Allocator> Relay<A> {
     ///
     /// # Errors
     ///
-    /// Out of memory, or past the limit.
-    pub fn with_body(alloc: A, left: u32, body: &[u8]) -> Result<Self, AllocError>
+    /// The first that applies: [`OutOfMemory`](PupError::OutOfMemory), or [`Bad`](PupError::Bad) where the body is longer
+    /// than one may be.
+    pub fn with_body(alloc: A, left: u32, body: &[u8]) -> Result<Self, PupError>
         ensures value { IfOk result (λ r. r ≡ record { left = left; body = body.now }) }
+        ensures refused { IfErr result (λ error. error ≢ OutOfMemory → (error ≡ Bad) × (is_relay (record { left = left; body = body.now }) ≡ false)) }
     {
         let body = Bytes::new(Vec::from_slice(alloc, body)?);
-        Relay::new(left, body).ok_or(AllocError)
+        Relay::new(left, body).ok_or(PupError::Bad)
     }
 
     // The relay with these fields, or `None` past the limit.
@@ -120,6 +125,7 @@ impl<A: Allocator + Copy> Chare<A> for Relay<A> {
         body: &[u8],
         sends: &mut Sends<P, A>,
     ) -> Result<Effect, SendError> {
+        here.gate.pass(here.me.get());
         let Some((first, rest)) = body.split_first() else {
             return Ok(Effect {
                 units: 0,
@@ -141,6 +147,7 @@ impl<A: Allocator + Copy> Chare<A> for Relay<A> {
         _round: Round,
         sends: &mut Sends<P, A>,
     ) -> Result<Effect, SendError> {
+        here.gate.pass(here.me.get());
         if self.left == 0 {
             return Ok(Effect {
                 units: 0,

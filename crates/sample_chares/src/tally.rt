@@ -1,14 +1,15 @@
 //! A chare that sends its amounts to its neighbor, one in each round, and adds up what comes.
 
-ghost use Rattle.std.specs.Prelude.{◌≡◌, ◌+◌, ◌<◌, ◌≤◌, length, replicate, slice_index, false, IfOk, IfSome, IsNone, ◌↔◌};
+ghost use Rattle.std.specs.Prelude.{◌≡◌, ◌≢◌, ◌+◌, ◌<◌, ◌≤◌, length, replicate, slice_index, false, IfErr, IfOk, IfSome, IsNone, ◌↔◌};
 ghost use Rattle.std.specs.Int.{w32, to_be_bytes};
+ghost use Rattle.pup_pack.specs.declared.error.PupError.TheVariants.{Bad, OutOfMemory};
 ghost use Rattle.sample_chares.specs.Tallies.{TallyView, amount_in, is_tally, of_parts};
 
 use crate::zeros::zeros;
 use chare_index::{Gate, Index, Round};
 use chares::{Chare, Effect, Here, SendError, Sends};
 use pup_pack::{Bytes, Fields, Items, Pup, PupError};
-use std::alloc::{AllocError, Allocator, Global};
+use std::alloc::{Allocator, Global};
 use std::marker::Model;
 
 /// A chare that sends its amounts to its neighbor, one in each round, and adds up what comes. It has at most 1,000
@@ -40,6 +41,7 @@ impl<A: Allocator> Tally<A> {
     /// A tally that has posted and got nothing, or `None` past a limit.
     pub fn new(amounts: Items<u32, A>, pad: Bytes<A>) -> Option<Self>
         ensures value { IfSome result (λ t. t ≡ record { posted = 0; got = 0; sum = 0; amounts = amounts; pad = pad }) }
+        ensures refused { IsNone result ↔ (is_tally (record { posted = 0; got = 0; sum = 0; amounts = amounts; pad = pad }) ≡ false) }
     {
         Tally::of_parts((0, (0, (0, (amounts, pad)))))
     }
@@ -48,14 +50,15 @@ impl<A: Allocator> Tally<A> {
     ///
     /// # Errors
     ///
-    /// Out of memory, or past a limit.
-    pub fn with_amounts(alloc: A, amounts: &[u32], pad: usize) -> Result<Self, AllocError>
+    /// The first that applies: [`OutOfMemory`](PupError::OutOfMemory), or [`Bad`](PupError::Bad) past a limit.
+    pub fn with_amounts(alloc: A, amounts: &[u32], pad: usize) -> Result<Self, PupError>
     where
         A: Copy,
         ensures value { IfOk result (λ t. t ≡ record { posted = 0; got = 0; sum = 0; amounts = amounts.now; pad = replicate pad 0 }) }
+        ensures refused { IfErr result (λ error. error ≢ OutOfMemory → (error ≡ Bad) × (is_tally (record { posted = 0; got = 0; sum = 0; amounts = amounts.now; pad = replicate pad 0 }) ≡ false)) }
     {
         let amounts = Items::new(Vec::from_slice(alloc, amounts)?);
-        Tally::new(amounts, zeros(alloc, pad)?).ok_or(AllocError)
+        Tally::new(amounts, zeros(alloc, pad)?).ok_or(PupError::Bad)
     }
 
     /// The sum of the amounts that it has got.
