@@ -1,12 +1,18 @@
-//! Tests of the PE, call by call: letters that wait, follow their element or come back, and calls that take no memory.
-//! They need no world.
+//! Tests of the PE, call by call: letters that wait, follow their element or come back, the gate of its handlers, and
+//! the memory that each call asks for. They need no world.
 #![tactic(auto)]
 
 #[cfg(test)]
 mod fixtures;
 #[cfg(test)]
+mod gates;
+#[cfg(test)]
 mod no_memory;
 #[cfg(test)]
 mod pe;
 #[cfg(test)]
+mod requests;
+#[cfg(test)]
 mod tallies;
+#[cfg(test)]
+mod twice;
