@@ -1,6 +1,6 @@
 -- Two letters, posted one after the other.
-use Rattle.std.proofs.Common.{◌≡◌, ℕ, ◌+◌, List, [], ◌∷◌, ◌++◌, Bool, true, false, append_assoc, ap, ◌∙◌, refl, arith}
-use Rattle.chares.specs.Posting.{Posting, letters_of, posted, posts_of, reported}
+use Rattle.std.proofs.Common.{◌≡◌, ℕ, ◌+◌, List, [], ◌∷◌, Bool, true, false, append_assoc, ap, ◌∙◌, refl, arith}
+use Rattle.chares.specs.Posting.{Posting, letters_of, posted, reported}
 use Rattle.chares.specs.declared.report.Report.{Report}
 
 -- their reports

@@ -1,8 +1,6 @@
 //! A handler that posts two letters, and one that is refused its second.
 
-ghost use Rattle.std.specs.Prelude.{◌≡◌, ◌∷◌, ◌+◌, ◌<◌, ◌≤◌, ℕ, List, [], OnErr, OnOk, IfErr, ◌≢◌};
-ghost use Rattle.chare_index.specs.declared.limits.TheConstants.Limits.{LETTERS};
-ghost use Rattle.chares.specs.Posting.{posted};
+ghost use Rattle.std.specs.Prelude.{◌≡◌, ◌∷◌, []};
 
 use crate::fixtures::{assert_for, index, pe, start, with_two};
 use chare_index::{Gate, Index, NoGate, Round};
