@@ -29,7 +29,7 @@ fn requests(alloc: Global, pes: u32, seats: u32) -> Result<u64, Failure> {
 }
 
 #[test]
-fn posts(rt: HostRuntime) -> Result<(), Fail> {
+fn each_refused_request_of_a_post_is_told(rt: HostRuntime) -> Result<(), Fail> {
     assert!(rt; requests(rt.alloc(), 1, 1)? == 9, "one queue and one seat");
     assert!(rt;
         requests(rt.alloc(), 1, 2)? == 10,
@@ -59,7 +59,7 @@ fn locates_on_two(alloc: &Refusing<Global>) -> Outcome {
 }
 
 #[test]
-fn locations(rt: HostRuntime) -> Result<(), Fail> {
+fn the_refused_request_of_locations_is_told(rt: HostRuntime) -> Result<(), Fail> {
     let refusals = each_refusal(rt.alloc(), MOST_TURNS, locates_on_two)?;
     assert!(rt; refusals == 1, "the words");
     Ok(())
