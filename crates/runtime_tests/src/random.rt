@@ -139,7 +139,7 @@ fn many_relays(
 }
 
 #[test]
-fn random_events(rt: HostRuntime) {
+fn the_laws_hold_after_each_random_event(rt: HostRuntime) {
     let (mut draw, mut happened) = (Draw::new(), Happened::default());
     for _ in 0..TURNS {
         let size = draw.size();
