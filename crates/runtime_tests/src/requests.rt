@@ -3,7 +3,7 @@
 ghost use Rattle.std.specs.Prelude.{◌≡◌};
 
 use crate::fixtures::{assert_for, elements, index, pe, pes, round};
-use crate::seen::{Seen, look_around};
+use crate::seen::{is_as_before, look_around};
 use crate::steps::{expect_reports, opened};
 use chare_index::{Index, Pe};
 use chares::{Openings, Report};
@@ -51,7 +51,7 @@ fn take_one<H: Openings<Relay<A>>, A: Allocator + Copy>(
     let (start, before) = (meter.alloc.requests(), look_around(rt, world));
     match world.step(*event) {
         Ok(reports) => {
-            expect_reports(rt, event, reports.as_slice(), *want);
+            expect_reports(rt, event, &reports, *want);
             meter.made(rt, start, *requests, "an event");
         }
         Err(error) => {
@@ -63,15 +63,6 @@ fn take_one<H: Openings<Relay<A>>, A: Allocator + Copy>(
     }
 }
 
-// Whether a world is seen as it was before.
-fn is_as_before<H: Openings<Relay<A>>, A: Allocator + Copy>(
-    rt: &(impl Abort + AllocGlobal),
-    world: &World<Relay<A>, H, A>,
-    before: &[Seen],
-) -> bool {
-    look_around(rt, world).as_slice() == before
-}
-
 // Takes a step again, which is not refused this time.
 fn take_again<H: Openings<Relay<A>>, A: Allocator + Copy>(
     rt: &impl Abort,
@@ -80,7 +71,7 @@ fn take_again<H: Openings<Relay<A>>, A: Allocator + Copy>(
     want: &[Report],
 ) {
     let reports = world.step(*event).expect(rt, "refused again");
-    expect_reports(rt, event, reports.as_slice(), want);
+    expect_reports(rt, event, &reports, want);
 }
 
 fn take<H: Openings<Relay<A>>, A: Allocator + Copy>(

@@ -23,17 +23,22 @@ pub(crate) enum Place {
     Queue(Pe),
 }
 
+/// How many bytes there are, and the last eight of them as one number.
+pub(crate) type Bytes = (usize, u64);
+
 /// One thing that is seen in a world.
 #[derive(Clone, Copy, PartialEq, Eq)]
 pub(crate) enum Seen {
     /// A letter of this number, for this element, waits somewhere.
     Letter(LetterId, Index),
-    /// It waits here, forwarded so often.
-    Waits(Place, LetterId, Index, u32),
+    /// It waits here, forwarded so often, with this body.
+    Waits(Place, LetterId, Index, u32, Bytes),
     /// An element is somewhere.
     Element(Index),
     /// It is here.
     Stands(Place, Index),
+    /// It is on its way, packed so.
+    Packed(Index, Bytes),
     /// How far it has come.
     Progress(Index, Progress),
     /// The journal of the first element has this letter, which is for the second.
@@ -63,6 +68,24 @@ pub(crate) fn count<T: PartialEq + Copy>(items: &[T], one: T) -> usize {
         }
     }
     number
+}
+
+/// These bytes as they are seen.
+pub(crate) fn seen_bytes(bytes: &[u8]) -> Bytes {
+    let mut number: u64 = 0;
+    for byte in bytes {
+        number = (number << 8) | u64::from(*byte);
+    }
+    (bytes.len(), number)
+}
+
+/// Whether a world is seen as it was before.
+pub(crate) fn is_as_before<C: Chare<A>, H: Openings<C>, A: Allocator>(
+    rt: &(impl Abort + AllocGlobal),
+    world: &World<C, H, A>,
+    before: &[Seen],
+) -> bool {
+    look_around(rt, world).as_slice() == before
 }
 
 /// All that is seen in a world, in the order of the PEs.
@@ -218,10 +241,11 @@ fn add_letter<A: Allocator>(
     letter: &Letter<A>,
 ) {
     add(rt, seen, Seen::Letter(letter.id(), letter.to()));
+    let (hops, body) = (letter.hops(), seen_bytes(letter.body()));
     add(
         rt,
         seen,
-        Seen::Waits(place, letter.id(), letter.to(), letter.hops()),
+        Seen::Waits(place, letter.id(), letter.to(), hops, body),
     );
 }
 
@@ -233,6 +257,7 @@ fn add_packed<C: Chare<A>, H: Openings<C>, A: Allocator>(
 ) {
     let e = element.index();
     add_place(rt, seen, place, e, element.progress());
+    add(rt, seen, Seen::Packed(e, seen_bytes(element.bytes())));
     add_journal(rt, seen, e, element.journal());
     add_marks(rt, seen, e, element.marks());
 }

@@ -5,7 +5,7 @@ ghost use Rattle.std.specs.Prelude.{◌≡◌};
 use crate::fixtures::assert_for;
 use chare_index::Pe;
 use chares::{Carried, Chare, Entry, Letter, Openings, Report};
-use rts_core::{Account, Event, Parcel, PeState, Queue, Room, StepError, World};
+use rts_core::{Account, Event, Parcel, PeState, Queue, Reports, Room, StepError, World};
 use std::alloc::{AllocError, Allocator};
 use std::process::Abort;
 
@@ -13,8 +13,15 @@ use std::process::Abort;
 pub(crate) type Step<'a> = (Event, &'a [Report]);
 
 /// An event had just these reports.
-pub(crate) fn expect_reports(rt: &impl Abort, event: &Event, found: &[Report], want: &[Report]) {
-    assert_for(rt, found == want, (event, found));
+pub(crate) fn expect_reports<A: Allocator>(
+    rt: &impl Abort,
+    event: &Event,
+    found: &Reports<A>,
+    want: &[Report],
+) {
+    let reports = found.as_slice();
+    let counted = found.len() == want.len() && found.is_empty() == want.is_empty();
+    assert_for(rt, reports == want && counted, (event, reports));
 }
 
 // Takes one step, which has just these reports, and returns whether it was refused once for memory. Then the account is
@@ -28,7 +35,7 @@ fn take_one<C: Chare<A>, H: Openings<C>, A: Allocator + Copy>(
     let before = account(world);
     let refused = match world.step(*event) {
         Ok(reports) => {
-            expect_reports(rt, event, reports.as_slice(), want);
+            expect_reports(rt, event, &reports, want);
             return false;
         }
         Err(error) => error,
@@ -36,7 +43,7 @@ fn take_one<C: Chare<A>, H: Openings<C>, A: Allocator + Copy>(
     assert_for(rt, refused == StepError::OutOfMemory, (*event, refused));
     assert_for(rt, account(world) == before, *event);
     let reports = world.step(*event).expect(rt, "refused again");
-    expect_reports(rt, event, reports.as_slice(), want);
+    expect_reports(rt, event, &reports, want);
     true
 }
 

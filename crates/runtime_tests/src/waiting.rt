@@ -3,6 +3,7 @@
 ghost use Rattle.std.specs.Prelude.{◌≡◌};
 
 use crate::fixtures::{elements, index, pe, pes, round};
+use crate::seen::{is_as_before, look_around};
 use crate::steps::{has_account, opened, run};
 use chare_index::{Index, Pe};
 use chares::{Openings, Report};
@@ -24,7 +25,7 @@ fn world<H: Openings<Courier>>(
     opened::<Courier, H, Global>(rt, rt.alloc(), pes, chares).expect(rt, "out of memory")
 }
 
-// The first element starts, which sends what must not be sent: it is refused for that, and nothing was posted.
+// The first element starts, which sends what must not be sent: it is refused for that, and nothing has changed.
 fn refused<H: Openings<Courier>>(
     rt: &(impl Abort + AllocGlobal),
     chares: Vec<Courier>,
@@ -34,8 +35,10 @@ fn refused<H: Openings<Courier>>(
     requires opened { chares.items ≡ H.opened }
 {
     let mut world = self::world::<H>(rt, 1, chares);
+    let before = look_around(rt, &world);
     let answer = world.step(Event::Start(pe(rt, 0), index(rt, 0)));
     assert!(rt; answer.err() == Some(want));
+    assert!(rt; is_as_before(rt, &world, before.as_slice()));
     assert!(rt; has_account(&world, 0, 0, 0));
     drop(world);
 }
@@ -168,8 +171,10 @@ fn nothing_happens<H: Openings<Courier>>(rt: &(impl Abort + AllocGlobal), chares
     requires opened { chares.items ≡ H.opened }
 {
     let mut world = self::world::<H>(rt, 3, chares);
+    let before = look_around(rt, &world);
     strange_events(rt, &mut world);
     early_events(rt, &mut world);
+    assert!(rt; is_as_before(rt, &world, before.as_slice()));
     assert!(rt; has_account(&world, 0, 0, 0));
     assert!(rt; has_no_fourth(rt, &world));
     drop(world);
@@ -237,6 +242,12 @@ fn a_letter_waits_in_the_hand_for_its_element_to_start(rt: HostRuntime) {
     waits_in_the_hand::<Brand>(&rt, chares);
 }
 
+// Whether the first note that a PE owes is of a finish.
+fn owes_finish<H: Openings<Courier>>(world: &World<Courier, H>, p: Pe) -> Option<bool> {
+    let note = world.pe(p)?.next_note()?;
+    Some(note.is_finish())
+}
+
 // An element starts on this PE, posts its letter, and waits for the end of round 1.
 fn start_and_wait<H: Openings<Courier>>(
     rt: &impl Abort,
@@ -247,6 +258,7 @@ fn start_and_wait<H: Openings<Courier>>(
 ) {
     let started = [Report::Resumed(e, round(rt, 0)), Report::Posted((p, 0), to)];
     run(rt, world, &[(Event::Start(p, e), &started)]);
+    assert!(rt; owes_finish(world, p) == Some(false));
     let synced = [Report::Synced(e, round(rt, 1))];
     run(rt, world, &[(Event::Report(p), &synced)]);
 }
@@ -354,9 +366,10 @@ fn finish_while_it_waits<H: Openings<Courier>>(rt: &impl Abort, world: &mut Worl
             (Event::Flush(p1), &[]),
             (Event::Deliver(p1), &[]),
             (Event::Act(p1), &[Report::Executed((p1, 0), e1)]),
-            (Event::Report(p1), &[]),
         ],
     );
+    assert!(rt; owes_finish(world, p1) == Some(true));
+    run(rt, world, &[(Event::Report(p1), &[])]);
 }
 
 // Element 1, which has finished, departs and goes on all the same, and syncs no more.

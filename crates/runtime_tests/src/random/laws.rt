@@ -120,7 +120,7 @@ fn chase_posted(rt: &impl Abort, trace: &[Report]) {
 // Each letter that waits was forwarded as often as its hops say, and may wait where it is.
 fn chase_waiting(rt: &impl Abort, seen: &[Seen], trace: &[Report]) {
     for one in seen {
-        if let Seen::Waits(place, id, to, hops) = one {
+        if let Seen::Waits(place, id, to, hops, _) = one {
             let forwarded = count(trace, Report::Forwarded(*id));
             assert_for(rt, forwarded == *hops as usize, *id);
             assert_for(rt, may_wait(seen, *place, *to), (*id, *to));
