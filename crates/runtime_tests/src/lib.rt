@@ -5,9 +5,13 @@
 #[cfg(test)]
 mod bodies;
 #[cfg(test)]
+mod empty;
+#[cfg(test)]
 mod errors;
 #[cfg(test)]
 mod fixtures;
+#[cfg(test)]
+mod opening;
 #[cfg(test)]
 mod random;
 #[cfg(test)]
