@@ -7,10 +7,11 @@ use crate::seen::{is_as_before, look_around};
 use crate::steps::{expect_reports, opened};
 use chare_index::{Index, Pe};
 use chares::{Openings, Report};
+use pup_pack::PupError;
 use refusing_alloc::Refusing;
 use rts_core::{Event, StepError, World};
 use sample_chares::Relay;
-use std::alloc::{AllocError, Allocator, Global};
+use std::alloc::{Allocator, Global};
 use std::marker::Brand;
 use std::process::Abort;
 
@@ -86,13 +87,11 @@ fn take<H: Openings<Relay<A>>, A: Allocator + Copy>(
 }
 
 // Three relays whose letters are handed on once.
-fn three<A: Allocator + Copy>(alloc: A) -> Result<Vec<Relay<A>, A>, AllocError> {
+fn three<A: Allocator + Copy>(alloc: A) -> Result<Vec<Relay<A>, A>, PupError> {
     let mut relays = Vec::with_capacity(alloc, 3)?;
     for _ in 0..3 {
         let next = Relay::with_body(alloc, 3, &[1, 0])?;
-        if relays.push(next).is_err() {
-            return Err(AllocError);
-        }
+        relays.push(next)?;
     }
     Ok(relays)
 }

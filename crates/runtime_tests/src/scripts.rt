@@ -8,15 +8,16 @@ use chare_index::{Index, Pe};
 use chares::{Openings, Report};
 use lb_certificates::Floor;
 use lb_strategy::Decision;
+use pup_pack::PupError;
 use refusing_alloc::Refusing;
 use rts_core::{Event, World};
 use sample_chares::Tally;
-use std::alloc::{AllocError, Allocator, Global};
+use std::alloc::{Allocator, Global};
 use std::marker::Brand;
 use std::process::Abort;
 
 // The three tallies of the scripts, of 32, 40 and 32 bytes.
-fn three_tallies<A: Allocator + Copy>(alloc: A) -> Result<Vec<Tally<A>, A>, AllocError> {
+fn three_tallies<A: Allocator + Copy>(alloc: A) -> Result<Vec<Tally<A>, A>, PupError> {
     let mut tallies = Vec::with_capacity(alloc, 3)?;
     add_tally(alloc, &mut tallies, 1, 0)?;
     add_tally(alloc, &mut tallies, 1, 8)?;
@@ -30,12 +31,9 @@ fn add_tally<A: Allocator + Copy>(
     tallies: &mut Vec<Tally<A>, A>,
     first: u32,
     pad: usize,
-) -> Result<(), AllocError> {
+) -> Result<(), PupError> {
     let next = Tally::with_amounts(alloc, &[first, 0], pad)?;
-    if tallies.push(next).is_err() {
-        return Err(AllocError);
-    }
-    Ok(())
+    Ok(tallies.push(next)?)
 }
 
 // A tally starts on this PE, and posts its first amount to its neighbor.
