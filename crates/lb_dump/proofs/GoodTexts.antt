@@ -1,6 +1,8 @@
 -- What is known of a text stays so when it goes on.
 use Rattle.std.proofs.Common.{◌≡◌, ℕ, ◌+◌, ◌<◌, ◌≤◌, ◌⊎◌, inl, inr, List, ◌++◌, length, ap, sym, refl, ◌∙◌, arith, length-append, append_assoc, subst}
 use Rattle.std.proofs.lemmas.Bool.{cases_lt}
+use Rattle.std.proofs.Math.Seq.{take-append-add, take-append_seam}
+use Rattle.std.specs.Prelude.{take}
 use Rattle.std.proofs.lemmas.List.{get_or_append_left}
 use Rattle.chare_index.specs.declared.limits.TheConstants.Limits.{STATE_BYTES}
 use Rattle.lb_dump.specs.Format.{whole_len, word, word_len, procs_at, procs_in, count_at, count_in, head_len, load_at, size_at, size_in, place_at, place_in, element_len, in_element}
@@ -144,3 +146,8 @@ surplus text rest joined e good whole more =
   where
     broken_here : whole_len (text ++ rest) ≡ whole_len text → IsBroken (text ++ rest) Trailing
     broken_here same = (omega (arith, same, length-append text rest), rw (same, ← whole) (good_append text rest (length text) good (omega arith)))
+
+-- two lists, taken from the start of what begins with them
+pub take_two : (n : ℕ) (first second rest : List ℕ) → n ≡ length first + length second → take n (first ++ (second ++ rest)) ≡ first ++ second
+take_two n first second rest both =
+    ap (λ m. take m (first ++ (second ++ rest))) both ∙ take-append-add first (second ++ rest) (length second) ∙ ap (λ l. first ++ l) (take-append_seam second rest)

@@ -1,6 +1,6 @@
 //! Whether the fields that are whole keep their rules.
 
-ghost use Rattle.std.specs.Prelude.{◌≡◌, ◌+◌, ◌≤◌, ◌<◌, ℕ, length, slice_index, MatchResult};
+ghost use Rattle.std.specs.Prelude.{◌≡◌, ◌+◌, ◌++◌, ◌≤◌, ◌<◌, ℕ, length, slice_index, MatchResult};
 ghost use Rattle.chare_index.specs.declared.limits.TheConstants.Limits.{STATE_BYTES};
 ghost use Rattle.lb_dump.specs.Format.{letters, head_len, size_at, word, word_len};
 ghost use Rattle.lb_dump.specs.Faults.{IsGood, IsBroken};
@@ -24,7 +24,7 @@ fn judge_letters(text: &[u8]) -> Result<(), DumpError>
 }
 
 // The fields before the first element.
-pub(crate) fn judge_head(text: &[u8]) -> Result<(), DumpError>
+fn judge_head(text: &[u8]) -> Result<(), DumpError>
     requires { length text.now ≤ head_len }
     ensures first_fault { MatchResult result (λ _. IsGood text.now) (λ e. IsBroken text.now e) }
 {
@@ -40,6 +40,19 @@ pub(crate) fn judge_head(text: &[u8]) -> Result<(), DumpError>
         return Err(DumpError::Count);
     }
     Ok(())
+}
+
+/// The fields before the first element, where these bytes come behind the ones that are there.
+#[tactic(auto, using(std::proofs::lemmas::Slice::overwrites, crate::proofs::GoodTexts::take_two))]
+pub(crate) fn judge_longer(head: &[u8], more: &[u8]) -> Result<(), DumpError>
+    requires { length head.now + length more.now ≤ head_len }
+    ensures first_fault { MatchResult result (λ _. IsGood (head.now ++ more.now)) (λ e. IsBroken (head.now ++ more.now) e) }
+{
+    let len = head.len() + more.len();
+    let mut longer = [0; HEAD_LEN];
+    longer[..head.len()].copy_from_slice(head);
+    longer[head.len()..len].copy_from_slice(more);
+    judge_head(&longer[..len])
 }
 
 /// Judges the size of element `i`, of which only these bytes have come, where its size is among them.

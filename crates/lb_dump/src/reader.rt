@@ -7,7 +7,7 @@ ghost use Rattle.lb_dump.specs.Reading.{EndsReading, Feeds, NeedsNone};
 use crate::error::DumpError;
 use crate::format::HEAD_LEN;
 use crate::held::{Held, take_elements};
-use crate::judging::judge_head;
+use crate::judging::judge_longer;
 use crate::making::snapshot_at_end;
 use lb_snapshot::Snapshot;
 use std::alloc::{Allocator, Global};
@@ -59,8 +59,8 @@ impl<A: Allocator> DumpReader<A> {
     ///
     /// The first fault of the text so far, with the piece that brings it, and never
     /// [`Short`](DumpError::Short), which only [`end`](Self::end) reports; [`OutOfMemory`](DumpError::OutOfMemory)
-    /// where a request for memory is refused, in place of a fault that the same piece brings. Each later call returns
-    /// the same error.
+    /// where a request for memory is refused, in place of a fault behind the head that the same piece brings. Each later
+    /// call returns the same error.
     pub fn feed(&mut self, piece: &[u8]) -> Result<(), DumpError>
         ensures fed { Feeds self.old piece.now result self.new }
         ensures no_growth { IfOk self.old (λ text. NeedsNone text piece.now → result ≢ Err DumpError.OutOfMemory) }
@@ -112,7 +112,8 @@ fn take_in<A: Allocator>(held: &mut Held<A>, piece: &[u8]) -> Result<(), DumpErr
     take_elements(held, rest)
 }
 
-// Puts the part of a piece that belongs to the head at the end of the head, and gives the rest back.
+// Puts the part of a piece that belongs to the head at the end of the head, and gives the rest back. The head is judged
+// first, so that what is wrong with it is told where there is no memory too.
 fn take_head<'a, A: Allocator>(
     head: &mut Vec<u8, A>,
     piece: &'a [u8],
@@ -125,7 +126,7 @@ fn take_head<'a, A: Allocator>(
     ensures broken { IfErr result (λ e. (e ≡ DumpError.OutOfMemory) ⊎ IsBroken (head.old.items ++ piece.now) e) }
 {
     let (start, rest) = piece.split_at(piece.len().min(HEAD_LEN - head.len()));
+    judge_longer(head, start)?;
     head.extend_from_slice(start)?;
-    judge_head(head)?;
     Ok(rest)
 }

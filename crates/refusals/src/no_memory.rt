@@ -7,7 +7,7 @@ use chain_partition::Prefix;
 use chare_index::Index;
 use lb_certificates::{Snapshot, check_division, check_naming};
 use lb_database::LoadDb;
-use lb_dump::{DumpReader, write_to};
+use lb_dump::{DumpError, DumpReader, decode, write_to};
 use lb_strategy::{Decision, check, plan};
 use refusing_alloc::{Outcome, Refusing};
 use std::alloc::{Allocator, Global};
@@ -83,6 +83,16 @@ fn a_reader_of_no_bytes_and_of_too_many(rt: HostRuntime) {
     let made = alloc.requests();
     assert_for(&rt, refuses_more(reader), "refuses more");
     assert_for(&rt, alloc.requests() == made, "those of the reader");
+}
+
+#[test]
+fn a_head_with_a_fault(rt: HostRuntime) {
+    let alloc = Refusing::new(rt.alloc(), 0);
+    let letters = decode(&alloc, b"LX").err();
+    assert_for(&rt, letters == Some(DumpError::Magic), letters);
+    let procs = decode(&alloc, b"LBD1\0\0\0\0\0\0\0\0").err();
+    assert_for(&rt, procs == Some(DumpError::Procs), procs);
+    assert_for(&rt, alloc.requests() == 0, "requests");
 }
 
 #[test]
