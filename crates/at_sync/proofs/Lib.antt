@@ -1,3 +1,4 @@
 pub mod Finished
+pub mod Places
 pub mod Rounds
 pub mod Unrefused

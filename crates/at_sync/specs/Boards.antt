@@ -11,7 +11,7 @@ use Rattle.lb_snapshot.specs.Measured.{Taken}
 use Rattle.lb_certificates.specs.Naming.{IsCheapest, IsLeastNaming}
 use Rattle.lb_database.specs.Measuring.{Measured, IsComplete, IsSnapshotOf, StandBelow, elements, opening, with_charge, with_report}
 use Rattle.lb_strategy.specs.Decisions.{IsRight}
-use Rattle.lb_strategy.specs.Moves.{HasPlace}
+use Rattle.lb_strategy.specs.Moves.{HasPlace, planned_pe}
 use Rattle.lb_strategy.specs.declared.decision.Decision.{Decision}
 
 -- what is kept of a round: the snapshot of what was reported, and the decision made for it
@@ -34,6 +34,10 @@ kept_of rounds (suc r) = slice_get rounds r
 -- the decision of round r
 abbrev pub decision_of : {A : Type 0} → BoardState A → ℕ → Option (Decision A)
 decision_of b r = option_map (λ kept. kept.1) (kept_of b.rounds r)
+
+-- the place of element e in the decision of round r, if that is decided
+abbrev pub place_in : {A : Type 0} → BoardState A → ℕ → ℕ → Option ℕ
+place_in b r e = option_map (λ d. planned_pe d.division.cuts d.naming e) (decision_of b r)
 
 -- a new board for n elements: in round 1, nothing reported or decided, and nobody has finished
 abbrev pub new_board : {A : Type 0} → ℕ → ℕ → BoardState A

@@ -1,14 +1,14 @@
 //! The board, after AtSync of Charm++: nobody is decided on until everybody waits.
 
-ghost use Rattle.std.specs.Prelude.{◌≡◌, ℕ, ◌+◌, ◌++◌, ◌∷◌, [], ◌<◌, ◌≤◌, ◌↔◌, IfOk, IfErr, IfSome, IsTrue, false, MatchResult, OnOk, OnErr, replicate, slice_get};
+ghost use Rattle.std.specs.Prelude.{◌≡◌, ℕ, ◌+◌, ◌++◌, ◌∷◌, [], ◌<◌, ◌≤◌, ◌↔◌, IfOk, IfErr, IfSome, IsTrue, None, false, MatchResult, OnOk, OnErr, replicate, slice_get};
 ghost use Rattle.std.specs.Option.{option_copied};
 ghost use Rattle.lb_database.specs.Measuring.{IsComplete, IsMeasured, IsSnapshotOf, StandBelow, elements, opening};
 ghost use Rattle.lb_database.specs.Refusals.{HasNextRound, IsReport, RefusesReport};
-ghost use Rattle.at_sync.specs.Boards.{AreDecided, Decides, IsDecided, HaveFinished, IsBoard, IsKeptIn, after_finish, after_report, decision_of, kept_of, new_board};
+ghost use Rattle.at_sync.specs.Boards.{AreDecided, Decides, IsDecided, HaveFinished, IsBoard, IsKeptIn, after_finish, after_report, decision_of, kept_of, new_board, place_in};
 ghost use Rattle.at_sync.specs.Refusals.{RefusesDecision, RefusesFinish, database_error_of};
 
 use crate::error::BoardError;
-use chare_index::{Gate, Limits, Pe, Round};
+use chare_index::{Gate, Index, Limits, Pe, Round};
 use lb_certificates::{Snapshot, Units};
 use lb_database::LoadDb;
 use lb_strategy::{Decision, plan, plan_with};
@@ -167,6 +167,30 @@ impl<A: Allocator> Board<A> {
     {
         let (_, decision) = kept_for(self.rounds(), round.get())?;
         Some(decision)
+    }
+
+    /// The snapshot and the decision of a round, in constant time, or `None` where the round is not decided.
+    pub fn kept_for(&self, round: Round) -> Option<&(Snapshot<A>, Decision<A>)>
+        ensures value { option_copied result ≡ kept_of self.now.rounds round }
+    {
+        kept_for(&self.rounds, round.get())
+    }
+
+    /// The place of element `i` in the decision of a round, which is one of the board's PEs, or `None` where the round is
+    /// not decided or there is no such element.
+    #[tactic(auto, using(crate::proofs::Places::has_place, crate::proofs::Places::place_below, crate::proofs::Places::decided_before))]
+    pub fn place_for(&self, round: Round, i: Index) -> Option<Pe>
+        ensures value { i < elements self.now.database → result ≡ place_in self.now round i }
+        ensures stranger { elements self.now.database ≤ i → result ≡ None }
+        ensures below { IfSome result (λ pe. pe < self.now.pes) }
+        ensures before_last_round { IfSome result (λ pe. round < Limits.ROUND) }
+    {
+        let _rounds = self.rounds();
+        if self.len() <= i.get() as usize {
+            return None;
+        }
+        let decision = self.decision_for(round)?;
+        Some(decision.place_of(i))
     }
 
     /// Notes that element `i` has finished. A second time changes nothing. The only refusal is

@@ -4,6 +4,8 @@
 //! - [`Board`]: the reports of the present round, the snapshot and the decision of each round before it, and who
 //!   has finished.
 //! - [`BoardError`]: why a call was refused.
+//!
+//! Nothing here waits. The board that the threads of a run share, under a lock, is `Barrier` of the crate `barrier`.
 #![tactic(auto)]
 
 mod board;

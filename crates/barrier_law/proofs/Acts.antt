@@ -2,6 +2,7 @@
 use Rattle.std.proofs.Common.{◌≡◌, ℕ, ◌+◌, List, [], ◌∷◌, ◌++◌, map, Some, None, sum_by, arith, refl}
 use Rattle.std.specs.Prelude.{not}
 use Rattle.std.specs.List.{filter}
+use Rattle.std.proofs.lemmas.List.Elements.{All-nil, All-cons}
 use Rattle.std.proofs.lemmas.List.Filters.{sum_by-filter_both}
 use Rattle.std.proofs.lemmas.List.Sums.{sum_by-cons, sum_by-append, sum_by_push}
 use Rattle.chares.specs.declared.carried.Carried.TheVariants.{Letter, Element}
@@ -45,6 +46,7 @@ module _ {C : Type 0} (step : Step C) (pack : C → List ℕ) (pe : PeView C) (x
       let b : sum_by (weigh g) (l ∷ []) ≡ weigh g l + 0 = sum_by-cons (weigh g) l [] in
       omega (arith, a, b))
       refl refl
+      (All-cons (λ (m : LetterView). m.to ≡ l.to) l [] refl (All-nil (λ (m : LetterView). m.to ≡ l.to)))
 
   pub installs_still : (p : PackedView) (chare : C) → pe.hand ≡ Some x → x.parcel ≡ Element p → found p.index pe.room ≡ None → Moved step pe (installed pe p chare) (Installed p.index ∷ []) None [] []
   installs_still p chare hand is at =

@@ -10,11 +10,11 @@ use Rattle.chares.specs.declared.note.Note.{Note}
 use Rattle.chares.specs.declared.note.Note.TheVariants.{Sync, Finish}
 use Rattle.chares.specs.declared.report.Report.{Report}
 use Rattle.chares.specs.declared.report.Report.TheVariants.{Synced, Decided, Resumed}
-use Rattle.at_sync.specs.Boards.{BoardState, Kept, Decides, after_report, after_finish}
+use Rattle.at_sync.specs.Boards.{BoardState, Kept, Decides, after_report, after_finish, place_in}
 use Rattle.lb_database.specs.Measuring.{elements, report_of}
 use Rattle.lb_strategy.specs.Moves.{planned_pe}
 use Rattle.rts_core.specs.Accounts.{times}
-use Rattle.rts_core.specs.Events.{place_in, board_after, note_reports}
+use Rattle.rts_core.specs.Events.{board_after, note_reports}
 use Rattle.rts_core.proofs.EventSteps.{where_some, some_same}
 use Rattle.barrier_law.specs.Barrier.{is_decided}
 use Rattle.barrier_law.proofs.Tallies.{one, times-append, times-cons, only_member, no_member, split_there, InFirst, InAdded, split_of}

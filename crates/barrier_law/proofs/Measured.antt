@@ -14,7 +14,8 @@ use Rattle.round_agreement.specs.Agreement.{IsTakenOf}
 use Rattle.round_agreement.proofs.Snapshots.{run_snaps}
 use Rattle.rts_core.specs.declared.event.Event.{Event}
 use Rattle.rts_core.specs.Events.{After, Happens}
-use Rattle.rts_core.specs.Histories.{HasHistories, AreHistories}
+use Rattle.pe_state.specs.Histories.{HasHistories}
+use Rattle.rts_core.specs.Histories.{AreHistories}
 use Rattle.rts_core.specs.Runs.{Leads}
 use Rattle.rts_core.specs.Worlds.{WorldView, opening_world}
 use Rattle.barrier_law.specs.Measured.{Measures}

@@ -13,9 +13,9 @@ use Rattle.chares.specs.Posting.{letters_of, letter_to}
 use Rattle.chares.specs.Steps.{Step}
 use Rattle.element_rounds.specs.Orders.{MayHandle}
 use Rattle.element_rounds.proofs.Orders.{in_order_ran}
-use Rattle.pe_state.specs.Pes.{PeView, Parcel, Item, at_pe, letter_at, element_at, front_at, front_parcel, is_for, hand_wants, looked_in, handled, installed, departed}
+use Rattle.pe_state.specs.Pes.{PeView, Parcel, Item, at_pe, letter_at, element_at, front_at, front_parcel, is_for, hand_wants, looked_in, handled, installed, departed, waits_for}
 use Rattle.pe_state.specs.Rooms.{found, changed, ran_in}
-use Rattle.rts_core.specs.Events.{Desk, waits_for}
+use Rattle.rts_core.specs.Events.{Desk}
 use Rattle.barrier_law.specs.Orders.{IsElementInOrder, IsParcelInOrder, HasOrder}
 use Rattle.barrier_law.proofs.Rooms.{EachAt, each_found, each_changed, each_joined, each_without, each_value, at_place}
 use Rattle.barrier_law.proofs.Turns.{EachTurn}

@@ -12,11 +12,11 @@ use Rattle.chares.specs.Elements.{ElementView, ran}
 use Rattle.chares.specs.Letters.{Done}
 use Rattle.chares.specs.Posting.{posts_of}
 use Rattle.chares.specs.Steps.{Step}
-use Rattle.at_sync.specs.Boards.{BoardState}
+use Rattle.at_sync.specs.Boards.{BoardState, place_in}
 use Rattle.pe_state.specs.Pes.{PeView, resumed}
 use Rattle.pe_state.specs.Rooms.{found, changed, ran_in}
 use Rattle.rts_core.specs.Accounts.{times}
-use Rattle.rts_core.specs.Events.{Desk, place_in, board_after, note_reports, with_desk, desk}
+use Rattle.rts_core.specs.Events.{Desk, board_after, note_reports, with_desk, desk}
 use Rattle.rts_core.specs.Worlds.{WorldView}
 use Rattle.barrier_law.specs.Barrier.{is_decided, is_resumed, StandsInItsPlace}
 use Rattle.rts_core.proofs.WorldSteps.{get_set_same}

@@ -11,14 +11,14 @@ use Rattle.chares.specs.declared.report.Report.TheVariants.{Departed, Decided, I
 use Rattle.chares.specs.Elements.{ElementView, PackedView}
 use Rattle.chares.specs.Letters.{LetterView}
 use Rattle.chares.specs.Steps.{Step}
-use Rattle.at_sync.specs.Boards.{BoardState, Decides}
+use Rattle.at_sync.specs.Boards.{BoardState, Decides, place_in}
 use Rattle.pup_pack.specs.declared.error.PupError.{PupError}
-use Rattle.pe_state.specs.Pes.{PeView, Parcel, Item, Acting, wanted, looked, front_address, front_parcel, gave_up, received, noted, resumed, resume_reports, departed, installed, executed, shelving, forwarding, passing, on_letter, installing, on_element, on_parcel, acting_on, acting}
+use Rattle.pe_state.specs.Pes.{PeView, Parcel, Item, Acting, wanted, looked, front_address, front_parcel, gave_up, received, noted, resumed, resume_reports, departed, installed, executed, shelving, forwarding, passing, on_letter, installing, on_element, on_parcel, acting_on, acting, waits_for}
 use Rattle.pe_state.specs.Rooms.{found}
 use Rattle.pe_state.specs.declared.acted.Acted.TheVariants.{Installed as IsInstalled}
 use Rattle.rts_core.specs.declared.event.Event.{Event}
 use Rattle.rts_core.specs.declared.event.Event.TheVariants.{Start, Look, Flush, Deliver, Act, Report as Hand, Decide, Depart, Resume}
-use Rattle.rts_core.specs.Events.{After, where_true, front_of, waits_for, place_in, due, board_after, note_reports, looked_up, flushed, delivered, delivered_from, handed_in, started, left, went_on, acted, Desk, pe_of, at_desk, desk, with_desk, or_nothing, enabled, Happens, MayDecide}
+use Rattle.rts_core.specs.Events.{After, where_true, front_of, due, board_after, note_reports, looked_up, flushed, delivered, delivered_from, handed_in, started, left, went_on, acted, Desk, pe_of, at_desk, desk, with_desk, or_nothing, enabled, Happens, MayDecide}
 use Rattle.rts_core.specs.Worlds.{WorldView}
 use Rattle.rts_core.proofs.EventSteps.{where_some, some_same, none_is, front_is}
 

@@ -8,8 +8,8 @@ use Rattle.chares.specs.declared.report.Report.TheVariants.{Synced, Decided, Res
 use Rattle.chares.specs.Elements.{ElementView}
 use Rattle.pe_state.specs.Pes.{PeView}
 use Rattle.pe_state.specs.Rooms.{found}
+use Rattle.at_sync.specs.Boards.{place_in}
 use Rattle.rts_core.specs.Accounts.{times}
-use Rattle.rts_core.specs.Events.{place_in}
 use Rattle.rts_core.specs.Worlds.{WorldView}
 
 -- whether a report is that this round was decided

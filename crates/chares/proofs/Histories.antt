@@ -2,7 +2,7 @@
 use Rattle.std.proofs.Common.{◌≡◌, ℕ, ◌<◌, ◌≤◌, List, [], ◌∷◌, ◌++◌, length, Ok, IsOk, Result, refl, sym, ◌∙◌, ap, subst, append-nil}
 use Rattle.std.proofs.lemmas.List.{map-append}
 use Rattle.std.proofs.lemmas.Option.{slice_get_within}
-use Rattle.chares.specs.Elements.{ElementView, PackedView, ran, lived, packed, unpacked, opening_element, IsHistory, IsPackedHistory}
+use Rattle.chares.specs.Elements.{ElementView, PackedView, ran, lived, unpacked, opening_element, IsHistory, IsPackedHistory}
 use Rattle.chares.specs.Letters.{Done}
 use Rattle.chares.specs.Progressing.{ended}
 use Rattle.chares.specs.declared.progress.Ending.{Ending}
@@ -31,11 +31,6 @@ history_ran {C} step pack opened el pe done h =
           ∙ ap (λ (v : ElementView C). ran step pack v (length opened) pe done) h.is_lived;
       is_journal = rw (map-append, h.is_journal) refl;
     }
-
-pub history_more : {C : Type 0} (step : Step C) (pack : C → List ℕ) (opened : List C) (el after : ElementView C) (pe : ℕ) (done : Done)
-    → IsHistory step pack opened el → after ≡ ran step pack el (length opened) pe done → IsHistory step pack opened after
-history_more {C} step pack opened el after pe done h e =
-    subst (λ (v : ElementView C). IsHistory step pack opened v) (sym e) (history_ran step pack opened el pe done h)
 
 -- an element is one of its array
 pub history_within : {C : Type 0} (step : Step C) (pack : C → List ℕ) (opened : List C) (el : ElementView C) → IsHistory step pack opened el → el.index < length opened
@@ -77,10 +72,3 @@ packed_whole {C} step fits counted pack unpack opened p trip packs h =
     let b : pack h.chare ++ [] ≡ p.bytes = append-nil (pack h.chare) ∙ h.is_pack in
     let f : unpack p.bytes ≡ Ok (h.chare, length (pack h.chare)) = subst (λ (v : List ℕ). unpack v ≡ Ok (h.chare, length (pack h.chare))) b e in
     subst (λ (v : Result (C × ℕ) PupError). IsOk v) (sym f) refl
-
--- an element, packed, is still what its journal says
-pub history_packed : {C : Type 0} (step : Step C) (fits : C → Type 0) (pack : C → List ℕ) (opened : List C) (el : ElementView C) (p : PackedView)
-    → IsHistory step pack opened el → fits el.chare → p ≡ packed pack el → IsPackedHistory step fits pack opened p
-history_packed {C} step fits pack opened el p h f e =
-    subst (λ (v : PackedView). IsPackedHistory step fits pack opened v) (sym e)
-    (record { chare = el.chare; is_value = f; is_pack = refl; is_history = h })

@@ -1,7 +1,7 @@
 -- What an element is after one more entry, and after a handler that was refused.
-use Rattle.std.proofs.Common.{◌≡◌, ◌≢◌, ℕ, List, [], ◌∷◌, ◌++◌, length, Option, Result, Ok, Err, OnOk, OnErr, IfOk, IfErr, true, false, sym, ap, subst, ◌∙◌}
+use Rattle.std.proofs.Common.{◌≡◌, ◌≢◌, ℕ, List, [], ◌∷◌, ◌++◌, length, Option, Result, Ok, Err, OnOk, OnErr, IfOk, IfErr, true, false, ap, subst, ◌∙◌}
 use Rattle.std.specs.Result.{IsErr, IsErrAnd, is_err}
-use Rattle.chares.specs.Elements.{ElementView, note_of, ran, IsHistory}
+use Rattle.chares.specs.Elements.{ElementView, note_of, ran}
 use Rattle.chares.specs.Letters.{Done, told_of}
 use Rattle.chares.specs.Posting.{Posting, posted, with_report}
 use Rattle.chares.specs.Progressing.{entered, charged, ending, ended, note_at, resumed_mark, synced_mark}
@@ -51,10 +51,6 @@ same_parts el now chare journal marks c j m e =
     ∙ ap (λ v. record el { journal = v; marks = marks }) j
     ∙ ap (λ v. record el { marks = v }) m
     ∙ e
-
-module _ {C : Type 0} (step : Step C) (pack : C → List ℕ) where
-  pub history_same : (opened : List C) (el after : ElementView C) → IsHistory step pack opened el → after ≡ el → IsHistory step pack opened after
-  history_same opened el after h e = subst (λ (v : ElementView C). IsHistory step pack opened v) (sym e) h
 
 -- a handler's answer, and what it comes to
 pub record Ran {C : Type 0} (step : Step C) (pack : C → List ℕ) (el : ElementView C) (n pe : ℕ) (done : Done) (entry : Entry (List ℕ)) (chare : C) (effect : Effect) (work : Progress) (end : Ending) (note : Option Note) : Type 0 where

@@ -4,12 +4,12 @@ ghost use Rattle.std.specs.Prelude.{◌≡◌, ◌≢◌, ℕ, List, ◌+◌, �
 ghost use Rattle.chare_index.specs.declared.limits.TheConstants.Limits.{ROUND};
 ghost use Rattle.chares.specs.declared.entry.Entry.{Entry};
 ghost use Rattle.chares.specs.declared.sends.SendError.TheVariants.{OutOfMemory};
-ghost use Rattle.chares.specs.Elements.{ElementView, opening_element, outcome_of, note_of, ran, IsHistory};
+ghost use Rattle.chares.specs.Elements.{ElementView, opening_element, outcome_of, note_of, ran};
 ghost use Rattle.chares.specs.declared.report.Report.{Report};
 ghost use Rattle.chares.specs.Posting.{posted, with_report};
 ghost use Rattle.chares.specs.Progressing.{note_at, synced_mark};
 
-use crate::chare::{Chare, Here, Openings};
+use crate::chare::{Chare, Here};
 use crate::entry::Entry;
 use crate::letter::Letter;
 use crate::note::{Mark, Note};
@@ -18,40 +18,37 @@ use crate::report::Report;
 use crate::sends::{SendError, Sends};
 use chare_index::{Gate, Index, Limits, Pe, Round};
 use std::alloc::{Allocator, Global};
-use std::marker::{Model, PhantomData};
+use std::marker::Model;
 
-/// A chare with what it has done. Contracts see it as the record `ElementView`. It is what its journal says: the
-/// chare that the array opened with, after each entry in turn.
+/// A chare with what it has done. Contracts see it as the record `ElementView`. That it is what its journal says, the
+/// chare that its array opened with after each entry in turn, holds of each element that stands on a PE: the type of
+/// the PE says so, and names the array.
 #[derive(Drop)]
-pub struct Element<C: Chare<A>, H: Openings<C>, A: Allocator = Global> {
+pub struct Element<C: Chare<A>, A: Allocator = Global> {
     index: Index,
     chare: C,
     journal: Vec<Entry<Letter<A>>, A>,
     progress: Progress,
     marks: Vec<Mark, A>,
-    of: PhantomData<H>,
 }
 
-impl<C: Chare<A>, H: Openings<C>, A: Allocator> Model for Element<C, H, A> {
+impl<C: Chare<A>, A: Allocator> Model for Element<C, A> {
     ghost use Rattle.std.specs.Prelude.{◌<◌};
     ghost use Rattle.chare_index.specs.declared.limits.TheConstants.Limits.{ROUND};
-    ghost use Rattle.chares.specs.Elements.{ElementView, IsHistory};
+    ghost use Rattle.chares.specs.Elements.{ElementView};
 
     ghost Value = { ElementView C };
 
     ghost view = { λ e. record { index = e.index; chare = e.chare; journal = e.journal.items; progress = e.progress; marks = e.marks.items } };
 
-    ghost invariant = { λ e.
-        (e.progress.round < ROUND)
-        × IsHistory C.step C.pack H.opened (record { index = e.index; chare = e.chare; journal = e.journal.items; progress = e.progress; marks = e.marks.items }) };
+    ghost invariant = { λ e. e.progress.round < ROUND };
 }
 
-impl<C: Chare<A>, H: Openings<C>, A: Allocator> Element<C, H, A> {
+impl<C: Chare<A>, A: Allocator> Element<C, A> {
     /// The element with this index, as the array opens.
     pub fn new(alloc: A, index: Index, chare: C) -> Self
     where
         A: Copy,
-        requires opening { slice_get H.opened index ≡ Some chare }
         ensures value { result ≡ opening_element index chare }
     {
         Element {
@@ -60,15 +57,12 @@ impl<C: Chare<A>, H: Openings<C>, A: Allocator> Element<C, H, A> {
             journal: Vec::new(alloc),
             progress: Progress::opening(),
             marks: Vec::new(alloc),
-            of: PhantomData,
         }
     }
 
     /// Its index.
-    #[tactic(auto, using(crate::proofs::Histories::history_within))]
     pub fn index(&self) -> Index
         ensures value { result ≡ self.now.index }
-        ensures within { result < length H.opened }
     {
         self.index
     }
@@ -103,7 +97,7 @@ impl<C: Chare<A>, H: Openings<C>, A: Allocator> Element<C, H, A> {
     }
 }
 
-impl<C: Chare<A>, H: Openings<C>, A: Allocator> Element<C, H, A> {
+impl<C: Chare<A>, A: Allocator> Element<C, A> {
     /// All but its chare, which is given up.
     pub(crate) fn into_parts(self) -> (Index, Vec<Entry<Letter<A>>, A>, Progress, Vec<Mark, A>)
         ensures index { result.0 ≡ self.index }
@@ -111,7 +105,6 @@ impl<C: Chare<A>, H: Openings<C>, A: Allocator> Element<C, H, A> {
         ensures progress { result.2 ≡ self.progress }
         ensures marks { result.3.items ≡ self.marks }
         ensures before_last_round { self.progress.round < ROUND }
-        ensures history { IsHistory C.step C.pack H.opened self }
     {
         let Element {
             index,
@@ -119,7 +112,6 @@ impl<C: Chare<A>, H: Openings<C>, A: Allocator> Element<C, H, A> {
             journal,
             progress,
             marks,
-            of: _,
         } = self;
         (index, journal, progress, marks)
     }
@@ -133,7 +125,6 @@ impl<C: Chare<A>, H: Openings<C>, A: Allocator> Element<C, H, A> {
         marks: Vec<Mark, A>,
     ) -> Self
         requires before_last_round { progress.round < ROUND }
-        requires history { IsHistory C.step C.pack H.opened (record { index = index; chare = chare; journal = journal.items; progress = progress; marks = marks.items }) }
         ensures value { result ≡ record { index = index; chare = chare; journal = journal.items; progress = progress; marks = marks.items } }
     {
         Element {
@@ -142,7 +133,6 @@ impl<C: Chare<A>, H: Openings<C>, A: Allocator> Element<C, H, A> {
             journal,
             progress,
             marks,
-            of: PhantomData,
         }
     }
 }
@@ -156,10 +146,9 @@ pub struct Unread<A: Allocator = Global> {
     pub error: SendError,
 }
 
-impl<C: Chare<A>, H: Openings<C>, A: Allocator> Element<C, H, A> {
+impl<C: Chare<A>, A: Allocator> Element<C, A> {
     /// Executes a letter, on this PE, reports it, and returns the note that is owed for it. On a refusal the letter
     /// comes back, the element is unchanged, and what the handler posted before it was refused is taken back.
-    #[tactic(auto, using(crate::proofs::Histories::history_within))]
     pub fn execute<G: Gate, P: Drop>(
         &mut self,
         gate: &G,
@@ -167,14 +156,14 @@ impl<C: Chare<A>, H: Openings<C>, A: Allocator> Element<C, H, A> {
         letter: Letter<A>,
         sends: &mut Sends<P, A>,
     ) -> Result<Option<Note>, Unread<A>>
-        requires same_array { sends.old.n ≡ length H.opened }
-        requires few { length H.opened ≤ Limits.ELEMENTS }
-        ensures element { OnOk result (self.new ≡ ran C.step C.pack self.old (length H.opened) pe (Entry.Letter letter)) }
-        ensures note { IfOk result (λ note. note ≡ note_of C.step C.pack self.old (length H.opened) pe (Entry.Letter letter)) }
-        ensures sends { OnOk result (sends.new ≡ posted (with_report sends.old (Report.Executed letter.id letter.to)) (outcome_of C.step C.pack self.old (length H.opened) (Entry.Letter letter)).sends) }
+        requires member { self.old.index < sends.old.n }
+        requires few { sends.old.n ≤ Limits.ELEMENTS }
+        ensures element { OnOk result (self.new ≡ ran C.step C.pack self.old sends.old.n pe (Entry.Letter letter)) }
+        ensures note { IfOk result (λ note. note ≡ note_of C.step C.pack self.old sends.old.n pe (Entry.Letter letter)) }
+        ensures sends { OnOk result (sends.new ≡ posted (with_report sends.old (Report.Executed letter.id letter.to)) (outcome_of C.step C.pack self.old sends.old.n (Entry.Letter letter)).sends) }
         ensures err { OnErr result (self.new ≡ self.old) }
         ensures letter { IfErr result (λ unread. unread.letter ≡ letter) }
-        ensures refused { IfErr result (λ unread. unread.error ≢ OutOfMemory → C.refuses self.old.chare self.old.index (length H.opened) sends.old.count (Entry.Letter letter.body) unread.error) }
+        ensures refused { IfErr result (λ unread. unread.error ≢ OutOfMemory → C.refuses self.old.chare self.old.index sends.old.n sends.old.count (Entry.Letter letter.body) unread.error) }
         ensures taken_back { OnErr result (sends.new ≡ sends.old) }
     {
         if self.journal.reserve(1).is_err() || self.marks.reserve(1).is_err() {
@@ -215,7 +204,6 @@ impl<C: Chare<A>, H: Openings<C>, A: Allocator> Element<C, H, A> {
 
     /// Goes on after this round, or starts where it is 0, on this PE, reports it, and returns the note that is owed for
     /// it. On a refusal the element is unchanged, and what the handler posted before it was refused is taken back.
-    #[tactic(auto, using(crate::proofs::Histories::history_within))]
     pub fn resume<G: Gate, P: Drop>(
         &mut self,
         gate: &G,
@@ -223,14 +211,14 @@ impl<C: Chare<A>, H: Openings<C>, A: Allocator> Element<C, H, A> {
         round: Round,
         sends: &mut Sends<P, A>,
     ) -> Result<Option<Note>, SendError>
-        requires same_array { sends.old.n ≡ length H.opened }
-        requires few { length H.opened ≤ Limits.ELEMENTS }
+        requires member { self.old.index < sends.old.n }
+        requires few { sends.old.n ≤ Limits.ELEMENTS }
         requires before_last_round { round < Limits.ROUND }
-        ensures element { OnOk result (self.new ≡ ran C.step C.pack self.old (length H.opened) pe (Entry.Resumption round)) }
-        ensures note { IfOk result (λ note. note ≡ note_of C.step C.pack self.old (length H.opened) pe (Entry.Resumption round)) }
-        ensures sends { OnOk result (sends.new ≡ posted (with_report sends.old (Report.Resumed self.old.index round)) (outcome_of C.step C.pack self.old (length H.opened) (Entry.Resumption round)).sends) }
+        ensures element { OnOk result (self.new ≡ ran C.step C.pack self.old sends.old.n pe (Entry.Resumption round)) }
+        ensures note { IfOk result (λ note. note ≡ note_of C.step C.pack self.old sends.old.n pe (Entry.Resumption round)) }
+        ensures sends { OnOk result (sends.new ≡ posted (with_report sends.old (Report.Resumed self.old.index round)) (outcome_of C.step C.pack self.old sends.old.n (Entry.Resumption round)).sends) }
         ensures err { OnErr result (self.new ≡ self.old) }
-        ensures refused { IfErr result (λ error. error ≢ OutOfMemory → C.refuses self.old.chare self.old.index (length H.opened) sends.old.count (Entry.Resumption round) error) }
+        ensures refused { IfErr result (λ error. error ≢ OutOfMemory → C.refuses self.old.chare self.old.index sends.old.n sends.old.count (Entry.Resumption round) error) }
         ensures taken_back { OnErr result (sends.new ≡ sends.old) }
     {
         self.journal.reserve(1)?;

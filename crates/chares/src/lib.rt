@@ -5,7 +5,7 @@
 //! - [`Sends`], with [`SendError`]: how a handler posts letters.
 //! - [`Letter`], with [`LetterId`]: what is posted.
 //! - [`Element`], with [`Progress`] and [`Entry`]: a chare with what it has done.
-//! - [`PackedElement`]: an element on its way.
+//! - [`Packed`]: an element on its way; [`PackedElement`]: one that is what its journal says.
 //! - [`Carried`] and [`Addressed`]: what goes from PE to PE, and where.
 //! - [`Note`] and [`Mark`]: what an element tells the board, and what it keeps of that.
 //! - [`Report`]: what an event reports.
@@ -28,7 +28,7 @@ pub use element::{Element, Unread};
 pub use entry::Entry;
 pub use letter::{Letter, LetterId};
 pub use note::{Mark, Note};
-pub use packed::{PackedElement, Packing};
+pub use packed::{Packed, PackedElement, Packing};
 pub use progress::{Ending, Progress};
 pub use report::Report;
 pub use sends::{Out, SendError, Sends, add_report, room_for_report};

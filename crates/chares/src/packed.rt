@@ -26,29 +26,25 @@ struct Luggage<A: Allocator> {
 }
 
 /// An element on its way, with its state packed. It is as small as a pointer, since queues move it. Contracts see it
-/// as the record `PackedView`. It packs a chare that is what its journal says.
+/// as the record `PackedView`. That it packs what its journal says its type does not tell: [`PackedElement`] does.
 #[derive(Drop)]
-pub struct PackedElement<C: Chare<A>, H: Openings<C>, A: Allocator = Global> {
+pub struct Packed<A: Allocator = Global> {
     luggage: Box<Luggage<A>, A>,
-    chare: PhantomData<C>,
-    of: PhantomData<H>,
 }
 
-impl<C: Chare<A>, H: Openings<C>, A: Allocator> Model for PackedElement<C, H, A> {
+impl<A: Allocator> Model for Packed<A> {
     ghost use Rattle.std.specs.Prelude.{◌<◌};
     ghost use Rattle.chare_index.specs.declared.limits.TheConstants.Limits.{ROUND};
-    ghost use Rattle.chares.specs.Elements.{PackedView, IsPackedHistory};
+    ghost use Rattle.chares.specs.Elements.{PackedView};
 
     ghost Value = { PackedView };
 
     ghost view = { λ e. record { index = e.luggage.value.index; bytes = e.luggage.value.bytes.items; journal = e.luggage.value.journal.items; progress = e.luggage.value.progress; marks = e.luggage.value.marks.items } };
 
-    ghost invariant = { λ e.
-        (e.luggage.value.progress.round < ROUND)
-        × IsPackedHistory C.step C.fits C.pack H.opened (record { index = e.luggage.value.index; bytes = e.luggage.value.bytes.items; journal = e.luggage.value.journal.items; progress = e.luggage.value.progress; marks = e.luggage.value.marks.items }) };
+    ghost invariant = { λ e. e.luggage.value.progress.round < ROUND };
 }
 
-impl<C: Chare<A>, H: Openings<C>, A: Allocator> PackedElement<C, H, A> {
+impl<A: Allocator> Packed<A> {
     /// Its index.
     pub fn index(&self) -> Index
         ensures value { result ≡ self.now.index }
@@ -84,8 +80,10 @@ impl<C: Chare<A>, H: Openings<C>, A: Allocator> PackedElement<C, H, A> {
         self.luggage.marks.as_slice()
     }
 
-    /// Its chare again. Its bytes always unpack, so the only refusal is out of memory.
-    pub fn unpack(&self, alloc: A) -> Result<C, AllocError>
+    /// Its chare again, where it packs what its journal says, of the array that `H` names. Its bytes unpack then, so the
+    /// only refusal is out of memory.
+    pub fn unpack<C: Chare<A>, H: Openings<C>>(&self, alloc: A) -> Result<C, AllocError>
+        requires consistent { IsPackedHistory C.step C.fits C.pack H.opened self.now }
         ensures history { IfOk result (λ chare. IsHistory C.step C.pack H.opened (unpacked self.now chare)) }
         ensures unpacks { IfOk result (λ chare. (k : ℕ) × (C.unpack self.now.bytes ≡ Ok (chare, k))) }
         ensures whole { IsOk (C.unpack self.now.bytes) }
@@ -95,6 +93,106 @@ impl<C: Chare<A>, H: Openings<C>, A: Allocator> PackedElement<C, H, A> {
             Err(PupError::OutOfMemory) => Err(AllocError),
             Err(_) => unreachable!(),
         }
+    }
+
+    /// The element at rest again, with the chare that its bytes unpacked to.
+    pub fn open<C: Chare<A>>(self, chare: C) -> Element<C, A>
+        ensures value { result ≡ unpacked self chare }
+    {
+        let Packed { luggage } = self;
+        let Luggage {
+            index,
+            bytes: _,
+            journal,
+            progress,
+            marks,
+        } = Box::into_inner(luggage);
+        Element::from_parts(index, chare, journal, progress, marks)
+    }
+}
+
+/// An element on its way that packs what its journal says, of the array that `H` names: what queues carry. Contracts
+/// see it as the record `PackedView`.
+#[derive(Drop)]
+pub struct PackedElement<C: Chare<A>, H: Openings<C>, A: Allocator = Global> {
+    packed: Packed<A>,
+    chare: PhantomData<C>,
+    of: PhantomData<H>,
+}
+
+impl<C: Chare<A>, H: Openings<C>, A: Allocator> Model for PackedElement<C, H, A> {
+    ghost use Rattle.chares.specs.Elements.{PackedView, IsPackedHistory};
+
+    ghost Value = { PackedView };
+
+    ghost view = { λ e. e.packed };
+
+    ghost invariant = { λ e. IsPackedHistory C.step C.fits C.pack H.opened e.packed };
+}
+
+impl<C: Chare<A>, H: Openings<C>, A: Allocator> PackedElement<C, H, A> {
+    /// What a PE has packed, where it packs what its journal says.
+    pub fn new(packed: Packed<A>) -> Self
+        requires consistent { IsPackedHistory C.step C.fits C.pack H.opened packed }
+        ensures value { result ≡ packed }
+    {
+        PackedElement {
+            packed,
+            chare: PhantomData,
+            of: PhantomData,
+        }
+    }
+
+    /// What was packed.
+    pub fn packed(&self) -> &Packed<A>
+        ensures value { result.now ≡ self.now }
+    {
+        &self.packed
+    }
+
+    /// What was packed. The clause `consistent` says what its type said.
+    pub fn into_packed(self) -> Packed<A>
+        ensures value { result ≡ self }
+        ensures consistent { IsPackedHistory C.step C.fits C.pack H.opened self }
+    {
+        self.packed
+    }
+
+    /// Its index.
+    pub fn index(&self) -> Index
+        ensures value { result ≡ self.now.index }
+    {
+        self.packed.index()
+    }
+
+    /// The pack of its chare. The clause `consistent` says what holds of every packed element, for a caller that knows
+    /// nothing else of this one.
+    pub fn bytes(&self) -> &[u8]
+        ensures value { result.now ≡ self.now.bytes }
+        ensures consistent { IsPackedHistory C.step C.fits C.pack H.opened self.now }
+    {
+        self.packed.bytes()
+    }
+
+    /// The letters and resumptions that it has handled, in order.
+    pub fn journal(&self) -> &[Entry<Letter<A>>]
+        ensures value { result.now ≡ self.now.journal }
+    {
+        self.packed.journal()
+    }
+
+    /// How far it has come.
+    pub fn progress(&self) -> Progress
+        ensures value { result ≡ self.now.progress }
+    {
+        self.packed.progress()
+    }
+
+    /// Its marks of the rounds that it has seen.
+    pub fn marks(&self) -> &[Mark]
+        ensures value { result.now ≡ self.now.marks }
+    {
+        self.packed.marks()
     }
 }
 
@@ -114,10 +212,7 @@ impl<A: Allocator> Model for Packing<A> {
 
 impl<A: Allocator> Packing<A> {
     /// Packs the state of an element that stays. This takes all the memory that leaving takes.
-    pub fn of<C: Chare<A>, H: Openings<C>>(
-        alloc: A,
-        element: &Element<C, H, A>,
-    ) -> Result<Self, AllocError>
+    pub fn of<C: Chare<A>>(alloc: A, element: &Element<C, A>) -> Result<Self, AllocError>
     where
         A: Copy,
         ensures pack { IfOk result (λ packing. packing ≡ C.pack element.now.chare) }
@@ -144,13 +239,8 @@ impl<A: Allocator> Packing<A> {
 
 impl<A: Allocator> Packing<A> {
     /// The element leaves. Its chare is given up, since the pack stands for it.
-    #[tactic(auto, using(crate::proofs::Histories::history_packed))]
-    pub fn close<C: Chare<A>, H: Openings<C>>(
-        self,
-        element: Element<C, H, A>,
-    ) -> PackedElement<C, H, A>
+    pub fn close<C: Chare<A>>(self, element: Element<C, A>) -> Packed<A>
         requires pack { self ≡ C.pack element.chare }
-        requires value { C.fits element.chare }
         ensures value { result ≡ packed C.pack element }
     {
         let Packing { mut luggage } = self;
@@ -159,32 +249,6 @@ impl<A: Allocator> Packing<A> {
         luggage.journal = journal;
         luggage.progress = progress;
         luggage.marks = marks;
-        PackedElement {
-            luggage,
-            chare: PhantomData,
-            of: PhantomData,
-        }
-    }
-}
-
-impl<C: Chare<A>, H: Openings<C>, A: Allocator> PackedElement<C, H, A> {
-    /// The element at rest again, with the chare that its bytes unpacked to.
-    pub fn open(self, chare: C) -> Element<C, H, A>
-        requires history { IsHistory C.step C.pack H.opened (unpacked self chare) }
-        ensures value { result ≡ unpacked self chare }
-    {
-        let PackedElement {
-            luggage,
-            chare: _,
-            of: _,
-        } = self;
-        let Luggage {
-            index,
-            bytes: _,
-            journal,
-            progress,
-            marks,
-        } = Box::into_inner(luggage);
-        Element::from_parts(index, chare, journal, progress, marks)
+        Packed { luggage }
     }
 }

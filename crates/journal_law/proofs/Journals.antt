@@ -6,7 +6,7 @@ use Rattle.std.proofs.lemmas.Grind.{flat_map-append}
 use Rattle.std.proofs.lemmas.List.Elements.{All-nil, All-append, All-same, All-head, All-tail}
 use Rattle.chares.specs.Letters.{LetterView, Done}
 use Rattle.rts_core.specs.Places.{letters_of_entry}
-use Rattle.journal_law.specs.Own.{IsOwn}
+use Rattle.rts_core.specs.Own.{IsOwn}
 
 -- all of what is made of a list
 pub all_flat : {X Y : Type 0} (P : Y → Type 0) (f : X → List Y) (xs : List X) → All (λ x. All P (f x)) xs → All P (flat_map f xs)

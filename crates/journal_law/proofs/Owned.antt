@@ -18,7 +18,7 @@ use Rattle.rts_core.specs.Events.{Desk}
 use Rattle.rts_core.specs.Places.{life_of, lives_in, items_at, lives_at}
 use Rattle.barrier_law.proofs.Rooms.{EachAt, each_found, each_changed, each_joined, each_without, each_value, at_place}
 use Rattle.barrier_law.proofs.Turns.{EachTurn}
-use Rattle.journal_law.specs.Own.{IsOwn}
+use Rattle.rts_core.specs.Own.{IsOwn}
 use Rattle.journal_law.proofs.Journals.{all_flat, IsOwnEntry, own_more}
 
 -- an element stands beside its index, and every letter in its journal is to this index

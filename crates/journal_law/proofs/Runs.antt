@@ -15,7 +15,7 @@ use Rattle.rts_core.specs.Runs.{Leads}
 use Rattle.rts_core.specs.Worlds.{WorldView, home, placed_on, settled, opening_world}
 use Rattle.barrier_law.proofs.Rooms.{each_joined, at_place}
 use Rattle.barrier_law.proofs.Turns.{each_map, happens_so}
-use Rattle.journal_law.specs.Own.{IsOwn, AreOwn}
+use Rattle.rts_core.specs.Own.{IsOwn, AreOwn}
 use Rattle.journal_law.proofs.Journals.{all_flat}
 use Rattle.journal_law.proofs.Owned.{Fits, ParcelFits, ItemFits, Owned, QueuesOwned, DeskOwned, lives_owned, each_owned}
 

@@ -1,7 +1,7 @@
 //! The law of the journals of all runs.
 
 ghost use Rattle.std.specs.Prelude.{ℕ, List};
-ghost use Rattle.journal_law.specs.Own.{AreOwn};
+ghost use Rattle.rts_core.specs.Own.{AreOwn};
 ghost use Rattle.rts_core.specs.declared.event.Event.{Event};
 ghost use Rattle.rts_core.specs.Events.{After};
 ghost use Rattle.rts_core.specs.Runs.{Leads};

@@ -152,6 +152,7 @@ impl<T: Drop, A: Allocator> Post<T, A> {
         ensures answer { MatchResult result (λ _. IsAllSeats seat) (λ unsettled. (seat.seats ≢ SEATS) × (unsettled.cause ≡ SeatsOut)) }
         ensures back { IfErr result (λ unsettled. (unsettled.post ≡ self) × (unsettled.seat ≡ seat)) }
         ensures left { IfOk result (λ left. AreLeft seat left.items) }
+        ensures few { IfOk result (λ left. All (λ queue. length queue.items ≤ self.capacity) left.items) }
     {
         if seat.seats != Limits::SEATS {
             return Err(Unsettled {

@@ -1,5 +1,5 @@
 //! One queue under the rule of its balance, and the tickets by which seats use it.
-ghost use Rattle.std.specs.Prelude.{◌≡◌, ◌+◌, ◌-◌, ◌<◌, ◌≤◌, [], IfOk, MatchResult, MatchOption, vec_capacity};
+ghost use Rattle.std.specs.Prelude.{◌≡◌, ◌+◌, ◌-◌, ◌<◌, ◌≤◌, [], length, IfOk, MatchResult, MatchOption, vec_capacity};
 ghost use Rattle.crossbeam_queue.specs.Fifo.{Held};
 ghost use Rattle.crossbeam_queue.specs.Passes.{view, IsPassOf, ruled_capacity};
 ghost use Rattle.chare_index.specs.declared.limits.TheConstants.Limits.{SEATS};
@@ -110,6 +110,7 @@ impl<T: Drop, A: Allocator> Queue<T, A> {
         requires empty { room.old.items ≡ [] }
         requires wide { self.now.capacity ≤ vec_capacity room.old }
         ensures balanced { Balances mine.old.traffic.puts mine.old.traffic.takes room.new.items }
+        ensures few { length room.new.items ≤ self.now.capacity }
     {
         pop_all(rt, &self.ring, &mut mine.pass, room);
     }
@@ -129,6 +130,7 @@ fn pop_all<T: Drop, A: Allocator, R: Wait>(
     requires wide { ruled_capacity ring.now ≤ vec_capacity room.old }
     ensures own { IsPassOf ring.now pass.new }
     ensures left { Balances (view pass.old).puts (view pass.old).takes room.new.items }
+    ensures few { length room.new.items ≤ ruled_capacity ring.now }
 {
     let _left = ring.len_as::<Look, R>(rt, pass);
     while let Some(value) = ring.pop_as::<Pop, R>(rt, pass) {

@@ -2,6 +2,7 @@ pub mod Acting
 pub mod Below
 pub mod Fronts
 pub mod Handling
+pub mod Histories
 pub mod Installing
 pub mod Keeping
 pub mod Keyed

@@ -1,3 +1,4 @@
+pub mod Histories
 pub mod Pes
 pub mod Refusals
 pub mod Rooms

@@ -3,7 +3,7 @@
 -- is forwarded. That a letter which comes before its element waits on a shelf is this project's choice.
 use Rattle.std.specs.Prelude.{ℕ, ◌+◌, ◌==◌, List, [], ◌∷◌, ◌++◌, length, map, drop, Option, None, Some, Bool, false, not, ◌&&◌, if◌then◌else◌, Result, Ok, Err, is_some}
 use Rattle.std.specs.List.{filter}
-use Rattle.std.specs.Option.{option_map, option_map_or, option_or, option_to_list}
+use Rattle.std.specs.Option.{option_and_then, option_map, option_map_or, option_or, option_to_list}
 use Rattle.chares.specs.declared.carried.Carried.{Carried}
 use Rattle.chares.specs.declared.carried.Carried.TheVariants.{Letter, Element}
 use Rattle.chares.specs.declared.entry.Entry.TheVariants.{Letter as OfLetter, Resumption}
@@ -275,3 +275,11 @@ may_resume pe e round = option_map_or (λ el. is_due round el.progress) (found e
 -- whether an element stands in the room of a PE that waits for the end of its round
 abbrev pub may_depart : {C : Type 0} → PeView C → ℕ → Bool
 may_depart pe e = option_map_or (λ el. el.progress.synced) (found e pe.room) false
+
+-- the round for whose end an element waits: the one after that after which it was resumed last
+abbrev pub waits_for : {C : Type 0} → ElementView C → Option ℕ
+waits_for el = if el.progress.synced then Some (el.progress.round + 1) else None
+
+-- so for an element that stands in the room of a PE
+abbrev pub waits_at : {C : Type 0} → PeView C → ℕ → Option ℕ
+waits_at pe e = option_and_then waits_for (found e pe.room)

@@ -1,7 +1,7 @@
 //! Handlers, with the outbox of their PE lent to them. A place of the outbox stays free throughout, for a parcel that
 //! may come back.
 
-ghost use Rattle.std.specs.Prelude.{◌≡◌, ◌≢◌, ◌+◌, ◌++◌, ◌∷◌, ◌<◌, ◌≤◌, length, IfOk, IfErr, OnOk, OnErr, IsSome};
+ghost use Rattle.std.specs.Prelude.{◌≡◌, ◌≢◌, ◌+◌, ◌++◌, ◌∷◌, ◌<◌, ◌≤◌, length, IfOk, IfErr, OnOk, OnErr, IfSome, IsSome};
 ghost use Rattle.std.specs.Option.{option_to_list};
 ghost use Rattle.std.specs.VecDeque.{deque_len, deque_capacity};
 ghost use Rattle.chare_index.specs.declared.limits.TheConstants.Limits.{LETTERS};
@@ -11,31 +11,31 @@ ghost use Rattle.chares.specs.declared.sends.SendError.TheVariants.{OutOfMemory}
 ghost use Rattle.chares.specs.Posting.{letters_of, posts_of, reported};
 ghost use Rattle.pe_state.specs.Rooms.{found, ran_in, sends_in, note_in, RefusesIn};
 
-use crate::pe::Item;
+use crate::parcel::Item;
 use crate::room::Room;
 use chare_index::{Gate, Index, Limits, Pe, Round};
-use chares::{Chare, Letter, Note, Openings, Report, SendError, Sends, Unread};
+use chares::{Chare, Letter, Note, Report, SendError, Sends, Unread};
 use std::alloc::Allocator;
 use std::collections::VecDeque;
 use std::mem::replace;
 
 /// Executes a letter by its element, which stands in the room, and returns the note that is owed for it.
 #[tactic(auto, using(crate::proofs::Reports::reported_twice))]
-pub(crate) fn execute<C: Chare<A>, H: Openings<C>, A: Allocator + Copy, G: Gate>(
+pub(crate) fn execute<C: Chare<A>, A: Allocator + Copy, G: Gate>(
     alloc: A,
     gate: &G,
     me: Pe,
     n: u32,
     letter: Letter<A>,
-    room: &mut Room<C, H, A>,
-    outbox: &mut VecDeque<Item<C, H, A>, A>,
+    room: &mut Room<C, A>,
+    outbox: &mut VecDeque<Item<A>, A>,
     count: &mut u64,
     reporting: bool,
     reports: &mut Vec<Report, A>,
 ) -> Result<Option<Note>, Unread<A>>
     requires stands { IsSome (found letter.to room.old) }
-    requires same_array { n ≡ length H.opened }
-    requires few { length H.opened ≤ Limits.ELEMENTS }
+    requires member { IfSome (found letter.to room.old) (λ el. el.index < n) }
+    requires few { n ≤ Limits.ELEMENTS }
     requires numbered { count.old ≤ LETTERS }
     requires place { deque_len outbox.old < deque_capacity outbox.old }
     ensures room { OnOk result (room.new ≡ ran_in C.step C.pack room.old letter.to n me (Entry.Letter letter)) }
@@ -65,22 +65,22 @@ pub(crate) fn execute<C: Chare<A>, H: Openings<C>, A: Allocator + Copy, G: Gate>
 
 /// Resumes an element, which stands in the room, and returns the note that is owed for it.
 #[tactic(auto, using(crate::proofs::Reports::reported_twice))]
-pub(crate) fn resume<C: Chare<A>, H: Openings<C>, A: Allocator + Copy, G: Gate>(
+pub(crate) fn resume<C: Chare<A>, A: Allocator + Copy, G: Gate>(
     alloc: A,
     gate: &G,
     me: Pe,
     n: u32,
     index: Index,
     round: Round,
-    room: &mut Room<C, H, A>,
-    outbox: &mut VecDeque<Item<C, H, A>, A>,
+    room: &mut Room<C, A>,
+    outbox: &mut VecDeque<Item<A>, A>,
     count: &mut u64,
     reporting: bool,
     reports: &mut Vec<Report, A>,
 ) -> Result<Option<Note>, SendError>
     requires stands { IsSome (found index room.old) }
-    requires same_array { n ≡ length H.opened }
-    requires few { length H.opened ≤ Limits.ELEMENTS }
+    requires member { IfSome (found index room.old) (λ el. el.index < n) }
+    requires few { n ≤ Limits.ELEMENTS }
     requires before_last_round { round < Limits.ROUND }
     requires numbered { count.old ≤ LETTERS }
     requires place { deque_len outbox.old < deque_capacity outbox.old }

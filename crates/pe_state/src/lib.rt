@@ -2,20 +2,26 @@
 //! for nobody; docs/EVENTS.md tells the protocol.
 //!
 //! - [`PeState`]: a PE, with a call for its part of each event.
-//! - [`Parcel`]: what is carried from PE to PE.
+//! - [`PeEnd`]: a PE as a run left it.
+//! - [`Parcel`], with [`HeldParcel`], [`Item`] and [`into_held`]: what is carried from PE to PE, and what a PE holds of
+//!   that.
 //! - [`Room`]: the elements that stand on a PE.
 //! - [`Acted`]: which case of Act it was.
 //! - [`StepError`]: why a call was refused.
 #![tactic(auto)]
 
 mod acted;
+mod end;
 mod error;
 mod lent;
+mod parcel;
 mod pe;
 mod room;
 mod shelf;
 
 pub use acted::Acted;
+pub use end::PeEnd;
 pub use error::StepError;
-pub use pe::{Item, Parcel, PeState};
+pub use parcel::{HeldParcel, Item, Parcel, into_held};
+pub use pe::PeState;
 pub use room::Room;

@@ -2,30 +2,28 @@
 
 ghost use Rattle.std.specs.Prelude.{◌≡◌, ◌≢◌, ℕ, ◌+◌, ◌++◌, ◌∷◌, [], ◌<◌, ◌≤◌, List, length, IfOk, IfErr, OnOk, OnErr, IfSome, IsSome, None, Some, slice_get, true, false};
 ghost use Rattle.std.specs.Option.{option_copied, option_map};
-ghost use Rattle.pe_state.specs.Pes.{PeView, new_pe, placed, received, wanted, hand_wants, looked, at_pe, front_at, unaddressed, is_due, front_parcel, front_address, gave_up, handed_back, noted, held, may_resume, may_depart, departed};
-ghost use Rattle.pe_state.specs.Rooms.{found};
+ghost use Rattle.pe_state.specs.Histories.{IsParcelHistory, HasHistories};
+ghost use Rattle.pe_state.specs.Pes.{PeView, new_pe, placed, received, wanted, hand_wants, looked, at_pe, front_at, unaddressed, is_due, front_parcel, front_address, gave_up, handed_back, noted, held, may_resume, may_depart, departed, waits_at};
+ghost use Rattle.pe_state.specs.Rooms.{found, IsKeyed};
 ghost use Rattle.pe_state.specs.Standing.{IsBelow};
 ghost use Rattle.pe_state.specs.declared.error.StepError.TheVariants.{OutOfMemory};
 
+use crate::end::PeEnd;
 use crate::error::StepError;
+use crate::parcel::{HeldParcel, Item, Parcel, into_held, into_parcel};
 use crate::room::Room;
 use chare_index::{Index, Limits, Pe, Round};
-use chares::{Addressed, Carried, Chare, Letter, Note, Openings, PackedElement, Progress};
+use chares::{Addressed, Carried, Chare, Letter, Note, Openings, Progress};
 use std::alloc::{AllocError, Allocator, Global};
 use std::collections::VecDeque;
-use std::marker::Model;
+use std::marker::{Model, PhantomData};
 
 mod acting;
 mod handlers;
 
-/// What is carried from PE to PE: a letter, or an element that was packed.
-pub type Parcel<C, H, A = Global> = Carried<Letter<A>, PackedElement<C, H, A>>;
-
-/// A parcel, perhaps with a PE: in an outbox the one that it goes to, in a hand the one that a look gave.
-pub type Item<C, H, A = Global> = Addressed<Parcel<C, H, A>>;
-
 /// A PE of a run: what it holds, and its part of each event. A call that is refused leaves it as it was. Contracts see
-/// it as the record `PeView`.
+/// it as the record `PeView`. Every element in it is what its journal says, of the array that `H` names: in its room, its
+/// hand and its outbox.
 ///
 /// After [`sent`](PeState::sent) it keeps the address of the parcel that it gave up until the next call that changes
 /// it, so that [`hand_back`](PeState::hand_back) can put the parcel back.
@@ -36,13 +34,13 @@ pub struct PeState<C: Chare<A>, H: Openings<C>, A: Allocator = Global> {
     pes: u32,
     n: u32,
     // The elements that stand here.
-    room: Room<C, H, A>,
+    room: Room<C, A>,
     // What was taken from the queue last, with the PE that a look gave.
-    hand: Option<Item<C, H, A>>,
+    hand: Option<Item<A>>,
     // Letters that came before their element, in the order in which they came.
     shelf: VecDeque<Letter<A>, A>,
     // What leaves this PE, the first first.
-    outbox: VecDeque<Item<C, H, A>, A>,
+    outbox: VecDeque<Item<A>, A>,
     // What it owes the board, the first first.
     notes: VecDeque<Note, A>,
     // How many letters it has posted.
@@ -50,12 +48,14 @@ pub struct PeState<C: Chare<A>, H: Openings<C>, A: Allocator = Global> {
     // The address of the parcel that it has just given up. While it has one, a place of the outbox stays free.
     kept: Option<Pe>,
     alloc: A,
+    of: PhantomData<H>,
 }
 
 impl<C: Chare<A>, H: Openings<C>, A: Allocator> Model for PeState<C, H, A> {
-    ghost use Rattle.std.specs.Prelude.{◌≡◌, ◌<◌, ◌≤◌, length, IsSome};
+    ghost use Rattle.std.specs.Prelude.{◌≡◌, ◌<◌, ◌≤◌, IsSome};
     ghost use Rattle.std.specs.VecDeque.{deque_len, deque_capacity};
     ghost use Rattle.chare_index.specs.declared.limits.TheConstants.Limits.{ELEMENTS, LETTERS};
+    ghost use Rattle.pe_state.specs.Histories.{HasHistories};
     ghost use Rattle.pe_state.specs.Pes.{PeView};
     ghost use Rattle.pe_state.specs.Standing.{IsHandBelow, AreBelow, IsBelow};
 
@@ -64,7 +64,7 @@ impl<C: Chare<A>, H: Openings<C>, A: Allocator> Model for PeState<C, H, A> {
     ghost view = { λ p. record { me = p.me; n = p.n; room = p.room; hand = p.hand; shelf = p.shelf.items; outbox = p.outbox.items; notes = p.notes.items; count = p.count; kept = p.kept } };
 
     ghost invariant = { λ p.
-        (p.n ≡ length H.opened)
+        HasHistories C.step C.fits C.pack H.opened (record { me = p.me; n = p.n; room = p.room; hand = p.hand; shelf = p.shelf.items; outbox = p.outbox.items; notes = p.notes.items; count = p.count; kept = p.kept })
         × (p.n ≤ ELEMENTS)
         × (p.pes ≡ H.pes)
         × (p.me < H.pes)
@@ -100,15 +100,19 @@ impl<C: Chare<A>, H: Openings<C>, A: Allocator> PeState<C, H, A> {
         self.n
     }
 
-    /// The elements that stand here.
-    pub fn room(&self) -> &Room<C, H, A>
+    /// The elements that stand here. The clauses `keyed` and `histories` say what holds of every room and of every PE,
+    /// for a caller that knows nothing else of this one.
+    pub fn room(&self) -> &Room<C, A>
         ensures value { result.now ≡ self.now.room }
+        ensures keyed { IsKeyed self.now.room }
+        ensures histories { HasHistories C.step C.fits C.pack H.opened self.now }
     {
+        let _len = self.room.len();
         &self.room
     }
 
     /// The parcel in its hand, with the PE that a look gave.
-    pub fn hand(&self) -> Option<&Item<C, H, A>>
+    pub fn hand(&self) -> Option<&Item<A>>
         ensures value { option_copied result ≡ self.now.hand }
     {
         self.hand.as_ref()
@@ -122,7 +126,7 @@ impl<C: Chare<A>, H: Openings<C>, A: Allocator> PeState<C, H, A> {
     }
 
     /// The parcels that leave this PE, the first first, with the PEs that they go to.
-    pub fn outbox(&self) -> &VecDeque<Item<C, H, A>, A>
+    pub fn outbox(&self) -> &VecDeque<Item<A>, A>
         ensures value { result.now.items ≡ self.now.outbox }
     {
         &self.outbox
@@ -198,6 +202,22 @@ impl<C: Chare<A>, H: Openings<C>, A: Allocator> PeState<C, H, A> {
         };
         element.progress().synced
     }
+
+    /// The round for whose end an element waits that stands here, or `None` where it stands elsewhere or does not wait.
+    /// Such an element may depart, or be resumed after that round.
+    pub fn waits_for(&self, index: Index) -> Option<Round>
+        ensures value { result ≡ waits_at self.now index }
+        ensures resumes { IfSome result (λ round. may_resume self.now index round ≡ true) }
+        ensures departs { IfSome result (λ round. may_depart self.now index ≡ true) }
+        ensures within { IfSome result (λ round. index < length H.opened) }
+    {
+        let element = self.room.element(index)?;
+        let progress = element.progress();
+        if !progress.synced {
+            return None;
+        }
+        Some(Round::new(progress.round.get() + 1).unwrap())
+    }
 }
 
 impl<C: Chare<A>, H: Openings<C>, A: Allocator> PeState<C, H, A> {
@@ -216,8 +236,9 @@ impl<C: Chare<A>, H: Openings<C>, A: Allocator> PeState<C, H, A> {
 
 impl<C: Chare<A>, H: Openings<C>, A: Allocator> PeState<C, H, A> {
     // Holds a parcel in the hand, perhaps with a look.
-    fn hold(&mut self, parcel: Parcel<C, H, A>, look: Option<Pe>)
+    fn hold(&mut self, parcel: HeldParcel<A>, look: Option<Pe>)
         requires below { IsBelow H.pes look }
+        requires history { IsParcelHistory C.step C.fits C.pack H.opened parcel }
         ensures ok { self.new ≡ held self.old parcel look }
     {
         self.hand = Some(Addressed {
@@ -276,6 +297,7 @@ impl<C: Chare<A>, H: Openings<C>, A: Allocator + Copy> PeState<C, H, A> {
             count: 0,
             kept: None,
             alloc,
+            of: PhantomData,
         }
     }
 
@@ -298,7 +320,7 @@ impl<C: Chare<A>, H: Openings<C>, A: Allocator + Copy> PeState<C, H, A> {
         ensures ok { self.new ≡ received self.old parcel }
     {
         self.hand = Some(Addressed {
-            parcel,
+            parcel: into_held(parcel),
             address: None,
         });
         self.kept = None;
@@ -328,7 +350,7 @@ impl<C: Chare<A>, H: Openings<C>, A: Allocator + Copy> PeState<C, H, A> {
             unreachable!()
         };
         self.kept = address;
-        parcel
+        into_parcel(parcel)
     }
 
     /// Puts a parcel back to the front of the outbox, with the address that was kept. This takes no memory. See "What
@@ -338,6 +360,7 @@ impl<C: Chare<A>, H: Openings<C>, A: Allocator + Copy> PeState<C, H, A> {
         ensures ok { self.new ≡ handed_back self.old parcel }
     {
         let address = self.kept.take();
+        let parcel = into_held(parcel);
         self.outbox
             .push_front_reserved(Addressed { parcel, address });
     }
@@ -374,8 +397,42 @@ impl<C: Chare<A>, H: Openings<C>, A: Allocator + Copy> PeState<C, H, A> {
     }
 }
 
+impl<C: Chare<A>, H: Openings<C>, A: Allocator> PeState<C, H, A> {
+    /// The PE as the run leaves it. This takes no memory. The clause `histories` says what its type said.
+    pub fn into_end(self) -> PeEnd<C, A>
+        ensures value { result ≡ self }
+        ensures histories { HasHistories C.step C.fits C.pack H.opened self }
+    {
+        let PeState {
+            me,
+            pes: _,
+            n,
+            room,
+            hand,
+            shelf,
+            outbox,
+            notes,
+            count,
+            kept,
+            alloc: _,
+            of: _,
+        } = self;
+        PeEnd {
+            me,
+            n,
+            room,
+            hand,
+            shelf,
+            outbox,
+            notes,
+            count,
+            kept,
+        }
+    }
+}
+
 // The element of a letter that has no address.
-fn unaddressed<C: Chare<A>, H: Openings<C>, A: Allocator>(item: &Item<C, H, A>) -> Option<Index>
+fn unaddressed<A: Allocator>(item: &Item<A>) -> Option<Index>
     ensures value { result ≡ unaddressed item.now.parcel item.now.address }
 {
     let Carried::Letter(letter) = &item.parcel else {

@@ -5,20 +5,20 @@ ghost use Rattle.std.specs.List.{filter};
 ghost use Rattle.std.specs.VecDeque.{deque_len, deque_capacity};
 ghost use Rattle.pe_state.specs.Pes.{is_for, letter_at};
 
-use crate::pe::Item;
+use crate::parcel::Item;
 use chare_index::{Index, Pe};
-use chares::{Addressed, Carried, Chare, Letter, Openings};
+use chares::{Addressed, Carried, Letter};
 use std::alloc::Allocator;
 use std::collections::VecDeque;
 
 /// Empties a shelf: puts the letters that are for an element to the back of an outbox, addressed to this PE, and the
 /// others to the back of another shelf, each in order and in room that was made for them.
-pub(crate) fn unshelve<C: Chare<A>, H: Openings<C>, A: Allocator>(
+pub(crate) fn unshelve<A: Allocator>(
     index: Index,
     me: Pe,
     shelf: &mut VecDeque<Letter<A>, A>,
     rest: &mut VecDeque<Letter<A>, A>,
-    outbox: &mut VecDeque<Item<C, H, A>, A>,
+    outbox: &mut VecDeque<Item<A>, A>,
 )
     requires rest_room { deque_len rest.old + deque_len shelf.old ≤ deque_capacity rest.old }
     requires outbox_room { deque_len outbox.old + deque_len shelf.old ≤ deque_capacity outbox.old }

@@ -1,4 +1,4 @@
-//! What the tests are made of: numbers, a PE with two elements, and a parcel in its hand. What can't be made ends the
+//! What the tests are made of: numbers, a relay, a PE with two elements, and a parcel in its hand. What can't be made ends the
 //! test.
 
 ghost use Rattle.std.specs.Prelude.{◌≡◌, ◌∷◌, [], true};
@@ -6,6 +6,7 @@ ghost use Rattle.std.specs.Prelude.{◌≡◌, ◌∷◌, [], true};
 use chare_index::{Gate, Index, Pe, Round};
 use chares::{Chare, Openings};
 use pe_state::{PeState, StepError};
+use sample_chares::Relay;
 use std::alloc::{Allocator, Global};
 use std::fmt::Debug;
 use std::process::Abort;
@@ -31,6 +32,11 @@ pub(crate) fn index(rt: &impl Abort, place: u32) -> Index
 
 pub(crate) fn round(rt: &impl Abort, number: u32) -> Round {
     Round::new(number).expect(rt, "no such round")
+}
+
+/// A relay that starts one letter, which ends where it goes.
+pub(crate) fn relay(rt: &(impl Abort + AllocGlobal)) -> Relay {
+    Relay::with_body(rt.alloc(), 1, &[0]).expect(rt, "no relay")
 }
 
 /// A PE that has no other beside it, with two elements.
@@ -62,8 +68,10 @@ pub(crate) fn start<C: Chare<Global>, H: Openings<C>, G: Gate>(
     at.resume(gate, index, r0)
 }
 
-// What is looked for, if anything is, is believed to be on this PE.
-fn look_here<C: Chare<A>, H: Openings<C>, A: Allocator + Copy>(at: &mut PeState<C, H, A>) {
+/// What is looked for, if anything is, is believed to be on this PE.
+pub(crate) fn look_here<C: Chare<A>, H: Openings<C>, A: Allocator + Copy>(
+    at: &mut PeState<C, H, A>,
+) {
     if at.wants().is_none() {
         return;
     }

@@ -2,7 +2,7 @@
 
 ghost use Rattle.std.specs.Prelude.{◌≡◌, ◌∷◌, []};
 
-use crate::fixtures::{assert_for, bring, start, with_two};
+use crate::fixtures::{assert_for, bring, relay, start, with_two};
 use chare_index::{Gate, NoGate};
 use chares::Openings;
 use pe_state::Acted;
@@ -45,11 +45,6 @@ impl Gate for Counting {
         };
         count.fetch_add(1, Ordering::SeqCst);
     }
-}
-
-// A relay that starts one letter, which ends where it goes.
-fn relay(rt: &(impl Abort + AllocGlobal)) -> Relay {
-    Relay::with_body(rt.alloc(), 1, &[0]).expect(rt, "no relay")
 }
 
 fn starts<H: Openings<Relay>>(

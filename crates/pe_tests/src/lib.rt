@@ -1,7 +1,9 @@
-//! Tests of the PE, call by call: letters that wait, follow their element or come back, the gate of its handlers, and
-//! the memory that each call asks for. They need no world.
+//! Tests of the PE, call by call: letters that wait, follow their element or come back, the gate of its handlers,
+//! the memory that each call asks for, and what is read after a run. They need no world.
 #![tactic(auto)]
 
+#[cfg(test)]
+mod end;
 #[cfg(test)]
 mod fixtures;
 #[cfg(test)]

@@ -84,7 +84,8 @@ fn depart<H: Openings<Relay<A>>, A: Allocator + Copy>(
     assert!(rt; at.depart(e0, to).is_ok());
 }
 
-// The note, a letter that comes back and then into the hand, and a look for its element once that has departed.
+// The note, a letter that comes back and then into the hand, a look for its element once that has departed, and the PE as
+// the run leaves it.
 fn quiet<H: Openings<Relay<A>>, A: Allocator + Copy>(
     rt: &impl Abort,
     made: &Refusing<Global>,
@@ -105,8 +106,9 @@ fn quiet<H: Openings<Relay<A>>, A: Allocator + Copy>(
     let requests = made.requests();
     look(rt, &mut at);
     send_in_vain(rt, &mut at);
+    let end = at.into_end();
     assert!(rt; made.requests() == requests);
-    drop(at);
+    drop(end);
 }
 
 #[test]

@@ -93,7 +93,7 @@ impl<A: Allocator + Copy> Chare<A> for Twice {
 }
 
 // The number of a letter and its element, or `None` where that is no letter.
-fn numbered<H: Openings<Twice>>(item: Option<&Item<Twice, H>>) -> Option<(LetterId, Index)> {
+fn numbered(item: Option<&Item>) -> Option<(LetterId, Index)> {
     let Carried::Letter(letter) = &item?.parcel else {
         return None;
     };

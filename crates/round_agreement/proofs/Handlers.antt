@@ -5,7 +5,7 @@ use Rattle.std.specs.Option.{option_map, option_map_or, option_and_then, option_
 use Rattle.std.proofs.lemmas.Option.{option_and_then_some, slice_get_within}
 use Rattle.std.proofs.lemmas.List.Elements.{All-nil, All-cons, All-append}
 use Rattle.chare_index.specs.declared.limits.TheConstants.Limits.{LOAD}
-use Rattle.at_sync.specs.Boards.{BoardState, Kept, kept_of}
+use Rattle.at_sync.specs.Boards.{BoardState, Kept, kept_of, place_in}
 use Rattle.lb_database.specs.Measuring.{Measured}
 use Rattle.lb_strategy.specs.Moves.{planned_pe}
 use Rattle.chares.specs.declared.entry.Entry.TheVariants.{Letter as OfLetter, Resumption}
@@ -17,9 +17,9 @@ use Rattle.chares.specs.Letters.{LetterView, Done}
 use Rattle.chares.specs.Posting.{letters_of}
 use Rattle.chares.specs.Progressing.{resumed_mark}
 use Rattle.chares.specs.Steps.{Step}
-use Rattle.pe_state.specs.Pes.{PeView, Item, handled, resumed, resume_reports}
+use Rattle.pe_state.specs.Pes.{PeView, Item, handled, resumed, resume_reports, waits_for}
 use Rattle.pe_state.specs.Rooms.{found, changed, ran_in, sends_in, note_in}
-use Rattle.rts_core.specs.Events.{where_true, waits_for, place_in, due, started, went_on}
+use Rattle.rts_core.specs.Events.{where_true, due, started, went_on}
 use Rattle.rts_core.proofs.EventSteps.{where_some}
 use Rattle.round_agreement.specs.Agreement.{IsAtWork, Owes, WaitsForPlace, IsInSomeState, AgreesWith, AgreesOn, AgreesAt}
 use Rattle.round_agreement.proofs.Rooms.{of_found}

@@ -3,6 +3,7 @@ use Rattle.std.proofs.Common.{◌≡◌, ℕ, ◌+◌, List, [], ◌∷◌, ◌+
 use Rattle.std.specs.Prelude.{Result, Ok, Err, not, ◌==◌, if◌then◌else◌}
 use Rattle.std.specs.List.{filter}
 use Rattle.std.proofs.lemmas.List.Sums.{sum_by-cons, sum_by-append, sum_by_push}
+use Rattle.std.proofs.lemmas.List.Elements.{All-nil, All-cons}
 use Rattle.std.proofs.lemmas.List.Filters.{sum_by-filter_both}
 use Rattle.chares.specs.declared.carried.Carried.TheVariants.{Letter, Element}
 use Rattle.chares.specs.declared.entry.Entry.TheVariants.{Letter as OfLetter}
@@ -67,7 +68,8 @@ module _ {C : Type 0} (step : Step C) (pack : C → List ℕ) where
         let a : of_hand g k pe.hand ≡ weigh g l = hand_holds g k pe.hand x (Letter l) h p in
         let b : sum_by (weigh g) (l ∷ []) ≡ weigh g l + 0 = sum_by-cons (weigh g) l [] in
         omega (arith, a, b))
-        refl refl,
+        refl refl
+        (All-cons (λ (m : LetterView). m.to ≡ l.to) l [] refl (All-nil (λ (m : LetterView). m.to ≡ l.to))),
   )
 
   pub on_letter_moved : (pe : PeView C) (x : Item) (l : LetterView) (look : Option ℕ) (o : Option (ElementView C)) (a : Acting C)

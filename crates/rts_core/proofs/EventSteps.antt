@@ -11,14 +11,14 @@ use Rattle.chares.specs.declared.report.Report.{Report}
 use Rattle.chares.specs.declared.report.Report.TheVariants.{Departed, Decided}
 use Rattle.chares.specs.Elements.{ElementView}
 use Rattle.chares.specs.Steps.{Step}
-use Rattle.at_sync.specs.Boards.{BoardState}
+use Rattle.at_sync.specs.Boards.{BoardState, place_in}
 use Rattle.pup_pack.specs.declared.error.PupError.{PupError}
-use Rattle.pe_state.specs.Pes.{PeView, Parcel, Acting, wanted, looked, front_address, front_parcel, gave_up, received, noted, resumed, resume_reports, departed, acting}
+use Rattle.pe_state.specs.Pes.{PeView, Parcel, Acting, wanted, looked, front_address, front_parcel, gave_up, received, noted, resumed, resume_reports, departed, acting, waits_for}
 use Rattle.pe_state.specs.Rooms.{found}
 use Rattle.rts_core.specs.declared.event.Event.{Event}
 use Rattle.rts_core.specs.declared.event.Event.TheVariants.{Start, Look, Flush, Deliver, Act, Report as Hand, Decide, Depart, Resume}
 use Rattle.rts_core.specs.Accounts.{posts, executions}
-use Rattle.rts_core.specs.Events.{After, where_true, front_of, waits_for, place_in, due, board_after, note_reports, looked_up, flushed, delivered, delivered_from, handed_in, started, left, went_on, acted, Desk, pe_of, at_desk, desk, with_desk, or_nothing, enabled, Happens, MayDecide}
+use Rattle.rts_core.specs.Events.{After, where_true, front_of, due, board_after, note_reports, looked_up, flushed, delivered, delivered_from, handed_in, started, left, went_on, acted, Desk, pe_of, at_desk, desk, with_desk, or_nothing, enabled, Happens, MayDecide}
 use Rattle.rts_core.specs.Worlds.{WorldView}
 use Rattle.rts_core.proofs.Weights.{Weight, of_parcel, of_queue}
 use Rattle.rts_core.proofs.Moves.{Work, Moved, looked_moved, gave_up_moved, received_moved, noted_moved}

@@ -1,9 +1,10 @@
 -- What a handler keeps, and each case of Act and Depart.
 use Rattle.std.proofs.Common.{◌≡◌, ℕ, ◌+◌, List, [], ◌∷◌, ◌++◌, map, Option, Some, None, sum_by, arith, refl}
-use Rattle.std.specs.Prelude.{unwrap_or}
+use Rattle.std.specs.Prelude.{All, unwrap_or}
 use Rattle.std.specs.Option.{option_map, option_to_list}
 use Rattle.std.specs.BTreeMap.{is_at}
 use Rattle.std.specs.Ordering.{nat_cmp}
+use Rattle.std.proofs.lemmas.List.Elements.{All-nil}
 use Rattle.std.proofs.lemmas.List.Sums.{sum_by-cons, sum_by-append}
 use Rattle.std.proofs.lemmas.Map.Entries.{sum_by-set_value, sum_by-remove_entry}
 use Rattle.chares.specs.declared.carried.Carried.TheVariants.{Letter}
@@ -62,12 +63,13 @@ module _ {C : Type 0} (step : Step C) (pack : C → List ℕ) where
       → ((g : Weight) (k : Life → ℕ) → of_hand g k hand + sum_by (weigh g) (letters_of_entry done) ≡ of_hand g k pe.hand)
       → posts (first ∷ []) ≡ []
       → executions (first ∷ []) ≡ map (λ l. (l.id, l.to)) (letters_of_entry done)
+      → All (λ l. l.to ≡ e) (letters_of_entry done)
       → Moved step pe (handled step pack pe e done hand) (first ∷ handler_posts step pack pe e done) (Some (el, done)) [] []
-  handled_moved pe e done hand el first h hands no_post execution =
+  handled_moved pe e done hand el first h hands no_post execution own =
       let ss : List (ℕ × List ℕ) = (outcome_of step pack el pe.n done).sends in
       record {
         weighs = λ g k. handled_weighs g k pe e done hand el h (hands g k);
-        stood = (e, h);
+        stood = (e, h, own);
         tells_posts = λ r.
             let p : posts (first ∷ posts_of pe.me pe.count ss) ≡ posts (first ∷ []) ++ posts (posts_of pe.me pe.count ss) = cases_posts first (posts_of pe.me pe.count ss) in
             rw h (rw (p, no_post) (posts_told r pe.me pe.count ss));
@@ -107,7 +109,7 @@ module _ {C : Type 0} (step : Step C) (pack : C → List ℕ) where
   -- Start and Resume
   pub resumed_moved : (pe : PeView C) (e round : ℕ) (el : ElementView C) → found e pe.room ≡ Some el
       → Moved step pe (resumed step pack pe e round) (resume_reports step pack pe e round) (Some (el, Resumption round)) [] []
-  resumed_moved pe e round el h = handled_moved pe e (Resumption round) pe.hand el (Tells.Resumed e round) h (λ g k. omega arith) refl refl
+  resumed_moved pe e round el h = handled_moved pe e (Resumption round) pe.hand el (Tells.Resumed e round) h (λ g k. omega arith) refl refl (All-nil (λ (l : LetterView). l.to ≡ e))
 
   -- Depart
   pub departed_weighs : (g : Weight) (k : Life → ℕ) (pe : PeView C) (e q : ℕ) (o : Option (ElementView C)) → found e pe.room ≡ o

@@ -1,31 +1,22 @@
--- What a PE makes of the elements that it holds: each was what its journal says, and still is.
-use Rattle.std.proofs.Common.{◌≡◌, ℕ, ◌+◌, ◌≤◌, List, [], ◌∷◌, ◌++◌, length, map, Bool, true, false, Option, Some, None, Result, Ok, Err, refl, sym, subst, nat_eq, length-set}
-use Rattle.std.specs.Prelude.{All, is_none, IfSome, OnErr, IfOk, if◌then◌else◌, slice_get, slice_set}
-use Rattle.std.specs.Option.{option_map, option_map_or, option_and_then, option_to_list}
-use Rattle.std.specs.Map.{values_of}
-use Rattle.std.specs.Ordering.{nat_cmp}
-use Rattle.std.specs.BTreeMap.{is_at}
-use Rattle.std.proofs.lemmas.List.Elements.{All-nil, All-cons, All-append, All-push, All-drop, All-head, All-tail, All-set}
+-- What a step makes of the elements of a PE and of the queues: each was what its journal says, and still is.
+use Rattle.std.proofs.Common.{◌≡◌, ℕ, ◌+◌, ◌≤◌, List, [], ◌∷◌, ◌++◌, length, map, Bool, true, false, Option, Some, None, Result, Ok, Err, refl, sym, subst, length-set}
+use Rattle.std.specs.Prelude.{All, is_none, IfSome, OnErr, IfOk, slice_get, slice_set}
+use Rattle.std.specs.Option.{option_map, option_and_then}
+use Rattle.std.proofs.lemmas.List.Elements.{All-push, All-head, All-tail, All-set}
 use Rattle.std.proofs.lemmas.Option.{slice_get_within, get_or_from_slice_get}
-use Rattle.std.proofs.lemmas.Map.Views.{IfSome-lookup_from_All, All-values-set_value, All-values-insert_entry, All-map-remove_entry}
 use Rattle.chare_index.specs.declared.limits.TheConstants.Limits.{STATE_BYTES}
 use Rattle.pup_pack.specs.declared.error.PupError.{PupError}
 use Rattle.at_sync.specs.Boards.{BoardState, after_report, after_finish}
 use Rattle.lb_database.specs.Measuring.{elements}
 use Rattle.chares.specs.declared.note.Note.{Note}
 use Rattle.chares.specs.declared.note.Note.TheVariants.{Sync, Finish}
-use Rattle.chares.specs.declared.carried.Carried.TheVariants.{Letter, Element}
-use Rattle.chares.specs.declared.entry.Entry.TheVariants.{Letter as OfLetter, Resumption}
 use Rattle.chares.specs.declared.report.Report.{Report}
-use Rattle.chares.specs.Elements.{ElementView, PackedView, packed, unpacked, ran, IsHistory, IsPackedHistory}
-use Rattle.chares.specs.Letters.{LetterView, Done}
-use Rattle.chares.specs.Posting.{letters_of}
 use Rattle.chares.specs.Steps.{Step}
-use Rattle.chares.proofs.Histories.{history_ran, history_unpacked}
-use Rattle.pe_state.specs.Pes.{PeView, Parcel, Item, Acting, at_pe, letter_at, element_at, front_at, front_parcel, front_address, wanted, hand_wants, looked, looked_in, received, gave_up, noted, handled, resumed, executed, shelving, forwarding, passing, installed, installing, on_letter, on_element, on_parcel, acting_on, acting, departed}
-use Rattle.pe_state.specs.Rooms.{found, changed, ran_in}
+use Rattle.pe_state.specs.Histories.{IsParcelHistory, HasHistories}
+use Rattle.pe_state.specs.Pes.{PeView, Parcel, Acting, front_parcel, front_address, wanted, looked, received, gave_up, noted, acting}
+use Rattle.pe_state.specs.Rooms.{found}
+use Rattle.pe_state.proofs.Histories.{looked_holds, resumed_holds, gave_up_holds, front_holds, received_holds, acting_holds, noted_holds, departed_holds}
 use Rattle.rts_core.specs.Events.{where_true, looked_up, flushed, delivered, delivered_from, handed_in, board_after, note_reports, started, left, went_on, acted, due, front_of}
-use Rattle.rts_core.specs.Histories.{IsParcelHistory, HasHistories}
 use Rattle.rts_core.specs.Parts.{or_same}
 
 -- what a test lets through
@@ -52,67 +43,14 @@ one_of_all {X} P xs i all = by (slice_get xs i) refl
     by (Some x) at = subst P (get_or_from_slice_get xs i x x at) (all i x (slice_get_within xs i x at))
 
 module _ {C : Type 0} (step : Step C) (fits : C → Type 0) (pack : C → List ℕ) (opened : List C) where
-  -- what lies in an outbox
-  abbrev pub Holds : Item → Type 0
-  Holds x = IsParcelHistory step fits pack opened x.parcel
-
-  -- an element runs in its room
-  ran_room_at : (room : List (ℕ × ElementView C)) (e n pe : ℕ) (done : Done) (o : Option (ElementView C)) → n ≡ length opened → All (IsHistory step pack opened) (values_of room) → IfSome o (IsHistory step pack opened) → All (IsHistory step pack opened) (values_of (option_map_or (λ el. changed e (ran step pack el n pe done) room) o room))
-  ran_room_at room e n pe done None same all h = all
-  ran_room_at room e n pe done (Some el) same all h =
-      All-values-set_value (is_at (nat_cmp e)) (IsHistory step pack opened) room (ran step pack el n pe done) all
-      (subst (λ (k : ℕ). IsHistory step pack opened (ran step pack el k pe done)) (sym same) (history_ran step pack opened el pe done h))
-
-  ran_room : (room : List (ℕ × ElementView C)) (e n pe : ℕ) (done : Done) → n ≡ length opened → All (IsHistory step pack opened) (values_of room) → All (IsHistory step pack opened) (values_of (ran_in step pack room e n pe done))
-  ran_room room e n pe done same all =
-      ran_room_at room e n pe done (found e room) same all
-      (IfSome-lookup_from_All (IsHistory step pack opened) (is_at (nat_cmp e)) room all)
-
-  -- letters are no elements
-  letters_hold : (me k : ℕ) (sends : List (ℕ × List ℕ)) → All Holds (letters_of {P = PackedView} me k sends)
-  letters_hold me k [] = All-nil Holds
-  letters_hold me k (send ∷ sends) =
-      All-cons Holds (record { parcel = Letter (record { id = (me, k); to = send.0; body = send.1; hops = 0 }); address = None }) (letters_of {P = PackedView} me (k + 1) sends) tt (letters_hold me (k + 1) sends)
-
-  unshelved_hold : (q : ℕ) (letters : List LetterView) → All Holds (map (letter_at q) letters)
-  unshelved_hold q [] = All-nil Holds
-  unshelved_hold q (l ∷ letters) = All-cons Holds (letter_at q l) (map (letter_at q) letters) tt (unshelved_hold q letters)
-
-  -- after a handler
-  pub handled_holds : (pe : PeView C) (e : ℕ) (done : Done) (hand : Option Item) → HasHistories step fits pack opened pe → IfSome hand Holds → HasHistories step fits pack opened (handled step pack pe e done hand)
-  handled_holds pe e done hand h held =
-      record {
-        same_array = h.same_array;
-        room = ran_room pe.room e pe.n pe.me done h.same_array h.room;
-        hand = held;
-        outbox = All-append Holds pe.outbox _ h.outbox (letters_hold pe.me pe.count _);
-      }
-
-  pub resumed_holds : (pe : PeView C) (e round : ℕ) → HasHistories step fits pack opened pe → HasHistories step fits pack opened (resumed step pack pe e round)
-  resumed_holds pe e round h = handled_holds pe e (Resumption round) pe.hand h h.hand
-
   -- Look
-  looked_in_holds : (pe : PeView C) (q : ℕ) (o : Option ℕ) → HasHistories step fits pack opened pe → HasHistories step fits pack opened (looked_in pe q o)
-  looked_in_holds pe q (Some e) h =
-      record { same_array = h.same_array; room = h.room; hand = at_hand pe.hand h.hand; outbox = h.outbox }
-    where
-      at_hand : (o : Option Item) → IfSome o Holds → IfSome (option_map (at_pe q) o) Holds
-      at_hand None k = tt
-      at_hand (Some x) k = k
-  looked_in_holds pe q None h =
-      record { same_array = h.same_array; room = h.room; hand = h.hand; outbox = at_front pe.outbox h.outbox }
-    where
-      at_front : (xs : List Item) → All Holds xs → All Holds (front_at q xs)
-      at_front [] k = k
-      at_front (x ∷ xs) k = All-cons Holds (at_pe q x) xs (All-head Holds x xs k) (All-tail Holds x xs k)
-
-  pub looked_holds : (pe : PeView C) (words : List ℕ) → HasHistories step fits pack opened pe → HasHistories step fits pack opened (or_same pe (looked_up pe words))
-  looked_holds pe words h =
+  pub looked_up_holds : (pe : PeView C) (words : List ℕ) → HasHistories step fits pack opened pe → HasHistories step fits pack opened (or_same pe (looked_up pe words))
+  looked_up_holds pe words h =
       or_same_holds (HasHistories step fits pack opened) pe (looked_up pe words) h (by_wanted (wanted pe))
     where
       by_word : (o : Option ℕ) → IfSome (option_and_then (λ (word : ℕ). Some (looked pe word)) o) (HasHistories step fits pack opened)
       by_word None = tt
-      by_word (Some word) = looked_in_holds pe word (hand_wants pe) h
+      by_word (Some word) = looked_holds step fits pack opened pe word h
 
       by_wanted : (o : Option ℕ) → IfSome (option_and_then (λ (e : ℕ). option_and_then (λ (word : ℕ). Some (looked pe word)) (slice_get words e)) o) (HasHistories step fits pack opened)
       by_wanted None = tt
@@ -122,49 +60,22 @@ module _ {C : Type 0} (step : Step C) (fits : C → Type 0) (pack : C → List �
   pub started_holds : (pe : PeView C) (e : ℕ) → HasHistories step fits pack opened pe → IfSome (started step pack pe e) (λ after. HasHistories step fits pack opened after.0)
   started_holds pe e h =
       and_then_holds (λ after. HasHistories step fits pack opened after.0) _ (found e pe.room)
-      (λ el _. where_holds (λ after. HasHistories step fits pack opened after.0) _ _ (resumed_holds pe e 0 h))
+      (λ el _. where_holds (λ after. HasHistories step fits pack opened after.0) _ _ (resumed_holds step fits pack opened pe e 0 h))
 
   -- Resume
   pub went_on_holds : {A : Type 0} (p : ℕ) (pe : PeView C) (b : BoardState A) (e : ℕ) → HasHistories step fits pack opened pe → IfSome (went_on step pack p pe b e) (λ after. HasHistories step fits pack opened after.0)
   went_on_holds p pe b e h =
       and_then_holds (λ after. HasHistories step fits pack opened after.0) _ (due pe b e)
-      (λ at _. where_holds (λ after. HasHistories step fits pack opened after.0) _ _ (resumed_holds pe e at.0 h))
-
-  -- Depart
-  leaving_holds : (q : ℕ) (o : Option (ElementView C)) → IfSome o (IsHistory step pack opened) → IfSome o (λ el. fits el.chare) → All Holds (option_to_list (option_map (element_at q) (option_map (packed pack) o)))
-  leaving_holds q None h f = All-nil Holds
-  leaving_holds q (Some el) h f =
-      All-cons Holds (element_at q (packed pack el)) [] (record { chare = el.chare; is_value = f; is_pack = refl; is_history = h }) (All-nil Holds)
-
-  pub departed_holds : (pe : PeView C) (e q : ℕ) → HasHistories step fits pack opened pe → IfSome (found e pe.room) (λ el. fits el.chare) → HasHistories step fits pack opened (departed pack pe e q)
-  departed_holds pe e q h f =
-      record {
-        same_array = h.same_array;
-        room = All-map-remove_entry (is_at (nat_cmp e)) (λ x. x.1) (IsHistory step pack opened) pe.room h.room;
-        hand = h.hand;
-        outbox = All-append Holds pe.outbox _ h.outbox (leaving_holds q (found e pe.room) (IfSome-lookup_from_All (IsHistory step pack opened) (is_at (nat_cmp e)) pe.room h.room) f);
-      }
-
-  -- Report
-  pub noted_holds : (pe : PeView C) → HasHistories step fits pack opened pe → HasHistories step fits pack opened (noted pe)
-  noted_holds pe h = record { same_array = h.same_array; room = h.room; hand = h.hand; outbox = h.outbox }
+      (λ at _. where_holds (λ after. HasHistories step fits pack opened after.0) _ _ (resumed_holds step fits pack opened pe e at.0 h))
 
   -- Flush
-  pub gave_up_holds : (pe : PeView C) → HasHistories step fits pack opened pe → HasHistories step fits pack opened (gave_up pe)
-  gave_up_holds pe h =
-      record { same_array = h.same_array; room = h.room; hand = h.hand; outbox = All-drop Holds 1 pe.outbox h.outbox }
-
-  pub front_holds : (outbox : List Item) → All Holds outbox → IfSome (front_parcel outbox) (IsParcelHistory step fits pack opened)
-  front_holds [] h = tt
-  front_holds (x ∷ xs) h = All-head Holds x xs h
-
   pub flushed_holds : (pe : PeView C) (queues : List (List Parcel)) → HasHistories step fits pack opened pe → All (All (IsParcelHistory step fits pack opened)) queues → IfSome (flushed pe queues) (λ after. HasHistories step fits pack opened after.0 × All (All (IsParcelHistory step fits pack opened)) after.1)
   flushed_holds pe queues h k = by_address (front_address pe.outbox)
     where
       by_queue : (q : ℕ) (parcel : Parcel) (o : Option (List Parcel)) → IsParcelHistory step fits pack opened parcel → IfSome o (All (IsParcelHistory step fits pack opened)) → IfSome (option_and_then (λ (queue : List Parcel). Some (gave_up pe, slice_set queues q (queue ++ parcel ∷ []))) o) (λ (after : PeView C × List (List Parcel)). HasHistories step fits pack opened after.0 × All (All (IsParcelHistory step fits pack opened)) after.1)
       by_queue q parcel None p all = tt
       by_queue q parcel (Some queue) p all =
-          (gave_up_holds pe h, All-set (All (IsParcelHistory step fits pack opened)) queues q (queue ++ parcel ∷ []) (All-push (IsParcelHistory step fits pack opened) queue parcel all p) k)
+          (gave_up_holds step fits pack opened pe h, All-set (All (IsParcelHistory step fits pack opened)) queues q (queue ++ parcel ∷ []) (All-push (IsParcelHistory step fits pack opened) queue parcel all p) k)
 
       by_parcel : (q : ℕ) (o : Option Parcel) → IfSome o (IsParcelHistory step fits pack opened) → IfSome (option_and_then (λ (parcel : Parcel). option_and_then (λ (queue : List Parcel). Some (gave_up pe, slice_set queues q (queue ++ parcel ∷ []))) (slice_get queues q)) o) (λ (after : PeView C × List (List Parcel)). HasHistories step fits pack opened after.0 × All (All (IsParcelHistory step fits pack opened)) after.1)
       by_parcel q None p = tt
@@ -172,19 +83,16 @@ module _ {C : Type 0} (step : Step C) (fits : C → Type 0) (pack : C → List �
 
       by_address : (o : Option ℕ) → IfSome (option_and_then (λ (q : ℕ). option_and_then (λ (parcel : Parcel). option_and_then (λ (queue : List Parcel). Some (gave_up pe, slice_set queues q (queue ++ parcel ∷ []))) (slice_get queues q)) (front_parcel pe.outbox)) o) (λ (after : PeView C × List (List Parcel)). HasHistories step fits pack opened after.0 × All (All (IsParcelHistory step fits pack opened)) after.1)
       by_address None = tt
-      by_address (Some q) = by_parcel q (front_parcel pe.outbox) (front_holds pe.outbox h.outbox)
+      by_address (Some q) = by_parcel q (front_parcel pe.outbox) (front_holds step fits pack opened pe.outbox h.outbox)
 
   -- Deliver
-  pub received_holds : (pe : PeView C) (parcel : Parcel) → HasHistories step fits pack opened pe → IsParcelHistory step fits pack opened parcel → HasHistories step fits pack opened (received pe parcel)
-  received_holds pe parcel h k = record { same_array = h.same_array; room = h.room; hand = k; outbox = h.outbox }
-
   pub delivered_holds : (pe : PeView C) (queue : List Parcel) → HasHistories step fits pack opened pe → All (IsParcelHistory step fits pack opened) queue → IfSome (delivered pe queue) (λ after. HasHistories step fits pack opened after.0 × All (IsParcelHistory step fits pack opened) after.1)
   delivered_holds pe queue h k = by queue (is_none pe.hand) k
     where
       by : (queue : List Parcel) (b : Bool) → All (IsParcelHistory step fits pack opened) queue → IfSome (option_and_then (λ (front : Parcel × List Parcel). Some (received pe front.0, front.1)) (where_true b (front_of queue))) (λ (after : PeView C × List Parcel). HasHistories step fits pack opened after.0 × All (IsParcelHistory step fits pack opened) after.1)
       by queue false all = tt
       by [] true all = tt
-      by (x ∷ xs) true all = (received_holds pe x h (All-head (IsParcelHistory step fits pack opened) x xs all), All-tail (IsParcelHistory step fits pack opened) x xs all)
+      by (x ∷ xs) true all = (received_holds step fits pack opened pe x h (All-head (IsParcelHistory step fits pack opened) x xs all), All-tail (IsParcelHistory step fits pack opened) x xs all)
 
   pub delivered_from_holds : (pe : PeView C) (queues : List (List Parcel)) (p : ℕ) → HasHistories step fits pack opened pe → All (All (IsParcelHistory step fits pack opened)) queues → IfSome (delivered_from pe queues p) (λ after. HasHistories step fits pack opened after.0 × All (All (IsParcelHistory step fits pack opened)) after.1)
   delivered_from_holds pe queues p h k = by_queue (slice_get queues p) (one_of_all (All (IsParcelHistory step fits pack opened)) queues p k)
@@ -197,61 +105,12 @@ module _ {C : Type 0} (step : Step C) (fits : C → Type 0) (pack : C → List �
       by_queue None all = tt
       by_queue (Some queue) all = by_delivered (delivered pe queue) (delivered_holds pe queue h all)
 
-  -- Act
-  shelving_holds : (pe : PeView C) (l : LetterView) → HasHistories step fits pack opened pe → HasHistories step fits pack opened (shelving pe l).pe
-  shelving_holds pe l h = record { same_array = h.same_array; room = h.room; hand = tt; outbox = h.outbox }
-
-  forwarding_holds : (pe : PeView C) (l : LetterView) (q : ℕ) → HasHistories step fits pack opened pe → HasHistories step fits pack opened (forwarding pe l q).pe
-  forwarding_holds pe l q h =
-      record { same_array = h.same_array; room = h.room; hand = tt; outbox = All-push Holds pe.outbox _ h.outbox tt }
-
-  passing_holds : (pe : PeView C) (l : LetterView) (look : Option ℕ) → HasHistories step fits pack opened pe → IfSome (passing pe l look) (λ a. HasHistories step fits pack opened a.pe)
-  passing_holds pe l None h = tt
-  passing_holds pe l (Some q) h = by (nat_eq q pe.me)
-    where
-      by : (b : Bool) → HasHistories step fits pack opened (if b then shelving pe l else forwarding pe l q).pe
-      by true = shelving_holds pe l h
-      by false = forwarding_holds pe l q h
-
-  letter_holds : (pe : PeView C) (l : LetterView) (look : Option ℕ) (o : Option (ElementView C)) → HasHistories step fits pack opened pe → IfSome (on_letter step pack pe l look o) (λ a. HasHistories step fits pack opened a.pe)
-  letter_holds pe l look (Some el) h = by el.progress.started
-    where
-      by : (b : Bool) → IfSome (if b then Some (executed step pack pe l) else None) (λ a. HasHistories step fits pack opened a.pe)
-      by true = handled_holds pe l.to (OfLetter l) None h tt
-      by false = tt
-  letter_holds pe l look None h = passing_holds pe l look h
-
-  installed_holds : (pe : PeView C) (p : PackedView) (chare : C) → HasHistories step fits pack opened pe → IsHistory step pack opened (unpacked p chare) → HasHistories step fits pack opened (installed pe p chare)
-  installed_holds pe p chare h k =
-      record {
-        same_array = h.same_array;
-        room = All-values-insert_entry nat_cmp p.index (unpacked p chare) (IsHistory step pack opened) pe.room h.room k;
-        hand = tt;
-        outbox = All-append Holds pe.outbox _ h.outbox (unshelved_hold pe.me _);
-      }
-
   module _ (counted : C → Type 0) (unpack : List ℕ → Result (C × ℕ) PupError)
       (trip : (s : C) (rest : List ℕ) → fits s → counted s → length (pack s) ≤ STATE_BYTES → unpack (pack s ++ rest) ≡ Ok (s, length (pack s)))
       (packs : (s : C) → fits s → counted s × (length (pack s) ≤ STATE_BYTES)) where
-    installing_holds : (pe : PeView C) (p : PackedView) (r : Result (C × ℕ) PupError) → unpack p.bytes ≡ r → HasHistories step fits pack opened pe → IsPackedHistory step fits pack opened p → IfSome (installing step pack unpack pe p r) (λ a. HasHistories step fits pack opened a.pe)
-    installing_holds pe p (Err error) is h k = tt
-    installing_holds pe p (Ok x) is h k =
-        installed_holds pe p x.0 h (history_unpacked step fits counted pack unpack opened p x.0 x.1 trip packs k is)
-
-    element_holds : (pe : PeView C) (p : PackedView) (o : Option (ElementView C)) → HasHistories step fits pack opened pe → IsPackedHistory step fits pack opened p → IfSome (on_element step pack unpack pe p o) (λ a. HasHistories step fits pack opened a.pe)
-    element_holds pe p (Some el) h k = tt
-    element_holds pe p None h k = installing_holds pe p (unpack p.bytes) refl h k
-
-    parcel_holds : (pe : PeView C) (parcel : Parcel) (look : Option ℕ) → HasHistories step fits pack opened pe → IsParcelHistory step fits pack opened parcel → IfSome (on_parcel step pack unpack pe parcel look) (λ a. HasHistories step fits pack opened a.pe)
-    parcel_holds pe (Letter l) look h k = letter_holds pe l look (found l.to pe.room) h
-    parcel_holds pe (Element p) look h k = element_holds pe p (found p.index pe.room) h k
-
-    hand_holds : (pe : PeView C) (o : Option Item) → HasHistories step fits pack opened pe → IfSome o Holds → IfSome (acting_on step pack unpack pe o) (λ a. HasHistories step fits pack opened a.pe)
-    hand_holds pe None h k = tt
-    hand_holds pe (Some x) h k = parcel_holds pe x.parcel x.address h k
-
+    -- Act
     pub acted_holds : (pe : PeView C) → HasHistories step fits pack opened pe → IfSome (acted step pack unpack pe) (λ after. HasHistories step fits pack opened after.0)
-    acted_holds pe h = by (acting step pack unpack pe) (hand_holds pe pe.hand h h.hand)
+    acted_holds pe h = by (acting step pack unpack pe) (acting_holds step fits pack opened counted unpack trip packs pe h)
       where
         by : (o : Option (Acting C)) → IfSome o (λ a. HasHistories step fits pack opened a.pe) → IfSome {T = PeView C × List Report} (option_map (λ (a : Acting C). (a.pe, a.reports)) o) (λ after. HasHistories step fits pack opened after.0)
         by None k = tt

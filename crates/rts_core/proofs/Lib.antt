@@ -4,14 +4,15 @@ pub mod EventSteps
 pub mod Handlers
 pub mod Histories
 pub mod Listings
+pub mod LocalAccount
 pub mod LocalBalance
 pub mod LocalCalls
 pub mod LocalSends
+pub mod LocalSteps
 pub mod Moves
 pub mod Notes
 pub mod OpeningWeights
 pub mod Openings
-pub mod Places
 pub mod RunAccount
 pub mod RunLaws
 pub mod Sent

@@ -98,23 +98,3 @@ module _ {C : Type 0} (step : Step C) where
             (subst (λ (v : ℕ). map (λ l. l.id) (ledger.posted ++ posted step pe work) ≡ map (λ k. (pe.me, k)) (range_with_len 0 v)) (sym m.counted)
             (ids_join pe.me pe.count ledger.posted (work_sends step pe.n work) h.numbered));
       }
-
-  -- ---- each call
-
-  pub balance_received : (pe : PeView C) (parcel : Parcel) (ledger : Ledger) → pe.hand ≡ None → IsBalanced pe ledger → IsBalanced (received pe parcel) (entered_in ledger (parcel ∷ []) [] [])
-  balance_received pe parcel ledger h b = balance_moved pe (received pe parcel) [] None (parcel ∷ []) [] ledger (received_moved step pe parcel h) b
-
-  pub balance_looked : (pe : PeView C) (q : ℕ) (ledger : Ledger) → IsBalanced pe ledger → IsBalanced (looked pe q) (entered_in ledger [] [] [])
-  balance_looked pe q ledger b = balance_moved pe (looked pe q) [] None [] [] ledger (looked_moved step pe q) b
-
-  pub balance_sent : (pe : PeView C) (parcel : Parcel) (ledger : Ledger) → front_parcel pe.outbox ≡ Some parcel → IsBalanced pe ledger → IsBalanced (gave_up pe) (entered_in ledger [] (parcel ∷ []) [])
-  balance_sent pe parcel ledger h b = balance_moved pe (gave_up pe) [] None [] (parcel ∷ []) ledger (gave_up_moved step pe parcel h) b
-
-  pub balance_back : (pe : PeView C) (parcel : Parcel) (ledger : Ledger) → IsBalanced pe ledger → IsBalanced (handed_back pe parcel) (entered_in ledger (parcel ∷ []) [] [])
-  balance_back pe parcel ledger b = balance_moved pe (handed_back pe parcel) [] None (parcel ∷ []) [] ledger (handed_back_moved step pe parcel) b
-
-  pub balance_noted : (pe : PeView C) (ledger : Ledger) → IsBalanced pe ledger → IsBalanced (noted pe) (entered_in ledger [] [] [])
-  balance_noted pe ledger b = balance_moved pe (noted pe) [] None [] [] ledger (noted_moved step pe [] refl refl) b
-
-  pub balance_departed : (pack : C → List ℕ) (pe : PeView C) (e q : ℕ) (ledger : Ledger) → IsBalanced pe ledger → IsBalanced (departed pack pe e q) (entered_in ledger [] [] [])
-  balance_departed pack pe e q ledger b = balance_moved pe (departed pack pe e q) (Tells.Departed e ∷ []) None [] [] ledger (departed_moved step pack pe e q) b

@@ -1,7 +1,7 @@
 -- What one step of a PE keeps: what it holds, received and posted weighs what it holds after it, gave away and executed,
 -- however letters and elements are weighed.
 use Rattle.std.proofs.Common.{◌≡◌, ℕ, ◌+◌, List, [], ◌∷◌, ◌++◌, length, Option, Some, None, sum_by, arith, refl, ap}
-use Rattle.std.specs.Prelude.{IfSome, drop}
+use Rattle.std.specs.Prelude.{All, IfSome, drop}
 use Rattle.std.specs.Option.{option_map}
 use Rattle.std.proofs.lemmas.List.Sums.{sum_by-cons}
 use Rattle.chares.specs.declared.report.Report.{Report}
@@ -46,7 +46,7 @@ posted step pe work = numbered pe.me pe.count (work_sends step pe.n work)
 -- a step of a PE to another state, with these reports, that runs this handler, receives these parcels and gives these away
 pub record Moved {C : Type 0} (step : Step C) (pe pe' : PeView C) (rs : List Report) (work : Option (Work C)) (came gone : List Parcel) : Type 0 where
   pub weighs : (g : Weight) (k : Life → ℕ) → of_pe g k pe' + (sum_by (weigh g) (work_letters work) + (before k work + of_queue g k gone)) ≡ of_pe g k pe + (sum_by (weigh g) (posted step pe work) + (after k work + of_queue g k came))
-  pub stood : IfSome work (λ x. (e : ℕ) × (found e pe.room ≡ Some x.0))
+  pub stood : IfSome work (λ x. (e : ℕ) × (found e pe.room ≡ Some x.0) × All (λ l. l.to ≡ e) (letters_of_entry x.1))
   pub tells_posts : (r : Said → ℕ) → sum_by r (posts rs) ≡ sum_by (λ l. r (l.id, l.to)) (posted step pe work)
   pub tells_executions : (r : Said → ℕ) → sum_by r (executions rs) ≡ sum_by (λ l. r (l.id, l.to)) (work_letters work)
   pub same_me : pe'.me ≡ pe.me

@@ -12,14 +12,16 @@ use Rattle.std.proofs.lemmas.List.Elements.{All-nil, All-head, All-tail, All-set
 use Rattle.std.proofs.lemmas.List.FromFn.{map-range_with_len_more, length-map-range_with_len}
 use Rattle.std.proofs.lemmas.List.{length-replicate}
 use Rattle.std.proofs.lemmas.Map.Lookups.{exact_unsigned}
-use Rattle.std.proofs.lemmas.Map.Views.{All-keys-insert_entry, All-values-insert_entry}
-use Rattle.chares.specs.Elements.{opening_element, IsHistory}
+use Rattle.std.proofs.lemmas.Map.Views.{All-keys-insert_entry}
+use Rattle.chares.specs.Elements.{opening_element}
 use Rattle.chares.specs.Steps.{Step}
-use Rattle.pe_state.specs.Pes.{PeView, Item, new_pe, placed}
+use Rattle.pe_state.specs.Pes.{PeView, new_pe, placed}
 use Rattle.pe_state.specs.Rooms.{found}
 use Rattle.at_sync.specs.Boards.{BoardState, new_board}
 use Rattle.chare_index.specs.declared.limits.TheConstants.Limits.{ELEMENTS, PES}
-use Rattle.rts_core.specs.Histories.{HasHistories, AreHistories, IsParcelHistory}
+use Rattle.pe_state.specs.Histories.{HasHistories, IsParcelHistory}
+use Rattle.pe_state.proofs.Histories.{new_holds, placed_holds}
+use Rattle.rts_core.specs.Histories.{AreHistories}
 use Rattle.rts_core.specs.Worlds.{IsWorld, home, placed_on, settled}
 
 -- on one of the PEs
@@ -68,25 +70,6 @@ pub settle_step : {C : Type 0} (n e i : ℕ) (pes pes' : List (PeView C)) (chare
 settle_step n e i pes pes' chare left left' last same items placed inv = rw (placed, same) (rw items at inv)
 
 module _ {C : Type 0} (step : Step C) (fits : C → Type 0) (pack : C → List ℕ) (opened : List C) where
-  -- a PE as it opens, and with one more element placed
-  pub new_holds : (me n : ℕ) → n ≡ length opened → HasHistories step fits pack opened (new_pe me n)
-  new_holds me n same =
-      record {
-        same_array = same;
-        room = All-nil (IsHistory step pack opened);
-        hand = tt;
-        outbox = All-nil (λ (x : Item). IsParcelHistory step fits pack opened x.parcel);
-      }
-
-  pub placed_holds : (pe : PeView C) (e : ℕ) (chare : C) → HasHistories step fits pack opened pe → slice_get opened e ≡ Some chare → HasHistories step fits pack opened (placed pe e chare)
-  placed_holds pe e chare h at =
-      record {
-        same_array = h.same_array;
-        room = All-values-insert_entry nat_cmp e (opening_element e chare) (IsHistory step pack opened) pe.room h.room (record { opening = chare; opens = at; entries = []; is_lived = refl; is_journal = refl });
-        hand = h.hand;
-        outbox = h.outbox;
-      }
-
   -- after a call that places it, unless it is refused
   pub placed_ok : {V E : Type 0} (pes : List (PeView C)) (q e : ℕ) (chare : C) (pe pe' : PeView C) (r : Result V E) → slice_get pes q ≡ Some pe → OnOk r (pe' ≡ placed pe e chare) → OnOk r (slice_set pes q pe' ≡ placed_on pes q e chare (slice_get pes q))
   placed_ok pes q e chare pe pe' (Ok v) at ok = rw at (ap (slice_set pes q) ok)
@@ -94,7 +77,7 @@ module _ {C : Type 0} (step : Step C) (fits : C → Type 0) (pack : C → List �
 
   pub placed_histories : {V E : Type 0} (pes : List (PeView C)) (q e : ℕ) (chare : C) (pe pe' : PeView C) (r : Result V E) → HasHistories step fits pack opened pe → slice_get opened e ≡ Some chare → All (HasHistories step fits pack opened) pes → OnOk r (pe' ≡ placed pe e chare) → OnOk r (All (HasHistories step fits pack opened) (slice_set pes q pe'))
   placed_histories pes q e chare pe pe' (Ok v) h at all ok =
-      All-set (HasHistories step fits pack opened) pes q pe' (subst (HasHistories step fits pack opened) (sym ok) (placed_holds pe e chare h at)) all
+      All-set (HasHistories step fits pack opened) pes q pe' (subst (HasHistories step fits pack opened) (sym ok) (placed_holds step fits pack opened pe e chare h at)) all
   placed_histories pes q e chare pe pe' (Err error) h at all ok = tt
 
 -- all keys of a PE's room are below a number

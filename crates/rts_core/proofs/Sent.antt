@@ -14,7 +14,8 @@ use Rattle.chares.specs.Letters.{LetterView, Done, told_of}
 use Rattle.chares.specs.Steps.{Step}
 use Rattle.pe_state.specs.Rooms.{found}
 use Rattle.rts_core.specs.Accounts.{message, AreSent, IsCounted}
-use Rattle.rts_core.specs.Histories.{HasHistories, AreHistories}
+use Rattle.pe_state.specs.Histories.{HasHistories}
+use Rattle.rts_core.specs.Histories.{AreHistories}
 use Rattle.rts_core.specs.Places.{Life, life_of, letters, lives, letters_of_entry, letters_of_life, journaled, sent_over, sends_of, sends}
 use Rattle.rts_core.specs.Worlds.{WorldView}
 use Rattle.rts_core.proofs.Weights.{Weight, weigh, of_world, sum_by-flat_map}

@@ -1,6 +1,6 @@
 -- What one step of a PE keeps in its world, and what an event that is not enabled does.
 use Rattle.std.proofs.Common.{◌≡◌, ◌≢◌, ℕ, zero, suc, ◌+◌, ◌<◌, List, [], ◌∷◌, length, get_or, set, Option, Some, None, Bool, true, false, sum_by, arith, refl, sym, ◌∙◌, ap, subst, zero-add, add-zero}
-use Rattle.std.specs.Prelude.{IfSome, slice_get, slice_set, nat_lt, nat_eq, if◌then◌else◌}
+use Rattle.std.specs.Prelude.{All, IfSome, slice_get, slice_set, nat_lt, nat_eq, if◌then◌else◌}
 use Rattle.std.proofs.lemmas.Bool.Decides.{nat_tests}
 use Rattle.std.proofs.lemmas.Option.{slice_get_within, get_or_from_slice_get}
 use Rattle.std.proofs.lemmas.List.Sums.{sum_by-cons, sum_by-set}
@@ -13,7 +13,7 @@ use Rattle.at_sync.specs.Boards.{BoardState}
 use Rattle.pe_state.specs.Pes.{PeView, Parcel}
 use Rattle.pe_state.specs.Rooms.{found}
 use Rattle.rts_core.specs.Accounts.{Said, is_number, posts, executions, posted_count}
-use Rattle.rts_core.specs.Places.{Life}
+use Rattle.rts_core.specs.Places.{Life, letters_of_entry}
 use Rattle.rts_core.specs.Worlds.{WorldView}
 use Rattle.rts_core.proofs.Weights.{Weight, weigh, of_pe, of_queue, of_world}
 use Rattle.rts_core.proofs.Moves.{Work, numbered, work_letters, work_sends, before, after, posted, Moved}
@@ -196,6 +196,6 @@ stepped {C} step n w p pe pe' queues words board rs work came gone are at m pass
           omega (arith, a, b, c);
     }
   where
-    stands : (o : Option (Work C)) → IfSome o (λ x. (e : ℕ) × (found e pe.room ≡ Some x.0)) → IfSome o (λ x. Stands w x.0)
+    stands : (o : Option (Work C)) → IfSome o (λ x. (e : ℕ) × (found e pe.room ≡ Some x.0) × All (λ l. l.to ≡ e) (letters_of_entry x.1)) → IfSome o (λ x. Stands w x.0)
     stands None s = tt
     stands (Some x) s = (p, pe, s.0, at, s.1)

@@ -15,7 +15,8 @@ use Rattle.chares.specs.Steps.{Step}
 use Rattle.pe_state.specs.Pes.{PeView, Parcel}
 use Rattle.rts_core.specs.declared.event.Event.{Event}
 use Rattle.rts_core.specs.Events.{Desk, After, at_desk, desk, with_desk, or_nothing, enabled, MayDecide}
-use Rattle.rts_core.specs.Histories.{HasHistories, AreHistories, IsDesk}
+use Rattle.pe_state.specs.Histories.{HasHistories}
+use Rattle.rts_core.specs.Histories.{AreHistories, IsDesk}
 use Rattle.rts_core.specs.Parts.{or_same}
 use Rattle.rts_core.specs.Worlds.{WorldView, IsWorld}
 

@@ -39,6 +39,11 @@ MayCall pe (Place e chare) = found e pe.room ≡ None
 MayCall pe (Receive parcel) = pe.hand ≡ None
 MayCall pe call = Unit {0}
 
+-- a call other than the placing of a chare, with which a run opens
+abbrev pub IsRunning : {C : Type 0} → Call C → Type 0
+IsRunning (Place e chare) = ⊥
+IsRunning call = Unit {0}
+
 -- the parcels that a PE receives in a call, and those that it gives away
 abbrev pub came_in : {C : Type 0} → Call C → List Parcel
 came_in (Receive parcel) = parcel ∷ []

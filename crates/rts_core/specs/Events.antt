@@ -3,9 +3,8 @@
 use Rattle.std.specs.Prelude.{◌≡◌, ℕ, ◌+◌, List, [], ◌∷◌, ◌++◌, Option, None, Some, Bool, not, ◌&&◌, ◌==◌, ◌⊎◌, Result, if◌then◌else◌, nat_lt, is_none, slice_get, slice_set, MatchOption}
 use Rattle.std.specs.Option.{option_map, option_and_then}
 use Rattle.chare_index.specs.declared.limits.TheConstants.Limits.{STATE_BYTES}
-use Rattle.at_sync.specs.Boards.{BoardState, Decides, decision_of, after_report, after_finish}
+use Rattle.at_sync.specs.Boards.{BoardState, Decides, place_in, after_report, after_finish}
 use Rattle.lb_database.specs.Measuring.{IsComplete, elements, report_of}
-use Rattle.lb_strategy.specs.Moves.{planned_pe}
 use Rattle.chares.specs.declared.note.Note.{Note}
 use Rattle.chares.specs.declared.note.Note.TheVariants.{Sync, Finish}
 use Rattle.chares.specs.declared.report.Report.{Report}
@@ -15,7 +14,7 @@ use Rattle.chares.specs.Steps.{Step}
 use Rattle.pup_pack.specs.declared.error.PupError.{PupError}
 use Rattle.rts_core.specs.declared.event.Event.{Event}
 use Rattle.rts_core.specs.declared.event.Event.TheVariants.{Start, Look, Flush, Deliver, Act, Report as Hand, Decide, Depart, Resume}
-use Rattle.pe_state.specs.Pes.{PeView, Parcel, wanted, looked, front_address, front_parcel, gave_up, received, noted, resumed, resume_reports, departed, acting}
+use Rattle.pe_state.specs.Pes.{PeView, Parcel, wanted, looked, front_address, front_parcel, gave_up, received, noted, resumed, resume_reports, departed, acting, waits_for}
 use Rattle.pe_state.specs.Rooms.{found}
 use Rattle.rts_core.specs.Worlds.{WorldView}
 
@@ -32,14 +31,6 @@ where_true test o = if test then o else None
 abbrev pub front_of : {X : Type 0} → List X → Option (X × List X)
 front_of [] = None
 front_of (x ∷ xs) = Some (x, xs)
-
--- the round for whose end an element waits: the one after that after which it was resumed last
-abbrev pub waits_for : {C : Type 0} → ElementView C → Option ℕ
-waits_for el = if el.progress.synced then Some (el.progress.round + 1) else None
-
--- the place of element e in the decision of round r, if that is decided
-abbrev pub place_in : {A : Type 0} → BoardState A → ℕ → ℕ → Option ℕ
-place_in b r e = option_map (λ d. planned_pe d.division.cuts d.naming e) (decision_of b r)
 
 -- element e stands on a PE and waits for the end of a round that is decided: that round, and its place in the decision
 abbrev pub due : {C A : Type 0} → PeView C → BoardState A → ℕ → Option (ℕ × ℕ)

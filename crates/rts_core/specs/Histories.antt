@@ -1,36 +1,21 @@
 -- That every element of a world is what its journal says, wherever it is.
-use Rattle.std.specs.Prelude.{◌≡◌, ◌<◌, ℕ, List, length, All, IfSome}
-use Rattle.std.specs.Map.{values_of}
-use Rattle.chares.specs.declared.carried.Carried.TheVariants.{Letter, Element}
-use Rattle.chares.specs.Elements.{IsHistory, IsPackedHistory}
+use Rattle.std.specs.Prelude.{◌≡◌, ◌<◌, ℕ, List, length, All}
 use Rattle.chares.specs.Steps.{Step}
-use Rattle.pe_state.specs.Pes.{PeView, Parcel}
+use Rattle.pe_state.specs.Histories.{IsParcelHistory, HasHistories}
 use Rattle.lb_database.specs.Measuring.{elements}
 use Rattle.rts_core.specs.Events.{Desk}
 use Rattle.rts_core.specs.Worlds.{WorldView}
 
 module _ {C : Type 0} (step : Step C) (fits : C → Type 0) (pack : C → List ℕ) (opened : List C) where
-  -- a parcel that is an element packs one that is what its journal says
-  abbrev pub IsParcelHistory : Parcel → Type 0
-  IsParcelHistory (Letter l) = Unit {0}
-  IsParcelHistory (Element p) = IsPackedHistory step fits pack opened p
-
-  -- a PE is one of a run that opened with these chares, and so is each element in its room, its hand and its outbox
-  pub record HasHistories (pe : PeView C) : Type 0 where
-    pub same_array : pe.n ≡ length opened
-    pub room : All (IsHistory step pack opened) (values_of pe.room)
-    pub hand : IfSome pe.hand (λ x. IsParcelHistory x.parcel)
-    pub outbox : All (λ x. IsParcelHistory x.parcel) pe.outbox
-
-  -- so is each element of a world, on a PE or in a queue
+  -- each element of a world is what its journal says, on a PE or in a queue
   pub record AreHistories {A : Type 0} (w : WorldView C A) : Type 0 where
-    pub pes : All HasHistories w.pes
-    pub queues : All (All IsParcelHistory) w.queues
+    pub pes : All (HasHistories step fits pack opened) w.pes
+    pub queues : All (All (IsParcelHistory step fits pack opened)) w.queues
 
   -- what a PE sees is of a run that opened with these chares on so many PEs
   pub record IsDesk {A : Type 0} (pes : ℕ) (d : Desk C A) : Type 0 where
-    pub histories : HasHistories d.pe
-    pub parcels : All (All IsParcelHistory) d.queues
+    pub histories : HasHistories step fits pack opened d.pe
+    pub parcels : All (All (IsParcelHistory step fits pack opened)) d.queues
     pub words_name : All (λ q. q < pes) d.words
     pub board_counted : elements d.board.database ≡ length opened
     pub board_pes : d.board.pes ≡ pes

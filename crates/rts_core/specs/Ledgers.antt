@@ -1,9 +1,11 @@
 -- The local account of one PE, over all calls so far: what it has received and given away, and what it has posted.
-use Rattle.std.specs.Prelude.{◌≡◌, ℕ, ◌+◌, List, [], ◌++◌, map, sum_by}
+use Rattle.std.specs.Prelude.{◌≡◌, ℕ, ◌+◌, List, [], ◌∷◌, ◌++◌, map, sum_by, All}
 use Rattle.std.specs.List.{flat_map, range_with_len}
-use Rattle.chares.specs.Letters.{LetterView}
+use Rattle.chares.specs.Letters.{LetterView, Done}
+use Rattle.chares.specs.Steps.{Step}
 use Rattle.pe_state.specs.Pes.{PeView, Parcel}
-use Rattle.rts_core.specs.Places.{letters_in, lives_in, letters_at, lives_at, letters_of_life}
+use Rattle.rts_core.specs.Accounts.{message}
+use Rattle.rts_core.specs.Places.{Life, letters_in, lives_in, letters_at, lives_at, letters_of_entry, letters_of_life, sends_of}
 
 -- the parcels that a PE has received, those that it has given away, and the letters that it has posted
 pub record Ledger : Type 0 where
@@ -32,3 +34,18 @@ all_letters_at pe = letters_at pe ++ flat_map letters_of_life (lives_at pe)
 pub record IsBalanced {C : Type 0} (pe : PeView C) (ledger : Ledger) : Type 0 where
   pub balance : (weight : ℕ × ℕ → ℕ → List ℕ → ℕ) → sum_by (λ l. weight l.id l.to l.body) (all_letters_at pe) + sum_by (λ l. weight l.id l.to l.body) (flat_map all_letters_in ledger.gone) ≡ sum_by (λ l. weight l.id l.to l.body) (flat_map all_letters_in ledger.came) + sum_by (λ l. weight l.id l.to l.body) ledger.posted
   pub numbered : map (λ l. l.id) ledger.posted ≡ map (λ k. (pe.me, k)) (range_with_len 0 pe.count)
+
+-- A weight of elements that no handler changes: an element weighs the same after one more entry, be it a resumption or
+-- a letter that was posted to it. Such is any weight by the index alone, and how many letters of others it has executed.
+abbrev pub IsSteady : (Life → ℕ) → Type 0
+IsSteady weight = (e : ℕ) (journal : List Done) (done : Done) → All (λ l. l.to ≡ e) (letters_of_entry done) → weight (e, journal ++ done ∷ []) ≡ weight (e, journal)
+
+-- The whole local account of a PE that began as `start`. Its letters are balanced. The elements that it had and received
+-- are those that it has and has given away, however they are weighed by what no handler changes. And what its elements
+-- have sent, and those that it gave away, is what it has posted and what those had sent that it received, with target and
+-- body.
+pub record IsLocalAccount {C : Type 0} (step : Step C) (opened : List C) (start pe : PeView C) (ledger : Ledger) : Type 0 where
+  pub same_me : pe.me ≡ start.me
+  pub letters : IsBalanced pe ledger
+  pub lives : (weight : Life → ℕ) → IsSteady weight → sum_by weight (lives_at pe) + sum_by weight (flat_map lives_in ledger.gone) ≡ sum_by weight (lives_at start) + sum_by weight (flat_map lives_in ledger.came)
+  pub sent : (weight : ℕ × List ℕ → ℕ) → sum_by weight (flat_map (sends_of step opened) (lives_at pe)) + sum_by weight (flat_map (sends_of step opened) (flat_map lives_in ledger.gone)) ≡ sum_by (λ l. weight (message l)) ledger.posted + sum_by weight (flat_map (sends_of step opened) (flat_map lives_in ledger.came))

@@ -31,13 +31,21 @@ settled n pes e (chare ∷ chares) =
     let q = home e n (length pes) in
     settled n (placed_on pes q e chare (slice_get pes q)) (e + 1) chares
 
+-- the PEs as a run opens: each element stands on its home, not started
+abbrev pub opening_pes : {C : Type 0} → ℕ → List C → List (PeView C)
+opening_pes pes chares = settled (length chares) (map (λ q. new_pe q (length chares)) (range_with_len 0 pes)) 0 chares
+
+-- the words as a run of n elements opens: of each element its home
+abbrev pub opening_words : ℕ → ℕ → List ℕ
+opening_words n pes = map (λ e. home e n pes) (range_with_len 0 n)
+
 -- the opening world: each element stands on its home, which is its word, and all else is empty
 abbrev pub opening_world : {C A : Type 0} → ℕ → List C → WorldView C A
 opening_world pes chares =
     record {
-      pes = settled (length chares) (map (λ q. new_pe q (length chares)) (range_with_len 0 pes)) 0 chares;
+      pes = opening_pes pes chares;
       queues = replicate pes [];
-      words = map (λ e. home e (length chares) pes) (range_with_len 0 (length chares));
+      words = opening_words (length chares) pes;
       board = new_board (length chares) pes;
     }
 

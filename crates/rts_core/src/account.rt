@@ -8,7 +8,7 @@ ghost use Rattle.rts_core.specs.Places.{letters_in, letters_at};
 use crate::queue::Queue;
 use chare_index::Limits;
 use chares::{Carried, Chare, Openings};
-use pe_state::{Item, Parcel, PeState};
+use pe_state::{HeldParcel, Item, Parcel, PeState};
 use std::alloc::Allocator;
 
 /// How many letters of a world were posted, how many of them were executed, and how many are held. A letter is held while
@@ -78,7 +78,7 @@ fn in_hand<C: Chare<A>, H: Openings<C>, A: Allocator>(pe: &PeState<C, H, A>) -> 
     let Some(item) = pe.hand() else {
         return 0;
     };
-    letters_of(&item.parcel)
+    letters_held(&item.parcel)
 }
 
 // How many letters are in the outbox of a PE.
@@ -97,14 +97,14 @@ fn on_shelf<C: Chare<A>, H: Openings<C>, A: Allocator>(pe: &PeState<C, H, A>) ->
     pe.shelf().len() as u64
 }
 
-// How many of these items, which are addressed to PEs, are letters.
-fn addressed<C: Chare<A>, H: Openings<C>, A: Allocator>(items: &[Item<C, H, A>]) -> u64
+/// How many of these items, which a PE holds in its outbox, are letters.
+pub fn addressed<A: Allocator>(items: &[Item<A>]) -> u64
     requires few { length (flat_map (λ x. letters_in x.parcel) items.now) < 2 ^ 64 }
     ensures value { result ≡ length (flat_map (λ x. letters_in x.parcel) items.now) }
 {
     let mut letters = 0;
     for item in items {
-        letters += letters_of(&item.parcel);
+        letters += letters_held(&item.parcel);
     }
     letters
 }
@@ -123,6 +123,16 @@ fn among<C: Chare<A>, H: Openings<C>, A: Allocator>(parcels: &[Parcel<C, H, A>])
 
 // How many letters a parcel is: one, or none where it is an element.
 fn letters_of<C: Chare<A>, H: Openings<C>, A: Allocator>(parcel: &Parcel<C, H, A>) -> u64
+    ensures value { result ≡ length (letters_in parcel.now) }
+{
+    let Carried::Letter(_) = parcel else {
+        return 0;
+    };
+    1
+}
+
+/// How many letters a parcel is that a PE holds: one, or none where it is an element.
+pub fn letters_held<A: Allocator>(parcel: &HeldParcel<A>) -> u64
     ensures value { result ≡ length (letters_in parcel.now) }
 {
     let Carried::Letter(_) = parcel else {

@@ -1,15 +1,17 @@
 //! Laws of all runs.
 
-ghost use Rattle.std.specs.Prelude.{ℕ, ◌≤◌, List, length};
+ghost use Rattle.std.specs.Prelude.{ℕ, ◌≤◌, List, length, All};
 ghost use Rattle.pe_state.specs.Pes.{PeView, new_pe};
+ghost use Rattle.pe_state.specs.Rooms.{IsKeyed};
 ghost use Rattle.rts_core.specs.declared.event.Event.{Event};
 ghost use Rattle.rts_core.specs.Accounts.{Accounted, AreSent, IsCounted, IsTold};
-ghost use Rattle.rts_core.specs.Calls.{Call, MayCall, MayMake, after_call, after_calls, with_call, with_calls};
+ghost use Rattle.rts_core.specs.Calls.{Call, IsRunning, MayCall, MayMake, after_call, after_calls, with_call, with_calls};
 ghost use Rattle.rts_core.specs.Events.{After, Happens};
+ghost use Rattle.pe_state.specs.Histories.{HasHistories};
 ghost use Rattle.rts_core.specs.Histories.{AreHistories};
-ghost use Rattle.rts_core.specs.Ledgers.{Ledger, no_ledger, IsBalanced};
+ghost use Rattle.rts_core.specs.Ledgers.{Ledger, no_ledger, IsBalanced, IsLocalAccount};
 ghost use Rattle.rts_core.specs.Runs.{Leads};
-ghost use Rattle.rts_core.specs.Worlds.{WorldView, opening_world};
+ghost use Rattle.rts_core.specs.Worlds.{WorldView, opening_pes, opening_world};
 
 use chares::Chare;
 use std::alloc::Allocator;
@@ -32,7 +34,13 @@ pub fn account_laws<C: Chare<A>, A: Allocator>()
 /// whatever chares. After any list of calls, refused ones among them, the letters that the PE has posted and received are
 /// those that it has given away and those that it has, where the letters in the journal of an element go with it; and
 /// those that it has posted are numbered in order. One more call keeps this.
+///
+/// More is known of a PE whose elements are what their journals say: its elements, too, are those that it opened with and
+/// received but for those that it has given away, however they are weighed by what no handler changes, and what they have
+/// sent is what the PE has posted. A PE opens so, and each call but the placing of a chare keeps it.
 pub fn local_account_laws<C: Chare<A>, A: Allocator>()
     ensures balance { (me n : ℕ) (calls : List (Call C)) → MayMake C.step C.pack C.unpack (new_pe me n) calls → IsBalanced (after_calls C.step C.pack C.unpack (new_pe me n) calls) (with_calls C.step C.pack C.unpack no_ledger (new_pe me n) calls) }
     ensures still_balanced { (pe : PeView C) (ledger : Ledger) (call : Call C) → MayCall pe call → IsBalanced pe ledger → IsBalanced (after_call C.step C.pack C.unpack pe call) (with_call C.step C.pack C.unpack ledger pe call) }
+    ensures opening { (pes : ℕ) (chares : List C) → 1 ≤ pes → All (λ pe. IsLocalAccount C.step chares pe pe no_ledger) (opening_pes pes chares) }
+    ensures still_accounted { (opened : List C) (start pe : PeView C) (ledger : Ledger) (call : Call C) → MayCall pe call → IsRunning call → HasHistories C.step C.fits C.pack opened pe → IsKeyed pe.room → IsLocalAccount C.step opened start pe ledger → IsLocalAccount C.step opened start (after_call C.step C.pack C.unpack pe call) (with_call C.step C.pack C.unpack ledger pe call) }
 {}

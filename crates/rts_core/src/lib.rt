@@ -13,10 +13,11 @@ mod stepping;
 mod working;
 mod world;
 
-pub use account::Account;
+pub use account::{Account, addressed, letters_held};
 pub use event::Event;
 pub use laws::{account_laws, local_account_laws};
-pub use pe_state::{Acted, Item, Parcel, PeState, Room, StepError};
+pub use opening::{opening_pes, opening_queues, opening_words};
+pub use pe_state::{Acted, HeldParcel, Item, Parcel, PeEnd, PeState, Room, StepError, into_held};
 pub use queue::Queue;
 pub use reports::Reports;
 pub use world::World;

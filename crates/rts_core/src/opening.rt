@@ -1,12 +1,13 @@
-//! The opening of a world.
+//! How a run opens: its PEs, the queue before each, and the word of each element. A [`World`](crate::World) opens so,
+//! and so does a run over threads, which has queues of its own.
 
 ghost use Rattle.std.specs.Prelude.{◌≡◌, ◌+◌, ◌∷◌, ◌<◌, ◌≤◌, ℕ, List, [], length, Some, MatchOption, map, replicate, IfOk, OnOk, None, All, slice_get};
 ghost use Rattle.std.specs.List.{range_with_len};
 ghost use Rattle.std.specs.Map.{keys_of};
 ghost use Rattle.chare_index.specs.declared.limits.TheConstants.Limits.{ELEMENTS, PES};
 ghost use Rattle.pe_state.specs.Pes.{PeView, new_pe};
-ghost use Rattle.rts_core.specs.Histories.{HasHistories};
-ghost use Rattle.rts_core.specs.Worlds.{home, placed_on, settled};
+ghost use Rattle.pe_state.specs.Histories.{HasHistories};
+ghost use Rattle.rts_core.specs.Worlds.{home, placed_on, settled, opening_pes, opening_words};
 
 use crate::queue::Queue;
 use chare_index::{Index, Limits, Pe, opening_pe};
@@ -15,9 +16,32 @@ use pe_state::PeState;
 use std::alloc::{AllocError, Allocator};
 use std::collections::VecDeque;
 
-/// The PEs as a run opens, before any element is placed.
+/// The PEs of a run as it opens: element `i` of `n` stands, not started, on PE `i * pes / n`, rounded down. There are 1 to
+/// 256 PEs and at most 65,536 chares, which are those that the run opens with. Where no memory is left the chares are given
+/// up.
+pub fn opening_pes<C: Chare<A>, H: Openings<C>, A: Allocator + Copy>(
+    alloc: A,
+    pes: u32,
+    chares: Vec<C, A>,
+) -> Result<Vec<PeState<C, H, A>, A>, AllocError>
+    requires some_pe { 1 ≤ pes }
+    requires few_pes { pes ≤ Limits.PES }
+    requires few { length chares.items ≤ Limits.ELEMENTS }
+    requires run { pes ≡ H.pes }
+    requires opened { chares.items ≡ H.opened }
+    ensures value { IfOk result (λ made. made.items ≡ opening_pes pes chares.items) }
+    ensures counted { IfOk result (λ made. length made.items ≡ pes) }
+    ensures histories { IfOk result (λ made. All (HasHistories C.step C.fits C.pack H.opened) made.items) }
+{
+    let n = chares.len() as u32;
+    let mut made = bare_pes(alloc, pes, n)?;
+    settle(&mut made, n, chares)?;
+    Ok(made)
+}
+
+// The PEs before any element is placed.
 #[tactic(auto, using(crate::proofs::Openings::list_more))]
-pub(crate) fn opening_pes<C: Chare<A>, H: Openings<C>, A: Allocator + Copy>(
+fn bare_pes<C: Chare<A>, H: Openings<C>, A: Allocator + Copy>(
     alloc: A,
     pes: u32,
     n: u32,
@@ -44,8 +68,8 @@ fn pe_at(q: u32) -> Pe
     Pe::new(q).unwrap()
 }
 
-/// A queue for each PE.
-pub(crate) fn opening_queues<C: Chare<A>, H: Openings<C>, A: Allocator + Copy>(
+/// An empty queue for each PE.
+pub fn opening_queues<C: Chare<A>, H: Openings<C>, A: Allocator + Copy>(
     alloc: A,
     pes: u32,
 ) -> Result<Vec<Queue<C, H, A>, A>, AllocError>
@@ -58,17 +82,14 @@ pub(crate) fn opening_queues<C: Chare<A>, H: Openings<C>, A: Allocator + Copy>(
     Ok(made)
 }
 
-/// The word of each element: the PE on which it opens.
+/// The word of each of `n` elements as a run opens: the PE on which it opens, of 1 to 256. There are at most 65,536
+/// elements. The only error is that memory was refused.
 #[tactic(auto, using(crate::proofs::Openings::home_below, crate::proofs::Openings::list_more))]
-pub(crate) fn opening_words<A: Allocator>(
-    alloc: A,
-    n: u32,
-    pes: u32,
-) -> Result<Vec<Pe, A>, AllocError>
+pub fn opening_words<A: Allocator>(alloc: A, n: u32, pes: u32) -> Result<Vec<Pe, A>, AllocError>
     requires few { n ≤ Limits.ELEMENTS }
     requires some_pe { 1 ≤ pes }
     requires few_pes { pes ≤ Limits.PES }
-    ensures value { IfOk result (λ words. words.items ≡ map (λ e. home e n pes) (range_with_len 0 n)) }
+    ensures value { IfOk result (λ words. words.items ≡ opening_words n pes) }
     ensures named { IfOk result (λ words. All (λ q. q < pes) words.items) }
 {
     let mut words = Vec::new(alloc);
@@ -79,8 +100,8 @@ pub(crate) fn opening_words<A: Allocator>(
     Ok(words)
 }
 
-/// Places each chare on the PE on which it opens.
-pub(crate) fn settle<C: Chare<A>, H: Openings<C>, A: Allocator + Copy>(
+// Places each chare on the PE on which it opens.
+fn settle<C: Chare<A>, H: Openings<C>, A: Allocator + Copy>(
     pes: &mut Vec<PeState<C, H, A>, A>,
     n: u32,
     chares: Vec<C, A>,

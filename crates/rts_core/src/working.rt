@@ -5,7 +5,7 @@ ghost use Rattle.lb_database.specs.Measuring.{elements};
 ghost use Rattle.chares.specs.declared.report.Report.{Report};
 ghost use Rattle.pe_state.specs.Pes.{PeView, acting, may_resume, may_depart};
 ghost use Rattle.pe_state.specs.Refusals.{RefusesStep, RefusesAct};
-ghost use Rattle.rts_core.specs.Events.{started, due, went_on, acted, place_in};
+ghost use Rattle.rts_core.specs.Events.{started, due, went_on, acted};
 ghost use Rattle.rts_core.specs.Parts.{or_same};
 ghost use Rattle.rts_core.specs.Refusals.{RefusesStart, RefusesGoingOn};
 
@@ -91,27 +91,7 @@ pub(crate) fn due_at<C: Chare<A>, H: Openings<C>, A: Allocator>(
     ensures below { IfSome result (λ at. at.1 < board.now.pes) }
     ensures within { IfSome result (λ at. e < length H.opened) }
 {
-    let element = pe.room().element(e)?;
-    let progress = element.progress();
-    if !progress.synced {
-        return None;
-    }
-    let index = element.index();
-    let round = Round::new(progress.round.get() + 1).unwrap();
-    let place = place_for(board, round, index)?;
+    let round = pe.waits_for(e)?;
+    let place = board.place_for(round, e)?;
     Some((round, place))
-}
-
-/// The place of an element in the decision of a round.
-#[tactic(auto, using(crate::proofs::Places::has_place, crate::proofs::Places::place_below, crate::proofs::Places::decided_before))]
-fn place_for<A: Allocator>(board: &Board<A>, round: Round, e: Index) -> Option<Pe>
-    requires { e < elements board.now.database }
-    ensures value { result ≡ place_in board.now round e }
-    ensures below { IfSome result (λ q. q < board.now.pes) }
-    ensures before_last_round { IfSome result (λ q. round < Limits.ROUND) }
-{
-    let _rounds = board.rounds();
-    let _len = board.len();
-    let decision = board.decision_for(round)?;
-    Some(decision.place_of(e))
 }

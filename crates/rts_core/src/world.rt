@@ -16,7 +16,7 @@ ghost use Rattle.rts_core.specs.Worlds.{IsWorld, opening_world};
 use crate::account::{Account, held_by, posted_by, queued_in};
 use crate::balancing::decide;
 use crate::event::Event;
-use crate::opening::{opening_pes, opening_queues, opening_words, settle};
+use crate::opening::{opening_pes, opening_queues, opening_words};
 use crate::queue::Queue;
 use crate::reports::Reports;
 use crate::stepping::step_in;
@@ -70,11 +70,10 @@ impl<C: Chare<A>, H: Openings<C>, A: Allocator + Copy> World<C, H, A> {
         ensures history { IfOk result (λ world. AreHistories C.step C.fits C.pack H.opened world) }
     {
         let n = chares.len() as u32;
-        let mut states = opening_pes(alloc, pes, n)?;
+        let states = opening_pes(alloc, pes, chares)?;
         let queues = opening_queues(alloc, pes)?;
         let words = opening_words(alloc, n, pes)?;
         let board = Board::new(alloc, n, pes)?;
-        settle(&mut states, n, chares)?;
         Ok(World {
             pes: states,
             queues,

@@ -4,7 +4,7 @@ use Rattle.std.specs.Prelude.{Result, slice_get, slice_set, not, is_none, â—Œ==â
 use Rattle.std.specs.Option.{option_map, option_and_then}
 use Rattle.std.proofs.lemmas.Option.{option_and_then_some}
 use Rattle.std.proofs.lemmas.List.Sums.{sum_by-cons, sum_by_push}
-use Rattle.at_sync.specs.Boards.{BoardState}
+use Rattle.at_sync.specs.Boards.{BoardState, place_in}
 use Rattle.chares.specs.declared.carried.Carried.TheVariants.{Letter, Element}
 use Rattle.chares.specs.declared.note.Note.{Note}
 use Rattle.chares.specs.declared.note.Note.TheVariants.{Sync, Finish}
@@ -13,11 +13,11 @@ use Rattle.chares.specs.declared.report.Report.TheVariants.{Departed, Decided}
 use Rattle.chares.specs.Elements.{ElementView}
 use Rattle.chares.specs.Steps.{Step}
 use Rattle.pup_pack.specs.declared.error.PupError.{PupError}
-use Rattle.pe_state.specs.Pes.{PeView, Parcel, Item, Acting, wanted, looked, front_address, front_parcel, gave_up, received, noted, resumed, resume_reports, departed, acting}
+use Rattle.pe_state.specs.Pes.{PeView, Parcel, Item, Acting, wanted, looked, front_address, front_parcel, gave_up, received, noted, resumed, resume_reports, departed, acting, waits_for}
 use Rattle.pe_state.specs.Rooms.{found}
 use Rattle.rts_core.specs.declared.event.Event.{Event}
 use Rattle.rts_core.specs.declared.event.Event.TheVariants.{Start, Look, Flush, Deliver, Act, Report as Hand, Decide, Depart, Resume}
-use Rattle.rts_core.specs.Events.{After, where_true, front_of, waits_for, place_in, due, board_after, note_reports, looked_up, flushed, delivered, delivered_from, handed_in, started, left, went_on, acted, Desk, pe_of, at_desk, desk, with_desk, or_nothing, enabled, Happens, MayDecide}
+use Rattle.rts_core.specs.Events.{After, where_true, front_of, due, board_after, note_reports, looked_up, flushed, delivered, delivered_from, handed_in, started, left, went_on, acted, Desk, pe_of, at_desk, desk, with_desk, or_nothing, enabled, Happens, MayDecide}
 use Rattle.rts_core.specs.Worlds.{WorldView}
 use Rattle.rts_core.proofs.EventSteps.{where_some, some_same, none_is, front_is}
 use Rattle.rts_core.proofs.WorldSteps.{Numbered}

@@ -2,9 +2,9 @@
 
 use chare_index::{Index, Pe, Round};
 use chares::{
-    Carried, Chare, Element, Entry, Letter, LetterId, Mark, Note, Openings, PackedElement, Progress,
+    Carried, Chare, Element, Entry, Letter, LetterId, Mark, Note, Openings, Packed, Progress,
 };
-use rts_core::{Item, Parcel, PeState, Queue, World};
+use rts_core::{HeldParcel, Item, Parcel, PeState, Queue, World};
 use std::alloc::Allocator;
 use std::process::Abort;
 
@@ -146,7 +146,7 @@ fn add_pe<C: Chare<A>, H: Openings<C>, A: Allocator>(
     add(rt, seen, Seen::Posts(p, pe.count()));
     add_room(rt, seen, p, pe);
     if let Some(item) = pe.hand() {
-        add_parcel(rt, seen, Place::Hand(p, item.address), &item.parcel);
+        add_held(rt, seen, Place::Hand(p, item.address), &item.parcel);
     }
     add_shelf(rt, seen, p, pe);
     add_outbox(rt, seen, p, pe);
@@ -202,13 +202,8 @@ fn add_notes<C: Chare<A>, H: Openings<C>, A: Allocator>(
 }
 
 // What leaves a PE.
-fn add_item<C: Chare<A>, H: Openings<C>, A: Allocator>(
-    rt: &impl Abort,
-    seen: &mut Vec<Seen>,
-    p: Pe,
-    item: &Item<C, H, A>,
-) {
-    add_parcel(rt, seen, Place::Outbox(p, item.address), &item.parcel);
+fn add_item<A: Allocator>(rt: &impl Abort, seen: &mut Vec<Seen>, p: Pe, item: &Item<A>) {
+    add_held(rt, seen, Place::Outbox(p, item.address), &item.parcel);
 }
 
 fn add_queue<C: Chare<A>, H: Openings<C>, A: Allocator>(
@@ -227,6 +222,18 @@ fn add_parcel<C: Chare<A>, H: Openings<C>, A: Allocator>(
     seen: &mut Vec<Seen>,
     place: Place,
     parcel: &Parcel<C, H, A>,
+) {
+    match parcel {
+        Carried::Letter(letter) => add_letter(rt, seen, place, letter),
+        Carried::Element(element) => add_packed(rt, seen, place, element.packed()),
+    }
+}
+
+fn add_held<A: Allocator>(
+    rt: &impl Abort,
+    seen: &mut Vec<Seen>,
+    place: Place,
+    parcel: &HeldParcel<A>,
 ) {
     match parcel {
         Carried::Letter(letter) => add_letter(rt, seen, place, letter),
@@ -249,11 +256,11 @@ fn add_letter<A: Allocator>(
     );
 }
 
-fn add_packed<C: Chare<A>, H: Openings<C>, A: Allocator>(
+fn add_packed<A: Allocator>(
     rt: &impl Abort,
     seen: &mut Vec<Seen>,
     place: Place,
-    element: &PackedElement<C, H, A>,
+    element: &Packed<A>,
 ) {
     let e = element.index();
     add_place(rt, seen, place, e, element.progress());
@@ -262,11 +269,11 @@ fn add_packed<C: Chare<A>, H: Openings<C>, A: Allocator>(
     add_marks(rt, seen, e, element.marks());
 }
 
-fn add_element<C: Chare<A>, H: Openings<C>, A: Allocator>(
+fn add_element<C: Chare<A>, A: Allocator>(
     rt: &impl Abort,
     seen: &mut Vec<Seen>,
     p: Pe,
-    element: &Element<C, H, A>,
+    element: &Element<C, A>,
 ) {
     let e = element.index();
     add_place(rt, seen, Place::Room(p), e, element.progress());

@@ -5,7 +5,9 @@ ghost use Rattle.std.specs.Prelude.{◌≡◌};
 use crate::fixtures::assert_for;
 use chare_index::Pe;
 use chares::{Carried, Chare, Entry, Letter, Openings, Report};
-use rts_core::{Account, Event, Parcel, PeState, Queue, Reports, Room, StepError, World};
+use rts_core::{
+    Account, Event, HeldParcel, Parcel, PeState, Queue, Reports, Room, StepError, World,
+};
 use std::alloc::{AllocError, Allocator};
 use std::process::Abort;
 
@@ -142,6 +144,14 @@ impl Count {
         }
     }
 
+    // So of a parcel that a PE holds.
+    fn held_parcel<A: Allocator>(&mut self, parcel: &HeldParcel<A>) {
+        match parcel {
+            Carried::Letter(_) => self.held = self.held.wrapping_add(1),
+            Carried::Element(element) => self.journal(element.journal()),
+        }
+    }
+
     // Counts the letters of a queue.
     fn queue<C: Chare<A>, H: Openings<C>, A: Allocator>(&mut self, queue: &Queue<C, H, A>) {
         for parcel in queue.parcels().iter() {
@@ -150,7 +160,7 @@ impl Count {
     }
 
     // Counts the letters that the elements in a room have executed.
-    fn room<C: Chare<A>, H: Openings<C>, A: Allocator>(&mut self, room: &Room<C, H, A>) {
+    fn room<C: Chare<A>, A: Allocator>(&mut self, room: &Room<C, A>) {
         for (_, element) in room.iter() {
             self.journal(element.journal());
         }
@@ -161,10 +171,10 @@ impl Count {
         self.posted = self.posted.wrapping_add(pe.count());
         self.held = self.held.wrapping_add(pe.shelf().len() as u64);
         if let Some(item) = pe.hand() {
-            self.parcel(&item.parcel);
+            self.held_parcel(&item.parcel);
         }
         for item in pe.outbox().iter() {
-            self.parcel(&item.parcel);
+            self.held_parcel(&item.parcel);
         }
         self.room(pe.room());
     }

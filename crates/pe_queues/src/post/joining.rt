@@ -1,5 +1,5 @@
 //! How seats are joined, and how a post ends once they all are.
-ghost use Rattle.std.specs.Prelude.{◌≡◌};
+ghost use Rattle.std.specs.Prelude.{◌≡◌, ◌≤◌, All, length};
 ghost use Rattle.pe_queues.specs.Seats.{IsAllSeats, AreLeft, joined};
 
 use super::Post;
@@ -43,6 +43,7 @@ impl<T: Drop, A: Allocator> Post<T, A> {
         requires own { seat.post ≡ self }
         requires all { IsAllSeats seat }
         ensures left { AreLeft seat result.items }
+        ensures few { All (λ queue. length queue.items ≤ self.capacity) result.items }
     {
         let Post {
             queues,

@@ -7,7 +7,7 @@ ghost use Rattle.pe_state.specs.Pes.{PeView, acting, acted_of, pe_after, reports
 ghost use Rattle.pe_state.specs.Refusals.{RefusesStep, RefusesAct, RefusesParcel};
 ghost use Rattle.pe_state.specs.Rooms.{found};
 ghost use Rattle.pe_state.specs.Standing.{IsBelow};
-ghost use Rattle.chares.specs.Elements.{unpacked, IsHistory};
+ghost use Rattle.chares.specs.Elements.{unpacked, IsHistory, IsPackedHistory};
 ghost use Rattle.chares.specs.declared.carried.Carried.{Carried};
 ghost use Rattle.chares.specs.declared.entry.Entry.{Entry};
 ghost use Rattle.chares.specs.declared.report.Report.{Report};
@@ -16,11 +16,11 @@ ghost use Rattle.pe_state.specs.declared.error.StepError.TheVariants.{OutOfMemor
 use crate::acted::Acted;
 use crate::error::StepError;
 use crate::lent;
-use crate::pe::{Parcel, PeState};
+use crate::pe::PeState;
 use crate::shelf::unshelve;
 use chare_index::{Gate, Index, Pe};
 use chares::{
-    Addressed, Carried, Chare, Letter, Openings, PackedElement, Report, Unread, add_report,
+    Addressed, Carried, Chare, Letter, Openings, Packed, Report, Unread, add_report,
     room_for_report,
 };
 use std::alloc::{AllocError, AllocFailed, Allocator, Global};
@@ -276,13 +276,14 @@ impl<C: Chare<A>, H: Openings<C>, A: Allocator + Copy> PeState<C, H, A> {
     #[tactic(auto, using(crate::proofs::Reports::reported_none))]
     fn act_on_element(
         &mut self,
-        element: PackedElement<C, H, A>,
+        element: Packed<A>,
         look: Option<Pe>,
         reporting: bool,
         reports: &mut Vec<Report, A>,
     ) -> Result<Option<Acted>, StepError>
         requires empty { self.old.hand ≡ None }
         requires below { IsBelow H.pes look }
+        requires consistent { IsPackedHistory C.step C.fits C.pack H.opened element }
         ensures answer { IfOk result (λ acted. acted ≡ acted_of (on_element C.step C.pack C.unpack self.old element (found element.index self.old.room))) }
         ensures ok { OnOk result (self.new ≡ pe_after (held self.old (Carried.Element element) look) (on_element C.step C.pack C.unpack self.old element (found element.index self.old.room))) }
         ensures err { OnErr result (self.new ≡ held self.old (Carried.Element element) look) }
@@ -295,7 +296,7 @@ impl<C: Chare<A>, H: Openings<C>, A: Allocator + Copy> PeState<C, H, A> {
             self.hold(Carried::Element(element), look);
             return Ok(None);
         }
-        let Ok(chare) = element.unpack(self.alloc) else {
+        let Ok(chare) = element.unpack::<C, H>(self.alloc) else {
             self.hold(Carried::Element(element), look);
             return Err(StepError::OutOfMemory);
         };
@@ -309,7 +310,7 @@ impl<C: Chare<A>, H: Openings<C>, A: Allocator + Copy> PeState<C, H, A> {
     #[tactic(auto, using(crate::proofs::Below::unshelved))]
     fn install(
         &mut self,
-        element: PackedElement<C, H, A>,
+        element: Packed<A>,
         chare: C,
         look: Option<Pe>,
         reporting: bool,
@@ -318,6 +319,7 @@ impl<C: Chare<A>, H: Openings<C>, A: Allocator + Copy> PeState<C, H, A> {
         requires empty { self.old.hand ≡ None }
         requires below { IsBelow H.pes look }
         requires lacks { found element.index self.old.room ≡ None }
+        requires consistent { IsPackedHistory C.step C.fits C.pack H.opened element }
         requires history { IsHistory C.step C.pack H.opened (unpacked element chare) }
         ensures ok { OnOk result (self.new ≡ installed self.old element chare) }
         ensures err { OnErr result (self.new ≡ held self.old (Carried.Element element) look) }

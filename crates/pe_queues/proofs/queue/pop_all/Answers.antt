@@ -18,6 +18,8 @@ loop-value-init g c =
       traffic = counted.queue.1 ∙ drained_none (view c.args.pass.now) c.args.room.now.items c.requires.empty;
       count = (let n = all_counted _ held.0 held.2 c.requires.all in let e = held.1 in omega arith);
       wide = (let a = counted.rule.0 in let b = c.requires.wide in omega arith);
+      few = counted.rule.0;
+      held = (let e = ap length c.requires.empty in omega arith);
     }
 
 pub push_reserved-requires : goal.push_reserved-requires
@@ -33,11 +35,16 @@ pub loop-value-preserved : goal.loop-value-preserved
 loop-value-preserved g c =
     let i = c.loop-value.invariant in
     let popped = c.in-Some.ensures in
+    let n = drained_counts (view c.args.pass.now) (view c.pop_as.new.pass) _ popped.rule.1.0 c.len_as-left.result (drained_more (view c.args.pass.now) _ _ _ c.in-Some.value i.traffic popped.rule.0) c.requires.all i.count popped.rule.1.1 in
+    let l = length-append c.loop-value.room.items (c.in-Some.value ∷ []) in
+    let m = ap length c.push_reserved.ensures.items in
     record {
       own = (popped.queue.0 ∙ i.own.0, popped.queue.2 ∙ i.own.1);
       traffic = rw c.push_reserved.ensures.items (drained_more (view c.args.pass.now) _ _ _ c.in-Some.value i.traffic popped.rule.0);
       count = i.count;
       wide = (let w = i.wide in let e = c.push_reserved.ensures.capacity in omega arith);
+      few = i.few;
+      held = omega arith;
     }
 
 pub loop-value-smaller : goal.loop-value-smaller

@@ -3,19 +3,29 @@ use Rattle.pe_state.proofs.Lending.{outbox_after, count_after, reports_after, pl
 use Rattle.pe_state.proofs.lent.resume.Goals as goal
 
 pub returns-clause-room : goal.returns-clause-room
-returns-clause-room g c = rw c.requires.same_array c.resume-answer.ensures.room
+returns-clause-room g c =
+    let all = ap (λ p. p.n) c.lend-sends.ensures.value in
+    rw (← all) c.resume-answer.ensures.room
 
 pub returns-clause-note : goal.returns-clause-note
-returns-clause-note g c = rw c.requires.same_array c.resume-answer.ensures.note
+returns-clause-note g c =
+    let all = ap (λ p. p.n) c.lend-sends.ensures.value in
+    rw (← all) c.resume-answer.ensures.note
 
 pub returns-clause-outbox : goal.returns-clause-outbox
-returns-clause-outbox g c = rw c.requires.same_array (outbox_after _ _ _ _ _ _ _ _ _ c.lend-sends.ensures.value _ _ _ _ c.give_back-posted.ensures.outbox (ap (λ d. d.items) c.replace-lent.ensures.value) c.resume-answer.ensures.sends)
+returns-clause-outbox g c =
+    let all = ap (λ p. p.n) c.lend-sends.ensures.value in
+    rw (← all) (outbox_after _ _ _ _ _ _ _ _ _ c.lend-sends.ensures.value _ _ _ _ c.give_back-posted.ensures.outbox (ap (λ d. d.items) c.replace-lent.ensures.value) c.resume-answer.ensures.sends)
 
 pub returns-clause-count : goal.returns-clause-count
-returns-clause-count g c = rw c.requires.same_array (count_after _ _ _ _ _ _ _ _ _ c.lend-sends.ensures.value _ _ _ c.give_back-posted.ensures.count c.resume-answer.ensures.sends)
+returns-clause-count g c =
+    let all = ap (λ p. p.n) c.lend-sends.ensures.value in
+    rw (← all) (count_after _ _ _ _ _ _ _ _ _ c.lend-sends.ensures.value _ _ _ c.give_back-posted.ensures.count c.resume-answer.ensures.sends)
 
 pub returns-clause-reports : goal.returns-clause-reports
-returns-clause-reports g c = rw c.requires.same_array (reports_after _ _ _ _ _ _ _ _ _ c.lend-sends.ensures.value _ _ _ _ c.give_back-posted.ensures.reports (ap (λ d. d.items) c.replace-told.ensures.value) c.resume-answer.ensures.sends)
+returns-clause-reports g c =
+    let all = ap (λ p. p.n) c.lend-sends.ensures.value in
+    rw (← all) (reports_after _ _ _ _ _ _ _ _ _ c.lend-sends.ensures.value _ _ _ _ c.give_back-posted.ensures.reports (ap (λ d. d.items) c.replace-told.ensures.value) c.resume-answer.ensures.sends)
 
 pub returns-clause-numbered : goal.returns-clause-numbered
 returns-clause-numbered g c = rw c.give_back-posted.ensures.count c.give_back-posted.ensures.few
@@ -36,4 +46,6 @@ pub returns-clause-same_reports : goal.returns-clause-same_reports
 returns-clause-same_reports g c = reports_kept _ _ _ _ _ _ _ _ _ c.lend-sends.ensures.value _ _ c.give_back-posted.ensures.reports (ap (λ d. d.items) c.replace-told.ensures.value) c.resume-answer.ensures.taken_back
 
 pub returns-clause-refused : goal.returns-clause-refused
-returns-clause-refused g c = rw c.requires.same_array (rw (sym (ap (λ s. s.count) c.lend-sends.ensures.value)) c.resume-answer.ensures.refused)
+returns-clause-refused g c =
+    let all = ap (λ p. p.n) c.lend-sends.ensures.value in
+    rw (← all) (rw (sym (ap (λ s. s.count) c.lend-sends.ensures.value)) c.resume-answer.ensures.refused)

@@ -1,5 +1,5 @@
 use Rattle.std.proofs.Common.{◌<◌, length, sym, subst, arith}
-use Rattle.rts_core.specs.Histories.{HasHistories}
+use Rattle.pe_state.specs.Histories.{HasHistories}
 use Rattle.rts_core.proofs.Openings.{KeysBelow, home_below, lacks_at, placed_before, placed_histories}
 use Rattle.rts_core.proofs.opening.place_home.Goals as goal
 

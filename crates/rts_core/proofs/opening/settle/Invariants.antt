@@ -1,6 +1,6 @@
 use Rattle.std.proofs.Common.{◌≡◌, ◌+◌, drop, length}
 use Rattle.std.specs.Prelude.{All}
-use Rattle.rts_core.specs.Histories.{HasHistories}
+use Rattle.pe_state.specs.Histories.{HasHistories}
 use Rattle.rts_core.specs.Worlds.{settled}
 use Rattle.rts_core.proofs.Openings.{KeysBelow}
 use Rattle.rts_core.proofs.opening.settle.Given as goal

@@ -1,8 +1,8 @@
 use Rattle.std.proofs.Common.{sym, subst, ◌∙◌}
 use Rattle.pe_state.specs.Pes.{PeView}
 use Rattle.rts_core.specs.Events.{started, flushed, delivered_from, acted, left, went_on}
-use Rattle.rts_core.specs.Histories.{HasHistories}
-use Rattle.rts_core.proofs.Histories.{started_holds, looked_holds, flushed_holds, delivered_from_holds, acted_holds, left_holds, went_on_holds, pe_kept, words_kept, queues_kept, board_kept}
+use Rattle.pe_state.specs.Histories.{HasHistories}
+use Rattle.rts_core.proofs.Histories.{started_holds, looked_up_holds, flushed_holds, delivered_from_holds, acted_holds, left_holds, went_on_holds, pe_kept, words_kept, queues_kept, board_kept}
 use Rattle.rts_core.proofs.stepping.step_at.Goals as goal
 
 pub returns-in-Start-clause-kept : goal.returns-in-Start-clause-kept
@@ -20,7 +20,7 @@ pub returns-in-Look-clause-kept : goal.returns-in-Look-clause-kept
 returns-in-Look-clause-kept g c =
     let d = c.requires.run in
     record {
-      histories = subst (λ (x : PeView g.row.C.Denot). HasHistories g.C.Chare.step g.C.Pup.fits g.C.Pup.pack g.H.Openings.opened x) (sym c.look_up.ensures) (looked_holds g.C.Chare.step g.C.Pup.fits g.C.Pup.pack g.H.Openings.opened c.args.pe.now c.args.words.now d.histories);
+      histories = subst (λ (x : PeView g.row.C.Denot). HasHistories g.C.Chare.step g.C.Pup.fits g.C.Pup.pack g.H.Openings.opened x) (sym c.look_up.ensures) (looked_up_holds g.C.Chare.step g.C.Pup.fits g.C.Pup.pack g.H.Openings.opened c.args.pe.now c.args.words.now d.histories);
       parcels = d.parcels;
       words_name = d.words_name;
       board_counted = d.board_counted;

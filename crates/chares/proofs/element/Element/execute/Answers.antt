@@ -1,24 +1,22 @@
-use Rattle.std.proofs.Common.{◌<◌, ◌++◌, ◌∷◌, [], refl, sym, ap, subst, length, ℕ, List, ◌∙◌}
+use Rattle.std.proofs.Common.{◌<◌, ◌++◌, ◌∷◌, [], refl, sym, ap, subst, ℕ, List, ◌∙◌}
 use Rattle.chare_index.specs.declared.limits.TheConstants.Limits.{ROUND}
-use Rattle.chares.specs.Elements.{ElementView}
 use Rattle.chares.specs.Posting.{posted, with_report}
 use Rattle.chares.specs.Progressing.{synced_mark}
 use Rattle.chares.specs.declared.entry.Entry.TheVariants.{Letter}
 use Rattle.chares.specs.declared.report.Report.TheVariants as Tells
-use Rattle.chares.proofs.Histories.{history_more, ended_before}
+use Rattle.chares.proofs.Histories.{ended_before}
 use Rattle.chares.proofs.Postings.{all_rewound}
-use Rattle.chares.proofs.Running.{same_parts, history_same, where_refused, where_answered, note_after, element_after, sends_after, refused_after}
+use Rattle.chares.proofs.Running.{same_parts, where_refused, where_answered, note_after, element_after, sends_after, refused_after}
 use Rattle.chares.proofs.element.Element.execute.Goals.{then-is_err-via-then-is_err, then-is_err-via-else-is_err+then-is_err-2}
 use Rattle.chares.proofs.element.Element.execute.Goals as goal
 
 -- no memory for the journal or for the marks
 
 pub invariant_of-self : goal.invariant_of-self
-invariant_of-self g c = (c.self.invariant.0, history_same g.C.Chare.step g.C.Pup.pack g.H.Openings.opened _ _ c.self.invariant.1 (same_parts _ _ _ _ _ refl c.reserve.ensures.items refl refl))
+invariant_of-self g c = c.self.invariant
 
 pub invariant_of-self-then-is_err-2 : goal.invariant_of-self-then-is_err-2
-invariant_of-self-then-is_err-2 g c =
-    (c.self.invariant.0, history_same g.C.Chare.step g.C.Pup.pack g.H.Openings.opened _ _ c.self.invariant.1 (same_parts _ _ _ _ _ refl c.reserve.ensures.items c.reserve-else-is_err.ensures.items refl))
+invariant_of-self-then-is_err-2 g c = c.self.invariant
 
 pub returns-then-is_err-clause-err : goal.returns-then-is_err-clause-err
 returns-then-is_err-clause-err g c =
@@ -39,8 +37,7 @@ returns-then-is_err-clause-taken_back g c = refl
 -- none for the report
 
 pub invariant_of-self-then-is_err-3 : goal.invariant_of-self-then-is_err-3
-invariant_of-self-then-is_err-3 g c =
-    (c.self.invariant.0, history_same g.C.Chare.step g.C.Pup.pack g.H.Openings.opened _ _ c.self.invariant.1 (same_parts _ _ _ _ _ refl c.reserve.ensures.items c.reserve-else-is_err.ensures.items refl))
+invariant_of-self-then-is_err-3 g c = c.self.invariant
 
 pub returns-then-is_err-3-clause-err : goal.returns-then-is_err-3-clause-err
 returns-then-is_err-3-clause-err g c = same_parts _ _ _ _ _ refl c.reserve.ensures.items c.reserve-else-is_err.ensures.items c.self.view_is
@@ -57,8 +54,7 @@ returns-then-is_err-3-clause-taken_back g c = where_refused c.tell.result _ (c.i
 -- the handler is refused
 
 pub invariant_of-self-in-Err : goal.invariant_of-self-in-Err
-invariant_of-self-in-Err g c =
-    (c.self.invariant.0, history_same g.C.Chare.step g.C.Pup.pack g.H.Openings.opened _ _ c.self.invariant.1 (same_parts _ _ _ _ _ c.in-Err.ensures.err c.reserve.ensures.items c.reserve-else-is_err.ensures.items refl))
+invariant_of-self-in-Err g c = c.self.invariant
 
 pub returns-in-Err-clause-err : goal.returns-in-Err-clause-err
 returns-in-Err-clause-err g c = same_parts _ _ _ _ _ c.in-Err.ensures.err c.reserve.ensures.items c.reserve-else-is_err.ensures.items c.self.view_is
@@ -69,8 +65,8 @@ returns-in-Err-clause-letter g c = refl
 pub returns-in-Err-clause-refused : goal.returns-in-Err-clause-refused
 returns-in-Err-clause-refused g c k =
     let told = where_answered c.tell.result _ c.if-is_err-3.ensures.value c.tell.ensures.ok in
-    let all = c.n.ensures.value ∙ ap (λ p. p.n) told ∙ c.requires.same_array in
-    subst (λ (b : List ℕ). g.C.Chare.refuses c.args.self.now.chare c.args.self.now.index (length g.H.Openings.opened) c.args.sends.now.count (Letter b) c.in-Err.error) c.body.ensures.value
+    let all = c.n.ensures.value ∙ ap (λ p. p.n) told in
+    subst (λ (b : List ℕ). g.C.Chare.refuses c.args.self.now.chare c.args.self.now.index c.args.sends.now.n c.args.sends.now.count (Letter b) c.in-Err.error) c.body.ensures.value
     (refused_after _ _ _ _ _ _ (Letter c.body.result.now) (Tells.Executed c.id.result c.to.result) c.self.view_is all told g.C.Chare.refuses _ c.in-Err.ensures.refused k)
 
 pub returns-in-Err-clause-taken_back : goal.returns-in-Err-clause-taken_back
@@ -84,14 +80,14 @@ returns-in-Err-clause-taken_back g c =
 pub returns-clause-note : goal.returns-clause-note
 returns-clause-note g c =
     let told = where_answered c.tell.result _ c.if-is_err-3.ensures.value c.tell.ensures.ok in
-    let all = c.n.ensures.value ∙ ap (λ p. p.n) told ∙ c.requires.same_array in
+    let all = c.n.ensures.value ∙ ap (λ p. p.n) told in
     note_after g.C.Chare.step g.C.Pup.pack _ _ _ _ _ (Letter c.args.letter) _ _ _ _ _ _ c.self.view_is all
     (record { told_is = ap Letter c.body.ensures.value; state_is = c.in-Ok.ensures.state; effect_is = c.in-Ok.ensures.effect; work_is = c.charged-progress.ensures.value; end_is = c.ending-ending.ensures.value; note_is = c.owed-note.ensures })
 
 pub returns-clause-sends : goal.returns-clause-sends
 returns-clause-sends g c =
     let told = where_answered c.tell.result _ c.if-is_err-3.ensures.value c.tell.ensures.ok in
-    let all = c.n.ensures.value ∙ ap (λ p. p.n) told ∙ c.requires.same_array in
+    let all = c.n.ensures.value ∙ ap (λ p. p.n) told in
     let named = told ∙ ap (λ i. with_report c.args.sends.now (Tells.Executed i c.to.result)) c.id.ensures.value ∙ ap (λ i. with_report c.args.sends.now (Tells.Executed c.args.letter.id i)) c.to.ensures.value in
     sends_after _ _ _ _ _ _ (Letter c.args.letter.body) (Tells.Executed c.args.letter.id c.args.letter.to) c.self.view_is all named g.C.Chare.step _
     (c.in-Ok.ensures.sends ∙ ap (λ b. posted c.tell.new.self (g.C.Chare.step c.self.inside.chare c.self.inside.index c.n.result (Letter b)).sends) c.body.ensures.value)
@@ -99,7 +95,7 @@ returns-clause-sends g c =
 pub returns-clause-element : goal.returns-clause-element
 returns-clause-element g c =
     let told = where_answered c.tell.result _ c.if-is_err-3.ensures.value c.tell.ensures.ok in
-    let all = c.n.ensures.value ∙ ap (λ p. p.n) told ∙ c.requires.same_array in
+    let all = c.n.ensures.value ∙ ap (λ p. p.n) told in
     element_after g.C.Chare.step g.C.Pup.pack _ _ _ _ _ (Letter c.args.letter) _ _ _ _ _ _ c.self.view_is all
     (record { told_is = ap Letter c.body.ensures.value; state_is = c.in-Ok.ensures.state; effect_is = c.in-Ok.ensures.effect; work_is = c.charged-progress.ensures.value; end_is = c.ending-ending.ensures.value; note_is = c.owed-note.ensures })
     _ _ _
@@ -109,15 +105,4 @@ returns-clause-element g c =
 
 pub invariant_of-self-2 : goal.invariant_of-self-2
 invariant_of-self-2 g c =
-    let el : ElementView g.row.C.Denot = record { index = c.self.inside.index; chare = c.self.inside.chare; journal = c.self.inside.journal.items; progress = c.self.inside.progress; marks = c.self.inside.marks.items } in
-    let told = where_answered c.tell.result _ c.if-is_err-3.ensures.value c.tell.ensures.ok in
-    let all = c.n.ensures.value ∙ ap (λ p. p.n) told ∙ c.requires.same_array in (
-      ended_before c.ended-self-inside.result c.charged-progress.result c.ending-ending.result ROUND c.ended-self-inside.ensures.value (subst (λ (v : ℕ). v < ROUND) (sym (ap (λ p. p.round) c.charged-progress.ensures.value)) c.self.invariant.0),
-      history_more g.C.Chare.step g.C.Pup.pack g.H.Openings.opened el _ c.args.pe (Letter c.args.letter) c.self.invariant.1
-          (element_after g.C.Chare.step g.C.Pup.pack el el _ _ _ (Letter c.args.letter) _ _ _ _ _ _ refl all
-          (record { told_is = ap Letter c.body.ensures.value; state_is = c.in-Ok.ensures.state; effect_is = c.in-Ok.ensures.effect; work_is = c.charged-progress.ensures.value; end_is = c.ending-ending.ensures.value; note_is = c.owed-note.ensures })
-          _ _ _
-          (c.in-Ok-push.ensures.items ∙ ap (λ v. v ++ Letter c.args.letter ∷ []) c.reserve.ensures.items)
-          c.ended-self-inside.ensures.value
-          (c.mark.ensures ∙ ap (λ v. v ++ synced_mark c.owed-note.result) c.reserve-else-is_err.ensures.items)),
-    )
+    ended_before c.ended-self-inside.result c.charged-progress.result c.ending-ending.result ROUND c.ended-self-inside.ensures.value (subst (λ (v : ℕ). v < ROUND) (sym (ap (λ p. p.round) c.charged-progress.ensures.value)) c.self.invariant)

@@ -6,15 +6,15 @@ use Rattle.chares.specs.Progressing.{charged, synced_mark}
 use Rattle.chares.specs.declared.entry.Entry.TheVariants.{Resumption}
 use Rattle.chares.specs.declared.note.Mark.TheVariants.{Resumed}
 use Rattle.chares.specs.declared.report.Report.TheVariants as Tells
-use Rattle.chares.proofs.Histories.{history_more, ended_before}
+use Rattle.chares.proofs.Histories.{ended_before}
 use Rattle.chares.proofs.Postings.{all_rewound}
-use Rattle.chares.proofs.Running.{no_answer, no_note, whatever, memory, same_parts, history_same, note_after, element_after, sends_after, refused_after}
+use Rattle.chares.proofs.Running.{no_answer, no_note, whatever, memory, same_parts, note_after, element_after, sends_after, refused_after}
 use Rattle.chares.proofs.element.Element.resume.Goals as goal
 
 -- no memory for the journal
 
 pub invariant_of-self : goal.invariant_of-self
-invariant_of-self g c = (c.self.invariant.0, history_same g.C.Chare.step g.C.Pup.pack g.H.Openings.opened _ _ c.self.invariant.1 (same_parts _ _ _ _ _ refl c.reserve.ensures.items refl refl))
+invariant_of-self g c = c.self.invariant
 
 pub returns-in_err-reserve-clause-element : goal.returns-in_err-reserve-clause-element
 returns-in_err-reserve-clause-element g c = no_answer _ _ c.from_residual.ensures.0
@@ -37,8 +37,7 @@ returns-in_err-reserve-clause-taken_back g c = whatever _ _ refl
 -- none for the marks
 
 pub invariant_of-self-in_err-reserve-2 : goal.invariant_of-self-in_err-reserve-2
-invariant_of-self-in_err-reserve-2 g c =
-    (c.self.invariant.0, history_same g.C.Chare.step g.C.Pup.pack g.H.Openings.opened _ _ c.self.invariant.1 (same_parts _ _ _ _ _ refl c.reserve.ensures.items c.reserve-2.ensures.items refl))
+invariant_of-self-in_err-reserve-2 g c = c.self.invariant
 
 pub returns-in_err-reserve-2-clause-element : goal.returns-in_err-reserve-2-clause-element
 returns-in_err-reserve-2-clause-element g c = no_answer _ _ c.from_residual-in_err-reserve-2.ensures.0
@@ -61,8 +60,7 @@ returns-in_err-reserve-2-clause-taken_back g c = whatever _ _ refl
 -- none for the report
 
 pub invariant_of-self-in_err-tell : goal.invariant_of-self-in_err-tell
-invariant_of-self-in_err-tell g c =
-    (c.self.invariant.0, history_same g.C.Chare.step g.C.Pup.pack g.H.Openings.opened _ _ c.self.invariant.1 (same_parts _ _ _ _ _ refl c.reserve.ensures.items c.reserve-2.ensures.items refl))
+invariant_of-self-in_err-tell g c = c.self.invariant
 
 pub returns-in_err-tell-clause-element : goal.returns-in_err-tell-clause-element
 returns-in_err-tell-clause-element g c = no_answer _ _ c.from_residual-in_err-tell.ensures.0
@@ -85,15 +83,14 @@ returns-in_err-tell-clause-taken_back g c = whatever _ _ (c.in_err-tell.ensures.
 -- the handler is refused
 
 pub invariant_of-self-in-Err : goal.invariant_of-self-in-Err
-invariant_of-self-in-Err g c =
-    (c.self.invariant.0, history_same g.C.Chare.step g.C.Pup.pack g.H.Openings.opened _ _ c.self.invariant.1 (same_parts _ _ _ _ _ c.in-Err.ensures.err c.reserve.ensures.items c.reserve-2.ensures.items refl))
+invariant_of-self-in-Err g c = c.self.invariant
 
 pub returns-in-Err-clause-err : goal.returns-in-Err-clause-err
 returns-in-Err-clause-err g c = same_parts _ _ _ _ _ c.in-Err.ensures.err c.reserve.ensures.items c.reserve-2.ensures.items c.self.view_is
 
 pub returns-in-Err-clause-refused : goal.returns-in-Err-clause-refused
 returns-in-Err-clause-refused g c =
-    refused_after _ _ _ _ _ _ (Resumption c.args.round) (Tells.Resumed c.self.inside.index c.args.round) c.self.view_is (c.n.ensures.value ∙ ap (λ p. p.n) c.in_ok-tell.ensures.ok ∙ c.requires.same_array) c.in_ok-tell.ensures.ok g.C.Chare.refuses _ c.in-Err.ensures.refused
+    refused_after _ _ _ _ _ _ (Resumption c.args.round) (Tells.Resumed c.self.inside.index c.args.round) c.self.view_is (c.n.ensures.value ∙ ap (λ p. p.n) c.in_ok-tell.ensures.ok) c.in_ok-tell.ensures.ok g.C.Chare.refuses _ c.in-Err.ensures.refused
 
 pub returns-in-Err-clause-taken_back : goal.returns-in-Err-clause-taken_back
 returns-in-Err-clause-taken_back g c =
@@ -103,17 +100,17 @@ returns-in-Err-clause-taken_back g c =
 -- the handler answers
 
 pub returns-clause-note : goal.returns-clause-note
-returns-clause-note g c = note_after g.C.Chare.step g.C.Pup.pack _ _ _ _ _ (Resumption c.args.round) _ _ _ _ _ _ c.self.view_is (c.n.ensures.value ∙ ap (λ p. p.n) c.in_ok-tell.ensures.ok ∙ c.requires.same_array)
+returns-clause-note g c = note_after g.C.Chare.step g.C.Pup.pack _ _ _ _ _ (Resumption c.args.round) _ _ _ _ _ _ c.self.view_is (c.n.ensures.value ∙ ap (λ p. p.n) c.in_ok-tell.ensures.ok)
     (record { told_is = refl; state_is = c.in-Ok.ensures.state; effect_is = c.in-Ok.ensures.effect; work_is = c.charged-progress.ensures.value ∙ ap (λ p. charged p c.in-Ok.effect.units) c.resumed.ensures.value; end_is = c.ending-ending.ensures.value; note_is = c.owed-note.ensures })
 
 pub returns-clause-sends : goal.returns-clause-sends
 returns-clause-sends g c =
     let told = c.in_ok-tell.ensures.ok ∙ ap (λ (v : ElementView g.row.C.Denot). with_report c.args.sends.now (Tells.Resumed v.index c.args.round)) c.self.view_is in
-    sends_after _ _ _ _ _ _ (Resumption c.args.round) (Tells.Resumed c.args.self.now.index c.args.round) c.self.view_is (c.n.ensures.value ∙ ap (λ p. p.n) c.in_ok-tell.ensures.ok ∙ c.requires.same_array) told g.C.Chare.step _ c.in-Ok.ensures.sends
+    sends_after _ _ _ _ _ _ (Resumption c.args.round) (Tells.Resumed c.args.self.now.index c.args.round) c.self.view_is (c.n.ensures.value ∙ ap (λ p. p.n) c.in_ok-tell.ensures.ok) told g.C.Chare.step _ c.in-Ok.ensures.sends
 
 pub returns-clause-element : goal.returns-clause-element
 returns-clause-element g c =
-    element_after g.C.Chare.step g.C.Pup.pack _ _ _ _ _ (Resumption c.args.round) _ _ _ _ _ _ c.self.view_is (c.n.ensures.value ∙ ap (λ p. p.n) c.in_ok-tell.ensures.ok ∙ c.requires.same_array)
+    element_after g.C.Chare.step g.C.Pup.pack _ _ _ _ _ (Resumption c.args.round) _ _ _ _ _ _ c.self.view_is (c.n.ensures.value ∙ ap (λ p. p.n) c.in_ok-tell.ensures.ok)
     (record { told_is = refl; state_is = c.in-Ok.ensures.state; effect_is = c.in-Ok.ensures.effect; work_is = c.charged-progress.ensures.value ∙ ap (λ p. charged p c.in-Ok.effect.units) c.resumed.ensures.value; end_is = c.ending-ending.ensures.value; note_is = c.owed-note.ensures })
     _ _ _
     (c.in-Ok-push.ensures.items ∙ ap (λ v. v ++ Resumption c.args.round ∷ []) c.reserve.ensures.items)
@@ -122,14 +119,5 @@ returns-clause-element g c =
 
 pub invariant_of-self-2 : goal.invariant_of-self-2
 invariant_of-self-2 g c =
-    let el : ElementView g.row.C.Denot = record { index = c.self.inside.index; chare = c.self.inside.chare; journal = c.self.inside.journal.items; progress = c.self.inside.progress; marks = c.self.inside.marks.items } in
-    let round = ap (λ p. p.round) c.charged-progress.ensures.value ∙ ap (λ p. p.round) c.resumed.ensures.value in (
-      ended_before c.ended-self-inside.result c.charged-progress.result c.ending-ending.result ROUND c.ended-self-inside.ensures.value (subst (λ (v : ℕ). v < ROUND) (sym round) c.requires.before_last_round),
-      history_more g.C.Chare.step g.C.Pup.pack g.H.Openings.opened el _ c.args.pe (Resumption c.args.round) c.self.invariant.1
-          (element_after g.C.Chare.step g.C.Pup.pack el el _ _ _ (Resumption c.args.round) _ _ _ _ _ _ refl (c.n.ensures.value ∙ ap (λ p. p.n) c.in_ok-tell.ensures.ok ∙ c.requires.same_array)
-          (record { told_is = refl; state_is = c.in-Ok.ensures.state; effect_is = c.in-Ok.ensures.effect; work_is = c.charged-progress.ensures.value ∙ ap (λ p. charged p c.in-Ok.effect.units) c.resumed.ensures.value; end_is = c.ending-ending.ensures.value; note_is = c.owed-note.ensures })
-          _ _ _
-          (c.in-Ok-push.ensures.items ∙ ap (λ v. v ++ Resumption c.args.round ∷ []) c.reserve.ensures.items)
-          c.ended-self-inside.ensures.value
-          (c.mark.ensures ∙ ap (λ v. v ++ synced_mark c.owed-note.result) (c.in-Ok-push-2.ensures.items ∙ ap (λ v. v ++ Resumed c.args.round c.args.pe ∷ []) c.reserve-2.ensures.items) ∙ append_assoc c.self.inside.marks.items (Resumed c.args.round c.args.pe ∷ []) (synced_mark c.owed-note.result))),
-    )
+    let round = ap (λ p. p.round) c.charged-progress.ensures.value ∙ ap (λ p. p.round) c.resumed.ensures.value in
+    ended_before c.ended-self-inside.result c.charged-progress.result c.ending-ending.result ROUND c.ended-self-inside.ensures.value (subst (λ (v : ℕ). v < ROUND) (sym round) c.requires.before_last_round)

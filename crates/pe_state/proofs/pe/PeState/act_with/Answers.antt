@@ -1,7 +1,9 @@
 use Rattle.chares.specs.declared.carried.Carried.TheVariants.{Letter, Element}
-use Rattle.std.proofs.Common.{refl, sym, ap, subst, ◌∙◌}
-use Rattle.pe_state.specs.Pes.{acted_of, pe_after}
+use Rattle.std.proofs.Common.{Option, IfSome, refl, sym, ap, subst, ◌∙◌}
+use Rattle.pe_state.specs.Histories.{IsParcelHistory}
+use Rattle.pe_state.specs.Pes.{Item, Parcel, acted_of, pe_after}
 use Rattle.pe_state.specs.Standing.{IsHandBelow}
+use Rattle.pe_state.proofs.Histories.{emptied_holds}
 use Rattle.pe_state.proofs.Reports.{reported_none}
 use Rattle.pe_state.proofs.Acting.{Holds, held_again, idle, same_hand, after_same, acting_on_letter, acting_on_element, refuses_letter, memory_refuses}
 use Rattle.pe_state.specs.Refusals.{RefusesAct}
@@ -58,7 +60,7 @@ returns-in-Element-clause-refused g c = memory_refuses (RefusesAct g.C.Chare.ref
 pub invariant_of-self : goal.invariant_of-self
 invariant_of-self g c =
     let i = c.self.invariant in
-    (i.0, i.1, i.2, i.3, i.4, subst (λ h. IsHandBelow g.H.Openings.pes h) (sym c.in_default.ensures.after) tt, i.6, i.7, i.8)
+    (emptied_holds g.C.Chare.step g.C.Pup.fits g.C.Pup.pack g.H.Openings.opened _ _ c.in_default.ensures.after i.0, i.1, i.2, i.3, i.4, subst (λ h. IsHandBelow g.H.Openings.pes h) (sym c.in_default.ensures.after) tt, i.6, i.7, i.8)
 
 pub returns-in_default-clause-answer : goal.returns-in_default-clause-answer
 returns-in_default-clause-answer g c =
@@ -78,12 +80,12 @@ returns-in_default-clause-reports g c =
 pub invariant_of-self-in-Letter : goal.invariant_of-self-in-Letter
 invariant_of-self-in-Letter g c =
     let i = c.self.invariant in
-    (i.0, i.1, i.2, i.3, i.4, subst (λ h. IsHandBelow g.H.Openings.pes h) (sym c.in-Some.ensures.after) tt, i.6, i.7, i.8)
+    (emptied_holds g.C.Chare.step g.C.Pup.fits g.C.Pup.pack g.H.Openings.opened _ _ c.in-Some.ensures.after i.0, i.1, i.2, i.3, i.4, subst (λ h. IsHandBelow g.H.Openings.pes h) (sym c.in-Some.ensures.after) tt, i.6, i.7, i.8)
 
 pub invariant_of-self-in-Element : goal.invariant_of-self-in-Element
 invariant_of-self-in-Element g c =
     let i = c.self.invariant in
-    (i.0, i.1, i.2, i.3, i.4, subst (λ h. IsHandBelow g.H.Openings.pes h) (sym c.in-Some.ensures.after) tt, i.6, i.7, i.8)
+    (emptied_holds g.C.Chare.step g.C.Pup.fits g.C.Pup.pack g.H.Openings.opened _ _ c.in-Some.ensures.after i.0, i.1, i.2, i.3, i.4, subst (λ h. IsHandBelow g.H.Openings.pes h) (sym c.in-Some.ensures.after) tt, i.6, i.7, i.8)
 
 pub act_on_letter-requires-clause-empty : goal.act_on_letter-requires-clause-empty
 act_on_letter-requires-clause-empty g c = c.in-Some.ensures.after
@@ -96,3 +98,8 @@ act_on_element-requires-clause-empty g c = c.in-Some.ensures.after
 
 pub act_on_element-requires-clause-below : goal.act_on_element-requires-clause-below
 act_on_element-requires-clause-below g c = subst (λ h. IsHandBelow g.H.Openings.pes h) (sym c.in-Some.ensures.value) c.self.invariant.5
+
+pub act_on_element-requires-clause-consistent : goal.act_on_element-requires-clause-consistent
+act_on_element-requires-clause-consistent g c =
+    let taken : IsParcelHistory g.C.Chare.step g.C.Pup.fits g.C.Pup.pack g.H.Openings.opened c.in-Some.field-0.parcel = subst (λ (o : Option Item). IfSome o (λ x. IsParcelHistory g.C.Chare.step g.C.Pup.fits g.C.Pup.pack g.H.Openings.opened x.parcel)) (sym c.in-Some.ensures.value) c.self.invariant.0.hand in
+    subst (λ (p : Parcel). IsParcelHistory g.C.Chare.step g.C.Pup.fits g.C.Pup.pack g.H.Openings.opened p) c.in-Element.is taken

@@ -1,8 +1,9 @@
-use Rattle.std.proofs.Common.{refl, subst, IfSome}
+use Rattle.std.proofs.Common.{refl, sym, subst, IfSome}
 use Rattle.pe_state.specs.Pes.{PeView}
 use Rattle.pe_state.specs.Rooms.{found}
 use Rattle.pe_state.proofs.Acting.{whatever}
 use Rattle.pe_state.proofs.Below.{last_below}
+use Rattle.pe_state.proofs.Histories.{holds_same, still_holds, departed_holds}
 use Rattle.pe_state.proofs.Keeping.{same_view, outbox_below, place_stays, no_answer, only_memory}
 use Rattle.pe_state.proofs.Leaving.{departed_is, stands_to_leave}
 use Rattle.pe_state.proofs.pe.PeState.depart.Goals as goal
@@ -12,7 +13,7 @@ use Rattle.pe_state.proofs.pe.PeState.depart.Goals as goal
 pub invariant_of-self : goal.invariant_of-self
 invariant_of-self g c =
     let i = c.self.invariant in
-    (i.0, i.1, i.2, i.3, i.4, i.5, outbox_below _ _ _ c.reserve.ensures.items i.6, i.7, λ k. place_stays _ _ _ _ c.reserve.ensures.len c.reserve.ensures.capacity (i.8 k))
+    (still_holds i.0 refl refl refl c.reserve.ensures.items, i.1, i.2, i.3, i.4, i.5, outbox_below _ _ _ c.reserve.ensures.items i.6, i.7, λ k. place_stays _ _ _ _ c.reserve.ensures.len c.reserve.ensures.capacity (i.8 k))
 
 pub returns-in_err-reserve-clause-ok : goal.returns-in_err-reserve-clause-ok
 returns-in_err-reserve-clause-ok g c = no_answer _ _ c.from_residual.ensures.0
@@ -34,7 +35,7 @@ depart-requires g c = record { stands = stands_to_leave c.args.self.now _ c.args
 pub invariant_of-self-in_err-element : goal.invariant_of-self-in_err-element
 invariant_of-self-in_err-element g c =
     let i = c.self.invariant in
-    (i.0, i.1, i.2, i.3, i.4, i.5, outbox_below _ _ _ c.reserve.ensures.items i.6, i.7, λ k. place_stays _ _ _ _ c.reserve.ensures.len c.reserve.ensures.capacity (i.8 k))
+    (still_holds i.0 refl c.in_err-element.ensures.err refl c.reserve.ensures.items, i.1, i.2, i.3, i.4, i.5, outbox_below _ _ _ c.reserve.ensures.items i.6, i.7, λ k. place_stays _ _ _ _ c.reserve.ensures.len c.reserve.ensures.capacity (i.8 k))
 
 pub returns-in_err-element-clause-ok : goal.returns-in_err-element-clause-ok
 returns-in_err-element-clause-ok g c = no_answer _ _ c.from_residual-in_err-element.ensures.0
@@ -54,7 +55,10 @@ pub invariant_of-self-2 : goal.invariant_of-self-2
 invariant_of-self-2 g c =
     let i = c.self.invariant in
     let there = outbox_below _ _ _ c.reserve.ensures.items i.6 in
-    (i.0, i.1, i.2, i.3, i.4, i.5, outbox_below _ _ _ c.push_back_reserved.ensures.items (last_below _ _ _ there c.requires.known), tt, λ k. absurd (cc))
+    let after = departed_is g.C.Pup.pack c.args.self.now _ c.args.index c.args.to c.in_ok-element.element _ _ _ c.self.view_is c.in_ok-element.ensures.ok c.reserve.ensures.items c.in_ok-element.ensures.value c.push_back_reserved.ensures.items in
+    let fits = subst (λ (v : PeView g.row.C.Denot). IfSome (found c.args.index v.room) (λ el. g.C.Pup.fits el.chare)) c.self.view_is c.in_ok-element.ensures.fits in
+    let left = departed_holds g.C.Chare.step g.C.Pup.fits g.C.Pup.pack g.H.Openings.opened c.args.self.now c.args.index c.args.to (holds_same (sym c.self.view_is) i.0) fits in
+    (holds_same after left, i.1, i.2, i.3, i.4, i.5, outbox_below _ _ _ c.push_back_reserved.ensures.items (last_below _ _ _ there c.requires.known), tt, λ k. absurd (cc))
 
 pub returns-clause-ok : goal.returns-clause-ok
 returns-clause-ok g c = departed_is g.C.Pup.pack c.args.self.now _ c.args.index c.args.to c.in_ok-element.element _ _ _ c.self.view_is c.in_ok-element.ensures.ok c.reserve.ensures.items c.in_ok-element.ensures.value c.push_back_reserved.ensures.items

@@ -7,6 +7,7 @@ use Rattle.pe_state.specs.Pes.{PeView, held, handler_posts}
 use Rattle.pe_state.specs.Refusals.{RefusesParcel}
 use Rattle.pe_state.proofs.Below.{posted_below}
 use Rattle.pe_state.proofs.Handling.{handled_is}
+use Rattle.pe_state.proofs.Histories.{still_holds, handler_holds, member_of}
 use Rattle.pe_state.proofs.Keeping.{same_view, held_same, outbox_below, place_stays}
 use Rattle.pe_state.proofs.Reasons.{same_reason}
 use Rattle.pe_state.proofs.pe.PeState.execute.Goals as goal
@@ -14,7 +15,9 @@ use Rattle.pe_state.proofs.pe.PeState.execute.Goals as goal
 -- no memory for a note
 
 pub invariant_of-self : goal.invariant_of-self
-invariant_of-self g c = c.self.invariant
+invariant_of-self g c =
+    let i = c.self.invariant in
+    (still_holds i.0 refl refl refl refl, i.1, i.2, i.3, i.4, i.5, i.6, i.7, i.8)
 
 pub returns-in_default-clause-err : goal.returns-in_default-clause-err
 returns-in_default-clause-err g c = held_same _ _ _ _ _ c.hold.ensures.ok (same_view _ _ _ _ _ _ refl refl c.reserve.ensures.items refl c.self.view_is)
@@ -24,10 +27,13 @@ returns-in_default-clause-err g c = held_same _ _ _ _ _ c.hold.ensures.ok (same_
 pub invariant_of-self-in_default-reserve : goal.invariant_of-self-in_default-reserve
 invariant_of-self-in_default-reserve g c =
     let i = c.self.invariant in
-    (i.0, i.1, i.2, i.3, i.4, i.5, outbox_below _ _ _ c.reserve-2.ensures.items i.6, i.7, λ k. place_stays _ _ _ _ c.reserve-2.ensures.len c.reserve-2.ensures.capacity (i.8 k))
+    (still_holds i.0 refl refl refl c.reserve-2.ensures.items, i.1, i.2, i.3, i.4, i.5, outbox_below _ _ _ c.reserve-2.ensures.items i.6, i.7, λ k. place_stays _ _ _ _ c.reserve-2.ensures.len c.reserve-2.ensures.capacity (i.8 k))
 
 pub returns-in_default-reserve-clause-err : goal.returns-in_default-reserve-clause-err
 returns-in_default-reserve-clause-err g c = held_same _ _ _ _ _ c.hold-in_default-reserve.ensures.ok (same_view _ _ _ _ _ _ refl c.reserve-2.ensures.items c.reserve.ensures.items refl c.self.view_is)
+
+pub execute-answer-requires-clause-member : goal.execute-answer-requires-clause-member
+execute-answer-requires-clause-member g c = member_of c.args.letter.to c.self.invariant.0
 
 -- the handler is refused
 
@@ -35,7 +41,7 @@ pub invariant_of-self-in-Err : goal.invariant_of-self-in-Err
 invariant_of-self-in-Err g c =
     let i = c.self.invariant in
     let a = c.in-Err.ensures in
-    (i.0, i.1, i.2, i.3, a.numbered, i.5, outbox_below _ _ _ (a.same_outbox ∙ c.reserve-2.ensures.items) i.6, i.7, λ k. a.place)
+    (still_holds i.0 refl a.same_room refl (a.same_outbox ∙ c.reserve-2.ensures.items), i.1, i.2, i.3, a.numbered, i.5, outbox_below _ _ _ (a.same_outbox ∙ c.reserve-2.ensures.items) i.6, i.7, λ k. a.place)
 
 pub returns-in-Err-clause-err : goal.returns-in-Err-clause-err
 returns-in-Err-clause-err g c =
@@ -57,7 +63,8 @@ pub invariant_of-self-2 : goal.invariant_of-self-2
 invariant_of-self-2 g c =
     let i = c.self.invariant in
     let a = c.in-Ok-answer.ensures in
-    (i.0, i.1, i.2, i.3, a.numbered, i.5, outbox_below _ _ _ a.outbox (posted_below _ c.self.inside.me c.self.inside.count c.reserve-2.new.self.items _ (outbox_below _ _ _ c.reserve-2.ensures.items i.6)), tt, λ k. a.place)
+    let after = handler_holds g.C.Chare.step g.C.Pup.fits g.C.Pup.pack g.H.Openings.opened c.args.letter.to (Letter c.args.letter) None _ i.0 tt refl a.room (ap (λ p. p.hand) c.self.view_is ∙ c.requires.empty) c.reserve-2.ensures.items a.outbox in
+    (after, i.1, i.2, i.3, a.numbered, i.5, outbox_below _ _ _ a.outbox (posted_below _ c.self.inside.me c.self.inside.count c.reserve-2.new.self.items _ (outbox_below _ _ _ c.reserve-2.ensures.items i.6)), tt, λ k. a.place)
 
 pub returns-clause-ok : goal.returns-clause-ok
 returns-clause-ok g c =

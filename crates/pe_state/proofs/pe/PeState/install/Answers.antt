@@ -1,7 +1,9 @@
-use Rattle.std.proofs.Common.{refl, ◌∙◌, ap}
+use Rattle.std.proofs.Common.{refl, sym, ◌∙◌, ap}
 use Rattle.chares.specs.declared.carried.Carried.TheVariants as Carried
 use Rattle.pe_state.specs.Pes.{PeView, held}
 use Rattle.pe_state.specs.Rooms.{found}
+use Rattle.pe_state.proofs.Below.{unshelved}
+use Rattle.pe_state.proofs.Histories.{holds_same, still_holds, installed_holds}
 use Rattle.pe_state.proofs.Installing.{installed_is}
 use Rattle.pe_state.proofs.Keeping.{same_view, held_same, outbox_below, place_stays}
 use Rattle.pe_state.proofs.pe.PeState.install.Goals as goal
@@ -14,7 +16,7 @@ returns-in_default-clause-err g c = c.hold.ensures.ok
 pub invariant_of-self : goal.invariant_of-self
 invariant_of-self g c =
     let i = c.self.invariant in
-    (i.0, i.1, i.2, i.3, i.4, i.5, outbox_below _ _ _ c.reserve.ensures.items i.6, i.7, λ k. place_stays _ _ _ _ c.reserve.ensures.len c.reserve.ensures.capacity (i.8 k))
+    (still_holds i.0 refl refl refl c.reserve.ensures.items, i.1, i.2, i.3, i.4, i.5, outbox_below _ _ _ c.reserve.ensures.items i.6, i.7, λ k. place_stays _ _ _ _ c.reserve.ensures.len c.reserve.ensures.capacity (i.8 k))
 
 pub returns-in_default-reserve-clause-err : goal.returns-in_default-reserve-clause-err
 returns-in_default-reserve-clause-err g c = held_same _ _ _ _ _ c.hold-in_default-reserve.ensures.ok (same_view _ _ _ _ _ _ refl c.reserve.ensures.items refl refl c.self.view_is)
@@ -22,23 +24,20 @@ returns-in_default-reserve-clause-err g c = held_same _ _ _ _ _ c.hold-in_defaul
 pub invariant_of-self-in_default-with_capacity : goal.invariant_of-self-in_default-with_capacity
 invariant_of-self-in_default-with_capacity g c =
     let i = c.self.invariant in
-    (i.0, i.1, i.2, i.3, i.4, i.5, outbox_below _ _ _ c.reserve.ensures.items i.6, i.7, λ k. place_stays _ _ _ _ c.reserve.ensures.len c.reserve.ensures.capacity (i.8 k))
+    (still_holds i.0 refl refl refl c.reserve.ensures.items, i.1, i.2, i.3, i.4, i.5, outbox_below _ _ _ c.reserve.ensures.items i.6, i.7, λ k. place_stays _ _ _ _ c.reserve.ensures.len c.reserve.ensures.capacity (i.8 k))
 
 pub returns-in_default-with_capacity-clause-err : goal.returns-in_default-with_capacity-clause-err
 returns-in_default-with_capacity-clause-err g c = held_same _ _ _ _ _ c.hold-in_default-with_capacity.ensures.ok (same_view _ _ _ _ _ _ refl c.reserve.ensures.items refl refl c.self.view_is)
 
 -- none for the room
 
-pub install-requires-clause-lacks : goal.install-requires-clause-lacks
-install-requires-clause-lacks g c = ap (λ (v : PeView g.row.C.Denot). found c.args.element.index v.room) c.self.view_is ∙ c.requires.lacks
-
-pub install-requires-clause-history : goal.install-requires-clause-history
-install-requires-clause-history g c = c.requires.history
+pub install-requires : goal.install-requires
+install-requires g c = record { lacks = ap (λ (v : PeView g.row.C.Denot). found c.args.element.index v.room) c.self.view_is ∙ c.requires.lacks }
 
 pub invariant_of-self-in-Err : goal.invariant_of-self-in-Err
 invariant_of-self-in-Err g c =
     let i = c.self.invariant in
-    (i.0, i.1, i.2, i.3, i.4, i.5, outbox_below _ _ _ c.reserve.ensures.items i.6, i.7, λ k. place_stays _ _ _ _ c.reserve.ensures.len c.reserve.ensures.capacity (i.8 k))
+    (still_holds i.0 refl c.in-Err.ensures.err refl c.reserve.ensures.items, i.1, i.2, i.3, i.4, i.5, outbox_below _ _ _ c.reserve.ensures.items i.6, i.7, λ k. place_stays _ _ _ _ c.reserve.ensures.len c.reserve.ensures.capacity (i.8 k))
 
 pub returns-in-Err-clause-err : goal.returns-in-Err-clause-err
 returns-in-Err-clause-err g c =
@@ -46,6 +45,16 @@ returns-in-Err-clause-err g c =
     ∙ ap (λ p. held c.args.self.now (Carried.Element p) c.args.look) c.in-Err.ensures.back
 
 -- the element stands here
+
+pub invariant_of-self-2 : goal.invariant_of-self-2
+invariant_of-self-2 g c =
+    let i = c.self.invariant in
+    let after =
+    installed_is _ _ c.args.element c.args.chare _ _ _ _ _ _
+    c.self.view_is (ap (λ p. p.hand) c.self.view_is ∙ c.requires.empty) c.index-index.ensures.value c.in_default-install.ensures.ok c.in-Ok-with_capacity.ensures.items c.unshelve.ensures.rest c.reserve.ensures.items c.unshelve.ensures.outbox
+    in
+    let stands = installed_holds g.C.Chare.step g.C.Pup.fits g.C.Pup.pack g.H.Openings.opened c.args.self.now c.args.element c.args.chare (holds_same (sym c.self.view_is) i.0) c.requires.history in
+    (holds_same after stands, i.1, i.2, i.3, i.4, i.5, outbox_below _ _ _ c.unshelve.ensures.outbox (unshelved _ _ _ _ (outbox_below _ _ _ c.reserve.ensures.items i.6) i.3), tt, λ k. absurd (cc))
 
 pub returns-clause-ok : goal.returns-clause-ok
 returns-clause-ok g c =

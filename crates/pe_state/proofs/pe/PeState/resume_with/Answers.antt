@@ -6,13 +6,16 @@ use Rattle.pe_state.specs.Refusals.{RefusesResume}
 use Rattle.pe_state.proofs.Acting.{whatever}
 use Rattle.pe_state.proofs.Below.{posted_below}
 use Rattle.pe_state.proofs.Handling.{handled_is}
+use Rattle.pe_state.proofs.Histories.{still_holds, handler_holds, member_of}
 use Rattle.pe_state.proofs.Keeping.{same_view, outbox_below, place_stays, no_answer, out_of_memory, refused_so}
 use Rattle.pe_state.proofs.pe.PeState.resume_with.Goals as goal
 
 -- no memory for a note
 
 pub invariant_of-self : goal.invariant_of-self
-invariant_of-self g c = c.self.invariant
+invariant_of-self g c =
+    let i = c.self.invariant in
+    (still_holds i.0 refl refl refl refl, i.1, i.2, i.3, i.4, i.5, i.6, i.7, i.8)
 
 pub returns-in_err-reserve-clause-ok : goal.returns-in_err-reserve-clause-ok
 returns-in_err-reserve-clause-ok g c = no_answer _ _ c.from_residual.ensures.0
@@ -34,7 +37,7 @@ returns-in_err-reserve-clause-same_reports g c = whatever _ _ refl
 pub invariant_of-self-in_err-reserve-2 : goal.invariant_of-self-in_err-reserve-2
 invariant_of-self-in_err-reserve-2 g c =
     let i = c.self.invariant in
-    (i.0, i.1, i.2, i.3, i.4, i.5, outbox_below _ _ _ c.reserve-2.ensures.items i.6, i.7, λ k. place_stays _ _ _ _ c.reserve-2.ensures.len c.reserve-2.ensures.capacity (i.8 k))
+    (still_holds i.0 refl refl refl c.reserve-2.ensures.items, i.1, i.2, i.3, i.4, i.5, outbox_below _ _ _ c.reserve-2.ensures.items i.6, i.7, λ k. place_stays _ _ _ _ c.reserve-2.ensures.len c.reserve-2.ensures.capacity (i.8 k))
 
 pub returns-in_err-reserve-2-clause-ok : goal.returns-in_err-reserve-2-clause-ok
 returns-in_err-reserve-2-clause-ok g c = no_answer _ _ c.from_residual-in_err-reserve-2.ensures.0
@@ -51,13 +54,16 @@ returns-in_err-reserve-2-clause-reports g c = no_answer _ _ c.from_residual-in_e
 pub returns-in_err-reserve-2-clause-same_reports : goal.returns-in_err-reserve-2-clause-same_reports
 returns-in_err-reserve-2-clause-same_reports g c = whatever _ _ refl
 
+pub resume-requires-clause-member : goal.resume-requires-clause-member
+resume-requires-clause-member g c = member_of c.args.index c.self.invariant.0
+
 -- the handler is refused
 
 pub invariant_of-self-in_err-note : goal.invariant_of-self-in_err-note
 invariant_of-self-in_err-note g c =
     let i = c.self.invariant in
     let a = c.in_err-note.ensures in
-    (i.0, i.1, i.2, i.3, a.numbered, i.5, outbox_below _ _ _ (a.same_outbox ∙ c.reserve-2.ensures.items) i.6, i.7, λ k. a.place)
+    (still_holds i.0 refl a.same_room refl (a.same_outbox ∙ c.reserve-2.ensures.items), i.1, i.2, i.3, a.numbered, i.5, outbox_below _ _ _ (a.same_outbox ∙ c.reserve-2.ensures.items) i.6, i.7, λ k. a.place)
 
 pub returns-in_err-note-clause-ok : goal.returns-in_err-note-clause-ok
 returns-in_err-note-clause-ok g c = no_answer _ _ c.from_residual-in_err-note.ensures.0
@@ -84,7 +90,8 @@ pub invariant_of-self-2 : goal.invariant_of-self-2
 invariant_of-self-2 g c =
     let i = c.self.invariant in
     let a = c.in_ok-note.ensures in
-    (i.0, i.1, i.2, i.3, a.numbered, i.5, outbox_below _ _ _ a.outbox (posted_below _ c.self.inside.me c.self.inside.count c.reserve-2.new.self.items _ (outbox_below _ _ _ c.reserve-2.ensures.items i.6)), tt, λ k. a.place)
+    let after = handler_holds g.C.Chare.step g.C.Pup.fits g.C.Pup.pack g.H.Openings.opened c.args.index (Resumption c.args.round) _ _ i.0 i.0.hand refl a.room refl c.reserve-2.ensures.items a.outbox in
+    (after, i.1, i.2, i.3, a.numbered, i.5, outbox_below _ _ _ a.outbox (posted_below _ c.self.inside.me c.self.inside.count c.reserve-2.new.self.items _ (outbox_below _ _ _ c.reserve-2.ensures.items i.6)), tt, λ k. a.place)
 
 pub returns-clause-ok : goal.returns-clause-ok
 returns-clause-ok g c =

@@ -23,17 +23,11 @@ returns-in_err-packing-clause-err g c = whatever _ _ refl
 
 -- the element leaves
 
-pub close-requires-clause-pack : goal.close-requires-clause-pack
-close-requires-clause-pack g c =
+pub close-requires : goal.close-requires
+close-requires g c =
     let looked = c.in-Some.ensures.value ∙ ap (λ k. found k c.self.inside.map.entries) c.get.ensures.value ∙ ap (found c.args.index) c.self.view_is in
     let taken = c.in-Some-remove.ensures.value ∙ ap (λ k. found k c.self.inside.map.entries) c.get-3.ensures.value ∙ ap (found c.args.index) c.self.view_is in
-    c.in_ok-packing.ensures.pack ∙ ap (λ (el : ElementView g.row.C.Denot). g.C.Pup.pack el.chare) (same_element looked taken)
-
-pub close-requires-clause-value : goal.close-requires-clause-value
-close-requires-clause-value g c =
-    let looked = c.in-Some.ensures.value ∙ ap (λ k. found k c.self.inside.map.entries) c.get.ensures.value ∙ ap (found c.args.index) c.self.view_is in
-    let taken = c.in-Some-remove.ensures.value ∙ ap (λ k. found k c.self.inside.map.entries) c.get-3.ensures.value ∙ ap (found c.args.index) c.self.view_is in
-    subst (λ (el : ElementView g.row.C.Denot). g.C.Pup.fits el.chare) (same_element looked taken) c.in_ok-packing.ensures.value
+    record { pack = c.in_ok-packing.ensures.pack ∙ ap (λ (el : ElementView g.row.C.Denot). g.C.Pup.pack el.chare) (same_element looked taken) }
 
 pub returns-clause-value : goal.returns-clause-value
 returns-clause-value g c =
