@@ -1,0 +1,108 @@
+ghost use Rattle.std.specs.Prelude.{◌≡◌, ◌+◌, ◌<◌, ◌≤◌, length, vec_capacity, IfOk, IfSome};
+ghost use Rattle.std.specs.List.Sorted.{IsNonDecreasing};
+ghost use Rattle.lb_certificates.specs.Naming.{block_of};
+ghost use Rattle.barrier.specs.Places.{ArePlaces, no_places, place_among};
+
+use crate::board_size::BoardSize;
+use chare_index::{Index, Limits, Pe, Round};
+use std::alloc::{AllocError, Allocator, Global};
+use std::marker::{Model, PhantomData};
+
+/// A copy of the places of one round. It is made under the lock, by [`RunBoard::copy_places`](crate::RunBoard), and is
+/// then read without it: the decision of a round never changes. Its room is taken when it is made, so no copy takes
+/// memory. Contracts see it as the record `PlacesView`.
+#[derive(Drop)]
+pub struct RoundPlaces<J: BoardSize, A: Allocator = Global> {
+    // Which round's places these are, or 0 before the first copy.
+    round: Round,
+    // Where the elements are cut into blocks. There are none before the first copy.
+    cuts: Vec<u32, A>,
+    // The PE of each block.
+    names: Vec<u32, A>,
+    size: PhantomData<J>,
+}
+
+impl<J: BoardSize, A: Allocator> Model for RoundPlaces<J, A> {
+    ghost use Rattle.std.specs.Prelude.{◌+◌, ◌≤◌, ◌<◌, vec_capacity};
+    ghost use Rattle.chare_index.specs.declared.limits.TheConstants.Limits.{ROUND};
+    ghost use Rattle.barrier.specs.Places.{ArePlaces, PlacesView};
+
+    ghost Value = { PlacesView };
+
+    ghost view = { λ p. record { round = p.round; cuts = p.cuts.items; names = p.names.items } };
+
+    ghost invariant = { λ p.
+        (p.round < ROUND) × ArePlaces J.pes p.cuts.items p.names.items
+        × (J.pes + 1 ≤ vec_capacity p.cuts) × (J.pes ≤ vec_capacity p.names) };
+}
+
+impl<J: BoardSize, A: Allocator> RoundPlaces<J, A> {
+    /// Room for the places of a round, and no places yet. The only error is that memory was refused.
+    pub fn new(alloc: A, pes: u32) -> Result<Self, AllocError>
+    where
+        A: Copy,
+        requires on_pes { pes ≡ J.pes }
+        ensures made { IfOk result (λ places. places ≡ no_places) }
+    {
+        let cuts = Vec::with_capacity(alloc, pes as usize + 1)?;
+        let names = Vec::with_capacity(alloc, pes as usize)?;
+        Ok(RoundPlaces {
+            round: Round::new(0).unwrap(),
+            cuts,
+            names,
+            size: PhantomData,
+        })
+    }
+
+    /// Which round's places these are: that of the last copy, or 0 before the first.
+    pub fn round(&self) -> Round
+        ensures value { result ≡ self.now.round }
+    {
+        self.round
+    }
+
+    /// The place of an element in that round, which is one of the run's PEs, or `None` where there is no such element or
+    /// no copy yet. The block of the element is found by binary search.
+    pub fn place_of(&self, i: Index) -> Option<Pe>
+        ensures value { result ≡ place_among self.now i }
+        ensures below { IfSome result (λ pe. pe < J.pes) }
+        ensures before_last_round { IfSome result (λ pe. self.now.round < Limits.ROUND) }
+    {
+        let i = i.get();
+        if *self.cuts.last()? <= i {
+            return None;
+        }
+        Pe::new(self.names[block_at(&self.cuts, i)])
+    }
+
+    // Becomes a copy of these places, which are those of a round before the last.
+    pub(crate) fn copy(&mut self, round: Round, cuts: &[u32], names: &[u32])
+        requires not_last { round < Limits.ROUND }
+        requires for_pes { ArePlaces J.pes cuts.now names.now }
+        ensures copied { self.new ≡ record { round = round; cuts = cuts.now; names = names.now } }
+    {
+        self.round = round;
+        copy_list(&mut self.cuts, cuts);
+        copy_list(&mut self.names, names);
+    }
+}
+
+// Makes a list a copy of another, for which it has room.
+fn copy_list<A: Allocator>(list: &mut Vec<u32, A>, from: &[u32])
+    requires room { length from.now ≤ vec_capacity list.old }
+    ensures items { list.new.items ≡ from.now }
+    ensures capacity { vec_capacity list.new ≡ vec_capacity list.old }
+{
+    list.clear();
+    for item in from {
+        list.push_reserved(*item);
+    }
+}
+
+// The block of an element: the one before the first cut above it.
+fn block_at(cuts: &[u32], i: u32) -> usize
+    requires ordered { IsNonDecreasing cuts.now }
+    ensures value { result ≡ block_of cuts.now i }
+{
+    cuts.partition_point(|&cut| cut <= i).saturating_sub(1)
+}
