@@ -1,0 +1,85 @@
+ghost use Rattle.std.specs.Prelude.{◌≡◌};
+ghost use Rattle.worker_threads.specs.Workers.{KeepsNumber};
+
+use crate::work::{Ended, Work};
+use std::marker::Model;
+use std::sync::atomic::AtomicBool;
+use std::sync::atomic::Ordering::SeqCst;
+use std::thread::{Promise, PromisedHandle, Scope, Threads};
+
+// What a thread promises of what its worker ends as: it has this number.
+#[derive(Clone, Copy)]
+pub(crate) struct Numbered(u32);
+
+impl<D: Work> Promise<D> for Numbered {
+    ghost kept_by = { λ promise done. D.number done ≡ promise.0 };
+}
+
+// Where that is found which a worker ends as.
+#[derive(Drop)]
+enum Place<D: Ended> {
+    // In a thread of its own, which gives it once the worker has worked.
+    Thread(PromisedHandle<D, Numbered>),
+    // Here: the worker has worked, since no thread could be started for it.
+    Here(D),
+}
+
+// A worker that has begun. Contracts see it as its number.
+#[derive(Drop)]
+pub(crate) struct Begun<D: Ended> {
+    number: u32,
+    place: Place<D>,
+}
+
+impl<D: Ended> Model for Begun<D> {
+    ghost use Rattle.std.specs.Prelude.{ℕ};
+    ghost use Rattle.worker_threads.specs.Workers.{HasNumber};
+
+    ghost Value = { ℕ };
+
+    ghost view = { λ b. b.number };
+
+    ghost invariant = { λ b. HasNumber D.number b.number b.place };
+}
+
+impl<D: Ended> Begun<D> {
+    // Starts a worker in a thread. Where none can be started, all are told to stop, and this one works here, so that it
+    // ends at once.
+    pub(crate) fn begin<'s, E, W: Work + Send + 's, F: Fn(W) -> D + Sync>(
+        scope: &Scope<'s, E>,
+        work: &'s F,
+        stop: &AtomicBool,
+        worker: W,
+    ) -> Self
+    where
+        D: Send + 's,
+        requires callable { F.IsAlwaysCallable work.now }
+        requires keeps_number { KeepsNumber W.number D.number (F.post work.now) }
+        ensures value { result ≡ W.number worker }
+    {
+        let number = worker.number();
+        let working = move || -> D
+            requires { F.IsAlwaysCallable work.now × KeepsNumber W.number D.number (F.post work.now) }
+            ensures { D.number result ≡ W.number worker }
+        { work(worker) };
+        let place = match scope.spawn_with(Numbered(number), working) {
+            Ok(handle) => Place::Thread(handle),
+            Err(refused) => {
+                stop.store(true, SeqCst);
+                Place::Here((refused.value)())
+            }
+        };
+        Begun { number, place }
+    }
+
+    // What the worker ended as. Waits for its thread, if it has one.
+    pub(crate) fn end<R: Threads>(self, rt: &R) -> D
+        ensures value { D.number result ≡ self }
+    {
+        let Begun { number: _, place } = self;
+        match place {
+            Place::Thread(handle) => handle.join(rt),
+            Place::Here(done) => done.without_thread(),
+        }
+    }
+}

@@ -1,0 +1,20 @@
+ghost use Rattle.std.specs.Prelude.{◌≡◌, ℕ};
+
+/// What takes part in a run: a worker, or what a worker ends as. It has a number, by which it is known whose end this
+/// is; whatever else is to be known of it stands in its type.
+pub trait Work: Drop {
+    /// The number of a value.
+    ghost number: { Self → ℕ };
+
+    /// The number, as the program sees it.
+    fn number(&self) -> u32
+        ensures value { result ≡ number self.now };
+}
+
+/// What a worker ends as.
+pub trait Ended: Work {
+    /// The end of a worker for which no thread could be started. It was told to stop before it began, as all were, and has
+    /// worked without a thread.
+    fn without_thread(self) -> Self
+        ensures same_number { Self.number result ≡ Self.number self };
+}
