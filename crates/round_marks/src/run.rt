@@ -1,0 +1,150 @@
+//! The marks of all elements of a run: in the rooms, the hands and the outboxes of its PEs, and in its queues.
+
+ghost use Rattle.std.specs.Prelude.{◌<◌, ◌↔◌, All, IfSome, IsTrue, SomeIff, map};
+ghost use Rattle.lb_database.specs.Measuring.{elements};
+ghost use Rattle.rts_core.specs.Worlds.{home};
+ghost use Rattle.round_marks.specs.Runs.{AreAllMarked, IsMarked, IsMarkedOn, IsMarkedParcel, IsMarkedPe};
+
+use crate::marks::marks_agree;
+use at_sync::Board;
+use chare_index::{Index, Pe, opening_pe};
+use chares::{Carried, Chare, Element, Mark};
+use pe_state::{HeldParcel, Item, PeEnd};
+use std::alloc::Allocator;
+
+/// Whether the marks of all elements of a run agree with what its board decided, as [`element_agrees`] tells it of each:
+/// of those that its PEs have at the end, and of those that are packed in the parcels that it left in its queues. It takes
+/// no memory, and a time that is linear in the number of marks, letters and PEs.
+pub fn run_agrees<C: Chare<A>, A: Allocator>(
+    board: &Board<A>,
+    ends: &[PeEnd<C, A>],
+    left: &[Vec<HeldParcel<A>, A>],
+) -> bool
+    ensures agree { IsTrue result ↔ AreAllMarked board.now ends.now (map (λ queue. queue.items) left.now) }
+{
+    pes_agree(board, ends) && queues_agree(board, left)
+}
+
+/// Whether the marks of all elements agree that a PE has: in its room, and packed in its hand and in its outbox.
+pub fn pe_agrees<C: Chare<A>, A: Allocator>(board: &Board<A>, pe: &PeEnd<C, A>) -> bool
+    ensures agree { IsTrue result ↔ IsMarkedPe board.now pe.now }
+{
+    room_agrees(board, pe) && hand_agrees(board, pe) && outbox_agrees(board, pe)
+}
+
+/// Whether the marks of all elements agree that are packed in these parcels.
+pub fn parcels_agree<A: Allocator>(board: &Board<A>, parcels: &[HeldParcel<A>]) -> bool
+    ensures agree { IsTrue result ↔ All (IsMarkedParcel board.now) parcels.now }
+{
+    parcels.iter().all(|parcel| parcel_agrees(board, parcel))
+}
+
+/// Whether the marks of element `e` agree, as [`marks_agree`] tells it of an element that opened on the home of `e` among
+/// the elements of the board.
+pub fn element_agrees<A: Allocator>(
+    board: &Board<A>,
+    e: Index,
+    place: Option<Pe>,
+    marks: &[Mark],
+) -> bool
+    ensures agree { IsTrue result ↔ IsMarked board.now e place marks.now }
+{
+    let Some(home) = home_of(board, e) else {
+        return false;
+    };
+    marks_agree(board, e, home, place, marks)
+}
+
+// Whether the marks of all elements agree that these PEs have.
+fn pes_agree<C: Chare<A>, A: Allocator>(board: &Board<A>, pes: &[PeEnd<C, A>]) -> bool
+    ensures { IsTrue result ↔ All (IsMarkedPe board.now) pes.now }
+{
+    for pe in pes {
+        if !pe_agrees(board, pe) {
+            return false;
+        }
+    }
+    true
+}
+
+// Whether the marks of all elements agree that are packed in the parcels of these queues.
+fn queues_agree<A: Allocator>(board: &Board<A>, queues: &[Vec<HeldParcel<A>, A>]) -> bool
+    ensures { IsTrue result ↔ All (All (IsMarkedParcel board.now)) (map (λ queue. queue.items) queues.now) }
+{
+    for queue in queues {
+        if !parcels_agree(board, queue.as_slice()) {
+            return false;
+        }
+    }
+    true
+}
+
+// Whether the marks of all elements agree that stand in the room of a PE.
+fn room_agrees<C: Chare<A>, A: Allocator>(board: &Board<A>, pe: &PeEnd<C, A>) -> bool
+    ensures { IsTrue result ↔ All (λ x. IsMarkedOn board.now pe.now.me x.1) pe.now.room }
+{
+    let me = pe.me();
+    for (_, element) in pe.room().iter() {
+        if !standing_agrees(board, me, element) {
+            return false;
+        }
+    }
+    true
+}
+
+// Whether those of an element agree that stands in the room of the PE `me`.
+fn standing_agrees<C: Chare<A>, A: Allocator>(
+    board: &Board<A>,
+    me: Pe,
+    element: &Element<C, A>,
+) -> bool
+    ensures { IsTrue result ↔ IsMarkedOn board.now me element.now }
+{
+    element_agrees(board, element.index(), Some(me), element.marks())
+}
+
+// Whether those of the element agree that is packed in its hand, if one is.
+fn hand_agrees<C: Chare<A>, A: Allocator>(board: &Board<A>, pe: &PeEnd<C, A>) -> bool
+    ensures { IsTrue result ↔ IfSome pe.now.hand (λ x. IsMarkedParcel board.now x.parcel) }
+{
+    match pe.hand() {
+        Some(item) => parcel_agrees(board, &item.parcel),
+        None => true,
+    }
+}
+
+// Whether those of all elements agree that are packed in its outbox.
+fn outbox_agrees<C: Chare<A>, A: Allocator>(board: &Board<A>, pe: &PeEnd<C, A>) -> bool
+    ensures { IsTrue result ↔ All (λ x. IsMarkedParcel board.now x.parcel) pe.now.outbox }
+{
+    let (front, back) = pe.outbox().as_slices();
+    items_agree(board, front) && items_agree(board, back)
+}
+
+// Whether those of all elements agree that are packed in a part of an outbox.
+fn items_agree<A: Allocator>(board: &Board<A>, items: &[Item<A>]) -> bool
+    ensures { IsTrue result ↔ All (λ x. IsMarkedParcel board.now x.parcel) items.now }
+{
+    items.iter().all(|item| parcel_agrees(board, &item.parcel))
+}
+
+// Whether those of the element agree that is packed in a parcel, if one is.
+fn parcel_agrees<A: Allocator>(board: &Board<A>, parcel: &HeldParcel<A>) -> bool
+    ensures { IsTrue result ↔ IsMarkedParcel board.now parcel.now }
+{
+    match parcel {
+        Carried::Letter(_) => true,
+        Carried::Element(packed) => { element_agrees(board, packed.index(), None, packed.marks()) }
+    }
+}
+
+// The PE on which element `e` opens, or `None` where the board has no such element.
+fn home_of<A: Allocator>(board: &Board<A>, e: Index) -> Option<Pe>
+    ensures { SomeIff result (e < elements board.now.database) (home e (elements board.now.database) board.now.pes) }
+{
+    let (n, _rounds) = (board.len(), board.rounds());
+    if n <= e.get() as usize {
+        return None;
+    }
+    Some(opening_pe(e, n as u32, board.pes()))
+}
