@@ -1,0 +1,110 @@
+-- What a seated PE keeps in each of its steps.
+use Rattle.std.proofs.Common.{◌≡◌, ℕ, ◌<◌, List, [], ◌∷◌, Option, Some, None, refl, sym, ◌∙◌, subst, ap}
+use Rattle.std.specs.Prelude.{Result, Ok, Err, OnOk, OnErr, slice_get, drop}
+use Rattle.std.specs.Option.{option_to_list}
+use Rattle.chares.specs.Steps.{Step}
+use Rattle.pup_pack.specs.declared.error.PupError.{PupError}
+use Rattle.pe_state.specs.Histories.{HasHistories}
+use Rattle.pe_state.specs.Pes.{PeView, Parcel, Item, front_address, front_parcel, gave_up, handed_back}
+use Rattle.pe_state.specs.Rooms.{IsKeyed}
+use Rattle.pe_state.proofs.Histories.{gave_up_holds}
+use Rattle.pe_queues.specs.Seats.{SeatView, pes, new_seat, after_put, after_take}
+use Rattle.rts_core.specs.Calls.{Call, Receive, HandBack, Look, Send, NoteDone, Act, Depart, Resume, MayCall, IsRunning, after_call, with_call}
+use Rattle.rts_core.specs.Ledgers.{no_ledger, entered_in, IsLocalAccount}
+use Rattle.rts_core.proofs.LocalAccount.{local_call}
+use Rattle.pe_worker.specs.Seated.{Beginning, Matches, IsSeated}
+use Rattle.pe_worker.proofs.Matching.{matches_still, matches_take, matches_put, matches_back, matches_new}
+
+-- an outbox whose front was given up and came back is as it was
+front_back : (outbox : List Item) (parcel : Parcel) → front_parcel outbox ≡ Some parcel → record { parcel = parcel; address = front_address outbox } ∷ drop 1 outbox ≡ outbox
+front_back [] parcel front = cc
+front_back (x ∷ xs) parcel front =
+    let e : x.parcel ≡ parcel = cc in
+    ap (λ (v : Parcel). record { parcel = v; address = x.address } ∷ xs) (sym e)
+
+pub back_same : {C : Type 0} (pe : PeView C) (parcel : Parcel) → front_parcel pe.outbox ≡ Some parcel → handed_back (gave_up pe) parcel ≡ record pe { kept = None }
+back_same pe parcel front = ap (λ (v : List Item). record pe { outbox = v; kept = None }) (front_back pe.outbox parcel front)
+
+module _ {C : Type 0} (step : Step C) (fits : C → Type 0) (pack : C → List ℕ) (unpack : List ℕ → Result (C × ℕ) PupError)
+    (opened : List C) (count : ℕ) (run : Beginning C) (pe : PeView C) (seat : SeatView Parcel)
+    (w : IsSeated step opened count run pe seat) (keyed : IsKeyed pe.room) (histories : HasHistories step fits pack opened pe) where
+  abbrev pub Kept : PeView C → SeatView Parcel → Type 0
+  Kept pe' seat' = IsSeated step opened count run pe' seat'
+
+  -- any call, with what it puts and takes
+  keeps_call : (call : Call C) (seat' : SeatView Parcel) → MayCall pe call → IsRunning call → seat'.post ≡ seat.post → seat'.seats ≡ seat.seats → Matches (with_call step pack unpack w.ledger pe call) seat' → Kept (after_call step pack unpack pe call) seat'
+  keeps_call call seat' may running post_is seats_is m =
+      let l : IsLocalAccount step opened w.start (after_call step pack unpack pe call) (with_call step pack unpack w.ledger pe call) = local_call step fits pack opened w.start unpack pe w.ledger call may running histories keyed w.local in
+      let me : (after_call step pack unpack pe call).me ≡ pe.me = l.same_me ∙ sym w.local.same_me in
+      record {
+        own = post_is ∙ w.own;
+        share = ap (slice_get run.shares) me ∙ (w.share ∙ ap Some (sym seats_is));
+        served = w.served;
+        start = w.start;
+        started = ap (slice_get run.starts) me ∙ w.started;
+        ledger = with_call step pack unpack w.ledger pe call;
+        local = l;
+        matches = m;
+      }
+
+  pub keeps_received : (q : ℕ) (parcel : Parcel) → q < pes seat.post → pe.hand ≡ None → Kept (after_call step pack unpack pe (Receive parcel)) (after_take seat q parcel)
+  keeps_received q parcel lt empty =
+      keeps_call (Receive parcel) (after_take seat q parcel) empty tt refl refl (matches_take w.ledger seat q parcel [] lt w.matches)
+
+  pub keeps_sent : (q : ℕ) (parcel : Parcel) → q < pes seat.post → front_parcel pe.outbox ≡ Some parcel → Kept (gave_up pe) (after_put seat q parcel)
+  keeps_sent q parcel lt front =
+      keeps_call Send (after_put seat q parcel) tt tt refl refl
+      (subst (λ (o : Option Parcel). Matches (entered_in w.ledger [] (option_to_list o) []) (after_put seat q parcel)) (sym front) (matches_put w.ledger seat q parcel [] lt w.matches))
+
+  pub keeps_looked : (q : ℕ) → Kept (after_call step pack unpack pe (Look q)) seat
+  keeps_looked q = keeps_call (Look q) seat tt tt refl refl (matches_still w.ledger seat [] w.matches)
+
+  pub keeps_noted : Kept (after_call step pack unpack pe NoteDone) seat
+  keeps_noted = keeps_call NoteDone seat tt tt refl refl (matches_still w.ledger seat [] w.matches)
+
+  pub keeps_acted : Kept (after_call step pack unpack pe Act) seat
+  keeps_acted = keeps_call Act seat tt tt refl refl (matches_still w.ledger seat _ w.matches)
+
+  -- after Act, whether it was refused or not
+  pub keeps_after : {V E : Type 0} (pe' : PeView C) (r : Result V E) → OnOk r (pe' ≡ after_call step pack unpack pe Act) → OnErr r (pe' ≡ pe) → Kept pe' seat
+  keeps_after pe' (Ok v) ok err = subst (λ (v : PeView C). Kept v seat) (sym ok) keeps_acted
+  keeps_after pe' (Err e) ok err = subst (λ (v : PeView C). Kept v seat) (sym err) w
+
+  pub keeps_departed : (e q : ℕ) → Kept (after_call step pack unpack pe (Depart e q)) seat
+  keeps_departed e q = keeps_call (Depart e q) seat tt tt refl refl (matches_still w.ledger seat [] w.matches)
+
+  pub keeps_resumed : (e round : ℕ) → Kept (after_call step pack unpack pe (Resume e round)) seat
+  keeps_resumed e round = keeps_call (Resume e round) seat tt tt refl refl (matches_still w.ledger seat _ w.matches)
+
+  -- a parcel that came back at once
+  pub keeps_back : (parcel : Parcel) → front_parcel pe.outbox ≡ Some parcel → Kept (handed_back (gave_up pe) parcel) seat
+  keeps_back parcel front =
+      let given : IsLocalAccount step opened w.start (gave_up pe) (entered_in w.ledger [] (option_to_list (front_parcel pe.outbox)) []) = local_call step fits pack opened w.start unpack pe w.ledger Send tt tt histories keyed w.local in
+      let still : HasHistories step fits pack opened (gave_up pe) = gave_up_holds step fits pack opened pe histories in
+      let l : IsLocalAccount step opened w.start (handed_back (gave_up pe) parcel) (entered_in (entered_in w.ledger [] (option_to_list (front_parcel pe.outbox)) []) (parcel ∷ []) [] []) = local_call step fits pack opened w.start unpack (gave_up pe) (entered_in w.ledger [] (option_to_list (front_parcel pe.outbox)) []) (HandBack parcel) tt tt still keyed given in
+      record {
+        own = w.own;
+        share = w.share;
+        served = w.served;
+        start = w.start;
+        started = w.started;
+        ledger = entered_in (entered_in w.ledger [] (option_to_list (front_parcel pe.outbox)) []) (parcel ∷ []) [] [];
+        local = l;
+        matches = subst (λ (o : Option Parcel). Matches (entered_in (entered_in w.ledger [] (option_to_list o) []) (parcel ∷ []) [] []) seat) (sym front) (matches_back w.ledger seat parcel [] [] w.matches);
+      }
+
+-- as a PE begins
+pub keeps_new : {C : Type 0} (step : Step C) (opened : List C) (count : ℕ) (run : Beginning C) (pe : PeView C) (seat : SeatView Parcel)
+    → slice_get run.shares pe.me ≡ Some seat.seats → slice_get run.starts pe.me ≡ Some pe → IsLocalAccount step opened pe pe no_ledger → seat ≡ new_seat run.post seat.seats → pes run.post ≡ count
+    → IsSeated step opened count run pe seat
+keeps_new step opened count run pe seat share at l is served =
+    record {
+      own = ap (λ (s : SeatView Parcel). s.post) is;
+      share = share;
+      served = served;
+      start = pe;
+      started = at;
+      ledger = no_ledger;
+      local = l;
+      matches = subst (Matches no_ledger) (sym is) (matches_new run.post seat.seats);
+    }

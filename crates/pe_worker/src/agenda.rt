@@ -1,0 +1,80 @@
+//! What a worker has to see to: the elements that have to go on, and those that wait.
+
+ghost use Rattle.std.specs.Prelude.{◌≡◌};
+
+use barrier::{BoardSize, RoundPlaces, RunBoard};
+use chare_index::{Index, Round};
+use chares::{Chare, Note, Openings};
+use pe_state::PeState;
+use std::alloc::{AllocError, Allocator, Global};
+use std::collections::VecDeque;
+
+/// The elements of a PE by what they wait for, so that a worker need not look through its room. No clause rests on it: an
+/// element that were missing here would be resumed too late, never wrongly.
+#[derive(Drop)]
+pub struct Agenda<J: BoardSize, A: Allocator = Global> {
+    // Those that start, as a run opens, and then those that wait for the round whose places are copied here.
+    due: VecDeque<Index, A>,
+    // Those whose reports the board has for the round after that.
+    waiting: VecDeque<Index, A>,
+    pub(crate) places: RoundPlaces<J, A>,
+}
+
+impl<J: BoardSize, A: Allocator + Copy> Agenda<J, A> {
+    /// The agenda of a PE as a run opens, on which all its elements start. There are `pes` PEs in all.
+    pub fn new<C: Chare<A>, H: Openings<C>>(
+        alloc: A,
+        pe: &PeState<C, H, A>,
+        pes: u32,
+    ) -> Result<Self, AllocError>
+        requires on_pes { pes ≡ J.pes }
+    {
+        let mut due = VecDeque::new(alloc);
+        for (_, element) in pe.room().iter() {
+            due.push_back(element.index())?;
+        }
+        Ok(Agenda {
+            due,
+            waiting: VecDeque::new(alloc),
+            places: RoundPlaces::new(alloc, pes)?,
+        })
+    }
+
+    /// How many elements are due.
+    pub(crate) fn dues(&self) -> usize {
+        self.due.len()
+    }
+
+    /// The next element that is due, which leaves the agenda.
+    pub(crate) fn next_due(&mut self) -> Option<Index> {
+        self.due.pop_front()
+    }
+
+    /// An element arrives that waits for the round that was decided last, so it is due.
+    pub(crate) fn arrives(&mut self, element: Index) -> Result<(), AllocError> {
+        self.due.push_back(element)?;
+        Ok(())
+    }
+
+    /// The board is to have these notes next: of each element that waits, it is noted here.
+    pub(crate) fn expect(&mut self, notes: &VecDeque<Note, A>) -> Result<(), AllocError> {
+        for note in notes {
+            if let Note::Sync(element, _, _, _, _) = note {
+                self.waiting.push_back(*element)?;
+            }
+        }
+        Ok(())
+    }
+
+    /// Copies the places of a round, if it is decided. Then those that waited for it are due.
+    pub(crate) fn begin_round(
+        &mut self,
+        board: &RunBoard<J, A>,
+        round: Round,
+    ) -> Result<(), AllocError> {
+        if board.copy_places(round, &mut self.places) {
+            self.due.append(&mut self.waiting)?;
+        }
+        Ok(())
+    }
+}

@@ -1,0 +1,149 @@
+//! What the workers of a run share.
+
+ghost use Rattle.std.specs.Prelude.{◌≡◌, ◌≤◌, length};
+ghost use Rattle.at_sync.specs.Boards.{IsBoard};
+ghost use Rattle.lb_database.specs.Measuring.{elements};
+
+use crate::seated::{OfRun, RunBeginning};
+use at_sync::Board;
+use barrier::Barrier;
+use chare_index::{Limits, Round};
+use chares::{Chare, Openings};
+use pe_queues::{Locations, Post};
+use pe_state::Parcel;
+use std::alloc::{Allocator, Global};
+use std::marker::{Model, PhantomData};
+use std::sync::Wait;
+use std::sync::atomic::Ordering::SeqCst;
+use std::sync::atomic::{AtomicBool, AtomicU64};
+
+/// What the workers of a run share: the queues, the words, the board under its lock, and three hints, which workers only
+/// raise and which save them the lock: the last round that was decided, that every element has finished, and that all are
+/// to stop. No clause rests on a hint. Contracts see the queues.
+#[derive(Drop)]
+pub struct Field<C: Chare<A>, H: Openings<C>, J: RunBeginning<C>, A: Allocator = Global> {
+    pub(crate) post: Post<Parcel<C, H, A>, A>,
+    pub(crate) words: Locations<OfRun<C, H>, A>,
+    pub(crate) barrier: Barrier<OfRun<C, H>, A>,
+    decided: AtomicU64,
+    finished: AtomicBool,
+    stopped: AtomicBool,
+    // After how many turns in a row without a step a worker gives up.
+    pub(crate) turns: u64,
+    pub(crate) probe_workers: u32,
+    of: PhantomData<J>,
+}
+
+impl<C: Chare<A>, H: Openings<C>, J: RunBeginning<C>, A: Allocator> Model for Field<C, H, J, A> {
+    ghost use Rattle.std.specs.Prelude.{◌≡◌, ◌≤◌, length};
+    ghost use Rattle.chare_index.specs.declared.limits.TheConstants.Limits.{PROBE_WORKERS};
+    ghost use Rattle.pe_queues.specs.Seats.{PostView};
+
+    ghost Value = { PostView };
+
+    ghost view = { λ f. f.post };
+
+    ghost invariant = { λ f.
+        (f.post ≡ J.beginning.post) × (f.words.pes ≡ H.pes) × (f.words.elements ≡ length H.opened)
+        × (1 ≤ f.probe_workers) × (f.probe_workers ≤ PROBE_WORKERS) };
+}
+
+impl<C: Chare<A>, H: Openings<C>, J: RunBeginning<C>, A: Allocator> Field<C, H, J, A> {
+    /// The queues, words and board of a run as it opens. Its workers give up after so many idle turns, and a round is
+    /// decided by 1 to 64 probe workers.
+    pub fn new(
+        post: Post<Parcel<C, H, A>, A>,
+        words: Locations<OfRun<C, H>, A>,
+        board: Board<A>,
+        turns: u64,
+        probe_workers: u32,
+    ) -> Self
+        requires own { post ≡ J.beginning.post }
+        requires run_pes { words.pes ≡ H.pes }
+        requires run_elements { words.elements ≡ length H.opened }
+        requires counted { elements board.database ≡ length H.opened }
+        requires on_pes { board.pes ≡ H.pes }
+        requires some_worker { 1 ≤ probe_workers }
+        requires few_workers { probe_workers ≤ Limits.PROBE_WORKERS }
+        ensures post { result ≡ post }
+    {
+        let finished = AtomicBool::new(board.all_finished());
+        Field {
+            post,
+            words,
+            barrier: Barrier::new(board),
+            decided: AtomicU64::new(0),
+            finished,
+            stopped: AtomicBool::new(false),
+            turns,
+            probe_workers,
+            of: PhantomData,
+        }
+    }
+
+    /// The flag that lets all workers stop.
+    pub fn stop_flag(&self) -> &AtomicBool {
+        &self.stopped
+    }
+
+    /// The queues.
+    pub fn post(&self) -> &Post<Parcel<C, H, A>, A>
+        ensures value { result.now ≡ self.now }
+        ensures own { result.now ≡ J.beginning.post }
+    {
+        &self.post
+    }
+
+    /// Lets all workers stop.
+    pub(crate) fn stop(&self) {
+        self.stopped.store(true, SeqCst);
+    }
+
+    /// Whether all are to stop.
+    pub(crate) fn is_stopped(&self) -> bool {
+        self.stopped.load(SeqCst)
+    }
+
+    /// Tells the others that a round is decided.
+    pub(crate) fn tell_decided(&self, round: Round) {
+        self.decided.fetch_max(u64::from(round.get()), SeqCst);
+    }
+
+    /// The last round that is known to be decided, or 0.
+    pub(crate) fn last_decided(&self) -> Option<Round> {
+        let round = u32::try_from(self.decided.load(SeqCst)).ok()?;
+        Round::new(round)
+    }
+
+    /// Tells the others that every element has finished.
+    pub(crate) fn tell_finished(&self) {
+        self.finished.store(true, SeqCst);
+    }
+
+    /// Whether every element has finished. The board is asked only once the hint says so.
+    pub(crate) fn all_finished<R: Wait>(&self, rt: &R) -> bool {
+        self.finished.load(SeqCst) && self.barrier.all_finished(rt)
+    }
+
+    /// The queues and the board again, once no thread uses them any more. Each decision that the board keeps is right.
+    pub fn into_parts(self) -> (Post<Parcel<C, H, A>, A>, Board<A>)
+        ensures post { result.0 ≡ self }
+        ensures own { result.0 ≡ J.beginning.post }
+        ensures counted { elements result.1.database ≡ length H.opened }
+        ensures on_pes { result.1.pes ≡ H.pes }
+        ensures board { IsBoard result.1 }
+    {
+        let Field {
+            post,
+            words: _,
+            barrier,
+            decided: _,
+            finished: _,
+            stopped: _,
+            turns: _,
+            probe_workers: _,
+            of: _,
+        } = self;
+        (post, barrier.into_board())
+    }
+}

@@ -1,0 +1,17 @@
+//! One worker of a run over threads: a PE with its seat, the steps that it makes, and the turns in which it makes them.
+//! docs/RUNS.md tells the protocol.
+#![tactic(auto)]
+
+mod agenda;
+mod fault;
+mod field;
+mod rounds;
+mod seated;
+mod steps;
+mod worker;
+
+pub use agenda::Agenda;
+pub use fault::Fault;
+pub use field::Field;
+pub use seated::{OfRun, RunBeginning, SeatedPe};
+pub use worker::Worker;

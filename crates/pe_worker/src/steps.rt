@@ -1,0 +1,116 @@
+//! The steps of a PE with its seat. Each is one event: one push or pop on one queue, one load or store of one location
+//! word, one call of the board under its lock, or work on what the PE owns.
+
+ghost use Rattle.std.specs.Prelude.{◌≡◌, ◌<◌, ◌≤◌, ◌≢◌, length, IfErr, IfNone, IfOk, OnErr, OnOk, IfSome, MatchBool, MatchOption, if◌then◌else◌};
+ghost use Rattle.pe_queues.specs.Seats.{HeldAt, pes};
+ghost use Rattle.pe_state.specs.Pes.{acted_of, acting, front_address, may_resume, wanted, pe_after, resumed, waits_at};
+ghost use Rattle.pe_state.specs.Rooms.{found};
+ghost use Rattle.pe_state.specs.declared.error.StepError.TheVariants.{OutOfMemory, Unpack};
+ghost use Rattle.pe_worker.specs.Steps.{Delivers, Flushes, Looks, Stays};
+
+use crate::seated::{OfRun, RunBeginning, SeatedPe};
+use chare_index::{Gate, Index, Round};
+use chares::{Chare, Openings};
+use pe_queues::{Full, Locations, Post};
+use pe_state::{Acted, Parcel, PeState, StepError};
+use std::alloc::Allocator;
+use std::sync::Wait;
+
+impl<C: Chare<A>, H: Openings<C>, J: RunBeginning<C>, A: Allocator + Copy> SeatedPe<C, H, J, A> {
+    /// Deliver: takes the front of the queue of its PE into the hand, if that is empty, and returns whether it did. It is
+    /// one pop.
+    pub fn deliver<R: Wait>(&mut self, rt: &R, post: &Post<Parcel<C, H, A>, A>) -> bool
+        requires own { post.now ≡ J.beginning.post }
+        ensures step { MatchBool result (Delivers self.old self.new) (self.new ≡ self.old) }
+        ensures empty { MatchBool result (Unit {0}) (IfNone self.old.pe.hand (HeldAt self.old.seat self.old.pe.me 0)) }
+        ensures same_me { self.new.pe.me ≡ self.old.pe.me }
+    {
+        let _room = self.pe.room();
+        if self.pe.hand().is_some() {
+            return false;
+        }
+        let me = self.pe.me();
+        let Some(parcel) = post.take(rt, &mut self.seat, me) else {
+            return false;
+        };
+        self.pe.receive(parcel);
+        true
+    }
+
+    /// Flush: puts the front of the outbox, if it has an address, into the queue of the PE that it is addressed to, and
+    /// returns whether it did. It is one push. Where that queue is full the parcel is the front of the outbox again.
+    pub fn flush<R: Wait>(&mut self, rt: &R, post: &Post<Parcel<C, H, A>, A>) -> bool
+        requires own { post.now ≡ J.beginning.post }
+        ensures step { MatchBool result (Flushes self.old self.new) (Stays self.old self.new) }
+        ensures full { MatchBool result (Unit {0}) (IfSome (front_address self.old.pe.outbox) (λ to. HeldAt self.old.seat to post.now.capacity)) }
+        ensures same_me { self.new.pe.me ≡ self.old.pe.me }
+    {
+        let _room = self.pe.room();
+        let Some(to) = self.pe.front_out() else {
+            return false;
+        };
+        let parcel = self.pe.sent();
+        let Err(Full(back)) = post.put(rt, &mut self.seat, to, parcel) else {
+            return true;
+        };
+        self.pe.hand_back(back);
+        false
+    }
+
+    /// Look: looks for the element that the PE wants, if it wants one, and returns whether it did. It is one load of the
+    /// element's word.
+    pub fn look(&mut self, words: &Locations<OfRun<C, H>, A>) -> bool
+        requires run_pes { words.now.pes ≡ H.pes }
+        ensures step { MatchBool result (Looks self.old self.new) (self.new ≡ self.old) }
+        ensures all { MatchBool result (Unit {0}) (IfSome (wanted self.old.pe) (λ element. words.now.elements ≤ element)) }
+        ensures same_me { self.new.pe.me ≡ self.old.pe.me }
+    {
+        let _room = self.pe.room();
+        let Some(element) = self.pe.wants() else {
+            return false;
+        };
+        if words.len() <= element.get() as usize {
+            return false;
+        }
+        self.pe.look(words.look(element));
+        true
+    }
+
+    /// Act: executes, forwards or shelves the letter in the hand, or installs the element there, and returns which of
+    /// these it did, or `None` where the hand is empty or its letter waits.
+    ///
+    /// # Errors
+    ///
+    /// The PE is as it was on any of them: out of memory, or what a handler answers.
+    pub fn act<G: Gate>(&mut self, gate: &G) -> Result<Option<Acted>, StepError>
+        ensures acted { IfOk result (λ acted. acted ≡ acted_of (acting C.step C.pack C.unpack self.old.pe)) }
+        ensures ok { OnOk result (self.new ≡ record self.old { pe = pe_after self.old.pe (acting C.step C.pack C.unpack self.old.pe) }) }
+        ensures err { OnErr result (self.new ≡ self.old) }
+        ensures unpacks { IfErr result (λ error. error ≢ Unpack) }
+        ensures same_me { self.new.pe.me ≡ self.old.pe.me }
+    {
+        let _room = self.pe.room();
+        self.pe.act(gate)
+    }
+
+    /// Start: starts an element, if it stands here and has not started, and returns whether it did.
+    ///
+    /// # Errors
+    ///
+    /// The PE is as it was on any of them: out of memory, or what the handler answers.
+    pub fn start<G: Gate>(&mut self, gate: &G, element: Index) -> Result<bool, StepError>
+        ensures ok { IfOk result (λ done. self.new ≡ record self.old { pe = (if done then resumed C.step C.pack self.old.pe element 0 else self.old.pe) }) }
+        ensures all { IfOk result (λ done. done ≡ may_resume self.old.pe element 0) }
+        ensures err { OnErr result (self.new ≡ self.old) }
+        ensures unpacks { IfErr result (λ error. error ≢ Unpack) }
+        ensures same_me { self.new.pe.me ≡ self.old.pe.me }
+    {
+        let _room = self.pe.room();
+        let start = Round::new(0).unwrap();
+        if !self.pe.may_resume(element, start) {
+            return Ok(false);
+        }
+        self.pe.resume(gate, element, start)?;
+        Ok(true)
+    }
+}

@@ -1,0 +1,361 @@
+//! The turns of a worker.
+
+ghost use Rattle.std.specs.Prelude.{◌≡◌, ◌≢◌, ◌<◌, ◌≤◌, length, IfErr, IfSome, None};
+ghost use Rattle.pe_worker.specs.declared.fault.Fault.TheVariants.{Unpack};
+
+use crate::agenda::Agenda;
+use crate::fault::{Fault, fault_of};
+use crate::field::Field;
+use crate::seated::{OfRun, RunBeginning, SeatedPe};
+use at_sync::BoardError;
+use barrier::RunBoard;
+use chare_index::{Gate, Index, Pe};
+use chares::{Carried, Chare, Openings};
+use pe_state::PeState;
+use std::alloc::{AllocError, Allocator, Global};
+use std::hint::spin_loop;
+use std::marker::Model;
+use std::sync::Wait;
+use std::thread::{Threads, yield_now};
+use worker_threads::{Ended, Work};
+
+/// For how many turns a note may stay owed while the worker has other things to do, and how many notes may: they go to the
+/// board together, under one lock.
+const OWED: usize = 64;
+
+/// How many idle turns in a row a worker spins, before it lets another thread have the processor in each.
+const SPINS: u64 = 64;
+
+/// A worker of a run: a PE with its seat, what it has to see to, and the fault that it met, if it met one. Contracts see it
+/// as the record `WorkerView`.
+#[derive(Drop)]
+pub struct Worker<C: Chare<A>, H: Openings<C>, J: RunBeginning<C>, A: Allocator = Global> {
+    seated: SeatedPe<C, H, J, A>,
+    agenda: Agenda<OfRun<C, H>, A>,
+    // For how many turns the first note has been owed.
+    owed: usize,
+    // Whether its report was the last that the board waited for.
+    completes: bool,
+    fault: Option<Fault>,
+}
+
+impl<C: Chare<A>, H: Openings<C>, J: RunBeginning<C>, A: Allocator> Model for Worker<C, H, J, A> {
+    ghost use Rattle.std.specs.Prelude.{IfSome, ◌≢◌};
+    ghost use Rattle.pe_worker.specs.Workers.{WorkerView};
+    ghost use Rattle.pe_worker.specs.declared.fault.Fault.TheVariants.{Unpack};
+
+    ghost Value = { WorkerView C };
+
+    ghost view = { λ w. record { seated = w.seated; fault = w.fault } };
+
+    ghost invariant = { λ w. IfSome w.fault (λ fault. fault ≢ Unpack) };
+}
+
+impl<C: Chare<A>, H: Openings<C>, J: RunBeginning<C>, A: Allocator> Worker<C, H, J, A> {
+    /// A worker that has done nothing.
+    pub fn new(seated: SeatedPe<C, H, J, A>, agenda: Agenda<OfRun<C, H>, A>) -> Self
+        ensures made { result ≡ record { seated = seated; fault = None } }
+    {
+        Worker {
+            seated,
+            agenda,
+            owed: 0,
+            completes: false,
+            fault: None,
+        }
+    }
+
+    /// The number of its PE.
+    pub fn me(&self) -> Pe
+        ensures value { result ≡ self.now.seated.pe.me }
+    {
+        self.seated.me()
+    }
+
+    /// Its PE with the seat, and the fault that it met. What an element is packed to always unpacks, so `Unpack` is none.
+    pub fn into_parts(self) -> (SeatedPe<C, H, J, A>, Option<Fault>)
+        ensures seated { result.0 ≡ self.seated }
+        ensures fault { result.1 ≡ self.fault }
+        ensures unpacks { IfSome result.1 (λ fault. fault ≢ Unpack) }
+    {
+        let Worker {
+            seated,
+            agenda: _,
+            owed: _,
+            completes: _,
+            fault,
+        } = self;
+        (seated, fault)
+    }
+}
+
+impl<C: Chare<A>, H: Openings<C>, J: RunBeginning<C>, A: Allocator> Work for Worker<C, H, J, A> {
+    ghost number = { λ w. w.seated.pe.me };
+
+    fn number(&self) -> u32 {
+        self.me().get()
+    }
+}
+
+impl<C: Chare<A>, H: Openings<C>, J: RunBeginning<C>, A: Allocator> Ended for Worker<C, H, J, A> {
+    /// That no thread could be started for it is its fault. It was told to stop before it began, so its PE is as it opened.
+    fn without_thread(self) -> Self {
+        let mut worker = self;
+        worker.fault = worker.fault.or(Some(Fault::OutOfMemory));
+        worker
+    }
+}
+
+impl<C: Chare<A>, H: Openings<C>, J: RunBeginning<C>, A: Allocator + Copy> Worker<C, H, J, A> {
+    /// Starts the elements of its PE, and then takes turns until every element has finished, this worker meets a fault, or
+    /// another one has. At a fault all are told to stop. Whatever happens, it keeps what its PE holds.
+    pub fn work<G: Gate + Sync, R: Threads + Wait + Sync>(
+        self,
+        rt: &R,
+        gate: &G,
+        field: &Field<C, H, J, A>,
+    ) -> Self
+        ensures same_me { result.seated.pe.me ≡ self.seated.pe.me }
+    {
+        let mut worker = self;
+        let worked = worker.start_all(gate, field);
+        let worked = match worked {
+            Ok(()) => worker.take_turns(rt, gate, field),
+            Err(fault) => Err(fault),
+        };
+        if let Err(fault) = worked {
+            field.stop();
+            worker.fault = Some(fault);
+        }
+        worker
+    }
+
+    // Starts the elements of the PE, one after another.
+    fn start_all<G: Gate>(&mut self, gate: &G, field: &Field<C, H, J, A>) -> Result<(), Fault>
+        ensures same_me { self.new.seated.pe.me ≡ self.old.seated.pe.me }
+        ensures unpacks { IfErr result (λ fault. fault ≢ Unpack) }
+    {
+        for _element in 0..self.agenda.dues() {
+            if field.is_stopped() {
+                return Ok(());
+            }
+            self.start_next(gate)?;
+        }
+        Ok(())
+    }
+
+    // Starts the element that is due next.
+    fn start_next<G: Gate>(&mut self, gate: &G) -> Result<(), Fault>
+        ensures same_me { self.new.seated.pe.me ≡ self.old.seated.pe.me }
+        ensures unpacks { IfErr result (λ fault. fault ≢ Unpack) }
+    {
+        let Some(element) = self.agenda.next_due() else {
+            return Ok(());
+        };
+        match self.seated.start(gate, element) {
+            Ok(_) => Ok(()),
+            Err(error) => Err(fault_of(error)),
+        }
+    }
+
+    // Takes turns.
+    fn take_turns<G: Gate + Sync, R: Threads + Wait + Sync>(
+        &mut self,
+        rt: &R,
+        gate: &G,
+        field: &Field<C, H, J, A>,
+    ) -> Result<(), Fault>
+        ensures same_me { self.new.seated.pe.me ≡ self.old.seated.pe.me }
+        ensures unpacks { IfErr result (λ fault. fault ≢ Unpack) }
+    {
+        let mut idle = 0u64;
+        for _ in rt.forever() {
+            if field.is_stopped() || field.all_finished(rt) {
+                return Ok(());
+            }
+            idle = match self.turn(rt, gate, field)? {
+                true => 0,
+                false => idle.saturating_add(1),
+            };
+            if idle >= field.turns {
+                return Err(Fault::Idle);
+            }
+            pause(idle);
+        }
+        unreachable!()
+    }
+
+    // One turn, in which each kind of step is tried once. It returns whether one was done. A turn in which letters move
+    // takes no lock of the board and no memory, and looks at no element but theirs.
+    fn turn<G: Gate + Sync, R: Threads + Wait + Sync>(
+        &mut self,
+        rt: &R,
+        gate: &G,
+        field: &Field<C, H, J, A>,
+    ) -> Result<bool, Fault>
+        ensures same_me { self.new.seated.pe.me ≡ self.old.seated.pe.me }
+        ensures unpacks { IfErr result (λ fault. fault ≢ Unpack) }
+    {
+        let delivered = self.seated.deliver(rt, &field.post);
+        let looked = self.seated.look(&field.words);
+        let acted = self.act(gate)?;
+        let flushed = self.seated.flush(rt, &field.post);
+        let went_on = self.go_on(rt, gate, field)?;
+        let busy = delivered || looked || acted || flushed || went_on;
+        let reported = self.report(rt, field, busy)?;
+        let decided = self.decide(rt, gate, field)?;
+        Ok(busy || reported || decided)
+    }
+}
+
+impl<C: Chare<A>, H: Openings<C>, J: RunBeginning<C>, A: Allocator + Copy> Worker<C, H, J, A> {
+    // Acts on what is in the hand. An element there arrives, and is due.
+    fn act<G: Gate>(&mut self, gate: &G) -> Result<bool, Fault>
+        ensures same_me { self.new.seated.pe.me ≡ self.old.seated.pe.me }
+        ensures unpacks { IfErr result (λ fault. fault ≢ Unpack) }
+    {
+        if let Some(element) = arriving(self.seated.pe()) {
+            if self.agenda.arrives(element).is_err() {
+                return Err(Fault::OutOfMemory);
+            }
+        }
+        match self.seated.act(gate) {
+            Ok(acted) => Ok(acted.is_some()),
+            Err(error) => Err(fault_of(error)),
+        }
+    }
+
+    // Lets one element go on that is due.
+    fn go_on<G: Gate, R: Wait>(
+        &mut self,
+        rt: &R,
+        gate: &G,
+        field: &Field<C, H, J, A>,
+    ) -> Result<bool, Fault>
+        ensures same_me { self.new.seated.pe.me ≡ self.old.seated.pe.me }
+        ensures unpacks { IfErr result (λ fault. fault ≢ Unpack) }
+    {
+        if self.see_round(rt, field).is_err() {
+            return Err(Fault::OutOfMemory);
+        }
+        let Some(element) = self.agenda.next_due() else {
+            return Ok(false);
+        };
+        match self
+            .seated
+            .go_on(gate, &field.words, &self.agenda.places, element)
+        {
+            Ok(done) => Ok(done),
+            Err(error) => Err(fault_of(error)),
+        }
+    }
+
+    // Copies the places of the last round, once for each round that is decided.
+    fn see_round<R: Wait>(&mut self, rt: &R, field: &Field<C, H, J, A>) -> Result<(), AllocError>
+        ensures same { self.new ≡ self.old }
+    {
+        let Some(round) = field.last_decided() else {
+            return Ok(());
+        };
+        if round.get() <= self.agenda.places.round().get() {
+            return Ok(());
+        }
+        let board = field.barrier.lock(rt);
+        self.agenda.begin_round(&board, round)
+    }
+
+    // Hands in the notes that are owed, all under one lock: at once where there was nothing else to do, and otherwise once
+    // there are many of them, or the first has been owed for long.
+    fn report<R: Wait>(
+        &mut self,
+        rt: &R,
+        field: &Field<C, H, J, A>,
+        busy: bool,
+    ) -> Result<bool, Fault>
+        ensures same_me { self.new.seated.pe.me ≡ self.old.seated.pe.me }
+        ensures unpacks { IfErr result (λ fault. fault ≢ Unpack) }
+    {
+        let notes = self.seated.pe().notes().len();
+        if notes == 0 {
+            return Ok(false);
+        }
+        if busy && notes < OWED && self.owed < OWED {
+            self.owed += 1;
+            return Ok(false);
+        }
+        self.owed = 0;
+        if self.agenda.expect(self.seated.pe().notes()).is_err() {
+            return Err(Fault::OutOfMemory);
+        }
+        let mut guard = field.barrier.lock(rt);
+        let board = &mut *guard;
+        let handed = hand_in_all(&mut self.seated, board, notes);
+        self.completes = board.is_complete();
+        if board.all_finished() {
+            field.tell_finished();
+        }
+        Ok(handed)
+    }
+
+    // Decides the round, where the board waited for the last report of this worker. Where another worker has decided it
+    // meanwhile there is nothing to do.
+    fn decide<G: Gate + Sync, R: Threads + Wait + Sync>(
+        &mut self,
+        rt: &R,
+        gate: &G,
+        field: &Field<C, H, J, A>,
+    ) -> Result<bool, Fault>
+        ensures same_me { self.new.seated.pe.me ≡ self.old.seated.pe.me }
+        ensures unpacks { IfErr result (λ fault. fault ≢ Unpack) }
+    {
+        if !self.completes {
+            return Ok(false);
+        }
+        self.completes = false;
+        match field.barrier.decide_with(rt, field.probe_workers, gate) {
+            Ok(round) => {
+                field.tell_decided(round);
+                Ok(true)
+            }
+            Err(BoardError::Worn) => Err(Fault::Worn),
+            Err(BoardError::OutOfMemory) => Err(Fault::OutOfMemory),
+            Err(_) => Ok(false),
+        }
+    }
+}
+
+// The element in the hand of a PE, if there is one.
+fn arriving<C: Chare<A>, H: Openings<C>, A: Allocator>(pe: &PeState<C, H, A>) -> Option<Index> {
+    let item = pe.hand()?;
+    let Carried::Element(element) = &item.parcel else {
+        return None;
+    };
+    Some(element.index())
+}
+
+// Hands in so many notes, or as many as the board takes, and returns whether it took one.
+fn hand_in_all<C: Chare<A>, H: Openings<C>, J: RunBeginning<C>, A: Allocator + Copy>(
+    seated: &mut SeatedPe<C, H, J, A>,
+    board: &mut RunBoard<OfRun<C, H>, A>,
+    notes: usize,
+) -> bool
+    ensures same_me { seated.new.pe.me ≡ seated.old.pe.me }
+{
+    let mut handed = false;
+    for _note in 0..notes {
+        handed = seated.hand_in(board).is_some() || handed;
+    }
+    handed
+}
+
+// Lets time pass in an idle turn.
+fn pause(idle: u64) {
+    if idle == 0 {
+        return;
+    }
+    if idle < SPINS {
+        spin_loop();
+        return;
+    }
+    yield_now();
+}
