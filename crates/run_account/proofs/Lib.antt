@@ -1,0 +1,4 @@
+pub mod Gathering
+pub mod Numbers
+pub mod Passing
+pub mod RunAccounts

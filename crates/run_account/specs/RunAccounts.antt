@@ -1,0 +1,31 @@
+-- The account of what a run over threads left: where each letter is that was posted, and what an element has to do with
+-- it. It is said in the words in which it is said of a world, of the ends of the PEs and of what is left in the queues.
+-- There is no order of all events, and the account needs none.
+use Rattle.std.specs.Prelude.{◌≡◌, ℕ, ◌+◌, ◌<◌, List, [], length, slice_get, nat_lt, ◌==◌, if◌then◌else◌}
+use Rattle.std.specs.Option.{option_map_or}
+use Rattle.at_sync.specs.Boards.{new_board}
+use Rattle.chares.specs.Steps.{Step}
+use Rattle.pe_state.specs.Pes.{PeView, Parcel}
+use Rattle.rts_core.specs.Accounts.{times, is_number, AreSent, IsCounted}
+use Rattle.rts_core.specs.Own.{AreOwn}
+use Rattle.rts_core.specs.Places.{letters, journaled, lives}
+use Rattle.rts_core.specs.Worlds.{WorldView}
+
+-- what a run left, as a world whose words and board do not matter: its PEs, and what is left in the queue of each
+abbrev pub left_world : {C : Type 0} → List (PeView C) → List (List Parcel) → WorldView C (Unit {0})
+left_world ends left = record { pes = ends; queues = left; words = []; board = new_board 0 0 }
+
+-- how often a letter number was posted: once where it is below the count of its PE, and else never
+abbrev pub posted_times : {C : Type 0} → ℕ × ℕ → List (PeView C) → ℕ
+posted_times id ends = option_map_or (λ pe. if nat_lt id.1 pe.count then 1 else 0) (slice_get ends id.0) 0
+
+-- The account of what a run left that opened with these chares. A letter number is in places or in journals as often as
+-- it was posted: once, where it is below the count of its PE, and no other is anywhere. A letter in a journal is in that
+-- of the element that it was posted to. Each element is in exactly one place. As many letters were posted as are held and
+-- were executed. And what the elements have sent is in places or in journals, with target and body.
+pub record IsRunAccount {C A : Type 0} (step : Step C) (opened : List C) (w : WorldView C A) : Type 0 where
+  pub once : (id : ℕ × ℕ) → times (λ l. is_number id l.id) (letters w) + times (λ l. is_number id l.id) (journaled w) ≡ posted_times id w.pes
+  pub own : AreOwn w
+  pub stands : (e : ℕ) → e < length opened → times (λ x. x.0 == e) (lives w) ≡ 1
+  pub counted : IsCounted w
+  pub sent : AreSent step opened w

@@ -1,0 +1,111 @@
+//! What is left in the queues of a run.
+
+ghost use Rattle.std.specs.Prelude.{◌≡◌, ◌≤◌, [], All, IfOk, length, map, vec_capacity};
+ghost use Rattle.pe_state.specs.Histories.{IsParcelHistory};
+
+use crate::taking::take_next;
+use chares::{Chare, Openings};
+use pe_state::{HeldParcel, Parcel, into_held};
+use std::alloc::{AllocError, Allocator, Global};
+use std::collections::VecDeque;
+use std::marker::Model;
+
+/// Room for the parcels that a run leaves in its queues. It is made before the run, so that a run that ends for want of
+/// memory loses nothing. Contracts see the number of queues, and for how many parcels of each there is room.
+#[derive(Drop)]
+pub struct LeftRoom<A: Allocator = Global> {
+    // An empty list for each queue.
+    rooms: VecDeque<Vec<HeldParcel<A>, A>, A>,
+    // Where they go once they are full. It is empty until the end.
+    left: Vec<Vec<HeldParcel<A>, A>, A>,
+    capacity: usize,
+}
+
+impl<A: Allocator> Model for LeftRoom<A> {
+    ghost use Rattle.run_account.specs.Rooms.{AreRooms, RoomView};
+    ghost use Rattle.std.specs.Prelude.{length};
+
+    ghost Value = { RoomView };
+
+    ghost view = { λ r. record { queues = length r.rooms.items; capacity = r.capacity } };
+
+    ghost invariant = { λ r. AreRooms r.capacity r.rooms.items r.left };
+}
+
+impl<A: Allocator> LeftRoom<A> {
+    /// Room for so many queues, each of so many parcels. The only error is that memory was refused.
+    pub fn new(alloc: A, queues: usize, capacity: usize) -> Result<Self, AllocError>
+    where
+        A: Copy,
+        ensures queues { IfOk result (λ room. room.queues ≡ queues) }
+        ensures capacity { IfOk result (λ room. room.capacity ≡ capacity) }
+    {
+        let left = Vec::with_capacity(alloc, queues)?;
+        let rooms = empty_rooms(alloc, queues, capacity)?;
+        Ok(LeftRoom {
+            rooms,
+            left,
+            capacity,
+        })
+    }
+
+    /// The parcels of these queues, which there has to be room for, free of the marker of their run. The clause
+    /// `histories` says what their types said. This takes no memory.
+    pub fn release<C: Chare<A>, H: Openings<C>>(
+        self,
+        queues: Vec<Vec<Parcel<C, H, A>, A>, A>,
+    ) -> Vec<Vec<HeldParcel<A>, A>, A>
+        requires one_each { length queues.items ≡ self.queues }
+        requires few { All (λ queue. length queue.items ≤ self.capacity) queues.items }
+        ensures parcels { map (λ queue. queue.items) result.items ≡ map (λ queue. queue.items) queues.items }
+        ensures histories { All (λ queue. All (IsParcelHistory C.step C.fits C.pack H.opened) queue.items) result.items }
+    {
+        let LeftRoom {
+            mut rooms,
+            mut left,
+            capacity: _,
+        } = self;
+        let mut queues = VecDeque::from_vec(queues);
+        while let Some(queue) = take_next(&mut queues) {
+            let Some(room) = take_next(&mut rooms) else {
+                unreachable!()
+            };
+            left.push_reserved(release_queue(queue, room));
+        }
+        left
+    }
+}
+
+// So many empty lists, each with room for so many parcels.
+fn empty_rooms<A: Allocator + Copy>(
+    alloc: A,
+    queues: usize,
+    capacity: usize,
+) -> Result<VecDeque<Vec<HeldParcel<A>, A>, A>, AllocError>
+    ensures one_each { IfOk result (λ rooms. length rooms.items ≡ queues) }
+    ensures empty { IfOk result (λ rooms. All (λ room. (room.items ≡ []) × (capacity ≤ vec_capacity room)) rooms.items) }
+{
+    let mut rooms = VecDeque::with_capacity(alloc, queues)?;
+    for _queue in 0..queues {
+        let room = Vec::with_capacity(alloc, capacity)?;
+        rooms.push_back_reserved(room);
+    }
+    Ok(rooms)
+}
+
+// The parcels of one queue, in the room that was made for them.
+fn release_queue<C: Chare<A>, H: Openings<C>, A: Allocator>(
+    queue: Vec<Parcel<C, H, A>, A>,
+    mut room: Vec<HeldParcel<A>, A>,
+) -> Vec<HeldParcel<A>, A>
+    requires empty { room.items ≡ [] }
+    requires wide { length queue.items ≤ vec_capacity room }
+    ensures parcels { result.items ≡ queue.items }
+    ensures histories { All (IsParcelHistory C.step C.fits C.pack H.opened) result.items }
+{
+    let mut queue = VecDeque::from_vec(queue);
+    while let Some(parcel) = take_next(&mut queue) {
+        room.push_reserved(into_held(parcel));
+    }
+    room
+}

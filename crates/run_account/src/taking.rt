@@ -1,0 +1,12 @@
+ghost use Rattle.std.specs.Prelude.{◌≡◌, ◌∷◌, [], MatchOption};
+
+use std::alloc::Allocator;
+use std::collections::VecDeque;
+
+/// Takes the first of a list of owners, as [`VecDeque::pop_front`] does, and says what is left in one equation: so a loop
+/// over owners needs no other.
+pub fn take_next<T: Drop, A: Allocator>(left: &mut VecDeque<T, A>) -> Option<T>
+    ensures taken { MatchOption result ((left.old.items ≡ []) × (left.new.items ≡ [])) (λ first. left.old.items ≡ first ∷ left.new.items) }
+{
+    left.pop_front()
+}
