@@ -1,0 +1,21 @@
+-- The fault of the first worker that met one, as the workers are gathered.
+use Rattle.std.proofs.Common.{◌≡◌, ◌∙◌, ap, sym, List, [], ◌∷◌, Option, None, Some}
+use Rattle.std.specs.Prelude.{IfSome}
+use Rattle.std.specs.Option.{option_or}
+use Rattle.pe_worker.specs.declared.fault.Fault.{Fault}
+use Rattle.rts_run.specs.Outcomes.{first_fault}
+
+-- one more is gathered
+pub next_fault : (fault met new : Option Fault) (others left : List (Option Fault)) (whole : Option Fault) → others ≡ met ∷ left → new ≡ option_or fault met → option_or fault (first_fault others) ≡ whole → option_or new (first_fault left) ≡ whole
+next_fault None met new others left whole is made h = ap (λ (v : Option Fault). option_or v (first_fault left)) made ∙ (sym (ap first_fault is) ∙ h)
+next_fault (Some f) met new others left whole is made h = ap (λ (v : Option Fault). option_or v (first_fault left)) made ∙ h
+
+-- all are gathered
+pub last_fault : (fault : Option Fault) (others : List (Option Fault)) (whole : Option Fault) → others ≡ [] → option_or fault (first_fault others) ≡ whole → fault ≡ whole
+last_fault None others whole none h = sym (ap first_fault none) ∙ h
+last_fault (Some f) others whole none h = h
+
+-- what holds of both faults holds of either
+pub either_fault : (P : Fault → Type 0) (fault met new : Option Fault) → new ≡ option_or fault met → IfSome fault P → IfSome met P → IfSome new P
+either_fault P None met new made h k = rw made k
+either_fault P (Some f) met new made h k = rw made h

@@ -1,0 +1,26 @@
+use Rattle.std.proofs.Common.{◌≢◌, ◌∙◌, arith, ap, length, map}
+use Rattle.std.specs.Option.{option_or}
+use Rattle.pe_worker.specs.declared.fault.Fault.TheVariants.{Unpack}
+use Rattle.run_account.proofs.Passing.{next_is, rest_is, counted_more, more_in_order}
+use Rattle.rts_run.proofs.Faults.{next_fault, last_fault, either_fault}
+use Rattle.rts_run.proofs.gathering.gather.Goals as goal
+
+pub loop-next-preserved : goal.loop-next-preserved
+loop-next-preserved g c =
+    let i = c.loop-next.invariant in
+    let is = c.in-Some.ensures.taken in
+    let others = c.loop-next.others.items in
+    let left = c.take_next.new.left.items in
+    let n = counted_more c.loop-next.gathered.ends c.with-gathered.result.ends _ c.with-gathered.ensures.ends in
+    let me = next_is (λ w. w.seated.pe.me) (length c.loop-next.gathered.ends) c.in-Some.next left others is i.in_order in
+    record {
+      gathered = more_in_order (λ pe. pe.me) c.into_parts-seated-in-Some.result.0.pe c.loop-next.gathered.ends c.with-gathered.result.ends c.with-gathered.ensures.ends (ap (λ s. s.pe.me) c.into_parts-seated-in-Some.ensures.seated ∙ me) i.gathered;
+      in_order = rw n (rest_is (λ w. w.seated.pe.me) (length c.loop-next.gathered.ends) c.in-Some.next left others is i.in_order);
+      counted = omega (arith, i.counted, n, ap length is);
+      wide = rw c.with-gathered.ensures.room i.wide;
+      first = next_fault c.loop-next.fault c.in-Some.next.fault c.or-fault.result (map (λ w. w.fault) others) (map (λ w. w.fault) left) _ (ap (map (λ w. w.fault)) is) (c.or-fault.ensures ∙ ap (option_or c.loop-next.fault) c.into_parts-seated-in-Some.ensures.fault) i.first;
+      unpacks = either_fault (λ fault. fault ≢ Unpack) c.loop-next.fault c.into_parts-seated-in-Some.result.1 c.or-fault.result c.or-fault.ensures i.unpacks c.into_parts-seated-in-Some.ensures.unpacks;
+    }
+
+pub returns-clause-fault : goal.returns-clause-fault
+returns-clause-fault g c = last_fault c.loop-next.fault (map (λ w. w.fault) c.loop-next.others.items) _ (ap (map (λ w. w.fault)) c.in_default.ensures.taken.0) c.loop-next.invariant.first

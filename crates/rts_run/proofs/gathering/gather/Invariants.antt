@@ -1,0 +1,20 @@
+use Rattle.std.proofs.Common.{◌≡◌, ◌≢◌, ◌+◌, ◌∷◌, ◌≤◌, length, map}
+use Rattle.std.specs.Prelude.{IfSome}
+use Rattle.std.specs.List.{range_with_len}
+use Rattle.std.specs.Option.{option_or}
+use Rattle.pe_worker.specs.declared.fault.Fault.TheVariants.{Unpack}
+use Rattle.rts_run.specs.Outcomes.{first_fault}
+use Rattle.rts_run.proofs.gathering.gather.Given as goal
+
+abbrev pub invariant-loop-next : goal.invariant-loop-next
+invariant-loop-next g l = record {
+  gathered : map (λ pe. pe.me) l.gathered.ends ≡ range_with_len 0 (length l.gathered.ends);
+  in_order : map (λ w. w.seated.pe.me) l.others.items ≡ range_with_len (length l.gathered.ends) (length l.others.items);
+  counted : length l.gathered.ends + length l.others.items ≡ length l.fn.others.items + 1;
+  wide : length l.fn.others.items + 1 ≤ l.gathered.room;
+  first : option_or l.fault (first_fault (map (λ w. w.fault) l.others.items)) ≡ first_fault (l.fn.first.fault ∷ map (λ w. w.fault) l.fn.others.items);
+  unpacks : IfSome l.fault (λ fault. fault ≢ Unpack);
+}
+
+abbrev pub decreases-loop-next : goal.decreases-loop-next
+decreases-loop-next g l = length l.others.items

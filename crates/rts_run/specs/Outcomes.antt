@@ -1,0 +1,40 @@
+-- What a run left, and what holds of it whatever the schedule was, also after a fault.
+use Rattle.std.specs.Prelude.{◌≡◌, ◌≢◌, ℕ, List, [], ◌∷◌, length, map, Option, None, Some}
+use Rattle.std.specs.List.{range_with_len}
+use Rattle.std.specs.Option.{option_or}
+use Rattle.at_sync.specs.Boards.{BoardState, IsBoard}
+use Rattle.chares.specs.Steps.{Step}
+use Rattle.lb_database.specs.Measuring.{elements}
+use Rattle.pe_state.specs.Pes.{PeView, Parcel}
+use Rattle.pe_worker.specs.declared.fault.Fault.{Fault}
+use Rattle.pe_worker.specs.declared.fault.Fault.TheVariants.{Mismatch, Unpack}
+use Rattle.round_marks.specs.Runs.{AreAllMarked}
+use Rattle.rts_core.specs.Histories.{AreHistories}
+use Rattle.run_account.specs.RunAccounts.{IsRunAccount, left_world}
+
+-- its PEs, in order; what is left in the queue of each, front first; the board, with what was kept of each round that was
+-- decided; and the fault that ended it, if one did
+pub record OutcomeView (C A : Type 0) : Type 0 where
+  pub ends : List (PeView C)
+  pub left : List (List Parcel)
+  pub board : BoardState A
+  pub fault : Option Fault
+
+-- the fault of the first worker that met one
+abbrev pub first_fault : List (Option Fault) → Option Fault
+first_fault [] = None
+first_fault (fault ∷ faults) = option_or fault (first_fault faults)
+
+-- The outcome of a run of these chares on so many PEs. There is an end and a queue of each PE. The account holds; every
+-- element is what its journal says; each round was decided for a snapshot of all elements, and its decision is the best;
+-- unless the fault says otherwise, the marks of the elements agree with the rounds; and what was packed was unpacked.
+pub record IsOutcome {C A : Type 0} (step : Step C) (fits : C → Type 0) (pack : C → List ℕ) (chares : List C) (pes : ℕ) (o : OutcomeView C A) : Type 0 where
+  pub ends : map (λ pe. pe.me) o.ends ≡ range_with_len 0 pes
+  pub queues : length o.left ≡ pes
+  pub account : IsRunAccount step chares (left_world o.ends o.left)
+  pub histories : AreHistories step fits pack chares (left_world o.ends o.left)
+  pub board : IsBoard o.board
+  pub elements : elements o.board.database ≡ length chares
+  pub on_pes : o.board.pes ≡ pes
+  pub marks : o.fault ≢ Some Mismatch → AreAllMarked o.board o.ends o.left
+  pub unpacks : o.fault ≢ Some Unpack

@@ -1,0 +1,42 @@
+//! The workers of a run, after they have ended.
+
+ghost use Rattle.std.specs.Prelude.{◌≡◌, ◌+◌, ◌∷◌, ◌≢◌, ◌≤◌, [], IfSome, length, map, vec_capacity};
+ghost use Rattle.std.specs.List.{range_with_len};
+ghost use Rattle.pe_worker.specs.declared.fault.Fault.TheVariants.{Unpack};
+ghost use Rattle.rts_run.specs.Outcomes.{first_fault};
+
+use chares::{Chare, Openings};
+use pe_queues::Post;
+use pe_state::{Parcel, PeEnd};
+use pe_worker::{Fault, RunBeginning, Worker};
+use run_account::{Gathered, take_next};
+use std::alloc::Allocator;
+use std::collections::VecDeque;
+
+/// The PEs of these workers, in their order, with their seats as one, and the fault of the first that met one. There is room
+/// for them, so this takes no memory.
+pub(crate) fn gather<C: Chare<A>, H: Openings<C>, J: RunBeginning<C>, A: Allocator>(
+    post: &Post<Parcel<C, H, A>, A>,
+    first: Worker<C, H, J, A>,
+    mut others: VecDeque<Worker<C, H, J, A>, A>,
+    room: Vec<PeEnd<C, A>, A>,
+) -> (Gathered<C, H, J, A>, Option<Fault>)
+    requires own { post.now ≡ J.beginning.post }
+    requires first { first.seated.pe.me ≡ 0 }
+    requires in_order { map (λ w. w.seated.pe.me) others.items ≡ range_with_len 1 (length others.items) }
+    requires wide { length others.items + 1 ≤ vec_capacity room }
+    requires empty { room.items ≡ [] }
+    ensures all { length result.0.ends ≡ length others.items + 1 }
+    ensures in_order { map (λ pe. pe.me) result.0.ends ≡ range_with_len 0 (length result.0.ends) }
+    ensures fault { result.1 ≡ first_fault (first.fault ∷ map (λ w. w.fault) others.items) }
+    ensures unpacks { IfSome result.1 (λ fault. fault ≢ Unpack) }
+{
+    let (seated, mut fault) = first.into_parts();
+    let mut gathered = Gathered::first(seated, room);
+    while let Some(next) = take_next(&mut others) {
+        let (seated, met) = next.into_parts();
+        gathered = gathered.with(post, seated);
+        fault = fault.or(met);
+    }
+    (gathered, fault)
+}

@@ -1,0 +1,124 @@
+//! What a run left.
+
+ghost use Rattle.std.specs.Prelude.{◌≡◌, ◌+◌, ◌≤◌, length, map};
+ghost use Rattle.chare_index.specs.declared.limits.TheConstants.Limits.{PES};
+ghost use Rattle.at_sync.specs.Boards.{IsBoard};
+ghost use Rattle.rts_core.specs.Accounts.{IsCounted, posted_count, executed_count, held_count};
+ghost use Rattle.run_account.specs.RunAccounts.{left_world};
+
+use crate::counting::{held_by, posted_by, queued_in};
+use at_sync::Board;
+use chares::Chare;
+use lb_certificates::Snapshot;
+use lb_strategy::Decision;
+use pe_state::{HeldParcel, PeEnd};
+use pe_worker::Fault;
+use rts_core::Account;
+use std::alloc::{Allocator, Global};
+use std::marker::Model;
+
+/// What a run left: its PEs as their workers ended, the parcels in their queues, the board with each round that was decided,
+/// and the fault that ended the run early, if one did. Its type names no run, so that it may be handed on freely; what holds
+/// of it the clauses of [`run`](crate::run) say. Contracts see it as the record `OutcomeView`.
+#[derive(Drop)]
+pub struct Outcome<C: Chare<A>, A: Allocator = Global> {
+    ends: Vec<PeEnd<C, A>, A>,
+    left: Vec<Vec<HeldParcel<A>, A>, A>,
+    board: Board<A>,
+    fault: Option<Fault>,
+}
+
+impl<C: Chare<A>, A: Allocator> Model for Outcome<C, A> {
+    ghost use Rattle.std.specs.Prelude.{◌≤◌, length, map};
+    ghost use Rattle.chare_index.specs.declared.limits.TheConstants.Limits.{PES};
+    ghost use Rattle.rts_core.specs.Accounts.{IsCounted};
+    ghost use Rattle.run_account.specs.RunAccounts.{left_world};
+    ghost use Rattle.rts_run.specs.Outcomes.{OutcomeView};
+
+    ghost Value = { OutcomeView C A };
+
+    ghost view = { λ o. record { ends = o.ends.items; left = map (λ q. q.items) o.left.items; board = o.board; fault = o.fault } };
+
+    ghost invariant = { λ o.
+        (length o.ends.items ≤ PES)
+        × IsCounted (left_world o.ends.items (map (λ q. q.items) o.left.items)) };
+}
+
+impl<C: Chare<A>, A: Allocator> Outcome<C, A> {
+    /// What a run left, with as many letters posted as are held and were executed.
+    pub(crate) fn new(
+        ends: Vec<PeEnd<C, A>, A>,
+        left: Vec<Vec<HeldParcel<A>, A>, A>,
+        board: Board<A>,
+        fault: Option<Fault>,
+    ) -> Self
+        requires few_pes { length ends.items ≤ PES }
+        requires counted { IsCounted (left_world ends.items (map (λ q. q.items) left.items)) }
+        ensures ends { result.ends ≡ ends.items }
+        ensures left { result.left ≡ map (λ q. q.items) left.items }
+        ensures board { result.board ≡ board }
+        ensures fault { result.fault ≡ fault }
+    {
+        Outcome {
+            ends,
+            left,
+            board,
+            fault,
+        }
+    }
+
+    /// Its PEs, in order.
+    pub fn ends(&self) -> &[PeEnd<C, A>]
+        ensures value { result.now ≡ self.now.ends }
+    {
+        &self.ends
+    }
+
+    /// What is left in the queue of each PE, in order, the front of each first.
+    pub fn left(&self) -> &[Vec<HeldParcel<A>, A>]
+        ensures value { map (λ q. q.items) result.now ≡ self.now.left }
+    {
+        &self.left
+    }
+
+    /// The board, with who has finished, and the reports of the round that was under way.
+    pub fn board(&self) -> &Board<A>
+        ensures value { result.now ≡ self.now.board }
+    {
+        &self.board
+    }
+
+    /// The snapshot and the decision of each round that was decided, from round 1 on.
+    pub fn rounds(&self) -> &[(Snapshot<A>, Decision<A>)]
+        ensures value { result.now ≡ self.now.board.rounds }
+        ensures consistent { IsBoard self.now.board }
+    {
+        self.board.rounds()
+    }
+
+    /// Why the run ended early, or what is wrong with it; `None` where every element has finished.
+    pub fn fault(&self) -> Option<Fault>
+        ensures value { result ≡ self.now.fault }
+    {
+        self.fault
+    }
+
+    /// How many letters were posted, how many of them were executed, and how many are held. This takes no memory. It looks at
+    /// each PE and at each parcel, but not into journals: what was posted and is not held was executed.
+    pub fn account(&self) -> Account
+        ensures posted { result.posted ≡ posted_count (left_world self.now.ends self.now.left) }
+        ensures executed { result.executed ≡ executed_count (left_world self.now.ends self.now.left) }
+        ensures held { result.held ≡ held_count (left_world self.now.ends self.now.left) }
+        ensures balanced { result.posted ≡ result.executed + result.held }
+    {
+        let ends = self.ends.as_slice();
+        let left = self.left.as_slice();
+        let posted = posted_by(ends);
+        let held = held_by(ends) + queued_in(left);
+        Account {
+            posted,
+            executed: posted - held,
+            held,
+        }
+    }
+}

@@ -1,0 +1,268 @@
+//! The run, from chares to its outcome.
+
+ghost use Rattle.std.specs.Prelude.{◌≡◌, ◌≢◌, ◌≤◌, ◌<◌, All, IfOk, IfSome, MatchResult, Some, length, map, sum_by};
+ghost use Rattle.std.specs.List.{range_with_len};
+ghost use Rattle.std.specs.VecDeque.{deque_len};
+ghost use Rattle.chare_index.specs.declared.limits.TheConstants.Limits.{SEATS};
+ghost use Rattle.at_sync.specs.Boards.{AreDecided};
+ghost use Rattle.lb_database.specs.Measuring.{elements};
+ghost use Rattle.pe_queues.specs.Seats.{new_seat, pes};
+ghost use Rattle.pe_worker.specs.declared.fault.Fault.TheVariants.{Mismatch, Unpack};
+ghost use Rattle.round_marks.specs.Runs.{AreAllMarked};
+ghost use Rattle.rts_core.specs.Accounts.{IsCounted};
+ghost use Rattle.rts_core.specs.Histories.{AreHistories};
+ghost use Rattle.rts_core.specs.Worlds.{opening_pes};
+ghost use Rattle.run_account.specs.RunAccounts.{IsRunAccount, left_world};
+ghost use Rattle.rts_run.specs.Configs.{IsWithin, MayBegin, RefusesRun};
+ghost use Rattle.rts_run.specs.Outcomes.{IsOutcome};
+
+use crate::config::Config;
+use crate::error::RunError;
+use crate::gathering::gather;
+use crate::opening::open_workers;
+use crate::outcome::Outcome;
+use at_sync::Board;
+use chare_index::{Gate, Limits};
+use chares::{Chare, Openings};
+use pe_queues::{Locations, Post, Seat};
+use pe_state::{HeldParcel, Parcel, PeEnd, PeState};
+use pe_worker::{Fault, Field, OfRun, RunBeginning, Worker};
+use round_marks::run_agrees;
+use rts_core::{opening_pes, opening_words};
+use run_account::{LeftRoom, take_next};
+use std::alloc::{AllocError, Allocator};
+use std::collections::VecDeque;
+use std::marker::Brand;
+use std::sync::Wait;
+use std::thread::Threads;
+use worker_threads::Crew;
+
+/// Runs chares on PEs until every one has finished, or a fault is met, and gives what is left. Element `i` is the `i`-th
+/// chare, and opens on PE `i * pes / n`, rounded down, of `n` elements. Each PE has a worker in a thread of its own; the
+/// handlers pass the gate, and so do the workers that decide a round, with their numbers. With no chare it ends at once.
+///
+/// Whatever the schedule was and whatever went wrong, the outcome loses nothing: the clause `account` says where each
+/// letter is, `histories` what each element is, `rounds` what was decided, and `marks` that the elements were measured and
+/// placed as the rounds say, unless its fault is [`Mismatch`](Fault::Mismatch). The fault is that of the lowest PE whose
+/// worker met one.
+///
+/// # Errors
+///
+/// The first that applies: [`Config`](RunError::Config) where a number is out of its limits, or there are more than
+/// [`Limits::ELEMENTS`] chares; [`OutOfMemory`](RunError::OutOfMemory). No worker was started then, and the chares are given
+/// up.
+pub fn run<
+    C: Chare<A> + Send,
+    G: Gate + Sync,
+    R: Threads + Wait + Sync,
+    A: Allocator + Copy + Send + Sync,
+>(rt: &R, alloc: A, config: &Config, gate: &G, chares: Vec<C, A>) -> Result<Outcome<C, A>, RunError>
+    ensures answer { MatchResult result (λ _. MayBegin config.now (length chares.items)) (RefusesRun config.now (length chares.items)) }
+    ensures ends { IfOk result (λ o. map (λ pe. pe.me) o.ends ≡ range_with_len 0 config.now.pes) }
+    ensures queues { IfOk result (λ o. length o.left ≡ config.now.pes) }
+    ensures account { IfOk result (λ o. IsRunAccount C.step chares.items (left_world o.ends o.left)) }
+    ensures histories { IfOk result (λ o. AreHistories C.step C.fits C.pack chares.items (left_world o.ends o.left)) }
+    ensures rounds { IfOk result (λ o. AreDecided (length chares.items) config.now.pes o.board.rounds) }
+    ensures marks { IfOk result (λ o. o.fault ≢ Some Mismatch → AreAllMarked o.board o.ends o.left) }
+    ensures unpacks { IfOk result (λ o. o.fault ≢ Some Unpack) }
+{
+    if !config.is_within() || chares.len() > Limits::ELEMENTS as usize {
+        return Err(RunError::Config);
+    }
+    match run_as::<C, Brand, G, R, A>(rt, alloc, config, gate, chares) {
+        Ok(outcome) => Ok(outcome),
+        Err(_) => Err(RunError::OutOfMemory),
+    }
+}
+
+// The run of the chares that `H` names, as its type parameters then tell of all that it is made of.
+fn run_as<
+    C: Chare<A> + Send,
+    H: Openings<C> + Send + Sync,
+    G: Gate + Sync,
+    R: Threads + Wait + Sync,
+    A: Allocator + Copy + Send + Sync,
+>(
+    rt: &R,
+    alloc: A,
+    config: &Config,
+    gate: &G,
+    chares: Vec<C, A>,
+) -> Result<Outcome<C, A>, AllocError>
+    requires within { IsWithin config.now }
+    requires few { length chares.items ≤ Limits.ELEMENTS }
+    requires run { config.now.pes ≡ H.pes }
+    requires opened { chares.items ≡ H.opened }
+    ensures outcome { IfOk result (IsOutcome C.step C.fits C.pack H.opened H.pes) }
+{
+    let n = element_count(&chares);
+    let homes = opening_words(alloc, n, config.pes)?;
+    let words = Locations::<OfRun<C, H>, A>::new(alloc, &homes, config.pes)?;
+    let board = Board::new(alloc, n, config.pes)?;
+    let (post, seats) = open_post::<C, H, A>(alloc, config)?;
+    let states = opening_pes(alloc, config.pes, chares)?;
+    run_opened(rt, alloc, config, gate, post, seats, states, words, board)
+}
+
+// How many chares there are. An array may have as many.
+fn element_count<C>(chares: &[C]) -> u32
+    requires few { length chares.now ≤ Limits.ELEMENTS }
+    ensures value { result ≡ length chares.now }
+{
+    chares.len() as u32
+}
+
+// The queues of a run, with a seat for each PE.
+fn open_post<C: Chare<A>, H: Openings<C>, A: Allocator + Copy>(
+    alloc: A,
+    config: &Config,
+) -> Result<(Post<Parcel<C, H, A>, A>, Vec<Seat<Parcel<C, H, A>, A>, A>), AllocError>
+    requires { IsWithin config.now }
+    ensures served { IfOk result (λ made. pes made.0 ≡ config.now.pes) }
+    ensures capacity { IfOk result (λ made. made.0.capacity ≡ config.now.capacity) }
+    ensures seated { IfOk result (λ made. length made.1.items ≡ config.now.pes) }
+    ensures new { IfOk result (λ made. All (λ s. s ≡ new_seat made.0 s.seats) made.1.items) }
+    ensures all_seats { IfOk result (λ made. sum_by (λ s. s.seats) made.1.items ≡ SEATS) }
+{
+    match Post::new(alloc, config.pes, config.pes, config.capacity) {
+        Ok(made) => Ok(made),
+        Err(_) => Err(AllocError),
+    }
+}
+
+// The run of PEs that have opened. It picks the names of its queues and of its opening.
+fn run_opened<
+    C: Chare<A> + Send,
+    H: Openings<C> + Send + Sync,
+    G: Gate + Sync,
+    R: Threads + Wait + Sync,
+    A: Allocator + Copy + Send + Sync,
+>(
+    rt: &R,
+    alloc: A,
+    config: &Config,
+    gate: &G,
+    post: Post<Parcel<C, H, A>, A>,
+    seats: Vec<Seat<Parcel<C, H, A>, A>, A>,
+    states: Vec<PeState<C, H, A>, A>,
+    words: Locations<OfRun<C, H>, A>,
+    board: Board<A>,
+) -> Result<Outcome<C, A>, AllocError>
+    requires within { IsWithin config.now }
+    requires run { config.now.pes ≡ H.pes }
+    requires opening { states.items ≡ opening_pes H.pes H.opened }
+    requires counted { length states.items ≡ H.pes }
+    requires served { pes post ≡ H.pes }
+    requires capacity { post.capacity ≡ config.now.capacity }
+    requires seated { length seats.items ≡ H.pes }
+    requires new { All (λ s. s ≡ new_seat post s.seats) seats.items }
+    requires all_seats { sum_by (λ s. s.seats) seats.items ≡ SEATS }
+    requires word_pes { words.pes ≡ H.pes }
+    requires word_elements { words.elements ≡ length H.opened }
+    requires elements { elements board.database ≡ length H.opened }
+    requires on_pes { board.pes ≡ H.pes }
+    ensures outcome { IfOk result (IsOutcome C.step C.fits C.pack H.opened H.pes) }
+{
+    run_named::<C, H, Brand, G, R, A>(rt, alloc, config, gate, post, seats, states, words, board)
+}
+
+// The same, under these names.
+fn run_named<
+    C: Chare<A> + Send,
+    H: Openings<C> + Send + Sync,
+    J: RunBeginning<C> + Send + Sync,
+    G: Gate + Sync,
+    R: Threads + Wait + Sync,
+    A: Allocator + Copy + Send + Sync,
+>(
+    rt: &R,
+    alloc: A,
+    config: &Config,
+    gate: &G,
+    post: Post<Parcel<C, H, A>, A>,
+    seats: Vec<Seat<Parcel<C, H, A>, A>, A>,
+    states: Vec<PeState<C, H, A>, A>,
+    words: Locations<OfRun<C, H>, A>,
+    board: Board<A>,
+) -> Result<Outcome<C, A>, AllocError>
+    requires own { post ≡ J.beginning.post }
+    requires starts { states.items ≡ J.beginning.starts }
+    requires shares { map (λ s. s.seats) seats.items ≡ J.beginning.shares }
+    requires within { IsWithin config.now }
+    requires run { config.now.pes ≡ H.pes }
+    requires opening { states.items ≡ opening_pes H.pes H.opened }
+    requires counted { length states.items ≡ H.pes }
+    requires served { pes post ≡ H.pes }
+    requires capacity { post.capacity ≡ config.now.capacity }
+    requires seated { length seats.items ≡ H.pes }
+    requires new { All (λ s. s ≡ new_seat post s.seats) seats.items }
+    requires all_seats { sum_by (λ s. s.seats) seats.items ≡ SEATS }
+    requires word_pes { words.pes ≡ H.pes }
+    requires word_elements { words.elements ≡ length H.opened }
+    requires elements { elements board.database ≡ length H.opened }
+    requires on_pes { board.pes ≡ H.pes }
+    ensures outcome { IfOk result (IsOutcome C.step C.fits C.pack H.opened H.pes) }
+{
+    let count = config.pes as usize;
+    let room = Vec::with_capacity(alloc, count)?;
+    let left = LeftRoom::new(alloc, count, config.capacity as usize)?;
+    let crew = Crew::with_capacity(alloc, count)?;
+    let (states, seats) = (VecDeque::from_vec(states), VecDeque::from_vec(seats));
+    let workers = open_workers::<C, H, J, A>(alloc, config.pes, states, seats)?;
+    let field = Field::new(post, words, board, config.turns, config.probe_workers);
+    let mut done = work_all(rt, gate, &field, crew, workers);
+    let Some(first) = take_next(&mut done) else {
+        unreachable!()
+    };
+    let (gathered, fault) = gather(field.post(), first, done, room);
+    let (post, board) = field.into_parts();
+    let (ends, left) = gathered.settled(rt, post, left);
+    Ok(ended(ends, left, board, fault))
+}
+
+// Lets each worker work in a thread of its own.
+fn work_all<
+    C: Chare<A> + Send,
+    H: Openings<C> + Send + Sync,
+    J: RunBeginning<C> + Send + Sync,
+    G: Gate + Sync,
+    R: Threads + Wait + Sync,
+    A: Allocator + Copy + Send + Sync,
+>(
+    rt: &R,
+    gate: &G,
+    field: &Field<C, H, J, A>,
+    crew: Crew<Worker<C, H, J, A>, A>,
+    workers: VecDeque<Worker<C, H, J, A>, A>,
+) -> VecDeque<Worker<C, H, J, A>, A>
+    requires room { deque_len workers ≤ crew }
+    ensures in_order { map (λ w. w.seated.pe.me) result.items ≡ map (λ w. w.seated.pe.me) workers.items }
+{
+    let work = |worker: Worker<C, H, J, A>| -> Worker<C, H, J, A>
+        ensures { result.seated.pe.me ≡ worker.seated.pe.me }
+    { worker.work(rt, gate, field) };
+    crew.run(rt, &work, field.stop_flag(), workers)
+}
+
+// The outcome of what is left. That the marks of the elements agree with the rounds is seen here, once all threads have
+// ended: no lock can show it before.
+fn ended<C: Chare<A>, A: Allocator>(
+    ends: Vec<PeEnd<C, A>, A>,
+    left: Vec<Vec<HeldParcel<A>, A>, A>,
+    board: Board<A>,
+    fault: Option<Fault>,
+) -> Outcome<C, A>
+    requires few_pes { length ends.items ≤ Limits.PES }
+    requires counted { IsCounted (left_world ends.items (map (λ q. q.items) left.items)) }
+    requires unpacks { IfSome fault (λ met. met ≢ Unpack) }
+    ensures ends { result.ends ≡ ends.items }
+    ensures left { result.left ≡ map (λ q. q.items) left.items }
+    ensures board { result.board ≡ board }
+    ensures marks { result.fault ≢ Some Mismatch → AreAllMarked result.board result.ends result.left }
+    ensures unpacks { result.fault ≢ Some Unpack }
+{
+    if run_agrees(&board, &ends, &left) {
+        return Outcome::new(ends, left, board, fault);
+    }
+    Outcome::new(ends, left, board, Some(Fault::Mismatch))
+}
