@@ -7,10 +7,10 @@ use crate::fixtures::{assert_for, index, pe, round};
 use chare_index::NoGate;
 use chares::{Mark, Note, Openings};
 use pe_state::{Acted, Parcel, PeState};
-use sample_chares::Tally;
 use std::marker::Brand;
 use std::mem::size_of;
 use std::process::Abort;
+use tally::Tally;
 
 // A tally with these amounts, and no padding.
 fn tally(rt: &(impl Abort + AllocGlobal), amounts: &[u32]) -> Tally {

@@ -1,8 +1,8 @@
 //! A tally, packed and unpacked.
 
 use pup_pack::{Pup, PupError};
-use sample_chares::Tally;
 use std::alloc::Global;
+use tally::Tally;
 
 // A tally with one of two amounts posted, one got, the sum 7, the amounts 5 and 6, and the padding 9.
 const PACKED: [u8; 33] = [

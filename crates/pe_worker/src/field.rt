@@ -19,7 +19,8 @@ use std::sync::atomic::{AtomicBool, AtomicU64};
 
 /// What the workers of a run share: the queues, the words, the board under its lock, and three hints, which workers only
 /// raise and which save them the lock: the last round that was decided, that every element has finished, and that all are
-/// to stop. No clause rests on a hint. Contracts see the queues.
+/// to stop; and how many letters they have told that they executed, for who looks on. No clause rests on a hint or on that
+/// number. Contracts see the queues.
 #[derive(Drop)]
 pub struct Field<C: Chare<A>, H: Openings<C>, J: RunBeginning<C>, A: Allocator = Global> {
     pub(crate) post: Post<Parcel<C, H, A>, A>,
@@ -28,6 +29,7 @@ pub struct Field<C: Chare<A>, H: Openings<C>, J: RunBeginning<C>, A: Allocator =
     decided: AtomicU64,
     finished: AtomicBool,
     stopped: AtomicBool,
+    executed: AtomicU64,
     // After how many turns in a row without a step a worker gives up.
     pub(crate) turns: u64,
     pub(crate) probe_workers: u32,
@@ -75,6 +77,7 @@ impl<C: Chare<A>, H: Openings<C>, J: RunBeginning<C>, A: Allocator> Field<C, H, 
             decided: AtomicU64::new(0),
             finished,
             stopped: AtomicBool::new(false),
+            executed: AtomicU64::new(0),
             turns,
             probe_workers,
             of: PhantomData,
@@ -115,6 +118,16 @@ impl<C: Chare<A>, H: Openings<C>, J: RunBeginning<C>, A: Allocator> Field<C, H, 
         Round::new(round)
     }
 
+    /// Tells that so many more letters were executed.
+    pub(crate) fn tell_executed(&self, letters: u64) {
+        self.executed.fetch_add(letters, SeqCst);
+    }
+
+    /// How many letters were executed, as far as the workers have told.
+    pub(crate) fn executed(&self) -> u64 {
+        self.executed.load(SeqCst)
+    }
+
     /// Tells the others that every element has finished.
     pub(crate) fn tell_finished(&self) {
         self.finished.store(true, SeqCst);
@@ -140,6 +153,7 @@ impl<C: Chare<A>, H: Openings<C>, J: RunBeginning<C>, A: Allocator> Field<C, H, 
             decided: _,
             finished: _,
             stopped: _,
+            executed: _,
             turns: _,
             probe_workers: _,
             of: _,

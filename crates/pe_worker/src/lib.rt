@@ -8,10 +8,12 @@ mod field;
 mod rounds;
 mod seated;
 mod steps;
+mod watch;
 mod worker;
 
 pub use agenda::Agenda;
 pub use fault::Fault;
 pub use field::Field;
 pub use seated::{OfRun, RunBeginning, SeatedPe};
+pub use watch::{NoWatch, Watch};
 pub use worker::Worker;

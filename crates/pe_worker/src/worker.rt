@@ -7,11 +7,12 @@ use crate::agenda::Agenda;
 use crate::fault::{Fault, fault_of};
 use crate::field::Field;
 use crate::seated::{OfRun, RunBeginning, SeatedPe};
+use crate::watch::Watch;
 use at_sync::BoardError;
 use barrier::RunBoard;
 use chare_index::{Gate, Index, Pe};
 use chares::{Carried, Chare, Openings};
-use pe_state::PeState;
+use pe_state::{Acted, PeState};
 use std::alloc::{AllocError, Allocator, Global};
 use std::hint::spin_loop;
 use std::marker::Model;
@@ -36,6 +37,8 @@ pub struct Worker<C: Chare<A>, H: Openings<C>, J: RunBeginning<C>, A: Allocator 
     owed: usize,
     // Whether its report was the last that the board waited for.
     completes: bool,
+    // How many letters it has executed since it told of that.
+    executed: u64,
     fault: Option<Fault>,
 }
 
@@ -61,6 +64,7 @@ impl<C: Chare<A>, H: Openings<C>, J: RunBeginning<C>, A: Allocator> Worker<C, H,
             agenda,
             owed: 0,
             completes: false,
+            executed: 0,
             fault: None,
         }
     }
@@ -83,6 +87,7 @@ impl<C: Chare<A>, H: Openings<C>, J: RunBeginning<C>, A: Allocator> Worker<C, H,
             agenda: _,
             owed: _,
             completes: _,
+            executed: _,
             fault,
         } = self;
         (seated, fault)
@@ -108,11 +113,13 @@ impl<C: Chare<A>, H: Openings<C>, J: RunBeginning<C>, A: Allocator> Ended for Wo
 
 impl<C: Chare<A>, H: Openings<C>, J: RunBeginning<C>, A: Allocator + Copy> Worker<C, H, J, A> {
     /// Starts the elements of its PE, and then takes turns until every element has finished, this worker meets a fault, or
-    /// another one has. At a fault all are told to stop. Whatever happens, it keeps what its PE holds.
-    pub fn work<G: Gate + Sync, R: Threads + Wait + Sync>(
+    /// another one has. At a fault all are told to stop. Whatever happens, it keeps what its PE holds. Who looks on is told of
+    /// each round that it decides.
+    pub fn work<G: Gate + Sync, V: Watch + Sync, R: Threads + Wait + Sync>(
         self,
         rt: &R,
         gate: &G,
+        watch: &V,
         field: &Field<C, H, J, A>,
     ) -> Self
         ensures same_me { result.seated.pe.me ≡ self.seated.pe.me }
@@ -120,7 +127,7 @@ impl<C: Chare<A>, H: Openings<C>, J: RunBeginning<C>, A: Allocator + Copy> Worke
         let mut worker = self;
         let worked = worker.start_all(gate, field);
         let worked = match worked {
-            Ok(()) => worker.take_turns(rt, gate, field),
+            Ok(()) => worker.take_turns(rt, gate, watch, field),
             Err(fault) => Err(fault),
         };
         if let Err(fault) = worked {
@@ -159,10 +166,11 @@ impl<C: Chare<A>, H: Openings<C>, J: RunBeginning<C>, A: Allocator + Copy> Worke
     }
 
     // Takes turns.
-    fn take_turns<G: Gate + Sync, R: Threads + Wait + Sync>(
+    fn take_turns<G: Gate + Sync, V: Watch + Sync, R: Threads + Wait + Sync>(
         &mut self,
         rt: &R,
         gate: &G,
+        watch: &V,
         field: &Field<C, H, J, A>,
     ) -> Result<(), Fault>
         ensures same_me { self.new.seated.pe.me ≡ self.old.seated.pe.me }
@@ -173,7 +181,7 @@ impl<C: Chare<A>, H: Openings<C>, J: RunBeginning<C>, A: Allocator + Copy> Worke
             if field.is_stopped() || field.all_finished(rt) {
                 return Ok(());
             }
-            idle = match self.turn(rt, gate, field)? {
+            idle = match self.turn(rt, gate, watch, field)? {
                 true => 0,
                 false => idle.saturating_add(1),
             };
@@ -187,10 +195,11 @@ impl<C: Chare<A>, H: Openings<C>, J: RunBeginning<C>, A: Allocator + Copy> Worke
 
     // One turn, in which each kind of step is tried once. It returns whether one was done. A turn in which letters move
     // takes no lock of the board and no memory, and looks at no element but theirs.
-    fn turn<G: Gate + Sync, R: Threads + Wait + Sync>(
+    fn turn<G: Gate + Sync, V: Watch + Sync, R: Threads + Wait + Sync>(
         &mut self,
         rt: &R,
         gate: &G,
+        watch: &V,
         field: &Field<C, H, J, A>,
     ) -> Result<bool, Fault>
         ensures same_me { self.new.seated.pe.me ≡ self.old.seated.pe.me }
@@ -203,7 +212,7 @@ impl<C: Chare<A>, H: Openings<C>, J: RunBeginning<C>, A: Allocator + Copy> Worke
         let went_on = self.go_on(rt, gate, field)?;
         let busy = delivered || looked || acted || flushed || went_on;
         let reported = self.report(rt, field, busy)?;
-        let decided = self.decide(rt, gate, field)?;
+        let decided = self.decide(rt, gate, watch, field)?;
         Ok(busy || reported || decided)
     }
 }
@@ -220,7 +229,12 @@ impl<C: Chare<A>, H: Openings<C>, J: RunBeginning<C>, A: Allocator + Copy> Worke
             }
         }
         match self.seated.act(gate) {
-            Ok(acted) => Ok(acted.is_some()),
+            Ok(acted) => {
+                if acted == Some(Acted::Executed) {
+                    self.executed = self.executed.saturating_add(1);
+                }
+                Ok(acted.is_some())
+            }
             Err(error) => Err(fault_of(error)),
         }
     }
@@ -284,6 +298,8 @@ impl<C: Chare<A>, H: Openings<C>, J: RunBeginning<C>, A: Allocator + Copy> Worke
             return Ok(false);
         }
         self.owed = 0;
+        field.tell_executed(self.executed);
+        self.executed = 0;
         if self.agenda.expect(self.seated.pe().notes()).is_err() {
             return Err(Fault::OutOfMemory);
         }
@@ -299,10 +315,11 @@ impl<C: Chare<A>, H: Openings<C>, J: RunBeginning<C>, A: Allocator + Copy> Worke
 
     // Decides the round, where the board waited for the last report of this worker. Where another worker has decided it
     // meanwhile there is nothing to do.
-    fn decide<G: Gate + Sync, R: Threads + Wait + Sync>(
+    fn decide<G: Gate + Sync, V: Watch + Sync, R: Threads + Wait + Sync>(
         &mut self,
         rt: &R,
         gate: &G,
+        watch: &V,
         field: &Field<C, H, J, A>,
     ) -> Result<bool, Fault>
         ensures same_me { self.new.seated.pe.me ≡ self.old.seated.pe.me }
@@ -315,6 +332,7 @@ impl<C: Chare<A>, H: Openings<C>, J: RunBeginning<C>, A: Allocator + Copy> Worke
         match field.barrier.decide_with(rt, field.probe_workers, gate) {
             Ok(round) => {
                 field.tell_decided(round);
+                watch.decided(round, field.executed());
                 Ok(true)
             }
             Err(BoardError::Worn) => Err(Fault::Worn),

@@ -68,12 +68,12 @@ fn pe_at(q: u32) -> Pe
     Pe::new(q).unwrap()
 }
 
-/// An empty queue for each PE.
+/// An empty queue for each PE. The only error is that memory was refused.
 pub fn opening_queues<C: Chare<A>, H: Openings<C>, A: Allocator + Copy>(
     alloc: A,
     pes: u32,
 ) -> Result<Vec<Queue<C, H, A>, A>, AllocError>
-    ensures { IfOk result (λ made. made.items ≡ replicate pes []) }
+    ensures value { IfOk result (λ made. made.items ≡ replicate pes []) }
 {
     let mut made = Vec::new(alloc);
     for _q in 0..pes {

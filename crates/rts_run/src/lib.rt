@@ -1,6 +1,7 @@
 //! A run over threads: a worker for each PE, the queues and words between them, and the board under its lock.
 //!
 //! - [`run`]: runs chares until every one has finished, or a fault is met.
+//! - [`run_watched`]: the same, while somebody looks on: a [`Watch`].
 //! - [`Config`]: on how many PEs, and with which limits.
 //! - [`Outcome`]: what a run left, of which nothing is lost, whatever the schedule was and whatever went wrong.
 //! - [`RunError`]: why a run did not begin. [`Fault`]: why one ended early.
@@ -19,5 +20,5 @@ mod running;
 pub use config::Config;
 pub use error::RunError;
 pub use outcome::Outcome;
-pub use pe_worker::Fault;
-pub use running::run;
+pub use pe_worker::{Fault, NoWatch, Watch};
+pub use running::{run, run_watched};

@@ -26,7 +26,7 @@ use chare_index::{Gate, Limits};
 use chares::{Chare, Openings};
 use pe_queues::{Locations, Post, Seat};
 use pe_state::{HeldParcel, Parcel, PeEnd, PeState};
-use pe_worker::{Fault, Field, OfRun, RunBeginning, Worker};
+use pe_worker::{Fault, Field, NoWatch, OfRun, RunBeginning, Watch, Worker};
 use round_marks::run_agrees;
 use rts_core::{opening_pes, opening_words};
 use run_account::{LeftRoom, take_next};
@@ -66,10 +66,41 @@ pub fn run<
     ensures marks { IfOk result (λ o. o.fault ≢ Some Mismatch → AreAllMarked o.board o.ends o.left) }
     ensures unpacks { IfOk result (λ o. o.fault ≢ Some Unpack) }
 {
+    run_watched(rt, alloc, config, gate, &NoWatch, chares)
+}
+
+/// Runs chares as [`run`] does, while somebody looks on, who is told of each round as it is decided.
+///
+/// # Errors
+///
+/// Those of [`run`].
+pub fn run_watched<
+    C: Chare<A> + Send,
+    G: Gate + Sync,
+    V: Watch + Sync,
+    R: Threads + Wait + Sync,
+    A: Allocator + Copy + Send + Sync,
+>(
+    rt: &R,
+    alloc: A,
+    config: &Config,
+    gate: &G,
+    watch: &V,
+    chares: Vec<C, A>,
+) -> Result<Outcome<C, A>, RunError>
+    ensures answer { MatchResult result (λ _. MayBegin config.now (length chares.items)) (RefusesRun config.now (length chares.items)) }
+    ensures ends { IfOk result (λ o. map (λ pe. pe.me) o.ends ≡ range_with_len 0 config.now.pes) }
+    ensures queues { IfOk result (λ o. length o.left ≡ config.now.pes) }
+    ensures account { IfOk result (λ o. IsRunAccount C.step chares.items (left_world o.ends o.left)) }
+    ensures histories { IfOk result (λ o. AreHistories C.step C.fits C.pack chares.items (left_world o.ends o.left)) }
+    ensures rounds { IfOk result (λ o. AreDecided (length chares.items) config.now.pes o.board.rounds) }
+    ensures marks { IfOk result (λ o. o.fault ≢ Some Mismatch → AreAllMarked o.board o.ends o.left) }
+    ensures unpacks { IfOk result (λ o. o.fault ≢ Some Unpack) }
+{
     if !config.is_within() || chares.len() > Limits::ELEMENTS as usize {
         return Err(RunError::Config);
     }
-    match run_as::<C, Brand, G, R, A>(rt, alloc, config, gate, chares) {
+    match run_as::<C, Brand, G, V, R, A>(rt, alloc, config, gate, watch, chares) {
         Ok(outcome) => Ok(outcome),
         Err(_) => Err(RunError::OutOfMemory),
     }
@@ -80,6 +111,7 @@ fn run_as<
     C: Chare<A> + Send,
     H: Openings<C> + Send + Sync,
     G: Gate + Sync,
+    V: Watch + Sync,
     R: Threads + Wait + Sync,
     A: Allocator + Copy + Send + Sync,
 >(
@@ -87,6 +119,7 @@ fn run_as<
     alloc: A,
     config: &Config,
     gate: &G,
+    watch: &V,
     chares: Vec<C, A>,
 ) -> Result<Outcome<C, A>, AllocError>
     requires within { IsWithin config.now }
@@ -101,7 +134,9 @@ fn run_as<
     let board = Board::new(alloc, n, config.pes)?;
     let (post, seats) = open_post::<C, H, A>(alloc, config)?;
     let states = opening_pes(alloc, config.pes, chares)?;
-    run_opened(rt, alloc, config, gate, post, seats, states, words, board)
+    run_opened(
+        rt, alloc, config, gate, watch, post, seats, states, words, board,
+    )
 }
 
 // How many chares there are. An array may have as many.
@@ -135,6 +170,7 @@ fn run_opened<
     C: Chare<A> + Send,
     H: Openings<C> + Send + Sync,
     G: Gate + Sync,
+    V: Watch + Sync,
     R: Threads + Wait + Sync,
     A: Allocator + Copy + Send + Sync,
 >(
@@ -142,6 +178,7 @@ fn run_opened<
     alloc: A,
     config: &Config,
     gate: &G,
+    watch: &V,
     post: Post<Parcel<C, H, A>, A>,
     seats: Vec<Seat<Parcel<C, H, A>, A>, A>,
     states: Vec<PeState<C, H, A>, A>,
@@ -163,7 +200,9 @@ fn run_opened<
     requires on_pes { board.pes ≡ H.pes }
     ensures outcome { IfOk result (IsOutcome C.step C.fits C.pack H.opened H.pes) }
 {
-    run_named::<C, H, Brand, G, R, A>(rt, alloc, config, gate, post, seats, states, words, board)
+    run_named::<C, H, Brand, G, V, R, A>(
+        rt, alloc, config, gate, watch, post, seats, states, words, board,
+    )
 }
 
 // The same, under these names.
@@ -172,6 +211,7 @@ fn run_named<
     H: Openings<C> + Send + Sync,
     J: RunBeginning<C> + Send + Sync,
     G: Gate + Sync,
+    V: Watch + Sync,
     R: Threads + Wait + Sync,
     A: Allocator + Copy + Send + Sync,
 >(
@@ -179,6 +219,7 @@ fn run_named<
     alloc: A,
     config: &Config,
     gate: &G,
+    watch: &V,
     post: Post<Parcel<C, H, A>, A>,
     seats: Vec<Seat<Parcel<C, H, A>, A>, A>,
     states: Vec<PeState<C, H, A>, A>,
@@ -210,7 +251,7 @@ fn run_named<
     let (states, seats) = (VecDeque::from_vec(states), VecDeque::from_vec(seats));
     let workers = open_workers::<C, H, J, A>(alloc, config.pes, states, seats)?;
     let field = Field::new(post, words, board, config.turns, config.probe_workers);
-    let mut done = work_all(rt, gate, &field, crew, workers);
+    let mut done = work_all(rt, gate, watch, &field, crew, workers);
     let Some(first) = take_next(&mut done) else {
         unreachable!()
     };
@@ -226,11 +267,13 @@ fn work_all<
     H: Openings<C> + Send + Sync,
     J: RunBeginning<C> + Send + Sync,
     G: Gate + Sync,
+    V: Watch + Sync,
     R: Threads + Wait + Sync,
     A: Allocator + Copy + Send + Sync,
 >(
     rt: &R,
     gate: &G,
+    watch: &V,
     field: &Field<C, H, J, A>,
     crew: Crew<Worker<C, H, J, A>, A>,
     workers: VecDeque<Worker<C, H, J, A>, A>,
@@ -240,7 +283,7 @@ fn work_all<
 {
     let work = |worker: Worker<C, H, J, A>| -> Worker<C, H, J, A>
         ensures { result.seated.pe.me ≡ worker.seated.pe.me }
-    { worker.work(rt, gate, field) };
+    { worker.work(rt, gate, watch, field) };
     crew.run(rt, &work, field.stop_flag(), workers)
 }
 

@@ -27,4 +27,6 @@ mod tallies;
 #[cfg(test)]
 mod together;
 #[cfg(test)]
+mod watched;
+#[cfg(test)]
 mod worked;

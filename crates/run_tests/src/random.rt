@@ -5,11 +5,12 @@ use crate::found::compare;
 use chare_index::NoGate;
 use chares::Chare;
 use rts_run::{Config, Fault, Outcome, run};
-use sample_chares::{Courier, Relay, Tally};
+use sample_chares::{Courier, Relay};
 use std::alloc::Global;
 use std::process::Abort;
 use std::sync::Wait;
 use std::thread::Threads;
+use tally::Tally;
 
 // How often each of the three chares is run.
 const TURNS: u32 = 100;

@@ -5,11 +5,11 @@ use crate::tallies::{EXAMPLE, EXAMPLE_TEXT, tallies, text_of};
 use chare_index::NoGate;
 use refusing_alloc::Refusing;
 use rts_run::{Fault, Outcome, RunError, run};
-use sample_chares::Tally;
 use std::alloc::Global;
 use std::process::Abort;
 use std::sync::Wait;
 use std::thread::Threads;
+use tally::Tally;
 
 // No run here makes as many requests.
 const MOST_TURNS: u64 = 2_000;

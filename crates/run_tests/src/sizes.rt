@@ -5,10 +5,10 @@ use crate::fixtures::{account, assert_for, index, patient};
 use crate::tallies::sum_of;
 use chare_index::NoGate;
 use rts_run::{Outcome, run};
-use sample_chares::Tally;
 use std::process::Abort;
 use std::sync::Wait;
 use std::thread::Threads;
+use tally::Tally;
 
 // What tally `e` posts.
 fn amount(e: u32) -> u32 {

@@ -3,11 +3,11 @@
 use chare_index::{Index, NoGate};
 use pup_pack::PupError;
 use rts_run::{Config, Outcome, run};
-use sample_chares::Tally;
 use std::alloc::{AllocError, Allocator};
 use std::process::Abort;
 use std::sync::Wait;
 use std::thread::Threads;
+use tally::Tally;
 
 /// The amounts of each tally, one for each round, and so many bytes of padding.
 pub(crate) type Amounts<'a> = (&'a [&'a [u32]], usize);

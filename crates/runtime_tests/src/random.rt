@@ -11,10 +11,11 @@ use crate::seen::look_around;
 use crate::steps::opened;
 use chares::{Chare, Openings, Report};
 use rts_core::{Event, World};
-use sample_chares::{Courier, Relay, Tally};
+use sample_chares::{Courier, Relay};
 use std::alloc::Global;
 use std::marker::Brand;
 use std::process::Abort;
+use tally::Tally;
 
 mod account;
 mod draw;

@@ -11,10 +11,10 @@ use lb_strategy::Decision;
 use pup_pack::PupError;
 use refusing_alloc::Refusing;
 use rts_core::{Event, World};
-use sample_chares::Tally;
 use std::alloc::{Allocator, Global};
 use std::marker::Brand;
 use std::process::Abort;
+use tally::Tally;
 
 // The three tallies of the scripts, of 32, 40 and 32 bytes.
 fn three_tallies<A: Allocator + Copy>(alloc: A) -> Result<Vec<Tally<A>, A>, PupError> {

@@ -1,3 +1,2 @@
 pub mod Couriers
 pub mod Relays
-pub mod Tallies

@@ -7,7 +7,6 @@ ghost use Rattle.chares.specs.Posting.{posted, RefusesPut, IsPost};
 ghost use Rattle.pup_pack.specs.declared.error.PupError.TheVariants.{Bad, OutOfMemory};
 ghost use Rattle.sample_chares.specs.Couriers.{is_courier, of_parts};
 
-use crate::zeros::zeros;
 use chare_index::{Gate, Index, Round};
 use chares::{Chare, Effect, Here, SendError, Sends};
 use pup_pack::{Bytes, Fields, Pup, PupError};
@@ -57,7 +56,9 @@ impl<A: Allocator> Courier<A> {
         ensures value { IfOk result (λ c. c ≡ record { to = to; goes_on = goes_on; body = replicate len 0 }) }
         ensures refused { IfErr result (λ error. error ≢ OutOfMemory → (error ≡ Bad) × (is_courier (record { to = to; goes_on = goes_on; body = replicate len 0 }) ≡ false)) }
     {
-        Courier::new(to, goes_on, zeros(alloc, len)?).ok_or(PupError::Bad)
+        let mut body = Vec::new(alloc);
+        body.resize(len, 0)?;
+        Courier::new(to, goes_on, Bytes::new(body)).ok_or(PupError::Bad)
     }
 
     // The courier with these fields, or `None` past the limit.

@@ -5,9 +5,10 @@ use chare_index::{Index, Pe, Round};
 use chares::{Chare, Openings};
 use pup_pack::Bytes;
 use rts_core::{Event, PeState, World};
-use sample_chares::{Courier, Relay, Tally};
+use sample_chares::{Courier, Relay};
 use std::alloc::Allocator;
 use std::process::Abort;
+use tally::Tally;
 
 /// The xorshift generator of 64 bits of G. Marsaglia, "Xorshift RNGs", Journal of Statistical Software 8(14), 2003.
 #[derive(Drop)]

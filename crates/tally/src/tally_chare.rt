@@ -3,17 +3,17 @@
 ghost use Rattle.std.specs.Prelude.{◌≡◌, ◌≢◌, ◌+◌, ◌<◌, ◌≤◌, length, replicate, slice_index, false, IfErr, IfOk, IfSome, IsNone, ◌↔◌};
 ghost use Rattle.std.specs.Int.{w32, to_be_bytes};
 ghost use Rattle.pup_pack.specs.declared.error.PupError.TheVariants.{Bad, OutOfMemory};
-ghost use Rattle.sample_chares.specs.Tallies.{TallyView, amount_in, is_tally, of_parts};
+ghost use Rattle.tally.specs.Tallies.{TallyView, amount_in, are_within, is_tally, of_parts};
 
-use crate::zeros::zeros;
+use crate::tally_limits::TallyLimits;
 use chare_index::{Gate, Index, Round};
 use chares::{Chare, Effect, Here, SendError, Sends};
 use pup_pack::{Bytes, Fields, Items, Pup, PupError};
-use std::alloc::{Allocator, Global};
+use std::alloc::{AllocError, Allocator, Global};
 use std::marker::Model;
 
-/// A chare that sends its amounts to its neighbor, one in each round, and adds up what comes. It has at most 1,000
-/// amounts and 65,536 bytes of padding.
+/// A chare that sends its amounts to its neighbor, one in each round, and adds up what comes. It is packed into 24 bytes, 4
+/// for each amount, and its padding. It keeps to [`TallyLimits`], so it packs into at most 1,048,576 bytes.
 #[derive(Drop)]
 pub struct Tally<A: Allocator = Global> {
     posted: u32,
@@ -25,7 +25,7 @@ pub struct Tally<A: Allocator = Global> {
 
 impl<A: Allocator> Model for Tally<A> {
     ghost use Rattle.std.specs.Prelude.{◌≡◌, true};
-    ghost use Rattle.sample_chares.specs.Tallies.{TallyView, is_tally};
+    ghost use Rattle.tally.specs.Tallies.{TallyView, is_tally};
 
     ghost Value = { TallyView };
 
@@ -50,13 +50,16 @@ impl<A: Allocator> Tally<A> {
     ///
     /// # Errors
     ///
-    /// The first that applies: [`OutOfMemory`](PupError::OutOfMemory), or [`Bad`](PupError::Bad) past a limit.
+    /// The first that applies: [`Bad`](PupError::Bad) past a limit, or [`OutOfMemory`](PupError::OutOfMemory).
     pub fn with_amounts(alloc: A, amounts: &[u32], pad: usize) -> Result<Self, PupError>
     where
         A: Copy,
         ensures value { IfOk result (λ t. t ≡ record { posted = 0; got = 0; sum = 0; amounts = amounts.now; pad = replicate pad 0 }) }
         ensures refused { IfErr result (λ error. error ≢ OutOfMemory → (error ≡ Bad) × (is_tally (record { posted = 0; got = 0; sum = 0; amounts = amounts.now; pad = replicate pad 0 }) ≡ false)) }
     {
+        if !are_within(0, amounts.len(), pad) {
+            return Err(PupError::Bad);
+        }
         let amounts = Items::new(Vec::from_slice(alloc, amounts)?);
         Tally::new(amounts, zeros(alloc, pad)?).ok_or(PupError::Bad)
     }
@@ -74,10 +77,7 @@ impl<A: Allocator> Tally<A> {
         ensures refused { IsNone result ↔ (is_tally (of_parts parts) ≡ false) }
     {
         let (posted, (got, (sum, (amounts, pad)))) = parts;
-        if posted as usize > amounts.as_slice().len()
-            || amounts.as_slice().len() > 1_000
-            || pad.as_slice().len() > 65_536
-        {
+        if !are_within(posted, amounts.as_slice().len(), pad.as_slice().len()) {
             return None;
         }
         Some(Tally {
@@ -88,6 +88,15 @@ impl<A: Allocator> Tally<A> {
             pad,
         })
     }
+}
+
+// Whether a tally may have so many amounts, of which it has posted so many, and so many bytes of padding.
+fn are_within(posted: u32, amounts: usize, pad: usize) -> bool
+    ensures value { result ≡ are_within posted amounts pad }
+{
+    posted as usize <= amounts
+        && amounts <= TallyLimits::AMOUNTS as usize
+        && pad <= TallyLimits::PAD_BYTES as usize
 }
 
 // The amount in a body.
@@ -104,7 +113,7 @@ impl<A: Allocator + Copy> Pup<A> for Tally<A> {
     ghost use Rattle.std.specs.Prelude.{◌≡◌, refl, true};
     ghost use Rattle.pup_pack.specs.Structs.{made, judged};
     ghost use Rattle.pup_pack.specs.Trips.{bytes_trips, judged_trips, list_trips, pair_trips, struct_trips, u32_trips, u64_trips};
-    ghost use Rattle.sample_chares.specs.Tallies.{is_tally, of_parts, parts};
+    ghost use Rattle.tally.specs.Tallies.{is_tally, of_parts, parts};
 
     ghost fits = { λ t. ⟦<Parts<A> as Pup<A>>⟧.fits (parts t) × (is_tally t ≡ true) };
 
@@ -140,7 +149,7 @@ impl<A: Allocator + Copy> Pup<A> for Tally<A> {
 }
 
 impl<A: Allocator + Copy> Chare<A> for Tally<A> {
-    ghost use Rattle.sample_chares.specs.Tallies.{TallyRefuses, tally_packs, tally_step};
+    ghost use Rattle.tally.specs.Tallies.{TallyRefuses, tally_packs, tally_step};
 
     ghost step = { tally_step };
 
@@ -186,4 +195,13 @@ impl<A: Allocator + Copy> Chare<A> for Tally<A> {
             finished: false,
         })
     }
+}
+
+// So many bytes, all of them 0.
+fn zeros<A: Allocator>(alloc: A, len: usize) -> Result<Bytes<A>, AllocError>
+    ensures value { IfOk result (λ bytes. bytes ≡ replicate len 0) }
+{
+    let mut bytes = Vec::new(alloc);
+    bytes.resize(len, 0)?;
+    Ok(Bytes::new(bytes))
 }

@@ -11,6 +11,7 @@ use Rattle.chares.specs.declared.sends.SendError.{SendError}
 use Rattle.chares.specs.declared.sends.SendError.TheVariants.{Worn}
 use Rattle.chares.specs.Steps.{Outcome}
 use Rattle.pup_pack.specs.Lists.{IsCounted, pack_list, pack_bytes}
+use Rattle.tally.specs.declared.tally_limits.TheConstants.TallyLimits.{AMOUNTS, PAD_BYTES}
 
 -- how many amounts it has posted and got, the sum of those that it got, its amounts, and padding
 pub record TallyView : Type 0 where
@@ -30,9 +31,13 @@ parts t = (t.posted, (t.got, (t.sum, (t.amounts, t.pad))))
 abbrev pub of_parts : Parts → TallyView
 of_parts x = record { posted = x.0; got = x.1.0; sum = x.1.1.0; amounts = x.1.1.1.0; pad = x.1.1.1.1 }
 
--- it has not posted more amounts than it has, of which there are at most 1,000, and at most 65,536 bytes of padding
+-- so many amounts are no fewer than were posted, and keep to their limit, as do so many bytes of padding
+abbrev pub are_within : ℕ → ℕ → ℕ → Bool
+are_within posted amounts pad = not (nat_lt amounts posted) && (not (nat_lt AMOUNTS amounts) && not (nat_lt PAD_BYTES pad))
+
+-- it has not posted more amounts than it has, and keeps to the limits of amounts and of bytes of padding
 abbrev pub is_tally : TallyView → Bool
-is_tally t = not (nat_lt (length t.amounts) t.posted) && (not (nat_lt 1000 (length t.amounts)) && not (nat_lt 65536 (length t.pad)))
+is_tally t = are_within t.posted (length t.amounts) (length t.pad)
 
 -- the amount in a body: its number, or 0 where it is not four bytes
 abbrev pub amount_in : List ℕ → ℕ
@@ -91,6 +96,6 @@ words_len (x ∷ xs) = grind (arith, flat_map-cons, length-append, words_len xs)
 -- every tally packs, into 24 bytes, 4 for each amount, and its padding
 pub tally_packs : (t : TallyView) → is_tally t ≡ true → AreCounted t × (length (tally_pack t) ≤ STATE_BYTES)
 tally_packs t right =
-    let amounts : length t.amounts ≤ 1000 = grind (arith, nat_tests, right) in
-    let pad : length t.pad ≤ 65536 = grind (arith, nat_tests, right) in
+    let amounts : length t.amounts ≤ AMOUNTS = grind (arith, nat_tests, right) in
+    let pad : length t.pad ≤ PAD_BYTES = grind (arith, nat_tests, right) in
     ((tt, (tt, (tt, ((omega (arith, amounts), all_units t.amounts), omega (arith, pad))))), grind (arith, length-append, words_len t.amounts, amounts, pad))

@@ -1,7 +1,7 @@
 use Rattle.std.proofs.Common.{ℕ, arith, subst}
 use Rattle.at_sync.specs.Boards.{AreDecided}
 use Rattle.lb_database.specs.Measuring.{elements}
-use Rattle.rts_run.proofs.running.run.Goals as goal
+use Rattle.rts_run.proofs.running.run_watched.Goals as goal
 
 pub returns-in-Ok-clause-answer : goal.returns-in-Ok-clause-answer
 returns-in-Ok-clause-answer g c = (c.is_within.ensures.value.0 c.if-not-is_within.false, omega (arith, c.if-len.false, c.len.ensures))
