@@ -3,4 +3,3 @@ pub mod Endings
 pub mod OneTexts
 pub mod PeLines
 pub mod RightTexts
-pub mod Sends

@@ -1,5 +1,5 @@
 -- How a replay of a dump ends, and what its writer holds then.
-use Rattle.std.specs.Prelude.{◌≡◌, ℕ, ◌≤◌, ◌⊎◌, List, length, take, Option, IfSome, unwrap_or}
+use Rattle.std.specs.Prelude.{◌≡◌, ℕ, ◌⊎◌, List, Option, IfSome, unwrap_or}
 use Rattle.std.specs.Io.KnownBytes.{Appends, Consumes, IsAtEnd}
 use Rattle.lb_snapshot.specs.Measured.{Taken}
 use Rattle.lb_certificates.specs.Naming.{IsLeastNaming}
@@ -11,6 +11,7 @@ use Rattle.lb_dump.specs.declared.error.DumpError.TheVariants.{Read}
 use Rattle.lb_strategy.specs.Decisions.{IsRight}
 use Rattle.lb_strategy.specs.declared.decision.Decision.{Decision}
 use Rattle.lb_strategy.specs.declared.error.PlanError.{PlanError}
+use Rattle.streams.specs.Writing.{WritesPrefix}
 use Rattle.lb_replay.specs.Text.{decision_text, fault_line}
 use Rattle.lb_replay.specs.declared.ended.Ended.{Ended}
 use Rattle.lb_replay.specs.declared.ended.Ended.TheVariants.{Printed, WriteFailed}
@@ -47,10 +48,6 @@ IsReplayFault bytes rest (Dump e) =
     IfSome bytes (λ text. (e ≡ Read) ⊎ ((e ≡ DumpError.OutOfMemory) ⊎ IsFault text e)) × (e ≡ Read → ReadsGood bytes rest)
 IsReplayFault bytes rest (Plan e) =
     (e ≡ PlanError.OutOfMemory) × IsAtEnd rest × ((s : Taken) × IfSome bytes (IsText s))
-
--- a prefix of the line of a fault was written
-abbrev pub WritesPrefix : Option (List ℕ) → Option (List ℕ) → List ℕ → Type 0
-WritesPrefix old new line = (n : ℕ) × (n ≤ length line) × Appends old new (take n line)
 
 -- the line of a fault was written, or a prefix of it
 abbrev pub ReportsFault : Option (List ℕ) → Option (List ℕ) → Fault → Ended → Type 0

@@ -18,8 +18,6 @@
 
 mod ended;
 mod fault;
-mod noted;
-mod output;
 mod request;
 mod simulation;
 mod text;

@@ -9,8 +9,6 @@ ghost use Rattle.lb_replay.specs.Simulation.{EndsReplay, IsPlanned, IsReplay, Is
 
 use crate::ended::Ended;
 use crate::fault::{Fault, NO_MEMORY, fault_line};
-use crate::noted::Noted;
-use crate::output::write_out;
 use crate::text::decision_text;
 use chare_index::Limits;
 use lb_certificates::Snapshot;
@@ -18,6 +16,7 @@ use lb_dump::{DumpError, read_from};
 use lb_strategy::plan;
 use std::alloc::Allocator;
 use std::io::{self, Read, Write};
+use streams::{Noted, write_out};
 
 /// Replays a dump off line: reads it, plans its balancing step for `procs` PEs (1 to 256), or as many as the
 /// dump has, and writes the text of the decision, or the one line of a fault, and nothing else.

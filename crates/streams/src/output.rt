@@ -1,13 +1,13 @@
-ghost use Rattle.std.specs.Prelude.{ℕ, ◌≤◌, ◌<◌, List, length, take, MatchBool};
+ghost use Rattle.std.specs.Prelude.{MatchBool};
 ghost use Rattle.std.specs.Io.KnownBytes.{Appends};
+ghost use Rattle.streams.specs.Writing.{WritesPrefix};
 
 use std::io::Write;
 
 /// Writes these bytes and flushes the writer, and returns whether that succeeded. It stops at the first call that
 /// fails, with any error, or that takes nothing; a prefix has then been written.
-pub(crate) fn write_out<W: Write>(writer: &mut W, bytes: &[u8]) -> bool
-    ensures written { MatchBool result (Appends (W.contents writer.old) (W.contents writer.new) bytes.now)
-        ((n : ℕ) × (n ≤ length bytes.now) × Appends (W.contents writer.old) (W.contents writer.new) (take n bytes.now)) }
+pub fn write_out<W: Write>(writer: &mut W, bytes: &[u8]) -> bool
+    ensures written { MatchBool result (Appends (W.contents writer.old) (W.contents writer.new) bytes.now) (WritesPrefix (W.contents writer.old) (W.contents writer.new) bytes.now) }
 {
     let mut rest = bytes;
     while !rest.is_empty() {

@@ -1,8 +1,8 @@
 use Rattle.std.proofs.Common.{ℕ, ◌≤◌, length, take, sym, subst, rules}
 use Rattle.std.specs.Io.KnownBytes.{Appends}
 use Rattle.std.proofs.lemmas.List.{take_rest}
-use Rattle.lb_replay.proofs.Sends.{Sent, sent_more}
-use Rattle.lb_replay.proofs.output.write_out.Goals as goal
+use Rattle.streams.proofs.Sends.{Sent, sent_more}
+use Rattle.streams.proofs.output.write_out.Goals as goal
 
 pub loop-rest-preserved : goal.loop-rest-preserved
 loop-rest-preserved g c =

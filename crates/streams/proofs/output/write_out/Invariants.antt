@@ -1,6 +1,6 @@
 use Rattle.std.proofs.Common.{length}
-use Rattle.lb_replay.proofs.Sends.{Sent}
-use Rattle.lb_replay.proofs.output.write_out.Given as goal
+use Rattle.streams.proofs.Sends.{Sent}
+use Rattle.streams.proofs.output.write_out.Given as goal
 
 abbrev pub invariant-loop-rest : goal.invariant-loop-rest
 invariant-loop-rest g l = Sent (g.W.Write.contents l.initial.writer) (g.W.Write.contents l.writer) l.bytes l.rest

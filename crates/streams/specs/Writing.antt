@@ -1,0 +1,7 @@
+-- What a writer got of a text that did not go out whole.
+use Rattle.std.specs.Prelude.{ℕ, ◌≤◌, List, length, take, Option}
+use Rattle.std.specs.Io.KnownBytes.{Appends}
+
+-- a prefix of these bytes was written
+abbrev pub WritesPrefix : Option (List ℕ) → Option (List ℕ) → List ℕ → Type 0
+WritesPrefix old new bytes = (n : ℕ) × (n ≤ length bytes) × Appends old new (take n bytes)
