@@ -1,0 +1,104 @@
+//! `charm_run [--dump PREFIX] [--progress] FILE` runs the chares of a workload over threads: it prints what each round
+//! decided, what each chare added up, and where every letter is.
+//!
+//! - `run_command_line::asked`: what the words of the command line ask for, and the status where they ask for no run.
+//! - `workload_run::drive_file`: the run of a workload, from a file to its text; `write_dumps`: the dumps of its rounds.
+//! - `progress_line::Progress`: what is told on the standard error meanwhile.
+#![tactic(auto)]
+
+use progress_line::Progress;
+use run_command_line::{Asked, NO_WORDS, asked, words_status};
+use std::env;
+use std::fs::{File, Files};
+use std::io::{self, IsTerminal};
+use std::process::ExitCode;
+use std::sync::Wait;
+use std::thread::Threads;
+use std::time::Clock;
+use streams::write_out;
+use workload_run::{Driven, DumpFiles, drive_file, write_dumps};
+
+/// After how many idle turns in a row a worker gives up.
+const TURNS: u64 = 1_000_000_000;
+
+/// The line where a dump was not written.
+const NO_DUMP: &str = "dump: write failed\n";
+
+/// The status where output was not written.
+const NO_OUTPUT: u8 = 5;
+
+fn main(rt: HostRuntime) -> ExitCode {
+    let Ok(args) = env::args(&rt) else {
+        return ExitCode::from(NO_WORDS);
+    };
+    let Ok(words) = args.collect::<Vec<String>>(rt.alloc()) else {
+        return ExitCode::from(NO_WORDS);
+    };
+    let Ok(words) = words
+        .iter()
+        .map(|word| word.as_str())
+        .collect::<Vec<&str>>(rt.alloc())
+    else {
+        return ExitCode::from(NO_WORDS);
+    };
+    match asked(rt.alloc(), &words) {
+        Ok(asked) => {
+            let progress = asked.progress || rt.stderr().is_terminal();
+            ExitCode::from(ran(&rt, &asked, progress))
+        }
+        Err(error) => {
+            let _ = error.print(&rt);
+            ExitCode::from(words_status(&error))
+        }
+    }
+}
+
+// Opens the workload, runs it to the standard output, writes the dumps that are asked for, and returns the status. Where a
+// read failed, the standard error has the file's name and the system's reason.
+fn ran<R: Threads + Wait + Sync + Files + Clock + Print + Eprint + AllocGlobal>(
+    rt: &R,
+    asked: &Asked<'_>,
+    progress: bool,
+) -> u8 {
+    let progress = Progress::new(rt, progress).unwrap_or(Progress::Off);
+    let file = File::open(rt, asked.file);
+    let mut writer = io::writer(rt);
+    let (driven, reason) = drive_file(rt, rt.alloc(), file, &mut writer, TURNS, &progress);
+    progress.finish();
+    if let Some(reason) = reason {
+        let _ = eprintln!(rt; "charm_run: {}: {reason}", asked.file);
+    }
+    match asked.dump {
+        Some(prefix) if !dumped(rt, &driven, prefix) => {
+            let _ = write_out(&mut writer, NO_DUMP.as_bytes());
+            NO_OUTPUT
+        }
+        _ => driven.status(),
+    }
+}
+
+// Writes the dump of each round, and returns whether all were written. Where one was not, the standard error has its name
+// and the system's reason.
+fn dumped<R: Files + Eprint + AllocGlobal>(rt: &R, driven: &Driven, prefix: &str) -> bool {
+    match write_dumps(rt.alloc(), driven.rounds(), prefix, &mut SystemFiles(rt)) {
+        Ok(()) => true,
+        Err(dump) => {
+            if let Some(reason) = dump.reason {
+                let _ = eprintln!(rt; "charm_run: {prefix}.{}: {reason}", dump.round);
+            }
+            false
+        }
+    }
+}
+
+// The files of the system.
+#[derive(Drop)]
+struct SystemFiles<'a, R>(&'a R);
+
+impl<R: Files> DumpFiles for SystemFiles<'_, R> {
+    type File = R::File;
+
+    fn create(&mut self, name: &str) -> io::Result<R::File> {
+        File::create(self.0, name)
+    }
+}

@@ -1,0 +1,56 @@
+ghost use Rattle.std.specs.Prelude.{◌≡◌, ◌≢◌, IfOk, Ok, false, true};
+ghost use Rattle.progress_line.specs.declared.watcher.Progress.TheVariants.{Off};
+
+use crate::teller::ProgressLine;
+use chare_index::Round;
+use pe_worker::Watch;
+use std::io;
+use std::time::Clock;
+
+/// Who looks on at a run.
+#[derive(Drop)]
+pub enum Progress<'a, R> {
+    /// Nobody.
+    Off,
+    /// A person, to whom a line tells how far it is.
+    On(ProgressLine<'a, R>),
+}
+
+impl<'a, R: Clock + Eprint> Progress<'a, R> {
+    /// The progress of a run that starts now. Where nobody wants it, it is off.
+    ///
+    /// # Errors
+    ///
+    /// It is wanted, and the clock cannot be read. A caller that runs all the same uses [`Progress::Off`].
+    pub fn new(rt: &'a R, is_wanted: bool) -> io::Result<Self>
+        ensures wanted { is_wanted ≡ true → IfOk result (λ progress. progress ≢ Off) }
+        ensures unwanted { is_wanted ≡ false → result ≡ Ok Off }
+    {
+        if !is_wanted {
+            return Ok(Progress::Off);
+        }
+        Ok(Progress::On(ProgressLine::new(rt)?))
+    }
+
+    /// Says how many rounds there will be.
+    pub fn expect(&self, rounds: u32) {
+        if let Progress::On(line) = self {
+            line.expect(rounds);
+        }
+    }
+
+    /// Writes the last standing once more, and ends the line, if any was written.
+    pub fn finish(&self) {
+        if let Progress::On(line) = self {
+            line.finish();
+        }
+    }
+}
+
+impl<R: Clock + Eprint> Watch for Progress<'_, R> {
+    fn decided(&self, round: Round, executed: u64) {
+        if let Progress::On(line) = self {
+            line.decided(round, executed);
+        }
+    }
+}

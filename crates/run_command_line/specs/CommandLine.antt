@@ -1,0 +1,44 @@
+-- What the words of a command line ask for, as clap reads them: `charm_run [--dump PREFIX] [--progress] FILE`.
+use Rattle.std.specs.Prelude.{◌≡◌, List, Option, Some, codes, true}
+use Rattle.clap.specs.Words.{App, Rule, Text, first_of, matches_of, new_app, new_rule, one_of, with_rule}
+use Rattle.clap.specs.declared.builder.action.ArgAction.TheVariants.{Set, SetTrue}
+
+-- the workload, which has to be named
+abbrev pub file_rule : Rule
+file_rule = record (new_rule (codes "file")) {
+  action = Some Set;
+  value_names = 1;
+  required = true;
+}
+
+-- how the names of the files begin to which the snapshots go
+abbrev pub dump_rule : Rule
+dump_rule = record (new_rule (codes "dump")) {
+  long = Some (codes "dump");
+  action = Some Set;
+  value_names = 1;
+}
+
+-- a flag, which takes no word
+abbrev pub progress_rule : Rule
+progress_rule = record (new_rule (codes "progress")) { long = Some (codes "progress"); action = Some SetTrue }
+
+-- the program before its words are declared: it has a version
+abbrev pub versioned : App
+versioned = let plain = new_app (codes "charm_run") in record plain { top = record plain.top { has_version = true } }
+
+-- the program with its words, to which clap adds those that ask for help and for the version
+abbrev pub program : App
+program = with_rule (with_rule (with_rule versioned file_rule) dump_rule) progress_rule
+
+-- the word that names the file
+abbrev pub file_in : List Text → Option Text
+file_in words = first_of (codes "file") (matches_of program words)
+
+-- the word that says where the snapshots go
+abbrev pub dump_in : List Text → Option Text
+dump_in words = first_of (codes "dump") (matches_of program words)
+
+-- the words have the flag, which clap reads as the text `true`, and a flag that is not there as `false`
+abbrev pub TellsProgress : List Text → Type 0
+TellsProgress words = one_of (codes "progress") (matches_of program words) ≡ Some (codes "true")

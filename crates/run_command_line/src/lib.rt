@@ -1,0 +1,21 @@
+//! The command line of `charm_run`: what its words ask for, and the status where they ask for no run. clap reads them, and
+//! writes the texts of what it refuses, of help and of the version.
+//!
+//! ```
+//! use run_command_line::{NO_WORDS, asked, words_status};
+//!
+//! let words = ["charm_run", "--dump", "rounds", "--progress", "ring.work"];
+//! let asked_for = asked(alloc, &words).unwrap();
+//! assert!(asked_for.file == "ring.work" && asked_for.dump == Some("rounds") && asked_for.progress);
+//!
+//! let error = asked(alloc, &["charm_run", "--quiet", "ring.work"]).unwrap_err();
+//! assert!(words_status(&error) == NO_WORDS);
+//! ```
+#![tactic(auto)]
+
+mod help;
+mod request;
+mod words;
+
+pub use request::Asked;
+pub use words::{NO_WORDS, asked, words_status};

@@ -1,0 +1,10 @@
+/// What the words of a command line ask for.
+#[derive(Clone, Copy, Debug, PartialEq, Eq)]
+pub struct Asked<'a> {
+    /// The workload.
+    pub file: &'a str,
+    /// The snapshot of round r goes to the file of this name with `.r` behind it.
+    pub dump: Option<&'a str>,
+    /// Whether the progress of the run is told also where the standard error is no terminal.
+    pub progress: bool,
+}

@@ -1,0 +1,104 @@
+ghost use Rattle.std.specs.Prelude.{◌≡◌, ◌≢◌, ◌⊎◌, ◌↔◌, IfOk, IsTrue, Some, codes, is_some, option_map, true};
+ghost use Rattle.clap.specs.Built.{FitsChain, TakesValue};
+ghost use Rattle.clap.specs.Values.{kind_of};
+ghost use Rattle.clap.specs.Walk.{texts};
+ghost use Rattle.clap.specs.Words.{FailsBy, app_of, fault_of, first_value, found_of, one_text, rule_of};
+ghost use Rattle.run_command_line.specs.CommandLine.{TellsProgress, dump_in, dump_rule, file_in, file_rule, program, progress_rule};
+ghost use Rattle.run_command_line.specs.Internal.{NamesFile};
+ghost use Rattle.clap.specs.declared.error.kind.ErrorKind.TheVariants.{DisplayHelp, DisplayVersion};
+
+use crate::help::{ABOUT, HOW_TO};
+use crate::request::Asked;
+use clap::{Arg, ArgAction, ArgMatches, Command, Error};
+use std::alloc::{AllocError, Global};
+
+/// The status where the words of the command line cannot be had, or are refused.
+pub const NO_WORDS: u8 = 2;
+
+/// The status where the words ask for no run: 0 for help or the version, and else [`NO_WORDS`].
+pub fn words_status(error: &Error) -> u8
+    ensures shown { (kind_of error.now ≡ DisplayHelp) ⊎ (kind_of error.now ≡ DisplayVersion) → result ≡ 0 }
+    ensures refused { (kind_of error.now ≢ DisplayHelp) → (kind_of error.now ≢ DisplayVersion) → result ≡ NO_WORDS }
+{
+    if error.use_stderr() { NO_WORDS } else { 0 }
+}
+
+/// Reads the words of a command line, the program's name first.
+///
+/// # Errors
+///
+/// The words are not `[--dump PREFIX] [--progress] FILE`, help or the version is asked for, or it is out of memory. The
+/// error has the text to print; [`words_status`] is the status for it.
+pub fn asked<'a>(alloc: Global, words: &'a [&'a str]) -> Result<Asked<'a>, Error>
+    ensures faults { FailsBy (fault_of program (texts words.now)) result }
+    ensures file { IfOk result (λ asked. file_in (texts words.now) ≡ Some asked.file.now) }
+    ensures dump { IfOk result (λ asked. dump_in (texts words.now) ≡ option_map (λ prefix. prefix.now) asked.dump) }
+    ensures progress { IfOk result (λ asked. IsTrue asked.progress ↔ TellsProgress (texts words.now)) }
+{
+    match command(alloc)?.try_get_matches_from(words) {
+        Ok(matches) => Ok(found(&matches)),
+        Err(error) => Err(error),
+    }
+}
+
+// The words that are understood: `charm_run [--dump PREFIX] [--progress] FILE`, and those for help and for the version,
+// which clap adds.
+fn command<'a>(alloc: Global) -> Result<Command<'a>, AllocError>
+    ensures program { IfOk result (λ command. app_of command ≡ program) }
+    ensures named { IfOk result NamesFile }
+{
+    let command = Command::new(alloc, "charm_run")
+        .version("0.1.0")
+        .about(ABOUT)
+        .after_help(HOW_TO);
+    let command = command.arg(file(alloc))?;
+    let command = command.arg(dump(alloc))?;
+    command.arg(progress(alloc))
+}
+
+fn file<'a>(alloc: Global) -> Arg<'a>
+    ensures rule { rule_of result ≡ file_rule }
+    ensures fits { FitsChain result }
+    ensures takes { TakesValue result }
+{
+    Arg::new(alloc, "file")
+        .value_name("FILE")
+        .help("A workload: its lines are pes, rounds, pad, chares,{n}and amounts for each round")
+        .required(true)
+        .action(ArgAction::Set)
+}
+
+fn dump<'a>(alloc: Global) -> Arg<'a>
+    ensures rule { rule_of result ≡ dump_rule }
+    ensures fits { FitsChain result }
+{
+    Arg::new(alloc, "dump")
+        .long("dump")
+        .value_name("PREFIX")
+        .help("Writes the snapshot of round r to the file PREFIX.r,{n}which lb_sim replays")
+        .action(ArgAction::Set)
+}
+
+fn progress<'a>(alloc: Global) -> Arg<'a>
+    ensures rule { rule_of result ≡ progress_rule }
+    ensures fits { FitsChain result }
+{
+    Arg::new(alloc, "progress")
+        .long("progress")
+        .help("Tells the progress of the run on standard error,{n}also where that is no terminal")
+        .action(ArgAction::SetTrue)
+}
+
+// What the words ask for.
+fn found<'a>(matches: &ArgMatches<'a>) -> Asked<'a>
+    requires named { is_some (first_value (found_of matches.now) (codes "file")) ≡ true }
+    ensures file { first_value (found_of matches.now) (codes "file") ≡ Some result.file.now }
+    ensures dump { first_value (found_of matches.now) (codes "dump") ≡ option_map (λ prefix. prefix.now) result.dump }
+    ensures progress { IsTrue result.progress ↔ (one_text (found_of matches.now) (codes "progress") ≡ Some (codes "true")) }
+{
+    Asked {
+        file: matches.get_str("file").unwrap(),
+        dump: matches.get_str("dump"),
+        progress: matches.get_one("progress") == Some(true),
+    }
+}

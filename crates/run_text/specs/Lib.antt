@@ -1,0 +1,4 @@
+pub mod Internal
+pub mod Laws
+pub mod Sums
+pub mod Text

@@ -1,0 +1,38 @@
+//! The text of a workload, read: how many PEs and chares a run has, how many rounds, and the amounts of each.
+//!
+//! - [`Workload`]: what a text says, by [`Workload::parse`] of bytes or [`Workload::read_from`] a reader.
+//! - [`WorkError`]: why bytes are no such text.
+//!
+//! Each line is a word and numbers, each behind one blank, and ends with a newline. Numbers are decimal, without a
+//! leading zero, and have at most ten digits.
+//!
+//! ```text
+//! pes 2
+//! rounds 2
+//! pad 8
+//! chares 3
+//! amounts 3 5 9
+//! amounts 1 0 4294967295
+//! ```
+//!
+//! ```
+//! use workload::{WorkError, Workload};
+//!
+//! let workload = Workload::parse(alloc, b"pes 2\nrounds 0\npad 8\nchares 3\n")?;
+//! assert!(workload.chares == 3);
+//! assert!(matches!(Workload::parse(alloc, b"pes 02\n"), Err(WorkError::Form(1))));
+//! assert!(matches!(Workload::parse(alloc, b"pes 257\n"), Err(WorkError::Limit(1))));
+//! ```
+#![tactic(auto)]
+
+mod error;
+mod form;
+mod judge;
+mod laws;
+mod reading;
+mod workload;
+
+pub use error::WorkError;
+#[doc(hidden)]
+pub use laws::workload_laws;
+pub use workload::Workload;

@@ -1,0 +1,87 @@
+//! The bytes of a reader, piece by piece.
+
+ghost use Rattle.std.specs.Prelude.{◌≡◌, ◌⊎◌, ◌+◌, ◌<◌, ◌≤◌, List, ℕ, [], length, take, IfErr, IfOk, IfSome, MatchResult, OnOk, Ok};
+ghost use Rattle.std.specs.Io.KnownBytes.{Consumes, IsAtEnd, Keeps};
+ghost use Rattle.workload.specs.declared.form.TheConstants.{TEXT_BYTES};
+ghost use Rattle.workload.specs.Faults.{IsOpen};
+ghost use Rattle.workload.specs.Machine.{IsHeld, run, start, state_of};
+ghost use Rattle.workload.specs.Reading.{IsReadError, IsReadFault};
+
+use crate::error::WorkError;
+use crate::form::TEXT_BYTES;
+use crate::judge::Judge;
+use std::alloc::Allocator;
+use std::io::Read;
+
+/// The bytes that are asked for at a time. It is no limit of the text.
+const PIECE_LEN: usize = 65_536;
+
+/// How often a reader is called at most: more often than the longest text has bytes, so that the call ends.
+const CALLS: u32 = 134_217_728;
+
+/// Feeds `judge`, which has no bytes yet, all that `reader` gives to its end.
+///
+/// # Errors
+///
+/// As [`Workload::read_from`](crate::Workload::read_from), but for the fault of a text that ends too early.
+pub(crate) fn feed_all<R: Read, A: Allocator + Copy>(
+    alloc: A,
+    judge: &mut Judge<A>,
+    reader: &mut R,
+) -> Result<(), WorkError>
+    requires held { IsHeld judge.old }
+    requires fresh { state_of judge.old ≡ start [] }
+    ensures ended { OnOk result ((text : List ℕ) × (run text (start []) ≡ Ok (state_of judge.new)) × IsHeld judge.new
+        × Consumes (R.remaining reader.old) (R.remaining reader.new) text × IsAtEnd (R.remaining reader.new) × (length text ≤ TEXT_BYTES)) }
+    ensures fault { IfErr result (λ e. IfSome (R.remaining reader.old) (λ bytes. (e ≡ WorkError.Read) ⊎ ((e ≡ WorkError.OutOfMemory) ⊎ IsReadFault bytes e))) }
+    ensures stopped { IfErr result (λ e. (text : List ℕ) × Consumes (R.remaining reader.old) (R.remaining reader.new) text × (length text ≤ TEXT_BYTES + 1) × IsReadError text e) }
+{
+    let mut piece = Vec::new(alloc);
+    piece.resize(PIECE_LEN, 0)?;
+    feed_from(judge, reader, &mut piece)
+}
+
+// The same, with `piece` as the room for the bytes of one call. A call may bring the one byte past the longest text,
+// and no more: that byte is not judged.
+fn feed_from<R: Read, A: Allocator + Copy>(
+    judge: &mut Judge<A>,
+    reader: &mut R,
+    piece: &mut [u8],
+) -> Result<(), WorkError>
+    requires held { IsHeld judge.old }
+    requires fresh { state_of judge.old ≡ start [] }
+    requires room { length piece.old ≡ PIECE_LEN }
+    ensures ended { OnOk result ((text : List ℕ) × (run text (start []) ≡ Ok (state_of judge.new)) × IsHeld judge.new
+        × Consumes (R.remaining reader.old) (R.remaining reader.new) text × IsAtEnd (R.remaining reader.new) × (length text ≤ TEXT_BYTES)) }
+    ensures fault { IfErr result (λ e. IfSome (R.remaining reader.old) (λ bytes. (e ≡ WorkError.Read) ⊎ ((e ≡ WorkError.OutOfMemory) ⊎ IsReadFault bytes e))) }
+    ensures stopped { IfErr result (λ e. (text : List ℕ) × Consumes (R.remaining reader.old) (R.remaining reader.new) text × (length text ≤ TEXT_BYTES + 1) × IsReadError text e) }
+{
+    let mut taken = 0;
+    for _ in 0..CALLS {
+        let room = &mut piece[..PIECE_LEN.min(TEXT_BYTES + 1 - taken)];
+        let len = read_piece(reader, room)?;
+        if len == 0 {
+            return Ok(());
+        }
+        let judged = len.min(TEXT_BYTES - taken);
+        judge.feed(&room[..judged])?;
+        if judged < len {
+            return Err(WorkError::Long);
+        }
+        taken += len;
+    }
+    Err(WorkError::Read)
+}
+
+// One call of the reader. Any error is a failure: the call is not made again.
+fn read_piece<R: Read>(reader: &mut R, room: &mut [u8]) -> Result<usize, WorkError>
+    ensures bound { IfOk result (λ len. len ≤ length room.new) }
+    ensures bytes { MatchResult result
+        (λ len. Consumes (R.remaining reader.old) (R.remaining reader.new) (take len room.new) × (len ≡ 0 → 0 < length room.new → IsAtEnd (R.remaining reader.new)))
+        (λ e. (e ≡ WorkError.Read) × Keeps (R.remaining reader.old) (R.remaining reader.new)) }
+{
+    match reader.read(room) {
+        Ok(len) => Ok(len),
+        Err(_) => Err(WorkError::Read),
+    }
+}

@@ -1,0 +1,82 @@
+ghost use Rattle.std.specs.Prelude.{◌≡◌, ◌⊎◌, ◌+◌, ◌≤◌, List, ℕ, length, IfSome, IsErrOf, MatchResult, OnOk, Err};
+ghost use Rattle.std.specs.Io.KnownBytes.{Consumes, IsAtEnd};
+ghost use Rattle.workload.specs.declared.error.WorkError.{WorkError};
+ghost use Rattle.workload.specs.declared.form.TheConstants.{TEXT_BYTES};
+ghost use Rattle.workload.specs.Faults.{IsFault, IsOpen};
+ghost use Rattle.workload.specs.Reading.{IsAnswer, IsReadAnswer, IsReading};
+ghost use Rattle.workload.specs.Text.{IsText, WorkloadView};
+
+use crate::error::WorkError;
+use crate::form::TEXT_BYTES;
+use crate::judge::Judge;
+use crate::reading::feed_all;
+use std::alloc::{Allocator, Global};
+use std::io::Read;
+use std::marker::Model;
+
+/// What a run is given: on how many PEs it runs, how many rounds, how heavy each chare is to move, how many chares there
+/// are, and for each round the amount of each chare. Contracts see it as a record of the same parts.
+#[derive(Drop)]
+#[derive_where(Debug)]
+pub struct Workload<A: Allocator = Global> {
+    /// The number of PEs, 1 to 256 in a workload that was read.
+    pub pes: u32,
+    /// The number of rounds, at most 1,000.
+    pub rounds: u32,
+    /// The bytes of padding of each chare, at most 65,536.
+    pub pad: u32,
+    /// The number of chares, at most 65,536.
+    pub chares: u32,
+    /// For each round the amount of each chare.
+    pub amounts: Vec<Vec<u32, A>, A>,
+}
+
+impl<A: Allocator> Model for Workload<A> {
+    ghost use Rattle.std.specs.Prelude.{map};
+    ghost use Rattle.workload.specs.Text.{WorkloadView};
+
+    ghost Value = { WorkloadView };
+
+    ghost view = { λ w. record { pes = w.pes; rounds = w.rounds; pad = w.pad; chares = w.chares; amounts = map (λ row. row.items) w.amounts.items } };
+}
+
+impl<A: Allocator + Copy> Workload<A> {
+    /// The workload of this text.
+    ///
+    /// # Errors
+    ///
+    /// [`Long`](WorkError::Long) for more than 67,108,864 bytes; or else the fault of the first faulty line, which is
+    /// [`Form`](WorkError::Form) before [`Limit`](WorkError::Limit); and [`OutOfMemory`](WorkError::OutOfMemory)
+    /// where a request for memory is refused before that fault is met.
+    pub fn parse(alloc: A, bytes: &[u8]) -> Result<Self, WorkError>
+        ensures answer { IsAnswer bytes.now result }
+        ensures again { (w : WorkloadView) → IsText w bytes.now → MatchResult result (λ v. v ≡ w) (λ e. e ≡ WorkError.OutOfMemory) }
+        ensures first { (e : WorkError) → IsFault bytes.now e → MatchResult result (λ _. ⊥) (λ f. (f ≡ WorkError.OutOfMemory) ⊎ (f ≡ e)) }
+    {
+        if bytes.len() > TEXT_BYTES {
+            return Err(WorkError::Long);
+        }
+        let mut judge = Judge::new(alloc);
+        judge.feed(bytes)?;
+        judge.end()
+    }
+
+    /// The workload of the text that a reader gives, to its end. Reads to the end, to the first fault that stands whatever
+    /// follows, or to the byte past the longest text.
+    ///
+    /// # Errors
+    ///
+    /// The fault of the first faulty line, where it stands in the first 67,108,864 bytes whatever follows them, or else
+    /// [`Long`](WorkError::Long) where more bytes come; [`Read`](WorkError::Read) where the reader fails, with any
+    /// error, or has been called 134,217,728 times; and [`OutOfMemory`](WorkError::OutOfMemory) where a request
+    /// for memory is refused. What was read before the reader failed has no fault that stands whatever follows.
+    pub fn read_from<R: Read>(alloc: A, reader: &mut R) -> Result<Self, WorkError>
+        ensures read { (bytes : List ℕ) × Consumes (R.remaining reader.old) (R.remaining reader.new) bytes × (length bytes ≤ TEXT_BYTES + 1) × IsReading bytes result }
+        ensures known { IfSome (R.remaining reader.old) (λ bytes. (result ≡ Err WorkError.Read) ⊎ IsReadAnswer bytes result) }
+        ensures at_end { OnOk result (IsAtEnd (R.remaining reader.new)) }
+    {
+        let mut judge = Judge::new(alloc);
+        feed_all(alloc, &mut judge, reader)?;
+        judge.end()
+    }
+}

@@ -1,0 +1,3 @@
+pub mod Collecting
+pub mod Endings
+pub mod Lefts

@@ -1,0 +1,82 @@
+-- How the run of a workload ends, and what its writer holds then.
+use Rattle.std.specs.Prelude.{◌≡◌, ◌≢◌, ◌⊎◌, ℕ, List, length, map, Option, None, Some, IfSome}
+use Rattle.std.specs.Io.KnownBytes.{Appends, Consumes}
+use Rattle.std.specs.List.{range_with_len}
+use Rattle.at_sync.specs.Boards.{AreDecided}
+use Rattle.pe_worker.specs.declared.fault.Fault.{Fault}
+use Rattle.pe_worker.specs.declared.fault.Fault.TheVariants.{Mismatch, Unpack}
+use Rattle.round_marks.specs.Runs.{AreAllMarked}
+use Rattle.rts_core.specs.Histories.{AreHistories}
+use Rattle.rts_run.specs.Outcomes.{OutcomeView}
+use Rattle.run_account.specs.RunAccounts.{IsRunAccount, left_world}
+use Rattle.run_text.specs.Text.{outcome_text}
+use Rattle.streams.specs.Writing.{WritesPrefix}
+use Rattle.tally.specs.Tallies.{TallyView, tally_pack, tally_step}
+use Rattle.workload.specs.Reading.{IsReadError, IsReadFault}
+use Rattle.workload.specs.Text.{WorkloadView, IsText}
+use Rattle.workload.specs.declared.error.WorkError.{WorkError}
+use Rattle.workload.specs.declared.error.WorkError.TheVariants.{Read}
+use Rattle.workload_run.specs.Lines.{fault_line, memory_line}
+use Rattle.workload_run.specs.Tallies.{tallies_of}
+use Rattle.workload_run.specs.declared.ended.Ended.{Ended}
+use Rattle.workload_run.specs.declared.ended.Ended.TheVariants.{Ran, Refused, OutOfMemory, WriteFailed}
+
+-- What a run left that opened with these tallies on so many PEs. There is an end and a queue of each PE. The account holds;
+-- every element is what its journal says; each decision is the best for the snapshot of its round; unless the fault says
+-- otherwise, the marks of the elements agree with the rounds; and what was packed was unpacked.
+pub record IsLeftBy {A : Type 0} (fits : TallyView → Type 0) (chares : List TallyView) (pes : ℕ) (o : OutcomeView TallyView A) : Type 0 where
+  pub ends : map (λ pe. pe.me) o.ends ≡ range_with_len 0 pes
+  pub queues : length o.left ≡ pes
+  pub account : IsRunAccount tally_step chares (left_world o.ends o.left)
+  pub histories : AreHistories tally_step fits tally_pack chares (left_world o.ends o.left)
+  pub rounds : AreDecided (length chares) pes o.board.rounds
+  pub marks : o.fault ≢ Some Mismatch → AreAllMarked o.board o.ends o.left
+  pub unpacks : o.fault ≢ Some Unpack
+
+-- This is what the run left of the workload that the bytes are the text of, and the text that tells it. Where the reader
+-- does not report its bytes, the workload is any.
+pub record IsRunOf {A : Type 0} (fits : TallyView → Type 0) (bytes : Option (List ℕ)) (o : OutcomeView TallyView A) (text : List ℕ) : Type 0 where
+  pub workload : WorkloadView
+  pub read : IfSome bytes (IsText workload)
+  pub left : IsLeftBy fits (tallies_of workload) workload.pes o
+  pub told : text ≡ outcome_text workload.chares o
+
+-- The fault of the workload that is told: that of the bytes that were read, before which the reader had the bytes and has
+-- the rest now, or that the reader failed while no fault stood in them; and where the bytes of the reader are known, it
+-- failed, or that is the fault of these.
+pub record IsRefusal (bytes rest : Option (List ℕ)) (e : WorkError) : Type 0 where
+  pub text : List ℕ
+  pub consumed : Consumes bytes rest text
+  pub told : IsReadError text e
+  pub known : IfSome bytes (λ all. (e ≡ Read) ⊎ IsReadFault all e)
+
+module _ {A : Type 0} (fits : TallyView → Type 0) (bytes rest old new : Option (List ℕ)) where
+  -- what there is to tell: what the run left, or without a run the fault of the workload
+  abbrev pub MayTell : Option (OutcomeView TallyView A) → List ℕ → Type 0
+  MayTell (Some o) text = IsRunOf fits bytes o text
+  MayTell None text = (e : WorkError) × IsRefusal bytes rest e × (text ≡ fault_line e)
+
+  -- the text of what the run left was written
+  abbrev pub HasTold : Option (OutcomeView TallyView A) → Option Fault → Type 0
+  HasTold None fault = ⊥
+  HasTold (Some o) fault = (fault ≡ o.fault) × ((text : List ℕ) × IsRunOf fits bytes o text × Appends old new text)
+
+  -- What the writer holds after each end: the whole text, the line of the fault, that for refused memory, or a prefix of one
+  -- of these. The reader had these bytes, and has the rest.
+  abbrev pub EndsDrive : Option (OutcomeView TallyView A) → Ended → Type 0
+  EndsDrive outcome (Ran fault) = HasTold outcome fault
+  EndsDrive outcome (Refused e) = (outcome ≡ None) × IsRefusal bytes rest e × Appends old new (fault_line e)
+  EndsDrive outcome OutOfMemory = Appends old new memory_line
+  EndsDrive outcome WriteFailed =
+      (text : List ℕ) × (MayTell outcome text ⊎ (text ≡ memory_line)) × WritesPrefix old new text
+
+  -- an outcome is that of the workload
+  abbrev pub IsOfWorkload : Option (OutcomeView TallyView A) → Type 0
+  IsOfWorkload outcome = IfSome outcome (λ o. (text : List ℕ) × IsRunOf fits bytes o text)
+
+-- the line for a workload that could not be opened was written, or a prefix of it, or that for refused memory
+abbrev pub ReportsUnread : Option (List ℕ) → Option (List ℕ) → Ended → Type 0
+ReportsUnread old new (Ran fault) = ⊥
+ReportsUnread old new (Refused e) = (e ≡ Read) × Appends old new (fault_line Read)
+ReportsUnread old new OutOfMemory = Appends old new memory_line
+ReportsUnread old new WriteFailed = WritesPrefix old new (fault_line Read) ⊎ WritesPrefix old new memory_line

@@ -1,0 +1,218 @@
+ghost use Rattle.std.specs.Prelude.{◌≡◌, ◌≤◌, ◌⊎◌, ℕ, List, Option, None, Some, IfOk, IfErr};
+ghost use Rattle.run_text.specs.Sums.{AreTallies};
+ghost use Rattle.run_text.specs.Text.{outcome_text};
+ghost use Rattle.workload.specs.Text.{IsWithin};
+ghost use Rattle.workload_run.specs.Driving.{EndsDrive, IsLeftBy, IsOfWorkload, ReportsUnread};
+ghost use Rattle.workload_run.specs.Internal.{EndsRun, ReportsFault, TellsOutcome, WritesText};
+ghost use Rattle.workload_run.specs.Lines.{memory_line};
+ghost use Rattle.workload_run.specs.Tallies.{tallies_of};
+ghost use Rattle.workload_run.specs.declared.ended.Ended.TheVariants.{OutOfMemory};
+
+use crate::driven::Driven;
+use crate::ended::Ended;
+use crate::line::{NO_MEMORY, fault_line};
+use crate::onlooker::Onlooker;
+use crate::tallies::tallies_of;
+use chare_index::{Limits, NoGate};
+use pup_pack::Pup;
+use rts_run::{Config, NoWatch, Outcome, run_watched};
+use run_text::outcome_text;
+use std::alloc::{AllocError, Allocator};
+use std::io::{self, Read, Write};
+use std::sync::Wait;
+use std::thread::Threads;
+use streams::{Noted, write_out};
+use tally::Tally;
+use workload::{WorkError, Workload};
+
+/// Parcels for which each queue has room.
+const CAPACITY: u32 = 1_024;
+
+/// Threads that search for a division.
+const PROBE_WORKERS: u32 = 4;
+
+/// Reads a workload, runs its tallies on its PEs, and writes the text of what that left, or the one line of a fault, and
+/// nothing else. A worker gives up after so many idle turns in a row, of 1 to [`Limits::IDLE_TURNS`].
+///
+/// The workload is judged as it is read, so nothing is read on past a fault. What was read is given up before the run.
+pub fn drive<T: Threads + Wait + Sync, R: Read, W: Write, A: Allocator + Copy + Send + Sync>(
+    rt: &T,
+    alloc: A,
+    reader: &mut R,
+    writer: &mut W,
+    turns: u64,
+) -> Driven<A>
+    requires some_turn { 1 ≤ turns }
+    requires few_turns { turns ≤ Limits.IDLE_TURNS }
+    ensures ends { EndsDrive ⟦<Tally<A> as Pup<A>>⟧.fits (R.remaining reader.old) (R.remaining reader.new) (W.contents writer.old) (W.contents writer.new) result.outcome result.ended }
+    ensures outcome { IsOfWorkload ⟦<Tally<A> as Pup<A>>⟧.fits (R.remaining reader.old) (R.remaining reader.new) (W.contents writer.old) (W.contents writer.new) result.outcome }
+{
+    drive_watched(rt, alloc, reader, writer, turns, &NoWatch)
+}
+
+/// Runs the workload in a file as [`drive`] does, while somebody looks on, and returns also the system's reason where a read
+/// failed. A file that could not be opened is reported as a workload that was not read.
+pub fn drive_file<
+    T: Threads + Wait + Sync,
+    R: Read + Drop,
+    W: Write,
+    V: Onlooker + Sync,
+    A: Allocator + Copy + Send + Sync,
+>(
+    rt: &T,
+    alloc: A,
+    file: io::Result<R>,
+    writer: &mut W,
+    turns: u64,
+    watch: &V,
+) -> (Driven<A>, Option<io::Error>)
+    requires some_turn { 1 ≤ turns }
+    requires few_turns { turns ≤ Limits.IDLE_TURNS }
+    ensures opened { IfOk file (λ file. (rest : Option (List ℕ)) × EndsDrive ⟦<Tally<A> as Pup<A>>⟧.fits (R.remaining file) rest (W.contents writer.old) (W.contents writer.new) result.0.outcome result.0.ended) }
+    ensures unopened { IfErr file (λ _. ReportsUnread (W.contents writer.old) (W.contents writer.new) result.0.ended) }
+    ensures reason { IfErr file (λ reason. result.1 ≡ Some reason) }
+{
+    match file {
+        Ok(reader) => {
+            let mut noted = Noted::new(reader);
+            let driven = drive_watched(rt, alloc, &mut noted, writer, turns, watch);
+            (driven, noted.failure())
+        }
+        Err(reason) => {
+            let ended = report(alloc, writer, WorkError::Read);
+            (without_run(ended), Some(reason))
+        }
+    }
+}
+
+// Runs the workload of a reader while somebody looks on.
+fn drive_watched<
+    T: Threads + Wait + Sync,
+    R: Read,
+    W: Write,
+    V: Onlooker + Sync,
+    A: Allocator + Copy + Send + Sync,
+>(rt: &T, alloc: A, reader: &mut R, writer: &mut W, turns: u64, watch: &V) -> Driven<A>
+    requires some_turn { 1 ≤ turns }
+    requires few_turns { turns ≤ Limits.IDLE_TURNS }
+    ensures ends { EndsDrive ⟦<Tally<A> as Pup<A>>⟧.fits (R.remaining reader.old) (R.remaining reader.new) (W.contents writer.old) (W.contents writer.new) result.outcome result.ended }
+    ensures outcome { IsOfWorkload ⟦<Tally<A> as Pup<A>>⟧.fits (R.remaining reader.old) (R.remaining reader.new) (W.contents writer.old) (W.contents writer.new) result.outcome }
+{
+    match Workload::read_from(alloc, reader) {
+        Ok(workload) => {
+            watch.expects(workload.rounds);
+            run_workload(rt, alloc, workload, writer, turns, watch)
+        }
+        Err(fault) => without_run(report(alloc, writer, fault)),
+    }
+}
+
+// What came of a workload that was not run.
+fn without_run<A: Allocator + Copy>(ended: Ended) -> Driven<A>
+    ensures ended { result.ended ≡ ended }
+    ensures outcome { result.outcome ≡ None }
+{
+    Driven {
+        ended,
+        outcome: None,
+    }
+}
+
+// Runs a workload, and writes the text of what that left.
+fn run_workload<
+    T: Threads + Wait + Sync,
+    W: Write,
+    V: Onlooker + Sync,
+    A: Allocator + Copy + Send + Sync,
+>(rt: &T, alloc: A, workload: Workload<A>, writer: &mut W, turns: u64, watch: &V) -> Driven<A>
+    requires some_turn { 1 ≤ turns }
+    requires few_turns { turns ≤ Limits.IDLE_TURNS }
+    requires within { IsWithin workload }
+    ensures ran { EndsRun ⟦<Tally<A> as Pup<A>>⟧.fits workload (W.contents writer.old) (W.contents writer.new) result.outcome result.ended }
+{
+    let chares = workload.chares as usize;
+    match outcome_of(rt, alloc, workload, turns, watch) {
+        Ok(outcome) => {
+            let ended = tell(alloc, chares, &outcome, writer);
+            Driven {
+                ended,
+                outcome: Some(outcome),
+            }
+        }
+        Err(_) => without_run(report_memory(writer)),
+    }
+}
+
+// What the run of a workload left. The only error is that memory was refused.
+fn outcome_of<T: Threads + Wait + Sync, V: Onlooker + Sync, A: Allocator + Copy + Send + Sync>(
+    rt: &T,
+    alloc: A,
+    workload: Workload<A>,
+    turns: u64,
+    watch: &V,
+) -> Result<Outcome<Tally<A>, A>, AllocError>
+    requires some_turn { 1 ≤ turns }
+    requires few_turns { turns ≤ Limits.IDLE_TURNS }
+    requires within { IsWithin workload }
+    ensures left { IfOk result (IsLeftBy ⟦<Tally<A> as Pup<A>>⟧.fits (tallies_of workload) workload.pes) }
+{
+    let config = Config {
+        pes: workload.pes,
+        capacity: CAPACITY,
+        turns,
+        probe_workers: PROBE_WORKERS,
+    };
+    let chares = tallies_of(alloc, &workload)?;
+    drop(workload);
+    match run_watched(rt, alloc, &config, &NoGate, watch, chares) {
+        Ok(outcome) => Ok(outcome),
+        Err(_) => Err(AllocError),
+    }
+}
+
+// Writes the text of what a run of so many chares left, or that memory was refused.
+fn tell<W: Write, A: Allocator + Copy>(
+    alloc: A,
+    chares: usize,
+    outcome: &Outcome<Tally<A>, A>,
+    writer: &mut W,
+) -> Ended
+    requires tallies { AreTallies chares outcome.now }
+    ensures told { TellsOutcome (outcome_text chares outcome.now) (W.contents writer.old) (W.contents writer.new) outcome.now.fault result }
+{
+    let Ok(text) = outcome_text(alloc, chares, outcome) else {
+        return report_memory(writer);
+    };
+    report_line(writer, text.as_bytes(), Ended::Ran(outcome.fault()))
+}
+
+// Writes the line of a fault of the workload, or that memory was refused.
+fn report<A: Allocator, W: Write>(alloc: A, writer: &mut W, fault: WorkError) -> Ended
+    ensures reported { ReportsFault fault (W.contents writer.old) (W.contents writer.new) result }
+{
+    if fault == WorkError::OutOfMemory {
+        return report_memory(writer);
+    }
+    let Ok(line) = fault_line(alloc, fault) else {
+        return report_memory(writer);
+    };
+    report_line(writer, line.as_bytes(), Ended::Refused(fault))
+}
+
+// Writes the line where memory was refused.
+fn report_memory<W: Write>(writer: &mut W) -> Ended
+    ensures written { WritesText memory_line OutOfMemory (W.contents writer.old) (W.contents writer.new) result }
+{
+    report_line(writer, NO_MEMORY.as_bytes(), Ended::OutOfMemory)
+}
+
+// Writes a text, and returns this end, or that the writer failed.
+fn report_line<W: Write>(writer: &mut W, text: &[u8], ended: Ended) -> Ended
+    ensures written { WritesText text.now ended (W.contents writer.old) (W.contents writer.new) result }
+{
+    if write_out(writer, text) {
+        ended
+    } else {
+        Ended::WriteFailed
+    }
+}

@@ -1,0 +1,33 @@
+ghost use Rattle.std.specs.Prelude.{◌≡◌};
+ghost use Rattle.workload_run.specs.Statuses.{status_of};
+
+use rts_run::Fault;
+use workload::WorkError;
+
+/// How the run of a workload ended.
+#[derive(Clone, Copy, Debug, PartialEq, Eq)]
+pub enum Ended {
+    /// The text of what the run left was written whole. It has this fault, if one ended the run early.
+    Ran(Option<Fault>),
+    /// The line of this fault of the workload was written; it is never that memory was refused.
+    Refused(WorkError),
+    /// The line that memory was refused was written. There is an outcome where the run had ended before.
+    OutOfMemory,
+    /// The writer failed, or took nothing. A prefix of what was to be written has been written.
+    WriteFailed,
+}
+
+impl Ended {
+    /// The status that a program exits with: 0 where the run ended well, 3 for a fault of the workload, 4 for a fault of
+    /// the run, and 5 where memory or the output failed.
+    pub fn status(self) -> u8
+        ensures value { result ≡ status_of self }
+    {
+        match self {
+            Ended::Ran(None) => 0,
+            Ended::Refused(_) => 3,
+            Ended::Ran(Some(_)) => 4,
+            Ended::OutOfMemory | Ended::WriteFailed => 5,
+        }
+    }
+}

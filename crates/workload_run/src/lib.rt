@@ -1,0 +1,32 @@
+//! Runs the chares of a workload over threads: from the bytes of a reader to the text of what the run left.
+//!
+//! - [`drive`]: from the bytes of a reader to the bytes of a writer; [`drive_file`]: from those of a file, while somebody
+//!   looks on: an [`Onlooker`].
+//! - [`Driven`]: what came of it: how it [`Ended`], the status for that, and the rounds.
+//! - [`write_dumps`]: the dump of each round, to a file of its own of some [`DumpFiles`].
+//!
+//! ```
+//! use workload_run::{Ended, drive};
+//!
+//! // One tally on one PE, which sends itself a 7.
+//! let mut workload = b"pes 1\nrounds 1\npad 0\nchares 1\namounts 7\n".as_slice();
+//! let mut text = Vec::new(alloc);
+//! let driven = drive(&rt, alloc, &mut workload, &mut text, 1_000_000_000);
+//! assert!(driven.ended == Ended::Ran(None));
+//! assert!(text == b"round 1 bottleneck 7 moved 0\nsums 7\nposted 1 executed 1 held 0\n");
+//! ```
+#![tactic(auto)]
+
+mod driven;
+mod driving;
+mod dumps;
+mod ended;
+mod line;
+mod onlooker;
+mod tallies;
+
+pub use driven::Driven;
+pub use driving::{drive, drive_file};
+pub use dumps::{DumpFiles, NotWritten, write_dumps};
+pub use ended::Ended;
+pub use onlooker::Onlooker;

@@ -1,0 +1,19 @@
+use progress_line::Progress;
+use rts_run::{NoWatch, Watch};
+use std::time::Clock;
+
+/// Who looks on at the run of a workload. What it is told it answers nothing to, so nothing that is written depends on it.
+pub trait Onlooker: Watch {
+    /// The workload was read, and has so many rounds.
+    fn expects(&self, rounds: u32);
+}
+
+impl Onlooker for NoWatch {
+    fn expects(&self, _rounds: u32) {}
+}
+
+impl<R: Clock + Eprint> Onlooker for Progress<'_, R> {
+    fn expects(&self, rounds: u32) {
+        self.expect(rounds);
+    }
+}

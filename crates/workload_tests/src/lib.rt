@@ -1,0 +1,24 @@
+//! Tests of workloads: texts and their faults, whole runs from bytes to bytes, their dumps, refused memory, readers and
+//! writers that fail, the examples, and random workloads beside a plain count.
+#![tactic(auto)]
+
+#[cfg(test)]
+mod dumps;
+#[cfg(test)]
+mod examples;
+#[cfg(test)]
+mod failures;
+#[cfg(test)]
+mod files;
+#[cfg(test)]
+mod fixtures;
+#[cfg(test)]
+mod parsing;
+#[cfg(test)]
+mod random;
+#[cfg(test)]
+mod refused_memory;
+#[cfg(test)]
+mod words;
+#[cfg(test)]
+mod worked;
