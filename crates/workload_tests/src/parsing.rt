@@ -193,22 +193,23 @@ fn amounts_and_their_faults(rt: HostRuntime) {
     );
 }
 
-// A line of the most chares, so many times.
-fn push_rounds(rt: &impl Abort, text: &mut Vec<u8>, rounds: u32, amount: &[u8]) {
-    for _ in 0..rounds {
-        text.extend_from_slice(b"amounts")
-            .expect(rt, "out of memory");
-        for _ in 0..65_536u32 {
-            text.extend_from_slice(amount).expect(rt, "out of memory");
-        }
-        text.extend_from_slice(b"\n").expect(rt, "out of memory");
+// A line of the most chares, each with this amount.
+fn long_line(rt: &(impl Abort + AllocGlobal), amount: &[u8]) -> Vec<u8> {
+    let mut line = Vec::from_slice(rt.alloc(), b"amounts").expect(rt, "out of memory");
+    for _ in 0..65_536u32 {
+        line.extend_from_slice(amount).expect(rt, "out of memory");
     }
+    line.extend_from_slice(b"\n").expect(rt, "out of memory");
+    line
 }
 
 // A text of the most chares, with the same amounts.
 fn long_text(rt: &(impl Abort + AllocGlobal), rounds: u32, head: &[u8], amount: &[u8]) -> Vec<u8> {
+    let line = long_line(rt, amount);
     let mut text = Vec::from_slice(rt.alloc(), head).expect(rt, "out of memory");
-    push_rounds(rt, &mut text, rounds, amount);
+    for _ in 0..rounds {
+        text.extend_from_slice(&line).expect(rt, "out of memory");
+    }
     text
 }
 
@@ -225,11 +226,12 @@ fn a_text_near_the_limit_is_read(rt: HostRuntime) {
 #[test]
 fn a_text_past_the_limit_is_too_long(rt: HostRuntime) {
     const HEAD: &[u8] = b"pes 1\nrounds 103\npad 0\nchares 65536\n";
-    let text = long_text(&rt, 103, HEAD, b" 123456789");
+    let mut text = long_text(&rt, 103, HEAD, b" 123456789");
     let long = text.len() > 67_108_864;
     let whole = fault_of(&rt, &text) == Some(WorkError::Long);
     let pieces = fault_in_pieces(&rt, &text, 65_536) == Some(WorkError::Long);
-    let cut = fault_of(&rt, &text[..67_108_864]) == Some(WorkError::Form(107));
+    text.truncate(67_108_864);
+    let cut = fault_of(&rt, &text) == Some(WorkError::Form(107));
     drop(text);
     assert!(rt; long && whole && pieces && cut);
 }
@@ -240,7 +242,8 @@ fn a_long_text_with_a_fault_is_too_long(rt: HostRuntime) {
     text.resize(67_108_865, b'x').expect(&rt, "out of memory");
     let whole = fault_of(&rt, &text) == Some(WorkError::Long);
     let pieces = fault_in_pieces(&rt, &text, 65_536) == Some(WorkError::Form(1));
-    let cut = fault_of(&rt, &text[..67_108_864]) == Some(WorkError::Form(1));
+    text.truncate(67_108_864);
+    let cut = fault_of(&rt, &text) == Some(WorkError::Form(1));
     drop(text);
     assert!(rt; whole && pieces && cut);
 }
