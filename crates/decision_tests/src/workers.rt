@@ -175,6 +175,27 @@ impl Gate for Meeting {
     }
 }
 
+impl Meeting {
+    fn new() -> Meeting {
+        Meeting {
+            first: AtomicU64::new(0),
+            second: AtomicU64::new(0),
+            missed: AtomicU64::new(0),
+        }
+    }
+
+    // Each worker has passed with its number, and has seen the other in time.
+    fn expect_met(&self, rt: &impl Abort) {
+        let seen = (
+            self.first.load(Ordering::SeqCst),
+            self.second.load(Ordering::SeqCst),
+        );
+        assert_for(rt, seen == (1, 1), "each worker passes with its number");
+        let missed = self.missed.load(Ordering::SeqCst);
+        assert_for(rt, missed == 0, "each sees the other in time");
+    }
+}
+
 // Whether two workers at this gate divide a full array in halves.
 fn divides_in_halves<R: Threads + Sync + Abort + AllocGlobal>(rt: &R, gate: &Meeting) -> bool {
     let full = full_loads(rt, 4_294_967_295);
@@ -187,19 +208,9 @@ fn divides_in_halves<R: Threads + Sync + Abort + AllocGlobal>(rt: &R, gate: &Mee
 
 #[test]
 fn two_probes_overlap(rt: HostRuntime) {
-    let gate = Meeting {
-        first: AtomicU64::new(0),
-        second: AtomicU64::new(0),
-        missed: AtomicU64::new(0),
-    };
+    let gate = Meeting::new();
     assert_for(&rt, divides_in_halves(&rt, &gate), "halves");
-    let seen = (
-        gate.first.load(Ordering::SeqCst),
-        gate.second.load(Ordering::SeqCst),
-    );
-    assert_for(&rt, seen == (1, 1), "each worker passes with its number");
-    let missed = gate.missed.load(Ordering::SeqCst);
-    assert_for(&rt, missed == 0, "each sees the other in time");
+    gate.expect_met(&rt);
     drop(gate);
 }
 
@@ -217,18 +228,26 @@ fn is_planned(planned: &Decision) -> bool {
 fn planned<R: Threads + Sync + Abort + AllocGlobal, G: Gate + Sync>(
     rt: &R,
     example: &Snapshot,
+    workers: u32,
     gate: &G,
-) -> Decision {
-    plan_with(rt, rt.alloc(), example, 2, 3, gate).expect(rt, "out of memory")
+) -> Decision
+    requires some_worker { 1 ≤ workers }
+    requires few_workers { workers ≤ 64 }
+{
+    plan_with(rt, rt.alloc(), example, 2, workers, gate).expect(rt, "out of memory")
 }
 
-// Whether three workers at this gate plan the example, and the check accepts the plan.
+// Whether so many workers at this gate plan the example, and the check accepts the plan.
 fn is_example_planned<R: Threads + Sync + Abort + AllocGlobal, G: Gate + Sync>(
     rt: &R,
     example: &Snapshot,
+    workers: u32,
     gate: &G,
-) -> bool {
-    let planned = planned(rt, example, gate);
+) -> bool
+    requires some_worker { 1 ≤ workers }
+    requires few_workers { workers ≤ 64 }
+{
+    let planned = planned(rt, example, workers, gate);
     let found = is_planned(&planned) && check(example, 2, &planned).is_ok();
     drop(planned);
     found
@@ -239,7 +258,7 @@ fn three_workers_plan_the_example(rt: HostRuntime) {
     let example = snapshot(&rt, 2, &EXAMPLE);
     assert_for(
         &rt,
-        is_example_planned(&rt, &example, &NoGate),
+        is_example_planned(&rt, &example, 3, &NoGate),
         "another plan",
     );
     drop(example);
@@ -251,11 +270,25 @@ fn each_of_three_workers_that_plan_passes_with_its_own_number(rt: HostRuntime) {
     let gate = Counting::new();
     assert_for(
         &rt,
-        is_example_planned(&rt, &example, &gate),
+        is_example_planned(&rt, &example, 3, &gate),
         "another plan",
     );
     drop(example);
     let counts = gate.counts();
     drop(gate);
     assert_for(&rt, are_alike(&counts, 3, 1), counts);
+}
+
+#[test]
+fn two_probes_of_a_plan_overlap(rt: HostRuntime) {
+    let example = snapshot(&rt, 2, &EXAMPLE);
+    let gate = Meeting::new();
+    assert_for(
+        &rt,
+        is_example_planned(&rt, &example, 2, &gate),
+        "another plan",
+    );
+    drop(example);
+    gate.expect_met(&rt);
+    drop(gate);
 }

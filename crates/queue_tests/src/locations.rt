@@ -112,3 +112,40 @@ fn what_is_found_was_set_or_was_there(rt: HostRuntime) -> Result<(), Fail> {
     assert!(rt; zero == pe(2) && one == pe(0));
     Ok(())
 }
+
+// A PE for each element, such that both the low and the high bits of its index count.
+fn far_place(i: u32) -> Pe {
+    pe((i % 256 + i / 256) % 256)
+}
+
+// The most elements on the most PEs. Sets each word to another place, and then returns how many say another one.
+fn wrong_words<P: PeCount>(alloc: Global, pes: u32) -> Result<u32, Fail>
+    requires { (pes ≡ P.pes) × (pes ≡ 256) }
+{
+    let mut homes = Vec::new(alloc);
+    homes.resize(65_536, pe(255))?;
+    let places = Locations::<P>::new(alloc, &homes, pes)?;
+    for i in 0..65_536u32 {
+        let Some(element) = Index::new(i) else {
+            return Err(Fail::new("no such element"));
+        };
+        places.set(element, far_place(i));
+    }
+    let mut wrong = 0u32;
+    for i in 0..65_536u32 {
+        let Some(element) = Index::new(i) else {
+            return Err(Fail::new("no such element"));
+        };
+        if places.look(element) != far_place(i) {
+            wrong = wrong.saturating_add(1);
+        }
+    }
+    Ok(wrong)
+}
+
+#[test]
+fn each_word_of_the_most_says_its_own_place(rt: HostRuntime) -> Result<(), Fail> {
+    let wrong = wrong_words::<Brand>(rt.alloc(), 256)?;
+    assert!(rt; wrong == 0, "{wrong} words are wrong");
+    Ok(())
+}

@@ -106,6 +106,15 @@ fn each_prefix_is_short(rt: HostRuntime) {
 }
 
 #[test]
+fn the_most_elements_and_one_more(rt: HostRuntime) {
+    let most = b"LBD1\0\0\0\0\0\0\0\x03\0\x01\0\0";
+    assert!(rt; is_short(&rt, most, 16));
+    let one_more = b"LBD1\0\0\0\0\0\0\0\x03\0\x01\0\x01";
+    let line = "dump: more than 65536 elements\n";
+    assert!(rt; replays(&rt, one_more, line, Ended::Dump(DumpError::Count)));
+}
+
+#[test]
 fn no_elements_and_one_block(rt: HostRuntime) {
     let empty = b"LBD1\0\0\0\0\0\0\0\x03\0\0\0\0";
     let text = "step 0 procs 3 elements 0\nbottleneck 0\nfence zero\n\

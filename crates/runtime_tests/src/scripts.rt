@@ -6,7 +6,7 @@ use crate::fixtures::{assert_for, elements, index, pe, pes, round};
 use crate::steps::{has_account, opened, take};
 use chare_index::{Index, Pe};
 use chares::{Openings, Report};
-use lb_certificates::Floor;
+use lb_certificates::{Floor, Snapshot};
 use lb_strategy::Decision;
 use pup_pack::PupError;
 use refusing_alloc::Refusing;
@@ -151,13 +151,24 @@ fn is_first_decision<A: Allocator>(decision: &Decision<A>) -> bool {
         && is_fence(&division.floor, &[0, 1, 1, 1])
 }
 
-// Whether the first round is decided, and so.
+// Whether a snapshot has what the tallies have in the first round: what each got, its bytes, and the PE of its number.
+fn is_first_snapshot<A: Allocator>(snapshot: &Snapshot<A>) -> bool {
+    let &[(first, p0), (second, p1), (third, p2)] = snapshot.sizes().as_slice() else {
+        return false;
+    };
+    snapshot.procs() == 3
+        && snapshot.loads().as_slice() == [0, 1, 1].as_slice()
+        && (first, second, third) == (32, 40, 32)
+        && (p0.get(), p1.get(), p2.get()) == (0, 1, 2)
+}
+
+// Whether the first round is decided, on that snapshot and so.
 fn is_decided<H: Openings<Tally<A>>, A: Allocator + Copy>(
     rt: &impl Abort,
     world: &World<Tally<A>, H, A>,
 ) -> bool {
-    match world.board().decision_for(round(rt, 1)) {
-        Some(decision) => is_first_decision(decision),
+    match world.board().kept_for(round(rt, 1)) {
+        Some((snapshot, decision)) => is_first_snapshot(snapshot) && is_first_decision(decision),
         None => false,
     }
 }

@@ -168,6 +168,67 @@ fn each_of_three_workers_passes_with_its_number(rt: HostRuntime) {
     drop(gate);
 }
 
+// How many turns a worker waits for the other.
+const TURNS: u64 = 1_000_000_000;
+
+// A gate that holds each of two workers until the other was seen.
+#[derive(Drop)]
+struct Meeting {
+    first: AtomicU64,
+    second: AtomicU64,
+    missed: AtomicU64,
+}
+
+impl Gate for Meeting {
+    fn pass(&self, who: u32) {
+        let (own, other) = if who == 0 {
+            (&self.first, &self.second)
+        } else {
+            (&self.second, &self.first)
+        };
+        own.store(1, Ordering::SeqCst);
+        for _ in 0..TURNS {
+            if other.load(Ordering::SeqCst) == 1 {
+                return;
+            }
+        }
+        self.missed.store(1, Ordering::SeqCst);
+    }
+}
+
+impl Meeting {
+    fn new() -> Meeting {
+        Meeting {
+            first: AtomicU64::new(0),
+            second: AtomicU64::new(0),
+            missed: AtomicU64::new(0),
+        }
+    }
+
+    // Whether each worker has passed with its number, and has seen the other in time.
+    fn has_met(&self) -> bool {
+        self.first.load(Ordering::SeqCst) == 1
+            && self.second.load(Ordering::SeqCst) == 1
+            && self.missed.load(Ordering::SeqCst) == 0
+    }
+}
+
+// Whether two workers at this gate decide the round.
+fn two_decide<R: Threads + Sync + Abort>(rt: &R, board: &mut Board, gate: &Meeting) -> bool {
+    board.decide_with(rt, 2, gate) == Ok(round(rt, 1))
+}
+
+#[test]
+fn two_probes_of_a_decision_overlap(rt: HostRuntime) {
+    let mut board = two_reported(&rt);
+    let gate = Meeting::new();
+    assert!(rt; two_decide(&rt, &mut board, &gate));
+    assert!(rt; all_stay(&rt, &board, 1));
+    drop(board);
+    assert!(rt; gate.has_met());
+    drop(gate);
+}
+
 // Whether of three elements the first has finished, the second has not, and the third is none of the board's.
 fn only_the_first_finished(board: &Board) -> bool {
     board.has_finished(0) == Some(true)
