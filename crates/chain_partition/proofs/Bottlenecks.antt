@@ -5,6 +5,7 @@ use Rattle.std.proofs.Math.Nat.{div-le_self, lt-mul-div-succ, mul-le-mul_left, m
 use Rattle.std.proofs.lemmas.Grind.{div_ceil_times}
 use Rattle.std.proofs.lemmas.List.{get_or_default}
 use Rattle.std.proofs.lemmas.List.Sums.{sum_by-take-le}
+use Rattle.chare_index.specs.declared.limits.TheConstants.Limits.{LOAD}
 use Rattle.lb_snapshot.proofs.LoadSums.{sum_small}
 use Rattle.lb_certificates.specs.Chain.{peak, IsDivision, IsLeastPeak}
 use Rattle.lb_snapshot.specs.Measured.{load, IsLoads}
@@ -125,8 +126,8 @@ even_share xs p greatest positive small =
           absurd (omega (arith, heavy, within, lt-mul-div-succ (load xs 0 (length xs)) positive))
     ]
 
--- that limit is far below 2^64
-pub share_small : (xs : List ℕ) (p greatest : ℕ) → IsLoads xs → greatest < 2 ^ 32 → load xs 0 (length xs) / p + greatest < 2 ^ 57
+-- that limit is below 2^64
+pub share_small : (xs : List ℕ) (p greatest : ℕ) → IsLoads xs → greatest ≤ LOAD → load xs 0 (length xs) / p + greatest < 2 ^ 64
 share_small xs p greatest small low =
     omega (arith, load_after xs 0 (length xs) (omega arith), sum_by-take-le (λ x. x) xs (length xs), sum_small xs small, div-le_self (load xs 0 (length xs)) p)
 
@@ -141,11 +142,11 @@ bounds_ordered xs p low high stops fits =
 -- what a walk tells narrows them
 pub narrowed_above : (xs : List ℕ) (p low high heaviest : ℕ) → Enclose xs p low high → heaviest ≤ high → CanFit xs p heaviest → Enclose xs p low heaviest
 narrowed_above xs p low high heaviest h below fits =
-    record { stops = h.stops; fits = fits; small = omega (arith, h.small) }
+    record { stops = h.stops; fits = fits }
 
 pub narrowed_below : (xs : List ℕ) (p low high next : ℕ) → Enclose xs p low high → StopBelow xs p next → Enclose xs p next high
 narrowed_below xs p low high next h stops =
-    record { stops = stops; fits = h.fits; small = h.small }
+    record { stops = stops; fits = h.fits }
 
 -- of two limits that hold all elements the lesser does, and below the greater of two bounds none does
 pub lesser_fits : (xs : List ℕ) (p a b : ℕ) → CanFit xs p a → CanFit xs p b → CanFit xs p (min a b)
@@ -216,10 +217,9 @@ share_below total p limit positive within =
     ]
 
 -- a search begins with limits that enclose the least bottleneck
-pub opening_encloses : (xs : List ℕ) (p greatest total : ℕ) → 0 < p → IsLoads xs → greatest < 2 ^ 32 → All (λ w. w ≤ greatest) xs → ((limit : ℕ) → All (λ w. w ≤ limit) xs → greatest ≤ limit) → total ≡ load xs 0 (length xs) → Enclose xs p (max greatest (total / p + min 1 (total % p))) (total / p + greatest)
-opening_encloses xs p greatest total positive small low above least whole =
+pub opening_encloses : (xs : List ℕ) (p greatest total : ℕ) → 0 < p → All (λ w. w ≤ greatest) xs → ((limit : ℕ) → All (λ w. w ≤ limit) xs → greatest ≤ limit) → total ≡ load xs 0 (length xs) → Enclose xs p (max greatest (total / p + min 1 (total % p))) (total / p + greatest)
+opening_encloses xs p greatest total positive above least whole =
     record {
       stops = λ limit below fit. absurd (omega (arith, below, least limit (each_fits xs p limit fit), share_below total p limit positive (omega (arith, whole, total_fits xs p limit fit))));
       fits = rw whole (even_share xs p greatest positive above);
-      small = rw whole (share_small xs p greatest small low);
     }

@@ -1,5 +1,5 @@
 -- The search for the least bottleneck, by limits that enclose it.
-use Rattle.std.specs.Prelude.{ℕ, ◌<◌, ◌≤◌, ◌^◌, List}
+use Rattle.std.specs.Prelude.{ℕ, ◌<◌, ◌≤◌, List}
 use Rattle.chain_partition.specs.Greedy.{CanFit}
 use Rattle.chain_partition.specs.declared.search.Bound.{Bound}
 use Rattle.chain_partition.specs.declared.search.Bound.TheVariants.{Fits, Stops}
@@ -18,8 +18,7 @@ Tells loads blocks limit (Stops next) = (limit < next) × StopBelow loads blocks
 abbrev pub WasTried : List ℕ → ℕ → ℕ → ℕ → Bound → Type 0
 WasTried loads blocks low high bound = (limit : ℕ) × (low ≤ limit) × (limit < high) × Tells loads blocks limit bound
 
--- the least bottleneck is low, high or between them; sums with either stay in range
+-- the least bottleneck is low, high or between them
 pub record Enclose (loads : List ℕ) (blocks low high : ℕ) : Type 0 where
   pub stops : StopBelow loads blocks low
   pub fits : CanFit loads blocks high
-  pub small : high < 2 ^ 57

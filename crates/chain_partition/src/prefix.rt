@@ -44,13 +44,13 @@ impl<A: Allocator> Prefix<A> {
         let mut total = 0;
         sums.push_reserved(total);
         for &units in loads.as_slice() {
-            total += u64::from(units);
+            total += units;
             sums.push_reserved(total);
         }
         Ok(Prefix { sums })
     }
 
-    /// The load of the elements `first..end`: at most 281,474,976,645,120 work units. It takes no memory.
+    /// The load of the elements `first..end`: at most 9,223,372,036,854,710,272 work units. It takes no memory.
     pub fn load(&self, first: usize, end: usize) -> u64
         requires ordered { first ≤ end }
         requires within { end ≤ length self.now }

@@ -80,7 +80,7 @@ pub(crate) fn opening<A: Allocator>(loads: &Loads<A>, total: u64, pes: u32) -> B
     requires all { total ≡ load loads.now 0 (length loads.now) }
     ensures enclosed { Enclose loads.now pes result.low result.high }
 {
-    let greatest = u64::from(greatest(loads.as_slice()));
+    let greatest = greatest(loads.as_slice());
     let pes = u64::from(pes);
     Bounds {
         low: greatest.max(total.div_ceil(pes)),

@@ -1,6 +1,6 @@
 //! The same search with several limits tried at a time, each by a worker in a thread of its own.
 
-ghost use Rattle.std.specs.Prelude.{◌≡◌, ℕ, ◌-◌, ◌^◌, ◌<◌, ◌≤◌, IfOk, length, slice_index_or};
+ghost use Rattle.std.specs.Prelude.{◌≡◌, ℕ, ◌-◌, ◌<◌, ◌≤◌, IfOk, length, slice_index_or};
 ghost use Rattle.lb_certificates.specs.Chain.{IsLeastDivision, IsLeastPeak};
 ghost use Rattle.lb_certificates.specs.Certificate.{IsCertified};
 ghost use Rattle.chain_partition.specs.Chosen.{IsChosen, IsTheOnly};
@@ -89,12 +89,11 @@ fn try_all<R: Threads + Sync, G: Gate + Sync>(
     requires some_worker { 1 ≤ length told.old }
     requires few_workers { length told.old ≤ Limits.PROBE_WORKERS }
     requires apart { bounds.low < bounds.high }
-    requires small { bounds.high < 2 ^ 57 }
     ensures tried { (i : ℕ) (d : Bound) → i < length told.old → WasTried (loads_of sums.now) pes bounds.low bounds.high (slice_index_or told.new i d) }
 {
     let workers = told.len();
     let probe = move |worker: usize, place: &mut Bound|
-        requires { IsPrefix sums.now × (1 ≤ pes) × (worker < workers) × (workers ≤ Limits.PROBE_WORKERS) × (bounds.low < bounds.high) × (bounds.high < 2 ^ 57) }
+        requires { IsPrefix sums.now × (1 ≤ pes) × (worker < workers) × (workers ≤ Limits.PROBE_WORKERS) × (bounds.low < bounds.high) }
         ensures { WasTried (loads_of sums.entry.now) pes bounds.low bounds.high place.exit.now }
     { *place = try_limit(sums, pes, bounds, worker, workers, gate) };
     thread::for_each_mut(rt, told, workers, &probe);
@@ -114,24 +113,24 @@ fn try_limit<G: Gate>(
     requires one_of { worker < workers }
     requires few_workers { workers ≤ Limits.PROBE_WORKERS }
     requires apart { bounds.low < bounds.high }
-    requires small { bounds.high < 2 ^ 57 }
     ensures tried { WasTried (loads_of sums.now) pes bounds.low bounds.high result }
 {
     gate.pass(worker as u32);
     tell(sums, pes, limit_of(bounds, worker as u64, workers as u64))
 }
 
-// The limit of one of so many workers.
+// The limit of one of so many workers. In 128 bits the product is in range, however far apart the bounds are.
 #[tactic(auto, using(crate::proofs::Limits::share_inside, crate::proofs::Limits::product_fits))]
 fn limit_of(bounds: Bounds, worker: u64, workers: u64) -> u64
     requires one_of { worker < workers }
     requires few_workers { workers ≤ Limits.PROBE_WORKERS }
     requires apart { bounds.low < bounds.high }
-    requires small { bounds.high < 2 ^ 57 }
     ensures from { bounds.low ≤ result }
     ensures below { result < bounds.high }
 {
-    bounds.low + (bounds.high - bounds.low) * (worker + 1) / (workers + 1)
+    let span = u128::from(bounds.high - bounds.low);
+    let share = span * u128::from(worker + 1) / u128::from(workers + 1);
+    bounds.low + share as u64
 }
 
 // What the walks of one round leave of the bounds.

@@ -11,7 +11,7 @@ impl Limits {
     pub const PES: u32 = 256;
 
     /// Work units of one element in one round, from 0. A count of units stops here.
-    pub const LOAD: u32 = 4_294_967_295;
+    pub const LOAD: u64 = 140_737_488_355_327;
 
     /// Bytes of one packed element, from 0.
     pub const STATE_BYTES: u32 = 1_048_576;

@@ -1,10 +1,12 @@
-//! `charm_run [--dump PREFIX] [--progress] FILE` runs the chares of a workload over threads: it prints what each round
-//! decided, what each chare added up, and where every letter is.
+//! `charm_run [--dump PREFIX] [--lbd1] [--progress] FILE` runs the chares of a workload over threads: it prints what each
+//! round decided, what each chare added up, and where every letter is.
 //!
 //! - `run_command_line::asked`: what the words of the command line ask for, and the status where they ask for no run.
 //! - `workload_run::drive_file`: the run of a workload, from a file to its text; `write_dumps`: the dumps of its rounds.
 //! - `progress_line::Progress`: what is told on the standard error meanwhile.
 #![tactic(auto)]
+
+ghost use Rattle.std.specs.Prelude.{None};
 
 use progress_line::Progress;
 use run_command_line::{Asked, NO_WORDS, asked, words_status};
@@ -16,7 +18,7 @@ use std::sync::Wait;
 use std::thread::Threads;
 use std::time::Clock;
 use streams::write_out;
-use workload_run::{Driven, DumpFiles, drive_file, write_dumps};
+use workload_run::{Driven, DumpFiles, DumpFormat, drive_file, write_dumps};
 
 /// After how many idle turns in a row a worker gives up.
 const TURNS: u64 = 1_000_000_000;
@@ -68,8 +70,13 @@ fn ran<R: Threads + Wait + Sync + Files + Clock + Print + Eprint + AllocGlobal>(
     if let Some(reason) = reason {
         let _ = eprintln!(rt; "charm_run: {}: {reason}", asked.file);
     }
+    let format = if asked.lbd1 {
+        DumpFormat::Lbd1
+    } else {
+        DumpFormat::Lbd2
+    };
     match asked.dump {
-        Some(prefix) if !dumped(rt, &driven, prefix) => {
+        Some(prefix) if !dumped(rt, &driven, format, prefix) => {
             let _ = write_out(&mut writer, NO_DUMP.as_bytes());
             NO_OUTPUT
         }
@@ -78,14 +85,21 @@ fn ran<R: Threads + Wait + Sync + Files + Clock + Print + Eprint + AllocGlobal>(
 }
 
 // Writes the dump of each round, and returns whether all were written. Where one was not, the standard error has its name
-// and the system's reason.
-fn dumped<R: Files + Eprint + AllocGlobal>(rt: &R, driven: &Driven, prefix: &str) -> bool {
-    match write_dumps(rt.alloc(), driven.rounds(), prefix, &mut SystemFiles(rt)) {
+// and the system's reason, or else what was wrong.
+fn dumped<R: Files + Eprint + AllocGlobal>(
+    rt: &R,
+    driven: &Driven,
+    format: DumpFormat,
+    prefix: &str,
+) -> bool {
+    let rounds = driven.rounds();
+    match write_dumps(rt.alloc(), rounds, format, prefix, &mut SystemFiles(rt)) {
         Ok(()) => true,
         Err(dump) => {
-            if let Some(reason) = dump.reason {
-                let _ = eprintln!(rt; "charm_run: {prefix}.{}: {reason}", dump.round);
-            }
+            let _ = match dump.reason {
+                Some(reason) => eprintln!(rt; "charm_run: {prefix}.{}: {reason}", dump.round),
+                None => eprintln!(rt; "charm_run: {prefix}.{}: {}", dump.round, dump.fault),
+            };
             false
         }
     }
@@ -97,6 +111,9 @@ struct SystemFiles<'a, R>(&'a R);
 
 impl<R: Files> DumpFiles for SystemFiles<'_, R> {
     type File = R::File;
+
+    // what a system asks for is not known
+    ghost names = { λ _. None };
 
     fn create(&mut self, name: &str) -> io::Result<R::File> {
         File::create(self.0, name)

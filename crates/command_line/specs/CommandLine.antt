@@ -1,8 +1,8 @@
--- What the words of a command line ask for, as clap reads them: `lb_sim [--procs P] FILE`.
+-- What the words of a command line ask for, as clap reads them: `lb_sim [--procs P] [--check] FILE`.
 use Rattle.std.specs.Prelude.{ℕ, ◌≡◌, ◌≤◌, List, Option, None, Some, codes, pos, true}
 use Rattle.std.specs.Str.Parse.{IsNumeral, digits_value, without_leading_plus}
 use Rattle.clap.specs.Words.{App, Rule, Text, first_of, matches_of, new_app, new_rule, one_of, with_rule}
-use Rattle.clap.specs.declared.builder.ArgAction.TheVariants.{Set}
+use Rattle.clap.specs.declared.builder.ArgAction.TheVariants.{Set, SetTrue}
 use Rattle.clap.specs.declared.builder.value_parser.ValueParser.TheVariants.{Signed}
 use Rattle.chare_index.specs.declared.limits.TheConstants.Limits.{PES}
 
@@ -23,13 +23,17 @@ procs_rule = record (new_rule (codes "procs")) {
   parser = Some (Signed (pos 1) (pos PES));
 }
 
+-- a flag, which takes no word: the decision that the dump has is to be checked
+abbrev pub check_rule : Rule
+check_rule = record (new_rule (codes "check")) { long = Some (codes "check"); action = Some SetTrue }
+
 -- the program before its words are declared: it has a version
 abbrev pub versioned : App
 versioned = let plain = new_app (codes "lb_sim") in record plain { top = record plain.top { has_version = true } }
 
 -- the program with its words, to which clap adds those that ask for help and for the version
 abbrev pub program : App
-program = with_rule (with_rule versioned file_rule) procs_rule
+program = with_rule (with_rule (with_rule versioned file_rule) procs_rule) check_rule
 
 -- the word that names the file
 abbrev pub file_in : List Text → Option Text
@@ -43,3 +47,7 @@ procs_in words = one_of (codes "procs") (matches_of program words)
 abbrev pub Spells : Option Text → ℕ → Type 0
 Spells None n = ⊥
 Spells (Some word) n = IsNumeral 10 (without_leading_plus word) × (n ≡ digits_value 10 (without_leading_plus word)) × (1 ≤ n) × (n ≤ PES)
+
+-- the words have the flag, which clap reads as the text `true`, and a flag that is not there as `false`
+abbrev pub AsksCheck : List Text → Type 0
+AsksCheck words = one_of (codes "check") (matches_of program words) ≡ Some (codes "true")

@@ -1,12 +1,12 @@
-//! The command line of `lb_sim`: what its words ask for, and the status where they ask for no replay. clap reads them,
-//! and writes the texts of what it refuses, of help and of the version.
+//! The command line of `lb_sim`: what its words ask for, and the status where they ask for nothing to be done. clap
+//! reads them, and writes the texts of what it refuses, of help and of the version.
 //!
 //! ```
 //! use command_line::{NO_WORDS, asked, words_status};
 //!
 //! let words = ["lb_sim", "--procs", "2", "steps.lbd1"];
 //! let asked_for = asked(alloc, &words).unwrap();
-//! assert!(asked_for.file == "steps.lbd1" && asked_for.procs == Some(2));
+//! assert!(asked_for.file == "steps.lbd1" && asked_for.procs == Some(2) && !asked_for.check);
 //!
 //! let error = asked(alloc, &["lb_sim", "--procs", "0", "steps.lbd1"]).unwrap_err();
 //! assert!(words_status(&error) == NO_WORDS);

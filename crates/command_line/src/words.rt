@@ -1,10 +1,10 @@
-ghost use Rattle.std.specs.Prelude.{◌≡◌, ◌≢◌, ◌≤◌, ◌⊎◌, ◌↔◌, ℕ, IfOk, Some, codes, is_some, pos, true};
+ghost use Rattle.std.specs.Prelude.{◌≡◌, ◌≢◌, ◌≤◌, ◌⊎◌, ◌↔◌, ℕ, IfOk, IsTrue, Some, codes, is_some, pos, true};
 ghost use Rattle.std.specs.Option.{ForSome};
 ghost use Rattle.clap.specs.Built.{FitsChain, TakesValue};
 ghost use Rattle.clap.specs.Values.{kind_of};
 ghost use Rattle.clap.specs.Walk.{texts};
 ghost use Rattle.clap.specs.Words.{FailsBy, app_of, fault_of, first_value, found_of, one_text, rule_of};
-ghost use Rattle.command_line.specs.CommandLine.{Spells, file_in, file_rule, procs_in, procs_rule, program};
+ghost use Rattle.command_line.specs.CommandLine.{AsksCheck, Spells, check_rule, file_in, file_rule, procs_in, procs_rule, program};
 ghost use Rattle.command_line.specs.Internal.{NamesFile};
 ghost use Rattle.clap.specs.declared.builder.value_parser.ValueParser.TheVariants.{Signed};
 ghost use Rattle.clap.specs.declared.error.kind.ErrorKind.TheVariants.{DisplayHelp, DisplayVersion};
@@ -18,7 +18,7 @@ use std::alloc::{AllocError, Global};
 /// The status where the words of the command line cannot be had, or are refused.
 pub const NO_WORDS: u8 = 2;
 
-/// The status where the words ask for no replay: 0 for help or the version, and else [`NO_WORDS`].
+/// The status where the words ask for nothing to be done: 0 for help or the version, and else [`NO_WORDS`].
 pub fn words_status(error: &Error) -> u8
     ensures shown { (kind_of error.now ≡ DisplayHelp) ⊎ (kind_of error.now ≡ DisplayVersion) → result ≡ 0 }
     ensures refused { (kind_of error.now ≢ DisplayHelp) → (kind_of error.now ≢ DisplayVersion) → result ≡ NO_WORDS }
@@ -30,12 +30,14 @@ pub fn words_status(error: &Error) -> u8
 ///
 /// # Errors
 ///
-/// The words are not `[--procs P] FILE` with a P of 1 to 256 (`Limits::PES`), help or the version is asked for, or
-/// it is out of memory. The error has the text to print; [`words_status`] is the status for it.
+/// The words are not `[--procs P] [--check] FILE` with a P of 1 to 256 (`Limits::PES`), help or the version is asked for,
+/// or it is out of memory. The error has the text to print; [`words_status`] is the status for it. Words that ask for a
+/// check and for a number of PEs too are no error here: [`Asked::task`] is `None` for them.
 pub fn asked<'a>(alloc: Global, words: &'a [&'a str]) -> Result<Asked<'a>, Error>
     ensures faults { FailsBy (fault_of program (texts words.now)) result }
     ensures file { IfOk result (λ asked. file_in (texts words.now) ≡ Some asked.file.now) }
     ensures procs { IfOk result (λ asked. (n : ℕ) → (asked.procs ≡ Some n) ↔ Spells (procs_in (texts words.now)) n) }
+    ensures check { IfOk result (λ asked. IsTrue asked.check ↔ AsksCheck (texts words.now)) }
     ensures some_pe { IfOk result (λ asked. ForSome asked.procs (λ p. 1 ≤ p)) }
     ensures few_pes { IfOk result (λ asked. ForSome asked.procs (λ p. p ≤ Limits.PES)) }
 {
@@ -45,7 +47,8 @@ pub fn asked<'a>(alloc: Global, words: &'a [&'a str]) -> Result<Asked<'a>, Error
     }
 }
 
-// The words that are understood: `lb_sim [--procs P] FILE`, and those for help and for the version, which clap adds.
+// The words that are understood: `lb_sim [--procs P] [--check] FILE`, and those for help and for the version, which clap
+// adds.
 fn command<'a>(alloc: Global) -> Result<Command<'a>, AllocError>
     ensures program { IfOk result (λ command. app_of command ≡ program) }
     ensures named { IfOk result NamesFile }
@@ -53,10 +56,9 @@ fn command<'a>(alloc: Global) -> Result<Command<'a>, AllocError>
     let command = Command::new(alloc, "lb_sim").version("0.1.0").about(
         "Replays a dump of the load database and prints the decision of its balancing step",
     );
-    match command.arg(file(alloc)) {
-        Ok(command) => command.arg(procs(alloc)),
-        Err(error) => Err(error),
-    }
+    let command = command.arg(file(alloc))?;
+    let command = command.arg(procs(alloc))?;
+    command.arg(check(alloc))
 }
 
 fn file<'a>(alloc: Global) -> Arg<'a>
@@ -83,6 +85,19 @@ fn procs<'a>(alloc: Global) -> Arg<'a>
         .value_parser(number_of_pes())
 }
 
+fn check<'a>(alloc: Global) -> Arg<'a>
+    ensures rule { rule_of result ≡ check_rule }
+    ensures fits { FitsChain result }
+{
+    Arg::new(alloc, "check")
+        .long("check")
+        .help(
+            "Checks the decision that the dump has, and prints its first{n}\
+             flaw, or that it is right. It does not go with --procs",
+        )
+        .action(ArgAction::SetTrue)
+}
+
 // A number of PEs.
 fn number_of_pes<'a>() -> ValueParser<'a>
     ensures { result ≡ Signed (pos 1) (pos Limits.PES) }
@@ -95,12 +110,14 @@ fn found<'a>(matches: &ArgMatches<'a>) -> Asked<'a>
     requires named { is_some (first_value (found_of matches.now) (codes "file")) ≡ true }
     ensures file { first_value (found_of matches.now) (codes "file") ≡ Some result.file.now }
     ensures procs { (n : ℕ) → (result.procs ≡ Some n) ↔ Spells (one_text (found_of matches.now) (codes "procs")) n }
+    ensures check { IsTrue result.check ↔ (one_text (found_of matches.now) (codes "check") ≡ Some (codes "true")) }
     ensures some_pe { ForSome result.procs (λ p. 1 ≤ p) }
     ensures few_pes { ForSome result.procs (λ p. p ≤ Limits.PES) }
 {
     Asked {
         file: matches.get_str("file").unwrap(),
         procs: number_in(matches),
+        check: matches.get_one("check") == Some(true),
     }
 }
 

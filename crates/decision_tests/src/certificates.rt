@@ -2,8 +2,8 @@
 //! division for each flaw.
 
 use crate::fixtures::{
-    FORGED_DIVISIONS, ForgedDivision, assert_for, fenced, full_loads, index, is_list, list, loads,
-    pairs, pe, push, same, sizes, unfenced,
+    FORGED_DIVISIONS, FULL_ARRAYS, ForgedDivision, FullArray, assert_for, fenced, full_loads,
+    index, is_list, list, loads, pairs, pe, push, same, sizes, unfenced,
 };
 use crate::reference;
 use chare_index::{Limits, Pe};
@@ -154,33 +154,63 @@ fn more_blocks_than_a_machine_has_pes(rt: HostRuntime) {
     assert_for(&rt, found == Ok(()), found);
 }
 
-#[test]
-fn a_full_array_of_full_loads(rt: HostRuntime) {
-    let full = full_loads(&rt, 4_294_967_295);
-    let division = fenced(&rt, 281_474_976_645_120, &[0, 65_536], &[0, 65_535]);
-    assert_for(&rt, full.len() == 65_536, "length");
-    assert_for(&rt, check_division(&full, 1, &division).is_ok(), "division");
+// Whether one block that has all elements of a full array is accepted.
+fn is_full_accepted(rt: &(impl Abort + AllocGlobal), row: &FullArray) -> bool {
+    let full = full_loads(rt, row.0);
+    let division = fenced(rt, row.1, &[0, 65_536], &[0, 65_535]);
+    let accepted = check_division(&full, 1, &division).is_ok();
+    let whole = full.len() == 65_536;
     drop(division);
     drop(full);
+    accepted && whole
+}
+
+#[test]
+fn a_full_array_of_full_loads(rt: HostRuntime) {
+    for row in &FULL_ARRAYS {
+        assert_for(&rt, is_full_accepted(&rt, row), row);
+    }
+}
+
+// Whether there may be these loads.
+fn are_loads(units: Vec<Units>) -> bool {
+    let loads = Loads::new(units);
+    let found = loads.is_some();
+    drop(loads);
+    found
 }
 
 // Whether there may be one load more than these.
 fn takes_one_more(rt: &(impl Abort + AllocGlobal), loads: Loads) -> bool {
     let mut units = loads.into_vec();
     push(rt, &mut units, 0);
-    let taken = Loads::new(units);
-    let found = taken.is_some();
-    drop(taken);
-    found
+    are_loads(units)
 }
 
 #[test]
 fn a_full_array_takes_no_other_load(rt: HostRuntime) {
     assert_for(
         &rt,
-        !takes_one_more(&rt, full_loads(&rt, 4_294_967_295)),
+        !takes_one_more(&rt, full_loads(&rt, 140_737_488_355_327)),
         "one load more",
     );
+}
+
+// Loads, and whether there may be these.
+type Limited = (&'static [Units], bool);
+
+#[test]
+fn loads_within_their_limits(rt: HostRuntime) {
+    const ROWS: [Limited; 5] = [
+        (&[], true),
+        (&[140_737_488_355_327], true),
+        (&[140_737_488_355_328], false),
+        (&[0, 140_737_488_355_328, 0], false),
+        (&[u64::MAX], false),
+    ];
+    for row in &ROWS {
+        assert_for(&rt, are_loads(list(&rt, row.0)) == row.1, row);
+    }
 }
 
 // The snapshot of these loads and sizes at step 5, where they make one.

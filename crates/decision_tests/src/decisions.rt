@@ -3,12 +3,13 @@
 ghost use Rattle.std.specs.Prelude.{◌≤◌};
 
 use crate::fixtures::{
-    EXAMPLE, FORGED_DIVISIONS, ForgedDivision, MOVING, NAMING, assert_for, decision, decision_with,
-    division, fenced, full_loads, index, moves, naming, pe, push, same, snapshot, stops, unfenced,
+    EXAMPLE, Element, FORGED_DIVISIONS, ForgedDivision, MOVING, NAMING, assert_for, decision,
+    decision_with, division, fenced, full_loads, index, moves, naming, pe, push, same, snapshot,
+    stops, unfenced,
 };
 use block_assignment::NameError;
 use chare_index::{Index, Pe};
-use lb_certificates::{Division, Flaw, Naming, Sizes, Snapshot};
+use lb_certificates::{Division, Flaw, Naming, Sizes, Snapshot, Units};
 use lb_strategy::{Decision, Moves, PlanError, check, plan};
 use std::process::Abort;
 
@@ -169,7 +170,7 @@ fn planned(rt: &(impl Abort + AllocGlobal), taken: &Snapshot, pes: u32) -> Decis
 fn plans(
     rt: &(impl Abort + AllocGlobal),
     procs: u32,
-    elements: &[(u32, u32, u32)],
+    elements: &[Element],
     pes: u32,
     row: Row<'_>,
 ) -> bool
@@ -194,7 +195,7 @@ fn is_planned(taken: &Snapshot, pes: u32, decision: &Decision, row: Row<'_>) -> 
 
 #[test]
 fn blocks_that_stand_swapped_stay_so(rt: HostRuntime) {
-    let swapped: [(u32, u32, u32); 4] = [(1, 8, 1), (1, 8, 1), (1, 8, 0), (1, 8, 0)];
+    let swapped: [Element; 4] = [(1, 8, 1), (1, 8, 1), (1, 8, 0), (1, 8, 0)];
     let row = Row {
         bottleneck: 2,
         cuts: &[0, 2, 4],
@@ -206,7 +207,7 @@ fn blocks_that_stand_swapped_stay_so(rt: HostRuntime) {
 }
 
 // Six elements on three PEs.
-const SIX: [(u32, u32, u32); 6] = [
+const SIX: [Element; 6] = [
     (1, 5, 0),
     (1, 4, 1),
     (1, 5, 0),
@@ -272,7 +273,7 @@ fn the_example_is_planned_for_two_and_for_one(rt: HostRuntime) {
 
 #[test]
 fn the_first_of_the_cheapest_namings_is_planned(rt: HostRuntime) {
-    let two: [(u32, u32, u32); 2] = [(1, 8, 0), (1, 8, 0)];
+    let two: [Element; 2] = [(1, 8, 0), (1, 8, 0)];
     let row = Row {
         bottleneck: 1,
         cuts: &[0, 1, 2],
@@ -281,7 +282,7 @@ fn the_first_of_the_cheapest_namings_is_planned(rt: HostRuntime) {
         moves: &[(1, 0, 1)],
     };
     assert_for(&rt, plans(&rt, 2, &two, 2, row), "two");
-    let four: [(u32, u32, u32); 2] = [(5, 8, 3), (7, 8, 3)];
+    let four: [Element; 2] = [(5, 8, 3), (7, 8, 3)];
     let row = Row {
         bottleneck: 7,
         cuts: &[0, 1, 2, 2, 2],
@@ -342,9 +343,9 @@ fn full_sizes(rt: &(impl Abort + AllocGlobal)) -> Sizes {
     Sizes::new(pairs).expect(rt, "past a limit")
 }
 
-// As many elements as there may be, with these sizes and loads of 1.
-fn full(rt: &(impl Abort + AllocGlobal)) -> Snapshot {
-    let loads = full_loads(rt, 1);
+// As many elements as there may be, with these sizes, and each with this load.
+fn full(rt: &(impl Abort + AllocGlobal), load: Units) -> Snapshot {
+    let loads = full_loads(rt, load);
     let sizes = full_sizes(rt);
     Snapshot::new(1, 256, loads, sizes).expect(rt, "no snapshot")
 }
@@ -353,7 +354,7 @@ fn full(rt: &(impl Abort + AllocGlobal)) -> Snapshot {
 fn mixed(rt: &(impl Abort + AllocGlobal)) -> Snapshot {
     let mut rows = Vec::new(rt.alloc());
     for i in 0..300u32 {
-        let row = (i * 5 % 7, i * 3 % 11, i * i % 13);
+        let row = (Units::from(i * 5 % 7), i * 3 % 11, i * i % 13);
         push(rt, &mut rows, row);
     }
     let mixed = snapshot(rt, 13, &rows);
@@ -405,21 +406,43 @@ fn a_copy_is_equal(rt: HostRuntime) {
     drop(mixed);
 }
 
-// The plan for a full array.
-fn full_plan(rt: &(impl Abort + AllocGlobal), pes: u32) -> Decision
-    requires some_pe { 1 ≤ pes }
-    requires few_pes { pes ≤ 256 }
-{
-    let full = full(rt);
-    let decision = planned(rt, &full, pes);
-    drop(full);
-    decision
-}
-
-// Its bottleneck, its bytes moved and its number of moves.
+// The bottleneck of a decision, its bytes moved and its number of moves.
 fn numbers_of(decision: &Decision) -> (u64, u64, usize) {
     let moves = decision.moves.as_slice().len();
     (decision.division.bottleneck, decision.moved, moves)
+}
+
+// The load of each element of a full array, a number of PEs, and the numbers of its plan.
+type FullPlan = (Units, u32, (u64, u64, usize));
+
+// Whether the plan has these numbers, and is accepted.
+fn is_full_planned_so(rt: &(impl Abort + AllocGlobal), row: &FullPlan) -> bool {
+    let &(load, pes, numbers) = row;
+    assert_for(rt, 1 <= pes && pes <= 256, ("PEs", pes));
+    let full = full(rt, load);
+    let decision = planned(rt, &full, pes);
+    let accepted = check(&full, pes, &decision).is_ok();
+    let found = numbers_of(&decision) == numbers;
+    drop(decision);
+    drop(full);
+    accepted && found
+}
+
+#[test]
+fn a_full_array_on_all_pes_and_on_one(rt: HostRuntime) {
+    const ROWS: [FullPlan; 4] = [
+        (1, 256, (256, 0, 0)),
+        (1, 1, (65_536, 522_240, 65_280)),
+        (140_737_488_355_327, 256, (36_028_797_018_963_712, 0, 0)),
+        (
+            140_737_488_355_327,
+            1,
+            (9_223_372_036_854_710_272, 522_240, 65_280),
+        ),
+    ];
+    for row in &ROWS {
+        assert_for(&rt, is_full_planned_so(&rt, row), row);
+    }
 }
 
 // Each block has the name behind its own number.
@@ -431,20 +454,12 @@ fn expect_names_behind(rt: &impl Abort, names: &[u32]) {
 }
 
 #[test]
-fn a_full_array_on_all_pes(rt: HostRuntime) {
-    let decision = full_plan(&rt, 256);
-    let numbers = numbers_of(&decision);
-    assert_for(&rt, numbers == (256, 0, 0), numbers);
+fn each_block_of_a_full_array_stays_on_its_pe(rt: HostRuntime) {
+    let full = full(&rt, 1);
+    let decision = planned(&rt, &full, 256);
+    drop(full);
     expect_names_behind(&rt, decision.naming.as_slice());
     drop(decision);
-}
-
-#[test]
-fn a_full_array_on_one_pe(rt: HostRuntime) {
-    let decision = full_plan(&rt, 1);
-    let numbers = numbers_of(&decision);
-    drop(decision);
-    assert_for(&rt, numbers == (65_536, 522_240, 65_280), numbers);
 }
 
 #[test]

@@ -3,7 +3,8 @@
 ghost use Rattle.std.specs.Prelude.{◌≤◌};
 
 use crate::fixtures::{
-    assert_for, ends_of, full_loads, is_division, is_list, loads, prefix, push, unfenced,
+    FULL_ARRAYS, FullArray, assert_for, ends_of, full_loads, is_division, is_list, is_whole_array,
+    loads, prefix, push, unfenced,
 };
 use crate::reference;
 use chain_partition::{Prefix, Probe, divide, probe, probe_on};
@@ -65,13 +66,13 @@ fn is_probe(answer: Probe, fits: bool, expected: &[u32]) -> bool {
     fitted == fits && same_ends
 }
 
-// A limit, whether five elements fit into two blocks within it, and the cuts or the stops.
+// A limit, whether some elements fit into two blocks within it, and the cuts or the stops.
 type Probed = (u64, bool, &'static [u32]);
 
 // Whether a probe of these loads for two PEs comes to this.
-fn is_probed_so(rt: &(impl Abort + AllocGlobal), five: &Loads, row: &Probed) -> bool {
+fn is_probed_so(rt: &(impl Abort + AllocGlobal), loads: &Loads, row: &Probed) -> bool {
     let &(limit, fits, ends) = row;
-    let answer = probe(rt.alloc(), five, 2, limit).expect(rt, "out of memory");
+    let answer = probe(rt.alloc(), loads, 2, limit).expect(rt, "out of memory");
     is_probe(answer, fits, ends)
 }
 
@@ -101,6 +102,21 @@ fn probes_fit_or_stop(rt: HostRuntime) {
     drop(five);
 }
 
+#[test]
+fn probes_of_a_full_array_fit_or_stop(rt: HostRuntime) {
+    let full = full_loads(&rt, 140_737_488_355_327);
+    const ROWS: [Probed; 4] = [
+        (4_611_686_018_427_355_136, true, &[0, 32_768, 65_536]),
+        (4_611_686_018_427_355_135, false, &[0, 32_767, 65_534]),
+        (9_223_372_036_854_710_271, true, &[0, 65_535, 65_536]),
+        (u64::MAX, true, &[0, 65_536, 65_536]),
+    ];
+    for row in &ROWS {
+        assert_for(&rt, is_probed_so(&rt, &full, row), row);
+    }
+    drop(full);
+}
+
 // The load of a range, where the chain has it.
 fn load_of(prefix: &Prefix, first: usize, end: usize) -> Option<u64> {
     if first <= end && end <= prefix.len() {
@@ -126,14 +142,21 @@ fn loads_of_ranges_by_running_sums(rt: HostRuntime) {
     drop(prefix);
 }
 
-#[test]
-fn a_full_array_of_full_loads(rt: HostRuntime) {
-    let full = full_loads(&rt, 4_294_967_295);
-    let division = divided(&rt, &full, 1);
-    let found = is_division(&division, 281_474_976_645_120, &[0, 65_536], &[0, 65_535]);
+// Whether a full array is divided into one block.
+fn is_full_divided(rt: &(impl Abort + AllocGlobal), row: &FullArray) -> bool {
+    let full = full_loads(rt, row.0);
+    let division = divided(rt, &full, 1);
+    let found = is_whole_array(&division, row.1);
     drop(division);
     drop(full);
-    assert_for(&rt, found, "another division");
+    found
+}
+
+#[test]
+fn a_full_array_of_full_loads(rt: HostRuntime) {
+    for row in &FULL_ARRAYS {
+        assert_for(&rt, is_full_divided(&rt, row), row);
+    }
 }
 
 // The chain of so many loads, each of them 0, 1 or 7, with this number.

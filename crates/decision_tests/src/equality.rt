@@ -1,8 +1,8 @@
 //! Equality is of whole values: any part that differs makes a difference.
 
 use crate::fixtures::{
-    DIVISION, EXAMPLE, MOVING, NAMING, assert_for, decision, decision_with, division, fenced,
-    loads, sizes, snapshot, unfenced,
+    DIVISION, EXAMPLE, Element, MOVING, NAMING, assert_for, decision, decision_with, division,
+    fenced, loads, sizes, snapshot, unfenced,
 };
 use lb_certificates::{Division, Snapshot};
 use std::process::Abort;
@@ -91,11 +91,7 @@ fn another_floor_makes_another_decision(rt: HostRuntime) {
 }
 
 // Whether the snapshot of so many PEs and these elements is the example.
-fn is_example_of(
-    rt: &(impl Abort + AllocGlobal),
-    procs: u32,
-    elements: &[(u32, u32, u32)],
-) -> bool {
+fn is_example_of(rt: &(impl Abort + AllocGlobal), procs: u32, elements: &[Element]) -> bool {
     let other = snapshot(rt, procs, elements);
     let example = snapshot(rt, 2, &EXAMPLE);
     let same = other == example;
@@ -108,7 +104,7 @@ fn is_example_of(
 fn a_snapshot_with_one_element_changed_is_another(rt: HostRuntime) {
     assert_for(&rt, is_example_of(&rt, 2, &EXAMPLE), "unchanged");
     assert_for(&rt, !is_example_of(&rt, 3, &EXAMPLE), "three PEs");
-    static CHANGED: [&[(u32, u32, u32)]; 5] = [
+    static CHANGED: [&[Element]; 5] = [
         &[(1, 10, 0), (1, 9, 1), (3, 8, 0)],
         &[(1, 10, 0), (1, 7, 1), (2, 8, 0)],
         &[(1, 10, 1), (1, 9, 1), (2, 8, 0)],

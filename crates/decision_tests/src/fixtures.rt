@@ -49,13 +49,27 @@ pub(crate) fn index(rt: &(impl Abort + AllocGlobal), place: u32) -> Index {
 }
 
 pub(crate) fn loads(rt: &(impl Abort + AllocGlobal), units: &[Units]) -> Loads {
-    Loads::new(list(rt, units)).expect(rt, "too many loads")
+    Loads::new(list(rt, units)).expect(rt, "past a limit")
 }
 
 /// As many loads as there may be, all of them this one.
 pub(crate) fn full_loads(rt: &(impl Abort + AllocGlobal), load: Units) -> Loads {
     let units = vec![in rt.alloc(); load; 65_536].expect(rt, "out of memory");
     Loads::new(units).expect(rt, "refused a full array")
+}
+
+/// The load of each element of a full array, and that of all of them.
+pub(crate) type FullArray = (Units, u64);
+
+/// Full arrays: with the greatest load that there may be, and with the greatest of 32 bits.
+pub(crate) const FULL_ARRAYS: [FullArray; 2] = [
+    (140_737_488_355_327, 9_223_372_036_854_710_272),
+    (4_294_967_295, 281_474_976_645_120),
+];
+
+/// Whether a division of a full array has one block with this load, and its fence.
+pub(crate) fn is_whole_array(division: &Division, load: u64) -> bool {
+    is_division(division, load, &[0, 65_536], &[0, 65_535])
 }
 
 /// The bytes and the PE of each element.
@@ -146,20 +160,23 @@ pub(crate) fn prices(rt: &(impl Abort + AllocGlobal), u: &[i64], v: &[i64]) -> P
     }
 }
 
-/// The elements of the example: their loads, bytes and PEs.
-pub(crate) const EXAMPLE: [(u32, u32, u32); 3] = [(1, 10, 0), (1, 9, 1), (2, 8, 0)];
+/// The load, the bytes and the PE of an element.
+pub(crate) type Element = (Units, u32, u32);
 
-// The loads of elements with these loads, bytes and PEs.
-fn loads_of(rt: &(impl Abort + AllocGlobal), elements: &[(u32, u32, u32)]) -> Loads {
+/// The elements of the example.
+pub(crate) const EXAMPLE: [Element; 3] = [(1, 10, 0), (1, 9, 1), (2, 8, 0)];
+
+// The loads of these elements.
+fn loads_of(rt: &(impl Abort + AllocGlobal), elements: &[Element]) -> Loads {
     let mut units = Vec::new(rt.alloc());
     for element in elements {
         push(rt, &mut units, element.0);
     }
-    Loads::new(units).expect(rt, "too many loads")
+    Loads::new(units).expect(rt, "past a limit")
 }
 
 // Their bytes and PEs.
-fn sizes_of(rt: &(impl Abort + AllocGlobal), elements: &[(u32, u32, u32)]) -> Sizes {
+fn sizes_of(rt: &(impl Abort + AllocGlobal), elements: &[Element]) -> Sizes {
     let mut pairs = Vec::new(rt.alloc());
     for &(_, bytes, place) in elements {
         let pair = (bytes, pe(rt, place));
@@ -168,11 +185,11 @@ fn sizes_of(rt: &(impl Abort + AllocGlobal), elements: &[(u32, u32, u32)]) -> Si
     Sizes::new(pairs).expect(rt, "past a limit")
 }
 
-/// The snapshot at step 5 of elements with these loads, bytes and PEs.
+/// The snapshot of these elements at step 5.
 pub(crate) fn snapshot(
     rt: &(impl Abort + AllocGlobal),
     procs: u32,
-    elements: &[(u32, u32, u32)],
+    elements: &[Element],
 ) -> Snapshot {
     let loads = loads_of(rt, elements);
     let sizes = sizes_of(rt, elements);

@@ -8,7 +8,7 @@ fn each_limit_has_its_number(rt: HostRuntime) {
     const ROWS: [(u64, u64); 11] = [
         (Limits::ELEMENTS as u64, 65_536),
         (Limits::PES as u64, 256),
-        (Limits::LOAD as u64, 4_294_967_295),
+        (Limits::LOAD, 140_737_488_355_327),
         (Limits::STATE_BYTES as u64, 1_048_576),
         (Limits::BODY_BYTES as u64, 1_024),
         (Limits::LETTERS as u64, 4_294_967_296),

@@ -11,7 +11,7 @@ use std::process::Abort;
 fn plain_end(units: &[Units], first: usize, limit: u64) -> usize {
     let mut load: u64 = 0;
     for end in first..units.len() {
-        load = load.saturating_add(u64::from(units[end]));
+        load = load.saturating_add(units[end]);
         if load > limit {
             return end;
         }
@@ -71,7 +71,7 @@ fn some_units(rt: &(impl Abort + AllocGlobal), number: u64) -> Vec<Units> {
     let mut units = list(rt, &[]);
     for i in 0..number % 41 {
         let load = scattered(number.wrapping_mul(64).wrapping_add(i)) % 16;
-        let load = if i % 3 == 0 { 0 } else { load as Units };
+        let load = if i % 3 == 0 { 0 } else { load };
         push(rt, &mut units, load);
     }
     units

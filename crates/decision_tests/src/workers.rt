@@ -3,7 +3,10 @@
 
 ghost use Rattle.std.specs.Prelude.{◌≤◌};
 
-use crate::fixtures::{EXAMPLE, assert_for, full_loads, is_division, loads, same, snapshot};
+use crate::fixtures::{
+    EXAMPLE, FULL_ARRAYS, FullArray, assert_for, full_loads, is_division, is_whole_array, loads,
+    same, snapshot,
+};
 use chain_partition::divide_with;
 use chare_index::{Gate, NoGate};
 use lb_certificates::{Division, Loads, Snapshot, Units};
@@ -38,14 +41,21 @@ fn any_number_of_workers_divides_the_same(rt: HostRuntime) {
     drop(five);
 }
 
-#[test]
-fn many_workers_divide_a_full_array(rt: HostRuntime) {
-    let full = full_loads(&rt, 4_294_967_295);
-    let division = divided(&rt, &full, 1, 64);
-    let found = is_division(&division, 281_474_976_645_120, &[0, 65_536], &[0, 65_535]);
+// Whether as many workers as there may be divide a full array into one block.
+fn is_full_divided<R: Threads + Sync + Abort + AllocGlobal>(rt: &R, row: &FullArray) -> bool {
+    let full = full_loads(rt, row.0);
+    let division = divided(rt, &full, 1, 64);
+    let found = is_whole_array(&division, row.1);
     drop(division);
     drop(full);
-    assert_for(&rt, found, "another division");
+    found
+}
+
+#[test]
+fn many_workers_divide_a_full_array(rt: HostRuntime) {
+    for row in &FULL_ARRAYS {
+        assert_for(&rt, is_full_divided(&rt, row), row);
+    }
 }
 
 // A gate that counts its calls by each of four workers, and those by anybody else.
@@ -198,7 +208,7 @@ impl Meeting {
 
 // Whether two workers at this gate divide a full array in halves.
 fn divides_in_halves<R: Threads + Sync + Abort + AllocGlobal>(rt: &R, gate: &Meeting) -> bool {
-    let full = full_loads(rt, 4_294_967_295);
+    let full = full_loads(rt, 140_737_488_355_327);
     let division = divide_with(rt, rt.alloc(), &full, 2, 2, gate).expect(rt, "out of memory");
     drop(full);
     let found = same(division.cuts.as_slice(), &[0, 32_768, 65_536]);

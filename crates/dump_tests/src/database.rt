@@ -1,5 +1,5 @@
-//! The worked rows: four elements of which one reports first, a database with no elements in the last round,
-//! and two rounds of two elements.
+//! The worked rows: four elements of which one reports first, loads at their limit, a database with no elements in the
+//! last round, and two rounds of two elements.
 
 ghost use Rattle.std.specs.Prelude.{◌≤◌};
 
@@ -62,10 +62,10 @@ fn made(rt: &(impl Abort + AllocGlobal), len: u32) -> LoadDb
     LoadDb::new(rt.alloc(), len).expect(rt, "out of memory")
 }
 
-// Whether element 2 can do all the work that is counted and more, and report.
+// Whether element 2 can do more work than 32 bits count, and report.
 fn begins(db: &mut LoadDb) -> bool {
     let reported = db.report(2, round(1), 5, pe(0));
-    reported.is_ok() && db.charge(2, u32::MAX).is_ok() && db.charge(2, 1).is_ok()
+    reported.is_ok() && db.charge(2, 4_294_967_295).is_ok() && db.charge(2, 1).is_ok()
 }
 
 // A database of four elements, of which element 2 has done so.
@@ -92,7 +92,8 @@ fn refuses_to_go_on(db: &mut LoadDb) -> bool {
 fn four_elements_of_which_one_reported(rt: HostRuntime) {
     let mut db = begun(&rt);
     let before = seen(&db);
-    assert_for(&rt, has(&db, 2, u32::MAX, Some((5, pe(0)))), "element 2");
+    let report = Some((5, pe(0)));
+    assert_for(&rt, has(&db, 2, 4_294_967_296, report), "element 2");
     assert_for(&rt, refuses_to_go_on(&mut db), "it goes on");
     assert_for(&rt, refuses_a_snapshot(&db), "a snapshot");
     assert_for(&rt, seen(&db) == before, "a change");
@@ -161,7 +162,7 @@ fn is_of_four(taken: &Snapshot) -> bool {
     let place = pe(0);
     let sizes = [(1, place), (1, place), (5, place), (1, place)];
     (taken.step(), taken.procs()) == (1, 1)
-        && same(taken.loads().as_slice(), &[0, 0, 4_294_967_295, 0])
+        && same(taken.loads().as_slice(), &[0, 0, 4_294_967_296, 0])
         && same(taken.sizes().as_slice(), &sizes)
 }
 
@@ -174,11 +175,41 @@ fn gives_the_four(rt: &impl Abort, db: &LoadDb) -> bool {
 }
 
 #[test]
-fn a_full_load_is_taken(rt: HostRuntime) {
+fn a_load_past_32_bits_is_taken(rt: HostRuntime) {
     let mut db = begun(&rt);
     report_the_others(&rt, &mut db);
     assert_for(&rt, gives_the_four(&rt, &db), "another snapshot");
     drop(db);
+}
+
+// The units that an element is charged with, one after the other, and its load.
+type Charged = (Units, Units, Units);
+
+// Whether the load of an element that is charged so is that.
+fn is_charged_so(rt: &(impl Abort + AllocGlobal), row: &Charged) -> bool {
+    let &(first, second, load) = row;
+    let mut db = made(rt, 1);
+    let charged = db.charge(0, first).is_ok() && db.charge(0, second).is_ok();
+    let found = db.load(0);
+    drop(db);
+    charged && found == Some(load)
+}
+
+#[test]
+fn a_load_stops_at_its_limit(rt: HostRuntime) {
+    const ROWS: [Charged; 4] = [
+        (140_737_488_355_326, 1, 140_737_488_355_327),
+        (140_737_488_355_327, 1, 140_737_488_355_327),
+        (1, 18_446_744_073_709_551_615, 140_737_488_355_327),
+        (
+            18_446_744_073_709_551_615,
+            18_446_744_073_709_551_615,
+            140_737_488_355_327,
+        ),
+    ];
+    for row in &ROWS {
+        assert_for(&rt, is_charged_so(&rt, row), row);
+    }
 }
 
 // A database of no elements in the last round.

@@ -1,14 +1,13 @@
-//! What the tests are made of: a full dump, as a snapshot and as bytes. What can't be made ends the test.
+//! What the tests are made of: how an answer is judged, the parts of a decision, and texts by their numbers. What can't
+//! be made ends the test.
 
 ghost use Rattle.std.specs.Prelude.{◌≡◌, true};
 
-use chare_index::Pe;
-use lb_dump::{DumpError, DumpReader, decode, encode};
-use lb_snapshot::{Loads, Sizes, Snapshot, Units};
+use lb_dump::{Dump, DumpError, decode, encode, encode_dump};
+use lb_snapshot::Snapshot;
 use std::alloc::Global;
 use std::fmt::Debug;
 use std::process::Abort;
-use test_fixtures::push_element;
 
 /// Ends the test where this does not hold, with what it was to hold for.
 pub(crate) fn assert_for<R: Debug + Copy>(rt: &impl Abort, holds: bool, row: R)
@@ -22,10 +21,20 @@ pub(crate) fn same<T: PartialEq>(some: &[T], others: &[T]) -> bool {
     some == others
 }
 
-/// Whether the example was found.
-pub(crate) fn is_example(found: Result<Snapshot, DumpError>) -> bool {
+/// A copy of a list.
+pub(crate) fn list<T: Copy>(rt: &(impl Abort + AllocGlobal), items: &[T]) -> Vec<T> {
+    Vec::from_slice(rt.alloc(), items).expect(rt, "out of memory")
+}
+
+/// Adds an item to a list.
+pub(crate) fn push<T: Copy>(rt: &impl Abort, items: &mut Vec<T>, item: T) {
+    items.push(item).expect(rt, "out of memory");
+}
+
+/// Whether the example was found, with no decision.
+pub(crate) fn is_example(found: Result<Dump, DumpError>) -> bool {
     let same = match &found {
-        Ok(found) => test_fixtures::is_example(found),
+        Ok(dump) => dump.recorded().is_none() && test_fixtures::is_example(dump.snapshot()),
         Err(_) => false,
     };
     drop(found);
@@ -37,100 +46,55 @@ pub(crate) fn decodes_to(alloc: Global, text: &[u8], fault: Option<DumpError>) -
     decode(alloc, text).err() == fault
 }
 
-/// Whether a snapshot has this text.
+/// Whether a snapshot has this text, in the format LBD1.
 pub(crate) fn has_text(rt: &(impl Abort + AllocGlobal), snapshot: &Snapshot, text: &[u8]) -> bool {
-    let encoded = encode(rt.alloc(), snapshot).expect(rt, "out of memory");
+    let encoded = encode(rt.alloc(), snapshot).expect(rt, "no text");
     let has = same(&encoded, text);
     drop(encoded);
     has
 }
 
-// The load, the size and the place of element `i` of a full array: loads of all widths, up to the greatest size.
-fn full_element(i: u32) -> (u32, u32, u32) {
-    (
-        i.wrapping_mul(65_537),
-        1_048_576u32.saturating_sub(i),
-        i % 256,
-    )
+/// Whether a dump has this text, in the format LBD2.
+pub(crate) fn has_dump_text(rt: &(impl Abort + AllocGlobal), dump: &Dump, text: &[u8]) -> bool {
+    let encoded = encode_dump(rt.alloc(), dump).expect(rt, "out of memory");
+    let has = same(&encoded, text);
+    drop(encoded);
+    has
 }
 
-fn full_loads(rt: &(impl Abort + AllocGlobal)) -> Vec<Units> {
-    let mut loads = Vec::new(rt.alloc());
-    for i in 0..65_536u32 {
-        let (load, _, _) = full_element(i);
-        loads.push(load).expect(rt, "out of memory");
+/// Whether a dump has this text, in the format that the text has.
+pub(crate) fn spells(rt: &(impl Abort + AllocGlobal), dump: &Dump, text: &[u8]) -> bool {
+    if text.starts_with(b"LBD1") {
+        return dump.recorded().is_none() && has_text(rt, dump.snapshot(), text);
     }
-    loads
+    has_dump_text(rt, dump, text)
 }
 
-fn full_sizes(rt: &(impl Abort + AllocGlobal)) -> Vec<(u32, Pe)> {
-    let mut pairs = Vec::new(rt.alloc());
-    for i in 0..65_536u32 {
-        let (_, size, place) = full_element(i);
-        pairs
-            .push((size, Pe::new(place).expect(rt, "no such PE")))
-            .expect(rt, "out of memory");
-    }
-    pairs
-}
-
-/// The most elements on the most PEs, at the greatest step.
-pub(crate) fn full(rt: &(impl Abort + AllocGlobal)) -> Snapshot {
-    let loads = Loads::new(full_loads(rt)).expect(rt, "too many loads");
-    let sizes = Sizes::new(full_sizes(rt)).expect(rt, "past a limit");
-    Snapshot::new(u32::MAX, 256, loads, sizes).expect(rt, "no snapshot")
-}
-
-// Whether a snapshot is the full one.
-fn equals_full(rt: &(impl Abort + AllocGlobal), found: &Snapshot) -> bool {
-    let full = full(rt);
-    let same = *found == full;
-    drop(full);
-    same
-}
-
-/// Whether it was found.
-pub(crate) fn is_full(rt: &(impl Abort + AllocGlobal), found: Result<Snapshot, DumpError>) -> bool {
-    let same = match &found {
-        Ok(found) => equals_full(rt, found),
-        Err(_) => false,
+/// Whether a dump was found that has this text, or this fault.
+pub(crate) fn comes_to(
+    rt: &(impl Abort + AllocGlobal),
+    found: Result<Dump, DumpError>,
+    expected: Result<&[u8], DumpError>,
+) -> bool {
+    let same = match (&found, expected) {
+        (Ok(dump), Ok(text)) => spells(rt, dump, text),
+        (Err(found), Err(fault)) => *found == fault,
+        _ => false,
     };
     drop(found);
     same
 }
 
-/// Its 786,448 bytes, element by element.
-pub(crate) fn full_text(rt: &(impl Abort + AllocGlobal)) -> Vec<u8> {
-    let head = b"LBD1\xff\xff\xff\xff\0\0\x01\0\0\x01\0\0";
-    let mut text = Vec::from_slice(rt.alloc(), head).expect(rt, "out of memory");
-    for i in 0..65_536u32 {
-        push_element(&mut text, full_element(i)).expect(rt, "out of memory");
+/// A text with this byte at an offset.
+pub(crate) fn changed(
+    rt: &(impl Abort + AllocGlobal),
+    text: &[u8],
+    offset: usize,
+    byte: u8,
+) -> Vec<u8> {
+    let mut changed = list(rt, text);
+    if offset < changed.len() {
+        changed[offset] = byte;
     }
-    text
-}
-
-/// What a reader gives at the end, or why it gives nothing, where this is how it took the text.
-pub(crate) fn ended(reader: DumpReader, fed: Result<(), DumpError>) -> Result<Snapshot, DumpError> {
-    match fed {
-        Ok(()) => reader.end(),
-        Err(fault) => {
-            drop(reader);
-            Err(fault)
-        }
-    }
-}
-
-// Gives a reader a text byte by byte.
-fn feed_bytes(reader: &mut DumpReader, text: &[u8]) -> Result<(), DumpError> {
-    for byte in text {
-        reader.feed(&[*byte])?;
-    }
-    Ok(())
-}
-
-/// What a reader gives for a text that comes byte by byte, or why it gives nothing.
-pub(crate) fn fed_byte_by_byte(alloc: Global, text: &[u8]) -> Result<Snapshot, DumpError> {
-    let mut reader = DumpReader::new(alloc);
-    let fed = feed_bytes(&mut reader, text);
-    ended(reader, fed)
+    changed
 }

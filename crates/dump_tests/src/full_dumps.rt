@@ -1,14 +1,60 @@
-//! The most elements, encoded, written and read. The text has more than one block of the writer and more than one
-//! piece of the reader.
+//! The most elements in the format LBD1, encoded, written and read. The text has more than one block of the writer and
+//! more than one piece of the reader.
 
-use crate::fixtures::{self, assert_for, decodes_to, full, full_text, has_text, is_full, same};
-use lb_dump::{DumpError, decode, read_from, write_to};
-use lb_snapshot::Snapshot;
-use std::io::ErrorKind;
+use crate::feeding::{ends_there, is_fed_by_bytes, is_read, is_read_by_bytes};
+use crate::fixtures::{assert_for, has_text, list, push, same};
+use chare_index::Pe;
+use lb_dump::{Dump, DumpError, decode, write_to};
+use lb_snapshot::{Loads, Sizes, Snapshot, Units};
 use std::process::Abort;
-use test_fixtures::{Sink, Source};
+use test_fixtures::{Sink, push_element};
 
-// Whether this is the text of the snapshot.
+// The load, the size and the place of element `i` of a full array: loads of all widths, up to the greatest size.
+fn full_element(i: u32) -> (u32, u32, u32) {
+    (
+        i.wrapping_mul(65_537),
+        1_048_576u32.saturating_sub(i),
+        i % 256,
+    )
+}
+
+fn full_loads(rt: &(impl Abort + AllocGlobal)) -> Vec<Units> {
+    let mut loads = Vec::new(rt.alloc());
+    for i in 0..65_536u32 {
+        let (load, _, _) = full_element(i);
+        push(rt, &mut loads, Units::from(load));
+    }
+    loads
+}
+
+fn full_sizes(rt: &(impl Abort + AllocGlobal)) -> Vec<(u32, Pe)> {
+    let mut pairs = Vec::new(rt.alloc());
+    for i in 0..65_536u32 {
+        let (_, size, place) = full_element(i);
+        let pair = (size, Pe::new(place).expect(rt, "no such PE"));
+        push(rt, &mut pairs, pair);
+    }
+    pairs
+}
+
+// The most elements on the most PEs, at the greatest step.
+fn full(rt: &(impl Abort + AllocGlobal)) -> Snapshot {
+    let loads = Loads::new(full_loads(rt)).expect(rt, "too many loads");
+    let sizes = Sizes::new(full_sizes(rt)).expect(rt, "past a limit");
+    Snapshot::new(u32::MAX, 256, loads, sizes).expect(rt, "no snapshot")
+}
+
+// Its 786,448 bytes, element by element.
+fn full_text(rt: &(impl Abort + AllocGlobal)) -> Vec<u8> {
+    let head = b"LBD1\xff\xff\xff\xff\0\0\x01\0\0\x01\0\0";
+    let mut text = list(rt, head);
+    for i in 0..65_536u32 {
+        push_element(&mut text, full_element(i)).expect(rt, "out of memory");
+    }
+    text
+}
+
+// Whether this is the text of the full snapshot.
 fn is_encoded(rt: &(impl Abort + AllocGlobal), text: &[u8]) -> bool {
     let full = full(rt);
     let encoded = has_text(rt, &full, text);
@@ -21,6 +67,24 @@ fn encoded(rt: HostRuntime) {
     let text = full_text(&rt);
     assert_for(&rt, is_encoded(&rt, &text), "another text");
     drop(text);
+}
+
+// Whether a snapshot is the full one.
+fn equals_full(rt: &(impl Abort + AllocGlobal), found: &Snapshot) -> bool {
+    let full = full(rt);
+    let same = *found == full;
+    drop(full);
+    same
+}
+
+// Whether it was found, with no decision.
+fn is_full(rt: &(impl Abort + AllocGlobal), found: Result<Dump, DumpError>) -> bool {
+    let same = match &found {
+        Ok(found) => found.recorded().is_none() && equals_full(rt, found.snapshot()),
+        Err(_) => false,
+    };
+    drop(found);
+    same
 }
 
 #[test]
@@ -49,55 +113,32 @@ fn written(rt: HostRuntime) {
     drop(snapshot);
 }
 
-// Whether a reader of this text that gives so many bytes a call gives the snapshot.
-fn reads(rt: &(impl Abort + AllocGlobal), text: &[u8], at_once: usize) -> bool {
-    let mut source = Source::new(text, at_once, None);
-    is_full(rt, read_from(rt.alloc(), &mut source))
-}
-
 #[test]
 fn read_in_pieces(rt: HostRuntime) {
     let text = full_text(&rt);
-    assert_for(&rt, reads(&rt, &text, 1_000), 1_000);
-    assert_for(&rt, reads(&rt, &text, 65_536), 65_536);
-    assert_for(&rt, reads(&rt, &text, 1_000_000), 1_000_000);
+    for at_once in [1_000, 65_536, 1_000_000] {
+        assert_for(&rt, is_read(&rt, &text, at_once), at_once);
+    }
     drop(text);
-}
-
-// A reader of this text that gives one byte a call has to give the snapshot, by so many calls and the one at the end.
-fn expect_full(rt: &(impl Abort + AllocGlobal), text: &[u8]) {
-    let mut source = Source::new(text, 1, Some((786_449, ErrorKind::Other)));
-    let found = read_from(rt.alloc(), &mut source);
-    assert_for(rt, is_full(rt, found), "another snapshot");
-    assert_for(rt, source.calls == 786_449, "other calls");
 }
 
 #[test]
 fn read_byte_by_byte(rt: HostRuntime) {
     let text = full_text(&rt);
-    expect_full(&rt, &text);
+    assert_for(&rt, is_read_by_bytes(&rt, &text), "another snapshot");
     drop(text);
 }
 
 #[test]
 fn fed_byte_by_byte(rt: HostRuntime) {
     let text = full_text(&rt);
-    let found = fixtures::fed_byte_by_byte(rt.alloc(), &text);
+    assert_for(&rt, is_fed_by_bytes(&rt, &text), "another snapshot");
     drop(text);
-    assert_for(&rt, is_full(&rt, found), "another snapshot");
-}
-
-// A text has to have this fault.
-fn expect_fault(rt: &(impl Abort + AllocGlobal), text: &[u8], fault: DumpError) {
-    assert_for(rt, decodes_to(rt.alloc(), text, Some(fault)), fault);
 }
 
 #[test]
 fn one_byte_too_few_or_too_many(rt: HostRuntime) {
     let mut text = full_text(&rt);
-    assert_for(&rt, text.pop().is_some(), "no bytes");
-    expect_fault(&rt, &text, DumpError::Short(786_447));
-    text.extend_from_slice(&[0, 0]).expect(&rt, "out of memory");
-    expect_fault(&rt, &text, DumpError::Trailing);
+    assert_for(&rt, ends_there(rt.alloc(), &mut text), "another end");
     drop(text);
 }

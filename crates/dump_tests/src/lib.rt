@@ -1,12 +1,30 @@
 //! Tests of where snapshots come from: dumps, whole and in pieces, and the load database. They use public calls only,
-//! on the worked example, on a full array, and on readers and writers that fail.
+//! on the worked example, on full arrays, and on readers and writers that fail.
 #![tactic(auto)]
 
+#[cfg(test)]
+mod changed;
 #[cfg(test)]
 mod database;
 #[cfg(test)]
 mod dumps;
 #[cfg(test)]
+mod feeding;
+#[cfg(test)]
 mod fixtures;
 #[cfg(test)]
 mod full_dumps;
+#[cfg(test)]
+mod full_recorded;
+#[cfg(test)]
+mod made;
+#[cfg(test)]
+mod parts;
+#[cfg(test)]
+mod recorded;
+#[cfg(test)]
+mod slow_reader;
+#[cfg(test)]
+mod streams;
+#[cfg(test)]
+mod wide;

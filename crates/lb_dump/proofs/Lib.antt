@@ -1,9 +1,9 @@
-pub mod GoodTexts
-pub mod NextElements
-pub mod OneText
-pub mod HeldFacts
-pub mod HeldTexts
+pub mod Standing
+pub mod Steps
+pub mod ElementSteps
+pub mod MoveSteps
+pub mod PlanSteps
+pub mod WholeDumps
+pub mod Lengths
+pub mod Answered
 pub mod ReadPieces
-pub mod Spelling
-pub mod WholeTexts
-pub mod WordLaws

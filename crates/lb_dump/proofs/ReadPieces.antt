@@ -1,33 +1,26 @@
 -- A dump that comes from a reader, piece by piece.
-use Rattle.std.proofs.Common.{◌≡◌, ℕ, ◌⊎◌, inl, inr, List, [], ◌++◌, Option, Some, None, Result, Ok, Err, ap, ◌∙◌, refl, sym, subst}
+use Rattle.std.proofs.Common.{◌≡◌, ℕ, ◌⊎◌, inl, inr, List, [], ◌++◌, length, Option, Some, None, Result, Ok, Err, ap, ◌∙◌, refl, sym, subst}
 use Rattle.std.specs.Prelude.{IfErr, IfOk, IfSome, IsErrOf, OnOk, ⊤}
 use Rattle.std.specs.Result.{IsErr, IsErrAnd}
 use Rattle.std.specs.Io.KnownBytes.{Consumes, IsAtEnd}
 use Rattle.std.proofs.KnownBytes.{Consumes-trans}
 use Rattle.std.proofs.lemmas.List.{append-nil}
-use Rattle.lb_snapshot.specs.Measured.{Taken}
-use Rattle.lb_dump.specs.declared.error.DumpError.{DumpError}
-use Rattle.lb_dump.specs.declared.error.DumpError.TheVariants.{Magic, Short, Procs, Count, Size, Place, Trailing, Read, Write, OutOfMemory}
-use Rattle.lb_dump.specs.Faults.{IsBroken, IsFault}
+use Rattle.dump_format.specs.Dumps.{Dumped}
+use Rattle.dump_format.specs.Faults.{IsBroken, IsFault, IsTold, fault_found}
+use Rattle.dump_format.specs.Fields.{dump as fields_of_dump}
+use Rattle.dump_format.specs.declared.error.DumpError.{DumpError}
+use Rattle.dump_format.specs.declared.error.DumpError.TheVariants.{OutOfMemory, Read}
+use Rattle.dump_format.proofs.Judging.{broken_stays}
+use Rattle.dump_format.proofs.OnlyFaults.{only_told}
 use Rattle.lb_dump.specs.Reading.{Progress, Feeds, EndsReading, EndsText, IsAnswer}
-use Rattle.lb_dump.proofs.GoodTexts.{broken_append}
 
 -- a fault that a byte brings is the first one of the text
 pub fault_by : (text : List ℕ) (e : DumpError) → IsBroken text e → IsFault text e
-fault_by text Magic broken = broken
-fault_by text (Short n) broken = elim broken [ ]
-fault_by text Procs broken = broken
-fault_by text Count broken = broken
-fault_by text (Size i) broken = broken
-fault_by text (Place i) broken = broken
-fault_by text Trailing broken = broken
-fault_by text Read broken = broken
-fault_by text Write broken = broken
-fault_by text OutOfMemory broken = broken
+fault_by text e broken = ap (λ v. fault_found v (length text)) broken
 
 -- a first piece that is refused is answered by its fault
-pub fed_fault : (text : List ℕ) (e : DumpError) (start new : Progress) → start ≡ Ok [] → Feeds start text (Err e) new → IsAnswer text (Err e)
-fed_fault text e start new fresh feeds =
+pub fed_fault : (A : Type 0) (text : List ℕ) (e : DumpError) (start new : Progress) → start ≡ Ok [] → Feeds start text (Err e) new → IsAnswer {A = A} text (Err e)
+fed_fault A text e start new fresh feeds =
     let fed_first : Feeds (Ok []) text (Err e) new = subst (λ p. Feeds p text (Err e) new) fresh feeds in
     elim fed_first.0 [
       | inl memory ↦ inl memory
@@ -48,7 +41,7 @@ fed_broken (Some bytes) now after text piece dump new e is_text so_far came fed 
     all_of (Some rest) came =
         elim at_text.0 [
           | inl none ↦ inl none
-          | inr broken ↦ inr (fault_by bytes e (subst (λ t. IsBroken t e) (sym came) (broken_append (text ++ piece) rest e broken)))
+          | inr broken ↦ inr (fault_by bytes e (subst (λ t. IsBroken t e) (sym came) (broken_stays fields_of_dump (text ++ piece) rest e broken)))
         ]
 
 -- the fault of all bytes, or out of memory, or that the reader failed
@@ -57,23 +50,31 @@ faulted None (Ok a) e is fault = tt
 faulted None (Err f) e is fault = tt
 faulted (Some bytes) result e is fault = subst (λ (r : Result ⊤ DumpError). IfErr r (λ f. (f ≡ Read) ⊎ ((f ≡ OutOfMemory) ⊎ IsFault bytes f))) (sym is) (inr fault)
 
+-- no piece brings the fault of a reader that failed
+pub no_read_fault : (text piece : List ℕ) (dump new : Progress) (e : DumpError) (P : Type 0) → dump ≡ Ok text → Feeds dump piece (Err e) new → e ≡ Read → P
+no_read_fault text piece dump new e P is_text came read =
+    elim (subst (λ (p : Progress). Feeds p piece (Err e) new) is_text came).0 [
+      | inl memory ↦ absurd (let h : Read ≡ OutOfMemory = sym read ∙ memory in cc)
+      | inr broken ↦ absurd (subst IsTold read (only_told (text ++ piece) e broken))
+    ]
+
 -- a piece without a fault is put at the end of the text
 pub fed : (text piece : List ℕ) (dump new : Progress) → dump ≡ Ok text → Feeds dump piece (Ok tt) new → new ≡ Ok (text ++ piece)
 fed text piece dump new is_text step = (subst (λ (p : Progress). Feeds p piece (Ok tt) new) is_text step).1
 
 -- the answer at the end of a text is an answer to it
-pub answer_at_end : (text : List ℕ) (result : Result Taken DumpError) → EndsText text result → IsAnswer text result
-answer_at_end text (Ok s) ends = ends
-answer_at_end text (Err e) ends = inr ends
+pub answer_at_end : {A : Type 0} (text : List ℕ) (result : Result (Dumped A) DumpError) → EndsText text result → IsAnswer text result
+answer_at_end text (Ok d) ends = ends
+answer_at_end text (Err e) ends = inr (ap (λ v. fault_found v (length text)) ends.1 ∙ ap Some (sym ends.0))
 
 -- the fault of all bytes is an answer to them, unless the reader failed
-pub fault_answers : (old : Option (List ℕ)) (e : DumpError) → IfSome old (λ bytes. (e ≡ Read) ⊎ ((e ≡ OutOfMemory) ⊎ IsFault bytes e)) → IfSome old (λ bytes. (◌≡◌ {A = Result Taken DumpError} (Err e) (Err Read)) ⊎ IsAnswer bytes (Err e))
-fault_answers None e fault = tt
-fault_answers (Some bytes) e (inl failed) = inl (ap Err failed)
-fault_answers (Some bytes) e (inr fault) = inr fault
+pub fault_answers : (A : Type 0) (old : Option (List ℕ)) (e : DumpError) → IfSome old (λ bytes. (e ≡ Read) ⊎ ((e ≡ OutOfMemory) ⊎ IsFault bytes e)) → IfSome old (λ bytes. (◌≡◌ {A = Result (Dumped A) DumpError} (Err e) (Err Read)) ⊎ IsAnswer {A = A} bytes (Err e))
+fault_answers A None e fault = tt
+fault_answers A (Some bytes) e (inl failed) = inl (ap Err failed)
+fault_answers A (Some bytes) e (inr fault) = inr fault
 
 -- the answer at the end of the text is one to all bytes, where the text is all that the reader had
-pub all_answered : (old new : Option (List ℕ)) (text : List ℕ) (result : Result Taken DumpError) → Consumes old new text → IsAtEnd new → EndsText text result → IfSome old (λ bytes. (result ≡ Err Read) ⊎ IsAnswer bytes result)
+pub all_answered : {A : Type 0} (old new : Option (List ℕ)) (text : List ℕ) (result : Result (Dumped A) DumpError) → Consumes old new text → IsAtEnd new → EndsText text result → IfSome old (λ bytes. (result ≡ Err Read) ⊎ IsAnswer bytes result)
 all_answered None new text result came end ends = tt
 all_answered (Some bytes) None text result came end ends = absurd came
 all_answered (Some bytes) (Some rest) text result came end ends =
@@ -101,11 +102,16 @@ passed_on (Ok x) error e P is then failed = absurd is
 passed_on (Err f) error e P is then failed = then (cc)
 
 -- the end of a text is no failure of the reader
-pub no_failure : (r : Result Taken DumpError) (dump : Progress) (text : List ℕ) (P : Type 0) → dump ≡ Ok text → EndsReading dump r → IsErrOf r Read → P
-no_failure r dump text P is ends failed =
-    absurd (subst (λ (p : Progress). EndsReading p (Err Read)) is (subst (λ (a : Result Taken DumpError). EndsReading dump a) failed ends))
+pub no_failure : {A : Type 0} (r : Result (Dumped A) DumpError) (dump : Progress) (text : List ℕ) (P : Type 0) → dump ≡ Ok text → EndsReading dump r → IsErrOf r Read → P
+no_failure {A = A} r dump text P is ends failed =
+    absurd (let told = (subst (λ (p : Progress). EndsReading {A = A} p (Err Read)) is (subst (λ (a : Result (Dumped A) DumpError). EndsReading dump a) failed ends)).0 in cc)
 
 -- the reader failed, whatever bytes it had
 pub read_failed : (old : Option (List ℕ)) → IfSome old (λ bytes. (Read ≡ Read) ⊎ ((Read ≡ OutOfMemory) ⊎ IsFault bytes Read))
 read_failed None = tt
 read_failed (Some bytes) = inl refl
+
+-- nothing was read yet
+pub none_consumed : (bytes : Option (List ℕ)) → Consumes bytes bytes []
+none_consumed None = tt
+none_consumed (Some bytes) = refl

@@ -1,43 +1,121 @@
--- What a reader holds of a text. Of all public items only the model of the reader has these words.
-use Rattle.std.specs.Prelude.{◌≡◌, ℕ, ◌<◌, ◌≤◌, ◌++◌, List, [], ◌∷◌, length, All}
-use Rattle.std.specs.Int.{w32, to_be_bytes}
-use Rattle.chare_index.specs.declared.limits.TheConstants.Limits.{LOAD, STATE_BYTES}
-use Rattle.lb_dump.specs.Format.{procs_in, head_len, element_len}
-use Rattle.lb_dump.specs.Faults.{IsGood}
+-- What a reader holds of a text: the values of each part that is whole, and the bytes of the part that has begun. Of all
+-- public items only the model of the reader has these words.
+use Rattle.std.specs.Prelude.{◌≡◌, ℕ, ◌+◌, ◌<◌, ◌≤◌, List, [], ◌++◌, drop, length, Option, Some, None}
+use Rattle.std.specs.Int.{byte_len, from_be_bytes, w32}
+use Rattle.chare_index.specs.declared.limits.TheConstants.Limits.{LOAD, PES, STATE_BYTES}
+use Rattle.dump_format.specs.Dumps.{AreFields, IsRecorded}
+use Rattle.dump_format.specs.Fields.{dump, ending}
+use Rattle.dump_format.specs.Layout.{Unfinished, judge}
+use Rattle.dump_format.specs.Text.{word}
+use Rattle.dump_format.specs.declared.recorded.Recorded.{Recorded}
+use Rattle.dump_parts.specs.Elements.{AreOf, elements_of}
+use Rattle.dump_parts.specs.Heads.{IsHead, element_len, head_text, load_width}
+use Rattle.dump_parts.specs.Moves.{AreMoves, moves_text}
+use Rattle.dump_parts.specs.declared.head.Format.{Format}
+use Rattle.dump_parts.specs.declared.head.Format.TheVariants.{Lbd1, Lbd2}
+use Rattle.dump_parts.specs.declared.head.Head.{Head}
+use Rattle.dump_plan.specs.Plans.{IsBegun, plan_bytes}
+use Rattle.dump_plan.specs.declared.plan.Plan.{Plan}
+use Rattle.dump_plan.specs.declared.plan.Plan.TheVariants.{Begun, Nothing, Made}
 use Rattle.lb_dump.specs.declared.held.Held.{Held}
 
--- the bytes of an element: its load, its size and its place
-abbrev pub element_text : ℕ → ℕ → ℕ → List ℕ
-element_text load size place = to_be_bytes w32 load ++ (to_be_bytes w32 size ++ to_be_bytes w32 place)
+-- the bytes of the parts that are whole
+abbrev pub head_part : Option Head → List ℕ
+head_part None = []
+head_part (Some h) = head_text h
 
--- the bytes of elements
-unfoldable pub elements_text : List ℕ → List (ℕ × ℕ) → List ℕ
-elements_text (load ∷ loads) ((size, place) ∷ sizes) = element_text load size place ++ elements_text loads sizes
-elements_text _ _ = []
+abbrev pub elements_part : Option Head → List ℕ → List (ℕ × ℕ) → List ℕ
+elements_part None loads sizes = []
+elements_part (Some h) loads sizes = elements_of h loads sizes
 
--- a text up to the last element that is whole
-unfoldable pub front_text : List ℕ → List ℕ → List (ℕ × ℕ) → List ℕ
-front_text head loads sizes = head ++ elements_text loads sizes
+abbrev pub plan_part : {A : Type 0} → Plan A → List ℕ
+plan_part Begun = []
+plan_part Nothing = word 0
+plan_part (Made r moves) = word 1 ++ plan_bytes r moves
 
--- of a reader: its text up to the last whole element, and its text so far
-abbrev pub front_of : {A : Type 0} → Held A → List ℕ
-front_of held = front_text held.head.items held.loads.items held.sizes.items
+-- the text up to the last part that is whole
+unfoldable pub front_text : {A : Type 0} → Option Head → List ℕ → List (ℕ × ℕ) → Plan A → List (ℕ × ℕ × ℕ) → List ℕ
+front_text head loads sizes plan moves =
+    head_part head ++ (elements_part head loads sizes ++ (plan_part plan ++ moves_text moves))
 
+-- the text so far
 abbrev pub text_of : {A : Type 0} → Held A → List ℕ
-text_of held = front_of held ++ held.begun.items
+text_of held = front_text held.head held.loads.items held.sizes.items held.plan held.moves.items ++ held.begun.items
 
--- as many sizes as loads, and each number within its limit
-pub record AreKept (procs : ℕ) (loads : List ℕ) (sizes : List (ℕ × ℕ)) : Type 0 where
-  pub paired : length sizes ≡ length loads
-  pub loads_fit : All (λ units. units ≤ LOAD) loads
-  pub sizes_fit : All (λ size. size.0 ≤ STATE_BYTES) sizes
-  pub places_fit : All (λ size. size.1 < procs) sizes
+-- these bytes have begun an element, and nothing is wrong with them
+pub record HasBegunElement (format : Format) (bytes : List ℕ) : Type 0 where
+  pub short : length bytes < element_len format
+  pub load : byte_len (load_width format) ≤ length bytes → from_be_bytes (load_width format) bytes ≤ LOAD
+  pub size : byte_len (load_width format) + 4 ≤ length bytes → from_be_bytes w32 (drop (byte_len (load_width format)) bytes) ≤ STATE_BYTES
 
--- Nothing is wrong with the text so far. Of the next element fewer bytes have come than it has, and before the head is
--- whole there is no element.
-pub record IsHeld {A : Type 0} (held : Held A) : Type 0 where
-  pub kept : AreKept (procs_in held.head.items) held.loads.items held.sizes.items
-  pub head : length held.head.items ≤ head_len
-  pub headless : length held.head.items < head_len → (length held.loads.items ≡ 0) × (length held.begun.items ≡ 0)
-  pub begun : length held.begun.items < element_len
-  pub good : IsGood (text_of held)
+-- these bytes have begun a move of one of so many elements, and nothing is wrong with them
+pub record HasBegunMove (count : ℕ) (bytes : List ℕ) : Type 0 where
+  pub short : length bytes < 12
+  pub index : 4 ≤ length bytes → from_be_bytes w32 bytes < count
+  pub present : 8 ≤ length bytes → from_be_bytes w32 (drop 4 bytes) < PES
+
+-- the head has begun, and no other part
+pub record IsAtHead (loads : List ℕ) (sizes : List (ℕ × ℕ)) (moves : List (ℕ × ℕ × ℕ)) (begun : List ℕ) : Type 0 where
+  pub no_loads : loads ≡ []
+  pub no_sizes : sizes ≡ []
+  pub no_moves : moves ≡ []
+  pub short : length begun < 16
+  pub unfinished : judge dump begun ≡ Unfinished
+
+-- what has begun behind so many elements: nothing in LBD1, a plan in LBD2
+abbrev pub HasBegunPlan : Format → ℕ → List ℕ → Type 0
+HasBegunPlan Lbd1 count begun = begun ≡ []
+HasBegunPlan Lbd2 count begun = IsBegun begun × (judge (ending count) begun ≡ Unfinished)
+
+-- the head is whole, and some elements are
+pub record AreSome (h : Head) (loads : List ℕ) (sizes : List (ℕ × ℕ)) : Type 0 where
+  pub head : IsHead h
+  pub kept : AreOf h loads sizes
+  pub few : length loads ≤ h.count
+
+-- an element has begun, or what stands behind the last one
+pub record IsAtElements (h : Head) (loads : List ℕ) (sizes : List (ℕ × ℕ)) (moves : List (ℕ × ℕ × ℕ)) (begun : List ℕ) : Type 0 where
+  pub some : AreSome h loads sizes
+  pub no_moves : moves ≡ []
+  pub element : length loads < h.count → HasBegunElement h.format begun
+  pub plan : length loads ≡ h.count → HasBegunPlan h.format h.count begun
+
+-- the text has ended with a flag of 0
+pub record IsAtNothing (h : Head) (loads : List ℕ) (sizes : List (ℕ × ℕ)) (moves : List (ℕ × ℕ × ℕ)) (begun : List ℕ) : Type 0 where
+  pub some : AreSome h loads sizes
+  pub all : length loads ≡ h.count
+  pub wide : h.format ≡ Lbd2
+  pub no_moves : moves ≡ []
+  pub no_bytes : begun ≡ []
+
+-- a move has begun, or the last one is whole
+pub record IsAtMoves {A : Type 0} (h : Head) (loads : List ℕ) (sizes : List (ℕ × ℕ)) (r : Recorded A) (all_moves : ℕ) (moves : List (ℕ × ℕ × ℕ)) (begun : List ℕ) : Type 0 where
+  pub some : AreSome h loads sizes
+  pub all : length loads ≡ h.count
+  pub wide : h.format ≡ Lbd2
+  pub recorded : IsRecorded h.count r
+  pub fields : AreFields r
+  pub plan_moves : r.decision.moves ≡ []
+  pub few_told : all_moves ≤ h.count
+  pub kept : AreMoves h.count moves
+  pub few_moves : length moves ≤ all_moves
+  pub move : length moves < all_moves → HasBegunMove h.count begun
+  pub no_bytes : length moves ≡ all_moves → begun ≡ []
+
+-- where a reader is in its text, and that nothing is wrong so far
+abbrev pub IsAt : {A : Type 0} → Option Head → List ℕ → List (ℕ × ℕ) → Plan A → List (ℕ × ℕ × ℕ) → List ℕ → Type 0
+IsAt None loads sizes Begun moves begun = IsAtHead loads sizes moves begun
+IsAt None loads sizes Nothing moves begun = ⊥
+IsAt None loads sizes (Made r all) moves begun = ⊥
+IsAt (Some h) loads sizes Begun moves begun = IsAtElements h loads sizes moves begun
+IsAt (Some h) loads sizes Nothing moves begun = IsAtNothing h loads sizes moves begun
+IsAt (Some h) loads sizes (Made r all) moves begun = IsAtMoves h loads sizes r all moves begun
+
+abbrev pub IsHeld : {A : Type 0} → Held A → Type 0
+IsHeld held = IsAt held.head held.loads.items held.sizes.items held.plan held.moves.items held.begun.items
+
+-- the plan is whole, and tells of so many moves
+abbrev pub HasMoves : {A : Type 0} → Plan A → ℕ → Type 0
+HasMoves Begun all = ⊥
+HasMoves Nothing all = ⊥
+HasMoves (Made r moves) all = moves ≡ all

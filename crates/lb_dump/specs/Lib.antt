@@ -1,6 +1,3 @@
-pub mod Format
-pub mod Faults
-pub mod Reading
 pub mod Held
-pub mod Writing
-pub mod Internal
+pub mod Made
+pub mod Reading

@@ -1,10 +1,12 @@
 -- What the calls that read a dump return.
 use Rattle.std.specs.Prelude.{◌≡◌, ℕ, ◌++◌, ◌⊎◌, List, length, Option, Some, None, Result, Ok, Err, ⊤}
-use Rattle.lb_snapshot.specs.Measured.{Taken}
-use Rattle.lb_dump.specs.Format.{whole_len, IsText}
-use Rattle.lb_dump.specs.Faults.{IsGood, IsBroken, IsFault}
-use Rattle.lb_dump.specs.declared.error.DumpError.{DumpError}
-use Rattle.lb_dump.specs.declared.error.DumpError.TheVariants.{OutOfMemory}
+use Rattle.dump_format.specs.Dumps.{Dumped}
+use Rattle.dump_format.specs.Text.{IsText}
+use Rattle.dump_format.specs.Faults.{IsBroken, IsFault, IsGood, IsWhole}
+use Rattle.dump_format.specs.Fields.{dump}
+use Rattle.dump_format.specs.Layout.{Unfinished, judge}
+use Rattle.dump_format.specs.declared.error.DumpError.{DumpError}
+use Rattle.dump_format.specs.declared.error.DumpError.TheVariants.{OutOfMemory, Short}
 
 -- how far a reader is: the text so far, or the error that it returns from now on
 abbrev pub Progress : Type 0
@@ -14,18 +16,18 @@ abbrev pub progress_of : List ℕ → Option DumpError → Progress
 progress_of text None = Ok text
 progress_of text (Some e) = Err e
 
--- the answer to a whole text: the snapshot that it is the text of, or its first fault, or out of memory
-abbrev pub IsAnswer : List ℕ → Result Taken DumpError → Type 0
-IsAnswer text (Ok s) = IsText s text
+-- the answer to a whole text: the dump that it is the text of, or its first fault, or out of memory
+abbrev pub IsAnswer : {A : Type 0} → List ℕ → Result (Dumped A) DumpError → Type 0
+IsAnswer text (Ok d) = IsText d text
 IsAnswer text (Err e) = (e ≡ OutOfMemory) ⊎ IsFault text e
 
--- the answer at the end of a text that is good so far
-abbrev pub EndsText : List ℕ → Result Taken DumpError → Type 0
-EndsText text (Ok s) = IsText s text
-EndsText text (Err e) = IsFault text e
+-- the answer at the end of a text that is good so far: its dump, or that it is short
+abbrev pub EndsText : {A : Type 0} → List ℕ → Result (Dumped A) DumpError → Type 0
+EndsText text (Ok d) = IsText d text
+EndsText text (Err e) = (e ≡ Short (length text)) × (judge dump text ≡ Unfinished)
 
 -- the answer at the end of all pieces: that of the text, or the error that a piece led to
-abbrev pub EndsReading : Progress → Result Taken DumpError → Type 0
+abbrev pub EndsReading : {A : Type 0} → Progress → Result (Dumped A) DumpError → Type 0
 EndsReading (Ok text) answer = EndsText text answer
 EndsReading (Err e) answer = answer ≡ Err e
 
@@ -37,4 +39,4 @@ Feeds (Err e) piece answer new = (answer ≡ Err e) × (new ≡ Err e)
 
 -- a piece for which the text need not grow: it is empty, or nothing may follow the text
 abbrev pub NeedsNone : List ℕ → List ℕ → Type 0
-NeedsNone text piece = (length piece ≡ 0) ⊎ (length text ≡ whole_len text)
+NeedsNone text piece = (length piece ≡ 0) ⊎ IsWhole text

@@ -1,14 +1,13 @@
 ghost use Rattle.std.specs.Prelude.{◌≡◌, ◌⊎◌, List, [], ℕ, length, IfErr, IfSome, IsErrOf, MatchResult, OnOk, Ok, Err};
 ghost use Rattle.std.specs.Io.KnownBytes.{Consumes, IsAtEnd};
 ghost use Rattle.lb_dump.specs.Reading.{IsAnswer};
-ghost use Rattle.lb_snapshot.specs.Measured.{Taken};
-ghost use Rattle.lb_dump.specs.declared.error.DumpError.{DumpError};
-ghost use Rattle.lb_dump.specs.Faults.{IsGood, IsFault};
-ghost use Rattle.lb_dump.specs.Format.{IsText};
+ghost use Rattle.dump_format.specs.Dumps.{Dumped};
+ghost use Rattle.dump_format.specs.Faults.{IsFault, IsGood};
+ghost use Rattle.dump_format.specs.Text.{IsText};
+ghost use Rattle.dump_format.specs.declared.error.DumpError.{DumpError};
 
-use crate::error::DumpError;
 use crate::reader::DumpReader;
-use lb_snapshot::Snapshot;
+use dump_format::{Dump, DumpError};
 use std::alloc::Allocator;
 use std::io::Read;
 
@@ -18,14 +17,14 @@ const PIECE_LEN: usize = 65_536;
 /// How often a reader is called at most: more often than any dump has bytes, so that the call ends.
 const CALLS: u32 = 16_777_216;
 
-/// The snapshot of this text.
+/// The dump of this text, which is in either format.
 ///
 /// # Errors
 ///
 /// The first fault of the bytes from left to right, or [`OutOfMemory`](DumpError::OutOfMemory).
-pub fn decode<A: Allocator + Copy>(alloc: A, bytes: &[u8]) -> Result<Snapshot<A>, DumpError>
+pub fn decode<A: Allocator + Copy>(alloc: A, bytes: &[u8]) -> Result<Dump<A>, DumpError>
     ensures answer { IsAnswer bytes.now result }
-    ensures again { (s : Taken) → IsText s bytes.now → MatchResult result (λ t. t ≡ s) (λ e. e ≡ DumpError.OutOfMemory) }
+    ensures again { (d : Dumped A) → IsText d bytes.now → MatchResult result (λ read. read ≡ d) (λ e. e ≡ DumpError.OutOfMemory) }
     ensures first { (e : DumpError) → IsFault bytes.now e → MatchResult result (λ _. ⊥) (λ f. (f ≡ DumpError.OutOfMemory) ⊎ (f ≡ e)) }
 {
     let mut reader = DumpReader::new(alloc);
@@ -33,7 +32,7 @@ pub fn decode<A: Allocator + Copy>(alloc: A, bytes: &[u8]) -> Result<Snapshot<A>
     reader.end()
 }
 
-/// The snapshot of the text that a reader gives, to its end. Reads to the end, or to the first fault.
+/// The dump of the text that a reader gives, to its end. Reads to the end, or to the first fault.
 ///
 /// # Errors
 ///
@@ -43,7 +42,7 @@ pub fn decode<A: Allocator + Copy>(alloc: A, bytes: &[u8]) -> Result<Snapshot<A>
 pub fn read_from<R: Read, A: Allocator + Copy>(
     alloc: A,
     reader: &mut R,
-) -> Result<Snapshot<A>, DumpError>
+) -> Result<Dump<A>, DumpError>
     ensures known { IfSome (R.remaining reader.old) (λ bytes. (result ≡ Err DumpError.Read) ⊎ IsAnswer bytes result) }
     ensures at_end { OnOk result (IsAtEnd (R.remaining reader.new)) }
     ensures failed { IsErrOf result DumpError.Read → (text : List ℕ) × Consumes (R.remaining reader.old) (R.remaining reader.new) text × IsGood text }
@@ -70,7 +69,7 @@ fn feed_all<R: Read, A: Allocator + Copy>(
 }
 
 // The same, with `piece` as the room for the bytes of one call.
-fn feed_from<R: Read, A: Allocator>(
+fn feed_from<R: Read, A: Allocator + Copy>(
     dump: &mut DumpReader<A>,
     reader: &mut R,
     piece: &mut [u8],

@@ -1,7 +1,10 @@
-//! The dump format LBD1: the snapshot of a load database as bytes, written and read exactly.
+//! Dumps: the snapshot of a load database and, where one was recorded, the decision on it, as bytes, written and read
+//! exactly. The format LBD1 holds a snapshot whose loads have four bytes; LBD2 has loads of eight bytes, and a decision
+//! with its certificates or none.
 //!
-//! - [`encode`] and [`write_to`]: the one text of a snapshot.
-//! - [`decode`] and [`read_from`]: the snapshot of a text, or the first fault of the bytes from left to right.
+//! - [`Dump`], with [`Recorded`]: what is written and read.
+//! - [`encode_dump`] and [`write_dump`]: the one text in LBD2; [`encode`] and [`write_to`]: that of a snapshot in LBD1.
+//! - [`decode`] and [`read_from`]: the dump of a text in either format, or the first fault of the bytes from left to right.
 //! - [`DumpReader`]: the same for a text that comes in pieces.
 //! - [`DumpError`]: the faults.
 //!
@@ -10,27 +13,19 @@
 //!
 //! // `snapshot` is an `lb_snapshot::Snapshot`.
 //! let text = encode(alloc, &snapshot)?;
-//! assert_eq!(decode(alloc, &text[..15]), Err(DumpError::Short(15)));
-//! assert_eq!(decode(alloc, &text), Ok(snapshot));
+//! assert_eq!(decode(alloc, &text[..15]).err(), Some(DumpError::Short(15)));
+//! assert_eq!(decode(alloc, &text)?.snapshot(), &snapshot);
 //! ```
 #![tactic(auto)]
 
 mod decoding;
-mod elements;
-mod encoding;
-mod error;
-mod format;
 mod held;
-mod judging;
-mod laws;
 mod making;
 mod reader;
-mod writing;
 
 pub use decoding::{decode, read_from};
-pub use encoding::encode;
-pub use error::DumpError;
 #[doc(hidden)]
-pub use laws::format_laws;
+pub use dump_format::format_laws;
+pub use dump_format::{Dump, DumpError, Recorded};
+pub use dump_writing::{encode, encode_dump, write_dump, write_to};
 pub use reader::DumpReader;
-pub use writing::write_to;

@@ -1,7 +1,8 @@
 -- What is printed is one function of the bytes read and the number of PEs.
 use Rattle.std.proofs.Common.{◌≡◌, ℕ, List, ◌++◌, length, Option, Some, ap, sym, ◌∙◌, subst}
 use Rattle.lb_snapshot.specs.Measured.{Taken}
-use Rattle.lb_dump.proofs.OneText.{one_snapshot}
+use Rattle.dump_format.specs.Dumps.{Dumped}
+use Rattle.dump_format.proofs.OneText.{one_dump}
 use Rattle.lb_strategy.specs.declared.decision.Decision.{Decision}
 use Rattle.lb_strategy.proofs.OneDecisions.{IsSame, one_decision}
 use Rattle.lb_replay.specs.Simulation.{blocks_of, IsPlanned, IsReplay}
@@ -23,5 +24,5 @@ one_planned A s blocks text other this that =
 
 pub one_text : (A : Type 0) (procs : Option ℕ) (bytes text other : List ℕ) → IsReplay A (Some bytes) procs text → IsReplay A (Some bytes) procs other → text ≡ other
 one_text A procs bytes text other this that =
-    let same : that.snapshot ≡ this.snapshot = one_snapshot that.snapshot this.snapshot bytes that.read this.read in
-    one_planned A this.snapshot (blocks_of procs this.snapshot) text other this.planned (subst (λ s. IsPlanned A s (blocks_of procs s) other) same that.planned)
+    let same : that.dump ≡ this.dump = one_dump that.dump this.dump bytes that.read this.read in
+    one_planned A this.dump.snapshot (blocks_of procs this.dump.snapshot) text other this.planned (subst (λ (d : Dumped A). IsPlanned A d.snapshot (blocks_of procs d.snapshot) other) same that.planned)

@@ -1,16 +1,20 @@
--- What a fault leads to inside a replay. The clauses of `simulate` and `replay_file` do without these words.
-use Rattle.lb_dump.specs.declared.error.DumpError.{DumpError}
+-- What a fault leads to inside a replay or a check. The clauses of `simulate` and `verify` do without these words.
+use Rattle.dump_format.specs.declared.error.DumpError.{DumpError}
 use Rattle.lb_strategy.specs.declared.error.PlanError.{PlanError}
 use Rattle.lb_replay.specs.declared.ended.Ended.{Ended}
 use Rattle.lb_replay.specs.declared.fault.Fault.{Fault}
-use Rattle.lb_replay.specs.declared.fault.Fault.TheVariants.{Dump, Plan}
+use Rattle.lb_replay.specs.declared.fault.Fault.TheVariants.{Dump, Plan, Flawed, NoDecision}
 
 -- the fault that is reported where there is no memory for the line of another
 abbrev pub without_memory : Fault → Fault
 without_memory (Dump e) = Dump DumpError.OutOfMemory
 without_memory (Plan e) = Plan PlanError.OutOfMemory
+without_memory (Flawed flaw) = Dump DumpError.OutOfMemory
+without_memory NoDecision = Dump DumpError.OutOfMemory
 
--- the end of a replay that reported a fault
+-- the end of a replay or a check that reported a fault
 abbrev pub ended_at : Fault → Ended
 ended_at (Dump e) = Ended.Dump e
 ended_at (Plan e) = Ended.Plan e
+ended_at (Flawed flaw) = Ended.Flawed flaw
+ended_at NoDecision = Ended.NoDecision

@@ -1,4 +1,6 @@
 pub mod Internal
+pub mod Requests
 pub mod Simulation
 pub mod Statuses
 pub mod Text
+pub mod Verifying

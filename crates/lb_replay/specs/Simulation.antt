@@ -4,10 +4,11 @@ use Rattle.std.specs.Io.KnownBytes.{Appends, Consumes, IsAtEnd}
 use Rattle.lb_snapshot.specs.Measured.{Taken}
 use Rattle.lb_certificates.specs.Naming.{IsLeastNaming}
 use Rattle.chain_partition.specs.Chosen.{IsChosen}
-use Rattle.lb_dump.specs.Faults.{IsFault, IsGood}
-use Rattle.lb_dump.specs.Format.{IsText}
-use Rattle.lb_dump.specs.declared.error.DumpError.{DumpError}
-use Rattle.lb_dump.specs.declared.error.DumpError.TheVariants.{Read}
+use Rattle.dump_format.specs.Dumps.{Dumped}
+use Rattle.dump_format.specs.Faults.{IsFault, IsGood}
+use Rattle.dump_format.specs.Text.{IsText}
+use Rattle.dump_format.specs.declared.error.DumpError.{DumpError}
+use Rattle.dump_format.specs.declared.error.DumpError.TheVariants.{Read}
 use Rattle.lb_strategy.specs.Decisions.{IsRight}
 use Rattle.lb_strategy.specs.declared.decision.Decision.{Decision}
 use Rattle.lb_strategy.specs.declared.error.PlanError.{PlanError}
@@ -16,7 +17,7 @@ use Rattle.lb_replay.specs.Text.{decision_text, fault_line}
 use Rattle.lb_replay.specs.declared.ended.Ended.{Ended}
 use Rattle.lb_replay.specs.declared.ended.Ended.TheVariants.{Printed, WriteFailed}
 use Rattle.lb_replay.specs.declared.fault.Fault.{Fault}
-use Rattle.lb_replay.specs.declared.fault.Fault.TheVariants.{Dump, Plan}
+use Rattle.lb_replay.specs.declared.fault.Fault.TheVariants.{Dump, Plan, Flawed, NoDecision}
 
 -- the number of blocks: the one asked for, or else that of the dump
 abbrev pub blocks_of : Option ℕ → Taken → ℕ
@@ -30,30 +31,37 @@ pub record IsPlanned (A : Type 0) (s : Taken) (blocks : ℕ) (text : List ℕ) :
   pub right : IsRight s.loads s.sizes blocks decision
   pub printed : text ≡ decision_text s blocks decision
 
--- This is such a text for the snapshot whose dump the bytes are. Where the reader does not report its bytes, the
--- snapshot is any.
+-- This is such a text for the snapshot of the dump that the bytes are a text of. A decision that it has does not matter.
+-- Where the reader does not report its bytes, the dump is any.
 pub record IsReplay (A : Type 0) (bytes : Option (List ℕ)) (procs : Option ℕ) (text : List ℕ) : Type 0 where
-  pub snapshot : Taken
-  pub read : IfSome bytes (IsText snapshot)
-  pub planned : IsPlanned A snapshot (blocks_of procs snapshot) text
+  pub dump : Dumped A
+  pub read : IfSome bytes (IsText dump)
+  pub planned : IsPlanned A dump.snapshot (blocks_of procs dump.snapshot) text
 
 -- nothing is wrong with what was read
 abbrev pub ReadsGood : Option (List ℕ) → Option (List ℕ) → Type 0
 ReadsGood bytes rest = (text : List ℕ) × Consumes bytes rest text × IsGood text
 
--- The fault that is reported: the first fault of the bytes, or a failure of the reader where nothing is wrong with
--- what was read, or out of memory; and once the bytes were read, and are a dump, only that.
-abbrev pub IsReplayFault : Option (List ℕ) → Option (List ℕ) → Fault → Type 0
-IsReplayFault bytes rest (Dump e) =
+-- The fault of a dump that is reported: the first fault of the bytes, or a failure of the reader where nothing is wrong
+-- with what was read, or out of memory.
+abbrev pub IsReadFault : Option (List ℕ) → Option (List ℕ) → DumpError → Type 0
+IsReadFault bytes rest e =
     IfSome bytes (λ text. (e ≡ Read) ⊎ ((e ≡ DumpError.OutOfMemory) ⊎ IsFault text e)) × (e ≡ Read → ReadsGood bytes rest)
-IsReplayFault bytes rest (Plan e) =
-    (e ≡ PlanError.OutOfMemory) × IsAtEnd rest × ((s : Taken) × IfSome bytes (IsText s))
+
+-- the fault that a replay reports: one of the dump; and once the bytes were read, and are a dump, only out of memory
+abbrev pub IsReplayFault : (A : Type 0) → Option (List ℕ) → Option (List ℕ) → Fault → Type 0
+IsReplayFault A bytes rest (Dump e) = IsReadFault bytes rest e
+IsReplayFault A bytes rest (Plan e) =
+    (e ≡ PlanError.OutOfMemory) × IsAtEnd rest × ((d : Dumped A) × IfSome bytes (IsText d))
+IsReplayFault A bytes rest _ = ⊥
 
 -- the line of a fault was written, or a prefix of it
 abbrev pub ReportsFault : Option (List ℕ) → Option (List ℕ) → Fault → Ended → Type 0
 ReportsFault old new fault Printed = ⊥
 ReportsFault old new fault (Ended.Dump e) = (fault ≡ Dump e) × Appends old new (fault_line fault)
 ReportsFault old new fault (Ended.Plan e) = (fault ≡ Plan e) × Appends old new (fault_line fault)
+ReportsFault old new fault (Ended.Flawed flaw) = (fault ≡ Flawed flaw) × Appends old new (fault_line fault)
+ReportsFault old new fault Ended.NoDecision = (fault ≡ NoDecision) × Appends old new (fault_line fault)
 ReportsFault old new fault WriteFailed = WritesPrefix old new (fault_line fault)
 
 -- What the writer holds after each end: the whole text, the line of the fault, or a prefix of one of these. The
@@ -61,11 +69,12 @@ ReportsFault old new fault WriteFailed = WritesPrefix old new (fault_line fault)
 abbrev pub EndsReplay : (A : Type 0) → Option (List ℕ) → Option (List ℕ) → Option ℕ → Option (List ℕ) → Option (List ℕ) → Ended → Type 0
 EndsReplay A bytes rest procs old new Printed = (text : List ℕ) × IsReplay A bytes procs text × Appends old new text
 EndsReplay A bytes rest procs old new (Ended.Dump e) =
-    IsReplayFault bytes rest (Dump e) × Appends old new (fault_line (Dump e))
+    IsReplayFault A bytes rest (Dump e) × Appends old new (fault_line (Dump e))
 EndsReplay A bytes rest procs old new (Ended.Plan e) =
-    IsReplayFault bytes rest (Plan e) × Appends old new (fault_line (Plan e))
+    IsReplayFault A bytes rest (Plan e) × Appends old new (fault_line (Plan e))
 EndsReplay A bytes rest procs old new WriteFailed =
-    (text : List ℕ) × (IsReplay A bytes procs text ⊎ ((fault : Fault) × IsReplayFault bytes rest fault × (text ≡ fault_line fault))) × WritesPrefix old new text
+    (text : List ℕ) × (IsReplay A bytes procs text ⊎ ((fault : Fault) × IsReplayFault A bytes rest fault × (text ≡ fault_line fault))) × WritesPrefix old new text
+EndsReplay A bytes rest procs old new _ = ⊥
 
 -- the line for a dump that was not read was written, or in its place the one for out of memory, or a prefix of one
 abbrev pub ReportsUnread : Option (List ℕ) → Option (List ℕ) → Ended → Type 0

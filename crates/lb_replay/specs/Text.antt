@@ -1,17 +1,20 @@
--- What a replay prints, byte by byte: the text of a decision, or the line of a fault.
+-- What a replay and a check print, byte by byte: the text of a decision, the line of a decision that is right, or the line
+-- of a fault.
 use Rattle.std.specs.Prelude.{ℕ, ◌+◌, ◌==◌, if◌then◌else◌, List, [], ◌∷◌, ◌++◌, length, slice_index, codes}
 use Rattle.std.specs.Fmt.{decimal}
 use Rattle.std.specs.List.{flat_map, range_with_len}
-use Rattle.lb_dump.specs.declared.error.DumpError.{DumpError}
-use Rattle.lb_dump.specs.declared.error.DumpError.TheVariants.{Magic, Short, Procs, Count, Size, Place, Trailing, Read, Write}
+use Rattle.dump_format.specs.declared.error.DumpError.{DumpError}
+use Rattle.dump_format.specs.declared.error.DumpError.TheVariants.{Magic, Short, Procs, Count, Size, Place, Trailing, Read, Write, Load, Flag, Target, MoveCount, Move, Wide}
 use Rattle.lb_strategy.specs.declared.error.PlanError.{PlanError}
 use Rattle.lb_replay.specs.declared.fault.Fault.{Fault}
-use Rattle.lb_replay.specs.declared.fault.Fault.TheVariants.{Dump, Plan}
+use Rattle.lb_replay.specs.declared.fault.Fault.TheVariants.{Dump, Plan, Flawed, NoDecision}
 use Rattle.lb_certificates.specs.Chain.{block_load}
 use Rattle.lb_snapshot.specs.Measured.{Taken}
 use Rattle.lb_strategy.specs.declared.decision.Decision.{Decision}
 use Rattle.lb_certificates.specs.declared.division.Floor.{Floor}
 use Rattle.lb_certificates.specs.declared.division.Floor.TheVariants.{Zero, Fence}
+use Rattle.lb_certificates.specs.declared.flaw.Flaw.{Flaw}
+use Rattle.lb_certificates.specs.declared.flaw.Flaw.TheVariants.{CutCount, CutStart, CutOrder, CutEnd, Heavy, FenceCount, FenceStart, FenceOrder, FenceEnd, FenceLight, ZeroFloor, NameCount, NameRange, NameTwice, PriceCount, PriceHigh, PriceGap, MovedWrong, MovesWrong}
 
 abbrev pub newline : List ℕ
 newline = 10 ∷ []
@@ -71,7 +74,7 @@ memory_line = codes "out of memory" ++ newline
 
 -- the one line of a fault of the dump; the numbers in it are the limits of PEs, of elements and of packed bytes
 abbrev pub dump_line : DumpError → List ℕ
-dump_line Magic = codes "dump: not LBD1" ++ newline
+dump_line Magic = codes "dump: not LBD1 or LBD2" ++ newline
 dump_line (Short n) = codes "dump: ends at byte " ++ decimal n ++ newline
 dump_line Procs = codes "dump: procs out of 1..256" ++ newline
 dump_line Count = codes "dump: more than 65536 elements" ++ newline
@@ -81,8 +84,57 @@ dump_line Trailing = codes "dump: bytes after the last element" ++ newline
 dump_line Read = codes "dump: read failed" ++ newline
 dump_line Write = codes "dump: write failed" ++ newline
 dump_line DumpError.OutOfMemory = memory_line
+dump_line (Load i) = codes "dump: element " ++ decimal i ++ codes " has too great a load" ++ newline
+dump_line Flag = codes "dump: flag is not 0 or 1" ++ newline
+dump_line Target = codes "dump: target out of 1..256" ++ newline
+dump_line DumpError.Floor = codes "dump: floor is not 0 or 1" ++ newline
+dump_line MoveCount = codes "dump: more moves than elements" ++ newline
+dump_line (Move k) = codes "dump: move " ++ decimal k ++ codes " is out of range" ++ newline
+dump_line (Wide i) = codes "dump: write failed" ++ newline
+
+-- the line where the decision of a dump is right, and the one where it has none
+abbrev pub right_line : List ℕ
+right_line = codes "check: ok" ++ newline
+
+abbrev pub no_decision_line : List ℕ
+no_decision_line = codes "check: no decision" ++ newline
+
+-- the name of a flaw
+abbrev pub flaw_name : Flaw → List ℕ
+flaw_name CutCount = codes "CutCount"
+flaw_name CutStart = codes "CutStart"
+flaw_name CutOrder = codes "CutOrder"
+flaw_name CutEnd = codes "CutEnd"
+flaw_name (Heavy b) = codes "Heavy"
+flaw_name FenceCount = codes "FenceCount"
+flaw_name FenceStart = codes "FenceStart"
+flaw_name FenceOrder = codes "FenceOrder"
+flaw_name FenceEnd = codes "FenceEnd"
+flaw_name (FenceLight i) = codes "FenceLight"
+flaw_name ZeroFloor = codes "ZeroFloor"
+flaw_name NameCount = codes "NameCount"
+flaw_name NameRange = codes "NameRange"
+flaw_name NameTwice = codes "NameTwice"
+flaw_name PriceCount = codes "PriceCount"
+flaw_name (PriceHigh b p) = codes "PriceHigh"
+flaw_name PriceGap = codes "PriceGap"
+flaw_name MovedWrong = codes "MovedWrong"
+flaw_name MovesWrong = codes "MovesWrong"
+
+-- the numbers that a flaw names: its block, its stop, or its block and its PE, each with a blank before it
+abbrev pub flaw_numbers : Flaw → List ℕ
+flaw_numbers (Heavy b) = blank_number b
+flaw_numbers (FenceLight i) = blank_number i
+flaw_numbers (PriceHigh b p) = blank_number b ++ blank_number p
+flaw_numbers _ = []
+
+-- the line of a flaw
+abbrev pub flaw_line : Flaw → List ℕ
+flaw_line flaw = codes "check: " ++ flaw_name flaw ++ flaw_numbers flaw ++ newline
 
 -- the one line of a fault
 abbrev pub fault_line : Fault → List ℕ
 fault_line (Dump e) = dump_line e
 fault_line (Plan PlanError.OutOfMemory) = memory_line
+fault_line (Flawed flaw) = flaw_line flaw
+fault_line NoDecision = no_decision_line

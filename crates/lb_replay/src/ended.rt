@@ -3,25 +3,30 @@ ghost use Rattle.lb_replay.specs.Internal.{ended_at};
 ghost use Rattle.lb_replay.specs.Statuses.{status_of};
 
 use crate::fault::Fault;
+use lb_certificates::Flaw;
 use lb_dump::DumpError;
 use lb_strategy::PlanError;
 
-/// How a replay ended.
+/// How a replay or a check ended.
 #[derive(Clone, Copy, Debug, PartialEq, Eq)]
 pub enum Ended {
-    /// The text of the decision was written whole.
+    /// The text of the decision was written whole, or the line that the recorded decision is right.
     Printed,
     /// The line of this fault was written: the dump's first fault, or that its reader failed, or out of memory.
     Dump(DumpError),
     /// The line of this fault was written: the dump was read, and then it was out of memory.
     Plan(PlanError),
+    /// The line of this flaw was written: the first of the recorded decision.
+    Flawed(Flaw),
+    /// The line was written that the dump has no decision.
+    NoDecision,
     /// The writer failed, or took nothing. A prefix of what was to be written has been written.
     WriteFailed,
 }
 
 impl Ended {
-    /// The status that a program exits with: 0 where the text was printed, 3 for a fault of the dump, and 5 where
-    /// memory or the output failed.
+    /// The status that a program exits with: 0 where the text was printed or the decision is right, 3 for a fault of
+    /// the dump, 4 for a flaw of its decision or where it has none, and 5 where memory or the output failed.
     pub fn status(self) -> u8
         ensures value { result ≡ status_of self }
     {
@@ -31,16 +36,19 @@ impl Ended {
             | Ended::Plan(PlanError::OutOfMemory)
             | Ended::WriteFailed => 5,
             Ended::Dump(_) => 3,
+            Ended::Flawed(_) | Ended::NoDecision => 4,
         }
     }
 
-    /// The end of a replay that reported this fault.
+    /// The end of a replay or a check that reported this fault.
     pub(crate) fn at(fault: Fault) -> Ended
         ensures value { result ≡ ended_at fault }
     {
         match fault {
             Fault::Dump(fault) => Ended::Dump(fault),
             Fault::Plan(fault) => Ended::Plan(fault),
+            Fault::Flawed(flaw) => Ended::Flawed(flaw),
+            Fault::NoDecision => Ended::NoDecision,
         }
     }
 }

@@ -1,19 +1,24 @@
 ghost use Rattle.std.specs.Prelude.{◌≡◌, [], OnOk, IfOk};
 ghost use Rattle.std.specs.String.{string_bytes};
 ghost use Rattle.lb_replay.specs.Internal.{without_memory};
-ghost use Rattle.lb_replay.specs.Text.{dump_line, fault_line};
+ghost use Rattle.lb_replay.specs.Text.{dump_line, fault_line, flaw_line, flaw_name};
 
+use lb_certificates::Flaw;
 use lb_dump::DumpError;
 use lb_strategy::PlanError;
 use std::alloc::{AllocError, AllocFailed, Allocator};
 
-/// Why a dump was not replayed.
+/// What is reported in place of a text, or of the line that a decision is right.
 #[derive(Clone, Copy)]
 pub(crate) enum Fault {
     /// The dump was not read.
     Dump(DumpError),
     /// The dump was read, and no decision or no text was made.
     Plan(PlanError),
+    /// The first flaw of the recorded decision.
+    Flawed(Flaw),
+    /// No decision was recorded.
+    NoDecision,
 }
 
 impl Fault {
@@ -22,8 +27,10 @@ impl Fault {
         ensures value { result ≡ without_memory self }
     {
         match self {
-            Fault::Dump(_) => Fault::Dump(DumpError::OutOfMemory),
             Fault::Plan(_) => Fault::Plan(PlanError::OutOfMemory),
+            Fault::Dump(_) | Fault::Flawed(_) | Fault::NoDecision => {
+                Fault::Dump(DumpError::OutOfMemory)
+            }
         }
     }
 }
@@ -42,6 +49,8 @@ pub(crate) fn fault_line<A: Allocator>(alloc: A, fault: Fault) -> Result<String<
     match fault {
         Fault::Dump(fault) => dump_line(alloc, fault),
         Fault::Plan(PlanError::OutOfMemory) => String::from_str(alloc, NO_MEMORY),
+        Fault::Flawed(flaw) => flaw_line(alloc, flaw),
+        Fault::NoDecision => String::from_str(alloc, "check: no decision\n"),
     }
 }
 
@@ -51,7 +60,7 @@ fn dump_line<A: Allocator>(alloc: A, fault: DumpError) -> Result<String<A>, Allo
     ensures line { IfOk result (λ line. string_bytes line ≡ dump_line fault) }
 {
     match fault {
-        DumpError::Magic => String::from_str(alloc, "dump: not LBD1\n"),
+        DumpError::Magic => String::from_str(alloc, "dump: not LBD1 or LBD2\n"),
         DumpError::Short(n) => format!(in alloc; "dump: ends at byte {n}\n"),
         DumpError::Procs => String::from_str(alloc, "dump: procs out of 1..256\n"),
         DumpError::Count => String::from_str(alloc, "dump: more than 65536 elements\n"),
@@ -59,7 +68,52 @@ fn dump_line<A: Allocator>(alloc: A, fault: DumpError) -> Result<String<A>, Allo
         DumpError::Place(i) => format!(in alloc; "dump: element {i} is on no processor\n"),
         DumpError::Trailing => String::from_str(alloc, "dump: bytes after the last element\n"),
         DumpError::Read => String::from_str(alloc, "dump: read failed\n"),
-        DumpError::Write => String::from_str(alloc, "dump: write failed\n"),
+        DumpError::Write | DumpError::Wide(_) => String::from_str(alloc, "dump: write failed\n"),
         DumpError::OutOfMemory => String::from_str(alloc, NO_MEMORY),
+        DumpError::Load(i) => format!(in alloc; "dump: element {i} has too great a load\n"),
+        DumpError::Flag => String::from_str(alloc, "dump: flag is not 0 or 1\n"),
+        DumpError::Target => String::from_str(alloc, "dump: target out of 1..256\n"),
+        DumpError::Floor => String::from_str(alloc, "dump: floor is not 0 or 1\n"),
+        DumpError::MoveCount => String::from_str(alloc, "dump: more moves than elements\n"),
+        DumpError::Move(k) => format!(in alloc; "dump: move {k} is out of range\n"),
+    }
+}
+
+// The line that reports a flaw: its name and its numbers.
+fn flaw_line<A: Allocator>(alloc: A, flaw: Flaw) -> Result<String<A>, AllocError>
+    ensures line { IfOk result (λ line. string_bytes line ≡ flaw_line flaw) }
+{
+    let name = flaw_name(flaw);
+    match flaw {
+        Flaw::Heavy(n) | Flaw::FenceLight(n) => format!(in alloc; "check: {name} {n}\n"),
+        Flaw::PriceHigh(b, p) => format!(in alloc; "check: {name} {b} {p}\n"),
+        _ => format!(in alloc; "check: {name}\n"),
+    }
+}
+
+// The name of a flaw.
+fn flaw_name(flaw: Flaw) -> &'static str
+    ensures { result.now ≡ flaw_name flaw }
+{
+    match flaw {
+        Flaw::CutCount => "CutCount",
+        Flaw::CutStart => "CutStart",
+        Flaw::CutOrder => "CutOrder",
+        Flaw::CutEnd => "CutEnd",
+        Flaw::Heavy(_) => "Heavy",
+        Flaw::FenceCount => "FenceCount",
+        Flaw::FenceStart => "FenceStart",
+        Flaw::FenceOrder => "FenceOrder",
+        Flaw::FenceEnd => "FenceEnd",
+        Flaw::FenceLight(_) => "FenceLight",
+        Flaw::ZeroFloor => "ZeroFloor",
+        Flaw::NameCount => "NameCount",
+        Flaw::NameRange => "NameRange",
+        Flaw::NameTwice => "NameTwice",
+        Flaw::PriceCount => "PriceCount",
+        Flaw::PriceHigh(_, _) => "PriceHigh",
+        Flaw::PriceGap => "PriceGap",
+        Flaw::MovedWrong => "MovedWrong",
+        Flaw::MovesWrong => "MovesWrong",
     }
 }

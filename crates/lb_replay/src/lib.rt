@@ -2,17 +2,23 @@
 //! elements into consecutive blocks, with the fence that proves it, the PE of each block and the bytes that move.
 //!
 //! - [`simulate`]: the replay, from the bytes of a reader to the bytes of a writer; [`replay_file`]: that of a file.
-//! - [`Ended`]: how a replay ended, and the status for it.
-//! - [`run`]: what a program does that was [`Asked`] for the replay of a file.
+//! - [`verify`]: the check of the decision that was recorded in a dump; [`verify_file`]: that of a file.
+//! - [`Ended`]: how a replay or a check ended, and the status for it.
+//! - [`run`]: what a program does, by the [`Task`] that it was [`Asked`] for.
 //!
 //! ```
-//! use lb_replay::{Ended, simulate};
+//! use lb_replay::{Ended, simulate, verify};
 //!
 //! // No elements on three PEs, at step 7, replayed for one PE.
 //! let mut dump = b"LBD1\0\0\0\x07\0\0\0\x03\0\0\0\0".as_slice();
 //! let mut text = Vec::new(alloc);
 //! assert!(simulate(alloc, &mut dump, &mut text, Some(1)) == Ended::Printed);
 //! assert!(text.starts_with(b"step 7 procs 1 elements 0\n"));
+//!
+//! let mut line = Vec::new(alloc);
+//! let mut dump = b"LBD1\0\0\0\x07\0\0\0\x03\0\0\0\0".as_slice();
+//! assert!(verify(alloc, &mut dump, &mut line) == Ended::NoDecision);
+//! assert!(line.as_slice() == b"check: no decision\n");
 //! ```
 #![tactic(auto)]
 
@@ -21,7 +27,9 @@ mod fault;
 mod request;
 mod simulation;
 mod text;
+mod verifying;
 
 pub use ended::Ended;
-pub use request::{Asked, run};
+pub use request::{Asked, Task, run};
 pub use simulation::{replay_file, simulate};
+pub use verifying::{verify, verify_file};

@@ -1,10 +1,13 @@
-ghost use Rattle.std.specs.Prelude.{◌≡◌, ◌≤◌, ℕ, List, Option, Some, IfOk, IfErr};
 ghost use Rattle.std.specs.Option.{ForSome};
-ghost use Rattle.lb_replay.specs.Simulation.{EndsReplay, ReportsUnread};
+ghost use Rattle.std.specs.Prelude.{◌≡◌, ◌≤◌, ℕ, List, Option, Some, IfOk, IfErr, IfSome};
+ghost use Rattle.lb_replay.specs.Requests.{EndsTask, MayRun, task_of};
+ghost use Rattle.lb_replay.specs.Simulation.{ReportsUnread};
 ghost use Rattle.lb_replay.specs.Statuses.{status_of};
 ghost use Rattle.lb_replay.specs.declared.ended.Ended.{Ended};
 
+use crate::ended::Ended;
 use crate::simulation::replay_file;
+use crate::verifying::verify_file;
 use chare_index::Limits;
 use std::alloc::Allocator;
 use std::io::{self, Read, Write};
@@ -16,23 +19,65 @@ pub struct Asked<'a> {
     pub file: &'a str,
     /// The number of blocks, 1 to 256 (`Limits::PES`), where one is asked for.
     pub procs: Option<u32>,
+    /// Whether the recorded decision is to be checked.
+    pub check: bool,
 }
 
-/// Replays the dump in the file asked for, for the number of PEs asked for, as [`replay_file`] does, and returns the
-/// status of its end, with the system's reason where a read failed.
+/// What is to be done with a dump.
+#[derive(Clone, Copy, Debug, PartialEq, Eq)]
+pub enum Task {
+    /// It is replayed, for this number of PEs, 1 to 256 (`Limits::PES`), or as many as it has.
+    Replay(Option<u32>),
+    /// Its decision is checked.
+    Check,
+}
+
+impl Asked<'_> {
+    /// What is to be done, or `None` where a check is asked for and a number of PEs too.
+    pub fn task(self) -> Option<Task>
+        ensures value { result ≡ task_of self.entry.procs self.entry.check }
+        ensures may_run { ForSome self.entry.procs (λ p. 1 ≤ p) → ForSome self.entry.procs (λ p. p ≤ Limits.PES) → IfSome result MayRun }
+    {
+        match (self.check, self.procs) {
+            (false, procs) => Some(Task::Replay(procs)),
+            (true, None) => Some(Task::Check),
+            (true, Some(_)) => None,
+        }
+    }
+}
+
+/// Replays the dump in a file, or checks its decision, as [`replay_file`] and [`verify_file`] do, and returns the status
+/// of the end, with the system's reason where a read failed.
 pub fn run<A: Allocator + Copy, R: Read + Drop, W: Write>(
     alloc: A,
-    asked: Asked<'_>,
+    task: Task,
     file: io::Result<R>,
     writer: &mut W,
 ) -> (u8, Option<io::Error>)
-    requires some_pe { ForSome asked.procs (λ p. 1 ≤ p) }
-    requires few_pes { ForSome asked.procs (λ p. p ≤ Limits.PES) }
+    requires { MayRun task }
     ensures status { (ended : Ended) × (result.0 ≡ status_of ended)
-        × IfOk file (λ file. (rest : Option (List ℕ)) × EndsReplay A (R.remaining file) rest asked.entry.procs (W.contents writer.old) (W.contents writer.new) ended)
+        × IfOk file (λ file. (rest : Option (List ℕ)) × EndsTask A (R.remaining file) rest task (W.contents writer.old) (W.contents writer.new) ended)
         × IfErr file (λ _. ReportsUnread (W.contents writer.old) (W.contents writer.new) ended) }
     ensures reason { IfErr file (λ reason. result.1 ≡ Some reason) }
 {
-    let (ended, reason) = replay_file(alloc, file, writer, asked.procs);
+    let (ended, reason) = done(alloc, task, file, writer);
     (ended.status(), reason)
+}
+
+// The same, with the end in place of its status.
+fn done<A: Allocator + Copy, R: Read + Drop, W: Write>(
+    alloc: A,
+    task: Task,
+    file: io::Result<R>,
+    writer: &mut W,
+) -> (Ended, Option<io::Error>)
+    requires { MayRun task }
+    ensures opened { IfOk file (λ file. (rest : Option (List ℕ)) × EndsTask A (R.remaining file) rest task (W.contents writer.old) (W.contents writer.new) result.0) }
+    ensures unopened { IfErr file (λ _. ReportsUnread (W.contents writer.old) (W.contents writer.new) result.0) }
+    ensures reason { IfErr file (λ reason. result.1 ≡ Some reason) }
+{
+    match task {
+        Task::Replay(procs) => replay_file(alloc, file, writer, procs),
+        Task::Check => verify_file(alloc, file, writer),
+    }
 }

@@ -19,7 +19,8 @@ use std::io::{self, Read, Write};
 use streams::{Noted, write_out};
 
 /// Replays a dump off line: reads it, plans its balancing step for `procs` PEs (1 to 256), or as many as the
-/// dump has, and writes the text of the decision, or the one line of a fault, and nothing else.
+/// dump has, and writes the text of the decision, or the one line of a fault, and nothing else. A decision that the dump
+/// has is read, and ignored.
 ///
 /// Out of memory is a fault of the dump while that is read, and then one of the plan. The line is the same.
 ///
@@ -78,12 +79,15 @@ fn replay<A: Allocator + Copy, R: Read>(
     requires some_pe { ForSome procs (λ p. 1 ≤ p) }
     requires few_pes { ForSome procs (λ p. p ≤ Limits.PES) }
     ensures text { IfOk result (λ text. IsReplay A (R.remaining reader.old) procs (string_bytes text)) }
-    ensures fault { IfErr result (IsReplayFault (R.remaining reader.old) (R.remaining reader.new)) }
+    ensures fault { IfErr result (IsReplayFault A (R.remaining reader.old) (R.remaining reader.new)) }
 {
     match read_from(alloc, reader) {
-        Ok(snapshot) => {
+        Ok(dump) => {
+            let snapshot = dump.snapshot();
             let pes = procs.unwrap_or(snapshot.procs());
-            planned_text(alloc, &snapshot, pes)
+            let text = planned_text(alloc, snapshot, pes);
+            drop(dump);
+            text
         }
         Err(fault) => Err(Fault::Dump(fault)),
     }
@@ -106,8 +110,8 @@ fn planned_text<A: Allocator + Copy, B: Allocator>(
     }
 }
 
-// Writes the line of a fault, or that it is out of memory.
-fn report<A: Allocator, W: Write>(alloc: A, writer: &mut W, fault: Fault) -> Ended
+/// Writes the line of a fault, or that it is out of memory.
+pub(crate) fn report<A: Allocator, W: Write>(alloc: A, writer: &mut W, fault: Fault) -> Ended
     ensures { ReportsFault (W.contents writer.old) (W.contents writer.new) fault result ⊎ ReportsFault (W.contents writer.old) (W.contents writer.new) (without_memory fault) result }
 {
     let Ok(line) = fault_line(alloc, fault) else {

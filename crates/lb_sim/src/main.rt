@@ -1,16 +1,20 @@
-//! `lb_sim [--procs P] FILE` replays a dump of the load database off line: it prints the least division of the
-//! elements into consecutive blocks, with the fence that proves it, the PE of each block and the bytes that move.
+//! `lb_sim [--procs P] [--check] FILE` replays a dump of the load database off line: it prints the least division of the
+//! elements into consecutive blocks, with the fence that proves it, the PE of each block and the bytes that move. With
+//! `--check` it prints in its place whether the decision that the dump has is right.
 //!
-//! - `command_line::asked`: what the words of the command line ask for, and the status where they ask for no replay.
-//! - `lb_replay::run`: the replay that they ask for, and the status for its end.
+//! - `command_line::asked`: what the words of the command line ask for, and the status where they ask for nothing to be
+//!   done.
+//! - `lb_replay::Asked::task`: which task that is, if it is one.
+//! - `lb_replay::run`: the task, and the status for its end.
 #![tactic(auto)]
 
+ghost use Rattle.lb_replay.specs.Requests.{MayRun};
 ghost use Rattle.std.specs.Prelude.{◌≤◌};
 ghost use Rattle.std.specs.Option.{ForSome};
 
 use chare_index::Limits;
 use command_line::{NO_WORDS, asked, words_status};
-use lb_replay::{Asked, run};
+use lb_replay::{Asked, Task, run};
 use std::fs::File;
 use std::process::ExitCode;
 use std::{env, io};
@@ -30,7 +34,7 @@ fn main(rt: HostRuntime) -> ExitCode {
         return ExitCode::from(NO_WORDS);
     };
     match asked(rt.alloc(), &words) {
-        Ok(asked) => ExitCode::from(replayed(&rt, asked)),
+        Ok(asked) => ExitCode::from(done(&rt, asked)),
         Err(error) => {
             let _ = error.print(&rt);
             ExitCode::from(words_status(&error))
@@ -38,16 +42,27 @@ fn main(rt: HostRuntime) -> ExitCode {
     }
 }
 
-// Opens the file, replays it to the standard output, and returns the status. Where a read failed, the standard error
-// has the file's name and the system's reason.
-fn replayed(rt: &HostRuntime, asked: Asked<'_>) -> u8
+// Does what is asked for, and returns the status. No file is opened where that is no task.
+fn done(rt: &HostRuntime, asked: Asked<'_>) -> u8
     requires some_pe { ForSome asked.procs (λ p. 1 ≤ p) }
     requires few_pes { ForSome asked.procs (λ p. p ≤ Limits.PES) }
 {
-    let file = File::open(rt, asked.file);
-    let (status, reason) = run(rt.alloc(), asked, file, &mut io::writer(rt));
+    let Some(task) = asked.task() else {
+        let _ = eprintln!(rt; "lb_sim: --procs and --check");
+        return NO_WORDS;
+    };
+    ran(rt, asked.file, task)
+}
+
+// Opens the file, does the task to the standard output, and returns the status. Where a read failed, the standard error
+// has the file's name and the system's reason.
+fn ran(rt: &HostRuntime, name: &str, task: Task) -> u8
+    requires { MayRun task }
+{
+    let file = File::open(rt, name);
+    let (status, reason) = run(rt.alloc(), task, file, &mut io::writer(rt));
     if let Some(reason) = reason {
-        let _ = eprintln!(rt; "lb_sim: {}: {reason}", asked.file);
+        let _ = eprintln!(rt; "lb_sim: {name}: {reason}");
     }
     status
 }

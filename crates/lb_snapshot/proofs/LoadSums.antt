@@ -1,4 +1,4 @@
--- Sums of loads stay far below 2^64.
+-- Sums of loads stay below 2^63.
 use Rattle.std.proofs.Common.{ℕ, ◌+◌, ◌*◌, ◌^◌, ◌<◌, ◌≤◌, List, length, sum, take, get_or, arith}
 use Rattle.std.proofs.lemmas.List.Sums.{sum_by-le, sum_by_more_le}
 use Rattle.std.proofs.Math.Nat.{mul-le-mul_right}

@@ -1,4 +1,4 @@
-ghost use Rattle.std.specs.Prelude.{◌≡◌, ℕ, List, ◌≤◌, [], length, sum, IsTrue, ◌↔◌, SomeIff, bytes_eq};
+ghost use Rattle.std.specs.Prelude.{◌≡◌, ℕ, List, ◌≤◌, [], All, length, sum, IsTrue, ◌↔◌, SomeIff, bytes_eq};
 ghost use Rattle.std.specs.Cmp.{partial_equiv_from_equiv};
 ghost use Rattle.std.specs.Cmp.Lexicographic.{nat_list_eq_equiv};
 ghost use Rattle.lb_snapshot.specs.Measured.{IsLoads, load};
@@ -8,10 +8,10 @@ use std::alloc::{AllocError, Allocator, Global};
 use std::marker::Model;
 
 /// A number of work units, 0 to [`Limits::LOAD`].
-pub type Units = u32;
+pub type Units = u64;
 
 /// The load of every element in one round, in order of index: at most [`Limits::ELEMENTS`] numbers of work
-/// units. Contracts see it as the list of these numbers.
+/// units, each at most [`Limits::LOAD`]. Contracts see it as the list of these numbers.
 #[derive(Drop)]
 #[derive_where(Debug)]
 pub struct Loads<A: Allocator = Global> {
@@ -27,11 +27,12 @@ impl<A: Allocator> Model for Loads<A> {
 }
 
 impl<A: Allocator> Loads<A> {
-    /// These loads, or `None` where they are more than there may be elements.
+    /// These loads, or `None` where they are more than there may be elements, or where one is more than an element
+    /// may have.
     pub fn new(units: Vec<Units, A>) -> Option<Self>
         ensures made { SomeIff result (IsLoads units.items) units.items }
     {
-        if units.len() <= Limits::ELEMENTS as usize {
+        if units.len() <= Limits::ELEMENTS as usize && fit(&units) {
             Some(Loads { units })
         } else {
             None
@@ -61,7 +62,7 @@ impl<A: Allocator> Loads<A> {
         self.units.is_empty()
     }
 
-    /// The load of the elements `first..end`: at most 281,474,976,645,120 work units.
+    /// The load of the elements `first..end`: at most 9,223,372,036,854,710,272 work units.
     pub fn load(&self, first: usize, end: usize) -> u64
         requires ordered { first ≤ end }
         requires within { end ≤ length self.now }
@@ -87,9 +88,16 @@ fn total(units: &[Units]) -> u64
 {
     let mut total = 0;
     for &units in units {
-        total += u64::from(units);
+        total += units;
     }
     total
+}
+
+// Whether each load is one that an element may have.
+fn fit(units: &[Units]) -> bool
+    ensures { IsTrue result ↔ All (λ load. load ≤ Limits.LOAD) units.now }
+{
+    units.iter().all(|&load| load <= Limits::LOAD)
 }
 
 impl<A: Allocator> PartialEq for Loads<A> {

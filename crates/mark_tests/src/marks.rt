@@ -4,6 +4,7 @@
 use crate::fixtures::{assert_for, decide, decided_board, index, new_board, pe, round};
 use at_sync::Board;
 use chares::{Mark, Note};
+use lb_snapshot::Units;
 use round_marks::{element_agrees, marks_agree};
 use std::process::Abort;
 
@@ -11,7 +12,7 @@ use std::process::Abort;
 #[derive(Clone, Copy)]
 enum Kept {
     // The note of an element that reached AtSync for a round, with its load, its bytes and its PE.
-    Synced(u32, u32, u32, u32, u32),
+    Synced(u32, u32, Units, u32, u32),
     // The note of an element that has finished, which is kept by none.
     Finished(u32),
     // A resumption after a round, on a PE.
@@ -102,8 +103,14 @@ fn marks_of_the_decided_round_agree(rt: HostRuntime) {
 
 #[test]
 fn notes_that_the_snapshot_does_not_have_are_refused(rt: HostRuntime) {
-    const ROWS: [Row; 7] = [
+    const ROWS: [Row; 8] = [
         ("another load", 0, None, &[Synced(0, 1, 4, 5, 0)]),
+        (
+            "another load with the same lowest 32 bits",
+            0,
+            None,
+            &[Synced(0, 1, 4_294_967_299, 5, 0)],
+        ),
         ("another size", 0, None, &[Synced(0, 1, 3, 6, 0)]),
         ("another PE", 0, None, &[Synced(0, 1, 3, 5, 1)]),
         ("another element", 0, None, &[Synced(1, 1, 3, 5, 0)]),

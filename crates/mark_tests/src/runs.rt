@@ -8,6 +8,7 @@ use crate::fixtures::{assert_for, index, new_board, pe, report, round};
 use at_sync::Board;
 use chare_index::NoGate;
 use chares::{Note, Openings};
+use lb_snapshot::Units;
 use pe_state::{Acted, HeldParcel, Parcel, PeEnd, PeState, into_held};
 use round_marks::{parcels_agree, pe_agrees, run_agrees};
 use sample_chares::Courier;
@@ -67,7 +68,7 @@ fn hand_in<H: Openings<Courier>>(
     rt: &impl Abort,
     board: &mut Board,
     at: &PeState<Courier, H>,
-    more: u32,
+    more: Units,
 ) {
     let note = at.next_note().expect(rt, "no note");
     let Note::Sync(e, _, load, bytes, place) = note else {
@@ -83,7 +84,7 @@ fn told<H: Openings<Courier>>(
     rt: &(impl Abort + AllocGlobal),
     low: &PeState<Courier, H>,
     high: &PeState<Courier, H>,
-    more: (u32, u32),
+    more: (Units, Units),
 ) -> Board {
     let mut board = new_board(rt);
     hand_in(rt, &mut board, low, more.0);
@@ -167,7 +168,7 @@ fn run_left<H: Openings<Courier>>(
     first: Courier,
     second: Courier,
     place: Place,
-    more: (u32, u32),
+    more: (Units, Units),
 ) -> Left
     requires pes { H.pes ≡ 2 }
     requires opening { H.opened ≡ first ∷ second ∷ [] }
@@ -210,7 +211,7 @@ fn agrees<H: Openings<Courier>>(
     first: Courier,
     second: Courier,
     place: Place,
-    more: (u32, u32),
+    more: (Units, Units),
 ) -> bool
     requires pes { H.pes ≡ 2 }
     requires opening { H.opened ≡ first ∷ second ∷ [] }
@@ -222,7 +223,7 @@ fn agrees<H: Openings<Courier>>(
     all
 }
 
-fn agrees_at(rt: &(impl Abort + AllocGlobal), place: Place, more: (u32, u32)) -> bool {
+fn agrees_at(rt: &(impl Abort + AllocGlobal), place: Place, more: (Units, Units)) -> bool {
     let (first, second) = (courier(rt), courier(rt));
     agrees::<Brand>(rt, first, second, place, more)
 }

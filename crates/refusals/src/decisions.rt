@@ -1,7 +1,8 @@
 //! Divisions, namings and whole decisions, and copies of a snapshot and of a decision.
 
 use crate::fixtures::{
-    Lent, assert_requests, assert_requests_on, cuts, five, same, snapshot, sums, table, table_of,
+    Lent, assert_requests, assert_requests_on, cuts, five, is_copied, same, snapshot, sums, table,
+    table_of,
 };
 use block_assignment::{CostTable, NameError, name_blocks};
 use chain_partition::{Prefix, Probe, divide, divide_with, probe, probe_on};
@@ -288,17 +289,6 @@ fn whole_decisions_of_many_moves(rt: HostRuntime) {
     let things = "one for six moves too";
     assert_requests_on(&rt, one_plans_six, &six, PLANNING, things);
     drop(six);
-}
-
-// What a copy comes to, which is to be equal to what it was made from.
-fn is_copied<T: PartialEq + Drop>(answer: Result<T, AllocError>, original: &T) -> Outcome {
-    let outcome = match &answer {
-        Ok(copy) if copy == original => Outcome::Right,
-        Ok(_) => Outcome::Wrong,
-        Err(AllocError) => Outcome::Refused,
-    };
-    drop(answer);
-    outcome
 }
 
 // What a copy of the example comes to, and the example before it.

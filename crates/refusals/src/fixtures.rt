@@ -79,6 +79,20 @@ pub(crate) fn same<T: PartialEq>(some: &[T], others: &[T]) -> bool {
     some == others
 }
 
+/// What a copy comes to, which is to be equal to what it was made from.
+pub(crate) fn is_copied<T: PartialEq + Drop>(
+    answer: Result<T, AllocError>,
+    original: &T,
+) -> Outcome {
+    let outcome = match &answer {
+        Ok(copy) if copy == original => Outcome::Right,
+        Ok(_) => Outcome::Wrong,
+        Err(AllocError) => Outcome::Refused,
+    };
+    drop(answer);
+    outcome
+}
+
 /// Asserts that an attempt makes so many requests, for these things, each of which is refused and told.
 pub(crate) fn assert_requests<F: Fn(&Refusing<Global>) -> Outcome>(
     rt: &(impl Abort + AllocGlobal),

@@ -1,22 +1,22 @@
 //! Calls that promise to take no memory make no request.
 
-use crate::dumps::end;
+use crate::dumps::{read, recorded};
 use crate::fixtures::{Lent, assert_for, same, snapshot, sums, table};
 use block_assignment::CostTable;
 use chain_partition::Prefix;
 use chare_index::Index;
-use lb_certificates::{Snapshot, check_division, check_naming};
+use lb_certificates::{Loads, Sizes, Snapshot, check_division, check_naming};
 use lb_database::LoadDb;
-use lb_dump::{DumpError, DumpReader, decode, write_to};
+use lb_dump::{Dump, DumpError, DumpReader, Recorded, decode, encode, write_to};
 use lb_strategy::{Decision, check, plan};
 use refusing_alloc::{Outcome, Refusing};
-use std::alloc::{Allocator, Global};
+use std::alloc::Allocator;
 use std::process::Abort;
-use test_fixtures::{EXAMPLE_DUMP, example, pe, round};
+use test_fixtures::{EXAMPLE_DUMP, RECORDED_DUMP, example, pe, round};
 
 // Whether element `i` does its work in the first round and reports it on PE 0, and then does more.
 fn takes_part<A: Allocator>(db: &mut LoadDb<A>, i: u32) -> bool {
-    let charged = db.charge(i, u32::MAX).is_ok();
+    let charged = db.charge(i, u64::MAX).is_ok();
     let reported = db.report(i, round(1), 1_048_576, pe(0)).is_ok();
     charged && reported && db.charge(i, 1).is_ok()
 }
@@ -58,16 +58,16 @@ fn a_database_that_was_made(rt: HostRuntime) {
     assert_for(&rt, alloc.requests() == 2, "its two lists");
 }
 
-// A reader that has read no bytes, without a request, and then the example.
-fn fed<'a>(rt: &impl Abort, alloc: Lent<'a>) -> DumpReader<Lent<'a>> {
+// A reader that has read no bytes, without a request, and then this text.
+fn fed<'a>(rt: &impl Abort, alloc: Lent<'a>, text: &[u8]) -> DumpReader<Lent<'a>> {
     let mut reader = DumpReader::new(alloc);
     assert_for(rt, reader.feed(&[]).is_ok(), "no bytes");
     assert_for(rt, alloc.requests() == 0, "requests");
-    assert_for(rt, reader.feed(&EXAMPLE_DUMP).is_ok(), "the example");
+    assert_for(rt, reader.feed(text).is_ok(), "the text");
     reader
 }
 
-// Whether a reader that has read the example takes no bytes, and refuses more and the end behind them.
+// Whether a reader that has read a whole text takes no bytes, and refuses more and the end behind them.
 fn refuses_more<A: Allocator + Copy>(mut reader: DumpReader<A>) -> bool {
     let no_bytes = reader.feed(&[]).is_ok();
     let once = reader.feed(&EXAMPLE_DUMP).is_err();
@@ -76,13 +76,19 @@ fn refuses_more<A: Allocator + Copy>(mut reader: DumpReader<A>) -> bool {
     no_bytes && once && twice && at_end
 }
 
+// A reader of a whole text has to refuse more without a request.
+fn expect_no_more(rt: &(impl Abort + AllocGlobal), text: &[u8]) {
+    let alloc = Refusing::new(rt.alloc(), 0);
+    let reader = fed(rt, &alloc, text);
+    let made = alloc.requests();
+    assert_for(rt, refuses_more(reader), "refuses more");
+    assert_for(rt, alloc.requests() == made, "those of the reader");
+}
+
 #[test]
 fn a_reader_of_no_bytes_and_of_too_many(rt: HostRuntime) {
-    let alloc = Refusing::new(rt.alloc(), 0);
-    let reader = fed(&rt, &alloc);
-    let made = alloc.requests();
-    assert_for(&rt, refuses_more(reader), "refuses more");
-    assert_for(&rt, alloc.requests() == made, "those of the reader");
+    expect_no_more(&rt, &EXAMPLE_DUMP);
+    expect_no_more(&rt, &RECORDED_DUMP);
 }
 
 #[test]
@@ -92,34 +98,97 @@ fn a_head_with_a_fault(rt: HostRuntime) {
     assert_for(&rt, letters == Some(DumpError::Magic), letters);
     let procs = decode(&alloc, b"LBD1\0\0\0\0\0\0\0\0").err();
     assert_for(&rt, procs == Some(DumpError::Procs), procs);
+    let count = decode(&alloc, b"LBD2\0\0\0\0\0\0\0\x01\x01\0\0\0").err();
+    assert_for(&rt, count == Some(DumpError::Count), count);
     assert_for(&rt, alloc.requests() == 0, "requests");
+}
+
+// The end of a text has to take no memory.
+fn expect_end(rt: &(impl Abort + AllocGlobal), text: &[u8]) {
+    let alloc = Refusing::new(rt.alloc(), 0);
+    let reader = fed(rt, &alloc, text);
+    let made = alloc.requests();
+    assert_for(rt, read(reader.end(), text) == Outcome::Right, "the dump");
+    assert_for(rt, alloc.requests() == made, "those of the reader");
 }
 
 #[test]
 fn the_end_of_a_reader(rt: HostRuntime) {
-    let alloc = Refusing::new(rt.alloc(), 0);
-    let reader = fed(&rt, &alloc);
-    let made = alloc.requests();
-    assert_for(&rt, end(reader) == Outcome::Right, "the example");
-    assert_for(&rt, alloc.requests() == made, "those of the reader");
+    expect_end(&rt, &EXAMPLE_DUMP);
+    expect_end(&rt, &RECORDED_DUMP);
 }
 
 // Whether the example is written as it should be.
-fn is_written<A: Allocator>(alloc: Global, example: Snapshot<A>) -> bool {
-    let mut written = Vec::new(alloc);
-    let right = write_to(&mut written, &example).is_ok() && same(written.as_slice(), &EXAMPLE_DUMP);
-    drop(written);
+fn is_written<A: Allocator>(example: Snapshot<A>) -> bool {
+    let mut written = [0; 52];
+    let right = write_to(&mut written.as_mut_slice(), &example).is_ok();
     drop(example);
-    right
+    right && same(&written, &EXAMPLE_DUMP)
 }
 
 #[test]
-fn a_dump_that_is_written(rt: HostRuntime) {
+fn a_snapshot_that_is_written(rt: HostRuntime) {
     let alloc = Refusing::new(rt.alloc(), 0);
     let snapshot = snapshot(&rt, &alloc);
     let made = alloc.requests();
-    assert_for(&rt, is_written(rt.alloc(), snapshot), "written");
+    assert_for(&rt, is_written(snapshot), "written");
     assert_for(&rt, alloc.requests() == made, "those of the example");
+}
+
+// Whether a dump is taken apart and made again, has a decision then, and is written as it should be.
+fn is_made_again<A: Allocator>(dump: Dump<A>) -> bool {
+    let (snapshot, recorded) = dump.into_parts();
+    match Dump::new(snapshot, recorded) {
+        None => false,
+        Some(dump) => read(Ok(dump), &RECORDED_DUMP) == Outcome::Right,
+    }
+}
+
+// Whether a dump is not made with a decision of another target.
+fn is_refused<A: Allocator>(dump: Dump<A>) -> bool {
+    let (snapshot, recorded) = dump.into_parts();
+    let recorded = recorded.map(|recorded| with_target(recorded, 3));
+    Dump::new(snapshot, recorded).is_none()
+}
+
+// A decision for so many PEs.
+fn with_target<A: Allocator>(recorded: Recorded<A>, target: u32) -> Recorded<A> {
+    let Recorded { decision, .. } = recorded;
+    Recorded { target, decision }
+}
+
+#[test]
+fn a_dump_that_is_made_and_written(rt: HostRuntime) {
+    let alloc = Refusing::new(rt.alloc(), 0);
+    let dump = recorded(&rt, &alloc);
+    let refused = recorded(&rt, &alloc);
+    let made = alloc.requests();
+    assert_for(&rt, is_made_again(dump), "made again");
+    assert_for(&rt, is_refused(refused), "refused");
+    assert_for(&rt, alloc.requests() == made, "those of the dumps");
+}
+
+// Whether LBD1 cannot hold a snapshot, because of the load of its element.
+fn is_too_wide<A: Allocator, B: Allocator>(alloc: A, snapshot: &Snapshot<B>) -> bool {
+    encode(alloc, snapshot).err() == Some(DumpError::Wide(0))
+}
+
+// A snapshot of one element with this load.
+fn of_load(rt: &(impl Abort + AllocGlobal), load: u64) -> Snapshot {
+    let units = Vec::from_slice(rt.alloc(), &[load]).expect(rt, "out of memory");
+    let pairs = Vec::from_slice(rt.alloc(), &[(0, pe(0))]).expect(rt, "out of memory");
+    let loads = Loads::new(units).expect(rt, "past a limit");
+    let sizes = Sizes::new(pairs).expect(rt, "past a limit");
+    Snapshot::new(0, 1, loads, sizes).expect(rt, "no snapshot")
+}
+
+#[test]
+fn a_load_that_is_too_wide(rt: HostRuntime) {
+    let alloc = Refusing::new(rt.alloc(), 0);
+    let snapshot = of_load(&rt, 4_294_967_296);
+    assert_for(&rt, is_too_wide(&alloc, &snapshot), "encoded");
+    drop(snapshot);
+    assert_for(&rt, alloc.requests() == 0, "requests");
 }
 
 // Whether the decision on the example is accepted, in parts and whole, and not for three PEs.

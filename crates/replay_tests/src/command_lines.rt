@@ -1,11 +1,11 @@
-//! Command lines: what their words ask for, and the status where they ask for no replay.
+//! Command lines: what their words ask for, what is to be done, and the status where they ask for nothing.
 
 use crate::fixtures::assert_for;
 use command_line::{asked, words_status};
-use lb_replay::Asked;
+use lb_replay::Task;
 use std::alloc::Global;
 
-// Words, and what they ask for.
+// Words that ask for a replay.
 struct Asking {
     words: &'static [&'static str],
     file: &'static str,
@@ -13,10 +13,11 @@ struct Asking {
 }
 
 fn is_asked(alloc: Global, row: &Asking) -> bool {
-    let Ok(Asked { file, procs }) = asked(alloc, row.words) else {
+    let Ok(asked) = asked(alloc, row.words) else {
         return false;
     };
-    file == row.file && procs == row.procs
+    let same = asked.file == row.file && asked.procs == row.procs && !asked.check;
+    same && asked.task() == Some(Task::Replay(row.procs))
 }
 
 static ASKING: [Asking; 8] = [
@@ -56,8 +57,8 @@ static ASKING: [Asking; 8] = [
         procs: None,
     },
     Asking {
-        words: &["lb_sim", "--procs", "3", "--", "--procs"],
-        file: "--procs",
+        words: &["lb_sim", "--procs", "3", "--", "--check"],
+        file: "--check",
         procs: Some(3),
     },
 ];
@@ -69,7 +70,52 @@ fn words_that_ask(rt: HostRuntime) {
     }
 }
 
-// Words that ask for no replay, and the status for them.
+// Words that ask for a check of the dump `f`, and what is to be done, if that is a task.
+struct Checking {
+    words: &'static [&'static str],
+    procs: Option<u32>,
+    task: Option<Task>,
+}
+
+fn is_check(alloc: Global, row: &Checking) -> bool {
+    let Ok(asked) = asked(alloc, row.words) else {
+        return false;
+    };
+    let same = asked.file == "f" && asked.procs == row.procs && asked.check;
+    same && asked.task() == row.task
+}
+
+static CHECKING: [Checking; 4] = [
+    Checking {
+        words: &["lb_sim", "--check", "f"],
+        procs: None,
+        task: Some(Task::Check),
+    },
+    Checking {
+        words: &["lb_sim", "f", "--check"],
+        procs: None,
+        task: Some(Task::Check),
+    },
+    Checking {
+        words: &["lb_sim", "--check", "--procs", "2", "f"],
+        procs: Some(2),
+        task: None,
+    },
+    Checking {
+        words: &["lb_sim", "--procs", "2", "f", "--check"],
+        procs: Some(2),
+        task: None,
+    },
+];
+
+#[test]
+fn words_that_ask_for_a_check(rt: HostRuntime) {
+    for row in &CHECKING {
+        assert_for(&rt, is_check(rt.alloc(), row), row.words);
+    }
+}
+
+// Words that ask for nothing to be done, and the status for them.
 struct Refused {
     words: &'static [&'static str],
     status: u8,
@@ -82,7 +128,7 @@ fn is_refused(alloc: Global, row: &Refused) -> bool {
     }
 }
 
-static REFUSED: [Refused; 9] = [
+static REFUSED: [Refused; 11] = [
     Refused {
         words: &["lb_sim"],
         status: 2,
@@ -109,6 +155,14 @@ static REFUSED: [Refused; 9] = [
     },
     Refused {
         words: &["lb_sim", "--pes", "2", "f"],
+        status: 2,
+    },
+    Refused {
+        words: &["lb_sim", "--check"],
+        status: 2,
+    },
+    Refused {
+        words: &["lb_sim", "--check=yes", "f"],
         status: 2,
     },
     Refused {

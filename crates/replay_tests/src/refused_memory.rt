@@ -1,16 +1,17 @@
-//! Each request of a replay for memory is refused in turn.
+//! Each request of a replay, and of a check, for memory is refused in turn.
 
-use crate::fixtures::{TEXT, assert_for};
+use crate::fixtures::{DECIDED, RIGHT, TEXT, assert_for};
+use lb_certificates::Flaw;
 use lb_dump::{DumpError, read_from};
-use lb_replay::{Ended, simulate};
+use lb_replay::{Ended, simulate, verify};
 use lb_strategy::PlanError;
 use refusing_alloc::{Failure, Outcome, Refusing, each_refusal};
 use std::alloc::Global;
 use std::test::Fail;
 use test_fixtures::EXAMPLE_DUMP;
 
-// The requests to read the example: the piece, the head, and the two lists of the snapshot.
-const TO_READ: u64 = 4;
+// The requests to read the example: the piece, and the two lists of the snapshot.
+const TO_READ: u64 = 3;
 
 // The requests of the search for names on two blocks.
 const NAMING: u64 = 11;
@@ -86,4 +87,64 @@ fn the_fault_is_that_of_the_dump_or_the_plan(rt: HostRuntime) {
         };
         assert_for(&rt, ended_at_request(&rt, number) == wanted, number);
     }
+}
+
+// The requests to check the decision are those to read it: the two lists of the snapshot, its own six, the piece, and
+// three for its bytes as they come. Neither the check nor its line takes memory.
+const TO_CHECK: u64 = 12;
+
+// The requests to check a decision with a flaw: the same, and each growth of the line of the flaw.
+const TO_CHECK_FORGED: u64 = TO_CHECK + 2;
+
+// What a check of the dump comes to, over an allocator that may refuse, where it is to end so with this line.
+fn checked(
+    rt: &impl AllocGlobal,
+    alloc: &Refusing<Global>,
+    mut dump: &[u8],
+    wanted: (Ended, &str),
+) -> Outcome {
+    let mut written = Vec::new(rt.alloc());
+    let ended = verify(alloc, &mut dump, &mut written);
+    let outcome = outcome_of_check(ended, &written, wanted);
+    drop(written);
+    outcome
+}
+
+// What the end of a check comes to, with what it wrote. Out of memory is always a fault of the dump.
+fn outcome_of_check(ended: Ended, written: &[u8], wanted: (Ended, &str)) -> Outcome {
+    if ended == wanted.0 && written == wanted.1.as_bytes() {
+        return Outcome::Right;
+    }
+    let out_of_memory = Ended::Dump(DumpError::OutOfMemory);
+    if ended == out_of_memory && written == b"out of memory\n".as_slice() {
+        return Outcome::Refused;
+    }
+    Outcome::Wrong
+}
+
+// How many requests of a check are refused, one in each attempt.
+fn requests_of_a_check(
+    rt: &impl AllocGlobal,
+    dump: &[u8],
+    wanted: (Ended, &str),
+) -> Result<u64, Failure> {
+    let attempt = |alloc: &Refusing<Global>| checked(rt, alloc, dump, wanted);
+    each_refusal(rt.alloc(), 80, attempt)
+}
+
+// The example with cuts that end before the last element.
+fn forged() -> [u8; 172] {
+    let mut forged = DECIDED;
+    forged[91] = 2;
+    forged
+}
+
+#[test]
+fn memory_refused_to_a_check_at_each_request(rt: HostRuntime) -> Result<(), Fail> {
+    let to_check = requests_of_a_check(&rt, &DECIDED, (Ended::Printed, RIGHT))?;
+    assert_for(&rt, to_check == TO_CHECK, to_check);
+    let flaw = (Ended::Flawed(Flaw::CutEnd), "check: CutEnd\n");
+    let to_check_forged = requests_of_a_check(&rt, &forged(), flaw)?;
+    assert_for(&rt, to_check_forged == TO_CHECK_FORGED, to_check_forged);
+    Ok(())
 }

@@ -6,7 +6,7 @@ ghost use Rattle.std.specs.Option.{ForSome};
 use crate::fixtures::{ON_ONE, TEXT, assert_for, ends, is_end, kind, replays};
 use chare_index::Limits;
 use lb_dump::DumpError;
-use lb_replay::{Ended, replay_file};
+use lb_replay::{Ended, Task, replay_file};
 use std::alloc::AllocError;
 use std::io::{self, ErrorKind, Read};
 use std::process::Abort;
@@ -35,9 +35,9 @@ fn no_bytes_and_other_letters(rt: HostRuntime) {
     let short = "dump: ends at byte 0\n";
     let end = Ended::Dump(DumpError::Short(0));
     assert_for(&rt, replays(&rt, &[], short, end), short);
-    let other = "dump: not LBD1\n";
+    let other = "dump: not LBD1 or LBD2\n";
     let end = Ended::Dump(DumpError::Magic);
-    assert_for(&rt, replays(&rt, b"LBD2", other, end), other);
+    assert_for(&rt, replays(&rt, b"LBD3", other, end), other);
 }
 
 // A byte that the example has at a place, the line that is written then, and its fault.
@@ -126,7 +126,8 @@ fn no_elements_and_one_block(rt: HostRuntime) {
         "no elements",
     );
     let mut example = EXAMPLE_DUMP.as_slice();
-    let printed = ends(&rt, &mut example, Some(1), ON_ONE, Ended::Printed);
+    let task = Task::Replay(Some(1));
+    let printed = ends(&rt, task, &mut example, ON_ONE, Ended::Printed);
     assert_for(&rt, printed, "one block");
 }
 

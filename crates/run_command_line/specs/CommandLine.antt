@@ -1,4 +1,4 @@
--- What the words of a command line ask for, as clap reads them: `charm_run [--dump PREFIX] [--progress] FILE`.
+-- What clap reads from the words of a command line: `charm_run [--dump PREFIX] [--lbd1] [--progress] FILE`.
 use Rattle.std.specs.Prelude.{◌≡◌, List, Option, Some, codes, true}
 use Rattle.clap.specs.Words.{App, Rule, Text, first_of, matches_of, new_app, new_rule, one_of, with_rule}
 use Rattle.clap.specs.declared.builder.action.ArgAction.TheVariants.{Set, SetTrue}
@@ -11,7 +11,7 @@ file_rule = record (new_rule (codes "file")) {
   required = true;
 }
 
--- how the names of the files begin to which the snapshots go
+-- how the names of the files begin to which the dumps go
 abbrev pub dump_rule : Rule
 dump_rule = record (new_rule (codes "dump")) {
   long = Some (codes "dump");
@@ -19,7 +19,10 @@ dump_rule = record (new_rule (codes "dump")) {
   value_names = 1;
 }
 
--- a flag, which takes no word
+-- two flags, which take no word
+abbrev pub lbd1_rule : Rule
+lbd1_rule = record (new_rule (codes "lbd1")) { long = Some (codes "lbd1"); action = Some SetTrue }
+
 abbrev pub progress_rule : Rule
 progress_rule = record (new_rule (codes "progress")) { long = Some (codes "progress"); action = Some SetTrue }
 
@@ -29,16 +32,19 @@ versioned = let plain = new_app (codes "charm_run") in record plain { top = reco
 
 -- the program with its words, to which clap adds those that ask for help and for the version
 abbrev pub program : App
-program = with_rule (with_rule (with_rule versioned file_rule) dump_rule) progress_rule
+program = with_rule (with_rule (with_rule (with_rule versioned file_rule) dump_rule) lbd1_rule) progress_rule
 
 -- the word that names the file
 abbrev pub file_in : List Text → Option Text
 file_in words = first_of (codes "file") (matches_of program words)
 
--- the word that says where the snapshots go
+-- the word that says where the dumps go
 abbrev pub dump_in : List Text → Option Text
 dump_in words = first_of (codes "dump") (matches_of program words)
 
--- the words have the flag, which clap reads as the text `true`, and a flag that is not there as `false`
+-- the words have this flag, which clap reads as the text `true`, and a flag that is not there as `false`
+abbrev pub AsksLbd1 : List Text → Type 0
+AsksLbd1 words = one_of (codes "lbd1") (matches_of program words) ≡ Some (codes "true")
+
 abbrev pub TellsProgress : List Text → Type 0
 TellsProgress words = one_of (codes "progress") (matches_of program words) ≡ Some (codes "true")

@@ -6,7 +6,8 @@
 //!
 //! let words = ["charm_run", "--dump", "rounds", "--progress", "ring.work"];
 //! let asked_for = asked(alloc, &words).unwrap();
-//! assert!(asked_for.file == "ring.work" && asked_for.dump == Some("rounds") && asked_for.progress);
+//! assert!(asked_for.file == "ring.work" && asked_for.dump == Some("rounds"));
+//! assert!(asked_for.progress && !asked_for.lbd1);
 //!
 //! let error = asked(alloc, &["charm_run", "--quiet", "ring.work"]).unwrap_err();
 //! assert!(words_status(&error) == NO_WORDS);

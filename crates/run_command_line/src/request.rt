@@ -3,8 +3,10 @@
 pub struct Asked<'a> {
     /// The workload.
     pub file: &'a str,
-    /// The snapshot of round r goes to the file of this name with `.r` behind it.
+    /// The dump of round r goes to the file of this name with `.r` behind it.
     pub dump: Option<&'a str>,
+    /// Whether dumps are written in the format LBD1, which has no decision.
+    pub lbd1: bool,
     /// Whether the progress of the run is told also where the standard error is no terminal.
     pub progress: bool,
 }

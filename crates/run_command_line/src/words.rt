@@ -3,7 +3,7 @@ ghost use Rattle.clap.specs.Built.{FitsChain, TakesValue};
 ghost use Rattle.clap.specs.Values.{kind_of};
 ghost use Rattle.clap.specs.Walk.{texts};
 ghost use Rattle.clap.specs.Words.{FailsBy, app_of, fault_of, first_value, found_of, one_text, rule_of};
-ghost use Rattle.run_command_line.specs.CommandLine.{TellsProgress, dump_in, dump_rule, file_in, file_rule, program, progress_rule};
+ghost use Rattle.run_command_line.specs.CommandLine.{AsksLbd1, TellsProgress, dump_in, dump_rule, file_in, file_rule, lbd1_rule, program, progress_rule};
 ghost use Rattle.run_command_line.specs.Internal.{NamesFile};
 ghost use Rattle.clap.specs.declared.error.kind.ErrorKind.TheVariants.{DisplayHelp, DisplayVersion};
 
@@ -27,12 +27,13 @@ pub fn words_status(error: &Error) -> u8
 ///
 /// # Errors
 ///
-/// The words are not `[--dump PREFIX] [--progress] FILE`, help or the version is asked for, or it is out of memory. The
-/// error has the text to print; [`words_status`] is the status for it.
+/// The words are not `[--dump PREFIX] [--lbd1] [--progress] FILE`, help or the version is asked for, or it is out of memory.
+/// The error has the text to print; [`words_status`] is the status for it.
 pub fn asked<'a>(alloc: Global, words: &'a [&'a str]) -> Result<Asked<'a>, Error>
     ensures faults { FailsBy (fault_of program (texts words.now)) result }
     ensures file { IfOk result (λ asked. file_in (texts words.now) ≡ Some asked.file.now) }
     ensures dump { IfOk result (λ asked. dump_in (texts words.now) ≡ option_map (λ prefix. prefix.now) asked.dump) }
+    ensures lbd1 { IfOk result (λ asked. IsTrue asked.lbd1 ↔ AsksLbd1 (texts words.now)) }
     ensures progress { IfOk result (λ asked. IsTrue asked.progress ↔ TellsProgress (texts words.now)) }
 {
     match command(alloc)?.try_get_matches_from(words) {
@@ -41,8 +42,8 @@ pub fn asked<'a>(alloc: Global, words: &'a [&'a str]) -> Result<Asked<'a>, Error
     }
 }
 
-// The words that are understood: `charm_run [--dump PREFIX] [--progress] FILE`, and those for help and for the version,
-// which clap adds.
+// The words that are understood: `charm_run [--dump PREFIX] [--lbd1] [--progress] FILE`, and those for help and for the
+// version, which clap adds.
 fn command<'a>(alloc: Global) -> Result<Command<'a>, AllocError>
     ensures program { IfOk result (λ command. app_of command ≡ program) }
     ensures named { IfOk result NamesFile }
@@ -53,6 +54,7 @@ fn command<'a>(alloc: Global) -> Result<Command<'a>, AllocError>
         .after_help(HOW_TO);
     let command = command.arg(file(alloc))?;
     let command = command.arg(dump(alloc))?;
+    let command = command.arg(lbd1(alloc))?;
     command.arg(progress(alloc))
 }
 
@@ -75,8 +77,25 @@ fn dump<'a>(alloc: Global) -> Arg<'a>
     Arg::new(alloc, "dump")
         .long("dump")
         .value_name("PREFIX")
-        .help("Writes the snapshot of round r to the file PREFIX.r,{n}which lb_sim replays")
+        .help(
+            "Writes the dump of round r to the file PREFIX.r: its{n}\
+             snapshot, and the decision with its certificates.{n}\
+             lb_sim PREFIX.r replays the snapshot, and{n}\
+             lb_sim --check PREFIX.r checks the decision",
+        )
         .action(ArgAction::Set)
+}
+
+fn lbd1<'a>(alloc: Global) -> Arg<'a>
+    ensures rule { rule_of result ≡ lbd1_rule }
+    ensures fits { FitsChain result }
+{
+    Arg::new(alloc, "lbd1")
+        .long("lbd1")
+        .help(
+            "With --dump, writes the snapshots alone, in the format{n}LBD1, whose loads are below 2^32",
+        )
+        .action(ArgAction::SetTrue)
 }
 
 fn progress<'a>(alloc: Global) -> Arg<'a>
@@ -94,11 +113,13 @@ fn found<'a>(matches: &ArgMatches<'a>) -> Asked<'a>
     requires named { is_some (first_value (found_of matches.now) (codes "file")) ≡ true }
     ensures file { first_value (found_of matches.now) (codes "file") ≡ Some result.file.now }
     ensures dump { first_value (found_of matches.now) (codes "dump") ≡ option_map (λ prefix. prefix.now) result.dump }
+    ensures lbd1 { IsTrue result.lbd1 ↔ (one_text (found_of matches.now) (codes "lbd1") ≡ Some (codes "true")) }
     ensures progress { IsTrue result.progress ↔ (one_text (found_of matches.now) (codes "progress") ≡ Some (codes "true")) }
 {
     Asked {
         file: matches.get_str("file").unwrap(),
         dump: matches.get_str("dump"),
+        lbd1: matches.get_one("lbd1") == Some(true),
         progress: matches.get_one("progress") == Some(true),
     }
 }

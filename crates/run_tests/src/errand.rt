@@ -1,4 +1,5 @@
-//! A chare that is told how many letters it sends, where to, and when it has finished.
+//! A chare that is told how many letters it sends, where to, when it has finished, and how many units each of its handlers
+//! takes.
 
 ghost use Rattle.std.specs.Prelude.{◌≡◌, ◌≢◌, ◌≤◌, ◌<◌, ◌∷◌, [], List, ℕ, IfErr, MatchResult, OnErr, OnOk};
 ghost use Rattle.chare_index.specs.declared.limits.TheConstants.Limits.{ELEMENTS};
@@ -8,6 +9,7 @@ ghost use Rattle.run_tests.specs.Errands.{RefusesAll, empty_letters};
 
 use chare_index::{Gate, Index, Round};
 use chares::{Chare, Effect, Here, SendError, Sends};
+use lb_certificates::Units;
 use pup_pack::{Fields, Pup, PupError};
 use std::alloc::Allocator;
 use std::marker::Model;
@@ -26,6 +28,8 @@ pub(crate) struct Errand {
     pub(crate) wanted: u32,
     /// After how many rounds it may finish.
     pub(crate) rounds: u32,
+    /// How many units each of its handlers takes.
+    pub(crate) units: Units,
 }
 
 impl Errand {
@@ -37,6 +41,7 @@ impl Errand {
             replies: 0,
             wanted: 0,
             rounds: 0,
+            units: 0,
         }
     }
 }
@@ -46,11 +51,11 @@ impl Model for Errand {
 
     ghost Value = { ErrandView };
 
-    ghost view = { λ e. record { to = e.to; letters = e.letters; replies = e.replies; wanted = e.wanted; rounds = e.rounds } };
+    ghost view = { λ e. record { to = e.to; letters = e.letters; replies = e.replies; wanted = e.wanted; rounds = e.rounds; units = e.units } };
 }
 
 // The fields, as they are packed.
-type Parts = (u32, (u32, (u32, (u32, u32))));
+type Parts = (u32, (u32, (u32, (u32, (u32, Units)))));
 
 // Sends an empty letter to an element.
 fn send_one<P: Drop, A: Allocator + Copy>(sends: &mut Sends<P, A>, to: u32) -> Result<(), SendError>
@@ -84,7 +89,7 @@ fn send_all<P: Drop, A: Allocator + Copy>(
 impl<A: Allocator + Copy> Pup<A> for Errand {
     ghost use Rattle.std.specs.Prelude.{refl};
     ghost use Rattle.pup_pack.specs.Structs.{made};
-    ghost use Rattle.pup_pack.specs.Trips.{pair_trips, struct_trips, u32_trips};
+    ghost use Rattle.pup_pack.specs.Trips.{pair_trips, struct_trips, u32_trips, u64_trips};
     ghost use Rattle.run_tests.specs.Errands.{of_parts, parts};
 
     ghost fits = { λ e. ⟦<Parts as Pup<A>>⟧.fits (parts e) };
@@ -95,30 +100,34 @@ impl<A: Allocator + Copy> Pup<A> for Errand {
 
     ghost unpack = { λ bytes. made of_parts (⟦<Parts as Pup<A>>⟧.unpack bytes) };
 
-    ghost round_trip = { (struct_trips parts of_parts (λ _. refl) (pair_trips u32_trips (pair_trips u32_trips (pair_trips u32_trips (pair_trips u32_trips u32_trips))))).trip };
+    ghost round_trip = { (struct_trips parts of_parts (λ _. refl) (pair_trips u32_trips (pair_trips u32_trips (pair_trips u32_trips (pair_trips u32_trips (pair_trips u32_trips u64_trips)))))).trip };
 
     fn packed_len(&self) -> u32 {
-        let (replies, last) = (&self.replies, (&self.wanted, &self.rounds));
+        let (replies, last) = (&self.replies, (&self.wanted, (&self.rounds, &self.units)));
         Fields::<A>::fields_len(&(&self.to, (&self.letters, (replies, last))))
     }
 
     fn pack_into(&self, out: &mut Vec<u8, A>) -> Result<(), PupError> {
         (
             &self.to,
-            (&self.letters, (&self.replies, (&self.wanted, &self.rounds))),
+            (
+                &self.letters,
+                (&self.replies, (&self.wanted, (&self.rounds, &self.units))),
+            ),
         )
             .pack_fields(out)
     }
 
     fn unpack(alloc: A, bytes: &[u8]) -> Result<(Errand, usize), PupError> {
         let (parts, len) = <Parts as Pup<A>>::unpack(alloc, bytes)?;
-        let (to, (letters, (replies, (wanted, rounds)))) = parts;
+        let (to, (letters, (replies, (wanted, (rounds, units))))) = parts;
         let errand = Errand {
             to,
             letters,
             replies,
             wanted,
             rounds,
+            units,
         };
         Ok((errand, len))
     }
@@ -142,7 +151,7 @@ impl<A: Allocator + Copy> Chare<A> for Errand {
         send_all(sends, self.replies, self.to)?;
         self.wanted = self.wanted.saturating_sub(1);
         Ok(Effect {
-            units: 0,
+            units: self.units,
             at_sync: false,
             finished: self.wanted == 0,
         })
@@ -160,7 +169,7 @@ impl<A: Allocator + Copy> Chare<A> for Errand {
         send_all(sends, self.letters, self.to)?;
         let ready = round.get() < self.rounds;
         Ok(Effect {
-            units: 0,
+            units: self.units,
             at_sync: ready,
             finished: !ready && self.wanted == 0,
         })

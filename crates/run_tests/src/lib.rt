@@ -1,5 +1,5 @@
 //! Tests of runs over threads: worked examples whose answers come from outside, runs that end early, queues with little
-//! room, refused memory, full sizes, and random runs after which each letter is found by hand.
+//! room, loads at their limit, refused memory, full sizes, and random runs after which each letter is found by hand.
 #![tactic(auto)]
 
 #[cfg(test)]
@@ -10,6 +10,8 @@ mod errand;
 mod fixtures;
 #[cfg(test)]
 mod found;
+#[cfg(test)]
+mod heavy;
 #[cfg(test)]
 mod narrow;
 #[cfg(test)]

@@ -4,7 +4,7 @@ use crate::fixtures::{assert_for, index, patient, pe, round};
 use crate::tallies::{Amounts, EXAMPLE, EXAMPLE_TEXT, run_tallies, text_of};
 use chare_index::Pe;
 use chares::{Mark, Note};
-use lb_certificates::Snapshot;
+use lb_certificates::{Snapshot, Units};
 use std::process::Abort;
 use std::sync::Wait;
 use std::thread::Threads;
@@ -56,7 +56,7 @@ fn no_tally_on_three_pes(rt: HostRuntime) {
 }
 
 // A round that waits, and after which one goes on.
-fn is_synced(rt: &impl Abort, mark: &Mark, of: u32, load: u32, at: u32) -> bool {
+fn is_synced(rt: &impl Abort, mark: &Mark, of: u32, load: Units, at: u32) -> bool {
     let note = Note::Sync(index(rt, 1), round(rt, of), load, 40, pe(rt, at));
     *mark == Mark::Synced(note)
 }
@@ -96,7 +96,7 @@ fn are_from(sizes: &[(u32, Pe)], from: &[u32]) -> bool {
 }
 
 // Whether a round has this number, these loads, and elements from these PEs.
-fn is_round(snapshot: &Snapshot, step: u32, loads: &[u32], from: &[u32]) -> bool {
+fn is_round(snapshot: &Snapshot, step: u32, loads: &[Units], from: &[u32]) -> bool {
     snapshot.step() == step
         && snapshot.procs() == 2
         && snapshot.loads().as_slice() == loads

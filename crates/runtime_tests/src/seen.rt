@@ -4,6 +4,7 @@ use chare_index::{Index, Pe, Round};
 use chares::{
     Carried, Chare, Element, Entry, Letter, LetterId, Mark, Note, Openings, Packed, Progress,
 };
+use lb_snapshot::Units;
 use rts_core::{HeldParcel, Item, Parcel, PeState, Queue, World};
 use std::alloc::Allocator;
 use std::process::Abort;
@@ -54,7 +55,7 @@ pub(crate) enum Seen {
     /// The PE on which an element is looked for, and whether it has finished.
     Word(Index, Pe, Option<bool>),
     /// What an element is charged with in the present round, and what it has reported.
-    Charged(Index, Option<u32>, Option<(u32, Pe)>),
+    Charged(Index, Option<Units>, Option<(u32, Pe)>),
     /// How many rounds were decided.
     Rounds(usize),
 }

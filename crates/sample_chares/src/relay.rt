@@ -135,7 +135,7 @@ impl<A: Allocator + Copy> Chare<A> for Relay<A> {
         };
         sends.put(further(here.me, *first, here.n), rest)?;
         Ok(Effect {
-            units: u32::from(*first),
+            units: u64::from(*first),
             at_sync: false,
             finished: false,
         })

@@ -256,7 +256,7 @@ fn only_the_first_reported(rt: &impl Abort, board: &Board) -> bool {
     let p1 = pe(rt, 1);
     let database = board.database();
     database.round() == round(rt, 1)
-        && database.load(0) == Some(4_294_967_295)
+        && database.load(0) == Some(140_737_488_355_327)
         && database.load(1) == Some(0)
         && database.reported(0) == Some((1_048_576, p1))
         && database.reported(1).is_none()
@@ -284,7 +284,7 @@ fn reports_that_are_refused_charge_nothing(rt: HostRuntime) {
         (2, 2, 1_048_577, BoardError::Stranger),
     ];
     let mut board = self::board(&rt, 2, 2);
-    let first = report(&rt, &mut board, 0, 1, 4_294_967_295, 1_048_576, 1);
+    let first = report(&rt, &mut board, 0, 1, 140_737_488_355_327, 1_048_576, 1);
     assert!(rt; first.is_ok());
     assert!(rt; only_the_first_reported(&rt, &board));
     for row in &REFUSED {
@@ -296,6 +296,33 @@ fn reports_that_are_refused_charge_nothing(rt: HostRuntime) {
         assert_for(&rt, only_the_first_reported(&rt, &board), ("after", row));
     }
     drop(board);
+}
+
+// The units that an element reports, and its load.
+type Reported = (Units, Units);
+
+// Whether the load of an element that reports so is that.
+fn is_loaded_so(rt: &(impl Abort + AllocGlobal), row: &Reported) -> bool {
+    let &(units, load) = row;
+    let mut board = board(rt, 1, 1);
+    let answer = report(rt, &mut board, 0, 1, units, 0, 0);
+    let found = board.database().load(0);
+    drop(board);
+    answer.is_ok() && found == Some(load)
+}
+
+#[test]
+fn a_load_stops_at_its_limit(rt: HostRuntime) {
+    const ROWS: [Reported; 5] = [
+        (4_294_967_295, 4_294_967_295),
+        (4_294_967_296, 4_294_967_296),
+        (140_737_488_355_327, 140_737_488_355_327),
+        (140_737_488_355_328, 140_737_488_355_327),
+        (18_446_744_073_709_551_615, 140_737_488_355_327),
+    ];
+    for row in &ROWS {
+        assert_for(&rt, is_loaded_so(&rt, row), row);
+    }
 }
 
 // No element has to report: the board decides a round at once.
@@ -339,25 +366,50 @@ fn an_element_moves(rt: HostRuntime) {
     drop(rounds);
 }
 
-// The reports of a full array on 256 PEs, where each element has as much to do as any other.
-fn full_array(rt: &(impl Abort + AllocGlobal)) -> Board {
-    let mut board = board(rt, 65_536, 256);
+// The reports of a full array on so many PEs, where each element has the most to do.
+fn full_array(rt: &(impl Abort + AllocGlobal), pes: u32) -> Board
+    requires some_pe { 1 ≤ pes }
+    requires few_pes { pes ≤ Limits.PES }
+{
+    let mut board = board(rt, 65_536, pes);
     for i in 0..65_536 {
-        let answer = report(rt, &mut board, i, 1, 4_294_967_295, 1_048_576, i % 256);
+        let answer = report(
+            rt,
+            &mut board,
+            i,
+            1,
+            140_737_488_355_327,
+            1_048_576,
+            i % pes,
+        );
         assert_for(rt, answer.is_ok(), ("the report of", i));
     }
     board
 }
 
-#[test]
-fn a_full_array(rt: HostRuntime) {
-    let mut board = full_array(&rt);
-    assert!(rt; board.len() == 65_536 && board.pes() == 256);
-    assert!(rt; decides(&rt, &mut board, 1));
-    let (snapshot, decision) = board.rounds().first().expect(&rt, "no round");
-    assert!(rt; check(snapshot, 256, decision).is_ok());
-    assert!(rt; decision.division.bottleneck == 1_099_511_627_520);
+// A full array on so many PEs is decided with this bottleneck.
+fn expect_full(rt: &(impl Abort + AllocGlobal), pes: u32, bottleneck: u64)
+    requires some_pe { 1 ≤ pes }
+    requires few_pes { pes ≤ Limits.PES }
+{
+    let mut board = full_array(rt, pes);
+    assert_for(rt, board.len() == 65_536 && board.pes() == pes, pes);
+    assert_for(rt, decides(rt, &mut board, 1), pes);
+    let (snapshot, decision) = board.rounds().first().expect(rt, "no round");
+    assert_for(rt, check(snapshot, pes, decision).is_ok(), pes);
+    let found = decision.division.bottleneck;
     drop(board);
+    assert_for(rt, found == bottleneck, (pes, found));
+}
+
+#[test]
+fn a_full_array_on_the_most_pes(rt: HostRuntime) {
+    expect_full(&rt, 256, 36_028_797_018_963_712);
+}
+
+#[test]
+fn a_full_array_on_one_pe(rt: HostRuntime) {
+    expect_full(&rt, 1, 9_223_372_036_854_710_272);
 }
 
 // A refusal, its number and its text.

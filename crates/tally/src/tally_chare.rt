@@ -163,9 +163,9 @@ impl<A: Allocator + Copy> Chare<A> for Tally<A> {
         body: &[u8],
         _sends: &mut Sends<P, A>,
     ) -> Result<Effect, SendError> {
-        let units = amount_in(body);
+        let units = u64::from(amount_in(body));
         self.got = self.got.saturating_add(1);
-        self.sum = self.sum.saturating_add(u64::from(units));
+        self.sum = self.sum.saturating_add(units);
         Ok(Effect {
             units,
             at_sync: self.got == self.posted,

@@ -13,6 +13,22 @@ pub const EXAMPLE_DUMP: [u8; 52] = *b"LBD1\
     \0\0\0\x01\0\0\0\x09\0\0\0\x01\
     \0\0\0\x02\0\0\0\x08\0\0\0\0";
 
+/// The dump of the example with a decision on it for two PEs: the bottleneck 2, the cuts 0, 2, 3 with the fence 0, 1, 2,
+/// the names 1, 0 with the prices 10, 1 and -1, 0, and 10 bytes that move, with element 0 from PE 0 to PE 1.
+pub const RECORDED_DUMP: [u8; 172] = *b"LBD2\
+    \0\0\0\x05\0\0\0\x02\0\0\0\x03\
+    \0\0\0\0\0\0\0\x01\0\0\0\x0a\0\0\0\0\
+    \0\0\0\0\0\0\0\x01\0\0\0\x09\0\0\0\x01\
+    \0\0\0\0\0\0\0\x02\0\0\0\x08\0\0\0\0\
+    \0\0\0\x01\0\0\0\x02\
+    \0\0\0\0\0\0\0\x02\0\0\0\0\0\0\0\x02\0\0\0\x03\
+    \0\0\0\x01\0\0\0\0\0\0\0\x01\0\0\0\x02\
+    \0\0\0\x01\0\0\0\0\
+    \0\0\0\0\0\0\0\x0a\0\0\0\0\0\0\0\x01\
+    \xff\xff\xff\xff\xff\xff\xff\xff\0\0\0\0\0\0\0\0\
+    \0\0\0\0\0\0\0\x0a\0\0\0\x01\
+    \0\0\0\0\0\0\0\0\0\0\0\x01";
+
 /// The sizes and the PEs of the example.
 ///
 /// # Errors

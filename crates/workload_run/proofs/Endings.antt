@@ -10,11 +10,11 @@ use Rattle.workload.specs.Text.{WorkloadView, IsText}
 use Rattle.workload.specs.declared.error.WorkError.{WorkError}
 use Rattle.workload.specs.declared.error.WorkError.TheVariants as Why
 use Rattle.workload_run.specs.Driving.{EndsDrive, IsLeftBy, IsOfWorkload, IsRefusal, IsRunOf}
-use Rattle.workload_run.specs.Internal.{EndsRun, ReportsFault, TellsOutcome, WritesText}
+use Rattle.workload_run.specs.Internal.{EndsRun, ReportsFault, WritesText}
 use Rattle.workload_run.specs.Lines.{fault_line, memory_line}
 use Rattle.workload_run.specs.Tallies.{tallies_of}
 use Rattle.workload_run.specs.declared.ended.Ended.{Ended}
-use Rattle.workload_run.specs.declared.ended.Ended.TheVariants.{Ran, Refused, OutOfMemory, WriteFailed}
+use Rattle.workload_run.specs.declared.ended.Ended.TheVariants.{OutOfMemory}
 
 -- where the bytes of the reader are known, they are the text of the workload that was read
 pub known_text : (bytes : Option (List ℕ)) (w : WorkloadView) → IfSome bytes (λ all. (Ok w ≡ Err Why.Read) ⊎ IsReadAnswer all (Ok w)) → IfSome bytes (IsText w)

@@ -1,3 +1,4 @@
+pub mod Asking
 pub mod Collecting
 pub mod Endings
 pub mod Lefts

@@ -1,4 +1,5 @@
 pub mod Driving
+pub mod Dumping
 pub mod Internal
 pub mod Lines
 pub mod Statuses

@@ -3,7 +3,8 @@
 //! - [`drive`]: from the bytes of a reader to the bytes of a writer; [`drive_file`]: from those of a file, while somebody
 //!   looks on: an [`Onlooker`].
 //! - [`Driven`]: what came of it: how it [`Ended`], the status for that, and the rounds.
-//! - [`write_dumps`]: the dump of each round, to a file of its own of some [`DumpFiles`].
+//! - [`write_round`]: the dump of a round, in a [`DumpFormat`]; [`write_dumps`]: that of each round, to a file of its own of
+//!   some [`DumpFiles`].
 //!
 //! ```
 //! use workload_run::{Ended, drive};
@@ -23,6 +24,7 @@ mod dumps;
 mod ended;
 mod line;
 mod onlooker;
+mod round_dump;
 mod tallies;
 
 pub use driven::Driven;
@@ -30,3 +32,4 @@ pub use driving::{drive, drive_file};
 pub use dumps::{DumpFiles, NotWritten, write_dumps};
 pub use ended::Ended;
 pub use onlooker::Onlooker;
+pub use round_dump::{DumpFormat, write_round};

@@ -1,162 +1,287 @@
-//! Dumps of the rounds of a run: their names and bytes, what a replay of one tells, and files that fail.
+//! Dumps of the rounds of a run: their names and bytes, what is read back from them, and what a replay of one tells.
 
 use crate::fixtures::{WORKED, assert_for, driven};
-use lb_replay::{Ended, simulate};
-use std::cell::Cell;
-use std::io::{self, Error, ErrorKind, Write};
+use crate::kept::{KeptFiles, NO_FAULTS, Store};
+use lb_certificates::Snapshot;
+use lb_dump::{Dump, Recorded, decode};
+use lb_replay::{Ended, simulate, verify};
+use lb_strategy::{Decision, check};
+use std::alloc::Global;
 use std::process::Abort;
-use test_fixtures::Sink;
-use workload_run::{DumpFiles, write_dumps};
+use std::slice;
+use std::sync::Wait;
+use std::thread::Threads;
+use workload_run::{DumpFormat, write_dumps, write_round};
 
-// Makes files that take so many bytes a call and fail at a call, but none of a number; the names are kept.
-#[derive(Drop)]
-struct Made<'a, R> {
-    rt: &'a R,
-    names: Vec<String>,
-    refuses: usize,
-    fails_at: usize,
+/// A round that was decided.
+pub(crate) type Round = (Snapshot<Global>, Decision<Global>);
+
+/// The formats.
+pub(crate) const FORMATS: [DumpFormat; 2] = [DumpFormat::Lbd1, DumpFormat::Lbd2];
+
+/// The text of the dumps of some rounds, one behind the other.
+pub(crate) fn text_of(
+    rt: &(impl Abort + AllocGlobal),
+    rounds: &[Round],
+    format: DumpFormat,
+) -> Vec<u8> {
+    let store = Store::new(rt.alloc());
+    let mut files = KeptFiles::new(rt.alloc(), &store, NO_FAULTS);
+    let written = write_dumps(rt.alloc(), rounds, format, "run", &mut files).is_ok();
+    drop(files);
+    assert_for(rt, written, format);
+    store.into_bytes()
 }
 
-impl<R: Abort + AllocGlobal> DumpFiles for Made<'_, R> {
-    type File = Sink;
-
-    fn create(&mut self, name: &str) -> io::Result<Sink> {
-        let number = self.names.len();
-        let name = String::from_str(self.rt.alloc(), name)?;
-        self.names.push(name)?;
-        if number == self.refuses {
-            return Err(Error::from(ErrorKind::PermissionDenied));
-        }
-        Ok(Sink::new(self.rt, 1_000, self.fails_at, Some(ErrorKind::Other)))
-    }
-}
-
-// Files that do not fail.
-fn files<R: Abort + AllocGlobal>(rt: &R) -> Made<'_, R> {
-    Made {
-        rt,
-        names: Vec::new(rt.alloc()),
-        refuses: usize::MAX,
-        fails_at: usize::MAX,
-    }
+// Whether the rounds of the worked workload go to files of these names.
+fn are_named(rt: &(impl Abort + AllocGlobal), rounds: &[Round], format: DumpFormat) -> bool {
+    let store = Store::new(rt.alloc());
+    let mut files = KeptFiles::new(rt.alloc(), &store, NO_FAULTS);
+    let written = write_dumps(rt.alloc(), rounds, format, "steps/run", &mut files).is_ok();
+    let mut names = files.names.iter().map(|name| name.as_str());
+    written
+        && names.next() == Some("steps/run.1")
+        && names.next() == Some("steps/run.2")
+        && names.next().is_none()
 }
 
 #[test]
 fn each_round_has_a_file_of_its_own(rt: HostRuntime) {
     let (driven, text) = driven(&rt, WORKED);
-    let mut files = files(&rt);
-    let written = write_dumps(rt.alloc(), driven.rounds(), "steps/run", &mut files);
-    drop(driven);
     drop(text);
-    let names = files.names.len() == 2
-        && files.names[0].as_str() == "steps/run.1"
-        && files.names[1].as_str() == "steps/run.2";
-    drop(files);
-    assert!(rt; written.is_ok() && names);
-}
-
-// A file that compares what it gets with what is to come.
-#[derive(Drop)]
-struct Compared<'a> {
-    rest: &'a [u8],
-    same: &'a Cell<usize>,
-}
-
-impl Write for Compared<'_> {
-    fn write(&mut self, buf: &[u8]) -> io::Result<usize> {
-        let Some(rest) = self.rest.strip_prefix(buf) else {
-            return Err(Error::from(ErrorKind::InvalidData));
-        };
-        self.rest = rest;
-        self.same.update(|same| same.saturating_add(buf.len()));
-        Ok(buf.len())
+    for format in &FORMATS {
+        assert_for(&rt, are_named(&rt, driven.rounds(), *format), *format);
     }
-
-    fn flush(&mut self) -> io::Result<()> {
-        Ok(())
-    }
-}
-
-// Makes files that compare what they get with the first dump.
-#[derive(Drop)]
-struct FirstOnly<'a>(&'a Cell<usize>);
-
-impl<'a> DumpFiles for FirstOnly<'a> {
-    type File = Compared<'a>;
-
-    fn create(&mut self, _name: &str) -> io::Result<Compared<'a>> {
-        Ok(Compared {
-            rest: &FIRST,
-            same: self.0,
-        })
-    }
-}
-
-#[test]
-fn a_file_gets_the_bytes_of_its_dump(rt: HostRuntime) {
-    let (driven, text) = driven(&rt, WORKED);
-    let same = Cell::new(0);
-    let first = driven.rounds().get(..1).unwrap_or(&[]);
-    let written = write_dumps(rt.alloc(), first, "run", &mut FirstOnly(&same));
     drop(driven);
-    drop(text);
-    assert!(rt; written.is_ok() && same.get() == 64);
 }
 
-#[test]
-fn a_file_that_is_refused_is_the_last(rt: HostRuntime) {
-    let (driven, text) = driven(&rt, WORKED);
-    let mut files = files(&rt);
-    files.refuses = 0;
-    let written = write_dumps(rt.alloc(), driven.rounds(), "run", &mut files);
-    drop(driven);
-    drop(text);
-    let names = files.names.len();
-    drop(files);
-    let round = written.err().map(|dump| dump.round);
-    assert!(rt; round == Some(1) && names == 1);
-}
-
-#[test]
-fn a_file_that_fails_is_the_last(rt: HostRuntime) {
-    let (driven, text) = driven(&rt, WORKED);
-    let mut files = files(&rt);
-    files.fails_at = 1;
-    let written = write_dumps(rt.alloc(), driven.rounds(), "run", &mut files);
-    drop(driven);
-    drop(text);
-    let names = files.names.len();
-    drop(files);
-    let told = written
-        .err()
-        .map_or(false, |dump| dump.round == 1 && dump.reason.is_some());
-    assert!(rt; told && names == 1);
-}
-
-// The first dump of the worked workload.
+// The first dump of the worked workload in the format LBD1.
 static FIRST: [u8; 64] = *b"LBD1\0\0\0\x01\0\0\0\x02\0\0\0\x04\
     \0\0\0\x06\0\0\0\x28\0\0\0\0\
     \0\0\0\x01\0\0\0\x28\0\0\0\0\
     \0\0\0\x01\0\0\0\x28\0\0\0\x01\
     \0\0\0\x02\0\0\0\x28\0\0\0\x01";
 
-#[test]
-fn the_first_dump_replays_to_the_decision(rt: HostRuntime) {
-    let (driven, text) = driven(&rt, WORKED);
-    let first = driven.rounds().first();
-    let bytes = first.map(|(snapshot, _)| lb_dump::encode(rt.alloc(), snapshot));
-    let bytes = bytes
-        .expect(&rt, "there is a round")
-        .expect(&rt, "out of memory");
-    drop(driven);
+// How the same dump begins in the format LBD2, up to the target of the decision.
+static FIRST_WIDE: [u8; 88] = *b"LBD2\0\0\0\x01\0\0\0\x02\0\0\0\x04\
+    \0\0\0\0\0\0\0\x06\0\0\0\x28\0\0\0\0\
+    \0\0\0\0\0\0\0\x01\0\0\0\x28\0\0\0\0\
+    \0\0\0\0\0\0\0\x01\0\0\0\x28\0\0\0\x01\
+    \0\0\0\0\0\0\0\x02\0\0\0\x28\0\0\0\x01\
+    \0\0\0\x01\0\0\0\x02";
+
+// The text of the dump of one round of the worked workload.
+fn worked_text<R: Threads + Wait + Sync + Abort + AllocGlobal>(
+    rt: &R,
+    round: usize,
+    format: DumpFormat,
+) -> Vec<u8> {
+    let (driven, text) = driven(rt, WORKED);
     drop(text);
-    let same = bytes.as_slice() == FIRST.as_slice();
-    let mut reader = bytes.as_slice();
+    let round = driven.rounds().get(round).expect(rt, "there is a round");
+    let dump = text_of(rt, slice::from_ref(round), format);
+    drop(driven);
+    dump
+}
+
+#[test]
+fn the_first_dump_has_its_bytes(rt: HostRuntime) {
+    let narrow = worked_text(&rt, 0, DumpFormat::Lbd1);
+    let same = narrow.as_slice() == FIRST.as_slice();
+    drop(narrow);
+    let wide = worked_text(&rt, 0, DumpFormat::Lbd2);
+    let begins = wide.starts_with(&FIRST_WIDE);
+    drop(wide);
+    assert!(rt; same && begins);
+}
+
+// Whether a writer gets what the file of a round gets.
+fn is_written(rt: &(impl Abort + AllocGlobal), round: &Round, format: DumpFormat) -> bool {
+    let file = text_of(rt, slice::from_ref(round), format);
+    let (snapshot, decision) = round;
+    let mut text = Vec::new(rt.alloc());
+    let written = write_round(&mut text, snapshot, decision, format);
+    written == Ok(()) && text == file
+}
+
+#[test]
+fn a_writer_gets_what_a_file_gets(rt: HostRuntime) {
+    let (driven, text) = driven(&rt, WORKED);
+    drop(text);
+    for round in driven.rounds() {
+        let narrow = is_written(&rt, round, DumpFormat::Lbd1);
+        let wide = is_written(&rt, round, DumpFormat::Lbd2);
+        assert_for(&rt, narrow && wide, round.0.step());
+    }
+    drop(driven);
+}
+
+// What the dump of a round holds: its step, the load and the place of each element, the greatest load of a block, and the
+// one element that moves, with the PE that it leaves and the one that it goes to.
+#[derive(Clone, Copy, Debug)]
+struct Row {
+    step: u32,
+    loads: [u64; 4],
+    places: [u32; 4],
+    bottleneck: u64,
+    moves: (u32, u32, u32),
+}
+
+// The rounds of the worked workload. Each chare has 40 bytes.
+const ROWS: [Row; 2] = [
+    Row {
+        step: 1,
+        loads: [6, 1, 1, 2],
+        places: [0, 0, 1, 1],
+        bottleneck: 6,
+        moves: (1, 0, 1),
+    },
+    Row {
+        step: 2,
+        loads: [2, 2, 2, 2],
+        places: [0, 1, 1, 1],
+        bottleneck: 4,
+        moves: (1, 1, 0),
+    },
+];
+
+// Whether a snapshot is that of a row.
+fn is_taken(snapshot: &Snapshot<Global>, row: &Row) -> bool {
+    let sizes = snapshot.sizes().as_slice();
+    let mut stand = sizes.len() == 4;
+    for ((bytes, place), want) in sizes.iter().zip(&row.places) {
+        stand &= *bytes == 40 && place.get() == *want;
+    }
+    snapshot.step() == row.step
+        && snapshot.procs() == 2
+        && snapshot.loads().as_slice() == row.loads.as_slice()
+        && stand
+}
+
+// Whether a decision is that of a row.
+fn is_decided(recorded: &Recorded<Global>, row: &Row) -> bool {
+    let decision = &recorded.decision;
+    let moves = decision.moves.as_slice();
+    let mover = moves.first().map(|(index, present, planned)| (
+        index.get(),
+        present.get(),
+        planned.get(),
+    ));
+    recorded.target == 2
+        && decision.division.bottleneck == row.bottleneck
+        && decision.moved == 40
+        && moves.len() == 1
+        && mover == Some(row.moves)
+}
+
+/// Whether the decision of a dump is right.
+pub(crate) fn is_right(dump: &Dump<Global>) -> bool {
+    let Some(recorded) = dump.recorded() else {
+        return false;
+    };
+    check(dump.snapshot(), recorded.target, &recorded.decision).is_ok()
+}
+
+// Whether the text of a dump is that of a row, and its decision right.
+fn is_read(rt: &(impl Abort + AllocGlobal), text: &[u8], row: &Row) -> bool {
+    let dump = decode(rt.alloc(), text).expect(rt, "it is a dump");
+    let decided = dump
+        .recorded()
+        .map_or(false, |recorded| is_decided(recorded, row));
+    let right = decided && is_taken(dump.snapshot(), row) && is_right(&dump);
+    drop(dump);
+    right
+}
+
+// A head of 16 bytes, 4 elements of 16 bytes and the flag; then the target, the bottleneck, 3 cuts, the kind of the floor, 3
+// stops, 2 names, 2 prices of blocks and 2 of PEs, the bytes moved, and the number of moves, 1.
+const WIDE_LEN: usize = 84 + (4 + 8 + 12 + 4 + 12 + 8 + 16 + 16 + 8 + 4 + 12);
+
+#[test]
+fn the_decisions_of_a_run_are_read_back(rt: HostRuntime) {
+    for (round, row) in ROWS.iter().enumerate() {
+        let text = worked_text(&rt, round, DumpFormat::Lbd2);
+        let right = text.len() == WIDE_LEN && is_read(&rt, &text, row);
+        drop(text);
+        assert_for(&rt, right, *row);
+    }
+}
+
+// Whether a dump in the format LBD1 is read back as the snapshot of a row alone.
+fn is_read_alone(rt: &(impl Abort + AllocGlobal), text: &[u8], row: &Row) -> bool {
+    let dump = decode(rt.alloc(), text).expect(rt, "it is a dump");
+    let right = dump.recorded().is_none() && is_taken(dump.snapshot(), row);
+    drop(dump);
+    right
+}
+
+#[test]
+fn snapshots_alone_are_read_back(rt: HostRuntime) {
+    for (round, row) in ROWS.iter().enumerate() {
+        let text = worked_text(&rt, round, DumpFormat::Lbd1);
+        let right = is_read_alone(&rt, &text, row);
+        drop(text);
+        assert_for(&rt, right, *row);
+    }
+}
+
+// What a replay of the first dump tells.
+const REPLAYED: &str = "step 1 procs 2 elements 4\n\
+    bottleneck 6\n\
+    fence 0 0 0\n\
+    block 0 0..1 load 6 pe 0\n\
+    block 1 1..4 load 4 pe 1\n\
+    moved 40\n";
+
+// Whether a replay of this dump tells that.
+fn is_replayed(rt: &(impl Abort + AllocGlobal), dump: &[u8]) -> bool {
+    let mut reader = dump;
     let mut told = Vec::new(rt.alloc());
     let ended = simulate(rt.alloc(), &mut reader, &mut told, None);
-    let right = told.as_slice()
-        == b"step 1 procs 2 elements 4\nbottleneck 6\nfence 0 0 0\nblock 0 0..1 load 6 pe 0\nblock 1 1..4 load 4 pe 1\nmoved 40\n".as_slice();
-    drop(told);
-    drop(bytes);
-    assert_for(&rt, same && ended == Ended::Printed && right, ended);
+    ended == Ended::Printed && told.as_slice() == REPLAYED.as_bytes()
+}
+
+#[test]
+fn the_first_dump_replays_to_the_decision(rt: HostRuntime) {
+    for format in &FORMATS {
+        let dump = worked_text(&rt, 0, *format);
+        let right = is_replayed(&rt, &dump);
+        drop(dump);
+        assert_for(&rt, right, *format);
+    }
+}
+
+// How a check of a dump ends, and its line.
+type Verdict<'a> = (Ended, &'a str);
+
+// Whether a check of the dumps of both rounds of the worked workload comes to this.
+fn are_checked<R: Threads + Wait + Sync + Abort + AllocGlobal>(
+    rt: &R,
+    format: DumpFormat,
+    verdict: Verdict<'_>,
+) -> bool {
+    let mut right = true;
+    for round in 0..2 {
+        let dump = worked_text(rt, round, format);
+        right &= is_checked(rt, &dump, verdict);
+        drop(dump);
+    }
+    right
+}
+
+// Whether a check of this dump comes to this.
+fn is_checked(rt: &(impl Abort + AllocGlobal), dump: &[u8], verdict: Verdict<'_>) -> bool {
+    let (ended, line) = verdict;
+    let mut reader = dump;
+    let mut told = Vec::new(rt.alloc());
+    verify(rt.alloc(), &mut reader, &mut told) == ended && told.as_slice() == line.as_bytes()
+}
+
+#[test]
+fn the_decisions_of_a_run_pass_the_check(rt: HostRuntime) {
+    let verdict = (Ended::Printed, "check: ok\n");
+    let right = are_checked(&rt, DumpFormat::Lbd2, verdict);
+    let verdict = (Ended::NoDecision, "check: no decision\n");
+    let none = are_checked(&rt, DumpFormat::Lbd1, verdict);
+    assert!(rt; right && none);
 }

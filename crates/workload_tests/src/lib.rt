@@ -3,6 +3,8 @@
 #![tactic(auto)]
 
 #[cfg(test)]
+mod dump_failures;
+#[cfg(test)]
 mod dumps;
 #[cfg(test)]
 mod examples;
@@ -12,6 +14,8 @@ mod failures;
 mod files;
 #[cfg(test)]
 mod fixtures;
+#[cfg(test)]
+mod kept;
 #[cfg(test)]
 mod parsing;
 #[cfg(test)]

@@ -1,13 +1,15 @@
 //! Random workloads, whose sums and letters are those of a plain count, and whose every dump has a right decision.
 
+use crate::dumps::{Round, is_right, text_of};
 use crate::fixtures::{assert_for, driven};
-use lb_certificates::Snapshot;
-use lb_strategy::{Decision, check};
+use lb_dump::decode;
+use lb_strategy::check;
 use std::alloc::{AllocError, Global};
 use std::process::Abort;
+use std::slice;
 use std::sync::Wait;
 use std::thread::Threads;
-use workload_run::Ended;
+use workload_run::{DumpFormat, Ended};
 
 const TURNS: u32 = 200;
 
@@ -116,18 +118,28 @@ fn ending(alloc: Global, drawn: &Drawn, size: &Size) -> Result<String, AllocErro
     Ok(text)
 }
 
-// Whether a decision is right for the dump of its snapshot, as that is read again.
-fn is_right(
-    rt: &(impl Abort + AllocGlobal),
-    snapshot: &Snapshot<Global>,
-    decision: &Decision<Global>,
-    pes: u32,
-) -> bool {
-    let dump = lb_dump::encode(rt.alloc(), snapshot).expect(rt, "out of memory");
-    let read = lb_dump::decode(rt.alloc(), &dump).expect(rt, "it is a dump");
+// Whether the dump of a round, in the format LBD2, is read back as that round, with a right decision on so many PEs.
+fn is_recorded(rt: &(impl Abort + AllocGlobal), round: &Round, pes: u32) -> bool {
+    let text = text_of(rt, slice::from_ref(round), DumpFormat::Lbd2);
+    let dump = decode(rt.alloc(), &text).expect(rt, "it is a dump");
+    drop(text);
+    let (snapshot, decision) = round;
+    let same = dump.recorded().map_or(false, |recorded| {
+        recorded.target == pes && recorded.decision == *decision
+    });
+    let right = same && dump.snapshot() == snapshot && is_right(&dump);
     drop(dump);
-    let right = check(&read, pes, decision).is_ok();
-    drop(read);
+    right
+}
+
+// Whether the decision of a round is right for its dump in the format LBD1, as that is read back.
+fn is_right_alone(rt: &(impl Abort + AllocGlobal), round: &Round, pes: u32) -> bool {
+    let text = text_of(rt, slice::from_ref(round), DumpFormat::Lbd1);
+    let dump = decode(rt.alloc(), &text).expect(rt, "it is a dump");
+    drop(text);
+    let (_, decision) = round;
+    let right = check(dump.snapshot(), pes, decision).is_ok();
+    drop(dump);
     right
 }
 
@@ -142,9 +154,9 @@ fn expect_counted<R: Threads + Wait + Sync + Abort + AllocGlobal>(
     let (driven, text) = driven(rt, drawn.text.as_bytes());
     assert_for(rt, driven.ended == Ended::Ran(None), (*size, driven.ended));
     assert_for(rt, driven.rounds().len() == expected(size), *size);
-    for (snapshot, decision) in driven.rounds() {
-        let right = is_right(rt, snapshot, decision, size.pes);
-        assert_for(rt, right, (*size, snapshot.step()));
+    for round in driven.rounds() {
+        let right = is_recorded(rt, round, size.pes) && is_right_alone(rt, round, size.pes);
+        assert_for(rt, right, (*size, round.0.step()));
     }
     drop(driven);
     assert_for(rt, text.ends_with(want.as_bytes()), *size);

@@ -11,6 +11,7 @@ type Row<'a> = (&'a [&'a str], Option<Asked<'a>>);
 const PLAIN: Asked<'static> = Asked {
     file: "f",
     dump: None,
+    lbd1: false,
     progress: false,
 };
 
@@ -24,12 +25,27 @@ fn answer<'a>(alloc: Global, words: &'a [&'a str]) -> Result<Asked<'a>, u8> {
 
 #[test]
 fn words_and_what_they_ask_for(rt: HostRuntime) {
-    let rows: [Row<'static>; 7] = [
+    let rows: [Row<'static>; 11] = [
         (&["charm_run", "f"], Some(PLAIN)),
         (
             &["charm_run", "--dump", "p", "f"],
             Some(Asked {
                 dump: Some("p"),
+                ..PLAIN
+            }),
+        ),
+        (
+            &["charm_run", "--lbd1", "--dump", "p", "f"],
+            Some(Asked {
+                dump: Some("p"),
+                lbd1: true,
+                ..PLAIN
+            }),
+        ),
+        (
+            &["charm_run", "f", "--lbd1"],
+            Some(Asked {
+                lbd1: true,
                 ..PLAIN
             }),
         ),
@@ -44,6 +60,8 @@ fn words_and_what_they_ask_for(rt: HostRuntime) {
         (&["charm_run", "f", "g"], None),
         (&["charm_run", "--dump", "f"], None),
         (&["charm_run", "--quiet", "f"], None),
+        (&["charm_run", "--lbd1", "--lbd1", "f"], None),
+        (&["charm_run", "--lbd2", "f"], None),
     ];
     for (words, want) in &rows {
         let found = answer(rt.alloc(), *words);

@@ -38,6 +38,13 @@ returns-in-Ok-clause-procs c n =
     let spelled = c.found.ensures.procs n in
     (λ e. subst (λ word. Spells word n) same (spelled.0 e), λ h. spelled.1 (subst (λ word. Spells word n) (sym same) h))
 
+pub returns-in-Ok-clause-check : goal.returns-in-Ok-clause-check
+returns-in-Ok-clause-check c =
+    let m = c.in-Ok.matches in
+    let rows = found _ (texts c.args.words.now) m c.in_ok-command.ensures.program c.in-Ok.ensures.matches in
+    let same = one_text-rows (found_of m) (codes "check") ∙ ap (one_of (codes "check")) rows in
+    (λ told. sym same ∙ c.found.ensures.check.0 told, λ is. c.found.ensures.check.1 (same ∙ is))
+
 pub returns-in-Ok-clause-faults : goal.returns-in-Ok-clause-faults
 returns-in-Ok-clause-faults c =
     refused {T = ArgMatches} _ (texts c.args.words.now) (Ok c.in-Ok.matches) c.in_ok-command.ensures.program c.in-Ok.ensures.kinds

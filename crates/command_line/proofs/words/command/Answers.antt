@@ -1,54 +1,76 @@
-use Rattle.std.proofs.Common.{◌≡◌, ◌∙◌, ap, subst, refl, true, zero, suc, [], ◌∷◌, codes, arith, rules, is_some}
+use Rattle.std.proofs.Common.{◌≡◌, ℕ, ◌<◌, ap, subst, refl, sym, ◌∙◌, true, zero, suc, List, [], ◌∷◌, Option, Some, codes, arith, rules, is_some, position, slice_index_or}
 use Rattle.std.proofs.lemmas.Result.{IfOk-weaker}
+use Rattle.std.proofs.lemmas.Slice.Eq.{bytes_eq-Decides}
 use Rattle.std.specs.List.{All}
 use Rattle.std.specs.Str.{bytes_eq}
-use Rattle.clap.specs.Built.{FitsChain, HasDistinctIds}
-use Rattle.clap.specs.Words.{AddsArg, app_of, first_value, found_of, rule_of, with_rule}
+use Rattle.clap.specs.Built.{AddsArg, FitsChain, HasDistinctIds}
+use Rattle.clap.specs.Words.{App, Rule, app_of, first_value, found_of, rule_of, with_rule}
 use Rattle.clap.specs.declared.builder.arg.Arg.{Arg}
 use Rattle.clap.specs.declared.builder.command.Command.{Command}
 use Rattle.clap.proofs.CallerLemmas.{required_in_chain}
-use Rattle.command_line.specs.CommandLine.{file_rule, procs_rule, program, versioned}
+use Rattle.command_line.specs.CommandLine.{check_rule, file_rule, procs_rule, versioned}
 use Rattle.command_line.proofs.words.command.Goals as goal
 
--- the two arguments have two ids
-distinct : (file procs : Arg) → file.id.now ≡ codes "file" → procs.id.now ≡ codes "procs" → HasDistinctIds (file ∷ procs ∷ [])
-distinct file procs is_file is_procs zero zero d e _ _ same = refl
-distinct file procs is_file is_procs (suc zero) (suc zero) d e _ _ same = refl
-distinct file procs is_file is_procs zero (suc zero) d e _ _ same =
-    let wrong : bytes_eq (codes "file") (codes "procs") ≡ true = rw (is_file, is_procs) at same in
-    cc
-distinct file procs is_file is_procs (suc zero) zero d e _ _ same =
-    let wrong : bytes_eq (codes "procs") (codes "file") ≡ true = rw (is_file, is_procs) at same in
-    cc
-distinct file procs is_file is_procs (suc (suc j)) k d e below _ same = absurd (omega arith)
-distinct file procs is_file is_procs j (suc (suc k)) d e _ below same = absurd (omega arith)
+-- which of the arguments has this id
+abbrev place_of : List ℕ → Option ℕ
+place_of id = position (bytes_eq id) (codes "file" ∷ codes "procs" ∷ codes "check" ∷ [])
 
--- each of them keeps the rules of a chain
-both_fit : (file procs : Arg) → FitsChain file → FitsChain procs → All FitsChain (file ∷ procs ∷ [])
-both_fit file procs file_fits procs_fits zero d below = file_fits
-both_fit file procs file_fits procs_fits (suc zero) d below = procs_fits
-both_fit file procs file_fits procs_fits (suc (suc k)) d below = absurd (omega arith)
+module _ (file procs check : Arg) where
+  abbrev chain : List Arg
+  chain = file ∷ procs ∷ check ∷ []
 
--- the program with its words
-with_words : (start one both : Command) (file procs : Arg) → app_of start ≡ versioned → AddsArg start file one → AddsArg one procs both → FitsChain file → FitsChain procs → rule_of file ≡ file_rule → rule_of procs ≡ procs_rule → app_of both ≡ program
-with_words start one both file procs is first second file_fits procs_fits file_is procs_is =
-    let named : app_of one ≡ with_rule versioned file_rule = first.shape file_fits.1 ∙ ap (with_rule (app_of start)) file_is ∙ ap (λ a. with_rule a file_rule) is in
-    second.shape procs_fits.1 ∙ ap (with_rule (app_of one)) procs_is ∙ ap (λ a. with_rule a procs_rule) named
+  -- the three arguments have these ids
+  record AreNamed : Type 0 where
+    file_id : file.id.now ≡ codes "file"
+    procs_id : procs.id.now ≡ codes "procs"
+    check_id : check.id.now ≡ codes "check"
 
-pub returns-in-Ok-clause-program : goal.returns-in-Ok-clause-program
-returns-in-Ok-clause-program c =
-    IfOk-weaker c.arg-in-Ok.result _ _ (λ command added.
-    with_words c.about-command.result c.in-Ok.command command c.file.result c.procs.result (search rules) c.in-Ok.ensures added c.file.ensures.fits c.procs.ensures.fits c.file.ensures.rule c.procs.ensures.rule) c.arg-in-Ok.ensures
+  -- so the id of each tells its place
+  placed : AreNamed → (j : ℕ) (d : Arg) → j < 3 → place_of (slice_index_or chain j d).id.now ≡ Some j
+  placed named zero d below = rw named.file_id refl
+  placed named (suc zero) d below = rw named.procs_id refl
+  placed named (suc (suc zero)) d below = rw named.check_id refl
+  placed named (suc (suc (suc j))) d below = absurd (omega arith)
 
-pub returns-in-Ok-clause-named : goal.returns-in-Ok-clause-named
-returns-in-Ok-clause-named c =
-    let is_file : c.file.result.id.now ≡ codes "file" = ap (λ r. r.id) c.file.ensures.rule in
-    let is_procs : c.procs.result.id.now ≡ codes "procs" = ap (λ r. r.id) c.procs.ensures.rule in
-    IfOk-weaker c.arg-in-Ok.result _ _ (λ command added m parsed.
-    subst (λ id. is_some (first_value (found_of m) id) ≡ true) is_file
-    (required_in_chain c.about-command.result command (c.file.result ∷ c.procs.result ∷ []) 0 c.file.result m
-    (c.in-Ok.command, c.in-Ok.ensures, (command, added, refl))
+  -- and no two are the same
+  distinct : AreNamed → HasDistinctIds chain
+  distinct named j k d e below_j below_k same =
+      let equal : (slice_index_or chain j e).id.now ≡ (slice_index_or chain k d).id.now = (bytes_eq-Decides _ _).0 same in
+      let first : place_of (slice_index_or chain j e).id.now ≡ Some j = placed named j e below_j in
+      let second : place_of (slice_index_or chain k d).id.now ≡ Some k = placed named k d below_k in
+      let both : Some j ≡ Some k = sym first ∙ ap place_of equal ∙ second in
+      cc
+
+  -- each of them keeps the rules of a chain
+  all_fit : FitsChain file → FitsChain procs → FitsChain check → All FitsChain chain
+  all_fit file_fits procs_fits check_fits zero d below = file_fits
+  all_fit file_fits procs_fits check_fits (suc zero) d below = procs_fits
+  all_fit file_fits procs_fits check_fits (suc (suc zero)) d below = check_fits
+  all_fit file_fits procs_fits check_fits (suc (suc (suc k))) d below = absurd (omega arith)
+
+-- a program with one more word
+with_word : (old new : Command) (arg : Arg) (app : App) (rule : Rule) → app_of old ≡ app → AddsArg old arg new → FitsChain arg → rule_of arg ≡ rule → app_of new ≡ with_rule app rule
+with_word old new arg app rule is added fits ruled = added.shape fits.1 ∙ ap (with_rule (app_of old)) ruled ∙ ap (λ a. with_rule a rule) is
+
+pub returns-clause-program : goal.returns-clause-program
+returns-clause-program c =
+    let one = with_word c.about-command.result c.in_ok-command.command c.file.result versioned file_rule (search rules) c.in_ok-command.ensures c.file.ensures.fits c.file.ensures.rule in
+    let two = with_word _ c.in_ok-command-2.command c.procs.result _ procs_rule one c.in_ok-command-2.ensures c.procs.ensures.fits c.procs.ensures.rule in
+    IfOk-weaker c.arg-3.result _ _ (λ command added.
+    with_word _ command c.check.result _ check_rule two added c.check.ensures.fits c.check.ensures.rule) c.arg-3.ensures
+
+pub returns-clause-named : goal.returns-clause-named
+returns-clause-named c =
+    let named : AreNamed c.file.result c.procs.result c.check.result = record {
+      file_id = ap (λ r. r.id) c.file.ensures.rule;
+      procs_id = ap (λ r. r.id) c.procs.ensures.rule;
+      check_id = ap (λ r. r.id) c.check.ensures.rule;
+    } in
+    IfOk-weaker c.arg-3.result _ _ (λ command added m parsed.
+    subst (λ id. is_some (first_value (found_of m) id) ≡ true) named.file_id
+    (required_in_chain c.about-command.result command (chain c.file.result c.procs.result c.check.result) 0 c.file.result m
+    (c.in_ok-command.command, c.in_ok-command.ensures, (c.in_ok-command-2.command, c.in_ok-command-2.ensures, (command, added, refl)))
     (search rules) (search rules) (search rules) (search rules)
-    (both_fit c.file.result c.procs.result c.file.ensures.fits c.procs.ensures.fits)
-    (distinct c.file.result c.procs.result is_file is_procs)
-    (omega arith) c.file.ensures.takes parsed)) c.arg-in-Ok.ensures
+    (all_fit _ _ _ c.file.ensures.fits c.procs.ensures.fits c.check.ensures.fits)
+    (distinct _ _ _ named)
+    (omega arith) c.file.ensures.takes parsed)) c.arg-3.ensures

@@ -1,14 +1,14 @@
 use Rattle.std.proofs.Common.{◌≡◌, subst, [], Ok}
 use Rattle.std.proofs.lemmas.Result.{err_from_is_err_and}
 use Rattle.lb_dump.specs.Reading.{EndsReading, Progress}
-use Rattle.lb_dump.proofs.OneText.{answered, refused}
+use Rattle.lb_dump.proofs.Answered.{answered, refused}
 use Rattle.lb_dump.proofs.ReadPieces.{fed, fed_fault, answer_at_end}
 use Rattle.lb_dump.proofs.decoding.decode.Goals as goal
 
 pub returns-in_err-feed-clause-answer : goal.returns-in_err-feed-clause-answer
 returns-in_err-feed-clause-answer g c =
     let told = err_from_is_err_and c.from_residual.result c.from_residual.ensures.1 in
-    rw (told.1, told.2) (fed_fault c.args.bytes.now c.in_err-feed.field-0.0 c.new-reader.result c.feed.new.self c.new-reader.ensures.value c.in_err-feed.ensures.fed)
+    rw (told.1, told.2) (fed_fault g.row.A.Denot c.args.bytes.now c.in_err-feed.field-0.0 c.new-reader.result c.feed.new.self c.new-reader.ensures.value c.in_err-feed.ensures.fed)
 
 pub returns-in_err-feed-clause-again : goal.returns-in_err-feed-clause-again
 returns-in_err-feed-clause-again g c =

@@ -1,8 +1,9 @@
-use Rattle.std.proofs.Common.{◌++◌, ◌∙◌, ap, take, subst, Ok, Err, arith}
+use Rattle.std.proofs.Common.{◌++◌, ◌∙◌, ap, take, [], subst, Ok, Err, arith}
 use Rattle.std.proofs.KnownBytes.{Consumes-kept, Consumes-trans}
 use Rattle.std.proofs.lemmas.Result.{err_from_is_err_and}
 use Rattle.lb_dump.specs.Reading.{Feeds, Progress}
-use Rattle.lb_dump.proofs.ReadPieces.{fed_broken, faulted, no_answer, read_failed}
+use Rattle.lb_dump.proofs.ReadPieces.{fed_broken, faulted, no_answer, no_read_fault, none_consumed, read_failed}
+use Rattle.lb_dump.proofs.Standing.{none_good}
 use Rattle.lb_dump.proofs.decoding.feed_from.Goals as goal
 
 pub returns-in_err-feed-clause-fault : goal.returns-in_err-feed-clause-fault
@@ -41,3 +42,12 @@ pub returns-clause-failed : goal.returns-clause-failed
 returns-clause-failed g c =
     let before = c.loop.invariant in
     λ _. (before.0, before.2, before.3)
+
+pub loop-init : goal.loop-init
+loop-init g c = ([], c.requires.fresh, none_consumed (g.R.Read.remaining c.args.reader.now), none_good, c.requires.room)
+
+pub returns-in_err-feed-clause-failed : goal.returns-in_err-feed-clause-failed
+returns-in_err-feed-clause-failed g c =
+    let p = err_from_is_err_and c.from_residual.result c.from_residual.ensures.1 in
+    let before = c.loop.invariant in
+    rw (p.1, p.2) (no_read_fault before.0 (take c.in-Ok.len c.read.new.buf) c.loop.dump c.feed.new.self c.in_err-feed.field-0.0 _ before.1 c.in_err-feed.ensures.fed)

@@ -1,6 +1,6 @@
 use Rattle.std.proofs.Common.{◌≡◌, ℕ, List, length, Ok}
 use Rattle.std.specs.Io.KnownBytes.{Consumes}
-use Rattle.lb_dump.specs.Faults.{IsGood}
+use Rattle.dump_format.specs.Faults.{IsGood}
 use Rattle.lb_dump.specs.declared.decoding.TheConstants.{PIECE_LEN}
 use Rattle.lb_dump.proofs.decoding.feed_from.Given as goal
 

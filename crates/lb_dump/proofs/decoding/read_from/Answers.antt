@@ -7,7 +7,7 @@ use Rattle.lb_dump.proofs.decoding.read_from.Goals as goal
 pub returns-in_err-feed_all-clause-known : goal.returns-in_err-feed_all-clause-known
 returns-in_err-feed_all-clause-known g c =
     let p = err_from_is_err_and c.from_residual.result c.from_residual.ensures.1 in
-    rw (p.1, p.2) (fault_answers (g.R.Read.remaining c.args.reader.now) c.in_err-feed_all.field-0.0 c.in_err-feed_all.ensures.fault)
+    rw (p.1, p.2) (fault_answers g.row.A.Denot (g.R.Read.remaining c.args.reader.now) c.in_err-feed_all.field-0.0 c.in_err-feed_all.ensures.fault)
 
 pub returns-clause-known : goal.returns-clause-known
 returns-clause-known g c =

@@ -2,4 +2,4 @@ use Rattle.lb_replay.proofs.request.run.Goals as goal
 
 pub returns-clause-status : goal.returns-clause-status
 returns-clause-status g c =
-    (c.replay_file-ended.result.0, c.status.ensures.value, c.replay_file-ended.ensures.opened, c.replay_file-ended.ensures.unopened)
+    (c.done-ended.result.0, c.status.ensures.value, c.done-ended.ensures.opened, c.done-ended.ensures.unopened)

@@ -36,6 +36,13 @@ returns-in-Ok-clause-dump c =
     let rows = found _ (texts c.args.words.now) m c.in_ok-command.ensures.program c.in-Ok.ensures.matches in
     sym (first_value-rows (found_of m) (codes "dump") ∙ ap (first_of (codes "dump")) rows) ∙ c.found.ensures.dump
 
+pub returns-in-Ok-clause-lbd1 : goal.returns-in-Ok-clause-lbd1
+returns-in-Ok-clause-lbd1 c =
+    let m = c.in-Ok.matches in
+    let rows = found _ (texts c.args.words.now) m c.in_ok-command.ensures.program c.in-Ok.ensures.matches in
+    let same = one_text-rows (found_of m) (codes "lbd1") ∙ ap (one_of (codes "lbd1")) rows in
+    (λ told. sym same ∙ c.found.ensures.lbd1.0 told, λ is. c.found.ensures.lbd1.1 (same ∙ is))
+
 pub returns-in-Ok-clause-progress : goal.returns-in-Ok-clause-progress
 returns-in-Ok-clause-progress c =
     let m = c.in-Ok.matches in

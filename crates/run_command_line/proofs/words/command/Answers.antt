@@ -1,56 +1,81 @@
-use Rattle.std.proofs.Common.{◌≡◌, ap, subst, refl, true, zero, suc, [], ◌∷◌, codes, arith, rules, is_some}
+use Rattle.std.proofs.Common.{◌≡◌, ℕ, ◌<◌, ap, subst, refl, sym, ◌∙◌, true, zero, suc, List, [], ◌∷◌, Option, Some, codes, arith, rules, is_some, position, slice_index_or}
 use Rattle.std.proofs.lemmas.Result.{IfOk-weaker}
+use Rattle.std.proofs.lemmas.Slice.Eq.{bytes_eq-Decides}
 use Rattle.std.specs.List.{All}
 use Rattle.std.specs.Str.{bytes_eq}
-use Rattle.clap.specs.Built.{FitsChain, HasDistinctIds}
-use Rattle.clap.specs.Words.{first_value, found_of}
+use Rattle.clap.specs.Built.{AddsArg, FitsChain, HasDistinctIds}
+use Rattle.clap.specs.Words.{App, Rule, app_of, first_value, found_of, rule_of, with_rule}
 use Rattle.clap.specs.declared.builder.arg.Arg.{Arg}
+use Rattle.clap.specs.declared.builder.command.Command.{Command}
 use Rattle.clap.proofs.CallerLemmas.{required_in_chain}
+use Rattle.run_command_line.specs.CommandLine.{dump_rule, file_rule, lbd1_rule, progress_rule, versioned}
 use Rattle.run_command_line.proofs.words.command.Goals as goal
 
--- the three arguments have three ids
-distinct : (file dump progress : Arg) → file.id.now ≡ codes "file" → dump.id.now ≡ codes "dump" → progress.id.now ≡ codes "progress" → HasDistinctIds (file ∷ dump ∷ progress ∷ [])
-distinct file dump progress is_file is_dump is_progress zero zero d e _ _ same = refl
-distinct file dump progress is_file is_dump is_progress (suc zero) (suc zero) d e _ _ same = refl
-distinct file dump progress is_file is_dump is_progress (suc (suc zero)) (suc (suc zero)) d e _ _ same = refl
-distinct file dump progress is_file is_dump is_progress zero (suc zero) d e _ _ same =
-    let wrong : bytes_eq (codes "file") (codes "dump") ≡ true = rw (is_file, is_dump) at same in
-    cc
-distinct file dump progress is_file is_dump is_progress zero (suc (suc zero)) d e _ _ same =
-    let wrong : bytes_eq (codes "file") (codes "progress") ≡ true = rw (is_file, is_progress) at same in
-    cc
-distinct file dump progress is_file is_dump is_progress (suc zero) zero d e _ _ same =
-    let wrong : bytes_eq (codes "dump") (codes "file") ≡ true = rw (is_file, is_dump) at same in
-    cc
-distinct file dump progress is_file is_dump is_progress (suc zero) (suc (suc zero)) d e _ _ same =
-    let wrong : bytes_eq (codes "dump") (codes "progress") ≡ true = rw (is_dump, is_progress) at same in
-    cc
-distinct file dump progress is_file is_dump is_progress (suc (suc zero)) zero d e _ _ same =
-    let wrong : bytes_eq (codes "progress") (codes "file") ≡ true = rw (is_file, is_progress) at same in
-    cc
-distinct file dump progress is_file is_dump is_progress (suc (suc zero)) (suc zero) d e _ _ same =
-    let wrong : bytes_eq (codes "progress") (codes "dump") ≡ true = rw (is_dump, is_progress) at same in
-    cc
-distinct file dump progress is_file is_dump is_progress (suc (suc (suc j))) k d e below _ same = absurd (omega arith)
-distinct file dump progress is_file is_dump is_progress j (suc (suc (suc k))) d e _ below same = absurd (omega arith)
+-- which of the arguments has this id
+abbrev place_of : List ℕ → Option ℕ
+place_of id = position (bytes_eq id) (codes "file" ∷ codes "dump" ∷ codes "lbd1" ∷ codes "progress" ∷ [])
 
--- each of them keeps the rules of a chain
-all_fit : (file dump progress : Arg) → FitsChain file → FitsChain dump → FitsChain progress → All FitsChain (file ∷ dump ∷ progress ∷ [])
-all_fit file dump progress file_fits dump_fits progress_fits zero d below = file_fits
-all_fit file dump progress file_fits dump_fits progress_fits (suc zero) d below = dump_fits
-all_fit file dump progress file_fits dump_fits progress_fits (suc (suc zero)) d below = progress_fits
-all_fit file dump progress file_fits dump_fits progress_fits (suc (suc (suc k))) d below = absurd (omega arith)
+module _ (file dump lbd1 progress : Arg) where
+  abbrev chain : List Arg
+  chain = file ∷ dump ∷ lbd1 ∷ progress ∷ []
+
+  -- the four arguments have these ids
+  record AreNamed : Type 0 where
+    file_id : file.id.now ≡ codes "file"
+    dump_id : dump.id.now ≡ codes "dump"
+    lbd1_id : lbd1.id.now ≡ codes "lbd1"
+    progress_id : progress.id.now ≡ codes "progress"
+
+  -- so the id of each tells its place
+  placed : AreNamed → (j : ℕ) (d : Arg) → j < 4 → place_of (slice_index_or chain j d).id.now ≡ Some j
+  placed named zero d below = rw named.file_id refl
+  placed named (suc zero) d below = rw named.dump_id refl
+  placed named (suc (suc zero)) d below = rw named.lbd1_id refl
+  placed named (suc (suc (suc zero))) d below = rw named.progress_id refl
+  placed named (suc (suc (suc (suc j)))) d below = absurd (omega arith)
+
+  -- and no two are the same
+  distinct : AreNamed → HasDistinctIds chain
+  distinct named j k d e below_j below_k same =
+      let equal : (slice_index_or chain j e).id.now ≡ (slice_index_or chain k d).id.now = (bytes_eq-Decides _ _).0 same in
+      let first : place_of (slice_index_or chain j e).id.now ≡ Some j = placed named j e below_j in
+      let second : place_of (slice_index_or chain k d).id.now ≡ Some k = placed named k d below_k in
+      let both : Some j ≡ Some k = sym first ∙ ap place_of equal ∙ second in
+      cc
+
+  -- each of them keeps the rules of a chain
+  all_fit : FitsChain file → FitsChain dump → FitsChain lbd1 → FitsChain progress → All FitsChain chain
+  all_fit file_fits dump_fits lbd1_fits progress_fits zero d below = file_fits
+  all_fit file_fits dump_fits lbd1_fits progress_fits (suc zero) d below = dump_fits
+  all_fit file_fits dump_fits lbd1_fits progress_fits (suc (suc zero)) d below = lbd1_fits
+  all_fit file_fits dump_fits lbd1_fits progress_fits (suc (suc (suc zero))) d below = progress_fits
+  all_fit file_fits dump_fits lbd1_fits progress_fits (suc (suc (suc (suc k)))) d below = absurd (omega arith)
+
+-- a program with one more word
+with_word : (old new : Command) (arg : Arg) (app : App) (rule : Rule) → app_of old ≡ app → AddsArg old arg new → FitsChain arg → rule_of arg ≡ rule → app_of new ≡ with_rule app rule
+with_word old new arg app rule is added fits ruled = added.shape fits.1 ∙ ap (with_rule (app_of old)) ruled ∙ ap (λ a. with_rule a rule) is
+
+pub returns-clause-program : goal.returns-clause-program
+returns-clause-program c =
+    let one = with_word c.after_help-command.result c.in_ok-command.command c.file.result versioned file_rule (search rules) c.in_ok-command.ensures c.file.ensures.fits c.file.ensures.rule in
+    let two = with_word _ c.in_ok-command-2.command c.dump.result _ dump_rule one c.in_ok-command-2.ensures c.dump.ensures.fits c.dump.ensures.rule in
+    let three = with_word _ c.in_ok-command-3.command c.lbd1.result _ lbd1_rule two c.in_ok-command-3.ensures c.lbd1.ensures.fits c.lbd1.ensures.rule in
+    IfOk-weaker c.arg-4.result _ _ (λ command added.
+    with_word _ command c.progress.result _ progress_rule three added c.progress.ensures.fits c.progress.ensures.rule) c.arg-4.ensures
 
 pub returns-clause-named : goal.returns-clause-named
 returns-clause-named c =
-    let is_file : c.file.result.id.now ≡ codes "file" = ap (λ r. r.id) c.file.ensures.rule in
-    let is_dump : c.dump.result.id.now ≡ codes "dump" = ap (λ r. r.id) c.dump.ensures.rule in
-    let is_progress : c.progress.result.id.now ≡ codes "progress" = ap (λ r. r.id) c.progress.ensures.rule in
-    IfOk-weaker c.arg-3.result _ _ (λ command added m parsed.
-    subst (λ id. is_some (first_value (found_of m) id) ≡ true) is_file
-    (required_in_chain c.after_help-command.result command (c.file.result ∷ c.dump.result ∷ c.progress.result ∷ []) 0 c.file.result m
-    (c.in_ok-command.command, c.in_ok-command.ensures, (c.in_ok-command-2.command, c.in_ok-command-2.ensures, (command, added, refl)))
+    let named : AreNamed c.file.result c.dump.result c.lbd1.result c.progress.result = record {
+      file_id = ap (λ r. r.id) c.file.ensures.rule;
+      dump_id = ap (λ r. r.id) c.dump.ensures.rule;
+      lbd1_id = ap (λ r. r.id) c.lbd1.ensures.rule;
+      progress_id = ap (λ r. r.id) c.progress.ensures.rule;
+    } in
+    IfOk-weaker c.arg-4.result _ _ (λ command added m parsed.
+    subst (λ id. is_some (first_value (found_of m) id) ≡ true) named.file_id
+    (required_in_chain c.after_help-command.result command (chain c.file.result c.dump.result c.lbd1.result c.progress.result) 0 c.file.result m
+    (c.in_ok-command.command, c.in_ok-command.ensures, (c.in_ok-command-2.command, c.in_ok-command-2.ensures, (c.in_ok-command-3.command, c.in_ok-command-3.ensures, (command, added, refl))))
     (search rules) (search rules) (search rules) (search rules)
-    (all_fit c.file.result c.dump.result c.progress.result c.file.ensures.fits c.dump.ensures.fits c.progress.ensures.fits)
-    (distinct c.file.result c.dump.result c.progress.result is_file is_dump is_progress)
-    (omega arith) c.file.ensures.takes parsed)) c.arg-3.ensures
+    (all_fit _ _ _ _ c.file.ensures.fits c.dump.ensures.fits c.lbd1.ensures.fits c.progress.ensures.fits)
+    (distinct _ _ _ _ named)
+    (omega arith) c.file.ensures.takes parsed)) c.arg-4.ensures

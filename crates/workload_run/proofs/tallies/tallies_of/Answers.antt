@@ -1,5 +1,4 @@
-use Rattle.std.proofs.Common.{◌≡◌, arith, ap, sym, ◌∙◌}
-use Rattle.rts_core.proofs.Openings.{list_more}
+use Rattle.std.proofs.Common.{◌≡◌, arith, ap}
 use Rattle.workload_run.specs.Tallies.{tally_of}
 use Rattle.workload_run.proofs.Collecting.{one_more}
 use Rattle.workload_run.proofs.tallies.tallies_of.Goals as goal

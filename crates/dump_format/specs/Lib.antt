@@ -1,0 +1,6 @@
+pub mod Dumps
+pub mod Text
+pub mod Layout
+pub mod Fields
+pub mod Faults
+pub mod Kept

@@ -1,0 +1,6 @@
+pub mod Judged
+pub mod Numbers
+pub mod Decisions
+pub mod Begun
+pub mod Parts
+pub mod MadePlans

@@ -1,0 +1,11 @@
+//! What stands behind the elements of a dump in the format LBD2, up to its moves: a flag and, where that is 1, a decision's
+//! numbers and lists. They come in pieces: [`plan_end`] says up to where the next bytes are wanted, and [`read_plan`] judges
+//! what has come and makes a [`Plan`] of it.
+#![tactic(auto)]
+
+mod lists;
+mod plan;
+mod reading;
+
+pub use plan::Plan;
+pub use reading::{plan_end, plan_len, read_plan};

@@ -1,0 +1,5 @@
+pub mod Counting
+pub mod Joining
+pub mod Narrowing
+pub mod Plans
+pub mod Sending

@@ -1,0 +1,4 @@
+pub mod Joined
+pub mod Narrow
+pub mod Parts
+pub mod Writing

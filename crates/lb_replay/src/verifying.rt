@@ -1,0 +1,94 @@
+ghost use Rattle.std.specs.Prelude.{◌≡◌, ◌⊎◌, List, ℕ, Option, IfOk, IfErr, IfSome, MatchResult, Some};
+ghost use Rattle.lb_replay.specs.Internal.{ended_at};
+ghost use Rattle.lb_replay.specs.Simulation.{ReportsUnread};
+ghost use Rattle.lb_replay.specs.Verifying.{EndsCheck, Finds, IsEnd, IsFailure, IsJudged};
+ghost use Rattle.lb_replay.specs.declared.ended.Ended.{Ended};
+ghost use Rattle.lb_replay.specs.declared.ended.Ended.TheVariants.{Printed};
+
+use crate::ended::Ended;
+use crate::fault::Fault;
+use crate::simulation::report;
+use lb_dump::{Dump, DumpError, read_from};
+use lb_strategy::check;
+use std::alloc::Allocator;
+use std::io::{self, Read, Write};
+use streams::{Noted, write_out};
+
+/// The line where the decision is right.
+const RIGHT: &str = "check: ok\n";
+
+/// Checks the decision that was recorded in a dump, whoever made it: reads the dump, and writes one line. It is
+/// `check: ok` where the decision is right for the snapshot and for its target, by [`check`]; or else it tells the first
+/// flaw of the decision, that the dump has none, or the fault of the dump.
+///
+/// Out of memory, also for the line itself, is a fault of the dump. The line `check: ok` takes no memory.
+///
+/// The end is one function of the bytes, unless memory, the reader or the writer fails: the clauses `exact` and
+/// `one_end`.
+pub fn verify<A: Allocator + Copy, R: Read, W: Write>(
+    alloc: A,
+    reader: &mut R,
+    writer: &mut W,
+) -> Ended
+    ensures ends { EndsCheck A (R.remaining reader.old) (R.remaining reader.new) (W.contents writer.old) (W.contents writer.new) result }
+    ensures exact { IfSome (R.remaining reader.old) (λ bytes. (ended : Ended) → IsEnd A bytes ended → (result ≡ ended) ⊎ IsFailure result) }
+    ensures one_end { (bytes : List ℕ) (one other : Ended) → IsEnd A bytes one → IsEnd A bytes other → one ≡ other }
+{
+    match judged(alloc, reader) {
+        Ok(()) if write_out(writer, RIGHT.as_bytes()) => Ended::Printed,
+        Ok(()) => Ended::WriteFailed,
+        Err(fault) => report(alloc, writer, fault),
+    }
+}
+
+/// Checks the decision that was recorded in the dump in a file as [`verify`] does, and returns also the system's reason
+/// where a read failed. A file that could not be opened is reported as a dump that was not read.
+pub fn verify_file<A: Allocator + Copy, R: Read + Drop, W: Write>(
+    alloc: A,
+    file: io::Result<R>,
+    writer: &mut W,
+) -> (Ended, Option<io::Error>)
+    ensures opened { IfOk file (λ file. (rest : Option (List ℕ)) × EndsCheck A (R.remaining file) rest (W.contents writer.old) (W.contents writer.new) result.0) }
+    ensures unopened { IfErr file (λ _. ReportsUnread (W.contents writer.old) (W.contents writer.new) result.0) }
+    ensures reason { IfErr file (λ reason. result.1 ≡ Some reason) }
+{
+    match file {
+        Ok(reader) => {
+            let mut noted = Noted::new(reader);
+            let ended = verify(alloc, &mut noted, writer);
+            (ended, noted.failure())
+        }
+        Err(reason) => {
+            let ended = report(alloc, writer, Fault::Dump(DumpError::Read));
+            (ended, Some(reason))
+        }
+    }
+}
+
+// Whether a dump was read whose decision is right, or else what is reported.
+fn judged<A: Allocator + Copy, R: Read>(alloc: A, reader: &mut R) -> Result<(), Fault>
+    ensures { MatchResult result (λ _. Finds A (R.remaining reader.old) (R.remaining reader.new) Printed)
+        (λ fault. Finds A (R.remaining reader.old) (R.remaining reader.new) (ended_at fault)) }
+{
+    match read_from(alloc, reader) {
+        Ok(dump) => {
+            let judged = judged_in(&dump);
+            drop(dump);
+            judged
+        }
+        Err(fault) => Err(Fault::Dump(fault)),
+    }
+}
+
+// Whether the decision of this dump is right, or else what is reported.
+fn judged_in<A: Allocator>(dump: &Dump<A>) -> Result<(), Fault>
+    ensures { MatchResult result (λ _. IsJudged dump.now Printed) (λ fault. IsJudged dump.now (ended_at fault)) }
+{
+    let Some(recorded) = dump.recorded() else {
+        return Err(Fault::NoDecision);
+    };
+    match check(dump.snapshot(), recorded.target, &recorded.decision) {
+        Ok(()) => Ok(()),
+        Err(flaw) => Err(Fault::Flawed(flaw)),
+    }
+}

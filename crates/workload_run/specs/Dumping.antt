@@ -1,0 +1,62 @@
+-- The dumps of rounds, and the files that they go to.
+use Rattle.std.specs.Prelude.{◌≡◌, ◌⊎◌, ℕ, List, [], ◌∷◌, ◌++◌, map, codes, Option, Some, None, Result, Ok, Err, ⊤}
+use Rattle.std.specs.Fmt.{decimal}
+use Rattle.lb_snapshot.specs.Measured.{Taken}
+use Rattle.lb_strategy.specs.declared.decision.Decision.{Decision}
+use Rattle.dump_format.specs.Dumps.{Dumped}
+use Rattle.dump_format.specs.Text.{IsLbd1, IsLbd2}
+use Rattle.dump_format.specs.declared.error.DumpError.{DumpError}
+use Rattle.dump_format.specs.declared.error.DumpError.TheVariants.{OutOfMemory, Wide, Write}
+use Rattle.dump_writing.specs.Narrow.{IsFirstWide}
+use Rattle.workload_run.specs.declared.round_dump.DumpFormat.{DumpFormat}
+use Rattle.workload_run.specs.declared.round_dump.DumpFormat.TheVariants.{Lbd1, Lbd2}
+use Rattle.workload_run.specs.declared.dumps.NotWritten.{NotWritten}
+
+-- a round with the decision on it, on as many PEs as its snapshot has
+abbrev pub recorded : {A : Type 0} → Taken → Decision A → Dumped A
+recorded s d = record { snapshot = s; recorded = Some (record { target = s.procs; decision = d }) }
+
+-- the text of a round: in the format LBD1 that of its snapshot, and in LBD2 that of the dump with its decision
+abbrev pub IsRoundText : {A : Type 0} → DumpFormat → Taken → Decision A → List ℕ → Type 0
+IsRoundText Lbd1 s d text = IsLbd1 s text
+IsRoundText Lbd2 s d text = IsLbd2 (recorded s d) text
+
+-- why the dump of a snapshot was not written: its writer, memory or, in the format LBD1, the first load that is too great
+abbrev pub MayFail : DumpError → DumpFormat → Taken → Type 0
+MayFail (Wide i) Lbd1 s = IsFirstWide s.loads i
+MayFail e format s = (e ≡ Write) ⊎ (e ≡ OutOfMemory)
+
+-- the name of the file of round r
+abbrev pub file_name : List ℕ → ℕ → List ℕ
+file_name prefix r = prefix ++ codes "." ++ decimal r
+
+-- the names of the files of some rounds, in order
+abbrev pub file_names : {D : Type 0} → List ℕ → List (Taken × D) → List (List ℕ)
+file_names prefix rounds = map (λ round. file_name prefix round.0.step) rounds
+
+-- these files more were asked for, where it is known which ones are
+abbrev pub AsksFor : Option (List (List ℕ)) → Option (List (List ℕ)) → List (List ℕ) → Type 0
+AsksFor None new names = Unit {0}
+AsksFor (Some before) None names = ⊥
+AsksFor (Some before) (Some after) names = after ≡ before ++ names
+
+-- a file was asked for of round r; where the dump was not written, maybe none was
+abbrev pub AsksOnce : {E : Type 0} → List ℕ → ℕ → Option (List (List ℕ)) → Option (List (List ℕ)) → Result ⊤ E → Type 0
+AsksOnce prefix r old new (Ok _) = AsksFor old new (file_name prefix r ∷ [])
+AsksOnce prefix r old new (Err _) = AsksFor old new (file_name prefix r ∷ []) ⊎ (new ≡ old)
+
+-- The first dump that was not written, and why. A file was asked for of each round before it, in order, and maybe of its
+-- own round; it was not where memory for the name was refused.
+pub record StopsAt {D : Type 0} (format : DumpFormat) (prefix : List ℕ) (rounds : List (Taken × D)) (old new : Option (List (List ℕ))) (dump : NotWritten) : Type 0 where
+  pub written : List (Taken × D)
+  pub stopped : Taken × D
+  pub rest : List (Taken × D)
+  pub split : rounds ≡ written ++ stopped ∷ rest
+  pub round : dump.round ≡ stopped.0.step
+  pub fault : MayFail dump.fault format stopped.0
+  pub asked : AsksFor old new (file_names prefix written) ⊎ AsksFor old new (file_names prefix (written ++ stopped ∷ []))
+
+-- a file was asked for of each round, in order, up to the first dump that was not written
+abbrev pub AsksInTurn : {D : Type 0} → DumpFormat → List ℕ → List (Taken × D) → Option (List (List ℕ)) → Option (List (List ℕ)) → Result ⊤ NotWritten → Type 0
+AsksInTurn format prefix rounds old new (Ok _) = AsksFor old new (file_names prefix rounds)
+AsksInTurn format prefix rounds old new (Err dump) = StopsAt format prefix rounds old new dump

@@ -1,0 +1,65 @@
+ghost use Rattle.std.specs.Prelude.{◌≡◌, ◌⊎◌, ℕ, List, IfOk, IfErr, OnOk};
+ghost use Rattle.std.specs.Io.KnownBytes.{Appends};
+ghost use Rattle.workload_run.specs.Dumping.{IsRoundText, MayFail, recorded};
+
+use dump_format::{Dump, DumpError, Recorded};
+use dump_writing::{write_dump, write_to};
+use lb_certificates::Snapshot;
+use lb_strategy::Decision;
+use std::alloc::Allocator;
+use std::io::Write;
+
+/// The format of a dump.
+#[derive(Clone, Copy, Debug, PartialEq, Eq)]
+pub enum DumpFormat {
+    /// The snapshot alone, whose loads have 32 bits.
+    Lbd1,
+    /// The snapshot, and the decision with its certificates.
+    Lbd2,
+}
+
+/// Writes the dump of a round: its snapshot and, in the format LBD2, the decision with its certificates, on as many PEs as the
+/// snapshot has.
+///
+/// # Errors
+///
+/// - [`Wide`](DumpError::Wide) with the first element whose load is too great for LBD1.
+/// - [`OutOfMemory`](DumpError::OutOfMemory), which only LBD2 asks for: it is written from a copy of the round.
+/// - [`Write`](DumpError::Write) where the writer fails, with any error, or takes nothing; a prefix has then been written. Also
+///   where no [`Dump`] can hold the decision, which is never one of a run.
+pub fn write_round<W: Write, A: Allocator + Copy>(
+    writer: &mut W,
+    snapshot: &Snapshot<A>,
+    decision: &Decision<A>,
+    format: DumpFormat,
+) -> Result<(), DumpError>
+    ensures written { OnOk result ((text : List ℕ) × IsRoundText format snapshot.now decision.now text × Appends (W.contents writer.old) (W.contents writer.new) text) }
+    ensures fault { IfErr result (λ e. MayFail e format snapshot.now) }
+{
+    match format {
+        DumpFormat::Lbd1 => write_to(writer, snapshot),
+        DumpFormat::Lbd2 => {
+            let dump = recorded(snapshot, decision)?;
+            write_dump(writer, &dump)
+        }
+    }
+}
+
+// A round as a dump. A decision of a run has as many cuts, stops, names and prices as its number of PEs asks for, and moves no
+// element twice, so a dump can hold it.
+fn recorded<A: Allocator + Copy>(
+    snapshot: &Snapshot<A>,
+    decision: &Decision<A>,
+) -> Result<Dump<A>, DumpError>
+    ensures dump { IfOk result (λ dump. dump ≡ recorded snapshot.now decision.now) }
+    ensures fault { IfErr result (λ e. (e ≡ DumpError.Write) ⊎ (e ≡ DumpError.OutOfMemory)) }
+{
+    let recorded = Recorded {
+        target: snapshot.procs(),
+        decision: decision.clone()?,
+    };
+    match Dump::new(snapshot.clone()?, Some(recorded)) {
+        Some(dump) => Ok(dump),
+        None => Err(DumpError::Write),
+    }
+}

@@ -1,0 +1,274 @@
+//! Dumps that are not written: files that are refused or that fail, a load that is too great for the format, and refused
+//! memory.
+
+use crate::dumps::{FORMATS, Round, text_of};
+use crate::fixtures::{WORKED, assert_for, driven};
+use crate::kept::{Faults, KeptFiles, NO_FAULTS, Store};
+use lb_certificates::{Loads, Sizes, Snapshot};
+use lb_dump::DumpError;
+use lb_strategy::{Decision, plan};
+use refusing_alloc::{Outcome, Refusing, each_refusal};
+use std::alloc::{AllocError, Allocator, Global};
+use std::io::ErrorKind;
+use std::process::Abort;
+use test_fixtures::pe;
+use workload_run::{DumpFormat, NotWritten, write_dumps};
+
+// What came of the dumps of some rounds: the first that was not written, how many files were asked for, and what all files
+// hold, by so many calls.
+#[derive(Drop)]
+struct Ending {
+    not_written: Option<NotWritten>,
+    files: usize,
+    calls: usize,
+    bytes: Vec<u8>,
+}
+
+// Writes the dumps of some rounds, where this goes wrong.
+fn dumped(
+    rt: &(impl Abort + AllocGlobal),
+    rounds: &[Round],
+    format: DumpFormat,
+    faults: Faults,
+) -> Ending {
+    let store = Store::new(rt.alloc());
+    let mut files = KeptFiles::new(rt.alloc(), &store, faults);
+    let written = write_dumps(rt.alloc(), rounds, format, "run", &mut files);
+    let asked = files.names.len();
+    drop(files);
+    Ending {
+        not_written: written.err(),
+        files: asked,
+        calls: store.calls(),
+        bytes: store.into_bytes(),
+    }
+}
+
+// Whether the dump of this round was not written, for this fault, with a reason of this kind.
+fn is_told(ending: &Ending, round: u32, fault: DumpError, reason: Option<ErrorKind>) -> bool {
+    let Some(dump) = ending.not_written else {
+        return false;
+    };
+    let kind = dump.reason.map(|reason| reason.kind());
+    dump.round == round && dump.fault == fault && kind == reason
+}
+
+// Whether a refused file, of the two of the worked workload, is the last one, and the one before it has its dump.
+fn is_refused(
+    rt: &(impl Abort + AllocGlobal),
+    rounds: &[Round],
+    format: DumpFormat,
+    file: usize,
+) -> bool {
+    let faults = Faults { file, ..NO_FAULTS };
+    let ending = dumped(rt, rounds, format, faults);
+    let earlier = text_of(rt, rounds.get(..file).unwrap_or(&[]), format);
+    let round = if file == 0 { 1 } else { 2 };
+    is_told(
+        &ending,
+        round,
+        DumpError::Write,
+        Some(ErrorKind::PermissionDenied),
+    ) && ending.files == file.saturating_add(1)
+        && ending.bytes == earlier
+}
+
+#[test]
+fn a_file_that_is_refused_is_the_last(rt: HostRuntime) {
+    let (driven, text) = driven(&rt, WORKED);
+    drop(text);
+    for format in &FORMATS {
+        let first = is_refused(&rt, driven.rounds(), *format, 0);
+        let second = is_refused(&rt, driven.rounds(), *format, 1);
+        assert_for(&rt, first && second, *format);
+    }
+    drop(driven);
+}
+
+// How the dumps of the rounds of the worked workload are written by calls of at most seven bytes: the text of both, and
+// how many calls there are for the first and for both.
+#[derive(Drop)]
+struct Calls {
+    text: Vec<u8>,
+    first: usize,
+    both: usize,
+}
+
+const SEVEN: Faults = Faults {
+    at_once: 7,
+    ..NO_FAULTS
+};
+
+fn whole(rt: &(impl Abort + AllocGlobal), rounds: &[Round], format: DumpFormat) -> Calls {
+    let first = dumped(rt, rounds.get(..1).unwrap_or(&[]), format, SEVEN);
+    let calls = first.calls;
+    drop(first);
+    let Ending {
+        not_written,
+        calls: both,
+        bytes: text,
+        ..
+    } = dumped(rt, rounds, format, SEVEN);
+    assert_for(rt, not_written.is_none(), format);
+    Calls {
+        text,
+        first: calls,
+        both,
+    }
+}
+
+// Whether a call that fails with an error of this kind, or takes nothing, is the last of all, in the file that it is one of,
+// and all that went before it was written.
+fn is_cut(
+    rt: &(impl Abort + AllocGlobal),
+    rounds: &[Round],
+    format: DumpFormat,
+    whole: &Calls,
+    fails: (usize, Option<ErrorKind>),
+) -> bool {
+    let (call, error) = fails;
+    let faults = Faults {
+        call,
+        error,
+        ..SEVEN
+    };
+    let ending = dumped(rt, rounds, format, faults);
+    let round = if call < whole.first { 1 } else { 2 };
+    is_told(&ending, round, DumpError::Write, error)
+        && ending.files == round as usize
+        && ending.calls == call.saturating_add(1)
+        && whole.text.starts_with(&ending.bytes)
+        && ending.bytes.len() < whole.text.len()
+}
+
+// Fails each call in turn.
+fn fail_each(rt: &(impl Abort + AllocGlobal), rounds: &[Round], format: DumpFormat) {
+    let whole = whole(rt, rounds, format);
+    for call in 0..whole.both {
+        let right = is_cut(rt, rounds, format, &whole, (call, Some(ErrorKind::Other)))
+            && is_cut(
+                rt,
+                rounds,
+                format,
+                &whole,
+                (call, Some(ErrorKind::Interrupted)),
+            )
+            && is_cut(rt, rounds, format, &whole, (call, None));
+        assert_for(rt, right, (format, call));
+    }
+    drop(whole);
+}
+
+#[test]
+fn a_call_that_fails_is_the_last(rt: HostRuntime) {
+    let (driven, text) = driven(&rt, WORKED);
+    drop(text);
+    for format in &FORMATS {
+        fail_each(&rt, driven.rounds(), *format);
+    }
+    drop(driven);
+}
+
+// A round of two elements on two PEs, with these loads.
+fn round<A: Allocator + Copy>(
+    alloc: A,
+    step: u32,
+    loads: &[u64],
+) -> Result<Option<(Snapshot<A>, Decision<A>)>, AllocError> {
+    let loads = Loads::new(Vec::from_slice(alloc, loads)?);
+    let sizes = Sizes::new(Vec::from_slice(alloc, &[(8, pe(0)), (8, pe(0))])?);
+    let (Some(loads), Some(sizes)) = (loads, sizes) else {
+        return Ok(None);
+    };
+    let Some(snapshot) = Snapshot::new(step, 2, loads, sizes) else {
+        return Ok(None);
+    };
+    match plan(alloc, &snapshot, 2) {
+        Ok(decision) => Ok(Some((snapshot, decision))),
+        Err(_) => Err(AllocError),
+    }
+}
+
+// The least load that needs more than 32 bits, and the greatest that does not.
+const WIDE: u64 = 4_294_967_296;
+
+const NARROW: u64 = 4_294_967_295;
+
+// Three rounds, of which the second has a load that is too great for the format LBD1.
+fn wide_rounds(rt: &(impl Abort + AllocGlobal)) -> Vec<Round> {
+    let mut rounds = Vec::new(rt.alloc());
+    for (step, loads) in &[(1, [NARROW, 0]), (2, [1, WIDE]), (3, [1, 1])] {
+        let round = round(rt.alloc(), *step, loads)
+            .expect(rt, "out of memory")
+            .expect(rt, "it is a snapshot");
+        rounds.push(round).expect(rt, "out of memory");
+    }
+    rounds
+}
+
+#[test]
+fn a_load_that_is_too_great_for_the_format(rt: HostRuntime) {
+    let rounds = wide_rounds(&rt);
+    let narrow = dumped(&rt, &rounds, DumpFormat::Lbd1, NO_FAULTS);
+    let refused = is_told(&narrow, 2, DumpError::Wide(1), None)
+        && narrow.files == 2
+        && narrow.bytes.len() == 40;
+    drop(narrow);
+    let wide = dumped(&rt, &rounds, DumpFormat::Lbd2, NO_FAULTS);
+    let written = wide.not_written.is_none() && wide.files == 3;
+    drop(wide);
+    drop(rounds);
+    assert!(rt; refused && written);
+}
+
+// What comes of the dump of a round, where memory may be refused.
+fn comes_of(
+    global: Global,
+    alloc: &Refusing<Global>,
+    round: (Snapshot<&Refusing<Global>>, Decision<&Refusing<Global>>),
+    format: DumpFormat,
+) -> Outcome {
+    let store = Store::new(global);
+    let mut files = KeptFiles::new(global, &store, NO_FAULTS);
+    let rounds = [round];
+    let written = write_dumps(alloc, &rounds, format, "run", &mut files);
+    drop(rounds);
+    drop(files);
+    match written {
+        Ok(()) if store.len() > 0 => Outcome::Right,
+        Err(
+            NotWritten {
+                round: 1,
+                fault: DumpError::OutOfMemory,
+                reason: None,
+            },
+        ) if store.len() == 0 => Outcome::Refused,
+        _ => Outcome::Wrong,
+    }
+}
+
+// Makes a round in memory that may be refused, and writes its dump where that is asked for.
+fn attempt(global: Global, alloc: &Refusing<Global>, format: Option<DumpFormat>) -> Outcome {
+    match (round(alloc, 1, &[1, 2]), format) {
+        (Ok(Some(round)), Some(format)) => comes_of(global, alloc, round, format),
+        (Ok(Some(_)), None) => Outcome::Right,
+        (Ok(None), _) => Outcome::Wrong,
+        (Err(AllocError), _) => Outcome::Refused,
+    }
+}
+
+// How many requests an attempt makes, each of which may be refused.
+fn requests(global: Global, format: Option<DumpFormat>) -> Option<u64> {
+    each_refusal(global, 200, |alloc| attempt(global, alloc, format)).ok()
+}
+
+// In the format LBD1 memory is asked for twice, for the prefix and for the whole name; in the format LBD2 also for a copy of
+// eight lists: the loads, the sizes, the cuts, the stops, the names, the prices of blocks and of PEs, and the moves.
+#[test]
+fn each_request_of_a_dump(rt: HostRuntime) {
+    let made = requests(rt.alloc(), None).unwrap_or(0);
+    let narrow = requests(rt.alloc(), Some(DumpFormat::Lbd1)).unwrap_or(0);
+    let wide = requests(rt.alloc(), Some(DumpFormat::Lbd2)).unwrap_or(0);
+    let right = narrow == made.saturating_add(2) && wide == made.saturating_add(10);
+    assert_for(&rt, made > 0 && right, (made, narrow, wide));
+}

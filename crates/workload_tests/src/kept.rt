@@ -1,0 +1,138 @@
+//! Files for dumps that are kept in memory, one of which may be refused, and a call of which may fail.
+
+ghost use Rattle.std.specs.Prelude.{None};
+
+use std::alloc::Global;
+use std::cell::{Cell, RefCell};
+use std::io::{self, Error, ErrorKind, Write};
+use workload_run::DumpFiles;
+
+/// What was written to all files, one after another, and by how many calls.
+#[derive(Drop)]
+pub(crate) struct Store {
+    bytes: RefCell<Vec<u8>>,
+    calls: Cell<usize>,
+}
+
+impl Store {
+    /// Nothing yet.
+    pub(crate) fn new(alloc: Global) -> Store {
+        Store {
+            bytes: RefCell::new(Vec::new(alloc)),
+            calls: Cell::new(0),
+        }
+    }
+
+    /// How many calls there were.
+    pub(crate) fn calls(&self) -> usize {
+        self.calls.get()
+    }
+
+    /// How many bytes there are.
+    pub(crate) fn len(&self) -> usize {
+        self.bytes.try_borrow().map_or(0, |bytes| bytes.len())
+    }
+
+    /// The bytes.
+    pub(crate) fn into_bytes(self) -> Vec<u8> {
+        self.bytes.into_inner()
+    }
+
+    // Takes some of the bytes of a call.
+    fn take(&self, buf: &[u8]) -> io::Result<usize> {
+        let Ok(mut bytes) = self.bytes.try_borrow_mut() else {
+            return Err(Error::from(ErrorKind::Other));
+        };
+        bytes.extend_from_slice(buf)?;
+        Ok(buf.len())
+    }
+}
+
+/// A file that appends what it gets to a store.
+#[derive(Drop)]
+pub(crate) struct KeptFile<'a> {
+    store: &'a Store,
+    faults: Faults,
+}
+
+impl Write for KeptFile<'_> {
+    fn write(&mut self, buf: &[u8]) -> io::Result<usize> {
+        let call = self.store.calls.get();
+        self.store.calls.set(call.saturating_add(1));
+        if call == self.faults.call {
+            return self
+                .faults
+                .error
+                .map_or(Ok(0), |kind| Err(Error::from(kind)));
+        }
+        let len = buf.len().min(self.faults.at_once);
+        self.store.take(&buf[..len])
+    }
+
+    fn flush(&mut self) -> io::Result<()> {
+        Ok(())
+    }
+}
+
+/// What goes wrong.
+#[derive(Clone, Copy, Debug)]
+pub(crate) struct Faults {
+    /// The number of the file that is refused.
+    pub(crate) file: usize,
+    /// The number of the call that fails, of those of all files.
+    pub(crate) call: usize,
+    /// The kind of the error of that call. Where there is none, it takes nothing.
+    pub(crate) error: Option<ErrorKind>,
+    /// The most bytes that a call takes.
+    pub(crate) at_once: usize,
+}
+
+/// Nothing goes wrong.
+pub(crate) const NO_FAULTS: Faults = Faults {
+    file: usize::MAX,
+    call: usize::MAX,
+    error: None,
+    at_once: usize::MAX,
+};
+
+/// Makes such files, and keeps their names.
+#[derive(Drop)]
+pub(crate) struct KeptFiles<'a> {
+    /// The names, in order.
+    pub(crate) names: Vec<String>,
+    alloc: Global,
+    store: &'a Store,
+    faults: Faults,
+}
+
+impl<'a> KeptFiles<'a> {
+    /// No file yet.
+    pub(crate) fn new(alloc: Global, store: &'a Store, faults: Faults) -> KeptFiles<'a> {
+        KeptFiles {
+            names: Vec::new(alloc),
+            alloc,
+            store,
+            faults,
+        }
+    }
+}
+
+impl<'a> DumpFiles for KeptFiles<'a> {
+    type File = KeptFile<'a>;
+
+    // a name for which memory is refused is not kept
+    ghost names = { λ _. None };
+
+    fn create(&mut self, name: &str) -> io::Result<KeptFile<'a>> {
+        let number = self.names.len();
+        let name = String::from_str(self.alloc, name)?;
+        self.names.push(name)?;
+        if number == self.faults.file {
+            return Err(Error::from(ErrorKind::PermissionDenied));
+        }
+        Ok(KeptFile {
+            store: self.store,
+            faults: self.faults,
+        })
+    }
+}
