@@ -1,3 +1,4 @@
+pub mod LoadBits
 pub mod LoadSums
 pub mod Made
 pub mod Parts

@@ -93,11 +93,17 @@ fn total(units: &[Units]) -> u64
     total
 }
 
-// Whether each load is one that an element may have.
+// Whether each load is one that an element may have. The limit is all ones, so no load is above it exactly where the
+// bits of all loads together are not: that leaves no branch, and is done for several loads at a time.
+#[tactic(auto)]
 fn fit(units: &[Units]) -> bool
     ensures { IsTrue result ↔ All (λ load. load ≤ Limits.LOAD) units.now }
 {
-    units.iter().all(|&load| load <= Limits::LOAD)
+    let mut bits = 0;
+    for &units in units {
+        bits |= units;
+    }
+    bits <= Limits::LOAD
 }
 
 impl<A: Allocator> PartialEq for Loads<A> {
