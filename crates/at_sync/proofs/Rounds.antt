@@ -14,7 +14,7 @@ use Rattle.lb_snapshot.specs.Measured.{Taken}
 use Rattle.lb_certificates.specs.Naming.{blocks_between, IsCheapest, IsLeastNaming}
 use Rattle.lb_database.specs.Measuring.{Measured, IsSnapshotOf, StandBelow, elements, opening}
 use Rattle.lb_database.specs.Refusals.{HasNextRound}
-use Rattle.lb_strategy.specs.Decisions.{IsRight}
+use Rattle.lb_strategy.specs.Decisions.{HasBoundedPrices, IsRight}
 use Rattle.lb_strategy.specs.Moves.{HasPlace}
 use Rattle.lb_strategy.specs.declared.decision.Decision.{Decision}
 use Rattle.at_sync.specs.Boards.{BoardState, Kept, kept_of, new_board, after_decision, IsDecided, AreDecided, IsKeptIn, IsBoard, Decides}
@@ -27,8 +27,8 @@ sized loads sizes p d right =
     omega (arith, end, right.named.blocks.divides.ends, right.division.divides.ends)
 
 -- what a plan for the snapshot of a round gives is best
-pub planned_best : {A : Type 0} (m : Measured) (pes r : ℕ) (taken : Taken) (d : Decision A) → r ≡ m.round → IsSnapshotOf m r pes taken → IsRight taken.loads taken.sizes pes d → IsChosen taken.loads pes d.division → IsLeastDivision taken.loads pes d.division.bottleneck d.division.cuts → IsCheapest taken.sizes d.division.cuts pes d.naming → IsLeastNaming taken.sizes d.division.cuts pes d.naming → ((i : ℕ) → i < length taken.sizes → HasPlace d.division.cuts d.naming i) → IsDecided (elements m) pes m.round (taken, d)
-planned_best m pes r taken d at_round snapshot right chosen least cheapest least_naming places =
+pub planned_best : {A : Type 0} (m : Measured) (pes r : ℕ) (taken : Taken) (d : Decision A) → r ≡ m.round → IsSnapshotOf m r pes taken → IsRight taken.loads taken.sizes pes d → IsChosen taken.loads pes d.division → IsLeastDivision taken.loads pes d.division.bottleneck d.division.cuts → IsCheapest taken.sizes d.division.cuts pes d.naming → IsLeastNaming taken.sizes d.division.cuts pes d.naming → ((i : ℕ) → i < length taken.sizes → HasPlace d.division.cuts d.naming i) → HasBoundedPrices taken.sizes d → IsDecided (elements m) pes m.round (taken, d)
+planned_best m pes r taken d at_round snapshot right chosen least cheapest least_naming places bounded =
     let all : length taken.loads ≡ elements m = ap length snapshot.loads_charged in
     record {
       at_step = snapshot.at_step ∙ at_round;
@@ -40,6 +40,7 @@ planned_best m pes r taken d at_round snapshot right chosen least cheapest least
       cheapest = cheapest;
       least_naming = least_naming;
       places = λ i inside. places i (omega (arith, all, inside, sized taken.loads taken.sizes pes d right));
+      bounded = bounded;
     }
 
 -- what holds of each item and of one more holds of all of them

@@ -10,7 +10,7 @@ use Rattle.lb_certificates.specs.Chain.{IsLeastDivision}
 use Rattle.lb_snapshot.specs.Measured.{Taken}
 use Rattle.lb_certificates.specs.Naming.{IsCheapest, IsLeastNaming}
 use Rattle.lb_database.specs.Measuring.{Measured, IsComplete, IsSnapshotOf, StandBelow, elements, opening, with_charge, with_report}
-use Rattle.lb_strategy.specs.Decisions.{IsRight}
+use Rattle.lb_strategy.specs.Decisions.{HasBoundedPrices, IsRight}
 use Rattle.lb_strategy.specs.Moves.{HasPlace, planned_pe}
 use Rattle.lb_strategy.specs.declared.decision.Decision.{Decision}
 
@@ -59,8 +59,8 @@ after_decision b kept =
 
 -- What is kept of round r is best: the snapshot is one of all n elements on pes PEs, taken at step r; every part of
 -- the decision is right for it, its division is the chosen one, and its naming the first of the cheapest. So no division
--- has a lighter heaviest block, no naming of the blocks moves fewer bytes, each element has a place, and the snapshot
--- determines all of the decision but its prices.
+-- has a lighter heaviest block, no naming of the blocks moves fewer bytes, each element has a place, the snapshot
+-- determines all of the decision but its prices, and these stay within the greatest cost.
 pub record IsDecided {A : Type 0} (n pes r : ℕ) (kept : Kept A) : Type 0 where
   pub at_step : kept.0.step ≡ r
   pub on_pes : kept.0.procs ≡ pes
@@ -71,6 +71,7 @@ pub record IsDecided {A : Type 0} (n pes r : ℕ) (kept : Kept A) : Type 0 where
   pub cheapest : IsCheapest kept.0.sizes kept.1.division.cuts pes kept.1.naming
   pub least_naming : IsLeastNaming kept.0.sizes kept.1.division.cuts pes kept.1.naming
   pub places : (i : ℕ) → i < n → HasPlace kept.1.division.cuts kept.1.naming i
+  pub bounded : HasBoundedPrices kept.0.sizes kept.1
 
 -- what is kept of each round is best
 abbrev pub AreDecided : {A : Type 0} → ℕ → ℕ → List (Kept A) → Type 0

@@ -1,3 +1,4 @@
 pub mod MoveLists
 pub mod OneDecisions
+pub mod PriceBounds
 pub mod RightDecisions

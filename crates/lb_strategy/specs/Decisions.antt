@@ -1,8 +1,9 @@
 -- When a decision of a balancing step is right, and what is the first flaw of one that is not.
-use Rattle.std.specs.Prelude.{◌≡◌, ◌≢◌, ℕ, List, length, ◌⊎◌}
+use Rattle.std.specs.Prelude.{◌≡◌, ◌≢◌, ◌<◌, ◌≤◌, ℕ, List, length, ◌⊎◌, ℤ}
+use Rattle.block_assignment.specs.Table.{AreWithin}
 use Rattle.lb_certificates.specs.Certificate.{IsCertified}
 use Rattle.lb_certificates.specs.Flaws.{HasFlaw, HasNamingFlaw, IsFirst}
-use Rattle.lb_certificates.specs.Naming.{bytes_moved, IsNamed}
+use Rattle.lb_certificates.specs.Naming.{block_cost, blocks_between, bytes_moved, IsNamed}
 use Rattle.lb_certificates.specs.declared.flaw.Flaw.{Flaw}
 use Rattle.lb_certificates.specs.declared.flaw.Flaw.TheVariants.{MovedWrong, MovesWrong}
 use Rattle.lb_strategy.specs.declared.decision.Decision.{Decision}
@@ -27,6 +28,25 @@ pub record IsRight {A : Type 0} (loads : List ℕ) (sizes : List (ℕ × ℕ)) (
   pub named : IsNamedRight sizes d
   pub moved : d.moved ≡ right_moved sizes d
   pub moves : d.moves ≡ right_moves sizes d
+
+-- the greatest cost of a block on a PE, where there are so many of each
+pub record IsGreatestCost (blocks : ℕ) (cost : ℕ → ℕ → ℕ) (most : ℕ) : Type 0 where
+  pub block : ℕ
+  pub pe : ℕ
+  pub block_inside : block < blocks
+  pub pe_inside : pe < blocks
+  pub reached : cost block pe ≡ most
+  pub greatest : (b p : ℕ) → b < blocks → p < blocks → cost b p ≤ most
+
+-- Each price of a block is 0 to the greatest cost of a block on a PE, and each price of a PE is 0 down to as much below 0.
+pub record ArePricesBounded (sizes : List (ℕ × ℕ)) (cuts : List ℕ) (u v : List ℤ) : Type 0 where
+  pub most : ℕ
+  pub is_greatest : IsGreatestCost (blocks_between cuts) (block_cost sizes cuts) most
+  pub within : AreWithin most u v
+
+-- the prices of a decision are bounded
+abbrev pub HasBoundedPrices : {A : Type 0} → List (ℕ × ℕ) → Decision A → Type 0
+HasBoundedPrices sizes d = ArePricesBounded sizes d.division.cuts d.prices.u d.prices.v
 
 -- the first flaw of the division
 abbrev pub IsDivisionFlaw : {A : Type 0} → List ℕ → ℕ → Decision A → Flaw → Type 0

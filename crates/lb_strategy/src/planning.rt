@@ -3,7 +3,7 @@ ghost use Rattle.chain_partition.specs.Chosen.{IsChosen};
 ghost use Rattle.lb_certificates.specs.Certificate.{IsCertified};
 ghost use Rattle.lb_certificates.specs.Chain.{IsLeastDivision};
 ghost use Rattle.lb_certificates.specs.Naming.{AreBlocks, IsCheapest, IsLeastNaming, IsNamed, blocks_between, bytes_moved};
-ghost use Rattle.lb_strategy.specs.Decisions.{IsRight};
+ghost use Rattle.lb_strategy.specs.Decisions.{ArePricesBounded, HasBoundedPrices, IsRight};
 ghost use Rattle.lb_strategy.specs.Moves.{HasPlace};
 ghost use Rattle.lb_strategy.specs.declared.error.PlanError.TheVariants.{OutOfMemory};
 
@@ -20,7 +20,8 @@ use std::thread::Threads;
 /// Decides where each element of this snapshot runs next, on `pes` PEs, 1 to 256, which may be more or fewer than
 /// those of the run: its blocks are those of [`divide`], named so that the fewest bytes move, and of all such namings it
 /// takes the first in dictionary order. So all of the decision but its prices is determined by the snapshot and `pes`.
-/// [`check`](crate::check) accepts the decision.
+/// [`check`](crate::check) accepts the decision. Each price of a block is 0 to the greatest number of bytes that a block
+/// moves on some PE, and each price of a PE is 0 down to as much below 0.
 ///
 /// # Errors
 ///
@@ -38,6 +39,7 @@ pub fn plan<A: Allocator + Copy, B: Allocator>(
     ensures cheapest { IfOk result (λ d. IsCheapest snapshot.now.sizes d.division.cuts pes d.naming) }
     ensures least_naming { IfOk result (λ d. IsLeastNaming snapshot.now.sizes d.division.cuts pes d.naming) }
     ensures places { IfOk result (λ d. (i : ℕ) → i < length snapshot.now.sizes → HasPlace d.division.cuts d.naming i) }
+    ensures bounded { IfOk result (HasBoundedPrices snapshot.now.sizes) }
     ensures only_memory { IfErr result (λ error. error ≡ OutOfMemory) }
 {
     let division = divide(alloc, snapshot.loads(), pes)?;
@@ -68,6 +70,7 @@ pub fn plan_with<R: Threads + Sync, G: Gate + Sync, A: Allocator + Copy, B: Allo
     ensures cheapest { IfOk result (λ d. IsCheapest snapshot.now.sizes d.division.cuts pes d.naming) }
     ensures least_naming { IfOk result (λ d. IsLeastNaming snapshot.now.sizes d.division.cuts pes d.naming) }
     ensures places { IfOk result (λ d. (i : ℕ) → i < length snapshot.now.sizes → HasPlace d.division.cuts d.naming i) }
+    ensures bounded { IfOk result (HasBoundedPrices snapshot.now.sizes) }
     ensures only_memory { IfErr result (λ error. error ≡ OutOfMemory) }
 {
     let found = divide_with(rt, alloc, snapshot.loads(), pes, workers, gate)?;
@@ -92,6 +95,7 @@ fn complete<A: Allocator + Copy, B: Allocator>(
     ensures cheapest { IfOk result (λ d. IsCheapest snapshot.now.sizes d.division.cuts pes d.naming) }
     ensures least_naming { IfOk result (λ d. IsLeastNaming snapshot.now.sizes d.division.cuts pes d.naming) }
     ensures places { IfOk result (λ d. (i : ℕ) → i < length snapshot.now.sizes → HasPlace d.division.cuts d.naming i) }
+    ensures bounded { IfOk result (HasBoundedPrices snapshot.now.sizes) }
     ensures only_memory { IfErr result (λ error. error ≡ OutOfMemory) }
 {
     let sizes = snapshot.sizes();
@@ -118,6 +122,7 @@ fn named<A: Allocator + Copy, B: Allocator>(
     ensures named { IfOk result (λ found. IsNamed sizes.now cuts.now found.0 found.1.u found.1.v) }
     ensures least_naming { IfOk result (λ found. IsLeastNaming sizes.now cuts.now (blocks_between cuts.now) found.0) }
     ensures moved { IfOk result (λ found. found.2 ≡ bytes_moved sizes.now cuts.now found.0) }
+    ensures bounded { IfOk result (λ found. ArePricesBounded sizes.now cuts.now found.1.u found.1.v) }
     ensures only_memory { IfErr result (λ error. error ≡ OutOfMemory) }
 {
     let table = CostTable::of(alloc, sizes, cuts)?;

@@ -1,6 +1,7 @@
 use Rattle.std.proofs.Common.{◌≡◌, arith, length, rules, subst}
 use Rattle.lb_certificates.specs.Naming.{blocks_between, bytes_moved, IsLeastNaming, IsNamed}
 use Rattle.lb_strategy.proofs.RightDecisions.{cheapest_from_right, least_from_right, place_from_right}
+use Rattle.lb_strategy.specs.Decisions.{ArePricesBounded}
 use Rattle.lb_strategy.specs.Moves.{moves_below}
 use Rattle.lb_strategy.proofs.planning.complete.Goals as goal
 
@@ -33,3 +34,8 @@ returns-clause-cheapest g c =
 pub returns-clause-places : goal.returns-clause-places
 returns-clause-places g c =
     place_from_right c.args.snapshot.now.loads c.args.snapshot.now.sizes c.args.pes _ (returns-clause-right g c)
+
+pub returns-clause-bounded : goal.returns-clause-bounded
+returns-clause-bounded g c =
+    let bounded : ArePricesBounded c.args.snapshot.now.sizes c.args.division.cuts c.in_ok-naming.prices.u c.in_ok-naming.prices.v = rw (← c.sizes-sizes.ensures.value) c.in_ok-naming.ensures.bounded in
+    bounded
