@@ -38,13 +38,13 @@ impl Store {
         self.bytes.into_inner()
     }
 
-    // Takes some of the bytes of a call.
-    fn take(&self, buf: &[u8]) -> io::Result<usize> {
+    // Takes these bytes.
+    fn take(&self, buf: &[u8]) -> io::Result<()> {
         let Ok(mut bytes) = self.bytes.try_borrow_mut() else {
             return Err(Error::from(ErrorKind::Other));
         };
         bytes.extend_from_slice(buf)?;
-        Ok(buf.len())
+        Ok(())
     }
 }
 
@@ -66,7 +66,8 @@ impl Write for KeptFile<'_> {
                 .map_or(Ok(0), |kind| Err(Error::from(kind)));
         }
         let len = buf.len().min(self.faults.at_once);
-        self.store.take(&buf[..len])
+        self.store.take(&buf[..len])?;
+        Ok(len)
     }
 
     fn flush(&mut self) -> io::Result<()> {
