@@ -1,4 +1,9 @@
 //! The world of a run: PEs with their queues, a location word for each element, and the board, event by event.
+//!
+//! - [`World`], with [`Event`], [`Reports`] and [`Account`]: a run, step by step, and where its letters are.
+//! - [`Chare`], with [`Here`], [`Effect`], [`Sends`] and [`SendError`]: what a program writes.
+//! - [`PeState`], with [`Room`], [`HeldParcel`], [`PeEnd`] and [`StepError`]: one PE, which a worker runs.
+//! - [`Element`], [`Letter`], [`Entry`], [`Progress`], [`Note`], [`Mark`] and [`Report`]: what they hold and tell.
 #![tactic(auto)]
 
 mod account;
@@ -14,6 +19,10 @@ mod working;
 mod world;
 
 pub use account::{Account, addressed, letters_held};
+pub use chares::{
+    Chare, Effect, Element, Entry, Here, Letter, LetterId, Mark, Note, Openings, Progress, Report,
+    SendError, Sends,
+};
 pub use event::Event;
 pub use laws::{account_laws, local_account_laws};
 pub use opening::{opening_pes, opening_queues, opening_words};

@@ -86,6 +86,11 @@ impl<C: Chare<A>, H: Openings<C>, A: Allocator + Copy> World<C, H, A> {
     /// One event. It returns what is reported of it, in order. An event that is not enabled, or that names a PE or an
     /// element that is not there, changes nothing and reports nothing.
     ///
+    /// What holds of the trace of every list of events is proved above this crate: that nobody goes on before all have
+    /// reported and the round was decided, once, and that each then stands at its place (`barrier_law::barrier_law`); that
+    /// a letter is forwarded no more often than its element has departed since it was posted, and that a letter on a shelf
+    /// waits for an element that is on its way (`chase_law::chase_law`).
+    ///
     /// # Errors
     ///
     /// The world is as it was on any of them. [`Worn`](StepError::Worn) where the last round was to be decided;
