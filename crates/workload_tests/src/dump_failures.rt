@@ -269,10 +269,10 @@ fn a_load_that_is_too_great_for_the_format(rt: HostRuntime) {
 }
 
 // What comes of the dump of a round, where memory may be refused.
-fn comes_of(
+fn comes_of<A: Allocator + Copy>(
     global: Global,
-    alloc: &Refusing<Global>,
-    round: (Snapshot<&Refusing<Global>>, Decision<&Refusing<Global>>),
+    alloc: A,
+    round: (Snapshot<A>, Decision<A>),
     format: DumpFormat,
 ) -> Outcome {
     let store = Store::new(global);
