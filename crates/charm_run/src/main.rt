@@ -70,11 +70,7 @@ fn ran<R: Threads + Wait + Sync + Files + Clock + Print + Eprint + AllocGlobal>(
     if let Some(reason) = reason {
         let _ = eprintln!(rt; "charm_run: {}: {reason}", asked.file);
     }
-    let format = if asked.lbd1 {
-        DumpFormat::Lbd1
-    } else {
-        DumpFormat::Lbd2
-    };
+    let format = DumpFormat::asked(asked.lbd1);
     match asked.dump {
         Some(prefix) if !dumped(rt, &driven, format, prefix) => {
             let _ = write_out(&mut writer, NO_DUMP.as_bytes());

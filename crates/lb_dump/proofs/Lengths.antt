@@ -16,7 +16,7 @@ use Rattle.dump_plan.specs.declared.plan.Plan.TheVariants.{Begun, Nothing, Made}
 use Rattle.lb_dump.specs.Held.{IsAt, front_text, plan_part}
 use Rattle.lb_dump.specs.Made.{plan_size}
 
-letters_length : (format : Format) (a b c : ℕ) → length (letters_of format ++ (word a ++ (word b ++ word c))) ≡ 16
+pub letters_length : (format : Format) (a b c : ℕ) → length (letters_of format ++ (word a ++ (word b ++ word c))) ≡ 16
 letters_length Lbd1 a b c = refl
 letters_length Lbd2 a b c = refl
 

@@ -7,3 +7,4 @@ pub mod WholeDumps
 pub mod Lengths
 pub mod Answered
 pub mod ReadPieces
+pub mod GoodHeads

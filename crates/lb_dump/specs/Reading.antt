@@ -1,5 +1,5 @@
 -- What the calls that read a dump return.
-use Rattle.std.specs.Prelude.{◌≡◌, ℕ, ◌++◌, ◌⊎◌, List, length, Option, Some, None, Result, Ok, Err, ⊤}
+use Rattle.std.specs.Prelude.{◌≡◌, ℕ, ◌++◌, ◌⊎◌, List, length, take, Option, Some, None, Result, Ok, Err, ⊤}
 use Rattle.dump_format.specs.Dumps.{Dumped}
 use Rattle.dump_format.specs.Text.{IsText}
 use Rattle.dump_format.specs.Faults.{IsBroken, IsFault, IsGood, IsWhole}
@@ -40,3 +40,7 @@ Feeds (Err e) piece answer new = (answer ≡ Err e) × (new ≡ Err e)
 -- a piece for which the text need not grow: it is empty, or nothing may follow the text
 abbrev pub NeedsNone : List ℕ → List ℕ → Type 0
 NeedsNone text piece = (length piece ≡ 0) ⊎ IsWhole text
+
+-- nothing is wrong with the head of this text, its first 16 bytes, or with as many of them as there are
+abbrev pub HasGoodHead : List ℕ → Type 0
+HasGoodHead text = IsGood (take 16 text)

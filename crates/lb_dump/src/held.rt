@@ -8,6 +8,7 @@ ghost use Rattle.dump_parts.specs.Heads.{IsHead, head_text};
 ghost use Rattle.dump_parts.specs.declared.head.Format.TheVariants.{Lbd2};
 ghost use Rattle.dump_plan.specs.declared.plan.Plan.TheVariants.{Begun};
 ghost use Rattle.lb_dump.specs.Held.{HasMoves, IsHeld, text_of};
+ghost use Rattle.lb_dump.specs.Reading.{HasGoodHead};
 
 use crate::making::is_whole;
 use chare_index::{Index, Pe};
@@ -50,6 +51,7 @@ pub(crate) fn take_in<A: Allocator + Copy>(
     ensures taken { OnOk result ((text_of held.new ≡ text_of held.old ++ piece.now) × IsHeld held.new) }
     ensures broken { IfErr result (λ e. (e ≡ DumpError.OutOfMemory) ⊎ IsBroken (text_of held.old ++ piece.now) e) }
     ensures no_growth { (length piece.now ≡ 0) ⊎ IsWhole (text_of held.old) → result ≢ Err DumpError.OutOfMemory }
+    ensures head_first { result ≡ Err DumpError.OutOfMemory → HasGoodHead (text_of held.old ++ piece.now) }
 {
     let mut rest = piece;
     while !rest.is_empty() {
@@ -69,6 +71,7 @@ fn take_next<'a, A: Allocator + Copy>(
     ensures shorter { IfOk result (λ rest. length rest.now < length bytes.now) }
     ensures broken { IfErr result (λ e. (e ≡ DumpError.OutOfMemory) ⊎ IsBroken (text_of held.old ++ bytes.now) e) }
     ensures trailing { IsWhole (text_of held.old) → result ≡ Err DumpError.Trailing }
+    ensures head_first { result ≡ Err DumpError.OutOfMemory → HasGoodHead (text_of held.old ++ bytes.now) }
 {
     if is_whole(held) {
         return Err(DumpError::Trailing);
@@ -93,6 +96,7 @@ fn take_head<'a, A: Allocator>(held: &mut Held<A>, bytes: &'a [u8]) -> Result<&'
     ensures taken { IfOk result (λ rest. (text_of held.new ++ rest.now ≡ text_of held.old ++ bytes.now) × IsHeld held.new) }
     ensures shorter { IfOk result (λ rest. length rest.now < length bytes.now) }
     ensures broken { IfErr result (λ e. (e ≡ DumpError.OutOfMemory) ⊎ IsBroken (text_of held.old ++ bytes.now) e) }
+    ensures head_first { result ≡ Err DumpError.OutOfMemory → HasGoodHead (text_of held.old ++ bytes.now) }
 {
     let (start, rest) = bytes.split_at(bytes.len().min(HEAD_LEN - held.begun.len()));
     let Some(head) = head_with(&held.begun, start)? else {

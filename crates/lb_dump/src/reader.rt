@@ -1,5 +1,5 @@
-ghost use Rattle.std.specs.Prelude.{◌≡◌, ◌≢◌, [], Ok, Err, IfOk};
-ghost use Rattle.lb_dump.specs.Reading.{EndsReading, Feeds, NeedsNone};
+ghost use Rattle.std.specs.Prelude.{◌≡◌, ◌≢◌, [], ◌++◌, Ok, Err, IfOk};
+ghost use Rattle.lb_dump.specs.Reading.{EndsReading, Feeds, HasGoodHead, NeedsNone};
 
 use crate::held::{Held, take_in};
 use crate::making::dump_at_end;
@@ -64,6 +64,7 @@ impl<A: Allocator> DumpReader<A> {
         A: Copy,
         ensures fed { Feeds self.old piece.now result self.new }
         ensures no_growth { IfOk self.old (λ text. NeedsNone text piece.now → result ≢ Err DumpError.OutOfMemory) }
+        ensures head_first { IfOk self.old (λ text. result ≡ Err DumpError.OutOfMemory → HasGoodHead (text ++ piece.now)) }
     {
         if let Some(fault) = self.fault {
             return Err(fault);

@@ -34,11 +34,13 @@ pub struct NotWritten {
     pub reason: Option<io::Error>,
 }
 
-/// Writes the dump of each round to the file `PREFIX.r`, where `r` is the round, in order, as [`write_round`] does.
+/// Writes the dump of each round to the file `PREFIX.r`, where `r` is the round, in order, as [`write_round`] does, and
+/// flushes it.
 ///
 /// # Errors
 ///
-/// The first dump that was not written. Of that one a prefix may have been written. No later file is made.
+/// The first dump that was not written, or whose file was not flushed. Of that one a prefix may have been written. No later
+/// file is made.
 pub fn write_dumps<F: DumpFiles, A: Allocator + Copy, B: Allocator + Copy>(
     alloc: A,
     rounds: &[(Snapshot<B>, Decision<B>)],
@@ -81,10 +83,13 @@ fn write_file<F: DumpFiles, A: Allocator, B: Allocator + Copy>(
         Err(reason) => return Err((DumpError::Write, Some(reason))),
     };
     let mut noted = Noted::new(file);
-    match write_round(&mut noted, snapshot, decision, format) {
-        Ok(()) => Ok(()),
-        Err(fault) => Err((fault, noted.failure())),
+    if let Err(fault) = write_round(&mut noted, snapshot, decision, format) {
+        return Err((fault, noted.failure()));
     }
+    if noted.flush().is_err() {
+        return Err((DumpError::Write, noted.failure()));
+    }
+    Ok(())
 }
 
 // The name of the file of a round. The only error is that memory was refused.

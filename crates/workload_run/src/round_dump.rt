@@ -1,4 +1,5 @@
-ghost use Rattle.std.specs.Prelude.{◌≡◌, ◌⊎◌, ℕ, List, IfOk, IfErr, OnOk};
+ghost use Rattle.std.specs.Prelude.{◌≡◌, ◌⊎◌, ℕ, List, IfOk, IfErr, IsFalse, IsTrue, OnOk};
+ghost use Rattle.workload_run.specs.declared.round_dump.DumpFormat.TheVariants.{Lbd1, Lbd2};
 ghost use Rattle.std.specs.Io.KnownBytes.{Appends};
 ghost use Rattle.workload_run.specs.Dumping.{IsRoundText, MayFail, recorded};
 
@@ -16,6 +17,19 @@ pub enum DumpFormat {
     Lbd1,
     /// The snapshot, and the decision with its certificates.
     Lbd2,
+}
+
+impl DumpFormat {
+    /// The format of the dumps of a run: LBD1 where that is asked for, and LBD2 otherwise.
+    pub fn asked(lbd1: bool) -> Self
+        ensures lbd1 { IsTrue lbd1 → result ≡ Lbd1 }
+        ensures lbd2 { IsFalse lbd1 → result ≡ Lbd2 }
+    {
+        if lbd1 {
+            return DumpFormat::Lbd1;
+        }
+        DumpFormat::Lbd2
+    }
 }
 
 /// Writes the dump of a round: its snapshot and, in the format LBD2, the decision with its certificates, on as many PEs as the

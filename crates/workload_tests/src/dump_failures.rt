@@ -1,7 +1,7 @@
 //! Dumps that are not written: files that are refused or that fail, a load that is too great for the format, and refused
 //! memory.
 
-use crate::dumps::{FORMATS, Round, text_of};
+use crate::dumps::{FORMATS, Round, texts_of};
 use crate::fixtures::{WORKED, assert_for, driven};
 use crate::kept::{Faults, KeptFiles, NO_FAULTS, Store};
 use lb_certificates::{Loads, Sizes, Snapshot};
@@ -14,14 +14,14 @@ use std::process::Abort;
 use test_fixtures::pe;
 use workload_run::{DumpFormat, NotWritten, write_dumps};
 
-// What came of the dumps of some rounds: the first that was not written, how many files were asked for, and what all files
-// hold, by so many calls.
+// What came of the dumps of some rounds: the first that was not written, how many files were asked for, how many calls
+// there were, and what the files hold that were made.
 #[derive(Drop)]
 struct Ending {
     not_written: Option<NotWritten>,
-    files: usize,
+    asked: usize,
     calls: usize,
-    bytes: Vec<u8>,
+    files: Vec<Vec<u8>>,
 }
 
 // Writes the dumps of some rounds, where this goes wrong.
@@ -38,9 +38,9 @@ fn dumped(
     drop(files);
     Ending {
         not_written: written.err(),
-        files: asked,
+        asked,
         calls: store.calls(),
-        bytes: store.into_bytes(),
+        files: store.into_files(),
     }
 }
 
@@ -53,6 +53,15 @@ fn is_told(ending: &Ending, round: u32, fault: DumpError, reason: Option<ErrorKi
     dump.round == round && dump.fault == fault && kind == reason
 }
 
+// Whether two lists of files hold the same.
+fn hold_the_same(files: &[Vec<u8>], others: &[Vec<u8>]) -> bool {
+    let mut same = files.len() == others.len();
+    for (file, other) in files.iter().zip(others) {
+        same &= file == other;
+    }
+    same
+}
+
 // Whether a refused file, of the two of the worked workload, is the last one, and the one before it has its dump.
 fn is_refused(
     rt: &(impl Abort + AllocGlobal),
@@ -62,15 +71,15 @@ fn is_refused(
 ) -> bool {
     let faults = Faults { file, ..NO_FAULTS };
     let ending = dumped(rt, rounds, format, faults);
-    let earlier = text_of(rt, rounds.get(..file).unwrap_or(&[]), format);
+    let earlier = texts_of(rt, rounds.get(..file).unwrap_or(&[]), format);
     let round = if file == 0 { 1 } else { 2 };
     is_told(
         &ending,
         round,
         DumpError::Write,
         Some(ErrorKind::PermissionDenied),
-    ) && ending.files == file.saturating_add(1)
-        && ending.bytes == earlier
+    ) && ending.asked == file.saturating_add(1)
+        && hold_the_same(&ending.files, &earlier)
 }
 
 #[test]
@@ -85,11 +94,11 @@ fn a_file_that_is_refused_is_the_last(rt: HostRuntime) {
     drop(driven);
 }
 
-// How the dumps of the rounds of the worked workload are written by calls of at most seven bytes: the text of both, and
-// how many calls there are for the first and for both.
+// How the dumps of the rounds of the worked workload are written by calls of at most seven bytes: the files, and how many
+// calls there are for the first and for both.
 #[derive(Drop)]
 struct Calls {
-    text: Vec<u8>,
+    files: Vec<Vec<u8>>,
     first: usize,
     both: usize,
 }
@@ -106,15 +115,27 @@ fn whole(rt: &(impl Abort + AllocGlobal), rounds: &[Round], format: DumpFormat) 
     let Ending {
         not_written,
         calls: both,
-        bytes: text,
+        files,
         ..
     } = dumped(rt, rounds, format, SEVEN);
     assert_for(rt, not_written.is_none(), format);
     Calls {
-        text,
+        files,
         first: calls,
         both,
     }
+}
+
+// Whether these are the first of some whole files, and the last of them is cut short.
+fn are_cut(files: &[Vec<u8>], whole: &[Vec<u8>]) -> bool {
+    let Some((last, earlier)) = files.split_last() else {
+        return false;
+    };
+    let number = earlier.len();
+    let (Some(text), Some(same)) = (whole.get(number), whole.get(..number)) else {
+        return false;
+    };
+    hold_the_same(earlier, same) && text.starts_with(last) && last.len() < text.len()
 }
 
 // Whether a call that fails with an error of this kind, or takes nothing, is the last of all, in the file that it is one of,
@@ -135,10 +156,10 @@ fn is_cut(
     let ending = dumped(rt, rounds, format, faults);
     let round = if call < whole.first { 1 } else { 2 };
     is_told(&ending, round, DumpError::Write, error)
-        && ending.files == round as usize
+        && ending.asked == round as usize
+        && ending.files.len() == round as usize
         && ending.calls == call.saturating_add(1)
-        && whole.text.starts_with(&ending.bytes)
-        && ending.bytes.len() < whole.text.len()
+        && are_cut(&ending.files, &whole.files)
 }
 
 // Fails each call in turn.
@@ -165,6 +186,28 @@ fn a_call_that_fails_is_the_last(rt: HostRuntime) {
     drop(text);
     for format in &FORMATS {
         fail_each(&rt, driven.rounds(), *format);
+    }
+    drop(driven);
+}
+
+// Whether a flush that fails is told of the first dump, of which all was written.
+fn is_unflushed(rt: &(impl Abort + AllocGlobal), rounds: &[Round], format: DumpFormat) -> bool {
+    let faults = Faults {
+        flush: Some(ErrorKind::Other),
+        ..NO_FAULTS
+    };
+    let ending = dumped(rt, rounds, format, faults);
+    let first = texts_of(rt, rounds.get(..1).unwrap_or(&[]), format);
+    is_told(&ending, 1, DumpError::Write, Some(ErrorKind::Other))
+        && hold_the_same(&ending.files, &first)
+}
+
+#[test]
+fn a_flush_that_fails_is_told(rt: HostRuntime) {
+    let (driven, text) = driven(&rt, WORKED);
+    drop(text);
+    for format in &FORMATS {
+        assert_for(&rt, is_unflushed(&rt, driven.rounds(), *format), *format);
     }
     drop(driven);
 }
@@ -210,22 +253,26 @@ fn wide_rounds(rt: &(impl Abort + AllocGlobal)) -> Vec<Round> {
 fn a_load_that_is_too_great_for_the_format(rt: HostRuntime) {
     let rounds = wide_rounds(&rt);
     let narrow = dumped(&rt, &rounds, DumpFormat::Lbd1, NO_FAULTS);
+    let first = narrow.files.first().map_or(0, |file| file.len());
+    let second = narrow.files.last().map_or(false, |file| file.is_empty());
     let refused = is_told(&narrow, 2, DumpError::Wide(1), None)
-        && narrow.files == 2
-        && narrow.bytes.len() == 40;
+        && narrow.asked == 2
+        && narrow.files.len() == 2
+        && first == 40
+        && second;
     drop(narrow);
     let wide = dumped(&rt, &rounds, DumpFormat::Lbd2, NO_FAULTS);
-    let written = wide.not_written.is_none() && wide.files == 3;
+    let written = wide.not_written.is_none() && wide.files.len() == 3;
     drop(wide);
     drop(rounds);
     assert!(rt; refused && written);
 }
 
 // What comes of the dump of a round, where memory may be refused.
-fn comes_of(
+fn comes_of<A: Allocator + Copy>(
     global: Global,
-    alloc: &Refusing<Global>,
-    round: (Snapshot<&Refusing<Global>>, Decision<&Refusing<Global>>),
+    alloc: A,
+    round: (Snapshot<A>, Decision<A>),
     format: DumpFormat,
 ) -> Outcome {
     let store = Store::new(global);
@@ -235,14 +282,14 @@ fn comes_of(
     drop(rounds);
     drop(files);
     match written {
-        Ok(()) if store.len() > 0 => Outcome::Right,
+        Ok(()) if !store.is_empty() => Outcome::Right,
         Err(
             NotWritten {
                 round: 1,
                 fault: DumpError::OutOfMemory,
                 reason: None,
             },
-        ) if store.len() == 0 => Outcome::Refused,
+        ) if store.is_empty() => Outcome::Refused,
         _ => Outcome::Wrong,
     }
 }

@@ -19,18 +19,31 @@ pub(crate) type Round = (Snapshot<Global>, Decision<Global>);
 /// The formats.
 pub(crate) const FORMATS: [DumpFormat; 2] = [DumpFormat::Lbd1, DumpFormat::Lbd2];
 
-/// The text of the dumps of some rounds, one behind the other.
-pub(crate) fn text_of(
+/// The text of the dump of each of some rounds.
+pub(crate) fn texts_of(
     rt: &(impl Abort + AllocGlobal),
     rounds: &[Round],
     format: DumpFormat,
-) -> Vec<u8> {
+) -> Vec<Vec<u8>> {
     let store = Store::new(rt.alloc());
     let mut files = KeptFiles::new(rt.alloc(), &store, NO_FAULTS);
     let written = write_dumps(rt.alloc(), rounds, format, "run", &mut files).is_ok();
     drop(files);
     assert_for(rt, written, format);
-    store.into_bytes()
+    store.into_files()
+}
+
+/// The text of the dump of a round.
+pub(crate) fn text_of(
+    rt: &(impl Abort + AllocGlobal),
+    round: &Round,
+    format: DumpFormat,
+) -> Vec<u8> {
+    let mut texts = texts_of(rt, slice::from_ref(round), format);
+    let text = texts.pop().expect(rt, "there is a file");
+    assert_for(rt, texts.is_empty(), format);
+    drop(texts);
+    text
 }
 
 // Whether the rounds of the worked workload go to files of these names.
@@ -79,7 +92,7 @@ fn worked_text<R: Threads + Wait + Sync + Abort + AllocGlobal>(
     let (driven, text) = driven(rt, WORKED);
     drop(text);
     let round = driven.rounds().get(round).expect(rt, "there is a round");
-    let dump = text_of(rt, slice::from_ref(round), format);
+    let dump = text_of(rt, round, format);
     drop(driven);
     dump
 }
@@ -95,23 +108,36 @@ fn the_first_dump_has_its_bytes(rt: HostRuntime) {
     assert!(rt; same && begins);
 }
 
-// Whether a writer gets what the file of a round gets.
-fn is_written(rt: &(impl Abort + AllocGlobal), round: &Round, format: DumpFormat) -> bool {
-    let file = text_of(rt, slice::from_ref(round), format);
+// Whether a writer gets this text of a round.
+fn is_written(
+    rt: &(impl Abort + AllocGlobal),
+    round: &Round,
+    format: DumpFormat,
+    file: &[u8],
+) -> bool {
     let (snapshot, decision) = round;
     let mut text = Vec::new(rt.alloc());
     let written = write_round(&mut text, snapshot, decision, format);
-    written == Ok(()) && text == file
+    written == Ok(()) && text.as_slice() == file
+}
+
+// Whether the file of each round has what a writer gets of that round.
+fn are_written(rt: &(impl Abort + AllocGlobal), rounds: &[Round], format: DumpFormat) -> bool {
+    let files = texts_of(rt, rounds, format);
+    let mut right = files.len() == rounds.len();
+    for (round, file) in rounds.iter().zip(&files) {
+        right &= is_written(rt, round, format, file);
+    }
+    drop(files);
+    right
 }
 
 #[test]
-fn a_writer_gets_what_a_file_gets(rt: HostRuntime) {
+fn each_file_has_the_dump_of_its_round(rt: HostRuntime) {
     let (driven, text) = driven(&rt, WORKED);
     drop(text);
-    for round in driven.rounds() {
-        let narrow = is_written(&rt, round, DumpFormat::Lbd1);
-        let wide = is_written(&rt, round, DumpFormat::Lbd2);
-        assert_for(&rt, narrow && wide, round.0.step());
+    for format in &FORMATS {
+        assert_for(&rt, are_written(&rt, driven.rounds(), *format), *format);
     }
     drop(driven);
 }

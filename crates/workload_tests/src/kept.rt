@@ -7,18 +7,20 @@ use std::cell::{Cell, RefCell};
 use std::io::{self, Error, ErrorKind, Write};
 use workload_run::DumpFiles;
 
-/// What was written to all files, one after another, and by how many calls.
+/// What was written to each file, in the order in which they were made, and by how many calls.
 #[derive(Drop)]
 pub(crate) struct Store {
-    bytes: RefCell<Vec<u8>>,
+    files: RefCell<Vec<Vec<u8>>>,
+    alloc: Global,
     calls: Cell<usize>,
 }
 
 impl Store {
-    /// Nothing yet.
+    /// No file yet.
     pub(crate) fn new(alloc: Global) -> Store {
         Store {
-            bytes: RefCell::new(Vec::new(alloc)),
+            files: RefCell::new(Vec::new(alloc)),
+            alloc,
             calls: Cell::new(0),
         }
     }
@@ -28,30 +30,47 @@ impl Store {
         self.calls.get()
     }
 
-    /// How many bytes there are.
-    pub(crate) fn len(&self) -> usize {
-        self.bytes.try_borrow().map_or(0, |bytes| bytes.len())
+    /// Whether nothing was written.
+    pub(crate) fn is_empty(&self) -> bool {
+        let Ok(files) = self.files.try_borrow() else {
+            return false;
+        };
+        files.iter().all(|file| file.is_empty())
     }
 
-    /// The bytes.
-    pub(crate) fn into_bytes(self) -> Vec<u8> {
-        self.bytes.into_inner()
+    /// The bytes of each file.
+    pub(crate) fn into_files(self) -> Vec<Vec<u8>> {
+        self.files.into_inner()
     }
 
-    // Takes these bytes.
-    fn take(&self, buf: &[u8]) -> io::Result<()> {
-        let Ok(mut bytes) = self.bytes.try_borrow_mut() else {
+    // Makes a file, and returns its number.
+    fn open(&self) -> io::Result<usize> {
+        let Ok(mut files) = self.files.try_borrow_mut() else {
             return Err(Error::from(ErrorKind::Other));
         };
-        bytes.extend_from_slice(buf)?;
+        let number = files.len();
+        files.push(Vec::new(self.alloc))?;
+        Ok(number)
+    }
+
+    // Takes these bytes, of the file with this number.
+    fn take(&self, number: usize, buf: &[u8]) -> io::Result<()> {
+        let Ok(mut files) = self.files.try_borrow_mut() else {
+            return Err(Error::from(ErrorKind::Other));
+        };
+        let Some(file) = files.get_mut(number) else {
+            return Err(Error::from(ErrorKind::NotFound));
+        };
+        file.extend_from_slice(buf)?;
         Ok(())
     }
 }
 
-/// A file that appends what it gets to a store.
+/// A file of a store, which keeps what it gets.
 #[derive(Drop)]
 pub(crate) struct KeptFile<'a> {
     store: &'a Store,
+    number: usize,
     faults: Faults,
 }
 
@@ -66,12 +85,14 @@ impl Write for KeptFile<'_> {
                 .map_or(Ok(0), |kind| Err(Error::from(kind)));
         }
         let len = buf.len().min(self.faults.at_once);
-        self.store.take(&buf[..len])?;
+        self.store.take(self.number, &buf[..len])?;
         Ok(len)
     }
 
     fn flush(&mut self) -> io::Result<()> {
-        Ok(())
+        self.faults
+            .flush
+            .map_or(Ok(()), |kind| Err(Error::from(kind)))
     }
 }
 
@@ -86,6 +107,8 @@ pub(crate) struct Faults {
     pub(crate) error: Option<ErrorKind>,
     /// The most bytes that a call takes.
     pub(crate) at_once: usize,
+    /// The kind of the error of each flush, if they fail.
+    pub(crate) flush: Option<ErrorKind>,
 }
 
 /// Nothing goes wrong.
@@ -94,6 +117,7 @@ pub(crate) const NO_FAULTS: Faults = Faults {
     call: usize::MAX,
     error: None,
     at_once: usize::MAX,
+    flush: None,
 };
 
 /// Makes such files, and keeps their names.
@@ -133,6 +157,7 @@ impl<'a> DumpFiles for KeptFiles<'a> {
         }
         Ok(KeptFile {
             store: self.store,
+            number: self.store.open()?,
             faults: self.faults,
         })
     }

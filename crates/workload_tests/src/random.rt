@@ -6,7 +6,6 @@ use lb_dump::decode;
 use lb_strategy::check;
 use std::alloc::{AllocError, Global};
 use std::process::Abort;
-use std::slice;
 use std::sync::Wait;
 use std::thread::Threads;
 use workload_run::{DumpFormat, Ended};
@@ -120,7 +119,7 @@ fn ending(alloc: Global, drawn: &Drawn, size: &Size) -> Result<String, AllocErro
 
 // Whether the dump of a round, in the format LBD2, is read back as that round, with a right decision on so many PEs.
 fn is_recorded(rt: &(impl Abort + AllocGlobal), round: &Round, pes: u32) -> bool {
-    let text = text_of(rt, slice::from_ref(round), DumpFormat::Lbd2);
+    let text = text_of(rt, round, DumpFormat::Lbd2);
     let dump = decode(rt.alloc(), &text).expect(rt, "it is a dump");
     drop(text);
     let (snapshot, decision) = round;
@@ -134,7 +133,7 @@ fn is_recorded(rt: &(impl Abort + AllocGlobal), round: &Round, pes: u32) -> bool
 
 // Whether the decision of a round is right for its dump in the format LBD1, as that is read back.
 fn is_right_alone(rt: &(impl Abort + AllocGlobal), round: &Round, pes: u32) -> bool {
-    let text = text_of(rt, slice::from_ref(round), DumpFormat::Lbd1);
+    let text = text_of(rt, round, DumpFormat::Lbd1);
     let dump = decode(rt.alloc(), &text).expect(rt, "it is a dump");
     drop(text);
     let (_, decision) = round;
