@@ -20,8 +20,8 @@ mod world;
 
 pub use account::{Account, addressed, letters_held};
 pub use chares::{
-    Chare, Effect, Element, Entry, Here, Letter, LetterId, Mark, Note, Openings, Progress, Report,
-    SendError, Sends,
+    Chare, Effect, Element, Entry, Here, Letter, LetterId, Mark, Note, Progress, Report, SendError,
+    Sends,
 };
 pub use event::Event;
 pub use laws::{account_laws, local_account_laws};
