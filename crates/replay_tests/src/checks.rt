@@ -1,12 +1,13 @@
 //! Whole checks of the decision of a dump: right, forged, or none; and dumps with a fault, which a replay tells too.
 
 use crate::fixtures::{DECIDED, RIGHT, TEXT, assert_for, checks, replays};
-use lb_certificates::Flaw;
-use lb_dump::DumpError;
+use lb_certificates::{Flaw, Loads, Sizes, Snapshot};
+use lb_dump::{Dump, DumpError, Recorded, encode_dump};
 use lb_replay::Ended;
-use std::alloc::{AllocError, Allocator};
+use lb_strategy::plan;
+use std::alloc::{AllocError, Allocator, Global};
 use std::process::Abort;
-use test_fixtures::EXAMPLE_DUMP;
+use test_fixtures::{EXAMPLE_DUMP, pe};
 
 #[test]
 fn a_right_decision(rt: HostRuntime) {
@@ -22,6 +23,38 @@ fn a_dump_of_a_snapshot_alone(rt: HostRuntime) {
         checks(&rt, &EXAMPLE_DUMP, none, Ended::NoDecision),
         none,
     );
+}
+
+// Two elements whose loads need more than 32 bits, on two PEs.
+fn heavy(rt: &(impl Abort + AllocGlobal)) -> Snapshot<Global> {
+    let loads = [1_099_511_627_776, 4_294_967_296];
+    let loads = Vec::from_slice(rt.alloc(), &loads).expect(rt, "out of memory");
+    let sizes = Vec::from_slice(rt.alloc(), &[(8, pe(1)), (8, pe(1))]).expect(rt, "out of memory");
+    let loads = Loads::new(loads).expect(rt, "loads in range");
+    let sizes = Sizes::new(sizes).expect(rt, "sizes in range");
+    Snapshot::new(7, 2, loads, sizes).expect(rt, "places below 2")
+}
+
+// The dump of that with the decision on three PEs.
+fn recorded(rt: &(impl Abort + AllocGlobal)) -> Vec<u8> {
+    let snapshot = heavy(rt);
+    let decision = plan(rt.alloc(), &snapshot, 3).expect(rt, "out of memory");
+    let recorded = Recorded {
+        target: 3,
+        decision,
+    };
+    let dump = Dump::new(snapshot, Some(recorded)).expect(rt, "a dump can hold it");
+    let text = encode_dump(rt.alloc(), &dump).expect(rt, "out of memory");
+    drop(dump);
+    text
+}
+
+#[test]
+fn a_decision_on_more_pes_than_the_run_has(rt: HostRuntime) {
+    let dump = recorded(&rt);
+    let right = checks(&rt, &dump, RIGHT, Ended::Printed);
+    drop(dump);
+    assert_for(&rt, right, RIGHT);
 }
 
 // What stands in the dump in place of its bytes between two places, the line that a check writes then, and its end.

@@ -93,6 +93,9 @@ fn the_fault_is_that_of_the_dump_or_the_plan(rt: HostRuntime) {
 // three for its bytes as they come. Neither the check nor its line takes memory.
 const TO_CHECK: u64 = 12;
 
+// The requests to find that there is no decision: the two lists of the snapshot, the piece, and the line.
+const TO_FIND_NONE: u64 = 4;
+
 // The requests to check a decision with a flaw: the same, and each growth of the line of the flaw.
 const TO_CHECK_FORGED: u64 = TO_CHECK + 2;
 
@@ -146,5 +149,8 @@ fn memory_refused_to_a_check_at_each_request(rt: HostRuntime) -> Result<(), Fail
     let flaw = (Ended::Flawed(Flaw::CutEnd), "check: CutEnd\n");
     let to_check_forged = requests_of_a_check(&rt, &forged(), flaw)?;
     assert_for(&rt, to_check_forged == TO_CHECK_FORGED, to_check_forged);
+    let none = (Ended::NoDecision, "check: no decision\n");
+    let to_find_none = requests_of_a_check(&rt, &EXAMPLE_DUMP, none)?;
+    assert_for(&rt, to_find_none == TO_FIND_NONE, to_find_none);
     Ok(())
 }
