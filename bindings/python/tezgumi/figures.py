@@ -12,13 +12,14 @@ class Figures:
     """What a plan does to a run. They are counted from its places, and not taken from what it states.
 
     An average is all load over the number of PEs. The imbalance is the greatest load of a PE over the average, and 1 where
-    there is no load.
+    there is no load. No greatest load can be below the average, nor below the load of the heaviest element.
     """
 
     elements: int
     procs: int
     pes: int
     total_load: int
+    heaviest_element: int
     greatest_before: int
     greatest_after: int
     moved_elements: int
@@ -35,18 +36,18 @@ class Figures:
 
     @property
     def imbalance_before(self):
-        return self.greatest_before / self.average_before if self.total_load else 1.0
+        return _ratio(self.greatest_before * self.procs, self.total_load)
 
     @property
     def imbalance_after(self):
-        return self.greatest_after / self.average_after if self.total_load else 1.0
+        return _ratio(self.greatest_after * self.pes, self.total_load)
 
     def __str__(self):
         rows = (
             ("", "before", "after"),
             ("PEs", f"{self.procs:,}", f"{self.pes:,}"),
             ("greatest load", f"{self.greatest_before:,}", f"{self.greatest_after:,}"),
-            ("average load", f"{self.average_before:,.2f}", f"{self.average_after:,.2f}"),
+            ("average load", _hundredths(self.total_load, self.procs), _hundredths(self.total_load, self.pes)),
             ("imbalance", f"{self.imbalance_before:.4f}", f"{self.imbalance_after:.4f}"),
             ("moved elements", f"{self.moved_elements:,}", f"of {self.elements:,}"),
             ("moved bytes", f"{self.moved_bytes:,}", f"of {self.total_bytes:,}"),
@@ -63,7 +64,7 @@ def figures(run, plan):
     moves = run.places != plan.places
     return Figures(
         elements=len(run), procs=run.procs, pes=plan.pes, total_load=int(run.loads.sum(dtype=np.uint64)),
-        greatest_before=int(before.max()), greatest_after=int(after.max()), moved_elements=int(np.count_nonzero(moves)),
+        heaviest_element=int(run.loads.max(initial=0)), greatest_before=int(before.max()), greatest_after=int(after.max()), moved_elements=int(np.count_nonzero(moves)),
         moved_bytes=int(run.bytes.sum(dtype=np.uint64, where=moves)), total_bytes=int(run.bytes.sum(dtype=np.uint64)))
 
 
@@ -90,9 +91,20 @@ def table(swept):
     rows = [("PEs", "greatest load", "average load", "imbalance", "moved elements", "moved bytes")]
     for row in swept:
         rows.append((
-            f"{row.pes:,}", f"{row.greatest_after:,}", f"{row.average_after:,.2f}", f"{row.imbalance_after:.4f}",
+            f"{row.pes:,}", f"{row.greatest_after:,}", _hundredths(row.total_load, row.pes), f"{row.imbalance_after:.4f}",
             f"{row.moved_elements:,}", f"{row.moved_bytes:,}"))
     return _aligned(rows)
+
+
+def _ratio(one, other):
+    # Of whole numbers, so that it is rounded once, and no imbalance comes out below 1.
+    return one / other if other else 1.0
+
+
+def _hundredths(number, parts):
+    # In whole numbers: a total of 63 bits is no double.
+    hundredths = (200 * number + parts) // (2 * parts)
+    return f"{hundredths // 100:,}.{hundredths % 100:02}"
 
 
 def _aligned(rows):
