@@ -9,7 +9,6 @@
  * the ratio to this library.
  */
 #include <stdio.h>
-#include <zoltan.h>
 #include "by_zoltan.h"
 
 enum { METHODS = 3, PARTS = 5 };
@@ -145,13 +144,11 @@ static void close_method(method *m)
 int main(int argc, char **argv)
 {
     static method all[METHODS];
-    float version;
     int turn, k;
     MPI_Init(&argc, &argv);
     MPI_Comm_rank(MPI_COMM_WORLD, &rank);
     MPI_Comm_size(MPI_COMM_WORLD, &ranks);
     understand(argc, argv);
-    Zoltan_Initialize(argc, argv, &version);
     mine = (tezgumi_mpi_element *)room_for((size_t)n, sizeof *mine);
     for (k = 0; k < METHODS; k++) open_method(&all[k], names[k]);
     for (turn = 0; turn < turns; turn++)

@@ -77,8 +77,10 @@ void by_zoltan_open(by_zoltan *z, cells *app, const char *method)
     static const char *const parameters[][2] = {
         {"DEBUG_LEVEL", "0"}, {"NUM_GID_ENTRIES", "1"}, {"NUM_LID_ENTRIES", "0"}, {"OBJ_WEIGHT_DIM", "1"},
         {"IMBALANCE_TOL", "1.0"}, {"RETURN_LISTS", "ALL"}, {"REMAP", "1"}};
+    float version;
     size_t k;
     memset(z, 0, sizeof *z);
+    expect_ok(Zoltan_Initialize(0, NULL, &version), "Zoltan");
     z->app = app;
     z->zoltan = Zoltan_Create(MPI_COMM_WORLD);
     for (k = 0; k < sizeof parameters / sizeof *parameters; k++)

@@ -12,7 +12,7 @@ typedef struct {
     uint64_t elements_moved;                   /* in the last rebalance, of all ranks */
 } by_zoltan;
 
-/* By a method of Zoltan's: RCB or HSFC. Zoltan_Initialize has to have been called. Ends the program where Zoltan fails. */
+/* By a method of Zoltan's: RCB or HSFC. Ends the program where Zoltan fails, as all of these do. */
 void by_zoltan_open(by_zoltan *z, cells *app, const char *method);
 void by_zoltan_close(by_zoltan *z);
 

@@ -11,7 +11,6 @@
 #include <stdio.h>
 #include "cells.h"
 #ifdef WITH_ZOLTAN
-#include <zoltan.h>
 #include "by_zoltan.h"
 #endif
 
@@ -223,7 +222,7 @@ static void open_all(application *a)
     a->mine = (tezgumi_mpi_element *)room_for(n, sizeof *a->mine);
     for (i = 0; i < n; i++) a->owners[i] = (uint32_t)((uint64_t)i * (uint64_t)a->ranks / n);
 #ifdef WITH_ZOLTAN
-    by_zoltan_open(&a->zoltan, &a->chain_of_cells, a->set.method);
+    if (a->set.how == ZOLTAN) by_zoltan_open(&a->zoltan, &a->chain_of_cells, a->set.method);
 #endif
 }
 
@@ -236,7 +235,7 @@ static void close_all(application *a)
     free(a->requests);
     free(a->mine);
 #ifdef WITH_ZOLTAN
-    by_zoltan_close(&a->zoltan);
+    if (a->set.how == ZOLTAN) by_zoltan_close(&a->zoltan);
 #endif
 }
 
@@ -247,12 +246,6 @@ int main(int argc, char **argv)
     MPI_Comm_rank(MPI_COMM_WORLD, &a.rank);
     MPI_Comm_size(MPI_COMM_WORLD, &a.ranks);
     a.set = settings_of(argc, argv, a.rank);
-#ifdef WITH_ZOLTAN
-    {
-        float version;
-        Zoltan_Initialize(argc, argv, &version);
-    }
-#endif
     open_all(&a);
     run(&a);
     print(&a);

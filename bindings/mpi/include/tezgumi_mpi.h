@@ -83,7 +83,8 @@ typedef struct {
     int skip_check;
 } tezgumi_mpi_options;
 
-/* What happened. Loads and numbers of elements and bytes are those of all ranks together, and the same on all. */
+/* What happened. All but the seconds is of all ranks together, and the same on all. After a refusal only failed_rank,
+ * failed_at and seconds are of use; after TEZGUMI_MPI_CALLBACK all is. */
 typedef struct {
     uint64_t max_load_before; /* load of the heaviest rank, as gathered */
     uint64_t max_load_after;  /* the same, by the decision */

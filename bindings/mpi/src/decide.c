@@ -28,17 +28,45 @@ static uint64_t max_load(const tezgumi_mpi_chain *chain, uint64_t *total)
     return most;
 }
 
-/* Counts what the new places move. */
-static void count_moves(const tezgumi_mpi_chain *chain, const uint32_t *new_places, tezgumi_mpi_report *report)
+/* What this rank has decided, before it knows that the others have decided the same. */
+typedef struct {
+    const uint32_t *places; /* the new places */
+    uint64_t max_load_before, max_load_after, total;
+    uint64_t bytes_moved;
+    uint32_t elements_moved;
+} verdict;
+
+static void count_moves(const tezgumi_mpi_chain *chain, verdict *v)
 {
     uint32_t i;
-    report->elements_moved = 0;
-    report->bytes_moved = 0;
     for (i = 0; i < chain->n; i++) {
-        if (chain->places[i] == new_places[i]) continue;
-        report->elements_moved++;
-        report->bytes_moved += chain->bytes[i];
+        if (chain->places[i] == v->places[i]) continue;
+        v->elements_moved++;
+        v->bytes_moved += chain->bytes[i];
     }
+}
+
+/* The plan's places, or the present ones where these are good enough. */
+static void choose(const tezgumi_mpi_chain *chain, const tezgumi_decision *d, double tolerance, verdict *v)
+{
+    const uint64_t before = max_load(chain, &v->total), least = d->bottleneck;
+    const int enough = before <= least || (double)(before - least) <= tolerance * (double)least;
+    const int stays = enough && in_ranges(chain);
+    v->places = stays ? chain->places : d->new_places;
+    v->max_load_before = before;
+    v->max_load_after = stays ? before : least;
+    count_moves(chain, v);
+}
+
+/* All ranks have decided the same: writes it down. */
+static void accept(const verdict *v, tezgumi_mpi_chain *chain, tezgumi_mpi_report *report)
+{
+    memcpy(chain->new_places, v->places, chain->n * sizeof *v->places);
+    report->max_load_before = v->max_load_before;
+    report->max_load_after = v->max_load_after;
+    report->average_load = (double)v->total / (double)chain->ranks;
+    report->bytes_moved = v->bytes_moved;
+    report->elements_moved = v->elements_moved;
 }
 
 /* Plans and checks; the outcome's second part is the flaw that was found. */
@@ -61,20 +89,6 @@ static tezgumi_mpi_outcome plan(const tezgumi_mpi_chain *chain, int skip_check, 
     return tezgumi_mpi_outcome_of(status, 0);
 }
 
-/* The new places: the plan's, or the present ones where these are good enough. */
-static const uint32_t *chosen(const tezgumi_mpi_chain *chain, const tezgumi_decision *d, double tolerance,
-    tezgumi_mpi_report *report)
-{
-    uint64_t total, least = d->bottleneck;
-    const uint64_t before = max_load(chain, &total);
-    const int enough = before <= least || (double)(before - least) <= tolerance * (double)least;
-    const int stays = enough && in_ranges(chain);
-    report->max_load_before = before;
-    report->max_load_after = stays ? before : least;
-    report->average_load = (double)total / (double)chain->ranks;
-    return stays ? chain->places : d->new_places;
-}
-
 /* Whether all that decide is given is in order. */
 static int usable(MPI_Comm comm, const tezgumi_mpi_chain *chain, const tezgumi_mpi_options *options)
 {
@@ -88,23 +102,23 @@ int tezgumi_mpi_decide(MPI_Comm comm, tezgumi_mpi_chain *chain, const tezgumi_mp
     tezgumi_mpi_outcome outcome = {TEZGUMI_BAD_INPUT, 0};
     tezgumi_mpi_report unread;
     tezgumi_decision d;
-    const uint32_t *places = NULL;
+    verdict v;
     uint64_t print = 0;
     double begin;
     int status;
     memset(&d, 0, sizeof d);
+    memset(&v, 0, sizeof v);
     if (!options) options = &defaults;
     if (!report) report = &unread;
     if (usable(comm, chain, options)) outcome = plan(chain, options->skip_check, &d, report);
     if (outcome.status == TEZGUMI_OK) {
-        places = chosen(chain, &d, options->tolerance, report);
-        count_moves(chain, places, report);
-        print = tezgumi_mpi_fingerprint(TEZGUMI_MPI_FINGERPRINT, places, chain->n);
+        choose(chain, &d, options->tolerance, &v);
+        print = tezgumi_mpi_fingerprint(TEZGUMI_MPI_FINGERPRINT, v.places, chain->n);
     }
     begin = MPI_Wtime();
     status = tezgumi_mpi_agree(comm, outcome, print, report);
     report->agree_seconds = MPI_Wtime() - begin;
-    if (status == TEZGUMI_OK) memcpy(chain->new_places, places, chain->n * sizeof *places);
+    if (status == TEZGUMI_OK) accept(&v, chain, report);
     tezgumi_decision_free(&d);
     return status;
 }
