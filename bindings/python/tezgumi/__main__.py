@@ -25,7 +25,8 @@ def _parser():
     parser.add_argument("file", metavar="FILE", help="a dump, LBD1 or LBD2")
     parser.add_argument(
         "--procs", type=_counts, metavar="P[,P..]", help="numbers of PEs to plan for, 1 to 256; one row each where there are several")
-    parser.add_argument("--plot", metavar="OUT", help="draw into this file: .png, .pdf or .svg; of several P the sweep")
+    parser.add_argument(
+        "--plot", type=_picture, metavar="OUT", help="draw into this file, .png, .pdf or .svg; of several P the sweep")
     return parser
 
 
@@ -38,6 +39,12 @@ def _counts(words):
         if not 1 <= count <= tezgumi.PES:
             raise argparse.ArgumentTypeError(f"{count} is not 1 to {tezgumi.PES}")
     return counts
+
+
+def _picture(path):
+    if not path.lower().endswith((".png", ".pdf", ".svg")):
+        raise argparse.ArgumentTypeError(f"{path!r} does not end with .png, .pdf or .svg")
+    return path
 
 
 def _answer(asked):
@@ -67,12 +74,12 @@ def _read(path):
 def _draw(asked, run, decisions, swept, checked):
     import tezgumi_plot
 
-    title = os.path.basename(asked.file)
+    look = {"title": os.path.basename(asked.file), "medium": "print" if asked.plot.lower().endswith(".pdf") else "screen"}
     if len(decisions) == 1:
-        figure = tezgumi_plot.decision(run, decisions[0], title=title, checked=checked)
+        picture = tezgumi_plot.decision(run, decisions[0], checked=checked, **look)
     else:
-        figure = tezgumi_plot.sweep(swept, title=title)
-    tezgumi_plot.save(figure, asked.plot)
+        picture = tezgumi_plot.sweep(swept, **look)
+    tezgumi_plot.save(picture, asked.plot)
 
 
 def _fail(error, status):

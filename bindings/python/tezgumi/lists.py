@@ -6,21 +6,21 @@ import numpy as np
 from .errors import InputError
 
 
-def frozen(values, kind, name, refuse=None, most=None):
+def frozen(values, kind, name, refuse=None, most=None, copy=True):
     """The numbers as an array of this type that cannot be written to, each from the least of the type to `most`.
 
     Nothing is rounded or wrapped. The first number that does not fit is handed to `refuse` with its index, which answers
-    the exception.
+    the exception. Without `copy` an array that has the type is not copied, and its owner can still write to it.
     """
     limits = np.iinfo(kind)
     most = limits.max if most is None else most
     refuse = refuse or _refuser(name, limits.min, most)
     array = _array(values, name)
     if array.size and array.dtype.kind not in "iu":
-        array = _one_by_one(array, limits.min, most, refuse)
+        array = _one_by_one(values, limits.min, most, refuse)
     if array.size:
         _refuse_outside(array, limits.min, most, refuse)
-    return _kept(array, kind)
+    return _kept(array, kind, copy)
 
 
 def whole_number(value, least, most, name):
@@ -61,11 +61,11 @@ def _refuser(name, least, most):
     return lambda index, value: InputError(f"{name}[{index}] is {value!r}; it has to be a whole number from {least} to {most}")
 
 
-def _one_by_one(array, least, most, refuse):
-    # A list with a number past 64 bits, a float, or anything else. One that holds small integers only, as objects, is fine.
-    numbers = array.tolist()
+def _one_by_one(values, least, most, refuse):
+    # numpy has no type of whole numbers for them: there is a float among them, a number past 64 bits, or another thing.
+    numbers = values.tolist() if isinstance(values, np.ndarray) else list(values)
     for index, number in enumerate(numbers):
-        if isinstance(number, bool) or not isinstance(number, int) or not least <= number <= most:
+        if isinstance(number, bool) or not isinstance(number, (int, np.integer)) or not least <= number <= most:
             raise refuse(index, number)
     return np.array(numbers, dtype=np.uint64 if least == 0 else np.int64)
 
@@ -82,9 +82,10 @@ def _refuse_outside(array, least, most, refuse):
     raise refuse(index, int(array[index]))
 
 
-def _kept(array, kind):
-    if array.dtype == kind and array.flags.c_contiguous and array.flags.owndata and not array.flags.writeable:
+def _kept(array, kind, copy):
+    fits = array.dtype == kind and array.flags.c_contiguous and array.flags.aligned
+    if fits and array.flags.owndata and not array.flags.writeable:
         return array
-    kept = np.array(array, dtype=kind)
+    kept = array.view() if fits and not copy else np.array(array, dtype=kind)
     kept.setflags(write=False)
     return kept

@@ -55,7 +55,13 @@ def check(run, decision):
         flaw = Flaw(status)
         return Verdict(flaw, numbers_of(run, d, flaw))
     _hold(status)
-    return Verdict() if np.array_equal(run.moves_to(d.places), d.moves) else Verdict(Flaw.MOVES_WRONG)
+    return Verdict() if _are_moves(run, d) else Verdict(Flaw.MOVES_WRONG)
+
+
+def _are_moves(run, decision):
+    # As words: numpy compares rows of fields three times as slowly.
+    wanted = run.moves_to(decision.places)
+    return np.array_equal(wanted.view(np.uint32), decision.moves.view(np.uint32))
 
 
 def _pes(run, pes):

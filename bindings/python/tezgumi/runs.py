@@ -1,5 +1,5 @@
 """Runs, plans and decisions: what a load balancer is given, and what it answers."""
-from dataclasses import dataclass, fields, replace
+from dataclasses import InitVar, dataclass, fields, replace
 
 import numpy as np
 
@@ -36,8 +36,9 @@ class _Record:
 class Run(_Record):
     """A chain of elements, in order, on `procs` PEs: the load, the packed size and the present PE of each.
 
-    The lists may be numpy arrays or plain lists of whole numbers. They are copied, and cannot be written to. A float is
-    refused: round it first. `replace(run, procs=4)` of dataclasses makes another run.
+    The lists may be numpy arrays or plain lists of whole numbers. A float is refused: round it first. They are copied, and
+    cannot be written to; with copy=False an array that has the type already is taken as it is, and must not be written to
+    while the run is in use. `replace(run, procs=4)` of dataclasses makes another run.
     """
 
     procs: int
@@ -45,14 +46,15 @@ class Run(_Record):
     bytes: np.ndarray
     places: np.ndarray
     step: int = 0
+    copy: InitVar[bool] = True
 
-    def __post_init__(self):
+    def __post_init__(self, copy):
         keep = lambda name, value: object.__setattr__(self, name, value)
         keep("procs", whole_number(self.procs, 1, PES, "procs"))
         keep("step", whole_number(self.step, 0, _WORD, "step"))
-        keep("bytes", frozen(self.bytes, np.uint32, "bytes", _wrong_bytes, STATE_BYTES))
-        keep("places", frozen(self.places, np.uint32, "places", self._wrong_place, self.procs - 1))
-        keep("loads", frozen(self.loads, np.uint64, "loads", _wrong_load, LOAD))
+        keep("bytes", frozen(self.bytes, np.uint32, "bytes", _wrong_bytes, STATE_BYTES, copy))
+        keep("places", frozen(self.places, np.uint32, "places", self._wrong_place, self.procs - 1, copy))
+        keep("loads", frozen(self.loads, np.uint64, "loads", _wrong_load, LOAD, copy))
         counts = len(self.loads), len(self.bytes), len(self.places)
         if len(set(counts)) > 1:
             raise InputError("there are {} loads, {} packed sizes and {} places; an element has one of each".format(*counts))
@@ -78,10 +80,11 @@ class Run(_Record):
 
     def moves_to(self, places):
         """The elements whose present and planned place differ, in order of index, as an array of MOVE."""
-        elements = np.flatnonzero(self.places != places)
-        moves = np.empty(elements.size, MOVE)
-        moves["element"], moves["present"], moves["planned"] = elements, self.places[elements], places[elements]
-        return moves
+        moving = self.places != places
+        elements = np.flatnonzero(moving)
+        rows = np.empty((elements.size, 3), np.uint32)
+        rows[:, 0], rows[:, 1], rows[:, 2] = elements, self.places[moving], places[moving]
+        return rows.view(MOVE).reshape(-1)
 
 
 def _wrong_load(index, value):

@@ -9,11 +9,7 @@
 
 `decision` and `sweep` answer a matplotlib Figure, which a notebook shows. medium="print" makes it fit a page.
 """
+from .paper import save
 from .pictures import decision, sweep
 
 __all__ = ["decision", "save", "sweep"]
-
-
-def save(picture, path):
-    """Writes a picture into a file, by the end of its name: .png, .pdf or .svg."""
-    picture.savefig(path)

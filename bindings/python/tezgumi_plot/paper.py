@@ -6,6 +6,8 @@ from matplotlib.backends.backend_agg import FigureCanvasAgg
 from matplotlib.figure import Figure
 from matplotlib.ticker import FixedLocator, FuncFormatter, MaxNLocator
 
+from tezgumi import InputError
+
 from .palette import INK, QUIET
 
 MEDIA = {"screen": (12.0, 110, 11.0), "print": (7.0, 300, 7.0)}
@@ -17,7 +19,7 @@ class Sheet(Figure):
 
     def __init__(self, medium, height):
         if medium not in MEDIA:
-            raise ValueError(f"medium is {medium!r}, and there are {', '.join(MEDIA)}")
+            raise InputError(f"medium is {medium!r}, and there are {', '.join(MEDIA)}")
         width, dots, self.text_size = MEDIA[medium]
         self.scale = width / 12
         self.twelfths = height
@@ -54,6 +56,13 @@ class Sheet(Figure):
         data = io.BytesIO()
         self.savefig(data, format="png")
         return data.getvalue()
+
+
+def save(picture, path):
+    """Writes a picture into a file, by the end of its name: .png, .pdf or .svg."""
+    if not str(path).lower().endswith((".png", ".pdf", ".svg")):
+        raise InputError(f"{path}: a picture's name ends with .png, .pdf or .svg")
+    picture.savefig(path)
 
 
 def points_wide(axes):
