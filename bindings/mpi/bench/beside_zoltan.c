@@ -109,9 +109,9 @@ static void print(method *all)
         method *m = &all[k];
         qsort(m->seconds, (size_t)turns, sizeof *m->seconds, in_order);
         if (k == 0) least = m->seconds[0], median = m->seconds[turns / 2];
-        printf("%-7s  greatest/average %.4f (%.4f)  bytes moved %llu (%.3f)  microseconds: least %.0f (%.2f), median %.0f (%.2f)\n",
-            names[k], m->imbalance / turns, m->imbalance / all[0].imbalance, (unsigned long long)m->bytes,
-            (double)m->bytes / (double)all[0].bytes, 1e6 * m->seconds[0], m->seconds[0] / least,
+        printf("%-7s  greatest/average %.4f (%.4f)  bytes moved %llu (%.3f)", names[k], m->imbalance / turns,
+            m->imbalance / all[0].imbalance, (unsigned long long)m->bytes, (double)m->bytes / (double)all[0].bytes);
+        printf("  microseconds: least %.0f (%.2f), median %.0f (%.2f)\n", 1e6 * m->seconds[0], m->seconds[0] / least,
             1e6 * m->seconds[turns / 2], m->seconds[turns / 2] / median);
     }
     printf("         of the first, the median of each part:");

@@ -3,8 +3,8 @@
 #include <tezgumi_mpi.h>
 
 static double cell[100]; /* a rank uses those that it holds */
-static int pack(void *app, uint32_t i, void *to, uint32_t bytes) { memcpy(to, (double *)app + i, bytes); return 0; }
-static int unpack(void *app, uint32_t i, const void *from, uint32_t bytes) { memcpy((double *)app + i, from, bytes); return 0; }
+static int pack(void *app, uint32_t i, void *to, uint32_t n) { memcpy(to, (double *)app + i, n); return 0; }
+static int unpack(void *app, uint32_t i, const void *from, uint32_t n) { memcpy((double *)app + i, from, n); return 0; }
 
 int main(int argc, char **argv)
 {

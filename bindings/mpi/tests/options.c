@@ -115,6 +115,26 @@ static void room(void)
     }
 }
 
+/* Each rank but the first has 6 elements of 64 bytes for it, which takes 2 in an exchange. */
+static void room_to_receive(void)
+{
+    static tezgumi_mpi_element mine[FIELD_MOST];
+    const tezgumi_mpi_options options = {0, 128, 0};
+    const tezgumi_mpi_callbacks callbacks = callbacks_of(&f);
+    tezgumi_mpi_chain chain = {0};
+    uint32_t i;
+    deal(&f, 6 * (uint32_t)ranks, 1, IN_ORDER);
+    for (i = 0; i < f.n; i++) f.size[i] = 64;
+    deal_again(&f);
+    EXPECT(tezgumi_mpi_gather(MPI_COMM_WORLD, mine, elements_of(&f, mine), &chain, &report) == TEZGUMI_OK);
+    for (i = 0; i < f.n; i++) chain.new_places[i] = 0;
+    EXPECT(tezgumi_mpi_move(MPI_COMM_WORLD, &chain, &callbacks, &options, &report) == TEZGUMI_OK);
+    EXPECT(report.exchanges == 3 * (uint32_t)(ranks - 1));
+    expect_whole(&f);
+    expect_at(&f, chain.places);
+    tezgumi_mpi_chain_free(&chain);
+}
+
 static void unlike_rooms(void)
 {
     EXPECT(move_ring(rank == 0 ? 64 : 128) == TEZGUMI_MPI_DISAGREE);
@@ -199,6 +219,7 @@ int main(int argc, char **argv)
         run_test("a tolerance of scattered elements", tolerance_of_scattered);
         run_test("tolerances that differ", unlike_tolerances);
         run_test("room for an exchange", room);
+        run_test("room for what a rank receives", room_to_receive);
         run_test("rooms that differ", unlike_rooms);
         run_test("no more is packed than there is room for", room_is_kept);
     }

@@ -112,15 +112,17 @@ static void no_elements(void)
 
 static void no_callback(void)
 {
-    tezgumi_mpi_callbacks callbacks = callbacks_of(&f);
-    uint32_t count = deal_some();
-    if (wrong_here()) callbacks.pack = NULL;
-    expect_refused(tezgumi_mpi_rebalance(MPI_COMM_WORLD, mine, count, &callbacks, NULL, NULL, &report), TEZGUMI_BAD_INPUT, 0);
-    callbacks = callbacks_of(&f);
-    if (wrong_here()) callbacks.unpack = NULL;
-    expect_refused(tezgumi_mpi_rebalance(MPI_COMM_WORLD, mine, count, &callbacks, NULL, NULL, &report), TEZGUMI_BAD_INPUT, 0);
-    expect_refused(tezgumi_mpi_rebalance(MPI_COMM_WORLD, mine, count, wrong_here() ? NULL : &callbacks, NULL, NULL, &report),
-        TEZGUMI_BAD_INPUT, 0);
+    tezgumi_mpi_callbacks rows[2];
+    const uint32_t count = deal_some();
+    int k;
+    rows[0] = rows[1] = callbacks_of(&f);
+    if (wrong_here()) rows[0].pack = NULL;
+    if (wrong_here()) rows[1].unpack = NULL;
+    for (k = 0; k < 3; k++) {
+        const tezgumi_mpi_callbacks *given = k < 2 ? &rows[k] : wrong_here() ? NULL : &rows[0];
+        const int status = tezgumi_mpi_rebalance(MPI_COMM_WORLD, mine, count, given, NULL, NULL, &report);
+        expect_refused(status, TEZGUMI_BAD_INPUT, 0);
+    }
 }
 
 /* Each step on a chain that is null, or was never gathered, on one rank. */
