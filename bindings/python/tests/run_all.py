@@ -1,4 +1,4 @@
-"""Runs all tests, or those whose names are given, and ends with the line `N passed, N failed`."""
+"""Runs all tests, or those whose names are given, and ends with the line `N passed, N failed`; the status is 0 or 3."""
 import faulthandler
 import os
 import sys
@@ -27,7 +27,7 @@ def main(names):
         print(f"skipped: {test.id()}: {reason}")
     failed = len({test.id() for test, _ in result.failures + result.errors})
     print(f"{result.passed} passed, {failed} failed")
-    return 1 if failed else 0
+    return 3 if failed or not result.passed else 0
 
 
 if __name__ == "__main__":

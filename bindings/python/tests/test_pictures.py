@@ -150,6 +150,18 @@ class Files(TimedTest):
                 tezgumi_plot.save(sheet, os.path.join(folder, name))
                 self.assertTrue(read_bytes(os.path.join(folder, name)).startswith(start))
 
+    def test_decisions_that_are_not_right(self):
+        decision = tezgumi.decide(THREE)
+        for changed, line in (({"moved": 9}, "✗ check: MovedWrong"), ({"cuts": [0, 1, 3]}, "✗ check: Heavy 1"), ({"stops": [0, 1]}, "✗ check: FenceCount")):
+            forged = replace(decision, **changed)
+            sheet = tezgumi_plot.decision(THREE, forged, checked=tezgumi.check(THREE, forged))
+            self.assertIn(line, [text for text, _ in written(sheet)])
+        for changed, text in (
+                ({"cuts": [0, 2, 2]}, "the cuts do not divide 3 elements into 2 blocks"), ({"cuts": [0, 4, 3]}, "the cuts do not"),
+                ({"names": [0, 2]}, "the names are not those of 2 PEs"), ({"stops": [0, 1, 3]}, "a stop of the fence is none of 3 elements"),
+                ({"places": [0, 0, 2]}, "^element 2 is on no processor")):
+            self.assertRaisesRegex(tezgumi.InputError, text, tezgumi_plot.decision, THREE, replace(decision, **changed))
+
     def test_what_is_refused(self):
         decision = tezgumi.decide(THREE)
         self.assertRaisesRegex(tezgumi.InputError, "the plan is for 3 elements", tezgumi_plot.decision, front(), decision)

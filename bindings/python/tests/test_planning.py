@@ -2,6 +2,7 @@
 import os
 import subprocess
 import sys
+from concurrent.futures import ThreadPoolExecutor
 from dataclasses import replace
 from unittest import mock
 
@@ -98,6 +99,13 @@ class Calls(TimedTest):
             decision = tezgumi.decide(run, pes)
             self.assertEqual((decision.pes, len(decision.cuts), len(decision.names)), (pes, pes + 1, pes))
             self.assertTrue(tezgumi.check(run, decision))
+
+    def test_several_threads_at_once(self):
+        runs = [random_run(seed, elements=2000, pes=64) for seed in range(12)]
+        alone = [tezgumi.decide(*one) for one in runs]
+        with ThreadPoolExecutor(4) as threads:
+            for _ in range(5):
+                self.assertEqual(list(threads.map(lambda one: tezgumi.decide(*one), runs)), alone)
 
     def test_moves(self):
         moves = tezgumi.decide(THREE).moves
@@ -200,3 +208,7 @@ class FiguresOfPlans(TimedTest):
         self.assertRaisesRegex(tezgumi.InputError, "the plan is for 3 elements, and the run has 300", tezgumi.figures, front(), tezgumi.plan(THREE))
         plan = tezgumi.Plan(1, [0, 0, 1], 4, 9)
         self.assertRaisesRegex(tezgumi.InputError, "^element 2 is on no processor: its place is 1, and with 1 PEs", tezgumi.figures, THREE, plan)
+        self.assertRaisesRegex(tezgumi.InputError, "the plan is for 2 elements, and the run has 3", tezgumi.pe_loads, THREE, [0, 0], 2)
+        self.assertRaisesRegex(tezgumi.InputError, "the plan is for 2 elements, and the run has 3", THREE.moves_to, [0, 0])
+        other = replace(tezgumi.decide(THREE), cuts=[0, 2, 9])
+        self.assertRaisesRegex(tezgumi.InputError, "the cuts go to element 9, and the run has 3", tezgumi.replay_text, THREE, other)

@@ -21,6 +21,13 @@ for where TEZGUMI_LIBRARY says, then where bindings/build puts it, then where th
 
 `tezgumi_plot`, beside this package, draws. `python3 -m tezgumi FILE` prints the figures of a dump. numpy is needed.
 """
+import sys
+
+try:
+    import numpy
+except ImportError as error:
+    raise ImportError(f"tezgumi needs numpy, and {sys.executable} has none; Debian's python3 has it by python3-numpy") from error
+
 from .checking import Flaw, Verdict
 from .dumps import Dump, decode, encode, read_dump, write_dump
 from .errors import DumpError, InputError, LibraryError, LoadError, OutOfMemory, TezgumiError

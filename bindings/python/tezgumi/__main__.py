@@ -60,7 +60,7 @@ def _answer(asked):
     wrong = [verdict for verdict in verdicts if not verdict]
     print(wrong[0] if wrong else verdicts[0])
     if asked.plot:
-        _draw(asked, run, decisions, swept, not wrong)
+        _draw(asked, run, decisions, swept, verdicts[0])
     return FLAWED if wrong else RIGHT
 
 
@@ -71,12 +71,12 @@ def _read(path):
         raise tezgumi.DumpError("read failed", error) from None
 
 
-def _draw(asked, run, decisions, swept, checked):
+def _draw(asked, run, decisions, swept, verdict):
     import tezgumi_plot
 
     look = {"title": os.path.basename(asked.file), "medium": "print" if asked.plot.lower().endswith(".pdf") else "screen"}
     if len(decisions) == 1:
-        picture = tezgumi_plot.decision(run, decisions[0], checked=checked, **look)
+        picture = tezgumi_plot.decision(run, decisions[0], checked=verdict, **look)
     else:
         picture = tezgumi_plot.sweep(swept, **look)
     tezgumi_plot.save(picture, asked.plot)

@@ -57,8 +57,7 @@ class Figures:
 
 def figures(run, plan):
     """The figures of a plan, or of a decision, on a run."""
-    if len(plan.places) != len(run):
-        raise InputError(f"the plan is for {len(plan.places)} elements, and the run has {len(run)}")
+    run.refuse_other_places(plan.places)
     before = pe_loads(run, run.places, run.procs)
     after = pe_loads(run, plan.places, plan.pes)
     moves = run.places != plan.places
@@ -70,7 +69,8 @@ def figures(run, plan):
 
 def pe_loads(run, places, pes):
     """The load of each PE where the elements stand at these places. Exact."""
-    places = np.asarray(places)
+    run.refuse_other_places(places)
+    places = np.asarray(places, dtype=np.int64)
     if places.size and int(places.max()) >= pes:
         element = int(np.argmax(places >= pes))
         raise InputError(f"element {element} is on no processor: its place is {int(places[element])}, and with {pes} PEs it is 0 to {pes - 1}")

@@ -74,17 +74,22 @@ class Run(_Record):
 
     def after(self, plan, step=None):
         """The run as it stands once the elements of a plan or a decision have moved."""
-        if len(plan.places) != len(self):
-            raise InputError(f"the plan is for {len(plan.places)} elements, and the run has {len(self)}")
+        self.refuse_other_places(plan.places)
         return replace(self, procs=plan.pes, places=plan.places, step=self.step if step is None else step)
 
     def moves_to(self, places):
         """The elements whose present and planned place differ, in order of index, as an array of MOVE."""
+        self.refuse_other_places(places)
         moving = self.places != places
         elements = np.flatnonzero(moving)
         rows = np.empty((elements.size, 3), np.uint32)
-        rows[:, 0], rows[:, 1], rows[:, 2] = elements, self.places[moving], places[moving]
+        rows[:, 0], rows[:, 1], rows[:, 2] = elements, self.places[moving], np.asarray(places)[moving]
         return rows.view(MOVE).reshape(-1)
+
+    def refuse_other_places(self, places):
+        """Raises InputError unless there is one place for each element."""
+        if len(places) != len(self):
+            raise InputError(f"the plan is for {len(places)} elements, and the run has {len(self)}")
 
 
 def _wrong_load(index, value):

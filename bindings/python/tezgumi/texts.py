@@ -1,5 +1,6 @@
 """The text that lb_sim prints of a decision."""
 from .checking import running_sums
+from .errors import InputError
 
 
 def replay_text(run, decision):
@@ -8,6 +9,8 @@ def replay_text(run, decision):
     lines.append("fence " + (" ".join(map(str, decision.stops.tolist())) or "zero"))
     sums = running_sums(run.loads).tolist()
     cuts = decision.cuts.tolist()
+    if max(cuts, default=0) > len(run):
+        raise InputError(f"the cuts go to element {max(cuts)}, and the run has {len(run)}")
     for block, (first, end, pe) in enumerate(zip(cuts, cuts[1:], decision.names.tolist())):
         name = "-" if first == end else pe
         lines.append(f"block {block} {first}..{end} load {sums[end] - sums[first]} pe {name}")

@@ -16,8 +16,10 @@ def decision(run, made, title=None, checked=None, medium="screen"):
     """A picture of a decision on a run: the chain with its cuts and its fence, and the load of each PE before and after.
 
     `checked` is what `tezgumi.check` said of the decision, or None where it was not asked. The medium is "screen" or
-    "print". The picture is a matplotlib Figure, which a notebook shows.
+    "print". The picture is a matplotlib Figure, which a notebook shows. A decision that is not right is drawn too, unless its
+    cuts divide other elements, or its stops or places are none: InputError.
     """
+    _refuse_undrawable(run, made)
     sheet = Sheet(medium, 8.3)
     palette = Palette(max(run.procs, made.pes), np.union1d(run.places, made.places), sheet.scale)
     figures = tezgumi.figures(run, made)
@@ -26,6 +28,17 @@ def decision(run, made, title=None, checked=None, medium="screen"):
     _draw_loads_of_pes(sheet, run, made, palette, figures)
     _write_figures(sheet, figures, checked)
     return sheet
+
+
+def _refuse_undrawable(run, made):
+    run.refuse_other_places(made.places)
+    cuts = made.cuts.astype(np.int64)
+    if len(cuts) != made.pes + 1 or cuts[0] != 0 or cuts[-1] != len(run) or (np.diff(cuts) < 0).any():
+        raise tezgumi.InputError(f"the cuts do not divide {len(run)} elements into {made.pes} blocks")
+    if len(made.names) != made.pes or (made.names >= made.pes).any():
+        raise tezgumi.InputError(f"the names are not those of {made.pes} PEs")
+    if (made.stops >= len(run)).any():
+        raise tezgumi.InputError(f"a stop of the fence is none of {len(run)} elements")
 
 
 def _draw_chain(sheet, run, made, palette):
@@ -88,6 +101,8 @@ def _write_figures(sheet, figures, checked):
         sheet.write(LEFT + WIDTH, top, value, ha="right", weight="bold" if row == 0 else "normal")
     if checked is not None:
         text = "✓ accepted by the checker" if checked else "✗ refused by the checker"
+        if isinstance(checked, tezgumi.Verdict) and not checked:
+            text = f"✗ {checked}"
         sheet.write(NOTES, 5.8 + 0.29 * len(rows) + 0.06, text, weight="bold")
 
 
