@@ -63,5 +63,6 @@ def read_decision(fields, count):
     for k in range(moves):
         line = f"move {k} is out of range"
         element = fields.number(4, lambda n: n < count, line)
-        decision["moves"].append((element, fields.number(4, lambda n: n < PES, line), fields.number(4, lambda n: n < PES, line)))
+        present = fields.number(4, lambda n: n < PES, line)
+        decision["moves"].append((element, present, fields.number(4, lambda n: n < PES, line)))
     return decision

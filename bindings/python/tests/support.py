@@ -1,4 +1,5 @@
 """What the tests share: the examples, limits of time, random runs, and runs and decisions as plain lists."""
+import dataclasses
 import os
 import random
 import signal
@@ -101,12 +102,11 @@ def random_run(seed, elements=24, pes=8):
 
 def large_run(elements=tezgumi.ELEMENTS, pes=tezgumi.PES, seed=1):
     rng = np.random.default_rng(seed)
-    index = np.arange(elements)
-    return tezgumi.Run(pes, rng.integers(0, 1000, elements), rng.integers(0, 100_000, elements), index * pes // max(elements, 1))
+    places = np.arange(elements) * pes // max(elements, 1)
+    return tezgumi.Run(pes, rng.integers(0, 1000, elements), rng.integers(0, 100_000, elements), places)
 
 
 def as_lists(record):
     """A run or a decision as a dictionary of numbers and plain lists."""
-    names = ("loads", "bytes", "places") if isinstance(record, tezgumi.Run) else (
-        "pes", "places", "bottleneck", "moved", "cuts", "stops", "names", "block_prices", "pe_prices", "moves")
-    return {name: value.tolist() if isinstance(value, np.ndarray) else value for name, value in ((n, getattr(record, n)) for n in names)}
+    fields = {field.name: getattr(record, field.name) for field in dataclasses.fields(record)}
+    return {name: value.tolist() if isinstance(value, np.ndarray) else value for name, value in fields.items()}

@@ -94,7 +94,8 @@ class AtRandom(TimedTest):
         for seed in range(400):
             run, pes = random_run(seed, elements=12, pes=5)
             forged = forge(random.Random(seed), run, tezgumi.decide(run, pes))
-            self.assertEqual(str(tezgumi.check(run, forged)), slow_checker.first_flaw(as_lists(run), as_lists(forged)), (seed, run, forged))
+            line = slow_checker.first_flaw(as_lists(run), as_lists(forged))
+            self.assertEqual(str(tezgumi.check(run, forged)), line, (seed, run, forged))
 
 
 def forge(rng, run, decision):

@@ -52,8 +52,8 @@ class Reading(TimedTest):
         run, decision = tezgumi.read_dump(example("three-elements.lbd2"))
         self.assertEqual(run, THREE)
         self.assertEqual(as_lists(decision), {
-            "pes": 2, "places": [1, 1, 0], "bottleneck": 2, "moved": 10, "cuts": [0, 2, 3], "stops": [0, 1, 2], "names": [1, 0],
-            "block_prices": [10, 1], "pe_prices": [-1, 0], "moves": [(0, 0, 1)]})
+            "pes": 2, "places": [1, 1, 0], "bottleneck": 2, "moved": 10, "cuts": [0, 2, 3], "stops": [0, 1, 2],
+            "names": [1, 0], "block_prices": [10, 1], "pe_prices": [-1, 0], "moves": [(0, 0, 1)]})
 
     def test_cut_at_each_byte(self):
         for name in EXAMPLES[:3]:

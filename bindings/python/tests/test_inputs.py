@@ -9,8 +9,8 @@ from support import THREE, TimedTest, front, large_run
 
 class Taken(TimedTest):
     def test_lists_and_arrays_of_any_whole_numbers(self):
-        for make in (list, tuple, np.array, lambda n: np.array(n, np.int8), lambda n: np.array(n, np.uint64), lambda n: np.array(n, object),
-                     lambda n: np.array(n, ">u4"), lambda n: np.repeat(np.array(n), 2)[::2]):
+        kinds = [lambda n, kind=kind: np.array(n, kind) for kind in (np.int8, np.uint64, object, ">u4")]
+        for make in (list, tuple, np.array, lambda n: np.repeat(np.array(n), 2)[::2], *kinds):
             run = tezgumi.Run(2, make([1, 1, 2]), make([10, 9, 8]), make([0, 1, 0]), step=5)
             self.assertEqual(run, THREE)
             self.assertEqual([a.dtype for a in (run.loads, run.bytes, run.places)], [np.uint64, np.uint32, np.uint32])
@@ -65,7 +65,8 @@ class Refused(TimedTest):
             replace(THREE, **changed)
 
     def test_a_load(self):
-        self.refuses("^element 1 has too great a load: 140737488355328, and at most 140737488355327 is taken$", tezgumi.LoadError, loads=[1, 2**47, 1])
+        text = "^element 1 has too great a load: 140737488355328, and at most 140737488355327 is taken$"
+        self.refuses(text, tezgumi.LoadError, loads=[1, 2**47, 1])
         self.refuses("^element 2 has too great a load", tezgumi.LoadError, loads=[1, 1, 2**70])
         self.refuses("^element 0 has the load -1, and not a whole number from 0 to 140737488355327$", loads=[-1, 1, 1])
         self.refuses("^element 1 has the load 1.5, and not a whole number", loads=[1, 1.5, 1])
@@ -106,7 +107,9 @@ class Refused(TimedTest):
     def test_a_decision(self):
         decision = tezgumi.Decision(2, [1, 1, 0], 2, 10, [0, 2, 3], [0, 1, 2], [1, 0], [10, 1], [-1, 0], [(0, 0, 1)])
         for changed, text in (
-                ({"pes": 0}, "^pes is 0"), ({"bottleneck": -1}, "^bottleneck is -1"), ({"moved": 2**64}, "^moved is 18446744073709551616"),
+                ({"pes": 0}, "^pes is 0"),
+                ({"bottleneck": -1}, "^bottleneck is -1"),
+                ({"moved": 2**64}, "^moved is 18446744073709551616"),
                 ({"cuts": [0, -1, 3]}, r"^cuts\[1\] is -1; it has to be a whole number from 0 to 4294967295$"),
                 ({"names": [0, 2**32]}, r"^names\[1\] is 4294967296"), ({"stops": [0.5]}, r"^stops\[0\] is 0.5"),
                 ({"pe_prices": [2**63, 0]}, r"^pe_prices\[0\] is 9223372036854775808"),

@@ -7,7 +7,7 @@ import tempfile
 from unittest import mock
 
 import tezgumi
-from support import PACKAGES, THREE, TimedTest
+from support import CHECKOUT, PACKAGES, THREE, TimedTest
 from tezgumi import library
 
 OTHER = "unsigned tezgumi_abi(void) { return 99; } int tezgumi_plan, tezgumi_decide, tezgumi_check;"
@@ -29,14 +29,14 @@ class Found(TimedTest):
             built = os.path.join(os.path.dirname(PACKAGES), "out", "lib", "libtezgumi.so")
             with mock.patch.object(os.path, "exists", lambda path: path == built):
                 self.assertEqual(library.candidates()[0], built)
-            with mock.patch.object(os.path, "exists", lambda path: False), mock.patch("ctypes.util.find_library", lambda name: None):
+            nothing = mock.patch("ctypes.util.find_library", lambda name: None)
+            with mock.patch.object(os.path, "exists", lambda path: False), nothing:
                 self.assertEqual(library.candidates(), ["libtezgumi.so.1"])
 
     def test_one_that_is_not_there(self):
         with self.named("/no/such/library.so"):
-            self.assertRaisesRegex(
-                tezgumi.LibraryError, "^no libtezgumi .*/no/such/library.so.*; bindings/build makes it, and TEZGUMI_LIBRARY may name it$",
-                tezgumi.plan, THREE)
+            text = "^no libtezgumi .*/no/such/library.so.*; bindings/build makes it, and TEZGUMI_LIBRARY may name it$"
+            self.assertRaisesRegex(tezgumi.LibraryError, text, tezgumi.plan, THREE)
 
     def test_another_library(self):
         import _ctypes
@@ -49,13 +49,15 @@ class Found(TimedTest):
             self.skipTest("no C compiler")
         with tempfile.TemporaryDirectory() as folder:
             path = os.path.join(folder, "other.so")
-            subprocess.run([compiler, "-shared", "-fPIC", "-x", "c", "-", "-o", path], input=OTHER.encode(), check=True, timeout=15)
+            words = [compiler, "-shared", "-fPIC", "-x", "c", "-", "-o", path]
+            subprocess.run(words, input=OTHER.encode(), check=True, timeout=15)
             with self.named(path):
-                self.assertRaisesRegex(tezgumi.LibraryError, "other.so has the interface 99, and this package is written for 1$", tezgumi.plan, THREE)
+                text = "other.so has the interface 99, and this package is written for 1$"
+                self.assertRaisesRegex(tezgumi.LibraryError, text, tezgumi.plan, THREE)
 
     def test_dumps_are_read_without_it(self):
         script = "import tezgumi; print(tezgumi.read_dump('examples/three-elements.lbd2').decision.moved)"
         ended = subprocess.run(
-            [sys.executable, "-c", script], cwd=os.path.dirname(os.path.dirname(PACKAGES)), stdout=subprocess.PIPE, timeout=15,
+            [sys.executable, "-c", script], cwd=CHECKOUT, stdout=subprocess.PIPE, timeout=15,
             env={**os.environ, "TEZGUMI_LIBRARY": "/no/such/library.so", "PYTHONPATH": PACKAGES})
         self.assertEqual(ended.stdout, b"10\n")

@@ -18,13 +18,13 @@ try:
 except ImportError as error:
     raise unittest.SkipTest(f"no pictures: {error}")
 
-# How a color looks to readers without one kind of cone: G. Machado, M. Oliveira and L. Fernandes, "A physiologically-based model
-# for simulation of color vision deficiency", IEEE TVCG 15(6), 2009, severity 1, on linear colors.
+# How a color looks to readers without one kind of cone: G. Machado, M. Oliveira and L. Fernandes, "A physiologically-based
+# model for simulation of color vision deficiency", IEEE TVCG 15(6), 2009, severity 1, on linear colors.
 SEEN = {
-    "all cones": np.eye(3),
-    "protanopia": np.array([[0.152286, 1.052583, -0.204868], [0.114503, 0.786281, 0.099216], [-0.003882, -0.048116, 1.051998]]),
-    "deuteranopia": np.array([[0.367322, 0.860646, -0.227968], [0.280085, 0.672501, 0.047413], [-0.011820, 0.042940, 0.968881]]),
-    "tritanopia": np.array([[1.255528, -0.076749, -0.178779], [-0.078411, 0.930809, 0.147602], [0.004733, 0.691367, 0.303900]]),
+    "all cones": ((1, 0, 0), (0, 1, 0), (0, 0, 1)),
+    "protanopia": ((0.152286, 1.052583, -0.204868), (0.114503, 0.786281, 0.099216), (-0.003882, -0.048116, 1.051998)),
+    "deuteranopia": ((0.367322, 0.860646, -0.227968), (0.280085, 0.672501, 0.047413), (-0.011820, 0.042940, 0.968881)),
+    "tritanopia": ((1.255528, -0.076749, -0.178779), (-0.078411, 0.930809, 0.147602), (0.004733, 0.691367, 0.303900)),
 }
 
 
@@ -38,9 +38,18 @@ def runs():
     """Runs of many sizes, each with a number of PEs to plan for."""
     scattered = replace(large_run(), places=np.random.default_rng(2).integers(0, 256, tezgumi.ELEMENTS))
     return {
-        "none": (tezgumi.Run(3, [], [], []), 3), "one": (tezgumi.Run(1, [5], [7], [0]), 1), "idle": (replace(THREE, loads=[0, 0, 0]), 2),
-        "three": (THREE, 2), "20": (small(), 4), "20 on 256": (small(), 256), "300": (front(), 16), "300 on 28": (front(), 28),
-        "300 on 64": (front(), 64), "65,536": (large_run(), 256), "65,536 on 8": (large_run(pes=8), 8), "scattered": (scattered, 256),
+        "none": (tezgumi.Run(3, [], [], []), 3),
+        "one": (tezgumi.Run(1, [5], [7], [0]), 1),
+        "idle": (replace(THREE, loads=[0, 0, 0]), 2),
+        "three": (THREE, 2),
+        "20": (small(), 4),
+        "20 on 256": (small(), 256),
+        "300": (front(), 16),
+        "300 on 28": (front(), 28),
+        "300 on 64": (front(), 64),
+        "65,536": (large_run(), 256),
+        "65,536 on 8": (large_run(pes=8), 8),
+        "scattered": (scattered, 256),
         "greatest": (tezgumi.Run(2, [tezgumi.LOAD] * 9, [tezgumi.STATE_BYTES] * 9, [0] * 9), 2),
     }
 
@@ -91,14 +100,15 @@ class Texts(TimedTest):
     def test_sweeps(self):
         for medium in ("screen", "print"):
             for name, run, counts in (
-                    ("all", front(), range(1, 257, 3)), ("twice", large_run(), None), ("one", THREE, (2,)), ("near", front(), (250, 251, 256)),
-                    ("idle", replace(THREE, loads=[0, 0, 0]), (1, 2, 3))):
-                self.assert_readable(tezgumi_plot.sweep(tezgumi.sweep(run, counts), title=name, medium=medium), f"{name}, {medium}")
+                    ("all", front(), range(1, 257, 3)), ("twice", large_run(), None), ("one", THREE, (2,)),
+                    ("near", front(), (250, 251, 256)), ("idle", replace(THREE, loads=[0, 0, 0]), (1, 2, 3))):
+                sheet = tezgumi_plot.sweep(tezgumi.sweep(run, counts), title=name, medium=medium)
+                self.assert_readable(sheet, f"{name}, {medium}")
 
     def test_numbers_in_few_letters(self):
         for number, text in (
-                (0, "0"), (999, "999"), (9999, "9,999"), (10_000, "10 k"), (12_345, "12.3 k"), (999_400, "999 k"), (999_600, "1 M"), (2**47, "141 T"),
-                (65_536 * 2**47, "9.22 E"), (819.5625, "819.6"), (1.5, "1.5")):
+                (0, "0"), (999, "999"), (9999, "9,999"), (10_000, "10 k"), (12_345, "12.3 k"), (999_400, "999 k"),
+                (999_600, "1 M"), (2**47, "141 T"), (65_536 * 2**47, "9.22 E"), (819.5625, "819.6"), (1.5, "1.5")):
             self.assertEqual(few_letters(number), text)
 
 
@@ -116,7 +126,8 @@ class Colors(TimedTest):
             palette = Palette(pes, np.arange(pes))
             self.assertEqual(len({(palette.color(pe), palette.pattern(pe)) for pe in range(pes)}), pes)
         palette = Palette(256, np.array([3, 70, 255]))
-        self.assertEqual([palette.color(pe) for pe in (3, 70, 255)], [matplotlib.colors.to_rgb(color) for color in COLORS[:3]])
+        first = [matplotlib.colors.to_rgb(color) for color in COLORS[:3]]
+        self.assertEqual([palette.color(pe) for pe in (3, 70, 255)], first)
 
     def test_many_pes_rise_in_lightness_for_every_reader(self):
         palette = Palette(256, np.arange(256))
@@ -134,7 +145,7 @@ class Colors(TimedTest):
 def lightness_and_hue(color, matrix):
     """The color as a reader sees it, in CIE L*a*b*, whose distances are those that are noticed."""
     parts = np.asarray(color[:3])
-    linear = np.clip(matrix @ np.where(parts <= 0.04045, parts / 12.92, ((parts + 0.055) / 1.055) ** 2.4), 0, 1)
+    linear = np.clip(np.array(matrix) @ np.where(parts <= 0.04045, parts / 12.92, ((parts + 0.055) / 1.055) ** 2.4), 0, 1)
     to_xyz = np.array([[0.4124, 0.3576, 0.1805], [0.2126, 0.7152, 0.0722], [0.0193, 0.1192, 0.9505]])
     x, y, z = (to_xyz @ linear) / np.array([0.9505, 1.0, 1.089])
     f = lambda t: np.cbrt(t) if t > 0.008856 else 7.787 * t + 16 / 116
@@ -152,13 +163,17 @@ class Files(TimedTest):
 
     def test_decisions_that_are_not_right(self):
         decision = tezgumi.decide(THREE)
-        for changed, line in (({"moved": 9}, "✗ check: MovedWrong"), ({"cuts": [0, 1, 3]}, "✗ check: Heavy 1"), ({"stops": [0, 1]}, "✗ check: FenceCount")):
+        for changed, line in (
+                ({"moved": 9}, "✗ check: MovedWrong"), ({"cuts": [0, 1, 3]}, "✗ check: Heavy 1"),
+                ({"stops": [0, 1]}, "✗ check: FenceCount")):
             forged = replace(decision, **changed)
             sheet = tezgumi_plot.decision(THREE, forged, checked=tezgumi.check(THREE, forged))
             self.assertIn(line, [text for text, _ in written(sheet)])
         for changed, text in (
-                ({"cuts": [0, 2, 2]}, "the cuts do not divide 3 elements into 2 blocks"), ({"cuts": [0, 4, 3]}, "the cuts do not"),
-                ({"names": [0, 2]}, "the names are not those of 2 PEs"), ({"stops": [0, 1, 3]}, "a stop of the fence is none of 3 elements"),
+                ({"cuts": [0, 2, 2]}, "the cuts do not divide 3 elements into 2 blocks"),
+                ({"cuts": [0, 4, 3]}, "the cuts do not divide"),
+                ({"names": [0, 2]}, "the names are not those of 2 PEs"),
+                ({"stops": [0, 1, 3]}, "a stop of the fence is none of 3 elements"),
                 ({"places": [0, 0, 2]}, "^element 2 is on no processor")):
             self.assertRaisesRegex(tezgumi.InputError, text, tezgumi_plot.decision, THREE, replace(decision, **changed))
 
@@ -166,8 +181,9 @@ class Files(TimedTest):
         decision = tezgumi.decide(THREE)
         self.assertRaisesRegex(tezgumi.InputError, "the plan is for 3 elements", tezgumi_plot.decision, front(), decision)
         self.assertRaisesRegex(tezgumi.InputError, "the sweep has no figures", tezgumi_plot.sweep, [])
-        self.assertRaisesRegex(
-            tezgumi.InputError, "a picture's name ends with .png, .pdf or .svg", tezgumi_plot.save, tezgumi_plot.decision(THREE, decision), "a.gif")
+        sheet = tezgumi_plot.decision(THREE, decision)
+        text = "^a.gif: a picture's name ends with .png, .pdf or .svg$"
+        self.assertRaisesRegex(tezgumi.InputError, text, tezgumi_plot.save, sheet, "a.gif")
         self.assertRaisesRegex(tezgumi.InputError, "medium is 'wall'", tezgumi_plot.decision, THREE, decision, medium="wall")
 
     def test_no_line_is_left_out_or_crowded(self):

@@ -10,10 +10,12 @@ import numpy as np
 
 import slow_planner
 import tezgumi
-from support import FRONT_TEXT, PACKAGES, THREE, THREE_ON_ONE_TEXT, THREE_TEXT, TimedTest, example, front, large_run, random_run
+from support import FRONT_TEXT, PACKAGES, THREE, THREE_ON_ONE_TEXT, THREE_TEXT
+from support import TimedTest, example, front, large_run, random_run
 from tezgumi import planning
 
 RUNS = 200
+HERE = os.path.dirname(os.path.abspath(__file__))
 
 
 class BesideLbSim(TimedTest):
@@ -29,7 +31,8 @@ class BesideLbSim(TimedTest):
         text = f"step 0 procs 3 elements 0\nbottleneck 0\nfence zero\n{blocks}moved 0\n"
         self.assertEqual(tezgumi.replay_text(empty, tezgumi.decide(empty)), text)
         two = tezgumi.Run(2, [1, 1], [8, 8], [0, 0])
-        text = "step 0 procs 2 elements 2\nbottleneck 1\nfence 0 0 0\nblock 0 0..1 load 1 pe 0\nblock 1 1..2 load 1 pe 1\nmoved 8\n"
+        blocks = "block 0 0..1 load 1 pe 0\nblock 1 1..2 load 1 pe 1\n"
+        text = f"step 0 procs 2 elements 2\nbottleneck 1\nfence 0 0 0\n{blocks}moved 8\n"
         self.assertEqual(tezgumi.replay_text(two, tezgumi.decide(two)), text)
 
     def test_recorded_decisions(self):
@@ -155,9 +158,9 @@ class Statuses(TimedTest):
 
     def test_memory(self):
         # In a process of its own, whose memory is used up when the library asks for some.
-        script = os.path.join(os.path.dirname(os.path.abspath(__file__)), "use_up_memory.py")
-        ended = subprocess.run([sys.executable, script], stdout=subprocess.PIPE, env={**os.environ, "PYTHONPATH": PACKAGES}, timeout=15)
-        self.assertEqual(ended.stdout.decode().split(), ["plan", "OutOfMemory", "decide", "OutOfMemory", "check", "OutOfMemory", "after", "True"])
+        words = [sys.executable, os.path.join(HERE, "use_up_memory.py")]
+        ended = subprocess.run(words, stdout=subprocess.PIPE, env={**os.environ, "PYTHONPATH": PACKAGES}, timeout=15)
+        self.assertEqual(ended.stdout.decode(), "plan OutOfMemory\ndecide OutOfMemory\ncheck OutOfMemory\nafter True\n")
 
     def test_a_status_that_is_not_known(self):
         with mock.patch.object(planning, "library", lambda: mock.Mock(**{"tezgumi_plan.return_value": -9})):
@@ -168,8 +171,8 @@ class FiguresOfPlans(TimedTest):
     def test_the_example(self):
         figures = tezgumi.figures(THREE, tezgumi.plan(THREE))
         self.assertEqual(figures, tezgumi.Figures(
-            elements=3, procs=2, pes=2, total_load=4, heaviest_element=2, greatest_before=3, greatest_after=2, moved_elements=1,
-            moved_bytes=10, total_bytes=27))
+            elements=3, procs=2, pes=2, total_load=4, heaviest_element=2, greatest_before=3, greatest_after=2,
+            moved_elements=1, moved_bytes=10, total_bytes=27))
         self.assertEqual((figures.average_before, figures.average_after), (2.0, 2.0))
         self.assertEqual((figures.imbalance_before, figures.imbalance_after), (1.5, 1.0))
         self.assertEqual(str(figures), "\n".join((
@@ -195,20 +198,30 @@ class FiguresOfPlans(TimedTest):
         run = front()
         swept = tezgumi.sweep(run, (1, 4, 16))
         self.assertEqual([row.pes for row in swept], [1, 4, 16])
-        self.assertEqual([row.greatest_after for row in swept], [slow_planner.least_bottleneck(run.loads.tolist(), pes) for pes in (1, 4, 16)])
+        least = [slow_planner.least_bottleneck(run.loads.tolist(), pes) for pes in (1, 4, 16)]
+        self.assertEqual([row.greatest_after for row in swept], least)
         self.assertEqual(swept[2].moved_bytes, 82746)
-        lines = tezgumi.table(swept).split("\n")
+        lines = str(swept).split("\n")
         self.assertEqual(lines[0], "PEs  greatest load  average load  imbalance  moved elements  moved bytes")
         self.assertEqual(lines[3], " 16            876        819.63     1.0688             137       82,746")
         self.assertEqual([row.pes for row in tezgumi.sweep(THREE)], [1, 2, 4, 8, 16, 32, 64, 128, 256])
         peaks = [row.greatest_after for row in tezgumi.sweep(large_run())]
         self.assertEqual(peaks, sorted(peaks, reverse=True))
 
+    def test_how_a_notebook_shows_them(self):
+        swept = tezgumi.sweep(THREE, (1, 2))
+        for shown in (swept, swept[0]):
+            printer = mock.Mock()
+            shown._repr_pretty_(printer, False)
+            printer.text.assert_called_once_with(str(shown))
+
     def test_places_of_another_run(self):
-        self.assertRaisesRegex(tezgumi.InputError, "the plan is for 3 elements, and the run has 300", tezgumi.figures, front(), tezgumi.plan(THREE))
-        plan = tezgumi.Plan(1, [0, 0, 1], 4, 9)
-        self.assertRaisesRegex(tezgumi.InputError, "^element 2 is on no processor: its place is 1, and with 1 PEs", tezgumi.figures, THREE, plan)
-        self.assertRaisesRegex(tezgumi.InputError, "the plan is for 2 elements, and the run has 3", tezgumi.pe_loads, THREE, [0, 0], 2)
-        self.assertRaisesRegex(tezgumi.InputError, "the plan is for 2 elements, and the run has 3", THREE.moves_to, [0, 0])
+        three, far = tezgumi.plan(THREE), tezgumi.Plan(1, [0, 0, 1], 4, 9)
         other = replace(tezgumi.decide(THREE), cuts=[0, 2, 9])
-        self.assertRaisesRegex(tezgumi.InputError, "the cuts go to element 9, and the run has 3", tezgumi.replay_text, THREE, other)
+        for text, call, given in (
+                ("^the plan is for 3 elements, and the run has 300$", tezgumi.figures, (front(), three)),
+                ("^the plan is for 2 elements, and the run has 3$", tezgumi.pe_loads, (THREE, [0, 0], 2)),
+                ("^the plan is for 2 elements, and the run has 3$", THREE.moves_to, ([0, 0],)),
+                ("^element 2 is on no processor: its place is 1, and with 1 PEs", tezgumi.figures, (THREE, far)),
+                ("^the cuts go to element 9, and the run has 3$", tezgumi.replay_text, (THREE, other))):
+            self.assertRaisesRegex(tezgumi.InputError, text, call, *given)

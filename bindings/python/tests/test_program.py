@@ -50,14 +50,15 @@ class Program(TimedTest):
         self.assertEqual((status, out.split("\n")[3]), (0, "greatest load        3       4"))
         status, out, _ = call("--procs", "16,4,1", "examples/moving-front.lbd1")
         rows = [line.split() for line in out.split("\n")]
-        self.assertEqual(rows[1], ["PEs", "greatest", "load", "average", "load", "imbalance", "moved", "elements", "moved", "bytes"])
+        self.assertEqual(rows[1], "PEs greatest load average load imbalance moved elements moved bytes".split())
         self.assertEqual([row[:2] for row in rows[2:5]], [["16", "876"], ["4", "3,329"], ["1", "13,114"]])
         self.assertEqual(rows[5], ["check:", "ok"])
 
     def test_words_that_are_not_understood(self):
         for words, text in (
-                ((), "FILE"), (("a", "b"), "unrecognized"), (("a", "--procs", "0"), "0 is not 1 to 256"), (("a", "--procs", "257"), "257 is not 1 to 256"),
-                (("a", "--procs", "2,x"), "'2,x' is no list of whole numbers"), (("a", "--procs"), "expected one argument")):
+                ((), "FILE"), (("a", "b"), "unrecognized"), (("a", "--procs"), "expected one argument"),
+                (("a", "--procs", "0"), "0 is not 1 to 256"), (("a", "--procs", "257"), "257 is not 1 to 256"),
+                (("a", "--procs", "2,x"), "'2,x' is no list of whole numbers")):
             status, out, errors = call(*words)
             self.assertEqual((status, out), (2, ""))
             self.assertIn(text, errors)

@@ -2,9 +2,9 @@
 
     python3 bindings/python/tests/time_beside_c.py [ROUNDS]
 
-A round calls from C and from Python in turn, so that both meet the same load of the machine. Prints the least and the median of
-each, and their ratio. `plan, from arrays` makes the Run from numpy arrays in each call, with all its tests, and `from copies`
-copies them too. A C compiler is needed.
+A round calls from C and from Python in turn, so that both meet the same load of the machine. Prints the least and the median
+of each, and their ratio. `plan, from arrays` makes the Run from numpy arrays in each call, with all its tests, and `from
+copies` copies them too. A C compiler is needed.
 """
 import ctypes
 import os
@@ -51,7 +51,8 @@ double call(int kind, uint32_t n, uint32_t pes, const uint64_t *loads, const uin
 
 def compiled(folder):
     path = os.path.join(folder, "caller.so")
-    words = ["cc", "-O2", "-std=c99", "-shared", "-fPIC", "-I", INCLUDE, "-x", "c", "-", "-x", "none", os.path.abspath(candidates()[0]), "-o", path]
+    library = os.path.abspath(candidates()[0])
+    words = ["cc", "-O2", "-std=c99", "-shared", "-fPIC", "-I", INCLUDE, "-x", "c", "-", "-x", "none", library, "-o", path]
     subprocess.run(words, input=SOURCE.encode(), check=True)
     caller = ctypes.CDLL(path, mode=ctypes.RTLD_GLOBAL)
     caller.call.restype = ctypes.c_double
@@ -69,7 +70,8 @@ def main(rounds):
     count, pes = tezgumi.ELEMENTS, tezgumi.PES
     index = np.arange(count)
     front = 200 - np.minimum(np.abs(index - 40_000) // 20, 200)
-    arrays = ((20 + index * 7 % 13 + front).astype(np.uint64), (200 + index * 599 % 801).astype(np.uint32), (index * pes // count).astype(np.uint32))
+    lists = (20 + index * 7 % 13 + front, np.uint64), (200 + index * 599 % 801, np.uint32), (index * pes // count, np.uint32)
+    arrays = [numbers.astype(kind) for numbers, kind in lists]
     run = tezgumi.Run(pes, *arrays)
     decision = tezgumi.decide(run)
     calls = (
@@ -87,7 +89,9 @@ def main(rounds):
                 in_c.append(from_c(kind, count, pes, *pointers))
                 in_python.append(timed(call))
             c, python = ((min(times), statistics.median(times)) for times in (in_c, in_python))
-            print(f"{name:18} C {c[0]:.3f} ({c[1]:.3f})  Python {python[0]:.3f} ({python[1]:.3f})  ratio {python[0] / c[0]:.3f} ({python[1] / c[1]:.3f})")
+            ratios = [one / other for one, other in zip(python, c)]
+            told = (("C", c), ("Python", python), ("ratio", ratios))
+            print(f"{name:18}", *(f"{what} {least:.3f} ({median:.3f})" for what, (least, median) in told), sep="  ")
 
 
 if __name__ == "__main__":

@@ -26,18 +26,18 @@ import sys
 try:
     import numpy
 except ImportError as error:
-    raise ImportError(f"tezgumi needs numpy, and {sys.executable} has none; Debian's python3 has it by python3-numpy") from error
+    raise ImportError(f"tezgumi needs numpy (python3-numpy of Debian), and {sys.executable} has none") from error
 
 from .checking import Flaw, Verdict
 from .dumps import Dump, decode, encode, read_dump, write_dump
 from .errors import DumpError, InputError, LibraryError, LoadError, OutOfMemory, TezgumiError
-from .figures import Figures, figures, pe_loads, sweep, table
+from .figures import Figures, Sweep, figures, pe_loads, sweep, table
 from .planning import check, decide, plan
 from .runs import ELEMENTS, LOAD, MOVE, PES, STATE_BYTES, Decision, Plan, Run
 from .texts import replay_text
 
 __all__ = [
     "ELEMENTS", "LOAD", "MOVE", "PES", "STATE_BYTES", "Decision", "Dump", "DumpError", "Figures", "Flaw", "InputError",
-    "LibraryError", "LoadError", "OutOfMemory", "Plan", "Run", "TezgumiError", "Verdict", "check", "decide", "decode",
-    "encode", "figures", "pe_loads", "plan", "read_dump", "replay_text", "sweep", "table", "write_dump",
+    "LibraryError", "LoadError", "OutOfMemory", "Plan", "Run", "Sweep", "TezgumiError", "Verdict", "check", "decide",
+    "decode", "encode", "figures", "pe_loads", "plan", "read_dump", "replay_text", "sweep", "table", "write_dump",
 ]

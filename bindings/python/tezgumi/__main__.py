@@ -24,7 +24,7 @@ def _parser():
         prog="python3 -m tezgumi", description="Plans the run of a dump, checks the decision, and prints its figures.")
     parser.add_argument("file", metavar="FILE", help="a dump, LBD1 or LBD2")
     parser.add_argument(
-        "--procs", type=_counts, metavar="P[,P..]", help="numbers of PEs to plan for, 1 to 256; one row each where there are several")
+        "--procs", type=_counts, metavar="P[,P..]", help="numbers of PEs to plan for, 1 to 256; of several a row each")
     parser.add_argument(
         "--plot", type=_picture, metavar="OUT", help="draw into this file, .png, .pdf or .svg; of several P the sweep")
     return parser

@@ -186,7 +186,8 @@ def _refuse_for_lbd1(run, decision):
     wide = run.loads >= 2**32
     if wide.any():
         element = int(np.argmax(wide))
-        raise InputError(f"element {element} has the load {int(run.loads[element])}, and LBD1 holds loads below 4294967296; version=2 holds it")
+        load = int(run.loads[element])
+        raise InputError(f"element {element} has the load {load}, and LBD1 holds those below {2**32}; version=2 holds it")
 
 
 def _decision_bytes(run, decision):

@@ -3,8 +3,8 @@ from dataclasses import dataclass
 
 import numpy as np
 
-from .errors import InputError
 from .planning import plan as plan_for
+from .runs import on_no_processor
 
 
 @dataclass(frozen=True)
@@ -54,6 +54,20 @@ class Figures:
         )
         return _aligned(rows)
 
+    def _repr_pretty_(self, printer, _):
+        # How IPython and notebooks show it.
+        printer.text(str(self))
+
+
+class Sweep(list):
+    """The figures for several numbers of PEs. As a text it is a table, which a notebook shows."""
+
+    def __str__(self):
+        return table(self)
+
+    def _repr_pretty_(self, printer, _):
+        printer.text(str(self))
+
 
 def figures(run, plan):
     """The figures of a plan, or of a decision, on a run."""
@@ -62,9 +76,17 @@ def figures(run, plan):
     after = pe_loads(run, plan.places, plan.pes)
     moves = run.places != plan.places
     return Figures(
-        elements=len(run), procs=run.procs, pes=plan.pes, total_load=int(run.loads.sum(dtype=np.uint64)),
-        heaviest_element=int(run.loads.max(initial=0)), greatest_before=int(before.max()), greatest_after=int(after.max()), moved_elements=int(np.count_nonzero(moves)),
-        moved_bytes=int(run.bytes.sum(dtype=np.uint64, where=moves)), total_bytes=int(run.bytes.sum(dtype=np.uint64)))
+        elements=len(run),
+        procs=run.procs,
+        pes=plan.pes,
+        total_load=int(run.loads.sum(dtype=np.uint64)),
+        heaviest_element=int(run.loads.max(initial=0)),
+        greatest_before=int(before.max()),
+        greatest_after=int(after.max()),
+        moved_elements=int(np.count_nonzero(moves)),
+        moved_bytes=int(run.bytes.sum(dtype=np.uint64, where=moves)),
+        total_bytes=int(run.bytes.sum(dtype=np.uint64)),
+    )
 
 
 def pe_loads(run, places, pes):
@@ -73,17 +95,17 @@ def pe_loads(run, places, pes):
     places = np.asarray(places, dtype=np.int64)
     if places.size and int(places.max()) >= pes:
         element = int(np.argmax(places >= pes))
-        raise InputError(f"element {element} is on no processor: its place is {int(places[element])}, and with {pes} PEs it is 0 to {pes - 1}")
+        raise on_no_processor(element, int(places[element]), pes)
     # A double holds sums up to 53 bits: those of the lower 24 bits of 65,536 loads have 40, and those of the rest 39.
     low, high = (np.bincount(places, weights=part, minlength=pes) for part in (run.loads & 0xFFFFFF, run.loads >> 24))
     return low.astype(np.uint64) + (high.astype(np.uint64) << np.uint64(24))
 
 
 def sweep(run, counts=None):
-    """The figures of the plan for each number of PEs, as a list; for 1, 2, 4 .. 256 and the run's own, if none are named."""
+    """The figures of the plan for each number of PEs, as a Sweep; for 1, 2, 4 .. 256 and the run's own, if none are named."""
     if counts is None:
         counts = sorted({2**k for k in range(9)} | {run.procs})
-    return [figures(run, plan_for(run, pes)) for pes in counts]
+    return Sweep(figures(run, plan_for(run, pes)) for pes in counts)
 
 
 def table(swept):

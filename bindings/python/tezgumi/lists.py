@@ -58,7 +58,8 @@ def _array(values, name):
 
 
 def _refuser(name, least, most):
-    return lambda index, value: InputError(f"{name}[{index}] is {value!r}; it has to be a whole number from {least} to {most}")
+    return lambda index, value: InputError(
+        f"{name}[{index}] is {value!r}; it has to be a whole number from {least} to {most}")
 
 
 def _one_by_one(values, least, most, refuse):

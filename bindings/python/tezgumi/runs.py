@@ -22,9 +22,13 @@ MOVE = np.dtype([("element", np.uint32), ("present", np.uint32), ("planned", np.
 
 
 class _Record:
-    """Compared by all fields, and hashed by none: the fields hold arrays."""
+    """Frozen, compared by all fields, and not to be hashed: the fields hold arrays."""
 
     __hash__ = None
+
+    def _keep(self, name, value):
+        # How a frozen dataclass puts its own fields in order.
+        object.__setattr__(self, name, value)
 
     def __eq__(self, other):
         if type(self) is not type(other):
@@ -49,12 +53,11 @@ class Run(_Record):
     copy: InitVar[bool] = True
 
     def __post_init__(self, copy):
-        keep = lambda name, value: object.__setattr__(self, name, value)
-        keep("procs", whole_number(self.procs, 1, PES, "procs"))
-        keep("step", whole_number(self.step, 0, _WORD, "step"))
-        keep("bytes", frozen(self.bytes, np.uint32, "bytes", _wrong_bytes, STATE_BYTES, copy))
-        keep("places", frozen(self.places, np.uint32, "places", self._wrong_place, self.procs - 1, copy))
-        keep("loads", frozen(self.loads, np.uint64, "loads", _wrong_load, LOAD, copy))
+        self._keep("procs", whole_number(self.procs, 1, PES, "procs"))
+        self._keep("step", whole_number(self.step, 0, _WORD, "step"))
+        self._keep("bytes", frozen(self.bytes, np.uint32, "bytes", _wrong_bytes, STATE_BYTES, copy))
+        self._keep("places", frozen(self.places, np.uint32, "places", self._wrong_place, self.procs - 1, copy))
+        self._keep("loads", frozen(self.loads, np.uint64, "loads", _wrong_load, LOAD, copy))
         counts = len(self.loads), len(self.bytes), len(self.places)
         if len(set(counts)) > 1:
             raise InputError("there are {} loads, {} packed sizes and {} places; an element has one of each".format(*counts))
@@ -62,8 +65,7 @@ class Run(_Record):
             raise InputError(f"there are {counts[0]} elements, and at most {ELEMENTS} are taken")
 
     def _wrong_place(self, index, value):
-        last = self.procs - 1
-        return InputError(f"element {index} is on no processor: its place is {value!r}, and with {self.procs} PEs it is 0 to {last}")
+        return on_no_processor(index, value, self.procs)
 
     def __len__(self):
         return len(self.loads)
@@ -92,6 +94,11 @@ class Run(_Record):
             raise InputError(f"the plan is for {len(places)} elements, and the run has {len(self)}")
 
 
+def on_no_processor(index, place, pes):
+    """The refusal of an element's place."""
+    return InputError(f"element {index} is on no processor: its place is {place!r}, and with {pes} PEs it is 0 to {pes - 1}")
+
+
 def _wrong_load(index, value):
     if isinstance(value, int) and not isinstance(value, bool) and value > LOAD:
         return LoadError(f"element {index} has too great a load: {value}, and at most {LOAD} is taken")
@@ -118,11 +125,10 @@ class Plan(_Record):
     moved: int
 
     def __post_init__(self):
-        keep = lambda name, value: object.__setattr__(self, name, value)
-        keep("pes", whole_number(self.pes, 1, PES, "pes"))
-        keep("places", frozen(self.places, np.uint32, "places"))
-        keep("bottleneck", whole_number(self.bottleneck, 0, _LONG, "bottleneck"))
-        keep("moved", whole_number(self.moved, 0, _LONG, "moved"))
+        self._keep("pes", whole_number(self.pes, 1, PES, "pes"))
+        self._keep("places", frozen(self.places, np.uint32, "places"))
+        self._keep("bottleneck", whole_number(self.bottleneck, 0, _LONG, "bottleneck"))
+        self._keep("moved", whole_number(self.moved, 0, _LONG, "moved"))
 
     def __repr__(self):
         return f"Plan({self._shown()})"
@@ -152,10 +158,10 @@ class Decision(Plan):
     def __post_init__(self):
         super().__post_init__()
         for name in ("cuts", "stops", "names"):
-            object.__setattr__(self, name, frozen(getattr(self, name), np.uint32, name))
+            self._keep(name, frozen(getattr(self, name), np.uint32, name))
         for name in ("block_prices", "pe_prices"):
-            object.__setattr__(self, name, frozen(getattr(self, name), np.int64, name))
-        object.__setattr__(self, "moves", _moves(self.moves))
+            self._keep(name, frozen(getattr(self, name), np.int64, name))
+        self._keep("moves", _moves(self.moves))
 
     def __repr__(self):
         lists = ", ".join(f"{name}={shown(getattr(self, name))}" for name in ("cuts", "names", "stops"))

@@ -60,7 +60,7 @@ def draw_cuts(axes, run, decision):
     above = axes.get_xaxis_transform()
     if len(places) <= MARKS:
         axes.vlines(places, 0, 1, transform=above, color=QUIET, linewidth=0.6 * unit, zorder=0.5)
-        axes.plot(places, np.full(len(places), 1.05), "v", transform=above, color=INK, markersize=8 * unit, markeredgewidth=0, clip_on=False)
+        _draw_marks(axes, places, 1.05, "v", transform=above)
     else:
         axes.vlines(places, 1.015, 1.075, transform=above, color=INK, linewidth=0.5 * unit, clip_on=False)
 
@@ -74,7 +74,7 @@ def draw_fence(axes, run, decision):
     if len(stops) > MARKS:
         axes.vlines(stops, 0.25, 0.95, color=INK, linewidth=0.5 * unit)
         return
-    axes.plot(stops, np.full(len(stops), 0.80), "^", color=INK, markersize=8 * unit, markeredgewidth=0, clip_on=False)
+    _draw_marks(axes, stops, 0.80, "^")
     pairs = sorted(set(zip(decision.stops.tolist(), decision.stops[1:].tolist())))
     heights = [0.42 - 0.26 * (i % 2) for i in range(len(pairs))]
     spans = [[(a - 0.5, y), (b + 0.5, y)] for (a, b), y in zip(pairs, heights)]
@@ -87,8 +87,8 @@ def draw_places(axes, run, places, palette, label):
     axes.set_ylim(0, 1)
     edges, pes = _stretches(places)
     if len(pes) > 2 * BINS:
-        axes.imshow(
-            palette.colors[places[_sampled(len(places))]][np.newaxis], extent=(-0.5, len(run) - 0.5, 0, 1), aspect="auto", interpolation="nearest")
+        sampled = palette.colors[places[_sampled(len(places))]]
+        axes.imshow(sampled[np.newaxis], extent=(-0.5, len(run) - 0.5, 0, 1), aspect="auto", interpolation="nearest")
     else:
         _draw_stretches(axes, edges, pes, palette)
     _label_row(axes, label)
@@ -116,6 +116,12 @@ def number_elements(axes, run):
     room = points_wide(axes) / text_width(f"{len(run):,}" + "  ", size)
     count_axis(axes.xaxis, len(run), min(room, 24))
     axes.set_xlabel("element, in order", fontsize=axes.figure.text_size, color=INK)
+
+
+def _draw_marks(axes, places, height, shape, **how):
+    size = 8 * axes.figure.scale
+    heights = np.full(len(places), height)
+    axes.plot(places, heights, shape, color=INK, markersize=size, markeredgewidth=0, clip_on=False, **how)
 
 
 def _chain_limits(axes, run):
@@ -170,9 +176,12 @@ def _draw_stretches(axes, edges, pes, palette):
 
 def _write_number(axes, x, pe, palette, size):
     # A pattern would run through the number: it stands on a plain ground there.
-    ground = {"boxstyle": "square,pad=0.22", "facecolor": palette.color(pe), "edgecolor": "none"} if palette.pattern(pe) else None
-    axes.text(x, 0.47, str(pe), ha="center", va="center", fontsize=size, color=palette.ink(pe), bbox=ground, clip_on=True)
+    ground = {"boxstyle": "square,pad=0.22", "facecolor": palette.color(pe), "edgecolor": "none"}
+    axes.text(
+        x, 0.47, str(pe), ha="center", va="center", fontsize=size, color=palette.ink(pe), clip_on=True,
+        bbox=ground if palette.pattern(pe) else None)
 
 
 def _label_row(axes, label):
-    axes.text(-0.008, 0.5, label, transform=axes.transAxes, ha="right", va="center", fontsize=axes.figure.text_size * 0.9, color=QUIET)
+    size = axes.figure.text_size * 0.9
+    axes.text(-0.008, 0.5, label, transform=axes.transAxes, ha="right", va="center", fontsize=size, color=QUIET)

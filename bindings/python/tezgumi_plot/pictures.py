@@ -75,15 +75,16 @@ def _told_fence(made):
         return "no fence: the bottleneck is 0"
     mark = "▲" if len(np.unique(made.stops)) <= MARKS else "|"
     load = few_letters(made.bottleneck)
-    return f"fence {mark}: the elements from each stop to the next, both included, weigh {load} or more, so no division is lighter"
+    told = f"the elements from each stop to the next, both included, weigh {load} or more"
+    return f"fence {mark}: {told}, so no division is lighter"
 
 
 def _draw_loads_of_pes(sheet, run, made, palette, figures):
     axes = sheet.panel(LEFT, 5.85, 6.35, 1.85)
     draw_bars(axes, run, made, palette)
     draw_limits(axes, made, figures.average_after)
-    is_paired = max(run.procs, made.pes) <= PAIRS
-    axes.set_xlabel("PE (left: before, right: after)" if is_paired else "PE (line: before, filled: after)", fontsize=sheet.text_size, color=INK)
+    told = "left: before, right: after" if max(run.procs, made.pes) <= PAIRS else "line: before, filled: after"
+    axes.set_xlabel(f"PE ({told})", fontsize=sheet.text_size, color=INK)
 
 
 def _write_figures(sheet, figures, checked):
@@ -123,15 +124,13 @@ def sweep(swept, title=None, medium="screen"):
 
 
 def _sweep_loads(axes, swept):
-    unit = axes.figure.scale
-    pes = [row.pes for row in swept]
     lines = (
         ("greatest load", [row.greatest_after for row in swept], "o-", COLORS[0]),
         ("average load", [row.average_after for row in swept], "^--", COLORS[5]),
         ("heaviest element", [row.heaviest_element for row in swept], ":", INK),
     )
     for name, values, shape, color in lines:
-        axes.plot(pes, values, shape, color=color, label=name, markersize=6 * unit, linewidth=1.5 * unit)
+        _draw_line(axes, swept, values, shape, color, label=name)
     if swept[0].total_load:
         axes.set_yscale("log")
     axes.yaxis.set_major_formatter(FuncFormatter(lambda number, _: few_letters(number)))
@@ -142,7 +141,7 @@ def _sweep_loads(axes, swept):
 
 def _sweep_imbalance(axes, swept):
     unit = axes.figure.scale
-    axes.plot([row.pes for row in swept], [row.imbalance_after for row in swept], "s-", color=COLORS[5], markersize=6 * unit, linewidth=1.5 * unit)
+    _draw_line(axes, swept, [row.imbalance_after for row in swept], "s-", COLORS[5])
     axes.axhline(1, color=INK, linewidth=0.8 * unit, linestyle=(0, (4, 3)))
     most = max(row.imbalance_after for row in swept)
     axes.set_ylim(1 - 0.05 * max(most - 1, 0.01), 1 + 1.05 * max(most - 1, 0.01))
@@ -151,13 +150,16 @@ def _sweep_imbalance(axes, swept):
 
 
 def _sweep_moves(axes, swept):
-    unit = axes.figure.scale
     whole = max(swept[0].total_bytes, 1)
-    parts = [100 * row.moved_bytes / whole for row in swept]
-    axes.plot([row.pes for row in swept], parts, "D-", color=COLORS[2], markersize=6 * unit, linewidth=1.5 * unit)
+    _draw_line(axes, swept, [100 * row.moved_bytes / whole for row in swept], "D-", COLORS[2])
     axes.set_ylim(0, 104)
     axes.yaxis.set_major_formatter(FuncFormatter(lambda number, _: f"{number:.0f} %"))
     _head(axes, f"bytes that move, of {few_letters(swept[0].total_bytes)}")
+
+
+def _draw_line(axes, swept, values, shape, color, **how):
+    unit = axes.figure.scale
+    axes.plot([row.pes for row in swept], values, shape, color=color, markersize=6 * unit, linewidth=1.5 * unit, **how)
 
 
 def _head(axes, text):
@@ -176,7 +178,8 @@ def _number_counts(axes, counts):
     point = (high - low + 2 * margin) / points_wide(axes)
     size = axes.figure.text_size * 0.9
     # The ends first, then powers of two, then the rest.
-    by_rank = sorted(set(counts), key=lambda count: (count not in (min(counts), max(counts)), bin(count).count("1") > 1, count))
+    ends = min(counts), max(counts)
+    by_rank = sorted(set(counts), key=lambda count: (count not in ends, bin(count).count("1") > 1, count))
     taken = []
     for count in by_rank:
         if all(abs(np.log2(count / other)) > point * (text_width(f"{count}{other}", size) / 2 + 4) for other in taken):
