@@ -154,6 +154,22 @@ static void place_that_is_no_rank(void)
     tezgumi_mpi_chain_free(&chain);
 }
 
+/* The last rank has a chain that it gathered alone. */
+static void chain_of_fewer_ranks(void)
+{
+    const tezgumi_mpi_callbacks callbacks = callbacks_of(&f);
+    const tezgumi_mpi_element one = {1, 0, 0};
+    tezgumi_mpi_chain chain = {0}, alone = {0};
+    tezgumi_mpi_chain *given = wrong_here() ? &alone : &chain;
+    const uint32_t count = deal_some();
+    EXPECT(tezgumi_mpi_gather(MPI_COMM_SELF, &one, 1, &alone, NULL) == TEZGUMI_OK);
+    EXPECT(tezgumi_mpi_gather(MPI_COMM_WORLD, mine, count, &chain, NULL) == TEZGUMI_OK);
+    expect_refused(tezgumi_mpi_decide(MPI_COMM_WORLD, given, NULL, &report), TEZGUMI_BAD_INPUT, 0);
+    expect_refused(tezgumi_mpi_move(MPI_COMM_WORLD, given, &callbacks, NULL, &report), TEZGUMI_BAD_INPUT, 0);
+    tezgumi_mpi_chain_free(&chain);
+    tezgumi_mpi_chain_free(&alone);
+}
+
 /* One rank would move an element, and the others would not. */
 static void chains_that_differ(void)
 {
@@ -305,6 +321,7 @@ int main(int argc, char **argv)
     run_test("each status has a name", names);
     if (ranks > 1) {
         run_test("a communicator of two groups", two_sides);
+        run_test("a chain of fewer ranks", chain_of_fewer_ranks);
         run_test("chains that differ", chains_that_differ);
         run_test("a pack that fails", pack_that_fails);
         run_test("an unpack that fails", unpack_that_fails);

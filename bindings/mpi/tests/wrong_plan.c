@@ -4,7 +4,7 @@
 
 static field f;
 static tezgumi_mpi_report report;
-static int wrong_here, mpi_fails;
+static int wrong_here, mpi_fails, decisions;
 
 int32_t __real_tezgumi_decide(
     const uint64_t *loads, size_t loads_len, const uint32_t *bytes, size_t bytes_len,
@@ -50,6 +50,7 @@ int32_t __wrap_tezgumi_decide(
         new_places, new_places_len, bottleneck, moved, cuts, cuts_len, stops, stops_len, stops_count, names, names_len,
         block_prices, block_prices_len, pe_prices, pe_prices_len);
     spoil(new_places, new_places_len, pes);
+    decisions++;
     return status;
 }
 
@@ -115,6 +116,18 @@ static void wrong_and_unchecked(void)
     tezgumi_mpi_chain_free(&chain);
 }
 
+/* Certificates are made only where they are checked. */
+static void certificates(void)
+{
+    tezgumi_mpi_chain chain = {0};
+    decisions = 0;
+    decide_wrongly(0, &chain);
+    EXPECT(decisions == 1);
+    decide_wrongly(1, &chain);
+    EXPECT(decisions == 1);
+    tezgumi_mpi_chain_free(&chain);
+}
+
 static void other_library(void)
 {
     deal(&f, 50, 2, SCATTERED);
@@ -139,6 +152,7 @@ int main(int argc, char **argv)
     begin_tests(&argc, &argv);
     run_test("a plan with a flaw on one rank", wrong_and_checked);
     if (ranks > 1) run_test("a plan of its own on one rank, without the checker", wrong_and_unchecked);
+    run_test("certificates only where they are checked", certificates);
     run_test("another library on one rank", other_library);
     run_test("an MPI call that fails", failing_mpi);
     field_free(&f);
