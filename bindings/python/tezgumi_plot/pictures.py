@@ -115,11 +115,11 @@ def sweep(swept, title=None, medium="screen"):
     sheet = Sheet(medium, 5.0)
     sheet.write(LEFT, 0.18, title or f"{swept[0].elements:,} elements", size=1.35, weight="bold")
     panels = [sheet.panel(LEFT + 3.85 * i, 1.0, 2.95, 3.2) for i in range(3)]
+    for axes in panels:
+        _number_counts(axes, [row.pes for row in swept])
     _sweep_loads(panels[0], swept)
     _sweep_imbalance(panels[1], swept)
     _sweep_moves(panels[2], swept)
-    for axes in panels:
-        _number_counts(axes, [row.pes for row in swept])
     return sheet
 
 
@@ -159,7 +159,11 @@ def _sweep_moves(axes, swept):
 
 def _draw_line(axes, swept, values, shape, color, **how):
     unit = axes.figure.scale
-    axes.plot([row.pes for row in swept], values, shape, color=color, markersize=6 * unit, linewidth=1.5 * unit, **how)
+    counts = [row.pes for row in swept]
+    marked = _apart(axes, counts, lambda *_: 9 * unit)
+    axes.plot(
+        counts, values, shape, color=color, markersize=6 * unit, linewidth=1.5 * unit,
+        markevery=[counts.index(count) for count in marked], **how)
 
 
 def _head(axes, text):
@@ -169,21 +173,26 @@ def _head(axes, text):
 
 
 def _number_counts(axes, counts):
-    """Numbers of PEs at logarithmic places: each where there is room, and else those that leave room to the last taken."""
+    """Numbers of PEs at logarithmic places: each where there is room."""
     axes.set_xscale("log", base=2)
     axes.xaxis.set_minor_locator(NullLocator())
     low, high = np.log2(min(counts)), np.log2(max(counts))
     margin = max(0.05 * (high - low), 0.25)
     axes.set_xlim(2 ** (low - margin), 2 ** (high + margin))
-    point = (high - low + 2 * margin) / points_wide(axes)
     size = axes.figure.text_size * 0.9
-    # The ends first, then powers of two, then the rest.
-    ends = min(counts), max(counts)
-    by_rank = sorted(set(counts), key=lambda count: (count not in ends, bin(count).count("1") > 1, count))
-    taken = []
-    for count in by_rank:
-        if all(abs(np.log2(count / other)) > point * (text_width(f"{count}{other}", size) / 2 + 4) for other in taken):
-            taken.append(count)
-    axes.xaxis.set_major_locator(FixedLocator(sorted(taken)))
+    numbered = _apart(axes, counts, lambda one, other: text_width(f"{one}{other}", size) / 2 + 4)
+    axes.xaxis.set_major_locator(FixedLocator(sorted(numbered)))
     axes.xaxis.set_major_formatter(FuncFormatter(lambda number, _: f"{number:.0f}"))
     axes.set_xlabel("PEs", fontsize=axes.figure.text_size, color=INK)
+
+
+def _apart(axes, counts, room):
+    """Those of the numbers that are as far apart as the room of any two, in points: the ends first, then powers of two."""
+    low, high = axes.get_xlim()
+    point = np.log2(high / low) / points_wide(axes)
+    ends = min(counts), max(counts)
+    taken = []
+    for count in sorted(set(counts), key=lambda count: (count not in ends, bin(count).count("1") > 1, count)):
+        if all(abs(np.log2(count / other)) > point * room(count, other) for other in taken):
+            taken.append(count)
+    return taken
