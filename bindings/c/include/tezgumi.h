@@ -184,7 +184,7 @@ typedef struct {
 } tezgumi_decision;
 
 /* Gets room for a decision on n elements and pes PEs, whose lists are all 0. TEZGUMI_BAD_INPUT where d is null or a
- * number is past its limit, TEZGUMI_NO_MEMORY where malloc refused: *d may then be freed all the same. */
+ * number is past its limit, TEZGUMI_NO_MEMORY where calloc refused: *d may then be freed all the same. */
 static inline int32_t tezgumi_decision_room(tezgumi_decision *d, uint32_t n, uint32_t pes)
 {
     const size_t prices = 2 * (size_t)pes * sizeof(int64_t);
@@ -192,9 +192,8 @@ static inline int32_t tezgumi_decision_room(tezgumi_decision *d, uint32_t n, uin
     if (!d) return TEZGUMI_BAD_INPUT;
     memset(d, 0, sizeof *d);
     if (n > TEZGUMI_ELEMENTS || pes < 1 || pes > TEZGUMI_PES) return TEZGUMI_BAD_INPUT;
-    d->room = malloc(prices + words);
+    d->room = calloc(1, prices + words);
     if (!d->room) return TEZGUMI_NO_MEMORY;
-    memset(d->room, 0, prices + words);
     d->n = n;
     d->pes = pes;
     d->block_prices = (int64_t *)d->room;
