@@ -17,17 +17,18 @@ ghost use Rattle.lb_lists.specs.Rooms.{claim_in, HasRoom};
 ghost use Rattle.lb_lists.specs.Runs.{sizes_of, AreSmall, IsAsked};
 ghost use Rattle.lb_capi.specs.Calls.{claim_of, refusal_status, room_of, run_of};
 
-use lb_lists::{
-    Claim, Room, Run, RunError, check_claim, decide_into, number_of, plan_into,
-};
+use lb_lists::{Claim, Room, Run, RunError, check_claim, decide_into, number_of, plan_into};
 use std::alloc::Global;
+
+// The number of this interface.
+const ABI: u32 = 1;
 
 /// The number of this interface: it changes where a call's arguments or their meaning do.
 #[unsafe(no_mangle)]
 pub extern "C" fn tezgumi_abi() -> u32
     ensures { result ≡ 1 }
 {
-    1
+    ABI
 }
 
 // The status of a refusal.

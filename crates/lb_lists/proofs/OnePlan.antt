@@ -5,7 +5,6 @@ use Rattle.chain_partition.proofs.ChosenOnce.{only_from_chosen}
 use Rattle.lb_certificates.specs.Naming.{IsLeastNaming, bytes_moved}
 use Rattle.lb_certificates.specs.declared.division.Division.{Division}
 use Rattle.lb_certificates.proofs.LeastNamings.{one_least}
-use Rattle.lb_strategy.specs.Moves.{planned_pe}
 use Rattle.lb_lists.specs.Claims.{division_of}
 use Rattle.lb_lists.specs.Places.{ArePlaces}
 use Rattle.lb_lists.specs.Plans.{IsPlan}
