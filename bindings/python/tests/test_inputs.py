@@ -68,6 +68,7 @@ class Refused(TimedTest):
         text = "^element 1 has too great a load: 140737488355328, and at most 140737488355327 is taken$"
         self.refuses(text, tezgumi.LoadError, loads=[1, 2**47, 1])
         self.refuses("^element 2 has too great a load", tezgumi.LoadError, loads=[1, 1, 2**70])
+        self.refuses("^element 1 has too great a load", tezgumi.LoadError, loads=np.array([1, np.uint64(2**63), 2], object))
         self.refuses("^element 0 has the load -1, and not a whole number from 0 to 140737488355327$", loads=[-1, 1, 1])
         self.refuses("^element 1 has the load 1.5, and not a whole number", loads=[1, 1.5, 1])
         self.refuses("^element 0 has the load nan", loads=np.array([np.nan, 1, 1]))

@@ -59,6 +59,11 @@ class BesideAPlainPlanner(TimedTest):
             with self.subTest(seed=seed):
                 self.compare(*random_run(seed))
 
+    def test_random_runs_on_more_pes(self):
+        for seed in range(20):
+            with self.subTest(seed=seed):
+                self.compare(*random_run(seed, elements=60, pes=12))
+
     def compare(self, run, pes):
         lists = run.loads.tolist(), run.bytes.tolist(), run.places.tolist()
         bottleneck, cuts, stops, names, moved, places = slow_planner.plan(*lists, pes)

@@ -21,7 +21,7 @@ def call_without_memory(name, call):
                 held.append(bytes(size))
         except MemoryError:
             continue
-    del held[-4:]
+    del held[-16:]
     try:
         call()
         outcome = "none"

@@ -66,7 +66,9 @@ def _one_by_one(values, least, most, refuse):
     # numpy has no type of whole numbers for them: there is a float among them, a number past 64 bits, or another thing.
     numbers = values.tolist() if isinstance(values, np.ndarray) else list(values)
     for index, number in enumerate(numbers):
-        if isinstance(number, bool) or not isinstance(number, (int, np.integer)) or not least <= number <= most:
+        if isinstance(number, np.integer):
+            number = int(number)
+        if isinstance(number, bool) or not isinstance(number, int) or not least <= number <= most:
             raise refuse(index, number)
     return np.array(numbers, dtype=np.uint64 if least == 0 else np.int64)
 
