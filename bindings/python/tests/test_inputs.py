@@ -29,10 +29,14 @@ class Taken(TimedTest):
         run = replace(THREE, loads=loads)
         loads[0] = 9
         self.assertEqual(run, THREE)
-        with self.assertRaises(ValueError):
-            run.loads[0] = 9
+        for numbers in (run.loads, run.bytes, run.places):
+            with self.assertRaises(ValueError):
+                numbers[0] = 9
         with self.assertRaises(FrozenInstanceError):
             run.procs = 9
+        self.assertIs(replace(run, step=6).loads, run.loads)
+        seen = tezgumi.Run(2, loads, run.bytes, run.places, copy=False)
+        self.assertFalse(np.shares_memory(replace(seen, step=6).loads, loads))
 
     def test_a_run_without_a_copy(self):
         loads = np.array([1, 1, 2], np.uint64)

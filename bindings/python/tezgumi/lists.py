@@ -77,7 +77,7 @@ def _refuse_outside(array, least, most, refuse):
     # Where some number is outside, the type of the array holds that number, and the limit beside it.
     if int(array.max()) > most:
         outside = array > most
-    elif int(array.min()) < least:
+    elif array.dtype.kind == "i" and int(array.min()) < least:
         outside = array < least
     else:
         return

@@ -59,9 +59,12 @@ def check(run, decision):
 
 
 def _are_moves(run, decision):
-    # As words: numpy compares rows of fields three times as slowly.
-    wanted = run.moves_to(decision.places)
-    return np.array_equal(wanted.view(np.uint32), decision.moves.view(np.uint32))
+    # Field by field, which takes half the time of making the right list and comparing the two.
+    moves, moving = decision.moves, run.places != decision.places
+    if len(moves) != np.count_nonzero(moving):
+        return False
+    wanted = np.flatnonzero(moving), run.places[moving], decision.places[moving]
+    return all(np.array_equal(moves[name], numbers) for name, numbers in zip(moves.dtype.names, wanted))
 
 
 def _pes(run, pes):
