@@ -7,9 +7,10 @@
 
 enum { N = 3, P = 2, MANY = 65536, PES = 256, THREADS = 4, STACK = 32768 };
 
-/* While it counts: how many requests are still granted, how many there were, and how many blocks are held. */
-static int counting;
-static long granted, requests, held;
+/* While it counts: how many requests are still granted, how many there were, and how many blocks are held. The compiler
+ * takes it that malloc and its kin touch nothing of this file, so all is volatile. */
+static volatile int counting;
+static volatile long granted, requests, held;
 
 void *__real_malloc(size_t);
 void *__real_calloc(size_t, size_t);
