@@ -1,0 +1,356 @@
+/* Tezgumi's planner and its checker for C (C99) and C++ (C++11).
+ *
+ * A run is a chain of elements, each with a load, a packed size and the processing element (PE) on which it stands.
+ * The planner divides the chain into consecutive blocks, one for each PE, so that the heaviest block is as light as
+ * any such division lets it be, and names the blocks by PEs so that the fewest bytes move. A decision carries
+ * certificates of both, and the checker, which is another program, accepts it exactly where every part is right.
+ *
+ *     cc -std=c99 main.c $(pkg-config --cflags --libs tezgumi)
+ *
+ * There are two layers.
+ *
+ *   1. tezgumi_abi, tezgumi_plan, tezgumi_decide and tezgumi_check are the library's exports. What they answer is proved.
+ *      A list is a pointer and a length, in elements. The caller owes:
+ *        - no pointer is null, not even that of a list without elements, and each is aligned for its type;
+ *        - each list has the elements that its length says;
+ *        - what a call writes overlaps nothing else that it is given;
+ *        - no other thread writes what a call reads, or touches what it writes, before it returns.
+ *   2. tezgumi_run, tezgumi_decision and the functions on them, static inline in this header, are tested and not proved.
+ *      They look for null, misaligned and overlapping lists and for wrong lengths first, and answer TEZGUMI_BAD_INPUT,
+ *      where an export would be undefined. A list without elements may be null.
+ *
+ * Every call takes its memory by malloc and realloc and gives it back by free before it returns. It keeps nothing, so
+ * any number of threads may call at once; 32 KiB of stack are enough. Do not call from a signal handler.
+ *
+ * The same run and the same number of PEs have the same places, bottleneck and bytes, in every process and on every
+ * machine. This is proved. So each rank of a parallel program may plan by itself, from the same lists.
+ */
+#ifndef TEZGUMI_H
+#define TEZGUMI_H
+
+#include <stddef.h>
+#include <stdint.h>
+#include <stdlib.h>
+#include <string.h>
+
+#ifdef __cplusplus
+extern "C" {
+#endif
+
+/* The number of this interface. A library fits this header where its tezgumi_abi() answers the same. */
+#define TEZGUMI_ABI 1u
+
+/* Limits. Each is the greatest value that is taken. */
+#define TEZGUMI_ELEMENTS 65536u                /* elements of a run, from 0 */
+#define TEZGUMI_PES 256u                       /* PEs, from 1 */
+#define TEZGUMI_LOAD UINT64_C(140737488355327) /* load of an element, from 0, in any unit: 2^47 - 1 */
+#define TEZGUMI_STATE_BYTES 1048576u           /* packed size of an element, from 0, in bytes */
+
+/* What a call answers. After any answer but TEZGUMI_OK a call that plans has written nothing. */
+enum {
+    /* Planned; or the claim is right. */
+    TEZGUMI_OK = 0,
+    /* Below 0 the call was refused. Of several reasons the first of these is given. */
+    TEZGUMI_BAD_INPUT = -1, /* a length, a place that is not below procs, no PE, or a limit other than TEZGUMI_LOAD */
+    TEZGUMI_BAD_LOAD = -3,  /* all else is in order, and a load is above TEZGUMI_LOAD */
+    TEZGUMI_NO_MEMORY = -2, /* all is in order, and malloc or realloc refused */
+    /* Above 0 the claim is wrong, and this is the least flaw that it has. */
+    TEZGUMI_CUT_COUNT = 1,    /* there are not pes + 1 cuts */
+    TEZGUMI_CUT_START = 2,    /* the first cut is not 0 */
+    TEZGUMI_CUT_ORDER = 3,    /* a cut is greater than the next */
+    TEZGUMI_CUT_END = 4,      /* the last cut is not the number of elements */
+    TEZGUMI_HEAVY = 5,        /* the load of a block is above the bottleneck */
+    TEZGUMI_FENCE_COUNT = 6,  /* there are stops, and not pes + 1 */
+    TEZGUMI_FENCE_START = 7,  /* the first stop is not 0 */
+    TEZGUMI_FENCE_ORDER = 8,  /* a stop is greater than the next */
+    TEZGUMI_FENCE_END = 9,    /* the last stop is not an element */
+    TEZGUMI_FENCE_LIGHT = 10, /* the elements from one stop to the next weigh less than the bottleneck */
+    TEZGUMI_ZERO_FLOOR = 11,  /* there are no stops, and the bottleneck is not 0 */
+    TEZGUMI_NAME_COUNT = 12,  /* there are not pes names */
+    TEZGUMI_NAME_RANGE = 13,  /* a name is not below pes */
+    TEZGUMI_NAME_TWICE = 14,  /* two blocks have the same name */
+    TEZGUMI_PRICE_COUNT = 15, /* there are not pes prices of blocks and pes prices of PEs */
+    TEZGUMI_PRICE_HIGH = 16,  /* the prices of a block and a PE are above the bytes that the block would move to it */
+    TEZGUMI_PRICE_GAP = 17,   /* all prices together are not the bytes that the names move */
+    TEZGUMI_MOVED_WRONG = 18, /* the bytes moved are not those that the names move */
+    TEZGUMI_PLACES_WRONG = 19 /* there is not one place for each element, or one is not the name of its block */
+};
+
+/* The status in words. */
+static inline const char *tezgumi_status_name(int32_t status)
+{
+    switch (status) {
+    case TEZGUMI_OK: return "ok";
+    case TEZGUMI_BAD_INPUT: return "bad input";
+    case TEZGUMI_BAD_LOAD: return "a load is too great";
+    case TEZGUMI_NO_MEMORY: return "out of memory";
+    case TEZGUMI_CUT_COUNT: return "wrong number of cuts";
+    case TEZGUMI_CUT_START: return "the first cut is not 0";
+    case TEZGUMI_CUT_ORDER: return "a cut is greater than the next";
+    case TEZGUMI_CUT_END: return "the last cut is not the number of elements";
+    case TEZGUMI_HEAVY: return "a block is heavier than the bottleneck";
+    case TEZGUMI_FENCE_COUNT: return "wrong number of stops";
+    case TEZGUMI_FENCE_START: return "the first stop is not 0";
+    case TEZGUMI_FENCE_ORDER: return "a stop is greater than the next";
+    case TEZGUMI_FENCE_END: return "the last stop is not an element";
+    case TEZGUMI_FENCE_LIGHT: return "the elements between two stops are lighter than the bottleneck";
+    case TEZGUMI_ZERO_FLOOR: return "no stops for a bottleneck above 0";
+    case TEZGUMI_NAME_COUNT: return "wrong number of names";
+    case TEZGUMI_NAME_RANGE: return "a name is not a PE";
+    case TEZGUMI_NAME_TWICE: return "two blocks have the same name";
+    case TEZGUMI_PRICE_COUNT: return "wrong number of prices";
+    case TEZGUMI_PRICE_HIGH: return "the prices of a block and a PE are too high";
+    case TEZGUMI_PRICE_GAP: return "the prices are not the bytes moved";
+    case TEZGUMI_MOVED_WRONG: return "wrong number of bytes moved";
+    case TEZGUMI_PLACES_WRONG: return "a place is not the name of its block";
+    default: return "unknown status";
+    }
+}
+
+/* ---- 1. The exports ---- */
+
+/* The number of the library's interface. */
+uint32_t tezgumi_abi(void);
+
+/* Plans a run for the PEs 0 .. pes - 1.
+ *
+ * loads, bytes and places have one entry for each element: its load, its packed size and its present PE, which is below
+ * procs, the number of PEs that the run has now. procs may be less or more than pes. new_places has as many entries.
+ *
+ * TEZGUMI_OK: *bottleneck is the load of the heaviest block, which is least; *moved is the bytes of all elements that
+ * move, which are fewest for these blocks; new_places[i] is the PE of element i from now on. Each block but the last
+ * is as long as the bottleneck lets it be, and of the cheapest namings the first in dictionary order is taken.
+ * Otherwise TEZGUMI_BAD_INPUT, TEZGUMI_BAD_LOAD or TEZGUMI_NO_MEMORY, and nothing is written. */
+int32_t tezgumi_plan(
+    const uint64_t *loads, size_t loads_len, const uint32_t *bytes, size_t bytes_len,
+    const uint32_t *places, size_t places_len, uint32_t procs, uint32_t pes,
+    uint32_t *new_places, size_t new_places_len, uint64_t *bottleneck, uint64_t *moved);
+
+/* Plans as tezgumi_plan does, and writes the certificates too.
+ *
+ * cuts and stops have pes + 1 entries, names, block_prices and pe_prices have pes. Block b is the elements
+ * cuts[b] .. cuts[b + 1] - 1, and runs on PE names[b]. The first *stops_count stops are the fence that proves the
+ * bottleneck least: pes + 1, or 0 where the bottleneck is 0, and the room of stops is then left as it was. The prices
+ * of blocks and PEs prove the names cheapest. */
+int32_t tezgumi_decide(
+    const uint64_t *loads, size_t loads_len, const uint32_t *bytes, size_t bytes_len,
+    const uint32_t *places, size_t places_len, uint32_t procs, uint32_t pes,
+    uint32_t *new_places, size_t new_places_len, uint64_t *bottleneck, uint64_t *moved,
+    uint32_t *cuts, size_t cuts_len, uint32_t *stops, size_t stops_len, size_t *stops_count,
+    uint32_t *names, size_t names_len,
+    int64_t *block_prices, size_t block_prices_len, int64_t *pe_prices, size_t pe_prices_len);
+
+/* Checks what somebody claims of a run and pes PEs, whatever it is: the claim's numbers and lengths may be any. stops_len
+ * is the number of stops, which tezgumi_decide answers as *stops_count.
+ *
+ * TEZGUMI_OK exactly where every part of the claim is right. Then no division into pes consecutive blocks has a lighter
+ * heaviest block, no naming of these blocks moves fewer bytes, and new_places are the names of the elements' blocks.
+ * Above 0: the least flaw of the claim. TEZGUMI_BAD_INPUT and TEZGUMI_BAD_LOAD, where tezgumi_plan would answer them, say
+ * that the run, procs or pes is not in order; after these and TEZGUMI_NO_MEMORY nothing is known of the claim. */
+int32_t tezgumi_check(
+    const uint64_t *loads, size_t loads_len, const uint32_t *bytes, size_t bytes_len,
+    const uint32_t *places, size_t places_len, uint32_t procs, uint32_t pes,
+    const uint32_t *new_places, size_t new_places_len, uint64_t bottleneck, uint64_t moved,
+    const uint32_t *cuts, size_t cuts_len, const uint32_t *stops, size_t stops_len,
+    const uint32_t *names, size_t names_len,
+    const int64_t *block_prices, size_t block_prices_len, const int64_t *pe_prices, size_t pe_prices_len);
+
+/* ---- 2. Runs and decisions ---- */
+
+/* A chain of n elements, in order, and the PE of each. */
+typedef struct {
+    uint32_t n;             /* elements */
+    uint32_t procs;         /* PEs that the run has now */
+    const uint64_t *loads;  /* n: load of each since the last step */
+    const uint32_t *bytes;  /* n: packed size of each, in bytes */
+    const uint32_t *places; /* n: present PE of each, below procs */
+} tezgumi_run;
+
+/* A decision. tezgumi_decision_room gets room for its lists, and tezgumi_decision_free gives it back; or the lists are the
+ * caller's own, and room is null. */
+typedef struct {
+    uint32_t n;            /* elements */
+    uint32_t pes;          /* PEs that the run has from now on, and blocks */
+    uint32_t *new_places;  /* n: the PE of each element from now on */
+    uint32_t *cuts;        /* pes + 1: block b is the elements cuts[b] .. cuts[b + 1] - 1 */
+    uint32_t *names;       /* pes: block b runs on PE names[b] */
+    uint32_t *stops;       /* room for pes + 1, of which stops_count are there */
+    int64_t *block_prices; /* pes */
+    int64_t *pe_prices;    /* pes */
+    size_t stops_count;    /* pes + 1, or 0 where the bottleneck is 0 */
+    uint64_t bottleneck;   /* load of the heaviest block */
+    uint64_t moved;        /* bytes of all elements that move */
+    void *room;            /* what tezgumi_decision_free gives back */
+} tezgumi_decision;
+
+/* Gets room for a decision on n elements and pes PEs, whose lists are all 0. TEZGUMI_BAD_INPUT where d is null or a
+ * number is past its limit, TEZGUMI_NO_MEMORY where calloc refused: *d may then be freed all the same. */
+static inline int32_t tezgumi_decision_room(tezgumi_decision *d, uint32_t n, uint32_t pes)
+{
+    const size_t prices = 2 * (size_t)pes * sizeof(int64_t);
+    const size_t words = ((size_t)n + 3 * (size_t)pes + 2) * sizeof(uint32_t);
+    if (!d) return TEZGUMI_BAD_INPUT;
+    memset(d, 0, sizeof *d);
+    if (n > TEZGUMI_ELEMENTS || pes < 1 || pes > TEZGUMI_PES) return TEZGUMI_BAD_INPUT;
+    d->room = calloc(1, prices + words);
+    if (!d->room) return TEZGUMI_NO_MEMORY;
+    d->n = n;
+    d->pes = pes;
+    d->block_prices = (int64_t *)d->room;
+    d->pe_prices = d->block_prices + pes;
+    d->cuts = (uint32_t *)(d->pe_prices + pes);
+    d->stops = d->cuts + pes + 1;
+    d->names = d->stops + pes + 1;
+    d->new_places = d->names + pes;
+    return TEZGUMI_OK;
+}
+
+/* Gives the room back and makes all of *d null and 0. d may be null. */
+static inline void tezgumi_decision_free(tezgumi_decision *d)
+{
+    if (!d) return;
+    free(d->room);
+    memset(d, 0, sizeof *d);
+}
+
+/* So many entries of so many bytes each, from a pointer on. */
+typedef struct {
+    const void *start;
+    size_t count, size;
+} tezgumi_area;
+
+static inline tezgumi_area tezgumi_area_of(const void *start, size_t count, size_t size)
+{
+    tezgumi_area area;
+    area.start = start;
+    area.count = count;
+    area.size = size;
+    return area;
+}
+
+/* Whether the area has no entry, or is there and aligned. */
+static inline int tezgumi_is_there(const tezgumi_area *a)
+{
+    return a->count == 0 || (a->start && (uintptr_t)a->start % a->size == 0);
+}
+
+/* Whether two areas have no byte in common. */
+static inline int tezgumi_are_apart(const tezgumi_area *a, const tezgumi_area *b)
+{
+    const uintptr_t x = (uintptr_t)a->start, y = (uintptr_t)b->start;
+    const size_t a_bytes = a->count * a->size, b_bytes = b->count * b->size;
+    if (a_bytes == 0 || b_bytes == 0) return 1;
+    return x < y ? y - x >= a_bytes : x - y >= b_bytes;
+}
+
+/* Whether all areas are there, and each from the one with this number on, which is to be written, is apart from all that
+ * stand before it. */
+static inline int tezgumi_are_usable(const tezgumi_area *areas, size_t written, size_t count)
+{
+    size_t i, j;
+    for (i = 0; i < count; i++) {
+        if (!tezgumi_is_there(&areas[i])) return 0;
+        for (j = 0; i >= written && j < i; j++)
+            if (!tezgumi_are_apart(&areas[i], &areas[j])) return 0;
+    }
+    return 1;
+}
+
+/* The three lists of a run. */
+static inline void tezgumi_run_areas(const tezgumi_run *r, tezgumi_area *areas)
+{
+    areas[0] = tezgumi_area_of(r->loads, r->n, sizeof *r->loads);
+    areas[1] = tezgumi_area_of(r->bytes, r->n, sizeof *r->bytes);
+    areas[2] = tezgumi_area_of(r->places, r->n, sizeof *r->places);
+}
+
+/* The lists of a decision, with so many stops. */
+static inline void tezgumi_decision_areas(const tezgumi_decision *d, size_t stops, tezgumi_area *areas)
+{
+    areas[0] = tezgumi_area_of(d->new_places, d->n, sizeof *d->new_places);
+    areas[1] = tezgumi_area_of(d->cuts, (size_t)d->pes + 1, sizeof *d->cuts);
+    areas[2] = tezgumi_area_of(d->stops, stops, sizeof *d->stops);
+    areas[3] = tezgumi_area_of(d->names, d->pes, sizeof *d->names);
+    areas[4] = tezgumi_area_of(d->block_prices, d->pes, sizeof *d->block_prices);
+    areas[5] = tezgumi_area_of(d->pe_prices, d->pes, sizeof *d->pe_prices);
+}
+
+/* Whether both are there, speak of the same elements, and keep the limits of elements and PEs. */
+static inline int tezgumi_fit(const tezgumi_run *r, const tezgumi_decision *d)
+{
+    return r && d && r->n == d->n && r->n <= TEZGUMI_ELEMENTS && d->pes >= 1 && d->pes <= TEZGUMI_PES;
+}
+
+/* What stands for a list without elements: an address that nothing is read from or written to. */
+static inline void *tezgumi_or(const void *list, void *none)
+{
+    return list ? (void *)(uintptr_t)list : none;
+}
+
+/* Plans a run for pes PEs. new_places has room for the run's elements. bottleneck and moved may be null. */
+static inline int32_t tezgumi_plan_run(
+    const tezgumi_run *r, uint32_t pes, uint32_t *new_places, uint64_t *bottleneck, uint64_t *moved)
+{
+    tezgumi_area areas[6];
+    uint64_t none = 0, found = 0, bytes_moved = 0;
+    int32_t status;
+    if (!r || r->n > TEZGUMI_ELEMENTS) return TEZGUMI_BAD_INPUT;
+    tezgumi_run_areas(r, areas);
+    areas[3] = tezgumi_area_of(new_places, r->n, sizeof *new_places);
+    areas[4] = tezgumi_area_of(bottleneck, bottleneck ? 1 : 0, sizeof *bottleneck);
+    areas[5] = tezgumi_area_of(moved, moved ? 1 : 0, sizeof *moved);
+    if (!tezgumi_are_usable(areas, 3, 6)) return TEZGUMI_BAD_INPUT;
+    status = tezgumi_plan(
+        (const uint64_t *)tezgumi_or(r->loads, &none), r->n, (const uint32_t *)tezgumi_or(r->bytes, &none), r->n,
+        (const uint32_t *)tezgumi_or(r->places, &none), r->n, r->procs, pes,
+        (uint32_t *)tezgumi_or(new_places, &none), r->n, &found, &bytes_moved);
+    if (status != TEZGUMI_OK) return status;
+    if (bottleneck) *bottleneck = found;
+    if (moved) *moved = bytes_moved;
+    return TEZGUMI_OK;
+}
+
+/* Decides for d->pes PEs. The run and d have as many elements, and none of d's lists overlaps another or one of the
+ * run's: so the run's places are not those of the decision that is written. */
+static inline int32_t tezgumi_decide_run(const tezgumi_run *r, tezgumi_decision *d)
+{
+    tezgumi_area areas[10];
+    uint64_t none = 0;
+    size_t ends, blocks;
+    if (!tezgumi_fit(r, d)) return TEZGUMI_BAD_INPUT;
+    blocks = d->pes;
+    ends = blocks + 1;
+    tezgumi_run_areas(r, areas);
+    tezgumi_decision_areas(d, ends, areas + 3);
+    areas[9] = tezgumi_area_of(d, sizeof *d, 1);
+    if (!tezgumi_are_usable(areas, 3, 10)) return TEZGUMI_BAD_INPUT;
+    return tezgumi_decide(
+        (const uint64_t *)tezgumi_or(r->loads, &none), r->n, (const uint32_t *)tezgumi_or(r->bytes, &none), r->n,
+        (const uint32_t *)tezgumi_or(r->places, &none), r->n, r->procs, d->pes,
+        (uint32_t *)tezgumi_or(d->new_places, &none), r->n, &d->bottleneck, &d->moved,
+        d->cuts, ends, d->stops, ends, &d->stops_count, d->names, blocks, d->block_prices, blocks, d->pe_prices, blocks);
+}
+
+/* Checks a decision on a run, whoever made it. */
+static inline int32_t tezgumi_check_run(const tezgumi_run *r, const tezgumi_decision *d)
+{
+    tezgumi_area areas[9];
+    uint64_t none = 0;
+    size_t blocks;
+    if (!tezgumi_fit(r, d) || d->stops_count > (size_t)d->pes + 1) return TEZGUMI_BAD_INPUT;
+    blocks = d->pes;
+    tezgumi_run_areas(r, areas);
+    tezgumi_decision_areas(d, d->stops_count, areas + 3);
+    if (!tezgumi_are_usable(areas, 9, 9)) return TEZGUMI_BAD_INPUT;
+    return tezgumi_check(
+        (const uint64_t *)tezgumi_or(r->loads, &none), r->n, (const uint32_t *)tezgumi_or(r->bytes, &none), r->n,
+        (const uint32_t *)tezgumi_or(r->places, &none), r->n, r->procs, d->pes,
+        (const uint32_t *)tezgumi_or(d->new_places, &none), r->n, d->bottleneck, d->moved, d->cuts, blocks + 1,
+        (const uint32_t *)tezgumi_or(d->stops, &none), d->stops_count, d->names, blocks,
+        d->block_prices, blocks, d->pe_prices, blocks);
+}
+
+#ifdef __cplusplus
+}
+#endif
+#endif

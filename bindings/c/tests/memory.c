@@ -1,0 +1,163 @@
+/* Refuses each request for memory in turn: out of memory, nothing written, all given back, and the same call then
+ * succeeds. And full runs in threads of 32 KiB of stack, side by side. Linked with
+ * -Wl,--wrap=malloc,--wrap=calloc,--wrap=realloc,--wrap=free -pthread. */
+#include "harness.h"
+#include <pthread.h>
+#include <tezgumi.h>
+
+enum { N = 3, P = 2, MANY = 65536, PES = 256, THREADS = 4, STACK = 32768 };
+
+/* While it counts: how many requests are still granted, how many there were, and how many blocks are held. The compiler
+ * takes it that malloc and its kin touch nothing of this file, so all is volatile. */
+static volatile int counting;
+static volatile long granted, requests, held;
+
+void *__real_malloc(size_t);
+void *__real_calloc(size_t, size_t);
+void *__real_realloc(void *, size_t);
+void __real_free(void *);
+void *__wrap_malloc(size_t);
+void *__wrap_calloc(size_t, size_t);
+void *__wrap_realloc(void *, size_t);
+void __wrap_free(void *);
+
+static int refuses(void)
+{
+    requests++;
+    return granted-- <= 0;
+}
+
+void *__wrap_malloc(size_t size)
+{
+    void *block;
+    if (!counting) return __real_malloc(size);
+    block = refuses() ? NULL : __real_malloc(size);
+    held += block != NULL;
+    return block;
+}
+
+void *__wrap_calloc(size_t count, size_t size)
+{
+    void *block;
+    if (!counting) return __real_calloc(count, size);
+    block = refuses() ? NULL : __real_calloc(count, size);
+    held += block != NULL;
+    return block;
+}
+
+void *__wrap_realloc(void *old, size_t size)
+{
+    void *block;
+    if (!counting) return __real_realloc(old, size);
+    block = refuses() ? NULL : __real_realloc(old, size);
+    held += block != NULL && old == NULL;
+    return block;
+}
+
+void __wrap_free(void *block)
+{
+    if (counting) held -= block != NULL;
+    __real_free(block);
+}
+
+static const uint64_t loads[N] = {1, 1, 2};
+static const uint32_t bytes[N] = {10, 9, 8}, places[N] = {0, 1, 0};
+
+/* What a call writes. */
+typedef struct {
+    uint32_t new_places[N], cuts[P + 1], stops[P + 1], names[P];
+    int64_t block_prices[P], pe_prices[P];
+    uint64_t bottleneck, moved;
+    size_t stops_count;
+} output;
+
+static int32_t call_plan(output *o)
+{
+    return tezgumi_plan(loads, N, bytes, N, places, N, P, P, o->new_places, N, &o->bottleneck, &o->moved);
+}
+
+static int32_t call_decide(output *o)
+{
+    return tezgumi_decide(loads, N, bytes, N, places, N, P, P, o->new_places, N, &o->bottleneck, &o->moved, o->cuts, P + 1,
+        o->stops, P + 1, &o->stops_count, o->names, P, o->block_prices, P, o->pe_prices, P);
+}
+
+static int32_t call_check(output *o)
+{
+    return tezgumi_check(loads, N, bytes, N, places, N, P, P, o->new_places, N, o->bottleneck, o->moved, o->cuts, P + 1,
+        o->stops, o->stops_count, o->names, P, o->block_prices, P, o->pe_prices, P);
+}
+
+static void each_refused(const char *name, int32_t (*call)(output *), const output *given)
+{
+    long turn;
+    int right = 1, kept = 1, back = 1;
+    int32_t status = TEZGUMI_NO_MEMORY;
+    for (turn = 0; status == TEZGUMI_NO_MEMORY && turn < 1000; turn++) {
+        output o = *given;
+        granted = turn;
+        requests = held = 0;
+        counting = 1;
+        status = call(&o);
+        counting = 0;
+        back = back && held == 0;
+        right = right && (status == TEZGUMI_NO_MEMORY || (status == TEZGUMI_OK && requests == turn));
+        kept = kept && (status == TEZGUMI_OK || !memcmp(&o, given, sizeof o));
+    }
+    printf("%s: %ld requests, each refused in turn\n", name, requests);
+    test("there are requests, and without one the call is out of memory", right && requests > 0);
+    test("nothing was written", kept);
+    test("each block was given back", back);
+    same("with all it succeeds", status, TEZGUMI_OK);
+}
+
+static void *decide_much(void *arg)
+{
+    static uint64_t many_loads[MANY];
+    static uint32_t many_bytes[MANY], many_places[MANY];
+    const tezgumi_run many = {MANY, PES, many_loads, many_bytes, many_places};
+    tezgumi_decision *d = (tezgumi_decision *)arg;
+    return tezgumi_decide_run(&many, d) == TEZGUMI_OK && tezgumi_check_run(&many, d) == TEZGUMI_OK ? arg : NULL;
+}
+
+static int threads_decide(void)
+{
+    tezgumi_decision decisions[THREADS];
+    pthread_t threads[THREADS];
+    pthread_attr_t small;
+    int t, right = 1;
+    if (pthread_attr_init(&small) || pthread_attr_setstacksize(&small, STACK)) return 0;
+    for (t = 0; t < THREADS; t++) {
+        if (tezgumi_decision_room(&decisions[t], MANY, PES) != TEZGUMI_OK) return 0;
+        if (pthread_create(&threads[t], &small, decide_much, &decisions[t])) return 0;
+    }
+    for (t = 0; t < THREADS; t++) {
+        void *answer = NULL;
+        right = pthread_join(threads[t], &answer) == 0 && answer == &decisions[t] && right;
+        tezgumi_decision_free(&decisions[t]);
+    }
+    return right;
+}
+
+int main(void)
+{
+    output empty, decided;
+    memset(&empty, 0x5a, sizeof empty);
+    decided = empty;
+    if (call_decide(&decided) != TEZGUMI_OK) return 1;
+    each_refused("plan", call_plan, &empty);
+    each_refused("decide", call_decide, &empty);
+    each_refused("check", call_check, &decided);
+    {
+        tezgumi_decision d;
+        int32_t status;
+        granted = 0;
+        counting = 1;
+        status = tezgumi_decision_room(&d, N, P);
+        counting = 0;
+        same("room is refused", status, TEZGUMI_NO_MEMORY);
+        tezgumi_decision_free(&d);
+    }
+    test("threads of 32 KiB of stack decide and check the greatest number of elements", threads_decide());
+    return failures != 0;
+}

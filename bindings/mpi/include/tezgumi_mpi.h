@@ -1,0 +1,165 @@
+/* Rebalancing of a chain of elements over the ranks of an MPI communicator, by Tezgumi's planner, for C (C99) and C++.
+ *
+ *     mpicc -std=c99 app.c $(pkg-config --cflags --libs tezgumi-mpi)
+ *
+ * The elements have the indices 0 .. n - 1, which are their order along the chain. Each rank holds some of them, in any
+ * order, each element on one rank. tezgumi_mpi_rebalance moves them so that afterwards
+ *
+ *   - the elements of each rank are one range of consecutive indices, or none;
+ *   - the greatest load of a rank is the least that any such ranges have;
+ *   - of all ways to hand these ranges to the ranks, the one taken moves the fewest bytes.
+ *
+ * It works in three steps, which can also be called one by one:
+ *
+ *   1. tezgumi_mpi_gather: all ranks learn index, load and packed size of all elements, 16 bytes of each.
+ *   2. tezgumi_mpi_decide: each rank plans by itself, and checks the plan by the separate checker. Nothing is broadcast: the
+ *      same input has the same plan, as is proved of the planner. The ranks compare a fingerprint of what they decided.
+ *   3. tezgumi_mpi_move: what leaves a rank is packed and exchanged, and what arrives is unpacked.
+ *
+ * What is proved is the plan and its check, behind tezgumi.h. This library is plain C over them: tested, and not proved.
+ *
+ * All functions that take a communicator are collective over it: every rank calls them, in the same order. They return the
+ * same status on all ranks, so all go on or none does: if anything fails on one rank, be it a callback, a request for memory
+ * or a null pointer, all ranks return that. If ranks fail in different ways, all return the status of the least value.
+ * Errors of MPI itself are the exception. The communicator's error handler gets them, which ends the program if it is not
+ * set otherwise; a rank whose handler returns returns TEZGUMI_MPI_ERROR, and nothing is known of the others.
+ *
+ * Limits: those of tezgumi.h. 65,536 elements, 256 ranks, 1 MiB an element, loads up to 140,737,488,355,327. The ranks have
+ * the same byte order. The library keeps nothing between calls, so threads may rebalance over different communicators.
+ */
+#ifndef TEZGUMI_MPI_H
+#define TEZGUMI_MPI_H
+
+#include <mpi.h>
+#include <tezgumi.h>
+
+#ifdef __cplusplus
+extern "C" {
+#endif
+
+/* What a call answers, beside TEZGUMI_OK, TEZGUMI_BAD_INPUT, TEZGUMI_NO_MEMORY and TEZGUMI_BAD_LOAD of tezgumi.h. */
+enum {
+    TEZGUMI_MPI_BAD_INDEX = -10,  /* an index is held twice, or is past the end, so that another is held by nobody */
+    TEZGUMI_MPI_WRONG_PLAN = -11, /* the checker found a flaw in the plan: broken memory or a broken library */
+    TEZGUMI_MPI_DISAGREE = -12,   /* the ranks decided differently: unlike options, chains or libraries */
+    TEZGUMI_MPI_CALLBACK = -13,   /* a callback answered other than 0 */
+    TEZGUMI_MPI_LIBRARY = -14,    /* the libtezgumi that runs does not fit the header that this was compiled with */
+    TEZGUMI_MPI_ERROR = -15       /* an MPI call failed on this rank */
+};
+
+/* The status in words, those of tezgumi.h included. */
+const char *tezgumi_mpi_status_name(int status);
+
+/* An element that this rank holds. */
+typedef struct {
+    uint64_t load;  /* its work since the last rebalance, in any unit that all ranks share */
+    uint32_t index; /* its number along the chain */
+    uint32_t bytes; /* its packed size: pack fills exactly so many bytes */
+} tezgumi_mpi_element;
+
+/* How elements are copied. pack and unpack answer 0, or anything else where they fail. None of them may leave by longjmp
+ * or an exception, or use the communicator. Buffers are aligned for every type; those of 0 bytes are not null. */
+typedef struct {
+    /* Writes the element into the buffer and keeps it, for the move may yet fail. Called in order of index. */
+    int (*pack)(void *app, uint32_t index, void *to, uint32_t bytes);
+    /* Makes the element from the buffer; where it fails, it keeps nothing of it. Called in order of index, while elements
+     * that leave this rank are still here. */
+    int (*unpack)(void *app, uint32_t index, const void *from, uint32_t bytes);
+    /* Gives up the element: it has arrived elsewhere, or it had arrived here and the exchange failed. May be null where
+     * nothing is to be given up. */
+    void (*drop)(void *app, uint32_t index);
+    void *app; /* handed to each callback */
+} tezgumi_mpi_callbacks;
+
+/* Options, the same on all ranks. All 0 is the default, which a null pointer stands for. */
+typedef struct {
+    /* How much worse than best is good enough, from 0. Where each rank has one range already, and the greatest load is at
+     * most 1 + tolerance times what it would be, nothing moves. With 0, nothing moves where nothing would be gained. */
+    double tolerance;
+    /* How many bytes a rank sends in one exchange at most, and how many it receives; 0 means 64 MiB, and above 1 GiB is
+     * 1 GiB. What is more goes in several exchanges. Sizes are rounded up to 16; an element greater than room goes alone. */
+    size_t room;
+    /* 1: trust the planner, and leave the checker out. */
+    int skip_check;
+} tezgumi_mpi_options;
+
+/* What happened. All but the seconds is of all ranks together, and the same on all. After a refusal only failed_rank,
+ * failed_at and seconds are of use; after TEZGUMI_MPI_CALLBACK all is. */
+typedef struct {
+    uint64_t max_load_before; /* load of the heaviest rank, as gathered */
+    uint64_t max_load_after;  /* the same, by the decision */
+    double average_load;      /* load of all elements, over the number of ranks */
+    uint64_t bytes_moved;     /* by the decision; after a move, what has moved */
+    uint32_t elements_moved;  /* likewise */
+    uint32_t exchanges;       /* completed ones */
+    int failed_rank;          /* after a failure: a rank on which it came up; -1 if there was none, or it is unknown */
+    uint32_t failed_at;       /* and there the element; for TEZGUMI_MPI_WRONG_PLAN the flaw, a status of tezgumi.h */
+    double gather_seconds;    /* seconds on this rank: the gathering, */
+    double plan_seconds;      /* the planning, */
+    double check_seconds;     /* the checking, */
+    double agree_seconds;     /* the comparing with other ranks, which waits for the last of them, */
+    double move_seconds;      /* and the packing, exchanging and unpacking */
+} tezgumi_mpi_report;
+
+/* All elements, as every rank knows them. It begins as all 0, can be used again and again, and ends with
+ * tezgumi_mpi_chain_free. The lists have an entry for each element, by index. */
+typedef struct {
+    uint32_t n;           /* elements */
+    uint32_t ranks;       /* ranks of the communicator */
+    uint64_t *loads;      /* their loads */
+    uint32_t *bytes;      /* their packed sizes */
+    uint32_t *places;     /* the rank of each now */
+    uint32_t *new_places; /* the rank of each by the decision */
+    uint32_t capacity;    /* elements that the room is for */
+    void *room;           /* what tezgumi_mpi_chain_free gives back */
+} tezgumi_mpi_chain;
+
+/* Gives the room back and makes all of *chain null and 0. chain may be null. Not collective. */
+void tezgumi_mpi_chain_free(tezgumi_mpi_chain *chain);
+
+/* The range of a rank, *first .. *end - 1, empty where *first == *end. Answers 1 if the rank's elements are exactly these,
+ * and 0 if it holds elements that are not consecutive: then the range is from the least to the greatest. Not collective. */
+int tezgumi_mpi_range(const tezgumi_mpi_chain *chain, int rank, uint32_t *first, uint32_t *end);
+
+/* Gather, decide and move in one call.
+ *
+ * mine are the count elements that this rank holds. options and report may be null. chain may be null too; otherwise it
+ * says afterwards where each element is: tezgumi_mpi_range then gives the range of each rank.
+ *
+ * TEZGUMI_OK: all elements are where they belong. Otherwise the refusals of the three steps, in their order. Nothing has
+ * moved, but where the status is TEZGUMI_MPI_CALLBACK and there were several exchanges. */
+int tezgumi_mpi_rebalance(MPI_Comm comm, const tezgumi_mpi_element *mine, uint32_t count,
+    const tezgumi_mpi_callbacks *callbacks, const tezgumi_mpi_options *options, tezgumi_mpi_chain *chain,
+    tezgumi_mpi_report *report);
+
+/* Step 1. Fills the chain, with new_places equal to places, and begins the report anew.
+ *
+ * In this order: TEZGUMI_MPI_LIBRARY; TEZGUMI_BAD_INPUT where there are too many ranks or elements, a null pointer, or two
+ * groups of ranks (an intercommunicator); TEZGUMI_NO_MEMORY; TEZGUMI_MPI_BAD_INDEX; TEZGUMI_BAD_INPUT for an element of
+ * too many bytes; TEZGUMI_BAD_LOAD. After any of these the chain has no elements. */
+int tezgumi_mpi_gather(MPI_Comm comm, const tezgumi_mpi_element *mine, uint32_t count, tezgumi_mpi_chain *chain,
+    tezgumi_mpi_report *report);
+
+/* Step 2. Writes new_places: the plan, or the present places if the tolerance lets all be. Until it answers TEZGUMI_OK,
+ * new_places is left as it was.
+ *
+ * TEZGUMI_BAD_INPUT where the chain is null or of another number of ranks, or the tolerance is negative or no number;
+ * TEZGUMI_NO_MEMORY; TEZGUMI_MPI_WRONG_PLAN; TEZGUMI_MPI_DISAGREE. */
+int tezgumi_mpi_decide(MPI_Comm comm, tezgumi_mpi_chain *chain, const tezgumi_mpi_options *options,
+    tezgumi_mpi_report *report);
+
+/* Step 3. Moves each element from places to new_places, whoever wrote these: they may come from another partitioner.
+ *
+ * Each exchange is done as a whole or not at all: elements are dropped where they were when all ranks have unpacked what
+ * arrived. places is kept up to date, so after a failure too it says where each element is.
+ *
+ * TEZGUMI_BAD_INPUT where a pointer is null, the chain is of another number of ranks, or a new place is not a rank;
+ * TEZGUMI_NO_MEMORY; TEZGUMI_MPI_DISAGREE where the chains or the room differ: nothing has moved. TEZGUMI_MPI_CALLBACK: the
+ * exchanges before have moved their elements, and that of the failure is undone. */
+int tezgumi_mpi_move(MPI_Comm comm, tezgumi_mpi_chain *chain, const tezgumi_mpi_callbacks *callbacks,
+    const tezgumi_mpi_options *options, tezgumi_mpi_report *report);
+
+#ifdef __cplusplus
+}
+#endif
+#endif

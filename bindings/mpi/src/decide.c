@@ -1,0 +1,124 @@
+/* The decision, which each rank takes by itself. */
+#include "internal.h"
+
+/* Whether the elements of each rank are one range. */
+static int in_ranges(const tezgumi_mpi_chain *chain)
+{
+    unsigned char seen[TEZGUMI_PES] = {0};
+    uint32_t i;
+    for (i = 0; i < chain->n; i++) {
+        if (i && chain->places[i] == chain->places[i - 1]) continue;
+        if (seen[chain->places[i]]) return 0;
+        seen[chain->places[i]] = 1;
+    }
+    return 1;
+}
+
+/* The greatest load of a rank at present, and the load of all. */
+static uint64_t max_load(const tezgumi_mpi_chain *chain, uint64_t *total)
+{
+    uint64_t loads[TEZGUMI_PES] = {0}, most = 0;
+    uint32_t i;
+    *total = 0;
+    for (i = 0; i < chain->n; i++) {
+        const uint64_t load = loads[chain->places[i]] += chain->loads[i];
+        if (load > most) most = load;
+        *total += chain->loads[i];
+    }
+    return most;
+}
+
+/* What this rank has decided, before it knows that the others have decided the same. */
+typedef struct {
+    const uint32_t *places; /* the new places */
+    uint64_t max_load_before, max_load_after, total;
+    uint64_t bytes_moved;
+    uint32_t elements_moved;
+} verdict;
+
+static void count_moves(const tezgumi_mpi_chain *chain, verdict *v)
+{
+    uint32_t i;
+    for (i = 0; i < chain->n; i++) {
+        if (chain->places[i] == v->places[i]) continue;
+        v->elements_moved++;
+        v->bytes_moved += chain->bytes[i];
+    }
+}
+
+/* The plan's places, or the present ones where these are good enough. */
+static void choose(const tezgumi_mpi_chain *chain, const tezgumi_decision *d, double tolerance, verdict *v)
+{
+    const uint64_t before = max_load(chain, &v->total), least = d->bottleneck;
+    const int enough = before <= least || (double)(before - least) <= tolerance * (double)least;
+    const int stays = enough && in_ranges(chain);
+    v->places = stays ? chain->places : d->new_places;
+    v->max_load_before = before;
+    v->max_load_after = stays ? before : least;
+    count_moves(chain, v);
+}
+
+/* All ranks have decided the same: writes it down. */
+static void accept(const verdict *v, tezgumi_mpi_chain *chain, tezgumi_mpi_report *report)
+{
+    memcpy(chain->new_places, v->places, chain->n * sizeof *v->places);
+    report->max_load_before = v->max_load_before;
+    report->max_load_after = v->max_load_after;
+    report->average_load = (double)v->total / (double)chain->ranks;
+    report->bytes_moved = v->bytes_moved;
+    report->elements_moved = v->elements_moved;
+}
+
+/* Plans and checks; the outcome's second part is the flaw that was found. */
+static tezgumi_mpi_outcome plan(const tezgumi_mpi_chain *chain, int skip_check, tezgumi_decision *d,
+    tezgumi_mpi_report *report)
+{
+    const tezgumi_run run = {chain->n, chain->ranks, chain->loads, chain->bytes, chain->places};
+    const double begin = MPI_Wtime();
+    double planned;
+    int status = tezgumi_decision_room(d, chain->n, chain->ranks);
+    if (status == TEZGUMI_OK)
+        status = skip_check ? tezgumi_plan_run(&run, chain->ranks, d->new_places, &d->bottleneck, &d->moved)
+                            : tezgumi_decide_run(&run, d);
+    planned = MPI_Wtime();
+    report->plan_seconds = planned - begin;
+    if (status != TEZGUMI_OK || skip_check) return tezgumi_mpi_outcome_of(status, 0);
+    status = tezgumi_check_run(&run, d);
+    report->check_seconds = MPI_Wtime() - planned;
+    if (status > TEZGUMI_OK) return tezgumi_mpi_outcome_of(TEZGUMI_MPI_WRONG_PLAN, (uint32_t)status);
+    return tezgumi_mpi_outcome_of(status, 0);
+}
+
+/* Whether all that decide is given is in order. */
+static int usable(MPI_Comm comm, const tezgumi_mpi_chain *chain, const tezgumi_mpi_options *options)
+{
+    return tezgumi_mpi_fits(comm, chain) && options->tolerance >= 0;
+}
+
+int tezgumi_mpi_decide(MPI_Comm comm, tezgumi_mpi_chain *chain, const tezgumi_mpi_options *options,
+    tezgumi_mpi_report *report)
+{
+    const tezgumi_mpi_options defaults = {0, 0, 0};
+    tezgumi_mpi_outcome outcome = {TEZGUMI_BAD_INPUT, 0};
+    tezgumi_mpi_report unread;
+    tezgumi_decision d;
+    verdict v;
+    uint64_t print = 0;
+    double begin;
+    int status;
+    memset(&d, 0, sizeof d);
+    memset(&v, 0, sizeof v);
+    if (!options) options = &defaults;
+    if (!report) report = &unread;
+    if (usable(comm, chain, options)) outcome = plan(chain, options->skip_check, &d, report);
+    if (outcome.status == TEZGUMI_OK) {
+        choose(chain, &d, options->tolerance, &v);
+        print = tezgumi_mpi_fingerprint(TEZGUMI_MPI_FINGERPRINT, v.places, chain->n);
+    }
+    begin = MPI_Wtime();
+    status = tezgumi_mpi_agree(comm, outcome, print, report);
+    report->agree_seconds = MPI_Wtime() - begin;
+    if (status == TEZGUMI_OK) accept(&v, chain, report);
+    tezgumi_decision_free(&d);
+    return status;
+}

@@ -1,0 +1,148 @@
+/* Each request for memory is refused in turn, on each rank in turn, those of the planner included: all ranks answer that
+ * memory is out, nothing has moved, and all memory is given back. Link with --wrap for malloc, calloc, realloc and free, and
+ * with the static planner. */
+#include "harness.h"
+
+static field f;
+static int counting;       /* 1 while requests are those of the libraries */
+static unsigned requests;  /* of this rank since the last call */
+static unsigned refuse_at; /* the request to refuse, or 0 */
+static int live;           /* requests that were granted, and not given back */
+static uint32_t fail_pack = UINT32_MAX, fail_unpack = UINT32_MAX;
+
+void *__real_malloc(size_t bytes);
+void *__real_calloc(size_t count, size_t bytes);
+void *__real_realloc(void *old, size_t bytes);
+void __real_free(void *old);
+void *__wrap_malloc(size_t bytes);
+void *__wrap_calloc(size_t count, size_t bytes);
+void *__wrap_realloc(void *old, size_t bytes);
+void __wrap_free(void *old);
+
+static int is_refused(void)
+{
+    if (counting && ++requests == refuse_at) return 1;
+    live += counting;
+    return 0;
+}
+
+void *__wrap_malloc(size_t bytes)
+{
+    return is_refused() ? NULL : __real_malloc(bytes);
+}
+
+void *__wrap_calloc(size_t count, size_t bytes)
+{
+    return is_refused() ? NULL : __real_calloc(count, bytes);
+}
+
+void *__wrap_realloc(void *old, size_t bytes)
+{
+    void *room = is_refused() ? NULL : __real_realloc(old, bytes);
+    if (room && old) live -= counting;
+    return room;
+}
+
+void __wrap_free(void *old)
+{
+    if (old) live -= counting;
+    __real_free(old);
+}
+
+/* The callbacks' own requests are granted and not counted. */
+static int unpack_uncounted(void *app, uint32_t index, const void *from, uint32_t bytes)
+{
+    int status;
+    counting = 0;
+    status = field_unpack(app, index, from, bytes);
+    counting = 1;
+    return status;
+}
+
+static void drop_uncounted(void *app, uint32_t index)
+{
+    counting = 0;
+    field_drop(app, index);
+    counting = 1;
+}
+
+static int rebalance_counted(int skip_check, tezgumi_mpi_report *report)
+{
+    static tezgumi_mpi_element mine[FIELD_MOST];
+    const tezgumi_mpi_options options = {0, 1000, skip_check};
+    const tezgumi_mpi_callbacks callbacks = {field_pack, unpack_uncounted, drop_uncounted, &f};
+    tezgumi_mpi_chain chain = {0};
+    uint32_t count;
+    int status;
+    deal(&f, 60, 3, SCATTERED);
+    f.fail_pack = fail_pack;
+    f.fail_unpack = fail_unpack;
+    count = elements_of(&f, mine);
+    requests = 0;
+    live = 0;
+    counting = 1;
+    status = tezgumi_mpi_rebalance(MPI_COMM_WORLD, mine, count, &callbacks, &options, &chain, report);
+    tezgumi_mpi_chain_free(&chain);
+    counting = 0;
+    EXPECT(live == 0);
+    return status;
+}
+
+/* Refuses the first request on a rank, then the second, until none is left. How many there are. */
+static unsigned refuse_each(int on, int skip_check)
+{
+    tezgumi_mpi_report report;
+    unsigned k;
+    int status = TEZGUMI_NO_MEMORY;
+    for (k = 1; status == TEZGUMI_NO_MEMORY && k < 1000; k++) {
+        refuse_at = rank == on ? k : 0;
+        status = rebalance_counted(skip_check, &report);
+        if (status != TEZGUMI_NO_MEMORY) break;
+        EXPECT(report.failed_rank == on);
+        EXPECT(f.packs == 0 && f.unpacks == 0 && f.drops == 0);
+        expect_whole(&f);
+        expect_at(&f, f.dealt);
+    }
+    refuse_at = 0;
+    EXPECT(status == TEZGUMI_OK);
+    expect_whole(&f);
+    return k - 1;
+}
+
+static void on_each_rank(int skip_check)
+{
+    int on;
+    for (on = 0; on < ranks; on++) {
+        const unsigned refused = refuse_each(on, skip_check);
+        if (rank == on) EXPECT(refused == requests);
+        EXPECT(refused >= (ranks == 1 ? 4u : 7u));
+    }
+}
+
+/* Each element fails in turn, while it is packed or unpacked, if it moves at all. */
+static void after_callbacks(void)
+{
+    tezgumi_mpi_report report;
+    uint32_t i, failed = 0;
+    for (i = 0; i < 60; i++) {
+        fail_pack = i % 2 ? i : UINT32_MAX;
+        fail_unpack = i % 2 ? UINT32_MAX : i;
+        failed += rebalance_counted(0, &report) == TEZGUMI_MPI_CALLBACK;
+        expect_whole(&f);
+    }
+    fail_pack = fail_unpack = UINT32_MAX;
+    EXPECT(failed > 0);
+}
+
+static void checked(void) { on_each_rank(0); }
+static void unchecked(void) { on_each_rank(1); }
+
+int main(int argc, char **argv)
+{
+    begin_tests(&argc, &argv);
+    run_test("memory refused on one rank", checked);
+    run_test("memory refused on one rank, without the checker", unchecked);
+    if (ranks > 1) run_test("memory is given back after a callback that failed", after_callbacks);
+    field_free(&f);
+    return end_tests();
+}

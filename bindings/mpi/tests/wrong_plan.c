@@ -1,0 +1,160 @@
+/* A planner that goes wrong on one rank is found out on all. Link with --wrap for tezgumi_decide, tezgumi_plan, tezgumi_abi
+ * and MPI_Allgatherv. */
+#include "harness.h"
+
+static field f;
+static tezgumi_mpi_report report;
+static int wrong_here, mpi_fails, decisions;
+
+int32_t __real_tezgumi_decide(
+    const uint64_t *loads, size_t loads_len, const uint32_t *bytes, size_t bytes_len,
+    const uint32_t *places, size_t places_len, uint32_t procs, uint32_t pes,
+    uint32_t *new_places, size_t new_places_len, uint64_t *bottleneck, uint64_t *moved,
+    uint32_t *cuts, size_t cuts_len, uint32_t *stops, size_t stops_len, size_t *stops_count,
+    uint32_t *names, size_t names_len,
+    int64_t *block_prices, size_t block_prices_len, int64_t *pe_prices, size_t pe_prices_len);
+int32_t __wrap_tezgumi_decide(
+    const uint64_t *loads, size_t loads_len, const uint32_t *bytes, size_t bytes_len,
+    const uint32_t *places, size_t places_len, uint32_t procs, uint32_t pes,
+    uint32_t *new_places, size_t new_places_len, uint64_t *bottleneck, uint64_t *moved,
+    uint32_t *cuts, size_t cuts_len, uint32_t *stops, size_t stops_len, size_t *stops_count,
+    uint32_t *names, size_t names_len,
+    int64_t *block_prices, size_t block_prices_len, int64_t *pe_prices, size_t pe_prices_len);
+int32_t __real_tezgumi_plan(
+    const uint64_t *loads, size_t loads_len, const uint32_t *bytes, size_t bytes_len,
+    const uint32_t *places, size_t places_len, uint32_t procs, uint32_t pes,
+    uint32_t *new_places, size_t new_places_len, uint64_t *bottleneck, uint64_t *moved);
+int32_t __wrap_tezgumi_plan(
+    const uint64_t *loads, size_t loads_len, const uint32_t *bytes, size_t bytes_len,
+    const uint32_t *places, size_t places_len, uint32_t procs, uint32_t pes,
+    uint32_t *new_places, size_t new_places_len, uint64_t *bottleneck, uint64_t *moved);
+uint32_t __wrap_tezgumi_abi(void);
+int __wrap_MPI_Allgatherv(const void *out, int out_count, MPI_Datatype out_type, void *in, const int *in_counts,
+    const int *in_starts, MPI_Datatype in_type, MPI_Comm comm);
+
+/* The last element goes elsewhere than its block, or with one rank to a place that is none. */
+static void spoil(uint32_t *new_places, size_t n, uint32_t pes)
+{
+    if (wrong_here && n > 0) new_places[n - 1] = pes == 1 ? 1 : (new_places[n - 1] + 1) % pes;
+}
+
+int32_t __wrap_tezgumi_decide(
+    const uint64_t *loads, size_t loads_len, const uint32_t *bytes, size_t bytes_len,
+    const uint32_t *places, size_t places_len, uint32_t procs, uint32_t pes,
+    uint32_t *new_places, size_t new_places_len, uint64_t *bottleneck, uint64_t *moved,
+    uint32_t *cuts, size_t cuts_len, uint32_t *stops, size_t stops_len, size_t *stops_count,
+    uint32_t *names, size_t names_len,
+    int64_t *block_prices, size_t block_prices_len, int64_t *pe_prices, size_t pe_prices_len)
+{
+    const int32_t status = __real_tezgumi_decide(loads, loads_len, bytes, bytes_len, places, places_len, procs, pes,
+        new_places, new_places_len, bottleneck, moved, cuts, cuts_len, stops, stops_len, stops_count, names, names_len,
+        block_prices, block_prices_len, pe_prices, pe_prices_len);
+    spoil(new_places, new_places_len, pes);
+    decisions++;
+    return status;
+}
+
+int32_t __wrap_tezgumi_plan(
+    const uint64_t *loads, size_t loads_len, const uint32_t *bytes, size_t bytes_len,
+    const uint32_t *places, size_t places_len, uint32_t procs, uint32_t pes,
+    uint32_t *new_places, size_t new_places_len, uint64_t *bottleneck, uint64_t *moved)
+{
+    const int32_t status = __real_tezgumi_plan(loads, loads_len, bytes, bytes_len, places, places_len, procs, pes,
+        new_places, new_places_len, bottleneck, moved);
+    spoil(new_places, new_places_len, pes);
+    return status;
+}
+
+uint32_t __wrap_tezgumi_abi(void)
+{
+    return wrong_here ? TEZGUMI_ABI + 1 : TEZGUMI_ABI;
+}
+
+int __wrap_MPI_Allgatherv(const void *out, int out_count, MPI_Datatype out_type, void *in, const int *in_counts,
+    const int *in_starts, MPI_Datatype in_type, MPI_Comm comm)
+{
+    if (mpi_fails) return MPI_ERR_OTHER;
+    return PMPI_Allgatherv(out, out_count, out_type, in, in_counts, in_starts, in_type, comm);
+}
+
+static void expect_left(void)
+{
+    EXPECT(f.packs == 0 && f.unpacks == 0 && f.drops == 0);
+    expect_whole(&f);
+    expect_at(&f, f.dealt);
+}
+
+/* Decides, with a wrong planner on the last rank. */
+static int decide_wrongly(int skip_check, tezgumi_mpi_chain *chain)
+{
+    static tezgumi_mpi_element mine[FIELD_MOST];
+    const tezgumi_mpi_options options = {0, 0, skip_check};
+    int status;
+    deal(&f, 50, 2, SCATTERED);
+    EXPECT(tezgumi_mpi_gather(MPI_COMM_WORLD, mine, elements_of(&f, mine), chain, &report) == TEZGUMI_OK);
+    wrong_here = rank == ranks - 1;
+    status = tezgumi_mpi_decide(MPI_COMM_WORLD, chain, &options, &report);
+    wrong_here = 0;
+    expect_left();
+    expect_at(&f, chain->new_places);
+    return status;
+}
+
+static void wrong_and_checked(void)
+{
+    tezgumi_mpi_chain chain = {0};
+    EXPECT(decide_wrongly(0, &chain) == TEZGUMI_MPI_WRONG_PLAN);
+    EXPECT(report.failed_rank == ranks - 1 && report.failed_at == TEZGUMI_PLACES_WRONG);
+    tezgumi_mpi_chain_free(&chain);
+}
+
+static void wrong_and_unchecked(void)
+{
+    tezgumi_mpi_chain chain = {0};
+    EXPECT(decide_wrongly(1, &chain) == TEZGUMI_MPI_DISAGREE);
+    EXPECT(report.failed_rank == -1);
+    tezgumi_mpi_chain_free(&chain);
+}
+
+/* Certificates are made only where they are checked. */
+static void certificates(void)
+{
+    tezgumi_mpi_chain chain = {0};
+    decisions = 0;
+    decide_wrongly(0, &chain);
+    EXPECT(decisions == 1);
+    decide_wrongly(1, &chain);
+    EXPECT(decisions == 1);
+    tezgumi_mpi_chain_free(&chain);
+}
+
+static void other_library(void)
+{
+    deal(&f, 50, 2, SCATTERED);
+    wrong_here = rank == ranks - 1;
+    EXPECT(rebalance(&f, NULL, NULL, &report) == TEZGUMI_MPI_LIBRARY);
+    wrong_here = 0;
+    EXPECT(report.failed_rank == ranks - 1);
+    expect_left();
+}
+
+static void failing_mpi(void)
+{
+    deal(&f, 50, 2, SCATTERED);
+    mpi_fails = 1;
+    EXPECT(rebalance(&f, NULL, NULL, &report) == TEZGUMI_MPI_ERROR);
+    mpi_fails = 0;
+    expect_left();
+}
+
+int main(int argc, char **argv)
+{
+    begin_tests(&argc, &argv);
+    run_test("a plan with a flaw on one rank", wrong_and_checked);
+    if (ranks > 1) run_test("a plan of its own on one rank, without the checker", wrong_and_unchecked);
+    run_test("certificates only where they are checked", certificates);
+    run_test("another library on one rank", other_library);
+    run_test("an MPI call that fails", failing_mpi);
+    field_free(&f);
+    return end_tests();
+}

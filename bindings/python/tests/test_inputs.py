@@ -1,0 +1,141 @@
+"""Runs and decisions: what they take, what they refuse and why, and how they are shown."""
+from dataclasses import FrozenInstanceError, replace
+
+import numpy as np
+
+import tezgumi
+from support import THREE, TimedTest, front, large_run
+
+
+class Taken(TimedTest):
+    def test_lists_and_arrays_of_any_whole_numbers(self):
+        kinds = [lambda n, kind=kind: np.array(n, kind) for kind in (np.int8, np.uint64, object, ">u4")]
+        for make in (list, tuple, np.array, lambda n: np.repeat(np.array(n), 2)[::2], *kinds):
+            run = tezgumi.Run(2, make([1, 1, 2]), make([10, 9, 8]), make([0, 1, 0]), step=5)
+            self.assertEqual(run, THREE)
+            self.assertEqual([a.dtype for a in (run.loads, run.bytes, run.places)], [np.uint64, np.uint32, np.uint32])
+
+    def test_no_elements(self):
+        self.assertEqual(len(tezgumi.Run(1, [], [], [])), 0)
+        self.assertEqual(len(tezgumi.Run(1, range(0), np.array([]), ())), 0)
+
+    def test_the_greatest_numbers(self):
+        run = tezgumi.Run(256, [tezgumi.LOAD], [tezgumi.STATE_BYTES], [255], step=2**32 - 1)
+        self.assertEqual((run.loads[0], run.bytes[0], run.places[0]), (2**47 - 1, 2**20, 255))
+        self.assertEqual(len(large_run()), 65_536)
+
+    def test_a_run_is_a_copy_that_stays(self):
+        loads = np.array([1, 1, 2], np.uint64)
+        run = replace(THREE, loads=loads)
+        loads[0] = 9
+        self.assertEqual(run, THREE)
+        for numbers in (run.loads, run.bytes, run.places):
+            with self.assertRaises(ValueError):
+                numbers[0] = 9
+        with self.assertRaises(FrozenInstanceError):
+            run.procs = 9
+        self.assertIs(replace(run, step=6).loads, run.loads)
+        seen = tezgumi.Run(2, loads, run.bytes, run.places, copy=False)
+        self.assertFalse(np.shares_memory(replace(seen, step=6).loads, loads))
+
+    def test_a_run_without_a_copy(self):
+        loads = np.array([1, 1, 2], np.uint64)
+        run = tezgumi.Run(2, loads, [10, 9, 8], [0, 1, 0], step=5, copy=False)
+        self.assertEqual(run, THREE)
+        self.assertTrue(np.shares_memory(run.loads, loads))
+        with self.assertRaises(ValueError):
+            run.loads[0] = 9
+        self.assertTrue(loads.flags.writeable)
+        for other in (loads.astype(np.int64), loads.astype(">u8"), np.repeat(loads, 2)[::2]):
+            run = tezgumi.Run(2, other, [10, 9, 8], [0, 1, 0], step=5, copy=False)
+            self.assertFalse(np.shares_memory(run.loads, other))
+            self.assertEqual(run, THREE)
+
+    def test_equality(self):
+        self.assertNotEqual(THREE, replace(THREE, step=6))
+        self.assertNotEqual(THREE, replace(THREE, loads=[1, 1, 1]))
+        self.assertNotEqual(THREE, 5)
+        self.assertRaises(TypeError, hash, THREE)
+
+    def test_after_a_plan(self):
+        plan = tezgumi.Plan(3, [2, 1, 0], 2, 18)
+        self.assertEqual(THREE.after(plan, step=6), tezgumi.Run(3, [1, 1, 2], [10, 9, 8], [2, 1, 0], step=6))
+        self.assertRaisesRegex(tezgumi.InputError, "the plan is for 3 elements, and the run has 300", front().after, plan)
+
+
+class Refused(TimedTest):
+    def refuses(self, text, kind=tezgumi.InputError, **changed):
+        with self.assertRaisesRegex(kind, text):
+            replace(THREE, **changed)
+
+    def test_a_load(self):
+        text = "^element 1 has too great a load: 140737488355328, and at most 140737488355327 is taken$"
+        self.refuses(text, tezgumi.LoadError, loads=[1, 2**47, 1])
+        self.refuses("^element 2 has too great a load", tezgumi.LoadError, loads=[1, 1, 2**70])
+        self.refuses("^element 1 has too great a load", tezgumi.LoadError, loads=np.array([1, np.uint64(2**63), 2], object))
+        self.refuses("^element 0 has the load -1, and not a whole number from 0 to 140737488355327$", loads=[-1, 1, 1])
+        self.refuses("^element 1 has the load 1.5, and not a whole number", loads=[1, 1.5, 1])
+        self.refuses("^element 0 has the load nan", loads=np.array([np.nan, 1, 1]))
+        self.refuses("^element 0 has the load 1.0", loads=np.array([1.0, 1.0, 1.0]))
+        self.refuses("^element 1 has the load None", loads=[1, None, 2])
+        self.refuses("^element 0 has the load True", loads=[True, False, True])
+        self.refuses("^element 0 has the load '1'", loads=["1", "2", "3"])
+        self.refuses("^element 1 has the load -1", loads=[2**63, -1, 1][::-1])
+
+    def test_a_packed_size(self):
+        self.refuses("^element 2 has more than 1048576 bytes: 1048577$", bytes=[1, 1, 2**20 + 1])
+        self.refuses("^element 0 has the packed size -3, and not a whole number from 0 to 1048576$", bytes=[-3, 1, 1])
+
+    def test_a_place(self):
+        self.refuses("^element 1 is on no processor: its place is 2, and with 2 PEs it is 0 to 1$", places=[0, 2, 0])
+        self.refuses("^element 2 is on no processor: its place is -1", places=np.array([0, 0, -1]))
+        self.refuses("^element 1 is on no processor: its place is 1, and with 1 PEs", procs=1)
+
+    def test_numbers_of_pes_and_steps(self):
+        for procs in (0, 257, -1, True):
+            self.refuses("^procs is .*; it has to be 1 to 256$", procs=procs)
+        self.refuses("^procs is 2.0, which is no whole number$", procs=2.0)
+        self.refuses("^step is 4294967296; it has to be 0 to 4294967295$", step=2**32)
+
+    def test_the_form_of_the_lists(self):
+        self.refuses("^there are 2 loads, 3 packed sizes and 3 places", loads=[1, 2])
+        self.refuses("^loads: a list of one dimension is wanted, and not of 2$", loads=[[1], [2], [3]])
+        self.refuses("^bytes: a list of one dimension is wanted, and not of 0$", bytes=5)
+        self.refuses("^places: a list of whole numbers is wanted", places=[[1], [2, 3]])
+        many = [0] * 65_537
+        with self.assertRaisesRegex(tezgumi.InputError, "^there are 65537 elements, and at most 65536 are taken$"):
+            tezgumi.Run(1, many, many, many)
+
+    def test_a_place_is_told_before_a_load_that_is_too_great(self):
+        self.refuses("^element 2 is on no processor", loads=[2**47, 1, 1], places=[0, 0, 2])
+
+    def test_a_decision(self):
+        decision = tezgumi.Decision(2, [1, 1, 0], 2, 10, [0, 2, 3], [0, 1, 2], [1, 0], [10, 1], [-1, 0], [(0, 0, 1)])
+        for changed, text in (
+                ({"pes": 0}, "^pes is 0"),
+                ({"bottleneck": -1}, "^bottleneck is -1"),
+                ({"moved": 2**64}, "^moved is 18446744073709551616"),
+                ({"cuts": [0, -1, 3]}, r"^cuts\[1\] is -1; it has to be a whole number from 0 to 4294967295$"),
+                ({"names": [0, 2**32]}, r"^names\[1\] is 4294967296"), ({"stops": [0.5]}, r"^stops\[0\] is 0.5"),
+                ({"pe_prices": [2**63, 0]}, r"^pe_prices\[0\] is 9223372036854775808"),
+                ({"moves": [(0, 0, -1)]}, r"^moves.planned\[0\] is -1")):
+            with self.assertRaisesRegex(tezgumi.InputError, text):
+                replace(decision, **changed)
+        self.assertEqual(replace(decision, moves=decision.moves.copy()), decision)
+        self.assertEqual(replace(decision, moves=np.array([[0, 0, 1]])), decision)
+
+
+class Shown(TimedTest):
+    def test_a_run(self):
+        self.assertEqual(repr(THREE), "Run(3 elements, procs=2, loads=[1 1 2], bytes=[10 9 8], places=[0 1 0], step=5)")
+        self.assertEqual(
+            repr(front()),
+            "Run(300 elements, procs=16, loads=[20 22 24 .. 29 31 20], bytes=[200 799 597 .. 281 880 678], "
+            "places=[0 0 0 .. 15 15 15], step=12)")
+
+    def test_a_plan_and_a_decision(self):
+        self.assertEqual(repr(tezgumi.Plan(2, [1, 1, 0], 2, 10)), "Plan(pes=2, bottleneck=2, moved=10, places=[1 1 0])")
+        decision = tezgumi.Decision(2, [1, 1, 0], 2, 10, [0, 2, 3], [0, 1, 2], [1, 0], [10, 1], [-1, 0], [(0, 0, 1)])
+        self.assertEqual(
+            repr(decision),
+            "Decision(pes=2, bottleneck=2, moved=10, places=[1 1 0], cuts=[0 2 3], names=[1 0], stops=[0 1 2], 1 moves)")

@@ -1,0 +1,63 @@
+"""Where the library is looked for, and what is told where it is not there or does not fit."""
+import os
+import shutil
+import subprocess
+import sys
+import tempfile
+from unittest import mock
+
+import tezgumi
+from support import CHECKOUT, PACKAGES, THREE, TimedTest
+from tezgumi import library
+
+OTHER = "unsigned tezgumi_abi(void) { return 99; } int tezgumi_plan, tezgumi_decide, tezgumi_check;"
+
+
+class Found(TimedTest):
+    def setUp(self):
+        library.library.cache_clear()
+        self.addCleanup(library.library.cache_clear)
+
+    def named(self, path):
+        return mock.patch.dict(os.environ, TEZGUMI_LIBRARY=path)
+
+    def test_the_order(self):
+        with self.named("/no/such/library.so"):
+            self.assertEqual(library.candidates(), ["/no/such/library.so"])
+        with mock.patch.dict(os.environ):
+            os.environ.pop("TEZGUMI_LIBRARY", None)
+            built = os.path.join(os.path.dirname(PACKAGES), "out", "lib", "libtezgumi.so")
+            with mock.patch.object(os.path, "exists", lambda path: path == built):
+                self.assertEqual(library.candidates()[0], built)
+            nothing = mock.patch("ctypes.util.find_library", lambda name: None)
+            with mock.patch.object(os.path, "exists", lambda path: False), nothing:
+                self.assertEqual(library.candidates(), ["libtezgumi.so.1"])
+
+    def test_one_that_is_not_there(self):
+        with self.named("/no/such/library.so"):
+            text = "^no libtezgumi .*/no/such/library.so.*; bindings/build makes it, and TEZGUMI_LIBRARY may name it$"
+            self.assertRaisesRegex(tezgumi.LibraryError, text, tezgumi.plan, THREE)
+
+    def test_another_library(self):
+        import _ctypes
+        with self.named(_ctypes.__file__):
+            self.assertRaisesRegex(tezgumi.LibraryError, "^no libtezgumi .*undefined symbol", tezgumi.plan, THREE)
+
+    def test_another_interface(self):
+        compiler = shutil.which("cc")
+        if not compiler:
+            self.skipTest("no C compiler")
+        with tempfile.TemporaryDirectory() as folder:
+            path = os.path.join(folder, "other.so")
+            words = [compiler, "-shared", "-fPIC", "-x", "c", "-", "-o", path]
+            subprocess.run(words, input=OTHER.encode(), check=True, timeout=15)
+            with self.named(path):
+                text = "other.so has the interface 99, and this package is written for 1$"
+                self.assertRaisesRegex(tezgumi.LibraryError, text, tezgumi.plan, THREE)
+
+    def test_dumps_are_read_without_it(self):
+        script = "import tezgumi; print(tezgumi.read_dump('examples/three-elements.lbd2').decision.moved)"
+        ended = subprocess.run(
+            [sys.executable, "-c", script], cwd=CHECKOUT, stdout=subprocess.PIPE, timeout=15,
+            env={**os.environ, "TEZGUMI_LIBRARY": "/no/such/library.so", "PYTHONPATH": PACKAGES})
+        self.assertEqual(ended.stdout, b"10\n")

@@ -1,0 +1,43 @@
+"""Tezgumi's proved load balancer, and its proved checker, from Python.
+
+    import tezgumi
+
+    run, recorded = tezgumi.read_dump("examples/three-elements.lbd2")
+    decision = tezgumi.decide(run, pes=2)
+    print(tezgumi.figures(run, decision))
+    assert tezgumi.check(run, decision)
+
+A `Run` is a chain of elements: the load, the packed size and the present PE of each. `plan` says where each runs from now
+on, `decide` says it with certificates, and `check` says whether every part of a decision is right, whoever made it. These
+three call libtezgumi.so, whose planner and checker are proved; all else is plain Python, and tested. The library is looked
+for where TEZGUMI_LIBRARY says, then where bindings/build puts it, then where the system's linker looks.
+
+- runs: Run, Plan, Decision, and the limits
+- planning: plan, decide, check; checking: Verdict, Flaw
+- figures: figures, sweep, table, pe_loads
+- dumps: read_dump, write_dump, decode, encode, of the formats LBD1 and LBD2
+- texts: replay_text, the text that lb_sim prints
+- errors: TezgumiError and its kinds
+
+`tezgumi_plot`, beside this package, draws. `python3 -m tezgumi FILE` prints the figures of a dump. numpy is needed.
+"""
+import sys
+
+try:
+    import numpy
+except ImportError as error:
+    raise ImportError(f"tezgumi needs numpy (python3-numpy of Debian), and {sys.executable} has none") from error
+
+from .checking import Flaw, Verdict
+from .dumps import Dump, decode, encode, read_dump, write_dump
+from .errors import DumpError, InputError, LibraryError, LoadError, OutOfMemory, TezgumiError
+from .figures import Figures, Sweep, figures, pe_loads, sweep, table
+from .planning import check, decide, plan
+from .runs import ELEMENTS, LOAD, MOVE, PES, STATE_BYTES, Decision, Plan, Run
+from .texts import replay_text
+
+__all__ = [
+    "ELEMENTS", "LOAD", "MOVE", "PES", "STATE_BYTES", "Decision", "Dump", "DumpError", "Figures", "Flaw", "InputError",
+    "LibraryError", "LoadError", "OutOfMemory", "Plan", "Run", "Sweep", "TezgumiError", "Verdict", "check", "decide",
+    "decode", "encode", "figures", "pe_loads", "plan", "read_dump", "replay_text", "sweep", "table", "write_dump",
+]

@@ -1,0 +1,108 @@
+"""What a check says of a decision."""
+import enum
+from dataclasses import dataclass
+from typing import Optional, Tuple
+
+import numpy as np
+
+
+class Flaw(enum.IntEnum):
+    """What is wrong with a decision. Of several flaws the least is told. `word` is the name that lb_sim prints."""
+
+    def __new__(cls, number, word, meaning):
+        flaw = int.__new__(cls, number)
+        flaw._value_ = number
+        flaw.word = word
+        flaw.meaning = meaning
+        return flaw
+
+    CUT_COUNT = 1, "CutCount", "there are not pes + 1 cuts"
+    CUT_START = 2, "CutStart", "the first cut is not 0"
+    CUT_ORDER = 3, "CutOrder", "a cut is greater than the next"
+    CUT_END = 4, "CutEnd", "the last cut is not the number of elements"
+    HEAVY = 5, "Heavy", "block {0} is heavier than the bottleneck"
+    FENCE_COUNT = 6, "FenceCount", "there are stops, and not pes + 1"
+    FENCE_START = 7, "FenceStart", "the first stop is not 0"
+    FENCE_ORDER = 8, "FenceOrder", "a stop is greater than the next"
+    FENCE_END = 9, "FenceEnd", "the last stop is not an element"
+    FENCE_LIGHT = 10, "FenceLight", "the elements up to stop {0} are lighter than the bottleneck"
+    ZERO_FLOOR = 11, "ZeroFloor", "there are no stops, and the bottleneck is not 0"
+    NAME_COUNT = 12, "NameCount", "there are not pes names"
+    NAME_RANGE = 13, "NameRange", "a name is not below pes"
+    NAME_TWICE = 14, "NameTwice", "two blocks have the same name"
+    PRICE_COUNT = 15, "PriceCount", "there are not pes prices of blocks and pes prices of PEs"
+    PRICE_HIGH = 16, "PriceHigh", "the prices of block {0} and PE {1} are above the bytes that the block would move there"
+    PRICE_GAP = 17, "PriceGap", "the prices together are not the bytes that the names move"
+    MOVED_WRONG = 18, "MovedWrong", "the bytes moved are not those that the names move"
+    MOVES_WRONG = 19, "MovesWrong", "the places or the moves are not those that the names ask for"
+
+
+@dataclass(frozen=True)
+class Verdict:
+    """What a check says: true where every part of the decision is right, and else its least flaw.
+
+    `numbers` are those of the block, of the stop (from 1), or of the block and the PE that the flaw is found at first.
+    """
+
+    flaw: Optional[Flaw] = None
+    numbers: Tuple[int, ...] = ()
+
+    def __bool__(self):
+        return self.flaw is None
+
+    def __str__(self):
+        """The line that lb_sim prints."""
+        if self.flaw is None:
+            return "check: ok"
+        return " ".join(["check:", self.flaw.word, *map(str, self.numbers)])
+
+    def __repr__(self):
+        return "Verdict(right)" if self else f"Verdict({self.flaw.name}: {self.meaning})"
+
+    @property
+    def meaning(self):
+        """The verdict in words."""
+        return "every part is right" if self.flaw is None else self.flaw.meaning.format(*self.numbers)
+
+
+def numbers_of(run, decision, flaw):
+    """Where a flaw that the library found is found at first."""
+    if flaw is Flaw.HEAVY:
+        return (_first(_between(run.loads, decision.cuts) > np.uint64(decision.bottleneck)),)
+    if flaw is Flaw.FENCE_LIGHT:
+        stops = decision.stops.astype(np.int64)
+        sums = running_sums(run.loads)
+        return (1 + _first(sums[stops[1:] + 1] - sums[stops[:-1]] < np.uint64(decision.bottleneck)),)
+    if flaw is Flaw.PRICE_HIGH:
+        return _first_high_price(run, decision)
+    return ()
+
+
+def running_sums(numbers):
+    """The sum of the first k numbers, for each k: exact, as at most 65,536 numbers of 47 bits are 63 bits."""
+    sums = np.zeros(len(numbers) + 1, np.uint64)
+    np.cumsum(numbers, dtype=np.uint64, out=sums[1:])
+    return sums
+
+
+def _between(numbers, cuts):
+    sums = running_sums(numbers)
+    return sums[cuts[1:]] - sums[cuts[:-1]]
+
+
+def _first(found):
+    return int(np.argmax(found))
+
+
+def _first_high_price(run, decision):
+    # Block by block, what it would move to each PE: its bytes less those that stand there. Sums of prices may pass 64 bits.
+    sums = running_sums(run.bytes)
+    pe_prices = decision.pe_prices.tolist()
+    for block, price in enumerate(decision.block_prices.tolist()):
+        part = slice(int(decision.cuts[block]), int(decision.cuts[block + 1]))
+        there = np.bincount(run.places[part], weights=run.bytes[part], minlength=decision.pes).astype(np.int64)
+        total = int(sums[part.stop] - sums[part.start])
+        for pe in range(decision.pes):
+            if price + pe_prices[pe] > total - int(there[pe]):
+                return block, pe
+    return ()

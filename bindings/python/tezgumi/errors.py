@@ -1,0 +1,33 @@
+"""What this package refuses or reports."""
+
+
+class TezgumiError(Exception):
+    """Anything that this package refuses or reports."""
+
+
+class InputError(TezgumiError, ValueError):
+    """A number that breaks a limit, or lists that do not fit each other. The text says which element, and why."""
+
+
+class LoadError(InputError):
+    """All else is in order, and a load is above the greatest one."""
+
+
+class OutOfMemory(TezgumiError, MemoryError):
+    """The library was refused memory. Nothing was planned or checked."""
+
+
+class LibraryError(TezgumiError, OSError):
+    """The shared library was not found, or is one for another interface."""
+
+
+class DumpError(TezgumiError, ValueError):
+    """Bytes that are no dump.
+
+    `line` is what lb_sim prints for them, without the end of the line. The text of the exception is this line and, where
+    there is more to tell, the number that was found and where.
+    """
+
+    def __init__(self, fault, found=""):
+        self.line = f"dump: {fault}"
+        super().__init__(f"{self.line} ({found})" if found else self.line)

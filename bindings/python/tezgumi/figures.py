@@ -1,0 +1,141 @@
+"""Figures of a plan: the greatest load, the average and the imbalance before and after, and what moves."""
+from dataclasses import dataclass
+
+import numpy as np
+
+from .planning import plan as plan_for
+from .runs import on_no_processor
+
+
+@dataclass(frozen=True)
+class Figures:
+    """What a plan does to a run. They are counted from its places, and not taken from what it states.
+
+    An average is all load over the number of PEs. The imbalance is the greatest load of a PE over the average, and 1 where
+    there is no load. No greatest load can be below the average, nor below the load of the heaviest element.
+    """
+
+    elements: int
+    procs: int
+    pes: int
+    total_load: int
+    heaviest_element: int
+    greatest_before: int
+    greatest_after: int
+    moved_elements: int
+    moved_bytes: int
+    total_bytes: int
+
+    @property
+    def average_before(self):
+        return self.total_load / self.procs
+
+    @property
+    def average_after(self):
+        return self.total_load / self.pes
+
+    @property
+    def imbalance_before(self):
+        return _ratio(self.greatest_before * self.procs, self.total_load)
+
+    @property
+    def imbalance_after(self):
+        return _ratio(self.greatest_after * self.pes, self.total_load)
+
+    def __str__(self):
+        rows = (
+            ("", "before", "after"),
+            ("PEs", f"{self.procs:,}", f"{self.pes:,}"),
+            ("greatest load", f"{self.greatest_before:,}", f"{self.greatest_after:,}"),
+            ("average load", _hundredths(self.total_load, self.procs), _hundredths(self.total_load, self.pes)),
+            ("imbalance", f"{self.imbalance_before:.4f}", f"{self.imbalance_after:.4f}"),
+            ("moved elements", f"{self.moved_elements:,}", f"of {self.elements:,}"),
+            ("moved bytes", f"{self.moved_bytes:,}", f"of {self.total_bytes:,}"),
+        )
+        return _aligned(rows)
+
+    def _repr_pretty_(self, printer, _):
+        # How IPython and notebooks show it.
+        printer.text(str(self))
+
+
+class Sweep(list):
+    """The figures for several numbers of PEs. As a text it is a table, which a notebook shows."""
+
+    def __str__(self):
+        return table(self)
+
+    def _repr_pretty_(self, printer, _):
+        printer.text(str(self))
+
+
+def figures(run, plan):
+    """The figures of a plan, or of a decision, on a run."""
+    run.refuse_other_places(plan.places)
+    before = pe_loads(run, run.places, run.procs)
+    after = pe_loads(run, plan.places, plan.pes)
+    moves = run.places != plan.places
+    return Figures(
+        elements=len(run),
+        procs=run.procs,
+        pes=plan.pes,
+        total_load=int(run.loads.sum(dtype=np.uint64)),
+        heaviest_element=int(run.loads.max(initial=0)),
+        greatest_before=int(before.max()),
+        greatest_after=int(after.max()),
+        moved_elements=int(np.count_nonzero(moves)),
+        moved_bytes=int(run.bytes.sum(dtype=np.uint64, where=moves)),
+        total_bytes=int(run.bytes.sum(dtype=np.uint64)),
+    )
+
+
+def pe_loads(run, places, pes):
+    """The load of each PE where the elements stand at these places. Exact."""
+    run.refuse_other_places(places)
+    places = np.asarray(places, dtype=np.int64)
+    if places.size and int(places.max()) >= pes:
+        element = int(np.argmax(places >= pes))
+        raise on_no_processor(element, int(places[element]), pes)
+    # A double holds sums up to 53 bits: those of the lower 24 bits of 65,536 loads have 40, and those of the rest 39.
+    low, high = (np.bincount(places, weights=part, minlength=pes) for part in (run.loads & 0xFFFFFF, run.loads >> 24))
+    return low.astype(np.uint64) + (high.astype(np.uint64) << np.uint64(24))
+
+
+def sweep(run, counts=None):
+    """The figures of the plan for each number of PEs, as a Sweep; for 1, 2, 4 .. 256 and the run's own, if none are named."""
+    if counts is None:
+        counts = sorted({2**k for k in range(9)} | {run.procs})
+    return Sweep(figures(run, plan_for(run, pes)) for pes in counts)
+
+
+def table(swept):
+    """A sweep as lines of text, a row for each number of PEs."""
+    rows = [("PEs", "greatest load", "average load", "imbalance", "moved elements", "moved bytes")]
+    for row in swept:
+        rows.append((
+            f"{row.pes:,}", f"{row.greatest_after:,}", _hundredths(row.total_load, row.pes), f"{row.imbalance_after:.4f}",
+            f"{row.moved_elements:,}", f"{row.moved_bytes:,}"))
+    return _aligned(rows)
+
+
+def _ratio(one, other):
+    # Of whole numbers, so that it is rounded once, and no imbalance comes out below 1.
+    return one / other if other else 1.0
+
+
+def _hundredths(number, parts):
+    # In whole numbers: a total of 63 bits is no double.
+    hundredths = (200 * number + parts) // (2 * parts)
+    return f"{hundredths // 100:,}.{hundredths % 100:02}"
+
+
+def _aligned(rows):
+    # The first column of a table of figures holds words, where its head is empty.
+    words = rows[0][0] == ""
+    widths = [max(len(row[column]) for row in rows) for column in range(len(rows[0]))]
+    lines = []
+    for row in rows:
+        cells = [cell.ljust(width) if words and column == 0 else cell.rjust(width)
+                 for column, (cell, width) in enumerate(zip(row, widths))]
+        lines.append("  ".join(cells).rstrip())
+    return "\n".join(lines)

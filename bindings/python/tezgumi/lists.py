@@ -1,0 +1,94 @@
+"""Lists of whole numbers: taken from numpy arrays or plain lists, tested, and kept as arrays that nobody writes to."""
+import operator
+
+import numpy as np
+
+from .errors import InputError
+
+
+def frozen(values, kind, name, refuse=None, most=None, copy=True):
+    """The numbers as an array of this type that cannot be written to, each from the least of the type to `most`.
+
+    Nothing is rounded or wrapped. The first number that does not fit is handed to `refuse` with its index, which answers
+    the exception. Without `copy` an array that has the type is not copied, and its owner can still write to it.
+    """
+    limits = np.iinfo(kind)
+    most = limits.max if most is None else most
+    refuse = refuse or _refuser(name, limits.min, most)
+    array = _array(values, name)
+    if array.size and array.dtype.kind not in "iu":
+        array = _one_by_one(values, limits.min, most, refuse)
+    if array.size:
+        _refuse_outside(array, limits.min, most, refuse)
+    return _kept(array, kind, copy)
+
+
+def whole_number(value, least, most, name):
+    """The number as an int, from least to most."""
+    try:
+        number = operator.index(value)
+    except TypeError:
+        raise InputError(f"{name} is {value!r}, which is no whole number") from None
+    if isinstance(value, (bool, np.bool_)) or not least <= number <= most:
+        raise InputError(f"{name} is {value!r}; it has to be {least} to {most}")
+    return number
+
+
+def shown(array, ends=3):
+    """The numbers in a line: all of a short list, the first and last ones of a long one."""
+    if array.size <= 2 * ends + 2:
+        return "[" + " ".join(map(str, array.tolist())) + "]"
+    first, last = (" ".join(map(str, part.tolist())) for part in (array[:ends], array[-ends:]))
+    return f"[{first} .. {last}]"
+
+
+def same_fields(one, other, fields):
+    """Whether these fields of two objects hold the same numbers."""
+    return all(np.array_equal(getattr(one, name), getattr(other, name)) for name in fields)
+
+
+def _array(values, name):
+    try:
+        array = np.asarray(values)
+    except (ValueError, OverflowError) as error:
+        raise InputError(f"{name}: a list of whole numbers is wanted ({error})") from None
+    if array.ndim != 1:
+        raise InputError(f"{name}: a list of one dimension is wanted, and not of {array.ndim}")
+    return array
+
+
+def _refuser(name, least, most):
+    return lambda index, value: InputError(
+        f"{name}[{index}] is {value!r}; it has to be a whole number from {least} to {most}")
+
+
+def _one_by_one(values, least, most, refuse):
+    # numpy has no type of whole numbers for them: there is a float among them, a number past 64 bits, or another thing.
+    numbers = values.tolist() if isinstance(values, np.ndarray) else list(values)
+    for index, number in enumerate(numbers):
+        if isinstance(number, np.integer):
+            number = int(number)
+        if isinstance(number, bool) or not isinstance(number, int) or not least <= number <= most:
+            raise refuse(index, number)
+    return np.array(numbers, dtype=np.uint64 if least == 0 else np.int64)
+
+
+def _refuse_outside(array, least, most, refuse):
+    # Where some number is outside, the type of the array holds that number, and the limit beside it.
+    if int(array.max()) > most:
+        outside = array > most
+    elif array.dtype.kind == "i" and int(array.min()) < least:
+        outside = array < least
+    else:
+        return
+    index = int(np.argmax(outside))
+    raise refuse(index, int(array[index]))
+
+
+def _kept(array, kind, copy):
+    fits = array.dtype == kind and array.flags.c_contiguous and array.flags.aligned
+    if fits and array.flags.owndata and not array.flags.writeable:
+        return array
+    kept = array.view() if fits and not copy else np.array(array, dtype=kind)
+    kept.setflags(write=False)
+    return kept

@@ -1,0 +1,182 @@
+"""Runs, plans and decisions: what a load balancer is given, and what it answers."""
+from dataclasses import InitVar, dataclass, fields, replace
+
+import numpy as np
+
+from .errors import InputError, LoadError
+from .lists import frozen, same_fields, shown, whole_number
+
+ELEMENTS = 65_536
+"""At most so many elements."""
+PES = 256
+"""At most so many processing elements (PEs), and at least one."""
+LOAD = 140_737_488_355_327
+"""The greatest load of an element, in work units: 47 bits."""
+STATE_BYTES = 1_048_576
+"""The greatest packed size of an element, in bytes."""
+
+_WORD, _LONG = 2**32 - 1, 2**64 - 1
+
+MOVE = np.dtype([("element", np.uint32), ("present", np.uint32), ("planned", np.uint32)])
+"""A move: the index of an element, the PE on which it stands, and the PE on which it is to run."""
+
+
+class _Record:
+    """Frozen, compared by all fields, and not to be hashed: the fields hold arrays."""
+
+    __hash__ = None
+
+    def _keep(self, name, value):
+        # How a frozen dataclass puts its own fields in order.
+        object.__setattr__(self, name, value)
+
+    def __eq__(self, other):
+        if type(self) is not type(other):
+            return NotImplemented
+        return same_fields(self, other, [field.name for field in fields(self)])
+
+
+@dataclass(frozen=True, eq=False, repr=False)
+class Run(_Record):
+    """A chain of elements, in order, on `procs` PEs: the load, the packed size and the present PE of each.
+
+    The lists may be numpy arrays or plain lists of whole numbers. A float is refused: round it first. They are copied, and
+    cannot be written to; with copy=False an array that has the type already is taken as it is, and must not be written to
+    while the run is in use. `replace(run, procs=4)` of dataclasses makes another run.
+    """
+
+    procs: int
+    loads: np.ndarray
+    bytes: np.ndarray
+    places: np.ndarray
+    step: int = 0
+    copy: InitVar[bool] = True
+
+    def __post_init__(self, copy):
+        self._keep("procs", whole_number(self.procs, 1, PES, "procs"))
+        self._keep("step", whole_number(self.step, 0, _WORD, "step"))
+        self._keep("bytes", frozen(self.bytes, np.uint32, "bytes", _wrong_bytes, STATE_BYTES, copy))
+        self._keep("places", frozen(self.places, np.uint32, "places", self._wrong_place, self.procs - 1, copy))
+        self._keep("loads", frozen(self.loads, np.uint64, "loads", _wrong_load, LOAD, copy))
+        counts = len(self.loads), len(self.bytes), len(self.places)
+        if len(set(counts)) > 1:
+            raise InputError("there are {} loads, {} packed sizes and {} places; an element has one of each".format(*counts))
+        if counts[0] > ELEMENTS:
+            raise InputError(f"there are {counts[0]} elements, and at most {ELEMENTS} are taken")
+
+    def _wrong_place(self, index, value):
+        return on_no_processor(index, value, self.procs)
+
+    def __len__(self):
+        return len(self.loads)
+
+    def __repr__(self):
+        lists = ", ".join(f"{name}={shown(getattr(self, name))}" for name in ("loads", "bytes", "places"))
+        return f"Run({len(self)} elements, procs={self.procs}, {lists}, step={self.step})"
+
+    def after(self, plan, step=None):
+        """The run as it stands once the elements of a plan or a decision have moved."""
+        self.refuse_other_places(plan.places)
+        return replace(self, procs=plan.pes, places=plan.places, step=self.step if step is None else step)
+
+    def moves_to(self, places):
+        """The elements whose present and planned place differ, in order of index, as an array of MOVE."""
+        self.refuse_other_places(places)
+        moving = self.places != places
+        elements = np.flatnonzero(moving)
+        rows = np.empty((elements.size, 3), np.uint32)
+        rows[:, 0], rows[:, 1], rows[:, 2] = elements, self.places[moving], np.asarray(places)[moving]
+        return rows.view(MOVE).reshape(-1)
+
+    def refuse_other_places(self, places):
+        """Raises InputError unless there is one place for each element."""
+        if len(places) != len(self):
+            raise InputError(f"the plan is for {len(places)} elements, and the run has {len(self)}")
+
+
+def on_no_processor(index, place, pes):
+    """The refusal of an element's place."""
+    return InputError(f"element {index} is on no processor: its place is {place!r}, and with {pes} PEs it is 0 to {pes - 1}")
+
+
+def _wrong_load(index, value):
+    if isinstance(value, int) and not isinstance(value, bool) and value > LOAD:
+        return LoadError(f"element {index} has too great a load: {value}, and at most {LOAD} is taken")
+    return InputError(f"element {index} has the load {value!r}, and not a whole number from 0 to {LOAD}")
+
+
+def _wrong_bytes(index, value):
+    if isinstance(value, int) and not isinstance(value, bool) and value > STATE_BYTES:
+        return InputError(f"element {index} has more than {STATE_BYTES} bytes: {value}")
+    return InputError(f"element {index} has the packed size {value!r}, and not a whole number from 0 to {STATE_BYTES}")
+
+
+@dataclass(frozen=True, eq=False, repr=False)
+class Plan(_Record):
+    """Where each element runs from now on.
+
+    `places` has the PE of each element, from 0 to pes - 1. `bottleneck` is the load of the heaviest block, which is least
+    for so many PEs, and `moved` the bytes of all elements that move, which are fewest for these blocks.
+    """
+
+    pes: int
+    places: np.ndarray
+    bottleneck: int
+    moved: int
+
+    def __post_init__(self):
+        self._keep("pes", whole_number(self.pes, 1, PES, "pes"))
+        self._keep("places", frozen(self.places, np.uint32, "places"))
+        self._keep("bottleneck", whole_number(self.bottleneck, 0, _LONG, "bottleneck"))
+        self._keep("moved", whole_number(self.moved, 0, _LONG, "moved"))
+
+    def __repr__(self):
+        return f"Plan({self._shown()})"
+
+    def _shown(self):
+        return f"pes={self.pes}, bottleneck={self.bottleneck}, moved={self.moved}, places={shown(self.places)}"
+
+
+@dataclass(frozen=True, eq=False, repr=False)
+class Decision(Plan):
+    """A plan with its certificates, which `check` takes. It may be anybody's: no number is believed.
+
+    Block b is the elements cuts[b] .. cuts[b + 1] - 1, and runs on PE names[b]. The elements from each of the `stops` to
+    the next, both included, weigh at least the bottleneck, so that no division has a lesser one; there are none where the
+    bottleneck is 0. The prices of a block and a PE are at most the bytes that the block would move there, and all prices
+    together are the bytes moved, so that no naming moves fewer. `moves` lists the elements that move (see MOVE).
+    `dataclasses.replace` makes another decision.
+    """
+
+    cuts: np.ndarray
+    stops: np.ndarray
+    names: np.ndarray
+    block_prices: np.ndarray
+    pe_prices: np.ndarray
+    moves: np.ndarray
+
+    def __post_init__(self):
+        super().__post_init__()
+        for name in ("cuts", "stops", "names"):
+            self._keep(name, frozen(getattr(self, name), np.uint32, name))
+        for name in ("block_prices", "pe_prices"):
+            self._keep(name, frozen(getattr(self, name), np.int64, name))
+        self._keep("moves", _moves(self.moves))
+
+    def __repr__(self):
+        lists = ", ".join(f"{name}={shown(getattr(self, name))}" for name in ("cuts", "names", "stops"))
+        return f"Decision({self._shown()}, {lists}, {len(self.moves)} moves)"
+
+
+def _moves(values):
+    if isinstance(values, np.ndarray) and values.dtype.names:
+        if values.dtype == MOVE and not values.flags.writeable:
+            return values
+        rows = np.column_stack([values[name] for name in MOVE.names])
+    else:
+        rows = np.asarray(values).reshape(-1, 3) if len(values) else np.empty((0, 3), np.uint32)
+    moves = np.empty(len(rows), MOVE)
+    for column, name in enumerate(MOVE.names):
+        moves[name] = frozen(rows[:, column], np.uint32, f"moves.{name}")
+    moves.setflags(write=False)
+    return moves

@@ -1,0 +1,43 @@
+-- What a caller of the library passes: lists, as a run, a claim, or room for a decision.
+use Rattle.std.specs.Prelude.{ℕ, List, ℤ, negsuc}
+use Rattle.lb_lists.specs.Claims.{Claimed}
+use Rattle.lb_lists.specs.Rooms.{Lists}
+use Rattle.lb_lists.specs.Runs.{Listed}
+use Rattle.lb_lists.specs.declared.error.RunError.{RunError}
+use Rattle.lb_lists.specs.declared.error.RunError.TheVariants.{BadInput, BadLoad, OutOfMemory}
+
+-- the run of these lists
+abbrev pub run_of : List ℕ → List ℕ → List ℕ → ℕ → Listed
+run_of loads bytes places procs = record { loads = loads; bytes = bytes; places = places; procs = procs }
+
+-- the lists of a room
+abbrev pub room_of : List ℕ → List ℕ → List ℕ → List ℕ → List ℤ → List ℤ → Lists
+room_of new_places cuts stops names block_prices pe_prices =
+    record {
+      new_places = new_places;
+      cuts = cuts;
+      stops = stops;
+      names = names;
+      block_prices = block_prices;
+      pe_prices = pe_prices;
+    }
+
+-- the claim of these lists
+abbrev pub claim_of : ℕ → ℕ → List ℕ → List ℕ → List ℕ → List ℕ → List ℤ → List ℤ → Claimed
+claim_of bottleneck moved new_places cuts stops names block_prices pe_prices =
+    record {
+      bottleneck = bottleneck;
+      moved = moved;
+      new_places = new_places;
+      cuts = cuts;
+      stops = stops;
+      names = names;
+      block_prices = block_prices;
+      pe_prices = pe_prices;
+    }
+
+-- the status that tells why a call was refused
+abbrev pub refusal_status : RunError → ℤ
+refusal_status BadInput = negsuc 0
+refusal_status OutOfMemory = negsuc 1
+refusal_status BadLoad = negsuc 2

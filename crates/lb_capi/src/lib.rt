@@ -1,0 +1,187 @@
+//! The planner and its checker for programs in C, C++, Python and MPI: bindings/c/include/tezgumi.h declares them, and
+//! names the statuses.
+//!
+//! - [`tezgumi_plan`]: plans over the caller's own lists; [`tezgumi_decide`] writes the certificates too.
+//! - [`tezgumi_check`]: checks a plan with its certificates, whoever made it.
+//! - [`tezgumi_abi`]: the number of this interface.
+#![tactic(auto)]
+
+ghost use Rattle.std.specs.Prelude.{◌≡◌, ◌≢◌, ◌↔◌, ◌⊎◌, ◌<◌, ◌≤◌, ◌+◌, ℕ, length, take, pos, negsuc};
+ghost use Rattle.chain_partition.specs.Chosen.{IsChosen};
+ghost use Rattle.lb_certificates.specs.Flaws.{flaw_number};
+ghost use Rattle.lb_certificates.specs.Naming.{IsLeastNaming};
+ghost use Rattle.lb_certificates.specs.declared.flaw.Flaw.{Flaw};
+ghost use Rattle.lb_lists.specs.Claims.{claimed_division, IsBest, IsFirstFlaw, IsRightClaim};
+ghost use Rattle.lb_lists.specs.Plans.{IsPlan};
+ghost use Rattle.lb_lists.specs.Rooms.{claim_in, HasRoom};
+ghost use Rattle.lb_lists.specs.Runs.{sizes_of, AreSmall, IsAsked};
+ghost use Rattle.lb_capi.specs.Calls.{claim_of, refusal_status, room_of, run_of};
+
+use lb_lists::{Claim, Room, Run, RunError, check_claim, decide_into, number_of, plan_into};
+use std::alloc::Global;
+
+// The number of this interface.
+const ABI: u32 = 1;
+
+/// The number of this interface: it changes where a call's arguments or their meaning do.
+#[unsafe(no_mangle)]
+pub extern "C" fn tezgumi_abi() -> u32
+    ensures { result ≡ 1 }
+{
+    ABI
+}
+
+// The status of a refusal.
+fn status_of(error: RunError) -> i32
+    ensures { result ≡ refusal_status error }
+{
+    match error {
+        RunError::BadInput => -1,
+        RunError::OutOfMemory => -2,
+        RunError::BadLoad => -3,
+    }
+}
+
+/// Plans a run for `pes` PEs, and writes the place of each element, the bottleneck and the bytes that move: 0. Or -1 where
+/// the lists are no run, `pes` is not 1 to 256 or there is not one new place for each element; -3 where only a load is
+/// too great; -2 where memory was refused. Then nothing is written.
+#[unsafe(no_mangle)]
+pub extern "C" fn tezgumi_plan(
+    alloc: Global,
+    loads: &[u64],
+    bytes: &[u32],
+    places: &[u32],
+    procs: u32,
+    pes: u32,
+    new_places: &mut [u32],
+    bottleneck: &mut u64,
+    moved: &mut u64,
+) -> i32
+    ensures statuses { (result ≡ pos 0) ⊎ (result ≡ negsuc 0) ⊎ (result ≡ negsuc 1) ⊎ (result ≡ negsuc 2) }
+    ensures planned { result ≡ pos 0 → IsPlan (run_of loads.now bytes.now places.now procs) pes new_places.new bottleneck.new moved.new }
+    ensures input { result ≡ negsuc 0 ↔ ¬ (IsAsked (run_of loads.now bytes.now places.now procs) pes × (length new_places.old ≡ length loads.now)) }
+    ensures load { result ≡ negsuc 2 ↔ ((IsAsked (run_of loads.now bytes.now places.now procs) pes × (length new_places.old ≡ length loads.now)) × ¬ (AreSmall loads.now)) }
+    ensures kept { result ≢ pos 0 → (new_places.new ≡ new_places.old) × (bottleneck.new ≡ bottleneck.old) × (moved.new ≡ moved.old) }
+{
+    let run = Run {
+        loads,
+        bytes,
+        places,
+        procs,
+    };
+    match plan_into(alloc, &run, pes, new_places) {
+        Ok(planned) => {
+            *bottleneck = planned.bottleneck;
+            *moved = planned.moved;
+            0
+        }
+        Err(error) => status_of(error),
+    }
+}
+
+/// Plans as [`tezgumi_plan`] does, and writes the certificates too: `pes + 1` cuts; as many stops, or none where the
+/// bottleneck is 0, and how many; `pes` names, and `pes` prices of blocks and of PEs. Each list has room for so many, or
+/// the input is bad.
+#[unsafe(no_mangle)]
+pub extern "C" fn tezgumi_decide(
+    alloc: Global,
+    loads: &[u64],
+    bytes: &[u32],
+    places: &[u32],
+    procs: u32,
+    pes: u32,
+    new_places: &mut [u32],
+    bottleneck: &mut u64,
+    moved: &mut u64,
+    cuts: &mut [u32],
+    stops: &mut [u32],
+    stops_count: &mut usize,
+    names: &mut [u32],
+    block_prices: &mut [i64],
+    pe_prices: &mut [i64],
+) -> i32
+    ensures statuses { (result ≡ pos 0) ⊎ (result ≡ negsuc 0) ⊎ (result ≡ negsuc 1) ⊎ (result ≡ negsuc 2) }
+    ensures planned { result ≡ pos 0 → IsPlan (run_of loads.now bytes.now places.now procs) pes new_places.new bottleneck.new moved.new }
+    ensures right { result ≡ pos 0 → IsRightClaim (run_of loads.now bytes.now places.now procs) pes (claim_of bottleneck.new moved.new new_places.new cuts.new (take stops_count.new stops.new) names.new block_prices.new pe_prices.new) }
+    ensures chosen { result ≡ pos 0 → IsChosen loads.now pes (claimed_division (claim_of bottleneck.new moved.new new_places.new cuts.new (take stops_count.new stops.new) names.new block_prices.new pe_prices.new)) }
+    ensures least_naming { result ≡ pos 0 → IsLeastNaming (sizes_of (run_of loads.now bytes.now places.now procs)) cuts.new pes names.new }
+    ensures counted { result ≡ pos 0 → stops_count.new ≤ pes + 1 }
+    ensures input { result ≡ negsuc 0 ↔ ¬ (IsAsked (run_of loads.now bytes.now places.now procs) pes × HasRoom (length loads.now) pes (room_of new_places.old cuts.old stops.old names.old block_prices.old pe_prices.old)) }
+    ensures load { result ≡ negsuc 2 ↔ ((IsAsked (run_of loads.now bytes.now places.now procs) pes × HasRoom (length loads.now) pes (room_of new_places.old cuts.old stops.old names.old block_prices.old pe_prices.old)) × ¬ (AreSmall loads.now)) }
+    ensures kept { result ≢ pos 0 → room_of new_places.new cuts.new stops.new names.new block_prices.new pe_prices.new ≡ room_of new_places.old cuts.old stops.old names.old block_prices.old pe_prices.old }
+    ensures numbers_kept { result ≢ pos 0 → (bottleneck.new ≡ bottleneck.old) × (moved.new ≡ moved.old) × (stops_count.new ≡ stops_count.old) }
+{
+    let run = Run {
+        loads,
+        bytes,
+        places,
+        procs,
+    };
+    let mut room = Room {
+        new_places,
+        cuts,
+        stops,
+        names,
+        block_prices,
+        pe_prices,
+    };
+    match decide_into(alloc, &run, pes, &mut room) {
+        Ok(decided) => {
+            *bottleneck = decided.bottleneck;
+            *moved = decided.moved;
+            *stops_count = decided.stops;
+            0
+        }
+        Err(error) => status_of(error),
+    }
+}
+
+/// Checks what somebody claims of a run and `pes` PEs: 0 where every part is right, and otherwise the number of its first
+/// flaw. Or -1 where the lists are no run, or `pes` is not 1 to 256; -3 where only a load is too great; -2 where memory
+/// was refused.
+#[unsafe(no_mangle)]
+pub extern "C" fn tezgumi_check(
+    alloc: Global,
+    loads: &[u64],
+    bytes: &[u32],
+    places: &[u32],
+    procs: u32,
+    pes: u32,
+    new_places: &[u32],
+    bottleneck: u64,
+    moved: u64,
+    cuts: &[u32],
+    stops: &[u32],
+    names: &[u32],
+    block_prices: &[i64],
+    pe_prices: &[i64],
+) -> i32
+    ensures right { result ≡ pos 0 → IsRightClaim (run_of loads.now bytes.now places.now procs) pes (claim_of bottleneck moved new_places.now cuts.now stops.now names.now block_prices.now pe_prices.now) }
+    ensures best { result ≡ pos 0 → IsBest (run_of loads.now bytes.now places.now procs) pes (claim_of bottleneck moved new_places.now cuts.now stops.now names.now block_prices.now pe_prices.now) }
+    ensures flawed { (n : ℕ) → result ≡ pos (n + 1) → (flaw : Flaw) × (flaw_number flaw ≡ n + 1) × IsFirstFlaw (run_of loads.now bytes.now places.now procs) pes (claim_of bottleneck moved new_places.now cuts.now stops.now names.now block_prices.now pe_prices.now) flaw }
+    ensures refusals { (n : ℕ) → result ≡ negsuc n → n < 3 }
+    ensures input { result ≡ negsuc 0 ↔ ¬ (IsAsked (run_of loads.now bytes.now places.now procs) pes) }
+    ensures load { result ≡ negsuc 2 ↔ (IsAsked (run_of loads.now bytes.now places.now procs) pes × ¬ (AreSmall loads.now)) }
+{
+    let run = Run {
+        loads,
+        bytes,
+        places,
+        procs,
+    };
+    let claim = Claim {
+        bottleneck,
+        moved,
+        new_places,
+        cuts,
+        stops,
+        names,
+        block_prices,
+        pe_prices,
+    };
+    match check_claim(alloc, &run, pes, &claim) {
+        Ok(None) => 0,
+        Ok(Some(flaw)) => i32::from(number_of(flaw)),
+        Err(error) => status_of(error),
+    }
+}

@@ -1,0 +1,5 @@
+pub mod Claims
+pub mod FirstFlaws
+pub mod OnePlan
+pub mod Plans
+pub mod Zipped

@@ -1,0 +1,5 @@
+pub mod Runs
+pub mod Places
+pub mod Plans
+pub mod Rooms
+pub mod Claims

@@ -1,0 +1,44 @@
+-- A run as plain lists, and when it can be planned.
+use Rattle.std.specs.Prelude.{◌≡◌, ℕ, ◌<◌, ◌≤◌, List, length, All}
+use Rattle.std.specs.List.{zip}
+use Rattle.chare_index.specs.declared.limits.TheConstants.Limits.{ELEMENTS, PES, LOAD, STATE_BYTES}
+use Rattle.lb_lists.specs.declared.error.RunError.{RunError}
+use Rattle.lb_lists.specs.declared.error.RunError.TheVariants.{BadInput, BadLoad, OutOfMemory}
+
+-- of each element the load, the packed size in bytes and the PE on which it stands, and how many PEs there are
+pub record Listed : Type 0 where
+  pub loads : List ℕ
+  pub bytes : List ℕ
+  pub places : List ℕ
+  pub procs : ℕ
+
+-- the packed size of each element beside its PE
+abbrev pub sizes_of : Listed → List (ℕ × ℕ)
+sizes_of run = zip run.bytes run.places
+
+-- The lists speak of the same elements, of which there are not too many, the sizes are not too great, and each element
+-- stands on one of the PEs. How great the loads are is not asked.
+pub record IsRun (run : Listed) : Type 0 where
+  pub some_pe : 0 < run.procs
+  pub few_pes : run.procs ≤ PES
+  pub few : length run.loads ≤ ELEMENTS
+  pub sized : length run.bytes ≡ length run.loads
+  pub stood : length run.places ≡ length run.loads
+  pub small : All (λ size. size ≤ STATE_BYTES) run.bytes
+  pub placed : All (λ place. place < run.procs) run.places
+
+-- a run, and the number of PEs on which it is to go on
+pub record IsAsked (run : Listed) (pes : ℕ) : Type 0 where
+  pub is_run : IsRun run
+  pub some_pe : 1 ≤ pes
+  pub few_pes : pes ≤ PES
+
+-- no load is above the limit
+abbrev pub AreSmall : List ℕ → Type 0
+AreSmall loads = All (λ units. units ≤ LOAD) loads
+
+-- Why a call was refused: what is in order was not; or it was, and a load is too great; or neither, and there was no memory.
+abbrev pub IsRefusal : Type 0 → Type 0 → RunError → Type 0
+IsRefusal in_order small BadInput = ¬ in_order
+IsRefusal in_order small BadLoad = in_order × ¬ small
+IsRefusal in_order small OutOfMemory = in_order × small

@@ -1,0 +1,188 @@
+ghost use Rattle.std.specs.Prelude.{◌≡◌, ◌<◌, ◌≤◌, None, IfOk, OnOk, IfErr, MatchBool, MatchOption, length};
+ghost use Rattle.lb_certificates.specs.Chain.{IsDivision};
+ghost use Rattle.lb_certificates.specs.Flaws.{flaw_number};
+ghost use Rattle.lb_certificates.specs.Naming.{blocks_between};
+ghost use Rattle.lb_lists.specs.Claims.{division_of, floor_of, IsBest, IsFirstFlaw, IsRightClaim};
+ghost use Rattle.lb_lists.specs.Places.{ArePlaces};
+ghost use Rattle.lb_lists.specs.Runs.{sizes_of, AreSmall, IsAsked, IsRefusal, Listed};
+
+use crate::claim::Claim;
+use crate::error::RunError;
+use crate::places::are_places;
+use crate::run::{Run, snapshot_of};
+use chare_index::Limits;
+use lb_certificates::{
+    Cuts, Division, Flaw, Floor, Naming, PriceList, Prices, Snapshot, Stops, check_division,
+    check_naming,
+};
+use std::alloc::{AllocError, Allocator};
+
+// The floor that these stops are.
+fn floor_from<A: Allocator>(alloc: A, stops: &[u32]) -> Result<Floor<A>, AllocError>
+    ensures { IfOk result (λ f. f ≡ floor_of stops.now) }
+{
+    if stops.is_empty() {
+        return Ok(Floor::Zero);
+    }
+    Ok(Floor::Fence(Stops::new(Vec::from_slice(alloc, stops)?)))
+}
+
+// The division that is claimed.
+fn division_from<A: Allocator + Copy>(
+    alloc: A,
+    claim: &Claim<'_>,
+) -> Result<Division<A>, AllocError>
+    ensures { IfOk result (λ d. d ≡ division_of claim.now.bottleneck claim.now.cuts claim.now.stops) }
+{
+    Ok(Division {
+        bottleneck: claim.bottleneck,
+        cuts: Cuts::new(Vec::from_slice(alloc, claim.cuts)?),
+        floor: floor_from(alloc, claim.stops)?,
+    })
+}
+
+// The prices that are claimed.
+fn prices_from<A: Allocator + Copy>(alloc: A, claim: &Claim<'_>) -> Result<Prices<A>, AllocError>
+    ensures blocks { IfOk result (λ p. p.u ≡ claim.now.block_prices) }
+    ensures pes { IfOk result (λ p. p.v ≡ claim.now.pe_prices) }
+{
+    Ok(Prices {
+        u: PriceList::new(Vec::from_slice(alloc, claim.block_prices)?),
+        v: PriceList::new(Vec::from_slice(alloc, claim.pe_prices)?),
+    })
+}
+
+// The lists of a claim, as the checkers take them.
+#[derive(Drop)]
+struct Parts<A: Allocator> {
+    division: Division<A>,
+    naming: Naming<A>,
+    prices: Prices<A>,
+}
+
+// The lists of this claim.
+fn parts_of<A: Allocator + Copy>(alloc: A, claim: &Claim<'_>) -> Result<Parts<A>, AllocError>
+    ensures division { IfOk result (λ p. p.division ≡ division_of claim.now.bottleneck claim.now.cuts claim.now.stops) }
+    ensures naming { IfOk result (λ p. p.naming ≡ claim.now.names) }
+    ensures block_prices { IfOk result (λ p. p.prices.u ≡ claim.now.block_prices) }
+    ensures pe_prices { IfOk result (λ p. p.prices.v ≡ claim.now.pe_prices) }
+{
+    let division = division_from(alloc, claim)?;
+    let naming = Naming::new(Vec::from_slice(alloc, claim.names)?);
+    Ok(Parts {
+        division,
+        naming,
+        prices: prices_from(alloc, claim)?,
+    })
+}
+
+// Whether there is a place for each of so many elements, and each is the name of its block.
+fn is_placed(count: usize, claim: &Claim<'_>) -> bool
+    requires some_block { 0 < blocks_between claim.now.cuts }
+    requires divides { IsDivision 0 count (blocks_between claim.now.cuts) claim.now.cuts }
+    requires few { count ≤ Limits.ELEMENTS }
+    requires named { length claim.now.names ≡ blocks_between claim.now.cuts }
+    ensures { MatchBool result (ArePlaces claim.now.cuts claim.now.names count claim.now.new_places)
+        (¬ (ArePlaces claim.now.cuts claim.now.names count claim.now.new_places)) }
+{
+    if claim.new_places.len() != count {
+        return false;
+    }
+    are_places(claim.cuts, claim.names, claim.new_places)
+}
+
+// The first flaw of a claim with these parts.
+fn first_flaw<A: Allocator>(
+    snapshot: &Snapshot<A>,
+    pes: u32,
+    claim: &Claim<'_>,
+    parts: &Parts<A>,
+) -> Option<Flaw>
+    requires division { parts.now.division ≡ division_of claim.now.bottleneck claim.now.cuts claim.now.stops }
+    requires naming { parts.now.naming ≡ claim.now.names }
+    requires block_prices { parts.now.prices.u ≡ claim.now.block_prices }
+    requires pe_prices { parts.now.prices.v ≡ claim.now.pe_prices }
+    ensures { (run : Listed) → snapshot.now.loads ≡ run.loads → snapshot.now.sizes ≡ sizes_of run → MatchOption result (IsRightClaim run pes claim.now) (IsFirstFlaw run pes claim.now) }
+{
+    let loads = snapshot.loads();
+    let division = &parts.division;
+    if let Err(flaw) = check_division(loads, pes, division) {
+        return Some(flaw);
+    }
+    match check_naming(
+        snapshot.sizes(),
+        &division.cuts,
+        &parts.naming,
+        &parts.prices,
+    ) {
+        Err(flaw) => Some(flaw),
+        Ok(moved) if moved != claim.moved => Some(Flaw::MovedWrong),
+        Ok(_) if !is_placed(loads.len(), claim) => Some(Flaw::MovesWrong),
+        Ok(_) => None,
+    }
+}
+
+/// Checks what somebody claims of a run and `pes` PEs: `None` exactly where every part of the claim is right, and
+/// otherwise its first flaw. `None` means that no division of the elements into `pes` consecutive blocks has a lighter
+/// heaviest block, that no naming of the blocks moves fewer bytes, and that the claim states these bytes and of each
+/// element the name of its block.
+///
+/// Any claim may be passed. Its flaws are looked for in the order of [`Flaw`]; there
+/// [`MovesWrong`](Flaw::MovesWrong) means a wrong place.
+///
+/// # Errors
+///
+/// [`BadInput`](RunError::BadInput) where the lists describe no run, or `pes` is not 1 to
+/// [`Limits::PES`](chare_index::Limits::PES); [`BadLoad`](RunError::BadLoad) where a load is too great;
+/// [`OutOfMemory`](RunError::OutOfMemory) where a list was refused.
+pub fn check_claim<A: Allocator + Copy>(
+    alloc: A,
+    run: &Run<'_>,
+    pes: u32,
+    claim: &Claim<'_>,
+) -> Result<Option<Flaw>, RunError>
+    ensures exact { IfOk result (λ flaw. MatchOption flaw (IsRightClaim run.now pes claim.now) (IsFirstFlaw run.now pes claim.now)) }
+    ensures best { IfOk result (λ flaw. flaw ≡ None → IsBest run.now pes claim.now) }
+    ensures asked { OnOk result (IsAsked run.now pes) }
+    ensures small { OnOk result (AreSmall run.now.loads) }
+    ensures refused { IfErr result (IsRefusal (IsAsked run.now pes) (AreSmall run.now.loads)) }
+{
+    let snapshot = match snapshot_of(alloc, run, pes) {
+        Ok(snapshot) => snapshot,
+        Err(refused) => return Err(refused),
+    };
+    let Ok(parts) = parts_of(alloc, claim) else {
+        return Err(RunError::OutOfMemory);
+    };
+    let flaw = first_flaw(&snapshot, pes, claim, &parts);
+    drop(parts);
+    drop(snapshot);
+    Ok(flaw)
+}
+
+/// The number of a flaw, from 1, in the order in which flaws are looked for.
+pub fn number_of(flaw: Flaw) -> u8
+    ensures { result ≡ flaw_number flaw }
+{
+    match flaw {
+        Flaw::CutCount => 1,
+        Flaw::CutStart => 2,
+        Flaw::CutOrder => 3,
+        Flaw::CutEnd => 4,
+        Flaw::Heavy(_) => 5,
+        Flaw::FenceCount => 6,
+        Flaw::FenceStart => 7,
+        Flaw::FenceOrder => 8,
+        Flaw::FenceEnd => 9,
+        Flaw::FenceLight(_) => 10,
+        Flaw::ZeroFloor => 11,
+        Flaw::NameCount => 12,
+        Flaw::NameRange => 13,
+        Flaw::NameTwice => 14,
+        Flaw::PriceCount => 15,
+        Flaw::PriceHigh(_, _) => 16,
+        Flaw::PriceGap => 17,
+        Flaw::MovedWrong => 18,
+        Flaw::MovesWrong => 19,
+    }
+}

@@ -1,0 +1,30 @@
+use std::marker::Model;
+
+/// What somebody claims to be a decision for a run, as plain lists. Contracts see it as the record of them.
+#[derive(Drop)]
+pub struct Claim<'a> {
+    /// The load of the heaviest block, in work units.
+    pub bottleneck: u64,
+    /// The packed bytes of all elements that move.
+    pub moved: u64,
+    /// The PE on which each element is to run.
+    pub new_places: &'a [u32],
+    /// Where the blocks begin and end.
+    pub cuts: &'a [u32],
+    /// The fence that proves the bottleneck least, or none for a bottleneck of 0.
+    pub stops: &'a [u32],
+    /// On which PE each block runs.
+    pub names: &'a [u32],
+    /// The prices of the blocks, which with those of the PEs prove that no naming moves fewer bytes.
+    pub block_prices: &'a [i64],
+    /// The prices of the PEs.
+    pub pe_prices: &'a [i64],
+}
+
+impl<'a> Model for Claim<'a> {
+    ghost use Rattle.lb_lists.specs.Claims.{Claimed};
+
+    ghost Value = { Claimed };
+
+    ghost view = { λ c. record { bottleneck = c.bottleneck; moved = c.moved; new_places = c.new_places.now; cuts = c.cuts.now; stops = c.stops.now; names = c.names.now; block_prices = c.block_prices.now; pe_prices = c.pe_prices.now } };
+}

@@ -1,0 +1,146 @@
+ghost use Rattle.std.specs.Prelude.{◌≡◌, ◌≤◌, ◌<◌, ◌+◌, ◌↔◌, IsTrue, length, take, IfOk, IfErr, OnOk, OnErr};
+ghost use Rattle.chain_partition.specs.Chosen.{IsChosen};
+ghost use Rattle.lb_certificates.specs.Chain.{IsDivision};
+ghost use Rattle.lb_certificates.specs.Naming.{blocks_between, IsLeastNaming};
+ghost use Rattle.lb_lists.specs.Claims.{claimed_division, IsRightClaim};
+ghost use Rattle.lb_lists.specs.Places.{ArePlaces};
+ghost use Rattle.lb_lists.specs.Plans.{stops_in, IsPlan};
+ghost use Rattle.lb_lists.specs.Rooms.{claim_in, lists_in, HasListsOf, HasRoom};
+ghost use Rattle.lb_lists.specs.Runs.{sizes_of, AreSmall, IsAsked, IsRefusal};
+
+use crate::error::RunError;
+use crate::planning::{Planned, plan_run, write_plan};
+use crate::run::Run;
+use chare_index::Limits;
+use lb_certificates::Floor;
+use lb_strategy::Decision;
+use std::alloc::Allocator;
+
+/// Room for what is told of a decision for `pes` PEs.
+#[derive(Drop)]
+pub struct Room<'a> {
+    /// The PE on which each element is to run.
+    pub new_places: &'a mut [u32],
+    /// `pes + 1`: where the blocks begin and end.
+    pub cuts: &'a mut [u32],
+    /// Room for `pes + 1` stops of the fence that proves the bottleneck least.
+    pub stops: &'a mut [u32],
+    /// `pes`: on which PE each block runs.
+    pub names: &'a mut [u32],
+    /// `pes`: the prices of the blocks.
+    pub block_prices: &'a mut [i64],
+    /// `pes`: the prices of the PEs.
+    pub pe_prices: &'a mut [i64],
+}
+
+/// The numbers of a decision that was written.
+#[derive(Clone, Copy, Debug, PartialEq, Eq)]
+pub struct Decided {
+    /// The load of the heaviest block, in work units.
+    pub bottleneck: u64,
+    /// The packed bytes of all elements that move.
+    pub moved: u64,
+    /// How many stops there are: `pes + 1`, or 0 where the bottleneck is 0.
+    pub stops: usize,
+}
+
+// Writes the stops of a floor, and returns how many there are.
+fn write_stops<A: Allocator>(floor: &Floor<A>, stops: &mut [u32]) -> usize
+    requires room { length (stops_in floor.now) ≤ length stops.old }
+    ensures counted { result ≡ length (stops_in floor.now) }
+    ensures written { take result stops.new ≡ stops_in floor.now }
+    ensures same_room { length stops.new ≡ length stops.old }
+{
+    match floor {
+        Floor::Zero => 0,
+        Floor::Fence(fence) => {
+            let found = fence.as_slice();
+            stops[..found.len()].copy_from_slice(found);
+            found.len()
+        }
+    }
+}
+
+// Whether there is the room for a decision on so many elements.
+fn has_room(room: &Room<'_>, elements: usize, pes: u32) -> bool
+    ensures { IsTrue result ↔ HasRoom elements pes (lists_in room.now) }
+{
+    let blocks = u64::from(pes);
+    room.new_places.len() == elements
+        && room.cuts.len() as u64 == blocks + 1
+        && room.stops.len() as u64 == blocks + 1
+        && room.names.len() as u64 == blocks
+        && room.block_prices.len() as u64 == blocks
+        && room.pe_prices.len() as u64 == blocks
+}
+
+// Writes a decision, and returns its numbers.
+fn write_decision<A: Allocator>(decision: &Decision<A>, room: &mut Room<'_>) -> Decided
+    requires divides { IsDivision 0 (length room.old.new_places.now) (blocks_between decision.now.division.cuts) decision.now.division.cuts }
+    requires some_block { 0 < blocks_between decision.now.division.cuts }
+    requires few { length room.old.new_places.now ≤ Limits.ELEMENTS }
+    requires cuts { length room.old.cuts.now ≡ length decision.now.division.cuts }
+    requires stops { length (stops_in decision.now.division.floor) ≤ length room.old.stops.now }
+    requires names { length room.old.names.now ≡ length decision.now.naming }
+    requires named { length decision.now.naming ≡ blocks_between decision.now.division.cuts }
+    requires block_prices { length room.old.block_prices.now ≡ length decision.now.prices.u }
+    requires pe_prices { length room.old.pe_prices.now ≡ length decision.now.prices.v }
+    ensures same_lists { HasListsOf room.old room.new }
+    ensures bottleneck { result.bottleneck ≡ decision.now.division.bottleneck }
+    ensures moved { result.moved ≡ decision.now.moved }
+    ensures counted { result.stops ≡ length (stops_in decision.now.division.floor) }
+    ensures placed { ArePlaces decision.now.division.cuts decision.now.naming (length room.old.new_places.now) room.new.new_places.now }
+    ensures cuts { room.new.cuts.now ≡ decision.now.division.cuts }
+    ensures stops { take result.stops room.new.stops.now ≡ stops_in decision.now.division.floor }
+    ensures names { room.new.names.now ≡ decision.now.naming }
+    ensures block_prices { room.new.block_prices.now ≡ decision.now.prices.u }
+    ensures pe_prices { room.new.pe_prices.now ≡ decision.now.prices.v }
+{
+    let Planned { bottleneck, moved } = write_plan(decision, room.new_places);
+    room.cuts.copy_from_slice(decision.division.cuts.as_slice());
+    room.names.copy_from_slice(decision.naming.as_slice());
+    room.block_prices
+        .copy_from_slice(decision.prices.u.as_slice());
+    room.pe_prices.copy_from_slice(decision.prices.v.as_slice());
+    Decided {
+        bottleneck,
+        moved,
+        stops: write_stops(&decision.division.floor, room.stops),
+    }
+}
+
+/// Plans a run for `pes` PEs, and writes the decision with its certificates: each list of the room, but of the stops the
+/// first [`Decided::stops`] alone.
+///
+/// # Errors
+///
+/// As [`plan_run`], and [`BadInput`](RunError::BadInput) where a list of the room does not have the length that it needs.
+/// Then nothing is written.
+pub fn decide_into<A: Allocator + Copy>(
+    alloc: A,
+    run: &Run<'_>,
+    pes: u32,
+    room: &mut Room<'_>,
+) -> Result<Decided, RunError>
+    ensures same_lists { HasListsOf room.old room.new }
+    ensures planned { IfOk result (λ d. IsPlan run.now pes room.new.new_places.now d.bottleneck d.moved) }
+    ensures right { IfOk result (λ d. IsRightClaim run.now pes (claim_in d.bottleneck d.moved d.stops (lists_in room.new))) }
+    ensures chosen { IfOk result (λ d. IsChosen run.now.loads pes (claimed_division (claim_in d.bottleneck d.moved d.stops (lists_in room.new)))) }
+    ensures least_naming { IfOk result (λ d. IsLeastNaming (sizes_of run.now) room.new.cuts.now pes room.new.names.now) }
+    ensures counted { IfOk result (λ d. d.stops ≤ pes + 1) }
+    ensures asked { OnOk result (IsAsked run.now pes × HasRoom (length run.now.loads) pes (lists_in room.old)) }
+    ensures small { OnOk result (AreSmall run.now.loads) }
+    ensures refused { IfErr result (IsRefusal (IsAsked run.now pes × HasRoom (length run.now.loads) pes (lists_in room.old)) (AreSmall run.now.loads)) }
+    ensures kept { OnErr result (lists_in room.new ≡ lists_in room.old) }
+{
+    if !has_room(room, run.loads.len(), pes) {
+        return Err(RunError::BadInput);
+    }
+    let decision = match plan_run(alloc, run, pes) {
+        Ok(decision) => decision,
+        Err(refused) => return Err(refused),
+    };
+    let decided = write_decision(&decision, room);
+    drop(decision);
+    Ok(decided)
+}

@@ -1,0 +1,38 @@
+ghost use Rattle.std.specs.Prelude.{◌≡◌};
+ghost use Rattle.lb_lists.specs.declared.error.RunError.TheVariants.{OutOfMemory};
+
+use lb_strategy::PlanError;
+use std::alloc::{AllocError, AllocFailed};
+use thiserror::Error;
+
+/// Why a run was not planned, or a claim not checked. Of several reasons the first in this order is given.
+#[derive(Clone, Copy, Debug, PartialEq, Eq, Error)]
+pub enum RunError {
+    /// The lists describe no run, the number of PEs is not 1 to 256, or the room for the answer is not what it needs.
+    #[error("bad input")]
+    BadInput,
+    /// A load is above [`Limits::LOAD`](chare_index::Limits::LOAD).
+    #[error("a load is too great")]
+    BadLoad,
+    /// No memory was left.
+    #[error("out of memory")]
+    OutOfMemory,
+}
+
+impl From<AllocError> for RunError {
+    ghost from_gives = { λ _ e. e ≡ OutOfMemory };
+
+    fn from(_: AllocError) -> RunError {
+        RunError::OutOfMemory
+    }
+}
+
+impl From<PlanError> for RunError {
+    ghost from_gives = { λ _ e. e ≡ OutOfMemory };
+
+    fn from(error: PlanError) -> RunError {
+        match error {
+            PlanError::OutOfMemory => RunError::OutOfMemory,
+        }
+    }
+}

@@ -1,0 +1,27 @@
+//! The planner and its checker over plain slices, for callers that hold no [`Snapshot`](lb_certificates::Snapshot). The C
+//! interface calls it, and a program in Rattle may.
+//!
+//! - [`Run`]: the elements of a run, as lists.
+//! - [`plan_run`]: decides; [`plan_into`] writes the place of each element, and [`decide_into`] the whole decision, into
+//!   [`Room`] of the caller.
+//! - [`check_claim`]: whether a [`Claim`] is right, whoever made it, or its first flaw; [`number_of`] a flaw.
+//! - [`RunError`]: why a run was not planned, or a claim not checked.
+//! - [`one_plan`]: the law that a run has one plan.
+#![tactic(auto)]
+
+mod checking;
+mod claim;
+mod deciding;
+mod error;
+mod laws;
+mod places;
+mod planning;
+mod run;
+
+pub use checking::{check_claim, number_of};
+pub use claim::Claim;
+pub use deciding::{Decided, Room, decide_into};
+pub use error::RunError;
+pub use laws::one_plan;
+pub use planning::{Planned, plan_into, plan_run};
+pub use run::Run;

@@ -1,0 +1,10 @@
+//! Tests of the planner over lists: the example, each reason to refuse, and each request for memory refused in turn. They
+//! use public calls only; the answers were worked out by hand.
+#![tactic(auto)]
+
+#[cfg(test)]
+mod calls;
+#[cfg(test)]
+mod fixtures;
+#[cfg(test)]
+mod requests;
