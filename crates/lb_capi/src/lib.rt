@@ -26,7 +26,7 @@ const ABI: u32 = 1;
 /// The number of this interface: it changes where a call's arguments or their meaning do.
 #[unsafe(no_mangle)]
 pub extern "C" fn tezgumi_abi() -> u32
-    ensures { result ≡ 1 }
+    ensures value { result ≡ 1 }
 {
     ABI
 }

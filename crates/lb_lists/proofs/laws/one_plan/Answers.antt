@@ -2,4 +2,4 @@ use Rattle.lb_lists.proofs.OnePlan.{plan_once}
 use Rattle.lb_lists.proofs.laws.one_plan.Goals as goal
 
 pub returns : goal.returns
-returns c = plan_once
+returns c = record { same_plan = plan_once }
