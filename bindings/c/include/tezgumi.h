@@ -130,8 +130,7 @@ int32_t tezgumi_plan(
  *
  * cuts and stops have pes + 1 entries, names, block_prices and pe_prices have pes. Block b is the elements
  * cuts[b] .. cuts[b + 1] - 1, and runs on PE names[b]. The first *stops_count stops are the fence that proves the
- * bottleneck least: pes + 1, or 0 where the bottleneck is 0, and the room of stops is then left as it was. The prices
- * of blocks and PEs prove the names cheapest. */
+ * bottleneck least: pes + 1, or 0 where the bottleneck is 0. The prices of blocks and PEs prove the names cheapest. */
 int32_t tezgumi_decide(
     const uint64_t *loads, size_t loads_len, const uint32_t *bytes, size_t bytes_len,
     const uint32_t *places, size_t places_len, uint32_t procs, uint32_t pes,
