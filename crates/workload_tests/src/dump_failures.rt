@@ -275,9 +275,12 @@ fn comes_of<A: Allocator + Copy>(
     round: (Snapshot<A>, Decision<A>),
     format: DumpFormat,
 ) -> Outcome {
+    let mut rounds = Vec::new(global);
+    if rounds.push(round).is_err() {
+        return Outcome::Wrong;
+    }
     let store = Store::new(global);
     let mut files = KeptFiles::new(global, &store, NO_FAULTS);
-    let rounds = [round];
     let written = write_dumps(alloc, &rounds, format, "run", &mut files);
     drop(rounds);
     drop(files);
