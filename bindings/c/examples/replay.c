@@ -1,4 +1,4 @@
-/* Replays a dump of format LBD1 (docs/DUMPS.md) as lb_sim does: decides, checks, and prints the decision.
+/* Replays a dump of format LBD1 (docs/FORMATS.md) as lb_sim does: decides, checks, and prints the decision.
  *
  *     replay FILE [PES]
  */

@@ -1,4 +1,4 @@
-"""A plain checker to compare with: the first flaw of a claim, by docs/DUMPS.md and the definitions alone."""
+"""A plain checker to compare with: the first flaw of a claim, by docs/FORMATS.md and the definitions alone."""
 
 
 def first_flaw(run, claim):

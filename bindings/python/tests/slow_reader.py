@@ -1,4 +1,4 @@
-"""A plain reader of dumps to compare with: field by field, by the tables of docs/DUMPS.md alone."""
+"""A plain reader of dumps to compare with: field by field, by the tables of docs/FORMATS.md alone."""
 
 LOAD, STATE_BYTES, ELEMENTS, PES = 140_737_488_355_327, 1_048_576, 65_536, 256
 

@@ -1,4 +1,4 @@
-"""Dumps of a run, and of the decision on it, in the formats LBD1 and LBD2. docs/DUMPS.md has the tables of their bytes."""
+"""Dumps of a run, and of the decision on it, in the formats LBD1 and LBD2. docs/FORMATS.md has the tables of their bytes."""
 import struct
 from typing import NamedTuple, Optional
 

@@ -4,7 +4,7 @@ from .errors import InputError
 
 
 def replay_text(run, decision):
-    """The text that `lb_sim` prints, where the decision is the planner's own for this run. docs/DUMPS.md tells each line."""
+    """The text that `lb_sim` prints, where the decision is the planner's own for this run. docs/FORMATS.md tells each line."""
     lines = [f"step {run.step} procs {decision.pes} elements {len(run)}", f"bottleneck {decision.bottleneck}"]
     lines.append("fence " + (" ".join(map(str, decision.stops.tolist())) or "zero"))
     sums = running_sums(run.loads).tolist()

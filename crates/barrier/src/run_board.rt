@@ -14,7 +14,7 @@ use std::alloc::{Allocator, Global};
 use std::marker::{Model, PhantomData};
 use std::thread::Threads;
 
-/// The [`Board`] of a run, of the size that the type `J` tells. Contracts see it as the record of that board. Its
+/// The [`Board`] of a run, of the size that the type `J` names. Contracts see it as the record of that board. Its
 /// calls are those of the board, and so are their errors. A call that is refused leaves it unchanged.
 #[derive(Drop)]
 pub struct RunBoard<J: BoardSize, A: Allocator = Global> {
@@ -76,7 +76,7 @@ impl<J: BoardSize, A: Allocator> RunBoard<J, A> {
         self.board.pes()
     }
 
-    /// Whether every element has reported in the present round, as [`Board::is_complete`] tells.
+    /// Whether every element has reported in the present round, as [`Board::is_complete`] says.
     pub fn is_complete(&self) -> bool
         ensures value { IsTrue result ↔ IsComplete self.now.database }
     {
@@ -116,7 +116,7 @@ impl<J: BoardSize, A: Allocator> RunBoard<J, A> {
         self.board.decide_with(rt, workers, gate)
     }
 
-    /// The place of element `i` in the decision of a round, as [`Board::place_for`] tells: one of the run's PEs, or
+    /// The place of element `i` in the decision of a round, as [`Board::place_for`] gives it: one of the run's PEs, or
     /// `None` where the round is not decided or there is no such element.
     pub fn place_for(&self, round: Round, i: Index) -> Option<Pe>
         ensures value { i < J.elements → result ≡ place_in self.now round i }
@@ -155,7 +155,7 @@ impl<J: BoardSize, A: Allocator> RunBoard<J, A> {
         self.board.finish(i)
     }
 
-    /// Whether every element has finished, as [`Board::all_finished`] tells.
+    /// Whether every element has finished, as [`Board::all_finished`] says.
     pub fn all_finished(&self) -> bool
         ensures value { IsTrue result ↔ HaveFinished self.now }
     {

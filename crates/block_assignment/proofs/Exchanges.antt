@@ -1,4 +1,4 @@
--- PEs are passed on along a way back to a block.
+-- PEs are passed on along a path back to a block.
 use Rattle.std.proofs.Common.{◌≡◌, ◌≢◌, ◌⊎◌, ℕ, ◌<◌, ◌≤◌, ◌==◌, cond, inl, inr, List, length, slice_index, arith, ap, sym, ◌∙◌, refl}
 use Rattle.std.proofs.lemmas.Bool.{cases_eq, cond-true, cond-false, eq-eqb, ne_eqb}
 use Rattle.std.proofs.lemmas.List.Edits.{Swapped}

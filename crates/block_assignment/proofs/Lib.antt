@@ -1,10 +1,10 @@
+pub mod Augmenting
 pub mod BlockBits
 pub mod Coverings
 pub mod Duality
 pub mod Exchanges
 pub mod Joinings
 pub mod LeastPes
-pub mod Moves
 pub mod Namings
 pub mod Prices
 pub mod Raises

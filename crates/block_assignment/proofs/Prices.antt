@@ -16,18 +16,18 @@ pub cost_bounded : (t : Table) (b p : ℕ) → IsTable t → b < t.blocks → p 
 cost_bounded t b p h block pe =
     max_bounds greatest (λ cost. cost) refl (λ x xs. refl) t.costs (b * t.blocks + p) 0 (omega (arith, h.square, mul-add-lt b t.blocks p t.blocks block pe))
 
--- while a PE gives nothing back, no block pays more than the greatest cost
-pub paid_bounded : (s : State) (free : ℕ) → IsTable s.table → IsMatched s → free < s.table.blocks → slice_index s.rebate free ≡ 0 → (b : ℕ) → b < s.table.blocks → slice_index s.paid b ≤ greatest s.table.costs
-paid_bounded s free table matched inside none b block =
+-- while a PE has no discount, no price is above the greatest cost
+pub price_bounded : (s : State) (free : ℕ) → IsTable s.table → IsMatched s → free < s.table.blocks → slice_index s.discount free ≡ 0 → (b : ℕ) → b < s.table.blocks → slice_index s.price b ≤ greatest s.table.costs
+price_bounded s free table matched inside none b block =
     omega (arith, matched.low b free block inside, none, cost_bounded s.table b free table block inside)
 
--- and then no PE gives more back
-pub rebate_bounded : (s : State) → s.named ≤ s.table.blocks → ((b : ℕ) → b < s.table.blocks → slice_index s.paid b ≤ greatest s.table.costs) → IsMatched s → (p : ℕ) → p < s.table.blocks → slice_index s.rebate p ≤ greatest s.table.costs
-rebate_bounded s few paid matched p inside =
+-- and then no discount is
+pub discount_bounded : (s : State) → s.named ≤ s.table.blocks → ((b : ℕ) → b < s.table.blocks → slice_index s.price b ≤ greatest s.table.costs) → IsMatched s → (p : ℕ) → p < s.table.blocks → slice_index s.discount p ≤ greatest s.table.costs
+discount_bounded s few price matched p inside =
     elim (held_or_free s.named s.names p) [
       | inl held ↦
-          let tight : slice_index s.paid held.0 ≡ cost_at s.table held.0 p + slice_index s.rebate p = subst (λ q. slice_index s.paid held.0 ≡ cost_at s.table held.0 q + slice_index s.rebate q) held.2 (matched.tight held.0 held.1) in
-          omega (arith, tight, paid held.0 (omega (arith, held.1)))
+          let tight : slice_index s.price held.0 ≡ cost_at s.table held.0 p + slice_index s.discount p = subst (λ q. slice_index s.price held.0 ≡ cost_at s.table held.0 q + slice_index s.discount q) held.2 (matched.tight held.0 held.1) in
+          omega (arith, tight, price held.0 (omega (arith, held.1)))
       | inr free ↦ omega (arith, matched.free p inside free)
     ]
 
@@ -35,10 +35,10 @@ rebate_bounded s few paid matched p inside =
 pub small_from_matched : (s : State) → IsTable s.table → IsMatched s → s.named < s.table.blocks → IsSmall s
 small_from_matched s table matched fewer =
     let free = some_free s.named s.table.blocks s.names fewer in
-    let paid : (b : ℕ) → b < s.table.blocks → slice_index s.paid b ≤ greatest s.table.costs = paid_bounded s free.0 table matched free.1 (matched.free free.0 free.1 free.2) in
+    let price : (b : ℕ) → b < s.table.blocks → slice_index s.price b ≤ greatest s.table.costs = price_bounded s free.0 table matched free.1 (matched.free free.0 free.1 free.2) in
     record {
-      paid = paid;
-      rebate = rebate_bounded s (omega arith) paid matched;
+      price = price;
+      discount = discount_bounded s (omega arith) price matched;
     }
 
 -- and far below 2^64
@@ -46,42 +46,42 @@ pub greatest_small : (costs : List ℕ) (n : ℕ) → All (λ cost. cost ≤ n) 
 greatest_small [] n small = omega arith
 greatest_small (cost ∷ costs) n small = omega (arith, All-head (λ c. c ≤ n) cost costs small, greatest_small costs n (All-tail (λ c. c ≤ n) cost costs small))
 
-pub paid_small : (s : State) → IsTable s.table → IsMatched s → s.named < s.table.blocks → (b : ℕ) → b < s.table.blocks → slice_index s.paid b ≤ 2 ^ 36
-paid_small s table matched fewer b inside =
+pub prices_small : (s : State) → IsTable s.table → IsMatched s → s.named < s.table.blocks → (b : ℕ) → b < s.table.blocks → slice_index s.price b ≤ 2 ^ 36
+prices_small s table matched fewer b inside =
     let free = some_free s.named s.table.blocks s.names fewer in
     omega (arith, matched.low b free.0 inside free.1, matched.free free.0 free.1 free.2, cost_small s.table b free.0 table inside free.1)
 
-pub rebate_small : (s : State) → IsTable s.table → IsMatched s → s.named < s.table.blocks → (p : ℕ) → p < s.table.blocks → slice_index s.rebate p ≤ 2 ^ 36
-rebate_small s table matched fewer p inside =
+pub discount_small : (s : State) → IsTable s.table → IsMatched s → s.named < s.table.blocks → (p : ℕ) → p < s.table.blocks → slice_index s.discount p ≤ 2 ^ 36
+discount_small s table matched fewer p inside =
     elim (held_or_free s.named s.names p) [
       | inl held ↦
-          let tight : slice_index s.paid held.0 ≡ cost_at s.table held.0 p + slice_index s.rebate p = subst (λ q. slice_index s.paid held.0 ≡ cost_at s.table held.0 q + slice_index s.rebate q) held.2 (matched.tight held.0 held.1) in
-          omega (arith, tight, paid_small s table matched fewer held.0 (omega (arith, held.1)))
+          let tight : slice_index s.price held.0 ≡ cost_at s.table held.0 p + slice_index s.discount p = subst (λ q. slice_index s.price held.0 ≡ cost_at s.table held.0 q + slice_index s.discount q) held.2 (matched.tight held.0 held.1) in
+          omega (arith, tight, prices_small s table matched fewer held.0 (omega (arith, held.1)))
       | inr free ↦ omega (arith, matched.free p inside free)
     ]
 
 -- how far a PE is from the root
 pub distance_small : (next : ℕ) (s : State) → IsTable s.table → IsMatched s → IsTree next s → s.named < s.table.blocks → (p : ℕ) → p < s.table.blocks → slice_index s.distance p ≤ 2 ^ 37
 distance_small next s table matched tree fewer p inside =
-    omega (arith, tree.least s.named 0 p (inl (refl, refl)) inside, cost_small s.table s.named p table fewer inside, rebate_small s table matched fewer p inside)
+    omega (arith, tree.least s.named 0 p (inl (refl, refl)) inside, cost_small s.table s.named p table fewer inside, discount_small s table matched fewer p inside)
 
 -- prices made of them are within the same bound
-pub prices_within : (n bound : ℕ) (u v : List ℤ) (paid rebate : List ℕ) → length u ≡ n → length v ≡ n → ((b : ℕ) → b < n → price_at u b ≡ pos (slice_index paid b)) → ((p : ℕ) → p < n → price_at v p ≡ neg_ℤ (pos (slice_index rebate p))) → ((b : ℕ) → b < n → slice_index paid b ≤ bound) → ((p : ℕ) → p < n → slice_index rebate p ≤ bound) → AreWithin bound u v
-prices_within n bound u v paid rebate u_length v_length pays gives paid_most rebate_most =
+pub prices_within : (n bound : ℕ) (u v : List ℤ) (price discount : List ℕ) → length u ≡ n → length v ≡ n → ((b : ℕ) → b < n → price_at u b ≡ pos (slice_index price b)) → ((p : ℕ) → p < n → price_at v p ≡ neg_ℤ (pos (slice_index discount p))) → ((b : ℕ) → b < n → slice_index price b ≤ bound) → ((p : ℕ) → p < n → slice_index discount p ≤ bound) → AreWithin bound u v
+prices_within n bound u v price discount u_length v_length u_is v_is price_most discount_most =
     record {
       block_prices = λ b d inside.
           let within : b < n = omega (arith, inside, u_length) in
           let same = get_or_default u b (pos 0) d inside in
-          (omega (arith, ints, same, pays b within, paid_most b within), omega (arith, ints, same, pays b within, paid_most b within));
+          (omega (arith, ints, same, u_is b within, price_most b within), omega (arith, ints, same, u_is b within, price_most b within));
       pe_prices = λ p d inside.
           let within : p < n = omega (arith, inside, v_length) in
           let same = get_or_default v p (pos 0) d inside in
-          (omega (arith, ints, same, gives p within, rebate_most p within), omega (arith, ints, same, gives p within, rebate_most p within));
+          (omega (arith, ints, same, v_is p within, discount_most p within), omega (arith, ints, same, v_is p within, discount_most p within));
     }
 
-pub small_kept : (s s' : State) → s'.table ≡ s.table → s'.paid ≡ s.paid → s'.rebate ≡ s.rebate → IsSmall s → IsSmall s'
-small_kept s s' table paid rebate small =
+pub small_kept : (s s' : State) → s'.table ≡ s.table → s'.price ≡ s.price → s'.discount ≡ s.discount → IsSmall s → IsSmall s'
+small_kept s s' table price discount small =
     record {
-      paid = λ b inside. omega (arith, ap (λ xs. slice_index xs b) paid, ap (λ (t : Table). greatest t.costs) table, small.paid b (omega (arith, inside, ap (λ (t : Table). t.blocks) table)));
-      rebate = λ p inside. omega (arith, ap (λ xs. slice_index xs p) rebate, ap (λ (t : Table). greatest t.costs) table, small.rebate p (omega (arith, inside, ap (λ (t : Table). t.blocks) table)));
+      price = λ b inside. omega (arith, ap (λ xs. slice_index xs b) price, ap (λ (t : Table). greatest t.costs) table, small.price b (omega (arith, inside, ap (λ (t : Table). t.blocks) table)));
+      discount = λ p inside. omega (arith, ap (λ xs. slice_index xs p) discount, ap (λ (t : Table). greatest t.costs) table, small.discount p (omega (arith, inside, ap (λ (t : Table). t.blocks) table)));
     }

@@ -4,22 +4,22 @@ use Rattle.std.proofs.lemmas.Bool.{cases_eq, cases_lt}
 use Rattle.std.proofs.lemmas.List.{get_or-set_same, get_or-set_other, get_or-take, length-take, length-set}
 use Rattle.block_assignment.specs.Table.{cost_at}
 use Rattle.block_assignment.specs.Search.{State, IsSized, IsFree, IsMatched, IsAt, IsReached, IsTree, IsPath, IsNearest, IsRaised}
-use Rattle.block_assignment.proofs.Prices.{paid_small, rebate_small, distance_small}
+use Rattle.block_assignment.proofs.Prices.{prices_small, discount_small, distance_small}
 use Rattle.block_assignment.proofs.Trees.{free_if_unheld}
 
 abbrev pub repriced : State → List ℕ → List ℕ → List ℕ → State
-repriced s rank paid rebate =
-    record { table = s.table; named = s.named; names = s.names; holders = s.holders; paid = paid; rebate = rebate; rank = rank; distance = s.distance; from = s.from }
+repriced s rank price discount =
+    record { table = s.table; named = s.named; names = s.names; holders = s.holders; price = price; discount = discount; rank = rank; distance = s.distance; from = s.from }
 
 -- the nearest PE is free, and was scanned with the next rank
-pub record Reprices (next : ℕ) (s : State) (pe : ℕ) (paid rebate : List ℕ) : Type 0 where
+pub record Reprices (next : ℕ) (s : State) (pe : ℕ) (price discount : List ℕ) : Type 0 where
   pub inside : s.named < s.table.blocks
   pub nearest : IsNearest s.rank s.distance s.table.blocks pe
   pub free : slice_index_or s.holders pe None ≡ None
-  pub root : slice_index paid s.named ≡ slice_index s.paid s.named + slice_index s.distance pe
-  pub joined : (b : ℕ) → b < s.named → IsRaised (slice_index (set s.rank pe next) (slice_index s.names b)) (slice_index s.distance (slice_index s.names b)) (slice_index s.distance pe) (slice_index s.paid b) (slice_index paid b)
-  pub later : (b : ℕ) → s.named < b → slice_index paid b ≡ slice_index s.paid b
-  pub pes : (p : ℕ) → p < s.table.blocks → IsRaised (slice_index (set s.rank pe next) p) (slice_index s.distance p) (slice_index s.distance pe) (slice_index s.rebate p) (slice_index rebate p)
+  pub root : slice_index price s.named ≡ slice_index s.price s.named + slice_index s.distance pe
+  pub joined : (b : ℕ) → b < s.named → IsRaised (slice_index (set s.rank pe next) (slice_index s.names b)) (slice_index s.distance (slice_index s.names b)) (slice_index s.distance pe) (slice_index s.price b) (slice_index price b)
+  pub later : (b : ℕ) → s.named < b → slice_index price b ≡ slice_index s.price b
+  pub pes : (p : ℕ) → p < s.table.blocks → IsRaised (slice_index (set s.rank pe next) p) (slice_index s.distance p) (slice_index s.distance pe) (slice_index s.discount p) (slice_index discount p)
 
 -- no PE that was scanned is farther than the nearest
 pub none_farther : (next : ℕ) (s : State) (pe : ℕ) → IsTree next s → IsNearest s.rank s.distance s.table.blocks pe → (p : ℕ) → p < s.table.blocks → 0 < slice_index (set s.rank pe next) p → slice_index s.distance p ≤ slice_index s.distance pe
@@ -29,20 +29,20 @@ none_farther next s pe tree nearest p inside scanned =
       | inr other ↦ tree.nearer p pe inside nearest.inside (omega (arith, scanned, get_or-set_other s.rank pe p next 0 other)) nearest.apart
     ]
 
--- what a block of the tree pays then
-paid_at : (next : ℕ) (s : State) (pe : ℕ) (paid rebate : List ℕ) → IsSized s → IsMatched s → IsTree next s → Reprices next s pe paid rebate → (b far : ℕ) → IsAt s b far → slice_index paid b + far ≡ slice_index s.paid b + slice_index s.distance pe
-paid_at next s pe paid rebate sized matched tree new b far at =
+-- the price of a block of the tree then
+price_then : (next : ℕ) (s : State) (pe : ℕ) (price discount : List ℕ) → IsSized s → IsMatched s → IsTree next s → Reprices next s pe price discount → (b far : ℕ) → IsAt s b far → slice_index price b + far ≡ slice_index s.price b + slice_index s.distance pe
+price_then next s pe price discount sized matched tree new b far at =
     elim at [
-      | inl root ↦ subst (λ k. slice_index paid k + far ≡ slice_index s.paid k + slice_index s.distance pe) (sym root.0) (omega (arith, root.1, new.root))
+      | inl root ↦ subst (λ k. slice_index price k + far ≡ slice_index s.price k + slice_index s.distance pe) (sym root.0) (omega (arith, root.1, new.root))
       | inr joined ↦
           let q : ℕ = slice_index s.names b in
           let other : q ≢ pe = λ e. absurd (omega (arith, joined.1, new.nearest.apart, ap (λ p. slice_index s.rank p) e)) in
           omega (arith, joined.2, (new.joined b joined.0).in_tree (omega (arith, joined.1, get_or-set_other s.rank pe q next 0 other)))
     ]
 
--- a block is in the tree, or pays what it paid
-in_tree_or_not : (next : ℕ) (s : State) (pe : ℕ) (paid rebate : List ℕ) → IsMatched s → Reprices next s pe paid rebate → (b : ℕ) → ((far : ℕ) × IsAt s b far) ⊎ (slice_index paid b ≡ slice_index s.paid b)
-in_tree_or_not next s pe paid rebate matched new b =
+-- a block is in the tree, or keeps its price
+in_tree_or_not : (next : ℕ) (s : State) (pe : ℕ) (price discount : List ℕ) → IsMatched s → Reprices next s pe price discount → (b : ℕ) → ((far : ℕ) × IsAt s b far) ⊎ (slice_index price b ≡ slice_index s.price b)
+in_tree_or_not next s pe price discount matched new b =
     elim (cases_eq b s.named) [
       | inl root ↦ inl (0, inl (root, refl))
       | inr other ↦ elim (cases_lt b s.named) [
@@ -56,8 +56,8 @@ in_tree_or_not next s pe paid rebate matched new b =
       ]
     ]
 
-pub repriced_matched : (next : ℕ) (s : State) (pe : ℕ) (paid rebate : List ℕ) → IsSized s → IsMatched s → IsTree next s → Reprices next s pe paid rebate → IsMatched (repriced s (set s.rank pe next) paid rebate)
-repriced_matched next s pe paid rebate sized matched tree new =
+pub repriced_matched : (next : ℕ) (s : State) (pe : ℕ) (price discount : List ℕ) → IsSized s → IsMatched s → IsTree next s → Reprices next s pe price discount → IsMatched (repriced s (set s.rank pe next) price discount)
+repriced_matched next s pe price discount sized matched tree new =
     record {
       below = matched.below;
       apart = matched.apart;
@@ -68,27 +68,27 @@ repriced_matched next s pe paid rebate sized matched tree new =
       free = free;
     }
   where
-    none_gives_less : (p : ℕ) → p < s.table.blocks → slice_index s.rebate p ≤ slice_index rebate p
+    none_gives_less : (p : ℕ) → p < s.table.blocks → slice_index s.discount p ≤ slice_index discount p
     none_gives_less p inside =
         elim (cases_lt 0 (slice_index (set s.rank pe next) p)) [
           | inl scanned ↦ omega (arith, (new.pes p inside).in_tree scanned, none_farther next s pe tree new.nearest p inside scanned)
           | inr not_yet ↦ omega (arith, (new.pes p inside).outside (omega arith))
         ]
 
-    low : (b p : ℕ) → b < s.table.blocks → p < s.table.blocks → slice_index paid b ≤ cost_at s.table b p + slice_index rebate p
+    low : (b p : ℕ) → b < s.table.blocks → p < s.table.blocks → slice_index price b ≤ cost_at s.table b p + slice_index discount p
     low b p block inside =
-        elim (in_tree_or_not next s pe paid rebate matched new b) [
+        elim (in_tree_or_not next s pe price discount matched new b) [
           | inr outside ↦ omega (arith, outside, matched.low b p block inside, none_gives_less p inside)
           | inl at ↦ elim (cases_lt 0 (slice_index (set s.rank pe next) p)) [
-            | inl scanned ↦ omega (arith, tree.least b at.0 p at.1 inside, paid_at next s pe paid rebate sized matched tree new b at.0 at.1, (new.pes p inside).in_tree scanned)
+            | inl scanned ↦ omega (arith, tree.least b at.0 p at.1 inside, price_then next s pe price discount sized matched tree new b at.0 at.1, (new.pes p inside).in_tree scanned)
             | inr not_yet ↦
                 let other : p ≢ pe = λ e. absurd (omega (arith, not_yet, tree.some, ap (λ q. slice_index (set s.rank pe next) q) e, get_or-set_same s.rank pe next 0 (omega (arith, sized.rank_length, new.nearest.inside)))) in
                 let before : slice_index s.rank p ≡ 0 = omega (arith, not_yet, get_or-set_other s.rank pe p next 0 other) in
-                omega (arith, tree.least b at.0 p at.1 inside, paid_at next s pe paid rebate sized matched tree new b at.0 at.1, (new.pes p inside).outside (omega arith), new.nearest.least p inside before)
+                omega (arith, tree.least b at.0 p at.1 inside, price_then next s pe price discount sized matched tree new b at.0 at.1, (new.pes p inside).outside (omega arith), new.nearest.least p inside before)
           ]
         ]
 
-    tight : (b : ℕ) → b < s.named → slice_index paid b ≡ cost_at s.table b (slice_index s.names b) + slice_index rebate (slice_index s.names b)
+    tight : (b : ℕ) → b < s.named → slice_index price b ≡ cost_at s.table b (slice_index s.names b) + slice_index discount (slice_index s.names b)
     tight b named =
         let p : ℕ = slice_index s.names b in
         elim (cases_lt 0 (slice_index (set s.rank pe next) p)) [
@@ -96,7 +96,7 @@ repriced_matched next s pe paid rebate sized matched tree new =
           | inr not_yet ↦ omega (arith, matched.tight b named, (new.joined b named).outside (omega arith), (new.pes p (matched.below b named)).outside (omega arith))
         ]
 
-    free : (p : ℕ) → p < s.table.blocks → IsFree s.named s.names p → slice_index rebate p ≡ 0
+    free : (p : ℕ) → p < s.table.blocks → IsFree s.named s.names p → slice_index discount p ≡ 0
     free p inside is_free =
         elim (cases_eq p pe) [
           | inl here ↦
@@ -108,11 +108,11 @@ repriced_matched next s pe paid rebate sized matched tree new =
           ]
         ]
 
-pub repriced_path : (next : ℕ) (s : State) (pe : ℕ) (paid rebate : List ℕ) → IsSized s → IsMatched s → IsTree next s → Reprices next s pe paid rebate → IsPath (repriced s (set s.rank pe next) paid rebate)
-repriced_path next s pe paid rebate sized matched tree new =
+pub repriced_path : (next : ℕ) (s : State) (pe : ℕ) (price discount : List ℕ) → IsSized s → IsMatched s → IsTree next s → Reprices next s pe price discount → IsPath (repriced s (set s.rank pe next) price discount)
+repriced_path next s pe price discount sized matched tree new =
     record {
       joined = joined;
-      no_loss = no_loss;
+      reduced_zero = reduced_zero;
       scanned = scanned;
       earlier = earlier;
     }
@@ -124,10 +124,10 @@ repriced_path next s pe paid rebate sized matched tree new =
           | inr block ↦ omega (arith, block.0)
         ]
 
-    no_loss : (p : ℕ) → p < s.table.blocks → 0 < slice_index (set s.rank pe next) p → slice_index paid (slice_index s.from p) ≡ cost_at s.table (slice_index s.from p) p + slice_index rebate p
-    no_loss p inside before =
+    reduced_zero : (p : ℕ) → p < s.table.blocks → 0 < slice_index (set s.rank pe next) p → slice_index price (slice_index s.from p) ≡ cost_at s.table (slice_index s.from p) p + slice_index discount p
+    reduced_zero p inside before =
         let way : IsReached s p = tree.reached p inside in
-        omega (arith, way.exact, paid_at next s pe paid rebate sized matched tree new (slice_index s.from p) way.far way.joined, (new.pes p inside).in_tree before, none_farther next s pe tree new.nearest p inside before)
+        omega (arith, way.exact, price_then next s pe price discount sized matched tree new (slice_index s.from p) way.far way.joined, (new.pes p inside).in_tree before, none_farther next s pe tree new.nearest p inside before)
 
     -- a block before a PE holds one that was scanned before
     of_before : (p : ℕ) → p < s.table.blocks → slice_index s.from p < s.named → 0 < slice_index s.rank (slice_index s.names (slice_index s.from p))
@@ -181,13 +181,13 @@ raising next s old pe same sized matched tree unnamed near free =
     })
 
 -- prices stay far below 2^64
-pub raised_paid : (next : ℕ) (s : State) (pe reach : ℕ) → IsRaising next s pe → reach ≡ slice_index s.distance pe → (b : ℕ) → b < length s.paid → slice_index s.paid b + reach < 2 ^ 64
-raised_paid next s pe reach r read b inside =
-    omega (arith, read, distance_small next s r.sized.is_table r.matched r.tree r.unnamed pe r.near.inside, paid_small s r.sized.is_table r.matched r.unnamed b (omega (arith, inside, r.sized.paid_length)))
+pub raised_price : (next : ℕ) (s : State) (pe reach : ℕ) → IsRaising next s pe → reach ≡ slice_index s.distance pe → (b : ℕ) → b < length s.price → slice_index s.price b + reach < 2 ^ 64
+raised_price next s pe reach r read b inside =
+    omega (arith, read, distance_small next s r.sized.is_table r.matched r.tree r.unnamed pe r.near.inside, prices_small s r.sized.is_table r.matched r.unnamed b (omega (arith, inside, r.sized.price_length)))
 
-pub raised_rebate : (next : ℕ) (s : State) (pe reach : ℕ) → IsRaising next s pe → reach ≡ slice_index s.distance pe → (p : ℕ) → p < length s.rebate → slice_index s.rebate p + reach < 2 ^ 64
-raised_rebate next s pe reach r read p inside =
-    omega (arith, read, distance_small next s r.sized.is_table r.matched r.tree r.unnamed pe r.near.inside, rebate_small s r.sized.is_table r.matched r.unnamed p (omega (arith, inside, r.sized.rebate_length)))
+pub raised_discount : (next : ℕ) (s : State) (pe reach : ℕ) → IsRaising next s pe → reach ≡ slice_index s.distance pe → (p : ℕ) → p < length s.discount → slice_index s.discount p + reach < 2 ^ 64
+raised_discount next s pe reach r read p inside =
+    omega (arith, read, distance_small next s r.sized.is_table r.matched r.tree r.unnamed pe r.near.inside, discount_small s r.sized.is_table r.matched r.unnamed p (omega (arith, inside, r.sized.discount_length)))
 
 -- PEs of named blocks are below the number of PEs, and those that were scanned no farther than the nearest
 pub names_below : (next : ℕ) (s : State) (pe : ℕ) → IsRaising next s pe → (b : ℕ) → b < length (take s.named s.names) → slice_index (take s.named s.names) b < length (set s.rank pe next)

@@ -5,8 +5,8 @@ use Rattle.std.proofs.lemmas.List.{get_or-set_same, get_or-set_other}
 use Rattle.block_assignment.specs.Search.{IsNearest, IsRelaxed}
 
 -- the walk has come to PE k
-pub record Walked (far paid block : ℕ) (row rebate rank old_distance old_from distance from : List ℕ) (k : ℕ) : Type 0 where
-  pub relaxed : (p : ℕ) → p < k → slice_index rank p ≡ 0 → IsRelaxed far (slice_index row p) paid (slice_index rebate p) block (slice_index old_distance p) (slice_index old_from p) (slice_index distance p) (slice_index from p)
+pub record Walked (far price block : ℕ) (row discount rank old_distance old_from distance from : List ℕ) (k : ℕ) : Type 0 where
+  pub relaxed : (p : ℕ) → p < k → slice_index rank p ≡ 0 → IsRelaxed far (slice_index row p) price (slice_index discount p) block (slice_index old_distance p) (slice_index old_from p) (slice_index distance p) (slice_index from p)
   pub kept_distance : (p : ℕ) → 0 < slice_index rank p → slice_index distance p ≡ slice_index old_distance p
   pub kept_from : (p : ℕ) → 0 < slice_index rank p → slice_index from p ≡ slice_index old_from p
   pub to_do_distance : (p : ℕ) → k ≤ p → slice_index distance p ≡ slice_index old_distance p
@@ -18,8 +18,8 @@ pub record Nearest (rank distance : List ℕ) (nearest : Option ℕ) (least k : 
   pub far : MatchOption nearest (least ≡ 2 ^ 64 - 1) (λ q. least ≡ slice_index distance q)
 
 -- a PE that was scanned before is passed by
-pub walked_by : (far paid block : ℕ) (row rebate rank old_distance old_from distance from : List ℕ) (k : ℕ) → Walked far paid block row rebate rank old_distance old_from distance from k → 0 < slice_index rank k → Walked far paid block row rebate rank old_distance old_from distance from (k + 1)
-walked_by far paid block row rebate rank old_distance old_from distance from k walked scanned =
+pub walked_by : (far price block : ℕ) (row discount rank old_distance old_from distance from : List ℕ) (k : ℕ) → Walked far price block row discount rank old_distance old_from distance from k → 0 < slice_index rank k → Walked far price block row discount rank old_distance old_from distance from (k + 1)
+walked_by far price block row discount rank old_distance old_from distance from k walked scanned =
     record {
       relaxed = λ p inside not_yet. elim (cases_eq p k) [
         | inl here ↦ absurd (omega (arith, scanned, not_yet, ap (λ q. slice_index rank q) here))
@@ -32,11 +32,11 @@ walked_by far paid block row rebate rank old_distance old_from distance from k w
     }
 
 -- a PE that is as near as before
-pub walked_kept : (far paid block : ℕ) (row rebate rank old_distance old_from distance from : List ℕ) (k there : ℕ) → Walked far paid block row rebate rank old_distance old_from distance from k → there + paid ≡ far + slice_index row k + slice_index rebate k → slice_index distance k ≤ there → Walked far paid block row rebate rank old_distance old_from distance from (k + 1)
-walked_kept far paid block row rebate rank old_distance old_from distance from k there walked exact near =
+pub walked_kept : (far price block : ℕ) (row discount rank old_distance old_from distance from : List ℕ) (k there : ℕ) → Walked far price block row discount rank old_distance old_from distance from k → there + price ≡ far + slice_index row k + slice_index discount k → slice_index distance k ≤ there → Walked far price block row discount rank old_distance old_from distance from (k + 1)
+walked_kept far price block row discount rank old_distance old_from distance from k there walked exact near =
     record {
       relaxed = λ p inside not_yet. elim (cases_eq p k) [
-        | inl here ↦ subst (λ q. IsRelaxed far (slice_index row q) paid (slice_index rebate q) block (slice_index old_distance q) (slice_index old_from q) (slice_index distance q) (slice_index from q)) (sym here) at_k
+        | inl here ↦ subst (λ q. IsRelaxed far (slice_index row q) price (slice_index discount q) block (slice_index old_distance q) (slice_index old_from q) (slice_index distance q) (slice_index from q)) (sym here) at_k
         | inr other ↦ walked.relaxed p (omega arith) not_yet
       ];
       kept_distance = walked.kept_distance;
@@ -45,7 +45,7 @@ walked_kept far paid block row rebate rank old_distance old_from distance from k
       to_do_from = λ p past. walked.to_do_from p (omega arith);
     }
   where
-    at_k : IsRelaxed far (slice_index row k) paid (slice_index rebate k) block (slice_index old_distance k) (slice_index old_from k) (slice_index distance k) (slice_index from k)
+    at_k : IsRelaxed far (slice_index row k) price (slice_index discount k) block (slice_index old_distance k) (slice_index old_from k) (slice_index distance k) (slice_index from k)
     at_k = record {
       no_more = omega (arith, walked.to_do_distance k (omega arith));
       for_block = omega (arith, exact, near);
@@ -53,12 +53,12 @@ walked_kept far paid block row rebate rank old_distance old_from distance from k
     }
 
 -- a PE that is nearer by way of the block
-pub walked_nearer : (far paid block : ℕ) (row rebate rank old_distance old_from distance from : List ℕ) (k there : ℕ) → Walked far paid block row rebate rank old_distance old_from distance from k → slice_index rank k ≡ 0 → k < length distance → k < length from → there + paid ≡ far + slice_index row k + slice_index rebate k → there < slice_index distance k → Walked far paid block row rebate rank old_distance old_from (set distance k there) (set from k block) (k + 1)
-walked_nearer far paid block row rebate rank old_distance old_from distance from k there walked unscanned in_distance in_from exact near =
+pub walked_nearer : (far price block : ℕ) (row discount rank old_distance old_from distance from : List ℕ) (k there : ℕ) → Walked far price block row discount rank old_distance old_from distance from k → slice_index rank k ≡ 0 → k < length distance → k < length from → there + price ≡ far + slice_index row k + slice_index discount k → there < slice_index distance k → Walked far price block row discount rank old_distance old_from (set distance k there) (set from k block) (k + 1)
+walked_nearer far price block row discount rank old_distance old_from distance from k there walked unscanned in_distance in_from exact near =
     record {
       relaxed = λ p inside not_yet. elim (cases_eq p k) [
-        | inl here ↦ subst (λ q. IsRelaxed far (slice_index row q) paid (slice_index rebate q) block (slice_index old_distance q) (slice_index old_from q) (slice_index (set distance k there) q) (slice_index (set from k block) q)) (sym here) at_k
-        | inr other ↦ subst (λ d. IsRelaxed far (slice_index row p) paid (slice_index rebate p) block (slice_index old_distance p) (slice_index old_from p) d (slice_index (set from k block) p)) (sym (distance_other p other)) (subst (λ f. IsRelaxed far (slice_index row p) paid (slice_index rebate p) block (slice_index old_distance p) (slice_index old_from p) (slice_index distance p) f) (sym (from_other p other)) (walked.relaxed p (omega arith) not_yet))
+        | inl here ↦ subst (λ q. IsRelaxed far (slice_index row q) price (slice_index discount q) block (slice_index old_distance q) (slice_index old_from q) (slice_index (set distance k there) q) (slice_index (set from k block) q)) (sym here) at_k
+        | inr other ↦ subst (λ d. IsRelaxed far (slice_index row p) price (slice_index discount p) block (slice_index old_distance p) (slice_index old_from p) d (slice_index (set from k block) p)) (sym (distance_other p other)) (subst (λ f. IsRelaxed far (slice_index row p) price (slice_index discount p) block (slice_index old_distance p) (slice_index old_from p) (slice_index distance p) f) (sym (from_other p other)) (walked.relaxed p (omega arith) not_yet))
       ];
       kept_distance = λ p scanned. distance_other p (other_if p scanned) ∙ walked.kept_distance p scanned;
       kept_from = λ p scanned. from_other p (other_if p scanned) ∙ walked.kept_from p scanned;
@@ -81,7 +81,7 @@ walked_nearer far paid block row rebate rank old_distance old_from distance from
     other_if : (p : ℕ) → 0 < slice_index rank p → p ≢ k
     other_if p scanned here = absurd (omega (arith, scanned, unscanned, ap (λ q. slice_index rank q) here))
 
-    at_k : IsRelaxed far (slice_index row k) paid (slice_index rebate k) block (slice_index old_distance k) (slice_index old_from k) (slice_index (set distance k there) k) (slice_index (set from k block) k)
+    at_k : IsRelaxed far (slice_index row k) price (slice_index discount k) block (slice_index old_distance k) (slice_index old_from k) (slice_index (set distance k there) k) (slice_index (set from k block) k)
     at_k = record {
       no_more = omega (arith, distance_here, near, walked.to_do_distance k (omega arith));
       for_block = omega (arith, distance_here, exact);

@@ -8,7 +8,7 @@ use Rattle.block_assignment.specs.Table.{cost_at}
 use Rattle.block_assignment.specs.Search.{State, IsSized, IsFree, IsMatched, IsAt, IsReached, IsTree, IsNearest, IsRelaxed, unscanned}
 use Rattle.block_assignment.proofs.Coverings.{covers}
 use Rattle.block_assignment.proofs.Sums.{cost_small}
-use Rattle.block_assignment.proofs.Prices.{rebate_small}
+use Rattle.block_assignment.proofs.Prices.{discount_small}
 
 -- a list written over from its start to its end
 pub written : {A : Type 0} (n : ℕ) (new old : List A) → length new ≡ n → take n (new ++ drop (length new) old) ≡ new
@@ -17,7 +17,7 @@ written n new old e = subst (λ k. take k (new ++ drop (length new) old) ≡ new
 -- the state with another tree
 abbrev pub grown : State → List ℕ → List ℕ → List ℕ → State
 grown s rank distance from =
-    record { table = s.table; named = s.named; names = s.names; holders = s.holders; paid = s.paid; rebate = s.rebate; rank = rank; distance = distance; from = from }
+    record { table = s.table; named = s.named; names = s.names; holders = s.holders; price = s.price; discount = s.discount; rank = rank; distance = distance; from = from }
 
 -- a PE that knows no block is free
 pub free_if_unheld : (s : State) (p : ℕ) → IsMatched s → slice_index_or s.holders p None ≡ None → IsFree s.named s.names p
@@ -32,8 +32,8 @@ grown_sized s rank distance from sized ranks distances froms =
       is_table = sized.is_table;
       names_length = sized.names_length;
       holders_length = sized.holders_length;
-      paid_length = sized.paid_length;
-      rebate_length = sized.rebate_length;
+      price_length = sized.price_length;
+      discount_length = sized.discount_length;
       rank_length = ranks;
       distance_length = distances;
       from_length = froms;
@@ -55,27 +55,27 @@ one_scanned rank p next inside none some =
 
 -- ---- a tree of one block
 
-pub record Plants (s : State) (rank most old_from distance from : List ℕ) : Type 0 where
+pub record StartsTree (s : State) (rank most old_from distance from : List ℕ) : Type 0 where
   pub unranked : (p : ℕ) → p < s.table.blocks → slice_index rank p ≡ 0
   pub far : (p : ℕ) → p < s.table.blocks → slice_index most p ≡ 2 ^ 64 - 1
-  pub relaxed : (p : ℕ) → p < s.table.blocks → IsRelaxed 0 (cost_at s.table s.named p) (slice_index s.paid s.named) (slice_index s.rebate p) s.named (slice_index most p) (slice_index old_from p) (slice_index distance p) (slice_index from p)
+  pub relaxed : (p : ℕ) → p < s.table.blocks → IsRelaxed 0 (cost_at s.table s.named p) (slice_index s.price s.named) (slice_index s.discount p) s.named (slice_index most p) (slice_index old_from p) (slice_index distance p) (slice_index from p)
 
-pub planted_tree : (s : State) (rank most old_from distance from : List ℕ) → IsSized s → IsMatched s → s.named < s.table.blocks → Plants s rank most old_from distance from → IsTree 1 (grown s rank distance from)
-planted_tree s rank most old_from distance from sized matched unnamed plants =
+pub started_tree : (s : State) (rank most old_from distance from : List ℕ) → IsSized s → IsMatched s → s.named < s.table.blocks → StartsTree s rank most old_from distance from → IsTree 1 (grown s rank distance from)
+started_tree s rank most old_from distance from sized matched unnamed starts_tree =
     record {
       some = omega arith;
-      ranks = λ p inside. omega (arith, plants.unranked p inside);
-      held = λ p inside scanned. absurd (omega (arith, scanned, plants.unranked p inside));
+      ranks = λ p inside. omega (arith, starts_tree.unranked p inside);
+      held = λ p inside scanned. absurd (omega (arith, scanned, starts_tree.unranked p inside));
       reached = reached;
       least = least;
-      nearer = λ p q inside other scanned not_yet. absurd (omega (arith, scanned, plants.unranked p inside));
-      earlier = λ p inside scanned named. absurd (omega (arith, scanned, plants.unranked p inside));
+      nearer = λ p q inside other scanned not_yet. absurd (omega (arith, scanned, starts_tree.unranked p inside));
+      earlier = λ p inside scanned named. absurd (omega (arith, scanned, starts_tree.unranked p inside));
     }
   where
-    by_root : (p : ℕ) → p < s.table.blocks → (slice_index distance p + slice_index s.paid s.named ≡ 0 + cost_at s.table s.named p + slice_index s.rebate p) × (slice_index from p ≡ s.named)
+    by_root : (p : ℕ) → p < s.table.blocks → (slice_index distance p + slice_index s.price s.named ≡ 0 + cost_at s.table s.named p + slice_index s.discount p) × (slice_index from p ≡ s.named)
     by_root p inside =
-        elim (plants.relaxed p inside).which [
-          | inl kept ↦ absurd (omega (arith, kept.0, plants.far p inside, (plants.relaxed p inside).for_block, cost_small s.table s.named p sized.is_table unnamed inside, rebate_small s sized.is_table matched unnamed p inside))
+        elim (starts_tree.relaxed p inside).which [
+          | inl kept ↦ absurd (omega (arith, kept.0, starts_tree.far p inside, (starts_tree.relaxed p inside).for_block, cost_small s.table s.named p sized.is_table unnamed inside, discount_small s sized.is_table matched unnamed p inside))
           | inr less ↦ (less.1, less.2)
         ]
 
@@ -83,14 +83,14 @@ planted_tree s rank most old_from distance from sized matched unnamed plants =
     reached p inside = record {
       far = 0;
       joined = inl ((by_root p inside).1, refl);
-      exact = subst (λ b. slice_index distance p + slice_index s.paid b ≡ 0 + cost_at s.table b p + slice_index s.rebate p) (sym (by_root p inside).1) (by_root p inside).0;
+      exact = subst (λ b. slice_index distance p + slice_index s.price b ≡ 0 + cost_at s.table b p + slice_index s.discount p) (sym (by_root p inside).1) (by_root p inside).0;
     }
 
-    least : (b far p : ℕ) → IsAt (grown s rank distance from) b far → p < s.table.blocks → slice_index distance p + slice_index s.paid b ≤ far + cost_at s.table b p + slice_index s.rebate p
+    least : (b far p : ℕ) → IsAt (grown s rank distance from) b far → p < s.table.blocks → slice_index distance p + slice_index s.price b ≤ far + cost_at s.table b p + slice_index s.discount p
     least b far p at inside =
         elim at [
-          | inl root ↦ subst (λ k. slice_index distance p + slice_index s.paid k ≤ far + cost_at s.table k p + slice_index s.rebate p) (sym root.0) (omega (arith, (by_root p inside).0))
-          | inr joined ↦ absurd (omega (arith, joined.1, plants.unranked (slice_index s.names b) (matched.below b joined.0)))
+          | inl root ↦ subst (λ k. slice_index distance p + slice_index s.price k ≤ far + cost_at s.table k p + slice_index s.discount p) (sym root.0) (omega (arith, (by_root p inside).0))
+          | inr joined ↦ absurd (omega (arith, joined.1, starts_tree.unranked (slice_index s.names b) (matched.below b joined.0)))
         ]
 
 -- ---- a block joins
@@ -102,7 +102,7 @@ pub record Joins (s : State) (b pe : ℕ) : Type 0 where
 
 abbrev pub Relaxed : State → ℕ → List ℕ → ℕ → List ℕ → List ℕ → Type 0
 Relaxed s far rank b distance from =
-    (p : ℕ) → p < s.table.blocks → slice_index rank p ≡ 0 → IsRelaxed far (cost_at s.table b p) (slice_index s.paid b) (slice_index s.rebate p) b (slice_index s.distance p) (slice_index s.from p) (slice_index distance p) (slice_index from p)
+    (p : ℕ) → p < s.table.blocks → slice_index rank p ≡ 0 → IsRelaxed far (cost_at s.table b p) (slice_index s.price b) (slice_index s.discount p) b (slice_index s.distance p) (slice_index s.from p) (slice_index distance p) (slice_index from p)
 
 -- what was scanned stays as it is
 pub record Kept (s : State) (rank distance from : List ℕ) : Type 0 where
@@ -202,7 +202,7 @@ grown_tree next s b pe distance from sized matched tree joins relaxed kept =
             | inr less ↦ record {
               far = slice_index s.distance pe;
               joined = subst (λ k. IsAt (grown s (set s.rank pe next) distance from) k (slice_index s.distance pe)) (sym less.2) at_here;
-              exact = subst (λ k. slice_index distance p + slice_index s.paid k ≡ slice_index s.distance pe + cost_at s.table k p + slice_index s.rebate p) (sym less.2) less.1;
+              exact = subst (λ k. slice_index distance p + slice_index s.price k ≡ slice_index s.distance pe + cost_at s.table k p + slice_index s.discount p) (sym less.2) less.1;
             }
           ]
         ]
@@ -214,7 +214,7 @@ grown_tree next s b pe distance from sized matched tree joins relaxed kept =
         as_before far_same from_same = record {
           far = old.far;
           joined = subst (λ k. IsAt (grown s (set s.rank pe next) distance from) k old.far) (sym from_same) (at_before (slice_index s.from p) old.far old.joined);
-          exact = subst (λ k. slice_index distance p + slice_index s.paid k ≡ old.far + cost_at s.table k p + slice_index s.rebate p) (sym from_same) (omega (arith, far_same, old.exact));
+          exact = subst (λ k. slice_index distance p + slice_index s.price k ≡ old.far + cost_at s.table k p + slice_index s.discount p) (sym from_same) (omega (arith, far_same, old.exact));
         }
 
     no_farther : (p : ℕ) → p < s.table.blocks → slice_index distance p ≤ slice_index s.distance p
@@ -232,14 +232,14 @@ grown_tree next s b pe distance from sized matched tree joins relaxed kept =
           | inr other ↦ tree.nearer p pe inside joins.nearest.inside (omega (arith, scanned, rank_other p other)) joins.nearest.apart
         ]
 
-    least : (k far p : ℕ) → IsAt (grown s (set s.rank pe next) distance from) k far → p < s.table.blocks → slice_index distance p + slice_index s.paid k ≤ far + cost_at s.table k p + slice_index s.rebate p
+    least : (k far p : ℕ) → IsAt (grown s (set s.rank pe next) distance from) k far → p < s.table.blocks → slice_index distance p + slice_index s.price k ≤ far + cost_at s.table k p + slice_index s.discount p
     least k far p at inside =
         elim (at_one k far at) [
           | inl before ↦ omega (arith, no_farther p inside, tree.least k far p before inside)
-          | inr joined ↦ subst (λ n. slice_index distance p + slice_index s.paid n ≤ far + cost_at s.table n p + slice_index s.rebate p) (sym joined.0) (omega (arith, joined.1, by_block))
+          | inr joined ↦ subst (λ n. slice_index distance p + slice_index s.price n ≤ far + cost_at s.table n p + slice_index s.discount p) (sym joined.0) (omega (arith, joined.1, by_block))
         ]
       where
-        by_block : slice_index distance p + slice_index s.paid b ≤ slice_index s.distance pe + cost_at s.table b p + slice_index s.rebate p
+        by_block : slice_index distance p + slice_index s.price b ≤ slice_index s.distance pe + cost_at s.table b p + slice_index s.discount p
         by_block =
             elim (cases_lt 0 (slice_index (set s.rank pe next) p)) [
               | inl scanned ↦ omega (arith, kept.distances p scanned, up_to_here p inside scanned, matched.low b p (omega (arith, block.0, joins.inside)) inside)

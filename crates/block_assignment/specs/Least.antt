@@ -27,7 +27,7 @@ pub record IsFound (blocks b : ℕ) (left : List ℕ) (j : ℕ) : Type 0 where
   pub inside : j < blocks
   pub taken : member left j ≡ 0
 
--- Each block that was found may have the PE of the block after it on its way back to b. Ranks fall on the way.
+-- Each block that was found may have the PE of the block after it on its path back to b. Ranks fall along the path.
 pub record IsTrail (takers : List (List ℕ)) (names : List ℕ) (b : ℕ) (left next : List ℕ) : Type 0 where
   pub rank : ℕ → ℕ
   pub later : (j : ℕ) → member left j ≡ 1 → (b < j) × (j < length takers)

@@ -26,7 +26,8 @@ pub fn name_blocks<A: Allocator + Copy, B: Allocator>(
 ) -> Result<(Naming<A>, Prices<A>), NameError>
     ensures naming { IfOk result (λ answer. IsNaming table.now.blocks answer.0) }
     ensures proved { IfOk result (λ answer. Proves table.now.blocks (cost_at table.now) (naming_cost table.now.blocks (cost_at table.now) answer.0) answer.1.u answer.1.v) }
-    ensures cheapest { IfOk result (λ answer. (others : List ℕ) → IsNaming table.now.blocks others → naming_cost table.now.blocks (cost_at table.now) answer.0 ≤ naming_cost table.now.blocks (cost_at table.now) others) }
+    ensures cheapest { IfOk result (λ answer. (others : List ℕ) → IsNaming table.now.blocks others
+        → naming_cost table.now.blocks (cost_at table.now) answer.0 ≤ naming_cost table.now.blocks (cost_at table.now) others) }
     ensures least_naming { IfOk result (λ answer. IsFirstCheapest table.now.blocks (naming_cost table.now.blocks (cost_at table.now)) answer.0) }
     ensures bounded { IfOk result (λ answer. AreWithin (greatest table.now.costs) answer.1.u answer.1.v) }
     ensures only_memory { IfErr result (λ error. error ≡ OutOfMemory) }
@@ -56,26 +57,26 @@ fn name_and_price<A: Allocator + Copy, B: Allocator>(
     ensures least_naming { IfOk result (λ names. IsFirstCheapest table.now.blocks (naming_cost table.now.blocks (cost_at table.now)) names.items) }
     ensures bounded { IfOk result (λ _. AreWithin (greatest table.now.costs) u.new v.new) }
 {
-    let (mut names, paid, rebate) = cheapest(alloc, table)?;
-    write_paid(&paid, u);
-    write_rebates(&rebate, v);
-    let renamed = rename(alloc, table, &paid, &rebate, &mut names);
-    drop(paid);
-    drop(rebate);
+    let (mut names, price, discount) = cheapest(alloc, table)?;
+    write_block_prices(&price, u);
+    write_pe_prices(&discount, v);
+    let renamed = rename(alloc, table, &price, &discount, &mut names);
+    drop(price);
+    drop(discount);
     renamed?;
     Ok(names)
 }
 
-// A cheapest naming, what each block pays and what each PE gives back.
+// A cheapest naming, the price of each block and the discount of each PE.
 fn cheapest<A: Allocator + Copy, B: Allocator>(
     alloc: A,
     table: &CostTable<B>,
 ) -> Result<(Vec<u32, A>, Vec<u64, A>, Vec<u64, A>), AllocError>
     ensures tight { IfOk result (λ parts. IsTight table.now.blocks (cost_at table.now) parts.1.items parts.2.items parts.0.items) }
-    ensures paid { IfOk result (λ parts. length parts.1.items ≡ table.now.blocks) }
-    ensures rebates { IfOk result (λ parts. length parts.2.items ≡ table.now.blocks) }
-    ensures paid_small { IfOk result (λ parts. (b : ℕ) → b < table.now.blocks → slice_index parts.1.items b ≤ greatest table.now.costs) }
-    ensures rebates_small { IfOk result (λ parts. (p : ℕ) → p < table.now.blocks → slice_index parts.2.items p ≤ greatest table.now.costs) }
+    ensures price { IfOk result (λ parts. length parts.1.items ≡ table.now.blocks) }
+    ensures discounts { IfOk result (λ parts. length parts.2.items ≡ table.now.blocks) }
+    ensures prices_small { IfOk result (λ parts. (b : ℕ) → b < table.now.blocks → slice_index parts.1.items b ≤ greatest table.now.costs) }
+    ensures discounts_small { IfOk result (λ parts. (p : ℕ) → p < table.now.blocks → slice_index parts.2.items p ≤ greatest table.now.costs) }
     ensures costs_small { IfOk result (λ _. greatest table.now.costs ≤ 2 ^ 36) }
 {
     let mut search = Search::new(alloc, table)?;
@@ -90,43 +91,43 @@ fn cheapest<A: Allocator + Copy, B: Allocator>(
 fn rename<A: Allocator + Copy, B: Allocator>(
     alloc: A,
     table: &CostTable<B>,
-    paid: &[u64],
-    rebate: &[u64],
+    price: &[u64],
+    discount: &[u64],
     names: &mut [u32],
 ) -> Result<(), AllocError>
-    requires tight { IsTight table.now.blocks (cost_at table.now) paid.now rebate.now names.old }
-    requires paid { length paid.now ≡ table.now.blocks }
-    requires rebates { length rebate.now ≡ table.now.blocks }
-    requires small { (p : ℕ) → p < length rebate.now → slice_index rebate.now p ≤ 2 ^ 36 }
-    ensures tight { OnOk result (IsTight table.now.blocks (cost_at table.now) paid.now rebate.now names.new) }
+    requires tight { IsTight table.now.blocks (cost_at table.now) price.now discount.now names.old }
+    requires price { length price.now ≡ table.now.blocks }
+    requires discounts { length discount.now ≡ table.now.blocks }
+    requires small { (p : ℕ) → p < length discount.now → slice_index discount.now p ≤ 2 ^ 36 }
+    ensures tight { OnOk result (IsTight table.now.blocks (cost_at table.now) price.now discount.now names.new) }
     ensures least_naming { OnOk result (IsFirstCheapest table.now.blocks (naming_cost table.now.blocks (cost_at table.now)) names.new) }
 {
     let blocks = table.blocks() as usize;
     let mut takers = vec![in alloc; NO_BLOCK; blocks]?;
     let mut next = vec![in alloc; 0; blocks]?;
-    write_takers(table, paid, rebate, &mut takers);
+    write_takers(table, price, discount, &mut takers);
     make_least(&takers, &mut next, names);
     Ok(())
 }
 
-// The price of a block is what it pays.
-fn write_paid(paid: &[u64], prices: &mut [i64])
-    requires counted { length prices.old ≡ length paid.now }
-    requires small { (b : ℕ) → b < length paid.now → slice_index paid.now b ≤ 2 ^ 36 }
-    ensures { (b : ℕ) → b < length paid.now → price_at prices.new b ≡ pos (slice_index paid.now b) }
+// Writes the prices of the blocks as dual values.
+fn write_block_prices(price: &[u64], prices: &mut [i64])
+    requires counted { length prices.old ≡ length price.now }
+    requires small { (b : ℕ) → b < length price.now → slice_index price.now b ≤ 2 ^ 36 }
+    ensures { (b : ℕ) → b < length price.now → price_at prices.new b ≡ pos (slice_index price.now b) }
 {
-    for b in 0..paid.len() {
-        prices[b] = paid[b] as i64;
+    for b in 0..price.len() {
+        prices[b] = price[b] as i64;
     }
 }
 
-// The price of a PE is what it gives back, below 0.
-fn write_rebates(rebate: &[u64], prices: &mut [i64])
-    requires counted { length prices.old ≡ length rebate.now }
-    requires small { (p : ℕ) → p < length rebate.now → slice_index rebate.now p ≤ 2 ^ 36 }
-    ensures { (p : ℕ) → p < length rebate.now → price_at prices.new p ≡ neg_ℤ (pos (slice_index rebate.now p)) }
+// Writes the dual values of the PEs: their discounts with the sign changed.
+fn write_pe_prices(discount: &[u64], prices: &mut [i64])
+    requires counted { length prices.old ≡ length discount.now }
+    requires small { (p : ℕ) → p < length discount.now → slice_index discount.now p ≤ 2 ^ 36 }
+    ensures { (p : ℕ) → p < length discount.now → price_at prices.new p ≡ neg_ℤ (pos (slice_index discount.now p)) }
 {
-    for p in 0..rebate.len() {
-        prices[p] = -(rebate[p] as i64);
+    for p in 0..discount.len() {
+        prices[p] = -(discount[p] as i64);
     }
 }

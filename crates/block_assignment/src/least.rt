@@ -1,6 +1,6 @@
 //! The first naming in dictionary order of those that use only some pairs of a block and a PE. The blocks are gone
 //! through in order. Each gets the least PE for which the blocks after it can still all be named: the block that had
-//! it takes over the PE of another, and so on, until one takes the PE that has become free. Which blocks can start
+//! it takes the PE of another, and so on, until one takes the PE that has become free. Which blocks can start
 //! such a chain is found by one search, backward from the block. These are alternating paths: C. Berge, "Two theorems
 //! in graph theory", Proceedings of the National Academy of Sciences 43(9), 1957.
 
@@ -23,14 +23,14 @@ pub(crate) fn make_least(takers: &[BlockSet], next: &mut [u32], names: &mut [u32
     ensures least { (b : ℕ) → b < length takers.now → IsLeastAt takers.now names.new b }
 {
     for b in 0..takers.len() as u32 {
-        settle(b, takers, next, names);
+        give_least_pe(b, takers, next, names);
     }
 }
 
 // Gives block `b` the least PE with which the later blocks can still be named, and leaves the blocks before it theirs.
-// The block that had this PE gets that of the next on its way back to `b`, and so on, until one gets the PE that `b`
-// had.
-fn settle(b: u32, takers: &[BlockSet], next: &mut [u32], names: &mut [u32])
+// The block that had this PE takes that of the next block on its path back to `b`, and so on, until one takes the PE that
+// `b` had.
+fn give_least_pe(b: u32, takers: &[BlockSet], next: &mut [u32], names: &mut [u32])
     requires inside { b < length takers.now }
     requires few { length takers.now ≤ PES }
     requires next { length next.old ≡ length takers.now }
@@ -59,7 +59,8 @@ fn may_have_less(b: u32, takers: &[BlockSet], names: &[u32]) -> bool
     requires inside { b < length takers.now }
     requires few { length takers.now ≤ PES }
     requires naming { IsNaming (length takers.now) names.now }
-    ensures { result ≡ false → (j : ℕ) → b < j → j < length takers.now → may_have takers.now b (slice_index names.now j) ≡ 1 → slice_index names.now b ≤ slice_index names.now j }
+    ensures { result ≡ false → (j : ℕ) → b < j → j < length takers.now → may_have takers.now b (slice_index names.now j) ≡ 1
+        → slice_index names.now b ≤ slice_index names.now j }
 {
     for j in b as usize + 1..names.len() {
         if names[j] < names[b as usize] && has(&takers[names[j] as usize], b) {
@@ -84,7 +85,7 @@ fn later_blocks(b: u32, blocks: u32) -> BlockSet
 }
 
 // The later blocks that the search from block `b` leaves. It finds a block where that may have the PE of `b`, or of a
-// block that was found before, which is then the next on its way back to `b`.
+// block that was found before, which is then the next on its path back to `b`.
 fn left_by(b: u32, takers: &[BlockSet], names: &[u32], next: &mut [u32]) -> BlockSet
     requires inside { b < length takers.now }
     requires few { length takers.now ≤ PES }
@@ -120,7 +121,8 @@ fn choose(b: u32, takers: &[BlockSet], names: &[u32], left: &BlockSet) -> u32
     requires taken { member left.now b ≡ 0 }
     ensures reached { IsFound (length takers.now) b left.now result }
     ensures allowed { may_have takers.now b (slice_index names.now result) ≡ 1 }
-    ensures least { (j : ℕ) → IsFound (length takers.now) b left.now j → may_have takers.now b (slice_index names.now j) ≡ 1 → slice_index names.now result ≤ slice_index names.now j }
+    ensures least { (j : ℕ) → IsFound (length takers.now) b left.now j → may_have takers.now b (slice_index names.now j) ≡ 1
+        → slice_index names.now result ≤ slice_index names.now j }
 {
     let mut chosen = b;
     for j in b + 1..takers.len() as u32 {

@@ -8,34 +8,36 @@ ghost use Rattle.block_assignment.specs.Search.{IsNearest, IsRelaxed};
 pub(crate) struct Joining {
     /// Its number.
     pub(crate) block: u32,
-    /// What it pays.
-    pub(crate) paid: u64,
+    /// Its price.
+    pub(crate) price: u64,
     /// How far it is from the root.
     pub(crate) distance: u64,
 }
 
-/// Brings PEs that were not scanned nearer by way of a block that joins, whose costs are this row, and tells the
-/// nearest of them. A free PE is taken before others that are as near, so that equal costs do not let the tree grow.
+/// Brings PEs that were not scanned nearer by way of a block that joins the tree, whose costs are this row, and returns
+/// the nearest of them. A free PE is taken before others that are as near, so that equal costs do not make the tree grow.
 #[inline(never)]
 pub(crate) fn scan(
     joining: Joining,
     row: &[u64],
-    rebate: &[u64],
+    discount: &[u64],
     rank: &[u32],
     holders: &[Option<u32>],
     distance: &mut [u64],
     from: &mut [u32],
 ) -> Option<u32>
     requires few { length row.now < 2 ^ 32 }
-    requires rebates { length rebate.now ≡ length row.now }
+    requires discounts { length discount.now ≡ length row.now }
     requires ranks { length rank.now ≡ length row.now }
     requires held { length holders.now ≡ length row.now }
     requires distances { length distance.old ≡ length row.now }
     requires froms { length from.old ≡ length row.now }
     requires near { joining.distance ≤ 2 ^ 38 }
-    requires small { (p : ℕ) → p < length row.now → slice_index row.now p + slice_index rebate.now p ≤ 2 ^ 38 }
-    requires low { (p : ℕ) → p < length row.now → joining.paid ≤ slice_index row.now p + slice_index rebate.now p }
-    ensures relaxed { (p : ℕ) → p < length row.now → slice_index rank.now p ≡ 0 → IsRelaxed joining.distance (slice_index row.now p) joining.paid (slice_index rebate.now p) joining.block (slice_index distance.old p) (slice_index from.old p) (slice_index distance.new p) (slice_index from.new p) }
+    requires small { (p : ℕ) → p < length row.now → slice_index row.now p + slice_index discount.now p ≤ 2 ^ 38 }
+    requires low { (p : ℕ) → p < length row.now → joining.price ≤ slice_index row.now p + slice_index discount.now p }
+    ensures relaxed { (p : ℕ) → p < length row.now → slice_index rank.now p ≡ 0
+        → IsRelaxed joining.distance (slice_index row.now p) joining.price (slice_index discount.now p) joining.block
+        (slice_index distance.old p) (slice_index from.old p) (slice_index distance.new p) (slice_index from.new p) }
     ensures kept_distance { (p : ℕ) → 0 < slice_index rank.now p → slice_index distance.new p ≡ slice_index distance.old p }
     ensures kept_from { (p : ℕ) → 0 < slice_index rank.now p → slice_index from.new p ≡ slice_index from.old p }
     ensures nearest { MatchOption result ((p : ℕ) → p < length row.now → 0 < slice_index rank.now p) (IsNearest rank.now distance.new (length row.now)) }
@@ -45,7 +47,7 @@ pub(crate) fn scan(
     let mut held = true;
     for p in 0..row.len() {
         if rank[p] == 0 {
-            let way = joining.distance + row[p] + rebate[p] - joining.paid;
+            let way = joining.distance + row[p] + discount[p] - joining.price;
             let mut far = distance[p];
             if way < far {
                 far = way;

@@ -1,9 +1,9 @@
 //! The search for a cheapest naming. The blocks are named one after the other. To name one more, a tree of blocks
 //! grows from it: always the nearest PE is scanned, and the block that holds it joins the tree. When the nearest PE
-//! is free, prices are changed once, and each block on the way to it moves on by one PE. This is the method of
-//! shortest augmenting paths: J. Munkres, "Algorithms for the assignment and transportation problems", Journal of
-//! the Society for Industrial and Applied Mathematics 5(1), 1957; R. Jonker and A. Volgenant, "A shortest augmenting
-//! path algorithm for dense and sparse linear assignment problems", Computing 38, 1987.
+//! is free, the prices are changed once, and the path to it is augmented: each block on it takes the next PE on it.
+//! This is the method of shortest augmenting paths: J. Munkres, "Algorithms for the assignment and transportation
+//! problems", Journal of the Society for Industrial and Applied Mathematics 5(1), 1957; R. Jonker and A. Volgenant, "A
+//! shortest augmenting path algorithm for dense and sparse linear assignment problems", Computing 38, 1987.
 
 ghost use Rattle.std.specs.Prelude.{◌≡◌, ℕ, ◌+◌, ◌^◌, ◌<◌, ◌≤◌, length, slice_index, slice_index_or, replicate, IfOk, MatchOption, Some, None};
 ghost use Rattle.block_assignment.specs.Table.{cost_at};
@@ -24,15 +24,17 @@ pub(crate) struct Search<'t, A: Allocator, B: Allocator> {
     names: Vec<u32, A>,
     // The block of each PE.
     holders: Vec<Option<u32>, A>,
-    // What each block pays.
-    paid: Vec<u64, A>,
-    // What each PE gives back.
-    rebate: Vec<u64, A>,
+    // The price of each block: its dual value u.
+    price: Vec<u64, A>,
+    // The discount of each PE: its dual value v with the sign changed, so that it is 0 or more. No price is above the
+    // block's cost on a PE plus the PE's discount; on the block's own PE it is just that.
+    discount: Vec<u64, A>,
     // When each PE was scanned, counted from 1, and 0 where it was not.
     rank: Vec<u32, A>,
-    // How far each PE is from the root of the tree: what blocks would lose on the nearest way to it.
+    // How far each PE is from the root of the tree: the sum of the reduced costs (cost plus discount less price) along
+    // the shortest path to it.
     distance: Vec<u64, A>,
-    // The block before each PE on that way.
+    // The block before each PE on that path.
     from: Vec<u32, A>,
 }
 
@@ -44,8 +46,8 @@ impl<'t, A: Allocator, B: Allocator> Model for Search<'t, A, B> {
       named = s.named;
       names = s.names.items;
       holders = s.holders.items;
-      paid = s.paid.items;
-      rebate = s.rebate.items;
+      price = s.price.items;
+      discount = s.discount.items;
       rank = s.rank.items;
       distance = s.distance.items;
       from = s.from.items;
@@ -63,15 +65,15 @@ impl<'t, A: Allocator + Copy, B: Allocator> Search<'t, A, B> {
     {
         let blocks = table.blocks() as usize;
         let (names, holders) = no_names(alloc, blocks)?;
-        let (paid, rebate) = no_prices(alloc, blocks)?;
+        let (price, discount) = no_prices(alloc, blocks)?;
         let (rank, distance, from) = no_tree(alloc, blocks)?;
         Ok(Search {
             table,
             named: 0,
             names,
             holders,
-            paid,
-            rebate,
+            price,
+            discount,
             rank,
             distance,
             from,
@@ -91,30 +93,30 @@ impl<A: Allocator, B: Allocator> Search<'_, A, B> {
         ensures table { self.new.table ≡ self.old.table }
         ensures named { self.new.named ≡ self.old.named + 1 }
     {
-        let mut nearest = self.plant();
+        let mut nearest = self.start_tree();
         let mut rank = 1;
         while let Some(pe) = nearest {
             let Some(block) = self.holders[pe as usize] else {
                 self.raise(pe, rank);
-                self.move_on(pe);
+                self.augment(pe);
                 return;
             };
-            nearest = self.join(block, pe, rank);
+            nearest = self.grow(block, pe, rank);
             rank += 1;
         }
     }
 
-    /// The names, what each block pays and what each PE gives back.
+    /// The names, the price of each block and the discount of each PE.
     pub(crate) fn into_parts(self) -> (Vec<u32, A>, Vec<u64, A>, Vec<u64, A>)
         ensures names { result.0.items ≡ self.entry.names }
-        ensures paid { result.1.items ≡ self.entry.paid }
-        ensures rebate { result.2.items ≡ self.entry.rebate }
+        ensures price { result.1.items ≡ self.entry.price }
+        ensures discount { result.2.items ≡ self.entry.discount }
     {
-        (self.names, self.paid, self.rebate)
+        (self.names, self.price, self.discount)
     }
 
-    // A tree of the next block alone, and the nearest PE.
-    fn plant(&mut self) -> Option<u32>
+    // Starts a tree of the next block alone, and returns the nearest PE.
+    fn start_tree(&mut self) -> Option<u32>
         requires sized { IsSized self.old }
         requires matched { IsMatched self.old }
         requires unnamed { self.old.named < self.old.table.blocks }
@@ -124,20 +126,22 @@ impl<A: Allocator, B: Allocator> Search<'_, A, B> {
         ensures table { self.new.table ≡ self.old.table }
         ensures named { self.new.named ≡ self.old.named }
         ensures unscanned { unscanned self.new.rank ≡ self.old.table.blocks }
-        ensures nearest { MatchOption result ((p : ℕ) → p < self.old.table.blocks → 0 < slice_index self.new.rank p) (IsNearest self.new.rank self.new.distance self.old.table.blocks) }
+        ensures nearest { MatchOption result
+            ((p : ℕ) → p < self.old.table.blocks → 0 < slice_index self.new.rank p)
+            (IsNearest self.new.rank self.new.distance self.old.table.blocks) }
     {
         let root = self.named;
         self.rank.fill(0);
         self.distance.fill(u64::MAX);
         let joining = Joining {
             block: root as u32,
-            paid: self.paid[root],
+            price: self.price[root],
             distance: 0,
         };
         scan(
             joining,
             self.table.row(root as u32),
-            &self.rebate,
+            &self.discount,
             &self.rank,
             &self.holders,
             &mut self.distance,
@@ -145,8 +149,8 @@ impl<A: Allocator, B: Allocator> Search<'_, A, B> {
         )
     }
 
-    // Scans the nearest PE, and lets the block that holds it join the tree. Tells the nearest PE after that.
-    fn join(&mut self, block: u32, pe: u32, rank: u32) -> Option<u32>
+    // Scans the nearest PE, adds the block that holds it to the tree, and returns the PE that is nearest then.
+    fn grow(&mut self, block: u32, pe: u32, rank: u32) -> Option<u32>
         requires sized { IsSized self.old }
         requires matched { IsMatched self.old }
         requires tree { IsTree rank self.old }
@@ -159,18 +163,20 @@ impl<A: Allocator, B: Allocator> Search<'_, A, B> {
         ensures table { self.new.table ≡ self.old.table }
         ensures named { self.new.named ≡ self.old.named }
         ensures unscanned { unscanned self.new.rank + 1 ≡ unscanned self.old.rank }
-        ensures nearest { MatchOption result ((p : ℕ) → p < self.old.table.blocks → 0 < slice_index self.new.rank p) (IsNearest self.new.rank self.new.distance self.old.table.blocks) }
+        ensures nearest { MatchOption result
+            ((p : ℕ) → p < self.old.table.blocks → 0 < slice_index self.new.rank p)
+            (IsNearest self.new.rank self.new.distance self.old.table.blocks) }
     {
         self.rank[pe as usize] = rank;
         let joining = Joining {
             block,
-            paid: self.paid[block as usize],
+            price: self.price[block as usize],
             distance: self.distance[pe as usize],
         };
         scan(
             joining,
             self.table.row(block),
-            &self.rebate,
+            &self.discount,
             &self.rank,
             &self.holders,
             &mut self.distance,
@@ -178,9 +184,9 @@ impl<A: Allocator, B: Allocator> Search<'_, A, B> {
         )
     }
 
-    // Scans the nearest PE, which is free, and changes the prices: each block of the tree pays as much more as this
-    // PE is farther from the root than the block, and each PE that was scanned gives as much more back as its block
-    // pays.
+    // Scans the nearest PE, which is free, and changes the prices: the price of each block of the tree rises by as much
+    // as this PE is farther from the root than the block, and the discount of each PE that was scanned by as much as the
+    // price of its block.
     fn raise(&mut self, pe: u32, rank: u32)
         requires sized { IsSized self.old }
         requires matched { IsMatched self.old }
@@ -199,19 +205,20 @@ impl<A: Allocator, B: Allocator> Search<'_, A, B> {
         let root = self.named;
         let reach = self.distance[pe as usize];
         self.rank[pe as usize] = rank;
-        raise_paid(
+        raise_prices(
             &self.names[..root],
             &self.rank,
             &self.distance,
             reach,
-            &mut self.paid,
+            &mut self.price,
         );
-        self.paid[root] += reach;
-        raise_rebates(&self.rank, &self.distance, reach, &mut self.rebate);
+        self.price[root] += reach;
+        raise_discounts(&self.rank, &self.distance, reach, &mut self.discount);
     }
 
-    // Gives the free PE to the block before it, the PE of that block to the one before that, and so on to the root.
-    fn move_on(&mut self, free: u32)
+    // Augments along the path to a free PE: the block before it takes it, the block before that takes the PE of that
+    // block, and so on to the root.
+    fn augment(&mut self, free: u32)
         requires sized { IsSized self.old }
         requires matched { IsMatched self.old }
         requires path { IsPath self.old }
@@ -223,8 +230,8 @@ impl<A: Allocator, B: Allocator> Search<'_, A, B> {
         ensures matched { IsMatched self.new }
         ensures table { self.new.table ≡ self.old.table }
         ensures named { self.new.named ≡ self.old.named + 1 }
-        ensures paid { self.new.paid ≡ self.old.paid }
-        ensures rebate { self.new.rebate ≡ self.old.rebate }
+        ensures price { self.new.price ≡ self.old.price }
+        ensures discount { self.new.discount ≡ self.old.discount }
     {
         let mut pe = free;
         let mut b = self.from[pe as usize] as usize;
@@ -254,17 +261,17 @@ fn no_names<A: Allocator + Copy>(
     Ok((names, holders))
 }
 
-// Blocks that pay nothing, and PEs that give nothing back.
+// Prices and discounts of 0.
 fn no_prices<A: Allocator + Copy>(
     alloc: A,
     blocks: usize,
 ) -> Result<(Vec<u64, A>, Vec<u64, A>), AllocError>
-    ensures paid { IfOk result (λ lists. lists.0.items ≡ replicate blocks 0) }
-    ensures rebate { IfOk result (λ lists. lists.1.items ≡ replicate blocks 0) }
+    ensures price { IfOk result (λ lists. lists.0.items ≡ replicate blocks 0) }
+    ensures discount { IfOk result (λ lists. lists.1.items ≡ replicate blocks 0) }
 {
-    let paid = vec![in alloc; 0; blocks]?;
-    let rebate = vec![in alloc; 0; blocks]?;
-    Ok((paid, rebate))
+    let price = vec![in alloc; 0; blocks]?;
+    let discount = vec![in alloc; 0; blocks]?;
+    Ok((price, discount))
 }
 
 // Room for a tree: when each PE was scanned, how far it is from the root, and the block before it.
@@ -282,35 +289,37 @@ fn no_tree<A: Allocator + Copy>(
     Ok((rank, distance, from))
 }
 
-// Lets each block of the tree but the root pay as much more as the tree reached past its PE.
-fn raise_paid(names: &[u32], rank: &[u32], distance: &[u64], reach: u64, paid: &mut [u64])
-    requires few { length names.now ≤ length paid.old }
+// Raises the price of each block of the tree but the root by as much as the tree reached past its PE.
+fn raise_prices(names: &[u32], rank: &[u32], distance: &[u64], reach: u64, price: &mut [u64])
+    requires few { length names.now ≤ length price.old }
     requires counted { length distance.now ≡ length rank.now }
     requires below { (b : ℕ) → b < length names.now → slice_index names.now b < length rank.now }
     requires reached { (p : ℕ) → p < length rank.now → 0 < slice_index rank.now p → slice_index distance.now p ≤ reach }
-    requires small { (b : ℕ) → b < length paid.old → slice_index paid.old b + reach < 2 ^ 64 }
-    ensures named { (b : ℕ) → b < length names.now → IsRaised (slice_index rank.now (slice_index names.now b)) (slice_index distance.now (slice_index names.now b)) reach (slice_index paid.old b) (slice_index paid.new b) }
-    ensures others { (b : ℕ) → length names.now ≤ b → slice_index paid.new b ≡ slice_index paid.old b }
+    requires small { (b : ℕ) → b < length price.old → slice_index price.old b + reach < 2 ^ 64 }
+    ensures named { (b : ℕ) → b < length names.now → IsRaised (slice_index rank.now (slice_index names.now b)) (slice_index distance.now (slice_index names.now b)) reach
+        (slice_index price.old b) (slice_index price.new b) }
+    ensures others { (b : ℕ) → length names.now ≤ b → slice_index price.new b ≡ slice_index price.old b }
 {
     for b in 0..names.len() {
         let pe = names[b] as usize;
         if rank[pe] > 0 {
-            paid[b] += reach - distance[pe];
+            price[b] += reach - distance[pe];
         }
     }
 }
 
-// Lets each PE that was scanned give as much more back as the tree reached past it.
-fn raise_rebates(rank: &[u32], distance: &[u64], reach: u64, rebate: &mut [u64])
-    requires counted { length rank.now ≡ length rebate.old }
-    requires distances { length distance.now ≡ length rebate.old }
+// Raises the discount of each PE that was scanned by as much as the tree reached past it.
+fn raise_discounts(rank: &[u32], distance: &[u64], reach: u64, discount: &mut [u64])
+    requires counted { length rank.now ≡ length discount.old }
+    requires distances { length distance.now ≡ length discount.old }
     requires reached { (p : ℕ) → p < length rank.now → 0 < slice_index rank.now p → slice_index distance.now p ≤ reach }
-    requires small { (p : ℕ) → p < length rebate.old → slice_index rebate.old p + reach < 2 ^ 64 }
-    ensures { (p : ℕ) → p < length rebate.old → IsRaised (slice_index rank.now p) (slice_index distance.now p) reach (slice_index rebate.old p) (slice_index rebate.new p) }
+    requires small { (p : ℕ) → p < length discount.old → slice_index discount.old p + reach < 2 ^ 64 }
+    ensures { (p : ℕ) → p < length discount.old → IsRaised (slice_index rank.now p) (slice_index distance.now p) reach
+        (slice_index discount.old p) (slice_index discount.new p) }
 {
-    for p in 0..rebate.len() {
+    for p in 0..discount.len() {
         if rank[p] > 0 {
-            rebate[p] += reach - distance[p];
+            discount[p] += reach - distance[p];
         }
     }
 }

@@ -9,38 +9,39 @@ use crate::block_set::{BlockSet, insert};
 use crate::table::CostTable;
 use std::alloc::Allocator;
 
-/// Writes for each PE the blocks that pay there just what they cost and what the PE gives back.
+/// Writes for each PE the set of blocks whose price is just their cost there plus the PE's discount.
 #[tactic(auto, using(crate::proofs::Sums::cost_small))]
 pub(crate) fn write_takers<B: Allocator>(
     table: &CostTable<B>,
-    paid: &[u64],
-    rebate: &[u64],
+    price: &[u64],
+    discount: &[u64],
     takers: &mut [BlockSet],
 )
-    requires paid { length paid.now ≡ table.now.blocks }
-    requires rebates { length rebate.now ≡ table.now.blocks }
+    requires price { length price.now ≡ table.now.blocks }
+    requires discounts { length discount.now ≡ table.now.blocks }
     requires takers { length takers.old ≡ table.now.blocks }
-    requires small { (p : ℕ) → p < length rebate.now → slice_index rebate.now p ≤ 2 ^ 36 }
+    requires small { (p : ℕ) → p < length discount.now → slice_index discount.now p ≤ 2 ^ 36 }
     requires none { (b p : ℕ) → p < table.now.blocks → may_have takers.old b p ≡ 0 }
-    ensures exact { (b p : ℕ) → b < table.now.blocks → p < table.now.blocks → (may_have takers.new b p ≡ 1) ↔ (slice_index paid.now b ≡ cost_at table.now b p + slice_index rebate.now p) }
+    ensures exact { (b p : ℕ) → b < table.now.blocks → p < table.now.blocks
+        → (may_have takers.new b p ≡ 1) ↔ (slice_index price.now b ≡ cost_at table.now b p + slice_index discount.now p) }
 {
     for b in 0..table.blocks() {
-        add_taker(b, paid[b as usize], table.row(b), rebate, takers);
+        add_taker(b, price[b as usize], table.row(b), discount, takers);
     }
 }
 
-// Adds a block to the sets of the PEs where it pays just what it costs there and what the PE gives back.
-fn add_taker(b: u32, paid: u64, row: &[u64], rebate: &[u64], takers: &mut [BlockSet])
+// Adds a block to the sets of the PEs on which its price is just its cost plus the PE's discount.
+fn add_taker(b: u32, price: u64, row: &[u64], discount: &[u64], takers: &mut [BlockSet])
     requires inside { b < PES }
-    requires rebates { length rebate.now ≡ length row.now }
+    requires discounts { length discount.now ≡ length row.now }
     requires takers { length takers.old ≡ length row.now }
-    requires small { (p : ℕ) → p < length row.now → slice_index row.now p + slice_index rebate.now p < 2 ^ 64 }
+    requires small { (p : ℕ) → p < length row.now → slice_index row.now p + slice_index discount.now p < 2 ^ 64 }
     requires none { (p : ℕ) → p < length row.now → may_have takers.old b p ≡ 0 }
-    ensures exact { (p : ℕ) → p < length row.now → (may_have takers.new b p ≡ 1) ↔ (paid ≡ slice_index row.now p + slice_index rebate.now p) }
+    ensures exact { (p : ℕ) → p < length row.now → (may_have takers.new b p ≡ 1) ↔ (price ≡ slice_index row.now p + slice_index discount.now p) }
     ensures others { (k p : ℕ) → k ≢ b → may_have takers.new k p ≡ may_have takers.old k p }
 {
     for p in 0..row.len() {
-        if paid == row[p] + rebate[p] {
+        if price == row[p] + discount[p] {
             insert(&mut takers[p], b);
         }
     }

@@ -139,7 +139,7 @@ bounds_ordered xs p low high stops fits =
       | inr ordered ↦ ordered
     ]
 
--- what a walk tells narrows them
+-- what a walk shows narrows them
 pub narrowed_above : (xs : List ℕ) (p low high heaviest : ℕ) → Enclose xs p low high → heaviest ≤ high → CanFit xs p heaviest → Enclose xs p low heaviest
 narrowed_above xs p low high heaviest h below fits =
     record { stops = h.stops; fits = fits }

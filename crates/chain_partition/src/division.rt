@@ -35,7 +35,7 @@ pub fn divide<A: Allocator + Copy, B: Allocator>(
     division_at(alloc, prefix.sums(), pes, bottleneck)
 }
 
-/// The division whose bottleneck was found.
+/// The division with this bottleneck, which is the least.
 pub(crate) fn division_at<A: Allocator + Copy>(
     alloc: A,
     sums: &[u64],
@@ -56,7 +56,7 @@ pub(crate) fn division_at<A: Allocator + Copy>(
     })
 }
 
-// The least fence for the least bottleneck, which is in no need of one where it is 0.
+// The least fence for the least bottleneck. A bottleneck of 0 needs no fence.
 fn least_floor<A: Allocator>(
     alloc: A,
     sums: &[u64],

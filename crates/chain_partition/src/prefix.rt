@@ -32,14 +32,14 @@ impl<A: Allocator> Prefix<A> {
     ///
     /// # Errors
     ///
-    /// Out of memory, where the one list of the sums was refused. It takes half as much room again as the sums need.
+    /// Out of memory, where the one list of the sums was refused. Its capacity is half as much again as the sums need.
     #[tactic(auto, using(lb_snapshot::proofs::LoadSums::next_fits))]
     pub fn of<B: Allocator>(alloc: A, loads: &Loads<B>) -> Result<Self, AllocError>
         ensures made { IfOk result (λ prefix. prefix ≡ loads.now) }
     {
-        // As much room as the table of costs has. An allocator that maps each large list by itself stops doing so for
-        // lists up to the size of one that was given back; so the costs and the moves, which are made when the sums are
-        // gone, share memory.
+        // As much room as the table of costs gets. An allocator that maps large lists one by one stops doing so for
+        // lists up to the size of one that was freed. So the costs and the moves, which are made after the sums are
+        // freed, share memory.
         let mut sums = Vec::with_capacity(alloc, loads.len() * 3 / 2 + 2)?;
         let mut total = 0;
         sums.push_reserved(total);

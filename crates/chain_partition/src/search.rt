@@ -1,10 +1,10 @@
 //! The search for the least bottleneck: the exact bisection of A. Pinar and C. Aykanat, JPDC 64(8), 2004. Each walk
-//! tells more than whether its limit holds all elements, so half the walks serve.
+//! finds more than whether blocks within its limit hold all elements, so about half as many walks are enough.
 
 ghost use Rattle.std.specs.Prelude.{◌≡◌, ℕ, ◌-◌, ◌^◌, ◌<◌, ◌≤◌, All, length};
 ghost use Rattle.lb_certificates.specs.Chain.{IsLeastPeak};
 ghost use Rattle.lb_snapshot.specs.Measured.{load};
-ghost use Rattle.chain_partition.specs.Search.{Enclose, Tells};
+ghost use Rattle.chain_partition.specs.Search.{Enclose, Shows};
 ghost use Rattle.chain_partition.specs.Sums.{IsPrefix, loads_of};
 
 use crate::prefix::load_between;
@@ -12,12 +12,12 @@ use crate::walk::end_of_block;
 use lb_certificates::{Loads, Units};
 use std::alloc::Allocator;
 
-/// What the walk within one limit tells of other limits.
+/// What the walk within one limit shows of other limits.
 #[derive(Clone, Copy)]
 pub(crate) enum Bound {
-    /// It places all elements, and this is its heaviest block.
+    /// It places all elements, and this is the load of its heaviest block.
     Fits(u64),
-    /// It does not, nor does a walk within any limit below this one, the least at which a block would take more.
+    /// It does not, nor does a walk within any limit below this one, the least at which a block would take one more.
     Stops(u64),
 }
 
@@ -39,7 +39,7 @@ pub(crate) fn least_bottleneck(sums: &[u64], pes: u32, bounds: Bounds) -> u64
     let mut high = bounds.high;
     let mut limit = low;
     while low < high {
-        match tell(sums, pes, limit) {
+        match bound_within(sums, pes, limit) {
             Bound::Fits(heaviest) => high = heaviest,
             Bound::Stops(next) => low = next,
         }
@@ -48,13 +48,14 @@ pub(crate) fn least_bottleneck(sums: &[u64], pes: u32, bounds: Bounds) -> u64
     high
 }
 
-/// Fills up to `pes` blocks in order, each with as many elements as fit within the limit.
+/// Fills up to `pes` blocks in order, each with as many elements as fit within the limit, and returns what that shows
+/// of other limits.
 #[tactic(auto, using(crate::proofs::RunningSums::length_prefix, crate::proofs::Walks::walk_none))]
-pub(crate) fn tell(sums: &[u64], pes: u32, limit: u64) -> Bound
+pub(crate) fn bound_within(sums: &[u64], pes: u32, limit: u64) -> Bound
     requires valid { IsPrefix sums.now }
     requires some_pe { 1 ≤ pes }
     requires below { limit < 2 ^ 64 - 1 }
-    ensures tells { Tells (loads_of sums.now) pes limit result }
+    ensures shows { Shows (loads_of sums.now) pes limit result }
 {
     let all = sums.len() - 1;
     let mut first = 0;
@@ -72,8 +73,9 @@ pub(crate) fn tell(sums: &[u64], pes: u32, limit: u64) -> Bound
     Bound::Stops(least)
 }
 
-/// Where a search begins. No block is lighter than the greatest load or all blocks lighter than an even share of the
-/// total; and a block that cannot take the next element weighs more than such a share.
+/// Where a search begins. The heaviest block weighs at least the greatest load and at least an even share of the total.
+/// And with an even share plus the greatest load as the limit, each block that cannot take the next element weighs more
+/// than such a share, so not all blocks can be of that kind.
 #[tactic(auto, using(crate::proofs::Bottlenecks::opening_encloses))]
 pub(crate) fn opening<A: Allocator>(loads: &Loads<A>, total: u64, pes: u32) -> Bounds
     requires some_pe { 1 ≤ pes }

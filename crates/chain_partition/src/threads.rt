@@ -4,24 +4,24 @@ ghost use Rattle.std.specs.Prelude.{◌≡◌, ℕ, ◌-◌, ◌<◌, ◌≤◌,
 ghost use Rattle.lb_certificates.specs.Chain.{IsLeastDivision, IsLeastPeak};
 ghost use Rattle.lb_certificates.specs.Certificate.{IsCertified};
 ghost use Rattle.chain_partition.specs.Chosen.{IsChosen, IsTheOnly};
-ghost use Rattle.chain_partition.specs.Search.{Enclose, Tells, WasTried};
+ghost use Rattle.chain_partition.specs.Search.{Enclose, Shows, WasTried};
 ghost use Rattle.chain_partition.specs.Sums.{IsPrefix, loads_of};
 
 use crate::division::division_at;
 use crate::prefix::Prefix;
-use crate::search::{Bound, Bounds, opening, tell};
+use crate::search::{Bound, Bounds, bound_within, opening};
 use chare_index::{Gate, Limits};
 use lb_certificates::{Division, Loads};
 use std::alloc::{AllocError, Allocator};
 use std::thread::{self, Threads};
 
-// As many places as there may be workers.
+// One place for each worker that there may be.
 const MOST_WORKERS: usize = Limits::PROBE_WORKERS as usize;
 
 /// The same division as that of [`divide`](crate::divide), found by 1 to 64 workers: each round of the search gives
 /// each of them a limit of its own, and keeps what lies between the greatest limit that stops and the least that
-/// fits. Inside each probe a worker calls the gate's [`pass`](Gate::pass) with its number, from 0. A thread that
-/// cannot be started is done without.
+/// fits. Inside each probe a worker calls the gate's [`pass`](Gate::pass) with its number, from 0. If a
+/// thread cannot be started, the others do its work.
 ///
 /// # Errors
 ///
@@ -65,41 +65,41 @@ fn least_tried<R: Threads + Sync, G: Gate + Sync>(
     requires enclosed { Enclose (loads_of sums.now) pes bounds.low bounds.high }
     ensures least { IsLeastPeak (loads_of sums.now) 0 pes result }
 {
-    let mut told = [Bound::Stops(0); MOST_WORKERS];
-    let told = &mut told[..workers];
+    let mut bounds_found = [Bound::Stops(0); MOST_WORKERS];
+    let bounds_found = &mut bounds_found[..workers];
     let mut bounds = bounds;
     while bounds.low < bounds.high {
-        try_all(rt, sums, pes, bounds, gate, told);
-        bounds = narrowed(sums, pes, bounds, told);
+        try_all(rt, sums, pes, bounds, gate, bounds_found);
+        bounds = narrowed(sums, pes, bounds, bounds_found);
     }
     bounds.high
 }
 
-// One round: a worker for each place, which leaves there what its walk told.
+// One round: a worker for each place, which writes there what its walk found.
 fn try_all<R: Threads + Sync, G: Gate + Sync>(
     rt: &R,
     sums: &[u64],
     pes: u32,
     bounds: Bounds,
     gate: &G,
-    told: &mut [Bound],
+    bounds_found: &mut [Bound],
 )
     requires valid { IsPrefix sums.now }
     requires some_pe { 1 ≤ pes }
-    requires some_worker { 1 ≤ length told.old }
-    requires few_workers { length told.old ≤ Limits.PROBE_WORKERS }
+    requires some_worker { 1 ≤ length bounds_found.old }
+    requires few_workers { length bounds_found.old ≤ Limits.PROBE_WORKERS }
     requires apart { bounds.low < bounds.high }
-    ensures tried { (i : ℕ) (d : Bound) → i < length told.old → WasTried (loads_of sums.now) pes bounds.low bounds.high (slice_index_or told.new i d) }
+    ensures tried { (i : ℕ) (d : Bound) → i < length bounds_found.old → WasTried (loads_of sums.now) pes bounds.low bounds.high (slice_index_or bounds_found.new i d) }
 {
-    let workers = told.len();
+    let workers = bounds_found.len();
     let probe = move |worker: usize, place: &mut Bound|
         requires { IsPrefix sums.now × (1 ≤ pes) × (worker < workers) × (workers ≤ Limits.PROBE_WORKERS) × (bounds.low < bounds.high) }
         ensures { WasTried (loads_of sums.entry.now) pes bounds.low bounds.high place.exit.now }
     { *place = try_limit(sums, pes, bounds, worker, workers, gate) };
-    thread::for_each_mut(rt, told, workers, &probe);
+    thread::for_each_mut(rt, bounds_found, workers, &probe);
 }
 
-// The probe of one worker, whose limit is its share of the way from the low bound to the high one.
+// The walk of one worker. The limits of all workers are spread evenly from the low bound to the high one.
 fn try_limit<G: Gate>(
     sums: &[u64],
     pes: u32,
@@ -116,7 +116,7 @@ fn try_limit<G: Gate>(
     ensures tried { WasTried (loads_of sums.now) pes bounds.low bounds.high result }
 {
     gate.pass(worker as u32);
-    tell(sums, pes, limit_of(bounds, worker as u64, workers as u64))
+    bound_within(sums, pes, limit_of(bounds, worker as u64, workers as u64))
 }
 
 // The limit of one of so many workers. In 128 bits the product is in range, however far apart the bounds are.
@@ -133,17 +133,17 @@ fn limit_of(bounds: Bounds, worker: u64, workers: u64) -> u64
     bounds.low + share as u64
 }
 
-// What the walks of one round leave of the bounds.
-fn narrowed(sums: &[u64], pes: u32, bounds: Bounds, told: &[Bound]) -> Bounds
-    requires some_worker { 1 ≤ length told.now }
+// The bounds, narrowed by what the walks of one round found.
+fn narrowed(sums: &[u64], pes: u32, bounds: Bounds, bounds_found: &[Bound]) -> Bounds
+    requires some_worker { 1 ≤ length bounds_found.now }
     requires enclosed { Enclose (loads_of sums.now) pes bounds.low bounds.high }
-    requires tried { (i : ℕ) (d : Bound) → i < length told.now → WasTried (loads_of sums.now) pes bounds.low bounds.high (slice_index_or told.now i d) }
+    requires tried { (i : ℕ) (d : Bound) → i < length bounds_found.now → WasTried (loads_of sums.now) pes bounds.low bounds.high (slice_index_or bounds_found.now i d) }
     ensures enclosed { Enclose (loads_of sums.now) pes result.low result.high }
     ensures closer { result.high - result.low < bounds.high - bounds.low }
 {
     let mut low = bounds.low;
     let mut high = bounds.high;
-    for bound in told {
+    for bound in bounds_found {
         match bound {
             Bound::Fits(heaviest) => high = high.min(*heaviest),
             Bound::Stops(next) => low = low.max(*next),

@@ -8,8 +8,8 @@ use crate::prefix::load_between;
 use chare_index::Limits;
 use std::alloc::{AllocError, Allocator};
 
-/// Where the blocks end that begin with the first element, follow each other and take as many elements as fit
-/// within the limit: 0, and the end of each of the `pes` blocks.
+/// The ends of `pes` blocks that follow each other from the first element on, each with as many elements as fit
+/// within the limit: 0, and then the end of each block.
 #[tactic(auto, using(crate::proofs::GreedyCuts::greedy_none))]
 pub(crate) fn greedy_ends<A: Allocator>(
     alloc: A,

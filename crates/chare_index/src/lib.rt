@@ -1,12 +1,12 @@
-//! The numbers that every other crate speaks of: which element, which processing element (PE), which round,
-//! and how far each quantity of the runtime may go.
+//! The numbers that every other crate uses: the index of an element, the number of a processing element (PE) or of a
+//! round, and the limit of each quantity of the runtime.
 //!
 //! - [`Index`] names an element of the chare array.
 //! - [`Pe`] names a PE.
 //! - [`Round`] names a round of load balancing.
 //! - [`opening_pe`] is the PE on which an element begins.
-//! - [`Limits`] has every limit of the runtime, each number at this one place.
-//! - [`Gate`] is a call that answers nothing, and [`NoGate`] the one that returns at once.
+//! - [`Limits`] has every limit of the runtime, in this one place.
+//! - [`Gate`] is a call that returns nothing, in which tests may wait, and [`NoGate`] the one that returns at once.
 #![tactic(auto)]
 
 mod gate;

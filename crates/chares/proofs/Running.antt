@@ -2,8 +2,8 @@
 use Rattle.std.proofs.Common.{◌≡◌, ◌≢◌, ℕ, List, [], ◌∷◌, ◌++◌, length, Option, Result, Ok, Err, OnOk, OnErr, IfOk, IfErr, true, false, ap, subst, ◌∙◌}
 use Rattle.std.specs.Result.{IsErr, IsErrAnd, is_err}
 use Rattle.chares.specs.Elements.{ElementView, note_of, ran}
-use Rattle.chares.specs.Letters.{Done, told_of}
-use Rattle.chares.specs.Posting.{Posting, posted, with_report}
+use Rattle.chares.specs.Letters.{Done, input_of}
+use Rattle.chares.specs.Posting.{Posting, posted, with_entry}
 use Rattle.chares.specs.Progressing.{entered, charged, ending, ended, note_at, resumed_mark, synced_mark}
 use Rattle.chares.specs.Steps.{Step}
 use Rattle.chares.specs.declared.chare.Effect.{Effect}
@@ -12,7 +12,7 @@ use Rattle.chares.specs.declared.note.Mark.{Mark}
 use Rattle.chares.specs.declared.note.Note.{Note}
 use Rattle.chares.specs.declared.progress.Ending.{Ending}
 use Rattle.chares.specs.declared.progress.Progress.{Progress}
-use Rattle.chares.specs.declared.report.Report.{Report}
+use Rattle.chares.specs.declared.trace_entry.TraceEntry.{TraceEntry}
 use Rattle.chares.specs.declared.sends.SendError.{SendError}
 use Rattle.chares.specs.declared.sends.SendError.TheVariants.{OutOfMemory}
 
@@ -54,7 +54,7 @@ same_parts el now chare journal marks c j m e =
 
 -- a handler's answer, and what it comes to
 pub record Ran {C : Type 0} (step : Step C) (pack : C → List ℕ) (el : ElementView C) (n pe : ℕ) (done : Done) (entry : Entry (List ℕ)) (chare : C) (effect : Effect) (work : Progress) (end : Ending) (note : Option Note) : Type 0 where
-  pub told_is : entry ≡ told_of done
+  pub input_is : entry ≡ input_of done
   pub state_is : chare ≡ (step el.chare el.index n entry).state
   pub effect_is : effect ≡ (step el.chare el.index n entry).effect
   pub work_is : work ≡ charged (entered el.progress done) effect.units
@@ -72,17 +72,17 @@ module _ {C : Type 0} (step : Step C) (pack : C → List ℕ) (el now : ElementV
   element_after journal progress marks j p k = cc
 
 -- what is posted, and why a handler is refused, as the call's own array and posting have it
-module _ {C : Type 0} {P : Type 0} (el now : ElementView C) (n m : ℕ) (s before : Posting P) (entry : Entry (List ℕ)) (rep : Report) (same : el ≡ now) (all : n ≡ m) (told : s ≡ with_report before rep) where
+module _ {C : Type 0} {P : Type 0} (el now : ElementView C) (n m : ℕ) (s before : Posting P) (entry : Entry (List ℕ)) (rep : TraceEntry) (same : el ≡ now) (all : n ≡ m) (logged : s ≡ with_entry before rep) where
   pub refused_after : (refuses : C → ℕ → ℕ → ℕ → Entry (List ℕ) → SendError → Type 0) (error : SendError)
       → (error ≢ OutOfMemory → refuses el.chare el.index n s.count entry error) → error ≢ OutOfMemory → refuses now.chare now.index m before.count entry error
   refused_after refuses error h k =
       subst (λ (v : ElementView C). refuses v.chare v.index m before.count entry error) same
       (subst (λ (v : ℕ). refuses el.chare el.index v before.count entry error) all
-      (subst (λ (v : Posting P). refuses el.chare el.index n v.count entry error) told (h k)))
+      (subst (λ (v : Posting P). refuses el.chare el.index n v.count entry error) logged (h k)))
 
-  pub sends_after : (step : Step C) (t : Posting P) → t ≡ posted s (step el.chare el.index n entry).sends → t ≡ posted (with_report before rep) (step now.chare now.index m entry).sends
+  pub sends_after : (step : Step C) (t : Posting P) → t ≡ posted s (step el.chare el.index n entry).sends → t ≡ posted (with_entry before rep) (step now.chare now.index m entry).sends
   sends_after step t h =
       h
-      ∙ ap (λ v. posted v (step el.chare el.index n entry).sends) told
-      ∙ ap (λ v. posted (with_report before rep) (step el.chare el.index v entry).sends) all
-      ∙ ap (λ v. posted (with_report before rep) (step v.chare v.index m entry).sends) same
+      ∙ ap (λ v. posted v (step el.chare el.index n entry).sends) logged
+      ∙ ap (λ v. posted (with_entry before rep) (step el.chare el.index v entry).sends) all
+      ∙ ap (λ v. posted (with_entry before rep) (step v.chare v.index m entry).sends) same

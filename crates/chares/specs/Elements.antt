@@ -1,10 +1,13 @@
 -- An element of the chare array: a chare with what it has done.
-use Rattle.std.specs.Prelude.{◌≡◌, ℕ, List, [], ◌∷◌, ◌++◌, length, map, Option, Some, false, slice_get}
+use Rattle.std.specs.Prelude.{◌≡◌, ◌≢◌, ℕ, List, [], ◌∷◌, ◌++◌, length, map, Option, Some, false, slice_get}
+use Rattle.chares.specs.declared.entry.Entry.{Entry}
 use Rattle.chares.specs.declared.note.Mark.{Mark}
 use Rattle.chares.specs.declared.note.Note.{Note}
 use Rattle.chares.specs.declared.progress.Ending.{Ending}
 use Rattle.chares.specs.declared.progress.Progress.{Progress}
-use Rattle.chares.specs.Letters.{Done, told_of}
+use Rattle.chares.specs.declared.sends.SendError.{SendError}
+use Rattle.chares.specs.declared.sends.SendError.TheVariants.{OutOfMemory}
+use Rattle.chares.specs.Letters.{Done, input_of}
 use Rattle.chares.specs.Progressing.{entered, charged, ending, ended, note_at, resumed_mark, synced_mark}
 use Rattle.chares.specs.Steps.{Outcome, Step}
 
@@ -31,15 +34,19 @@ opening_element index chare =
 module _ {C : Type 0} (step : Step C) (pack : C → List ℕ) where
   -- what the chare's step gives for one more entry, among n elements
   abbrev pub outcome_of : ElementView C → ℕ → Done → Outcome C
-  outcome_of el n done = step el.chare el.index n (told_of done)
+  outcome_of el n done = step el.chare el.index n (input_of done)
 
   -- how far the element has come with the units of that entry
   abbrev pub worked : ElementView C → ℕ → Done → Progress
   worked el n done = charged (entered el.progress done) (outcome_of el n done).effect.units
 
-  -- what the answer comes to
+  -- what the effect of its handler comes to
   abbrev pub ending_of : ElementView C → ℕ → Done → Ending
   ending_of el n done = ending (worked el n done) (outcome_of el n done).effect
+
+  -- what its handler sends
+  abbrev pub sent_by : ElementView C → ℕ → Done → List (ℕ × List ℕ)
+  sent_by el n done = (outcome_of el n done).sends
 
   -- the note that becomes owed: the load with this entry, and the packed length after it
   abbrev pub note_of : ElementView C → ℕ → ℕ → Done → Option Note
@@ -69,6 +76,15 @@ module _ {C : Type 0} (step : Step C) (pack : C → List ℕ) where
     pub entries : List (Done × ℕ)
     pub is_lived : lived (opening_element el.index opening) (length opened) entries ≡ el
     pub is_journal : map (λ x. x.0) entries ≡ el.journal
+
+-- When the handler of a chare may return an error: from the state, the index of the element, the number of elements, how
+-- many letters the PE has posted, and what the handler is given.
+abbrev pub Refuses : Type 0 → Type 1
+Refuses C = C → ℕ → ℕ → ℕ → Entry (List ℕ) → SendError → Type 0
+
+-- an error of an element's handler is out of memory, or one that its chare may return
+abbrev pub MayReturn : {C : Type 0} → Refuses C → ElementView C → ℕ → ℕ → Entry (List ℕ) → SendError → Type 0
+MayReturn refuses el n count input error = error ≢ OutOfMemory → refuses el.chare el.index n count input error
 
 -- an element on its way: its state is packed
 pub record PackedView : Type 0 where

@@ -19,7 +19,7 @@ hopped l = record { id = l.id; to = l.to; body = l.body; hops = min 4294967295 (
 abbrev pub Done : Type 0
 Done = Entry LetterView
 
--- what a handler is told of an entry: the body of a letter, or the round of a resumption
-abbrev pub told_of : Done → Entry (List ℕ)
-told_of (Letter l) = Letter l.body
-told_of (Resumption round) = Resumption round
+-- what a handler is given of an entry: the body of a letter, or the round of a resumption
+abbrev pub input_of : Done → Entry (List ℕ)
+input_of (Letter l) = Letter l.body
+input_of (Resumption round) = Resumption round

@@ -1,3 +1,4 @@
+pub mod Bodies
 pub mod Elements
 pub mod Letters
 pub mod Posting

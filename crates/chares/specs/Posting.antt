@@ -4,8 +4,8 @@ use Rattle.chare_index.specs.declared.limits.TheConstants.Limits.{BODY_BYTES, LE
 use Rattle.chares.specs.declared.carried.Addressed.{Addressed}
 use Rattle.chares.specs.declared.carried.Carried.{Carried}
 use Rattle.chares.specs.declared.carried.Carried.TheVariants.{Letter}
-use Rattle.chares.specs.declared.report.Report.{Report}
-use Rattle.chares.specs.declared.report.Report.TheVariants.{Posted}
+use Rattle.chares.specs.declared.trace_entry.TraceEntry.{TraceEntry}
+use Rattle.chares.specs.declared.trace_entry.TraceEntry.TheVariants.{Posted, Executed, Resumed}
 use Rattle.chares.specs.declared.sends.SendError.{SendError}
 use Rattle.chares.specs.declared.sends.SendError.TheVariants.{Stranger, TooLong, Worn, OutOfMemory}
 use Rattle.chares.specs.Letters.{LetterView}
@@ -15,23 +15,23 @@ abbrev pub Out : Type 0 → Type 0
 Out P = Addressed (Carried LetterView P)
 
 -- a PE as a handler on it sees it: its number, how many elements there are, how many letters it has posted, its
--- outbox, whether a place of that is to stay free, and where reports are wanted the reports of the event so far
+-- outbox, whether a place of that is to stay free, and where a trace is kept the entries of the event so far
 pub record Posting (P : Type 0) : Type 0 where
   pub me : ℕ
   pub n : ℕ
   pub count : ℕ
   pub outbox : List (Out P)
   pub spare : Bool
-  pub reporting : Bool
-  pub reports : List Report
+  pub tracing : Bool
+  pub trace : List TraceEntry
 
--- more reports, where they are wanted
-abbrev pub reported : Bool → List Report → List Report → List Report
-reported reporting reports more = if reporting then reports ++ more else reports
+-- more entries, where a trace is kept
+abbrev pub traced : Bool → List TraceEntry → List TraceEntry → List TraceEntry
+traced tracing trace more = if tracing then trace ++ more else trace
 
--- with one more report
-abbrev pub with_report : {P : Type 0} → Posting P → Report → Posting P
-with_report p new = record p { reports = reported p.reporting p.reports (new ∷ []) }
+-- with one more entry of the trace
+abbrev pub with_entry : {P : Type 0} → Posting P → TraceEntry → Posting P
+with_entry p new = record p { trace = traced p.tracing p.trace (new ∷ []) }
 
 -- the letter that is posted to an element as number k of a PE
 abbrev pub letter_to : ℕ → ℕ → ℕ → List ℕ → LetterView
@@ -42,8 +42,8 @@ abbrev pub letters_of : {P : Type 0} → ℕ → ℕ → List (ℕ × List ℕ) 
 letters_of pe k [] = []
 letters_of pe k (send ∷ sends) = record { parcel = Letter (letter_to pe k send.0 send.1); address = None } ∷ letters_of pe (k + 1) sends
 
--- their reports
-abbrev pub posts_of : ℕ → ℕ → List (ℕ × List ℕ) → List Report
+-- their entries of the trace
+abbrev pub posts_of : ℕ → ℕ → List (ℕ × List ℕ) → List TraceEntry
 posts_of pe k [] = []
 posts_of pe k (send ∷ sends) = Posted (pe, k) send.0 ∷ posts_of pe (k + 1) sends
 
@@ -56,9 +56,16 @@ posted p sends =
       count = p.count + length sends;
       outbox = p.outbox ++ letters_of p.me p.count sends;
       spare = p.spare;
-      reporting = p.reporting;
-      reports = reported p.reporting p.reports (posts_of p.me p.count sends);
+      tracing = p.tracing;
+      trace = traced p.tracing p.trace (posts_of p.me p.count sends);
     }
+
+-- with a letter that was executed, or an element that was resumed after a round, in the trace, and then these sends posted
+abbrev pub with_execution : {P : Type 0} → Posting P → LetterView → List (ℕ × List ℕ) → Posting P
+with_execution p l sends = posted (with_entry p (Executed l.id l.to)) sends
+
+abbrev pub with_resumption : {P : Type 0} → Posting P → ℕ → ℕ → List (ℕ × List ℕ) → Posting P
+with_resumption p e round sends = posted (with_entry p (Resumed e round)) sends
 
 -- a letter is posted to an element of the array, with a body within the limit, while a letter number is left
 pub record IsPost {P : Type 0} (p : Posting P) (to : ℕ) (body : List ℕ) : Type 0 where

@@ -25,7 +25,7 @@ entered p (Resumption round) = begun p round
 abbrev pub charged : Progress → ℕ → Progress
 charged p units = record { round = p.round; started = p.started; synced = p.synced; finished = p.finished; load = min (p.load + units) LOAD }
 
--- what an answer comes to: an element finishes once, and waits once for each round, unless it has finished
+-- what the effect of a handler comes to: an element finishes once, and waits once for each round, unless it has finished
 abbrev pub ending : Progress → Effect → Ending
 ending p e =
     if e.finished

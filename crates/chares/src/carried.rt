@@ -14,6 +14,6 @@ pub enum Carried<L, E> {
 pub struct Addressed<P> {
     /// What is carried.
     pub parcel: P,
-    /// Where it goes, once a look has told.
+    /// The PE that it goes to, once its element was looked for.
     pub address: Option<Pe>,
 }

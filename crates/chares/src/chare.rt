@@ -25,7 +25,7 @@ pub struct Here<'a, G: Gate> {
     pub gate: &'a G,
 }
 
-/// What a handler answers.
+/// What a handler returns.
 #[derive(Clone, Copy, Debug, PartialEq, Eq)]
 pub struct Effect {
     /// The work units that it took.
@@ -37,15 +37,15 @@ pub struct Effect {
 }
 
 /// An object of the chare array. It is written as one step: what a handler makes of the state, the index of the
-/// element, the number of elements and what it is told. A handler that answers an error leaves its state unchanged,
-/// and what it put before is taken back by its PE. A handler may also pass over a refused send and answer Ok, where
+/// element, the number of elements and what it is given. A handler that returns an error leaves its state unchanged,
+/// and what it put before is taken back by its PE. A handler may also pass over a refused send and return Ok, where
 /// its step has no such send.
 pub trait Chare<A: Allocator>: Pup<A> + Drop {
-    /// The step: from the state, the index of the element, the number of elements, and what it is told.
+    /// The step: from the state, the index of the element, the number of elements, and what it is given.
     ghost step: { Self → ℕ → ℕ → Entry (List ℕ) → Outcome Self };
 
-    /// Where a handler may answer an error other than out of memory: from the state, the index of the element, the
-    /// number of elements, how many letters the PE has posted, and what the handler is told.
+    /// Where a handler may return an error other than out of memory: from the state, the index of the element, the
+    /// number of elements, how many letters the PE has posted, and what the handler is given.
     ghost refuses: { Self → ℕ → ℕ → ℕ → Entry (List ℕ) → SendError → Type 0 };
 
     /// Handles a letter with this body.

@@ -1,12 +1,12 @@
-//! An element at rest in its room.
+//! An element that stands on a PE.
 
 ghost use Rattle.std.specs.Prelude.{◌≡◌, ◌≢◌, ℕ, List, ◌+◌, ◌∷◌, ◌++◌, [], ◌<◌, ◌≤◌, length, false, true, IfOk, IfErr, OnOk, OnErr, Some, None, slice_get, vec_len, vec_capacity};
 ghost use Rattle.chare_index.specs.declared.limits.TheConstants.Limits.{ROUND};
 ghost use Rattle.chares.specs.declared.entry.Entry.{Entry};
 ghost use Rattle.chares.specs.declared.sends.SendError.TheVariants.{OutOfMemory};
-ghost use Rattle.chares.specs.Elements.{ElementView, opening_element, outcome_of, note_of, ran};
-ghost use Rattle.chares.specs.declared.report.Report.{Report};
-ghost use Rattle.chares.specs.Posting.{posted, with_report};
+ghost use Rattle.chares.specs.Elements.{ElementView, opening_element, sent_by, note_of, ran, MayReturn};
+ghost use Rattle.chares.specs.declared.trace_entry.TraceEntry.{TraceEntry};
+ghost use Rattle.chares.specs.Posting.{with_execution, with_resumption};
 ghost use Rattle.chares.specs.Progressing.{note_at, synced_mark};
 
 use crate::chare::{Chare, Here};
@@ -14,8 +14,9 @@ use crate::entry::Entry;
 use crate::letter::Letter;
 use crate::note::{Mark, Note};
 use crate::progress::{Ending, Progress};
-use crate::report::Report;
 use crate::sends::{SendError, Sends};
+use crate::state_bytes::StateBytes;
+use crate::trace_entry::TraceEntry;
 use chare_index::{Gate, Index, Limits, Pe, Round};
 use std::alloc::{Allocator, Global};
 use std::marker::Model;
@@ -147,7 +148,7 @@ pub struct Unread<A: Allocator = Global> {
 }
 
 impl<C: Chare<A>, A: Allocator> Element<C, A> {
-    /// Executes a letter, on this PE, reports it, and returns the note that is owed for it. On a refusal the letter
+    /// Executes a letter, on this PE, enters it in the trace, and returns the note that is owed for it. On a refusal the letter
     /// comes back, the element is unchanged, and what the handler posted before it was refused is taken back.
     pub fn execute<G: Gate, P: Drop>(
         &mut self,
@@ -160,19 +161,19 @@ impl<C: Chare<A>, A: Allocator> Element<C, A> {
         requires few { sends.old.n ≤ Limits.ELEMENTS }
         ensures element { OnOk result (self.new ≡ ran C.step C.pack self.old sends.old.n pe (Entry.Letter letter)) }
         ensures note { IfOk result (λ note. note ≡ note_of C.step C.pack self.old sends.old.n pe (Entry.Letter letter)) }
-        ensures sends { OnOk result (sends.new ≡ posted (with_report sends.old (Report.Executed letter.id letter.to)) (outcome_of C.step C.pack self.old sends.old.n (Entry.Letter letter)).sends) }
+        ensures sends { OnOk result (sends.new ≡ with_execution sends.old letter (sent_by C.step C.pack self.old sends.old.n (Entry.Letter letter))) }
         ensures err { OnErr result (self.new ≡ self.old) }
         ensures letter { IfErr result (λ unread. unread.letter ≡ letter) }
-        ensures refused { IfErr result (λ unread. unread.error ≢ OutOfMemory → C.refuses self.old.chare self.old.index sends.old.n sends.old.count (Entry.Letter letter.body) unread.error) }
+        ensures refused { IfErr result (λ unread. MayReturn C.refuses self.old sends.old.n sends.old.count (Entry.Letter letter.body) unread.error) }
         ensures taken_back { OnErr result (sends.new ≡ sends.old) }
     {
         if self.journal.reserve(1).is_err() || self.marks.reserve(1).is_err() {
             let error = SendError::OutOfMemory;
             return Err(Unread { letter, error });
         }
-        let (count, waiting, told) = (sends.count(), sends.waiting(), sends.told());
+        let (count, waiting, logged) = (sends.count(), sends.waiting(), sends.logged());
         if sends
-            .tell(Report::Executed(letter.id(), letter.to()))
+            .log(TraceEntry::Executed(letter.id(), letter.to()))
             .is_err()
         {
             let error = SendError::OutOfMemory;
@@ -183,11 +184,11 @@ impl<C: Chare<A>, A: Allocator> Element<C, A> {
             n: sends.n(),
             gate,
         };
-        let answer = self.chare.on_letter(&here, letter.body(), sends);
-        let effect = match answer {
+        let handled = self.chare.on_letter(&here, letter.body(), sends);
+        let effect = match handled {
             Ok(effect) => effect,
             Err(error) => {
-                sends.rewind(count, waiting, told);
+                sends.rewind(count, waiting, logged);
                 return Err(Unread { letter, error });
             }
         };
@@ -202,7 +203,7 @@ impl<C: Chare<A>, A: Allocator> Element<C, A> {
         Ok(note)
     }
 
-    /// Goes on after this round, or starts where it is 0, on this PE, reports it, and returns the note that is owed for
+    /// Goes on after this round, or starts where it is 0, on this PE, enters it in the trace, and returns the note that is owed for
     /// it. On a refusal the element is unchanged, and what the handler posted before it was refused is taken back.
     pub fn resume<G: Gate, P: Drop>(
         &mut self,
@@ -216,15 +217,15 @@ impl<C: Chare<A>, A: Allocator> Element<C, A> {
         requires before_last_round { round < Limits.ROUND }
         ensures element { OnOk result (self.new ≡ ran C.step C.pack self.old sends.old.n pe (Entry.Resumption round)) }
         ensures note { IfOk result (λ note. note ≡ note_of C.step C.pack self.old sends.old.n pe (Entry.Resumption round)) }
-        ensures sends { OnOk result (sends.new ≡ posted (with_report sends.old (Report.Resumed self.old.index round)) (outcome_of C.step C.pack self.old sends.old.n (Entry.Resumption round)).sends) }
+        ensures sends { OnOk result (sends.new ≡ with_resumption sends.old self.old.index round (sent_by C.step C.pack self.old sends.old.n (Entry.Resumption round))) }
         ensures err { OnErr result (self.new ≡ self.old) }
-        ensures refused { IfErr result (λ error. error ≢ OutOfMemory → C.refuses self.old.chare self.old.index sends.old.n sends.old.count (Entry.Resumption round) error) }
+        ensures refused { IfErr result (λ error. MayReturn C.refuses self.old sends.old.n sends.old.count (Entry.Resumption round) error) }
         ensures taken_back { OnErr result (sends.new ≡ sends.old) }
     {
         self.journal.reserve(1)?;
         self.marks.reserve(2)?;
-        let (count, waiting, told) = (sends.count(), sends.waiting(), sends.told());
-        sends.tell(Report::Resumed(self.index, round))?;
+        let (count, waiting, logged) = (sends.count(), sends.waiting(), sends.logged());
+        sends.log(TraceEntry::Resumed(self.index, round))?;
         let here = Here {
             me: self.index,
             n: sends.n(),
@@ -233,7 +234,7 @@ impl<C: Chare<A>, A: Allocator> Element<C, A> {
         let effect = match self.chare.on_resume(&here, round, sends) {
             Ok(effect) => effect,
             Err(error) => {
-                sends.rewind(count, waiting, told);
+                sends.rewind(count, waiting, logged);
                 return Err(error);
             }
         };
@@ -252,7 +253,7 @@ impl<C: Chare<A>, A: Allocator> Element<C, A> {
     }
 }
 
-// The note that is owed for an element after an answer.
+// The note that is owed for an element after a handler.
 fn owed<C: Chare<A>, A: Allocator>(
     chare: &C,
     progress: &Progress,
@@ -267,14 +268,14 @@ fn owed<C: Chare<A>, A: Allocator>(
         Ending::Runs => None,
         Ending::Syncs => {
             let round = Round::new(progress.round.get() + 1).unwrap();
-            let bytes = chare.packed_len();
+            let bytes = StateBytes::new(chare.packed_len()).unwrap();
             Some(Note::Sync(index, round, progress.load, bytes, pe))
         }
         Ending::Finishes => Some(Note::Finish(index)),
     }
 }
 
-// Marks that an element waits, where that is the note.
+// Adds the mark of a note by which an element waits; any other note leaves no mark.
 fn mark<A: Allocator>(marks: &mut Vec<Mark, A>, note: &Option<Note>)
     requires { vec_len marks.old < vec_capacity marks.old }
     ensures { marks.new.items ≡ marks.old.items ++ synced_mark note.now }

@@ -1,6 +1,7 @@
 ghost use Rattle.std.specs.Prelude.{◌≡◌, ℕ, ◌+◌, min};
 ghost use Rattle.chares.specs.Letters.{LetterView, hopped};
 
+use crate::body::Body;
 use chare_index::{Index, Pe};
 use std::alloc::{Allocator, Global};
 use std::marker::Model;
@@ -14,8 +15,8 @@ pub type LetterId = (Pe, u32);
 pub struct Letter<A: Allocator = Global> {
     id: LetterId,
     to: Index,
-    body: Vec<u8, A>,
     hops: u32,
+    body: Body<A>,
 }
 
 impl<A: Allocator> Model for Letter<A> {
@@ -23,19 +24,19 @@ impl<A: Allocator> Model for Letter<A> {
 
     ghost Value = { LetterView };
 
-    ghost view = { λ l. record { id = l.id; to = l.to; body = l.body.items; hops = l.hops } };
+    ghost view = { λ l. record { id = l.id; to = l.to; body = l.body; hops = l.hops } };
 }
 
 impl<A: Allocator> Letter<A> {
     /// A letter that nobody has forwarded.
-    pub(crate) fn new(id: LetterId, to: Index, body: Vec<u8, A>) -> Self
-        ensures value { result ≡ record { id = id; to = to; body = body.items; hops = 0 } }
+    pub(crate) fn new(id: LetterId, to: Index, body: Body<A>) -> Self
+        ensures value { result ≡ record { id = id; to = to; body = body; hops = 0 } }
     {
         Letter {
             id,
             to,
-            body,
             hops: 0,
+            body,
         }
     }
 

@@ -1,16 +1,17 @@
-//! Chares: the objects of a chare array, the letters that they send each other, and what an element is at rest in
-//! its room and packed on its way.
+//! Chares: the objects of a chare array, the letters that they send each other, and an element, which stands on
+//! a PE or is packed on its way to another.
 //!
-//! - [`Chare`], with [`Here`], [`Effect`] and [`Openings`]: what a program writes, and what its handlers answer.
+//! - [`Chare`], with [`Here`], [`Effect`] and [`Openings`]: what a program writes, and what its handlers return.
 //! - [`Sends`], with [`SendError`]: how a handler posts letters.
 //! - [`Letter`], with [`LetterId`]: what is posted.
 //! - [`Element`], with [`Progress`] and [`Entry`]: a chare with what it has done.
 //! - [`Packed`]: an element on its way; [`PackedElement`]: one that is what its journal says.
 //! - [`Carried`] and [`Addressed`]: what goes from PE to PE, and where.
-//! - [`Note`] and [`Mark`]: what an element tells the board, and what it keeps of that.
-//! - [`Report`]: what an event reports.
+//! - [`Note`], with [`StateBytes`], and [`Mark`]: what an element tells the board, and what it keeps of that.
+//! - [`TraceEntry`]: what an event adds to the trace of a run.
 #![tactic(auto)]
 
+mod body;
 mod carried;
 mod chare;
 mod element;
@@ -19,8 +20,9 @@ mod letter;
 mod note;
 mod packed;
 mod progress;
-mod report;
 mod sends;
+mod state_bytes;
+mod trace_entry;
 
 pub use carried::{Addressed, Carried};
 pub use chare::{Chare, Effect, Here, Openings};
@@ -30,5 +32,6 @@ pub use letter::{Letter, LetterId};
 pub use note::{Mark, Note};
 pub use packed::{Packed, PackedElement, Packing};
 pub use progress::{Ending, Progress};
-pub use report::Report;
-pub use sends::{Out, SendError, Sends, add_report, room_for_report};
+pub use sends::{Out, SendError, Sends, add_entry, reserve_entry};
+pub use state_bytes::StateBytes;
+pub use trace_entry::TraceEntry;

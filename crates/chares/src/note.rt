@@ -1,14 +1,15 @@
 ghost use Rattle.std.specs.Prelude.{◌≡◌};
 ghost use Rattle.chares.specs.Progressing.{is_finish};
 
+use crate::state_bytes::StateBytes;
 use chare_index::{Index, Pe, Round};
 use lb_snapshot::Units;
 
 /// What a PE owes the board.
 #[derive(Clone, Copy, Debug, PartialEq, Eq)]
 pub enum Note {
-    /// This element waits for the end of this round, with its load, its packed size in bytes, and its PE.
-    Sync(Index, Round, Units, u32, Pe),
+    /// This element waits for the end of this round, with its load, the length of its packed state, and its PE.
+    Sync(Index, Round, Units, StateBytes, Pe),
     /// This element has finished.
     Finish(Index),
 }
@@ -25,7 +26,7 @@ impl Note {
 /// What an element keeps of the rounds that it has seen.
 #[derive(Clone, Copy, Debug, PartialEq, Eq)]
 pub enum Mark {
-    /// It owed this note as it began to wait.
+    /// It reached AtSync, and owed this note.
     Synced(Note),
     /// It was resumed after this round, on this PE.
     Resumed(Round, Pe),

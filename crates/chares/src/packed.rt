@@ -26,7 +26,7 @@ struct Luggage<A: Allocator> {
 }
 
 /// An element on its way, with its state packed. It is as small as a pointer, since queues move it. Contracts see it
-/// as the record `PackedView`. That it packs what its journal says its type does not tell: [`PackedElement`] does.
+/// as the record `PackedView`. That its bytes are the pack of what its journal says, its type does not say: that of [`PackedElement`] does.
 #[derive(Drop)]
 pub struct Packed<A: Allocator = Global> {
     luggage: Box<Luggage<A>, A>,
@@ -39,7 +39,13 @@ impl<A: Allocator> Model for Packed<A> {
 
     ghost Value = { PackedView };
 
-    ghost view = { λ e. record { index = e.luggage.value.index; bytes = e.luggage.value.bytes.items; journal = e.luggage.value.journal.items; progress = e.luggage.value.progress; marks = e.luggage.value.marks.items } };
+    ghost view = { λ e. record {
+      index = e.luggage.value.index;
+      bytes = e.luggage.value.bytes.items;
+      journal = e.luggage.value.journal.items;
+      progress = e.luggage.value.progress;
+      marks = e.luggage.value.marks.items;
+    } };
 
     ghost invariant = { λ e. e.luggage.value.progress.round < ROUND };
 }
@@ -196,7 +202,7 @@ impl<C: Chare<A>, H: Openings<C>, A: Allocator> PackedElement<C, H, A> {
     }
 }
 
-/// The room for an element that is to leave, with its state packed. Contracts see it as the pack.
+/// All the memory that an element needs to leave, with its state packed. Contracts see it as the pack.
 #[derive(Drop)]
 pub struct Packing<A: Allocator = Global> {
     luggage: Box<Luggage<A>, A>,
@@ -218,6 +224,7 @@ impl<A: Allocator> Packing<A> {
         ensures pack { IfOk result (λ packing. packing ≡ C.pack element.now.chare) }
         ensures value { C.fits element.now.chare }
     {
+        // For the clause `fits` alone: a chare that has a packed length is a value of its type.
         let _len = element.chare().packed_len();
         let mut bytes = Vec::new(alloc);
         if element.chare().pack_into(&mut bytes).is_err() {

@@ -1,4 +1,4 @@
-//! How far an element has come, and what an answer of its handlers makes of that.
+//! How far an element has come, and what the effect of a handler makes of that.
 
 ghost use Rattle.std.specs.Prelude.{◌≡◌, ◌<◌, false};
 ghost use Rattle.chare_index.specs.declared.limits.TheConstants.Limits.{ROUND};
@@ -23,7 +23,7 @@ pub struct Progress {
     pub load: Units,
 }
 
-/// What an answer of a handler comes to.
+/// What the effect of a handler comes to.
 #[derive(Clone, Copy, Debug, PartialEq, Eq)]
 pub enum Ending {
     /// The element goes on.
@@ -71,7 +71,7 @@ impl Progress {
         }
     }
 
-    /// What the answer of a handler comes to here.
+    /// What this effect of a handler comes to here.
     pub fn ending(&self, effect: Effect) -> Ending
         ensures value { result ≡ ending self.now effect }
     {
@@ -88,7 +88,7 @@ impl Progress {
         Ending::Runs
     }
 
-    /// After such an answer.
+    /// After an effect that comes to this.
     pub fn ended(&self, ending: Ending) -> Self
         ensures value { result ≡ ended self.now ending }
     {

@@ -4,18 +4,19 @@ ghost use Rattle.std.specs.Prelude.{◌≡◌, ℕ, ◌+◌, ◌∷◌, ◌++◌
 ghost use Rattle.chare_index.specs.declared.limits.TheConstants.Limits.{LETTERS};
 ghost use Rattle.std.specs.VecDeque.{deque_len, deque_capacity};
 ghost use Rattle.chares.specs.declared.sends.SendError.TheVariants.{OutOfMemory};
-ghost use Rattle.chares.specs.Posting.{Posting, posted, reported, with_report, IsPost, RefusesPut};
+ghost use Rattle.chares.specs.Posting.{Posting, posted, traced, with_entry, IsPost, RefusesPut};
 
+use crate::body::Body;
 use crate::carried::{Addressed, Carried};
 use crate::letter::Letter;
-use crate::report::Report;
+use crate::trace_entry::TraceEntry;
 use chare_index::{Index, Limits, Pe};
 use std::alloc::{AllocError, AllocFailed, Allocator, Global};
 use std::collections::VecDeque;
 use std::marker::Model;
 use thiserror::Error;
 
-/// Why a letter was not posted. Where several reasons apply, the one with the lowest number is told. The numbers
+/// Why a letter was not posted. Where several reasons apply, the one with the lowest number is reported. The numbers
 /// are stable.
 #[derive(Clone, Copy, Debug, PartialEq, Eq, Error)]
 pub enum SendError {
@@ -62,8 +63,9 @@ pub struct Sends<P, A: Allocator = Global> {
     outbox: VecDeque<Out<P, A>, A>,
     // Whether one place of the outbox stays free, for a parcel that may come back.
     spare: bool,
-    reporting: bool,
-    reports: Vec<Report, A>,
+    // Whether a trace is kept.
+    tracing: bool,
+    trace: Vec<TraceEntry, A>,
     alloc: A,
 }
 
@@ -75,7 +77,7 @@ impl<P, A: Allocator> Model for Sends<P, A> {
 
     ghost Value = { Posting P };
 
-    ghost view = { λ s. record { me = s.me; n = s.n; count = s.count; outbox = s.outbox.items; spare = s.spare; reporting = s.reporting; reports = s.reports.items } };
+    ghost view = { λ s. record { me = s.me; n = s.n; count = s.count; outbox = s.outbox.items; spare = s.spare; tracing = s.tracing; trace = s.trace.items } };
 
     ghost invariant = { λ s. (s.count ≤ LETTERS) × (s.spare ≡ true → deque_len s.outbox < deque_capacity s.outbox) };
 }
@@ -103,29 +105,29 @@ impl<P: Drop, A: Allocator> Sends<P, A> {
         if self.count == Limits::LETTERS {
             return Err(SendError::Worn);
         }
-        let body = Vec::from_slice(self.alloc, body)?;
-        room_for_report(&mut self.reports, self.reporting)?;
+        let body = Body::copy_of(self.alloc, body)?;
+        reserve_entry(&mut self.trace, self.tracing)?;
         self.outbox.reserve(2)?;
         let number = self.count as u32;
-        let posted = Report::Posted((self.me, number), to);
+        let posted = TraceEntry::Posted((self.me, number), to);
         let letter = Letter::new((self.me, number), to, body);
         let out = Addressed {
             parcel: Carried::Letter(letter),
             address: None,
         };
         self.outbox.push_back_reserved(out);
-        add_report(&mut self.reports, self.reporting, posted);
+        add_entry(&mut self.trace, self.tracing, posted);
         self.count += 1;
         Ok(())
     }
 
-    /// Adds a report, where reports are wanted.
-    pub(crate) fn tell(&mut self, new: Report) -> Result<(), AllocError>
-        ensures ok { OnOk result (self.new ≡ with_report self.old new) }
+    /// Adds an entry to the trace, where one is kept.
+    pub(crate) fn log(&mut self, new: TraceEntry) -> Result<(), AllocError>
+        ensures ok { OnOk result (self.new ≡ with_entry self.old new) }
         ensures err { OnErr result (self.new ≡ self.old) }
     {
-        room_for_report(&mut self.reports, self.reporting)?;
-        add_report(&mut self.reports, self.reporting, new);
+        reserve_entry(&mut self.trace, self.tracing)?;
+        add_entry(&mut self.trace, self.tracing, new);
         Ok(())
     }
 
@@ -136,20 +138,20 @@ impl<P: Drop, A: Allocator> Sends<P, A> {
         self.outbox.len()
     }
 
-    /// How many reports there are so far.
-    pub(crate) fn told(&self) -> usize
-        ensures value { result ≡ length self.now.reports }
+    /// How many entries the trace has so far.
+    pub(crate) fn logged(&self) -> usize
+        ensures value { result ≡ length self.now.trace }
     {
-        self.reports.len()
+        self.trace.len()
     }
 
-    /// Takes back what was posted and reported since.
-    pub(crate) fn rewind(&mut self, count: u64, waiting: usize, told: usize)
+    /// Takes back what was posted and entered in the trace since.
+    pub(crate) fn rewind(&mut self, count: u64, waiting: usize, logged: usize)
         requires fewer { count ≤ self.old.count }
-        ensures ok { self.new ≡ record self.old { count = count; outbox = take waiting self.old.outbox; reports = take told self.old.reports } }
+        ensures ok { self.new ≡ record self.old { count = count; outbox = take waiting self.old.outbox; trace = take logged self.old.trace } }
     {
         self.outbox.truncate(waiting);
-        self.reports.truncate(told);
+        self.trace.truncate(logged);
         self.count = count;
     }
 
@@ -167,7 +169,11 @@ impl<P: Drop, A: Allocator> Sends<P, A> {
         self.count
     }
 
-    /// The outbox of a PE that has posted `count` letters, with the reports of the event so far.
+    /// The outbox of a PE that has posted `count` letters, with the trace of the event so far.
+    ///
+    /// It is public for the crate of the PEs alone, which lends its outbox to a handler: the language has no items that one
+    /// other crate may use. A chare is handed a `Sends` and cannot make one for a PE that runs; who calls this elsewhere
+    /// gets an outbox of its own, whose letters reach no PE.
     pub fn lend(
         alloc: A,
         me: Pe,
@@ -175,12 +181,12 @@ impl<P: Drop, A: Allocator> Sends<P, A> {
         count: u64,
         outbox: VecDeque<Out<P, A>, A>,
         spare: bool,
-        reporting: bool,
-        reports: Vec<Report, A>,
+        tracing: bool,
+        trace: Vec<TraceEntry, A>,
     ) -> Self
         requires numbered { count ≤ LETTERS }
-        requires room { spare ≡ true → deque_len outbox < deque_capacity outbox }
-        ensures value { result ≡ record { me = me; n = n; count = count; outbox = outbox.items; spare = spare; reporting = reporting; reports = reports.items } }
+        requires spare_place { spare ≡ true → deque_len outbox < deque_capacity outbox }
+        ensures value { result ≡ record { me = me; n = n; count = count; outbox = outbox.items; spare = spare; tracing = tracing; trace = trace.items } }
     {
         Sends {
             me,
@@ -188,19 +194,19 @@ impl<P: Drop, A: Allocator> Sends<P, A> {
             count,
             outbox,
             spare,
-            reporting,
-            reports,
+            tracing,
+            trace,
             alloc,
         }
     }
 
-    /// What a handler has left: how many letters the PE has posted, its outbox, and the reports.
-    pub fn give_back(self) -> (u64, VecDeque<Out<P, A>, A>, Vec<Report, A>)
+    /// What is there after the handler: how many letters the PE has posted, its outbox, and the trace.
+    pub fn give_back(self) -> (u64, VecDeque<Out<P, A>, A>, Vec<TraceEntry, A>)
         ensures count { result.0 ≡ self.count }
         ensures few { self.count ≤ LETTERS }
         ensures outbox { result.1.items ≡ self.outbox }
-        ensures room { self.spare ≡ true → deque_len result.1 < deque_capacity result.1 }
-        ensures reports { result.2.items ≡ self.reports }
+        ensures spare_place { self.spare ≡ true → deque_len result.1 < deque_capacity result.1 }
+        ensures trace { result.2.items ≡ self.trace }
     {
         let Sends {
             me: _,
@@ -208,38 +214,38 @@ impl<P: Drop, A: Allocator> Sends<P, A> {
             count,
             outbox,
             spare: _,
-            reporting: _,
-            reports,
+            tracing: _,
+            trace,
             alloc: _,
         } = self;
-        (count, outbox, reports)
+        (count, outbox, trace)
     }
 }
 
-/// Makes room for one more report, where reports are wanted.
-pub fn room_for_report<A: Allocator>(
-    reports: &mut Vec<Report, A>,
-    reporting: bool,
+/// Reserves the memory of one more entry of a trace, where one is kept.
+pub fn reserve_entry<A: Allocator>(
+    trace: &mut Vec<TraceEntry, A>,
+    tracing: bool,
 ) -> Result<(), AllocError>
-    ensures items { reports.new.items ≡ reports.old.items }
-    ensures room { OnOk result (reporting ≡ true → vec_len reports.new < vec_capacity reports.new) }
-    ensures wanted { OnErr result (reporting ≡ true) }
+    ensures items { trace.new.items ≡ trace.old.items }
+    ensures reserved { OnOk result (tracing ≡ true → vec_len trace.new < vec_capacity trace.new) }
+    ensures wanted { OnErr result (tracing ≡ true) }
 {
-    if !reporting {
+    if !tracing {
         return Ok(());
     }
-    reports.reserve(1)
+    trace.reserve(1)
 }
 
-/// Adds a report, where reports are wanted, in the room that was made for it.
-pub fn add_report<A: Allocator>(reports: &mut Vec<Report, A>, reporting: bool, report: Report)
-    requires room { reporting ≡ true → vec_len reports.old < vec_capacity reports.old }
-    ensures added { reports.new.items ≡ reported reporting reports.old.items (report ∷ []) }
+/// Adds an entry to a trace, where one is kept, in memory that was reserved for it.
+pub fn add_entry<A: Allocator>(trace: &mut Vec<TraceEntry, A>, tracing: bool, report: TraceEntry)
+    requires reserved { tracing ≡ true → vec_len trace.old < vec_capacity trace.old }
+    ensures added { trace.new.items ≡ traced tracing trace.old.items (report ∷ []) }
 {
-    if !reporting {
+    if !tracing {
         return;
     }
-    let Ok(()) = reports.push(report) else {
+    let Ok(()) = trace.push(report) else {
         unreachable!()
     };
 }

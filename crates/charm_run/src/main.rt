@@ -3,7 +3,7 @@
 //!
 //! - `run_command_line::asked`: what the words of the command line ask for, and the status where they ask for no run.
 //! - `workload_run::drive_file`: the run of a workload, from a file to its text; `write_dumps`: the dumps of its rounds.
-//! - `progress_line::Progress`: what is told on the standard error meanwhile.
+//! - `progress_line::Progress`: what is written to the standard error meanwhile.
 #![tactic(auto)]
 
 ghost use Rattle.std.specs.Prelude.{None};

@@ -13,6 +13,7 @@
 //! ```
 #![tactic(auto)]
 
+mod help;
 mod words;
 
 pub use words::{NO_WORDS, asked, words_status};

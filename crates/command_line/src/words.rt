@@ -9,13 +9,14 @@ ghost use Rattle.command_line.specs.Internal.{NamesFile};
 ghost use Rattle.clap.specs.declared.builder.value_parser.ValueParser.TheVariants.{Signed};
 ghost use Rattle.clap.specs.declared.error.kind.ErrorKind.TheVariants.{DisplayHelp, DisplayVersion};
 
+use crate::help::{ABOUT, HOW_TO};
 use chare_index::Limits;
 use clap::builder::ValueParser;
 use clap::{Arg, ArgAction, ArgMatches, Command, Error, value_parser};
 use lb_replay::Asked;
 use std::alloc::{AllocError, Global};
 
-/// The status where the words of the command line cannot be had, or are refused.
+/// The status where the words of the command line cannot be read, or are refused.
 pub const NO_WORDS: u8 = 2;
 
 /// The status where the words ask for nothing to be done: 0 for help or the version, and else [`NO_WORDS`].
@@ -31,7 +32,7 @@ pub fn words_status(error: &Error) -> u8
 /// # Errors
 ///
 /// The words are not `[--procs P] [--check] FILE` with a P of 1 to 256 (`Limits::PES`), help or the version is asked for,
-/// or it is out of memory. The error has the text to print; [`words_status`] is the status for it. Words that ask for a
+/// or memory ran out. The error has the text to print; [`words_status`] is the status for it. Words that ask for a
 /// check and for a number of PEs too are no error here: [`Asked::task`] is `None` for them.
 pub fn asked<'a>(alloc: Global, words: &'a [&'a str]) -> Result<Asked<'a>, Error>
     ensures faults { FailsBy (fault_of program (texts words.now)) result }
@@ -53,9 +54,10 @@ fn command<'a>(alloc: Global) -> Result<Command<'a>, AllocError>
     ensures program { IfOk result (λ command. app_of command ≡ program) }
     ensures named { IfOk result NamesFile }
 {
-    let command = Command::new(alloc, "lb_sim").version("0.1.0").about(
-        "Replays a dump of the load database and prints the decision of its balancing step",
-    );
+    let command = Command::new(alloc, "lb_sim")
+        .version("0.1.0")
+        .about(ABOUT)
+        .after_help(HOW_TO);
     let command = command.arg(file(alloc))?;
     let command = command.arg(procs(alloc))?;
     command.arg(check(alloc))
@@ -121,7 +123,7 @@ fn found<'a>(matches: &ArgMatches<'a>) -> Asked<'a>
     }
 }
 
-// The number of PEs asked for. One out of range, which clap refuses, would count as none.
+// The number of PEs asked for. clap refuses one out of range; here it would count as none.
 fn number_in<'a>(matches: &ArgMatches<'a>) -> Option<u32>
     ensures procs { (n : ℕ) → (result ≡ Some n) ↔ Spells (one_text (found_of matches.now) (codes "procs")) n }
     ensures some_pe { ForSome result (λ p. 1 ≤ p) }

@@ -14,10 +14,10 @@ use Rattle.lb_certificates.specs.declared.division.Floor.{Floor}
 use Rattle.lb_certificates.specs.declared.division.Floor.TheVariants.{Zero, Fence}
 use Rattle.lb_certificates.specs.Certificate.{MatchFloor}
 use Rattle.dump_format.specs.Dumps.{AreFields, IsRecorded}
-use Rattle.dump_format.specs.Fields.{behind_floor, body, decision, dump, element, elements, ending, move, moves, numbers, pes, unless}
+use Rattle.dump_format.specs.Fields.{after_floor, body, decision, dump, element, elements, ending, move, moves, numbers, pes, unless}
 use Rattle.dump_format.specs.Kept.{AreKept}
 use Rattle.dump_format.specs.Layout.{Layout, End, Field, Verdict, Whole, Unfinished, Broken, judge}
-use Rattle.dump_format.specs.Text.{word, long, price, letters_1, letters_2, head_text, element_text, elements_text, floor_text, move_text, plan_text}
+use Rattle.dump_format.specs.Text.{word, long, price, magic_1, magic_2, head_text, element_text, elements_text, floor_text, move_text, plan_text}
 use Rattle.dump_format.specs.declared.error.DumpError.{DumpError}
 use Rattle.dump_format.specs.declared.error.DumpError.TheVariants.{Count, Floor as BadFloor, Load, Move, MoveCount, Place, Size}
 use Rattle.dump_format.specs.declared.recorded.Recorded.{Recorded}
@@ -40,7 +40,7 @@ front_number w text more fits =
     same_sums (λ i. byte_worth (byte_len w - 1 - i) (slice_index (text ++ more) i)) (λ i. byte_worth (byte_len w - 1 - i) (slice_index text i)) (byte_len w - 1)
     (λ i within. ap (byte_worth (byte_len w - 1 - i)) (get_or_append_left text more 0 i (omega (arith, some_bytes w))))
 
--- what is found where the text ends within a field or does not, with the fault of its number and what is found behind it
+-- what is found where the text ends within a field or does not, with the fault of its number and what is found after it
 abbrev found : Bool → Option DumpError → Verdict → Verdict
 found short fault rest =
     elim short as (λ _. Verdict) [
@@ -181,7 +181,7 @@ kept_tail w procs load loads size sizes kept =
       places_fit = All-tail (λ (size : ℕ × ℕ). size.1 < procs) size sizes kept.places_fit;
     }
 
--- some elements, and then more, where each number of so many bits is told by its bytes
+-- some elements, and then more, where each number of so many bits is determined by its bytes
 elements_taken : (w : Width) → ((n : ℕ) → n < 2 ^ bits w → from_be_bytes w (to_be_bytes w n) ≡ n) → (procs i n : ℕ) (next : Layout) (loads : List ℕ) (sizes : List (ℕ × ℕ)) (more : List ℕ) → procs ≤ PES → AreKept w procs loads sizes
     → judge (elements w procs i (length loads + n) next) (elements_text w loads sizes ++ more) ≡ judge (elements w procs (i + length loads) n next) more
 unfolding elements_text elements
@@ -256,13 +256,13 @@ prices_taken n next prices more len = numbers_taken w64 n next (flat_map price p
 
 -- a floor, and then more: a floor of kind 0 has no stops
 floor_taken : {A : Type 0} (count target : ℕ) (floor : Floor A) (more : List ℕ) → MatchFloor floor (Unit {0}) (λ stops. length stops ≡ target + 1)
-    → judge (Field w32 (λ kind. unless (nat_le kind 1) BadFloor) (λ kind. behind_floor count target kind)) (floor_text floor ++ more) ≡ judge (behind_floor count target 0) more
+    → judge (Field w32 (λ kind. unless (nat_le kind 1) BadFloor) (λ kind. after_floor count target kind)) (floor_text floor ++ more) ≡ judge (after_floor count target 0) more
 unfolding numbers
 floor_taken count target Zero more is = word_taken _ _ 0 more (omega arith) refl
 floor_taken count target (Fence stops) more is =
     ap (judge _) (append_assoc (word 1) (flat_map word stops) more)
     ∙ word_taken _ _ 1 (flat_map word stops ++ more) (omega arith) refl
-    ∙ words_taken (target + 1) (behind_floor count target 0) stops more is
+    ∙ words_taken (target + 1) (after_floor count target 0) stops more is
 
 nine_grouped : (a b c d e f g h i more : List ℕ) → (a ++ (b ++ (c ++ (d ++ (e ++ (f ++ (g ++ (h ++ i)))))))) ++ more ≡ a ++ (b ++ (c ++ (d ++ (e ++ (f ++ (g ++ (h ++ (i ++ more))))))))
 nine_grouped a b c d e f g h i more = simp append_assoc
@@ -292,7 +292,7 @@ plan_taken count r more is fits few =
     ∙ long_taken _ _ r.decision.moved _ fits.moved refl
     ∙ word_taken _ _ (length r.decision.moves) more (omega (arith, is.few_moves)) (none (nat_le (length r.decision.moves) count) MoveCount (le-leb (length r.decision.moves) count is.few_moves))
 
--- the head of a snapshot behind the letters, and then more
+-- the head of a snapshot after the magic, and then more
 body_taken : (w : Width) (behind : ℕ → Layout) (s : Taken) (more : List ℕ) → 0 < s.procs → s.procs ≤ PES → s.step < 2 ^ 32 → length s.loads ≤ ELEMENTS
     → judge (body w behind) (head_text s ++ more) ≡ judge (elements w s.procs 0 (length s.loads) (behind (length s.loads))) more
 body_taken w behind s more some few step count =
@@ -303,9 +303,9 @@ body_taken w behind s more some few step count =
     ∙ pes_taken _ _ s.procs (word n ++ more) some few
     ∙ word_taken _ _ n more (omega arith) (none (nat_le n ELEMENTS) Count (le-leb n ELEMENTS count))
 
--- the letters and the head of either format, and then more
+-- the magic and the head of either format, and then more
 pub head_taken_1 : (s : Taken) (more : List ℕ) → 0 < s.procs → s.procs ≤ PES → s.step < 2 ^ 32 → length s.loads ≤ ELEMENTS
-    → judge dump (letters_1 ++ (head_text s ++ more)) ≡ judge (elements w32 s.procs 0 (length s.loads) End) more
+    → judge dump (magic_1 ++ (head_text s ++ more)) ≡ judge (elements w32 s.procs 0 (length s.loads) End) more
 head_taken_1 s more some few step count =
     let rest : List ℕ = head_text s ++ more in
     byte_taken _ _ 76 (66 ∷ 68 ∷ 49 ∷ rest) refl
@@ -315,7 +315,7 @@ head_taken_1 s more some few step count =
     ∙ body_taken w32 (λ _. End) s more some few step count
 
 pub head_taken_2 : (s : Taken) (more : List ℕ) → 0 < s.procs → s.procs ≤ PES → s.step < 2 ^ 32 → length s.loads ≤ ELEMENTS
-    → judge dump (letters_2 ++ (head_text s ++ more)) ≡ judge (elements w64 s.procs 0 (length s.loads) (ending (length s.loads))) more
+    → judge dump (magic_2 ++ (head_text s ++ more)) ≡ judge (elements w64 s.procs 0 (length s.loads) (ending (length s.loads))) more
 head_taken_2 s more some few step count =
     let rest : List ℕ = head_text s ++ more in
     byte_taken _ _ 76 (66 ∷ 68 ∷ 50 ∷ rest) refl
@@ -324,7 +324,7 @@ head_taken_2 s more some few step count =
     ∙ byte_taken _ _ 50 rest refl
     ∙ body_taken w64 ending s more some few step count
 
--- the flag behind the elements of LBD2, and then more
+-- the flag after the elements of LBD2, and then more
 pub no_decision_taken : (count : ℕ) (more : List ℕ) → judge (ending count) (word 0 ++ more) ≡ judge End more
 no_decision_taken count more = word_taken _ _ 0 more (omega arith) refl
 

@@ -34,7 +34,7 @@ moves_fit count r is fits few k d inside = (omega (arith, is.moved_elements k d 
 nine_grouped : (a b c d e f g h i more : List ℕ) → (a ++ (b ++ (c ++ (d ++ (e ++ (f ++ (g ++ (h ++ i)))))))) ++ more ≡ a ++ (b ++ (c ++ (d ++ (e ++ (f ++ (g ++ (h ++ (i ++ more))))))))
 nine_grouped a b c d e f g h i more = simp append_assoc
 
--- what stands behind the target, behind the cuts, behind the names, and behind the prices
+-- what follows the target, after the cuts, after the names, and after the prices
 abbrev moved_text : {A : Type 0} → Recorded A → List ℕ
 moved_text r = long r.decision.moved ++ (word (length r.decision.moves) ++ flat_map move_text r.decision.moves)
 
@@ -127,7 +127,7 @@ module _ {A : Type 0} (count : ℕ) (r s : Recorded A) (is : IsRecorded count r)
       let (moved, moves) = same_moved rest in
       same_records r s (record { target = targets; bottleneck = bottleneck; cuts = cuts; floor = floors; naming = names; blocks = blocks; pes = pes; moved = moved; moves = moves })
 
--- what stands behind the elements
+-- what follows the elements
 pub same_ending : {A : Type 0} (count : ℕ) (o p : Option (Recorded A)) → count ≤ ELEMENTS → MayRecord count o → MayFit o → MayRecord count p → MayFit p → ending_text o ≡ ending_text p → o ≡ p
 same_ending count None None few is fits is' fits' same = refl
 same_ending count None (Some s) few is fits is' fits' same = absurd (let flags = (same_word 0 1 [] (plan_text s ++ flat_map move_text s.decision.moves) (omega arith) (omega arith) same).0 in omega arith)

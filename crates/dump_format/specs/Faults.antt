@@ -23,18 +23,18 @@ fault_found Whole n = None
 fault_found Unfinished n = Some (Short n)
 fault_found (Broken e) n = Some e
 
--- the first fault of a text: that of a field or of a byte behind the last one, or that it ends before its last field does
+-- the first fault of a text: that of a field or of a byte after the last one, or that it ends before its last field does
 abbrev pub IsFault : List ℕ → DumpError → Type 0
 IsFault text e = fault_found (judge dump text) (length text) ≡ Some e
 
--- a fault that a text may have, whole as it is: of a field, or a byte behind the last one
-abbrev pub IsTold : DumpError → Type 0
-IsTold (Short n) = ⊥
-IsTold Read = ⊥
-IsTold Write = ⊥
-IsTold OutOfMemory = ⊥
-IsTold (Wide i) = ⊥
-IsTold e = Unit {0}
+-- a fault that a text may have, whole as it is: of a field, or a byte after the last one
+abbrev pub IsTextFault : DumpError → Type 0
+IsTextFault (Short n) = ⊥
+IsTextFault Read = ⊥
+IsTextFault Write = ⊥
+IsTextFault OutOfMemory = ⊥
+IsTextFault (Wide i) = ⊥
+IsTextFault e = Unit {0}
 
 -- the number of a kind of fault
 abbrev pub fault_number : DumpError → ℕ

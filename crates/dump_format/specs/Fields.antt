@@ -18,9 +18,9 @@ unfoldable pub numbers : Width → ℕ → Layout → Layout
 numbers w zero next = next
 numbers w (suc n) next = any w (λ _. numbers w n next)
 
--- one of the first three letters
-abbrev pub letter : ℕ → Layout → Layout
-letter code next = Field w8 (λ byte. unless (byte == code) Magic) (λ _. next)
+-- one of the first three bytes, the magic
+abbrev pub magic_byte : ℕ → Layout → Layout
+magic_byte code next = Field w8 (λ byte. unless (byte == code) Magic) (λ _. next)
 
 -- a number of PEs
 abbrev pub pes : DumpError → (ℕ → Layout) → Layout
@@ -50,32 +50,32 @@ unfoldable pub moves : ℕ → ℕ → ℕ → Layout
 moves count k zero = End
 moves count k (suc n) = move count k (moves count (k + 1) n)
 
--- behind the kind of the floor: its stops, the names, the prices of blocks and PEs, the bytes moved, and the moves
-abbrev pub behind_floor : ℕ → ℕ → ℕ → Layout
-behind_floor count target kind =
+-- what follows the kind of the floor: its stops, the names, the prices of blocks and PEs, the bytes moved, and the moves
+abbrev pub after_floor : ℕ → ℕ → ℕ → Layout
+after_floor count target kind =
     numbers w32 (if kind == 0 then 0 else target + 1)
     (numbers w32 target (numbers w64 target (numbers w64 target
     (any w64 (λ _. Field w32 (λ n. unless (nat_le n count) MoveCount) (λ n. moves count 0 n))))))
 
--- a decision on so many elements: its target, its bottleneck, its cuts, its floor, and what stands behind that
+-- a decision on so many elements: its target, its bottleneck, its cuts, its floor, and what follows it
 abbrev pub decision : ℕ → Layout
 decision count =
     pes Target (λ target. any w64 (λ _. numbers w32 (target + 1)
-    (Field w32 (λ kind. unless (nat_le kind 1) Floor) (λ kind. behind_floor count target kind))))
+    (Field w32 (λ kind. unless (nat_le kind 1) Floor) (λ kind. after_floor count target kind))))
 
--- behind the elements of LBD2 a flag: 0, or 1 and a decision
+-- what follows the elements of LBD2: a flag 0, or 1 and a decision
 abbrev pub ending : ℕ → Layout
 ending count = Field w32 (λ flag. unless (nat_le flag 1) Flag) (λ flag. if flag == 0 then End else decision count)
 
--- the step, the number of PEs, the number of elements, the elements, and what stands behind them
+-- the step, the number of PEs, the number of elements, the elements, and what follows them
 abbrev pub body : Width → (ℕ → Layout) → Layout
 body w behind =
     any w32 (λ _. pes Procs (λ procs.
     Field w32 (λ count. unless (nat_le count ELEMENTS) Count) (λ count. elements w procs 0 count (behind count))))
 
--- LBD and a 1 or a 2. The loads of LBD1 have four bytes, so each keeps its rule, and nothing stands behind its elements.
+-- LBD and a 1 or a 2. The loads of LBD1 have four bytes, so each keeps its rule, and nothing follows its elements.
 abbrev pub dump : Layout
 dump =
-    letter 76 (letter 66 (letter 68
+    magic_byte 76 (magic_byte 66 (magic_byte 68
     (Field w8 (λ byte. unless ((byte == 49) || (byte == 50)) Magic) (λ byte.
     if byte == 49 then body w32 (λ _. End) else body w64 ending))))

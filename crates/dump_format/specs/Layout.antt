@@ -17,7 +17,7 @@ pub data Verdict : Type 0 where
   Unfinished : Verdict
   Broken : DumpError → Verdict
 
--- A text is read field by field. The first field that breaks its rule is told, or a byte behind the last field.
+-- A text is read field by field. The first field that breaks its rule is reported, or a byte after the last field.
 unfoldable pub judge : Layout → List ℕ → Verdict
 judge End [] = Whole
 judge End (byte ∷ bytes) = Broken Trailing

@@ -18,12 +18,12 @@ long n = to_be_bytes w64 n
 abbrev pub price : ℤ → List ℕ
 price z = to_be_bytes w64 (cast_unsigned w64 z)
 
--- L B D 1, and L B D 2
-abbrev pub letters_1 : List ℕ
-letters_1 = 76 ∷ 66 ∷ 68 ∷ 49 ∷ []
+-- the magic of each format: the bytes LBD1, and LBD2
+abbrev pub magic_1 : List ℕ
+magic_1 = 76 ∷ 66 ∷ 68 ∷ 49 ∷ []
 
-abbrev pub letters_2 : List ℕ
-letters_2 = 76 ∷ 66 ∷ 68 ∷ 50 ∷ []
+abbrev pub magic_2 : List ℕ
+magic_2 = 76 ∷ 66 ∷ 68 ∷ 50 ∷ []
 
 -- the step, the number of PEs and the number of elements
 abbrev pub head_text : Taken → List ℕ
@@ -57,19 +57,19 @@ plan_text r =
     ++ (flat_map price r.decision.prices.u ++ (flat_map price r.decision.prices.v
     ++ (long r.decision.moved ++ word (length r.decision.moves))))))))
 
--- what stands behind the elements of LBD2: 0, or 1 and a decision
+-- what follows the elements of LBD2: 0, or 1 and a decision
 abbrev pub ending_text : {A : Type 0} → Option (Recorded A) → List ℕ
 ending_text None = word 0
 ending_text (Some r) = word 1 ++ (plan_text r ++ flat_map move_text r.decision.moves)
 
 -- the text of a snapshot in the format LBD1, whose loads have four bytes
 abbrev pub lbd1_text : Taken → List ℕ
-lbd1_text s = letters_1 ++ (head_text s ++ elements_text w32 s.loads s.sizes)
+lbd1_text s = magic_1 ++ (head_text s ++ elements_text w32 s.loads s.sizes)
 
 -- the text of a dump in the format LBD2, whose loads have eight bytes
 abbrev pub lbd2_text : {A : Type 0} → Dumped A → List ℕ
 lbd2_text d =
-    letters_2 ++ (head_text d.snapshot ++ (elements_text w64 d.snapshot.loads d.snapshot.sizes ++ ending_text d.recorded))
+    magic_2 ++ (head_text d.snapshot ++ (elements_text w64 d.snapshot.loads d.snapshot.sizes ++ ending_text d.recorded))
 
 -- these bytes are the text of this snapshot in the format LBD1, none of whose loads is too great for it
 pub record IsLbd1 (s : Taken) (text : List ℕ) : Type 0 where

@@ -2,7 +2,7 @@ ghost use Rattle.std.specs.Prelude.{◌≡◌, ◌↔◌, ◌≤◌, ◌<◌, �
 ghost use Rattle.lb_certificates.specs.Certificate.{MatchFloor};
 ghost use Rattle.dump_format.specs.Dumps.{Dumped, IsDump, IsRecorded, MayFit, MayRecord};
 
-use crate::fields::{elements, tell_fields};
+use crate::fields::{elements, fields_fit};
 use crate::recorded::Recorded;
 use chare_index::{Index, Limits, Pe};
 use lb_certificates::Floor;
@@ -12,9 +12,9 @@ use std::alloc::{AllocError, Allocator, Global};
 use std::marker::Model;
 
 /// A snapshot and, where one was recorded, a decision. Contracts see it as a record of the two parts. Whether the decision
-/// is right is a matter of [`check`](lb_strategy::check); a dump asks only that it can be written down: the target is 1 to
-/// [`Limits::PES`], each list is as long as the target says, and there are no more moves than elements, each of an
-/// element that there is.
+/// is right is for [`check`](lb_strategy::check) to say; a dump requires only that it can be written: the target is 1 to
+/// [`Limits::PES`], the lengths of the lists follow from the target, and there are no more moves than elements, each with
+/// an index below the number of elements.
 #[derive(Drop)]
 #[derive_where(Debug, PartialEq)]
 pub struct Dump<A: Allocator = Global> {
@@ -35,7 +35,7 @@ impl<A: Allocator> Model for Dump<A> {
 impl<A: Allocator> Dump<A> {
     /// This dump, or `None` where the target is not 1 to [`Limits::PES`]; where there are not `target + 1` cuts, `target + 1`
     /// stops of a fence, `target` names, and `target` prices of blocks and of PEs; where there are more moves than elements;
-    /// or where a move is one of an element that there is not. It takes no memory.
+    /// or where the index of a move is not below the number of elements. It takes no memory.
     pub fn new(snapshot: Snapshot<A>, recorded: Option<Recorded<A>>) -> Option<Self>
         ensures made { SomeIff result (MayRecord (length snapshot.loads) recorded) (record { snapshot = snapshot; recorded = recorded }) }
     {
@@ -62,7 +62,7 @@ impl<A: Allocator> Dump<A> {
         self.recorded.as_ref()
     }
 
-    /// Gives both back.
+    /// Returns both.
     pub fn into_parts(self) -> (Snapshot<A>, Option<Recorded<A>>)
         ensures snapshot { result.0 ≡ self.snapshot }
         ensures recorded { result.1 ≡ self.recorded }
@@ -95,7 +95,7 @@ fn clone_recorded<A: Allocator + Copy>(
     }
 }
 
-// Whether a decision on so many elements can be written down, or there is none.
+// Whether a decision on so many elements can be written, or there is none.
 fn may_record<A: Allocator>(elements: usize, recorded: &Option<Recorded<A>>) -> bool
     ensures exact { IsTrue result ↔ MayRecord elements recorded.now }
     ensures fields { MayFit recorded.now }
@@ -103,13 +103,13 @@ fn may_record<A: Allocator>(elements: usize, recorded: &Option<Recorded<A>>) -> 
     match recorded {
         None => true,
         Some(recorded) => {
-            tell_fields(recorded);
+            fields_fit(recorded);
             is_recorded(elements, recorded)
         }
     }
 }
 
-// Whether a decision on so many elements can be written down.
+// Whether a decision on so many elements can be written.
 fn is_recorded<A: Allocator>(elements: usize, recorded: &Recorded<A>) -> bool
     ensures { IsTrue result ↔ IsRecorded elements recorded.now }
 {
@@ -121,7 +121,7 @@ fn is_recorded<A: Allocator>(elements: usize, recorded: &Recorded<A>) -> bool
         && are_moves(elements, recorded.decision.moves.as_slice())
 }
 
-// Whether the lists of a decision are as long as so many blocks ask for.
+// Whether the lists of a decision have the lengths that so many blocks require.
 fn have_lengths<A: Allocator>(blocks: usize, decision: &Decision<A>) -> bool
     requires { blocks ≤ Limits.PES }
     ensures { IsTrue result ↔ ((length decision.now.division.cuts ≡ blocks + 1)
@@ -137,7 +137,7 @@ fn have_lengths<A: Allocator>(blocks: usize, decision: &Decision<A>) -> bool
         && decision.prices.v.as_slice().len() == blocks
 }
 
-// Whether a fence has a stop more than there are blocks.
+// Whether a fence has one stop more than there are blocks.
 fn has_stops<A: Allocator>(blocks: usize, floor: &Floor<A>) -> bool
     requires { blocks ≤ Limits.PES }
     ensures { IsTrue result ↔ MatchFloor floor.now (Unit {0}) (λ stops. length stops ≡ blocks + 1) }
@@ -148,7 +148,7 @@ fn has_stops<A: Allocator>(blocks: usize, floor: &Floor<A>) -> bool
     }
 }
 
-// Whether there are no more moves than elements, each of an element that there is.
+// Whether there are no more moves than elements, each with an index below their number.
 fn are_moves(elements: usize, moves: &[(Index, Pe, Pe)]) -> bool
     ensures { IsTrue result ↔ ((length moves.now ≤ elements) × All (λ move. move.0 < elements) moves.now) }
 {

@@ -7,7 +7,7 @@ use thiserror::Error;
 
 /// Why a dump was not read or written. Of the faults of a text, [`Magic`](DumpError::Magic) to
 /// [`Trailing`](DumpError::Trailing) and [`Load`](DumpError::Load) to [`Move`](DumpError::Move), the first from left to
-/// right is reported: a wrong letter at once, and any other once its field is whole.
+/// right is reported: a wrong magic byte at once, and any other once its field is whole.
 #[derive(Clone, Copy, Debug, PartialEq, Eq, Error)]
 pub enum DumpError {
     /// A byte of the first four is neither that of `LBD1` nor that of `LBD2`.
@@ -25,7 +25,7 @@ pub enum DumpError {
     /// The packed size of this element is above 1,048,576 bytes (`Limits::STATE_BYTES`).
     #[error("the size of element {0} is out of range")]
     Size(u32),
-    /// This element stands on a PE that there is not.
+    /// The place of this element is not below the number of PEs.
     #[error("the place of element {0} is out of range")]
     Place(u32),
     /// A byte follows the end of the text.
@@ -46,7 +46,7 @@ pub enum DumpError {
     /// The flag that says whether a decision follows is neither 0 nor 1.
     #[error("the flag is out of range")]
     Flag,
-    /// The number of PEs that was decided for is 0 or above 256 (`Limits::PES`).
+    /// The number of PEs that the decision is for is 0 or above 256 (`Limits::PES`).
     #[error("the target is out of range")]
     Target,
     /// The kind of the floor is neither 0 nor 1.

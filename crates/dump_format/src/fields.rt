@@ -8,7 +8,7 @@ use lb_certificates::{Division, Floor};
 use lb_snapshot::Snapshot;
 use std::alloc::Allocator;
 
-// The functions of this file tell what types say: that a number fits the field that a dump has for it.
+// The functions of this file only prove facts that follow from types: that each number fits its field in a dump.
 
 // The number of elements of a snapshot.
 pub(crate) fn elements<A: Allocator>(snapshot: &Snapshot<A>) -> usize
@@ -21,35 +21,35 @@ pub(crate) fn elements<A: Allocator>(snapshot: &Snapshot<A>) -> usize
     snapshot.loads().as_slice().len()
 }
 
-pub(crate) fn tell_fields<A: Allocator>(recorded: &Recorded<A>)
+pub(crate) fn fields_fit<A: Allocator>(recorded: &Recorded<A>)
     ensures { AreFields recorded.now }
 {
     let decision = &recorded.decision;
     let _moved = decision.moved;
-    tell_division(&decision.division);
-    tell_words(decision.naming.as_slice());
-    tell_prices(decision.prices.u.as_slice());
-    tell_prices(decision.prices.v.as_slice());
-    tell_moves(decision.moves.as_slice());
+    division_fits(&decision.division);
+    words_fit(decision.naming.as_slice());
+    prices_fit(decision.prices.u.as_slice());
+    prices_fit(decision.prices.v.as_slice());
+    moves_fit(decision.moves.as_slice());
 }
 
-fn tell_division<A: Allocator>(division: &Division<A>)
+fn division_fits<A: Allocator>(division: &Division<A>)
     ensures bottleneck { division.now.bottleneck < 2 ^ 64 }
     ensures cuts { AreWords division.now.cuts }
     ensures stops { MatchFloor division.now.floor (Unit {0}) AreWords }
 {
     let _bottleneck = division.bottleneck;
-    tell_words(division.cuts.as_slice());
+    words_fit(division.cuts.as_slice());
     if let Floor::Fence(stops) = &division.floor {
-        tell_words(stops.as_slice());
+        words_fit(stops.as_slice());
     }
 }
 
-fn tell_words(words: &[u32])
+fn words_fit(words: &[u32])
     ensures { AreWords words.now }
 {}
 
-fn tell_prices(prices: &[i64])
+fn prices_fit(prices: &[i64])
     ensures { ArePrices prices.now }
 {
     for &price in prices {
@@ -57,7 +57,7 @@ fn tell_prices(prices: &[i64])
     }
 }
 
-fn tell_moves(moves: &[(Index, Pe, Pe)])
+fn moves_fit(moves: &[(Index, Pe, Pe)])
     ensures present { All (λ move. move.1 < Limits.PES) moves.now }
     ensures planned { All (λ move. move.2 < Limits.PES) moves.now }
 {

@@ -3,14 +3,14 @@ ghost use Rattle.lb_snapshot.specs.Measured.{Taken};
 ghost use Rattle.dump_format.specs.declared.error.DumpError.{DumpError};
 ghost use Rattle.dump_format.specs.Dumps.{Dumped};
 ghost use Rattle.dump_format.specs.Text.{IsLbd1, IsLbd2, IsText};
-ghost use Rattle.dump_format.specs.Faults.{IsBroken, IsFault, IsGood, IsTold, IsWhole};
+ghost use Rattle.dump_format.specs.Faults.{IsBroken, IsFault, IsGood, IsTextFault, IsWhole};
 
 use std::alloc::Allocator;
 
 /// Laws of the formats. The function does nothing: its clauses are the laws. Bytes are the text of at most one dump, in
 /// whichever format; a snapshot has at most one text of LBD1, and a dump at most one of LBD2. A text is whole and has no
-/// fault, and bytes have at most one first fault; so what was written is read again. A fault that a byte brings is one of a
-/// text, and not of reading or writing, is the fault of every longer text, and good bytes have none.
+/// fault, and bytes have at most one first fault; so what was written is read again. A fault that shows in some bytes is one
+/// of a text, and not of reading or writing; every longer text has it, and good bytes have none.
 pub fn format_laws<A: Allocator>()
     ensures one_dump { (d e : Dumped A) (text : List ℕ) → IsText d text → IsText e text → d ≡ e }
     ensures one_lbd1 { (s : Taken) (a b : List ℕ) → IsLbd1 s a → IsLbd1 s b → a ≡ b }
@@ -19,6 +19,6 @@ pub fn format_laws<A: Allocator>()
     ensures no_fault { (d : Dumped A) (text : List ℕ) (e : DumpError) → IsText d text → IsFault text e → ⊥ }
     ensures one_fault { (text : List ℕ) (e f : DumpError) → IsFault text e → IsFault text f → e ≡ f }
     ensures good { (text : List ℕ) (e : DumpError) → IsGood text → IsBroken text e → ⊥ }
-    ensures told { (text : List ℕ) (e : DumpError) → IsBroken text e → IsTold e }
+    ensures text_fault { (text : List ℕ) (e : DumpError) → IsBroken text e → IsTextFault e }
     ensures stays { (text more : List ℕ) (e : DumpError) → IsBroken text e → IsBroken (text ++ more) e }
 {}

@@ -103,7 +103,7 @@ module _ (w : Width) (procs : ℕ) (loads more : List ℕ) (sizes pairs : List (
       rw (loads_are, sizes_are) (elements_text_more w loads sizes load (size, place) (sym kept.paired)) ∙ ap (λ t. elements_text w loads sizes ++ t) (sym spelled) in
       ap (λ t. t ++ after) longer ∙ append_assoc (elements_text w loads sizes) element after ∙ ap (λ t. elements_text w loads sizes ++ t) (sym parts) ∙ joined
 
--- The fault of the element behind those that were taken is that of the text.
+-- The fault of the element after those that were taken is that of the text.
 pub fault_behind : (h : Head) (loads old : List ℕ) (sizes olds : List (ℕ × ℕ)) (n : ℕ) (element after rest bytes : List ℕ) (e : DumpError) → IsHead h → AreOf h loads sizes → length loads < h.count → n ≡ length loads
     → BreaksElement h.format h.procs n element e → rest ≡ element ++ after → elements_of h loads sizes ++ rest ≡ elements_of h old olds ++ bytes → judge (body_of h) (elements_of h old olds ++ bytes) ≡ Broken e
 fault_behind h loads old sizes olds n element after rest bytes e is kept inside at breaks parts joined =

@@ -6,38 +6,38 @@ use Rattle.std.proofs.lemmas.Bool.{and_from, and_left, and_right, cases_lt, eq-e
 use Rattle.std.proofs.lemmas.List.{drop-drop, length-drop}
 use Rattle.chare_index.specs.declared.limits.TheConstants.Limits.{ELEMENTS, PES}
 use Rattle.dump_format.specs.Layout.{Layout, End, Field, Verdict, Unfinished, Broken, judge}
-use Rattle.dump_format.specs.Fields.{body, dump, elements, ending, letter, unless}
+use Rattle.dump_format.specs.Fields.{body, dump, elements, ending, magic_byte, unless}
 use Rattle.dump_format.specs.Text.{word}
 use Rattle.dump_format.specs.declared.error.DumpError.TheVariants.{Count, Magic, Procs}
 use Rattle.dump_format.proofs.Judging.{byte_broken, byte_taken, field_broken, field_short, field_taken, word_taken}
 use Rattle.dump_parts.specs.declared.head.Format.{Format}
 use Rattle.dump_parts.specs.declared.head.Format.TheVariants.{Lbd1, Lbd2}
 use Rattle.dump_parts.specs.declared.head.Head.{Head}
-use Rattle.dump_parts.specs.Heads.{HasLetters, IsHead, fourth_letter, head_text, letters_of, load_width}
+use Rattle.dump_parts.specs.Heads.{HasMagic, IsHead, fourth_byte, head_text, magic_of, load_width}
 use Rattle.dump_parts.specs.Elements.{behind, body_of}
 use Rattle.dump_parts.proofs.Partial.{broken, kept}
 use Rattle.dump_parts.proofs.Respelled.{AreBytes, later_bytes, three_words}
 
--- one letter
+-- one byte of the magic
 module _ (code : ℕ) (next : Layout) where
-  letter_short : judge (letter code next) [] ≡ Unfinished
-  letter_short = field_short w8 (λ byte. unless (eqb byte code) Magic) (λ _. next) [] (lit< tt)
+  magic_byte_short : judge (magic_byte code next) [] ≡ Unfinished
+  magic_byte_short = field_short w8 (λ byte. unless (eqb byte code) Magic) (λ _. next) [] (lit< tt)
 
-  letter_taken : (b : ℕ) (more : List ℕ) → b ≡ code → judge (letter code next) (b ∷ more) ≡ judge next more
-  letter_taken b more is = byte_taken (λ byte. unless (eqb byte code) Magic) (λ _. next) b more (kept (eqb b code) Magic (eq-eqb b code is))
+  magic_byte_taken : (b : ℕ) (more : List ℕ) → b ≡ code → judge (magic_byte code next) (b ∷ more) ≡ judge next more
+  magic_byte_taken b more is = byte_taken (λ byte. unless (eqb byte code) Magic) (λ _. next) b more (kept (eqb b code) Magic (eq-eqb b code is))
 
-  letter_broken : (b : ℕ) (more : List ℕ) → (b ≡ code → ⊥) → judge (letter code next) (b ∷ more) ≡ Broken Magic
-  letter_broken b more not = byte_broken (λ byte. unless (eqb byte code) Magic) (λ _. next) b more Magic (broken (eqb b code) Magic (ne_eqb b code not))
+  magic_byte_broken : (b : ℕ) (more : List ℕ) → (b ≡ code → ⊥) → judge (magic_byte code next) (b ∷ more) ≡ Broken Magic
+  magic_byte_broken b more not = byte_broken (λ byte. unless (eqb byte code) Magic) (λ _. next) b more Magic (broken (eqb b code) Magic (ne_eqb b code not))
 
--- the fields behind the first letters
+-- the fields after the first bytes of the magic
 abbrev fourth : Layout
 fourth = Field w8 (λ byte. unless (eqb byte 49 || eqb byte 50) Magic) (λ byte. cond (eqb byte 49) (body w32 (λ _. End)) (body w64 ending))
 
 abbrev third : Layout
-third = letter 68 fourth
+third = magic_byte 68 fourth
 
 abbrev second : Layout
-second = letter 66 third
+second = magic_byte 66 third
 
 fourth_taken : (b : ℕ) (more : List ℕ) (v : Verdict) → (b ≡ 49) ⊎ (b ≡ 50) → ((w : Width) (after : ℕ → Layout) → judge (body w after) more ≡ v) → judge fourth (b ∷ more) ≡ v
 fourth_taken b more v (inl is) all =
@@ -52,48 +52,48 @@ fourth_broken b more not_1 not_2 =
     byte_broken (λ byte. unless (eqb byte 49 || eqb byte 50) Magic) (λ byte. cond (eqb byte 49) (body w32 (λ _. End)) (body w64 ending)) b more Magic
     (broken (eqb b 49 || eqb b 50) Magic (or_from (eqb b 49) (eqb b 50) (ne_eqb b 49 not_1) (ne_eqb b 50 not_2)))
 
--- the letters are there
-pub letters_short : (text : List ℕ) → HasLetters text → length text < 4 → judge dump text ≡ Unfinished
-letters_short [] has short = letter_short 76 second
-letters_short (a ∷ []) has short = letter_taken 76 second a [] (has.first (lit< tt)) ∙ letter_short 66 third
-letters_short (a ∷ b ∷ []) has short =
-    letter_taken 76 second a (b ∷ []) (has.first (lit< tt)) ∙ letter_taken 66 third b [] (has.second (lit< tt)) ∙ letter_short 68 fourth
-letters_short (a ∷ b ∷ c ∷ []) has short =
-    letter_taken 76 second a (b ∷ c ∷ []) (has.first (lit< tt)) ∙ letter_taken 66 third b (c ∷ []) (has.second (lit< tt)) ∙ letter_taken 68 fourth c [] (has.third (lit< tt))
+-- the magic is right as far as it has come
+pub magic_short : (text : List ℕ) → HasMagic text → length text < 4 → judge dump text ≡ Unfinished
+magic_short [] has short = magic_byte_short 76 second
+magic_short (a ∷ []) has short = magic_byte_taken 76 second a [] (has.first (lit< tt)) ∙ magic_byte_short 66 third
+magic_short (a ∷ b ∷ []) has short =
+    magic_byte_taken 76 second a (b ∷ []) (has.first (lit< tt)) ∙ magic_byte_taken 66 third b [] (has.second (lit< tt)) ∙ magic_byte_short 68 fourth
+magic_short (a ∷ b ∷ c ∷ []) has short =
+    magic_byte_taken 76 second a (b ∷ c ∷ []) (has.first (lit< tt)) ∙ magic_byte_taken 66 third b (c ∷ []) (has.second (lit< tt)) ∙ magic_byte_taken 68 fourth c [] (has.third (lit< tt))
     ∙ field_short w8 (λ byte. unless (eqb byte 49 || eqb byte 50) Magic) (λ byte. cond (eqb byte 49) (body w32 (λ _. End)) (body w64 ending)) [] (lit< tt)
-letters_short (a ∷ b ∷ c ∷ d ∷ rest) has short = absurd (omega arith)
+magic_short (a ∷ b ∷ c ∷ d ∷ rest) has short = absurd (omega arith)
 
-pub letters_taken : (text : List ℕ) (v : Verdict) → 3 < length text → HasLetters text → ((w : Width) (after : ℕ → Layout) → judge (body w after) (drop 4 text) ≡ v) → judge dump text ≡ v
-letters_taken [] v long has all = absurd (omega arith)
-letters_taken (a ∷ []) v long has all = absurd (omega arith)
-letters_taken (a ∷ b ∷ []) v long has all = absurd (omega arith)
-letters_taken (a ∷ b ∷ c ∷ []) v long has all = absurd (omega arith)
-letters_taken (a ∷ b ∷ c ∷ d ∷ rest) v long has all =
-    letter_taken 76 second a (b ∷ c ∷ d ∷ rest) (has.first (omega arith)) ∙ letter_taken 66 third b (c ∷ d ∷ rest) (has.second (omega arith)) ∙ letter_taken 68 fourth c (d ∷ rest) (has.third (omega arith))
+pub magic_taken : (text : List ℕ) (v : Verdict) → 3 < length text → HasMagic text → ((w : Width) (after : ℕ → Layout) → judge (body w after) (drop 4 text) ≡ v) → judge dump text ≡ v
+magic_taken [] v long has all = absurd (omega arith)
+magic_taken (a ∷ []) v long has all = absurd (omega arith)
+magic_taken (a ∷ b ∷ []) v long has all = absurd (omega arith)
+magic_taken (a ∷ b ∷ c ∷ []) v long has all = absurd (omega arith)
+magic_taken (a ∷ b ∷ c ∷ d ∷ rest) v long has all =
+    magic_byte_taken 76 second a (b ∷ c ∷ d ∷ rest) (has.first (omega arith)) ∙ magic_byte_taken 66 third b (c ∷ d ∷ rest) (has.second (omega arith)) ∙ magic_byte_taken 68 fourth c (d ∷ rest) (has.third (omega arith))
     ∙ fourth_taken d rest v (has.fourth (omega arith)) all
 
 -- one of the first three is wrong, or the fourth
-abbrev pub first_letters : List ℕ
-first_letters = 76 ∷ 66 ∷ 68 ∷ []
+abbrev pub first_bytes : List ℕ
+first_bytes = 76 ∷ 66 ∷ 68 ∷ []
 
-pub letter_wrong : (text : List ℕ) (k : ℕ) → k < 3 → k < length text → ((j : ℕ) → j < k → slice_index text j ≡ slice_index first_letters j) → (slice_index text k ≡ slice_index first_letters k → ⊥)
+pub magic_wrong : (text : List ℕ) (k : ℕ) → k < 3 → k < length text → ((j : ℕ) → j < k → slice_index text j ≡ slice_index first_bytes j) → (slice_index text k ≡ slice_index first_bytes k → ⊥)
     → judge dump text ≡ Broken Magic
-letter_wrong [] k few inside before wrong = absurd (omega arith)
-letter_wrong (a ∷ rest) zero few inside before wrong = letter_broken 76 second a rest wrong
-letter_wrong (a ∷ []) (suc k) few inside before wrong = absurd (omega arith)
-letter_wrong (a ∷ b ∷ rest) (suc zero) few inside before wrong = letter_taken 76 second a (b ∷ rest) (before 0 (lit< tt)) ∙ letter_broken 66 third b rest wrong
-letter_wrong (a ∷ b ∷ []) (suc (suc k)) few inside before wrong = absurd (omega arith)
-letter_wrong (a ∷ b ∷ c ∷ rest) (suc (suc zero)) few inside before wrong =
-    letter_taken 76 second a (b ∷ c ∷ rest) (before 0 (lit< tt)) ∙ letter_taken 66 third b (c ∷ rest) (before 1 (lit< tt)) ∙ letter_broken 68 fourth c rest wrong
-letter_wrong (a ∷ b ∷ c ∷ rest) (suc (suc (suc k))) few inside before wrong = absurd (omega arith)
+magic_wrong [] k few inside before wrong = absurd (omega arith)
+magic_wrong (a ∷ rest) zero few inside before wrong = magic_byte_broken 76 second a rest wrong
+magic_wrong (a ∷ []) (suc k) few inside before wrong = absurd (omega arith)
+magic_wrong (a ∷ b ∷ rest) (suc zero) few inside before wrong = magic_byte_taken 76 second a (b ∷ rest) (before 0 (lit< tt)) ∙ magic_byte_broken 66 third b rest wrong
+magic_wrong (a ∷ b ∷ []) (suc (suc k)) few inside before wrong = absurd (omega arith)
+magic_wrong (a ∷ b ∷ c ∷ rest) (suc (suc zero)) few inside before wrong =
+    magic_byte_taken 76 second a (b ∷ c ∷ rest) (before 0 (lit< tt)) ∙ magic_byte_taken 66 third b (c ∷ rest) (before 1 (lit< tt)) ∙ magic_byte_broken 68 fourth c rest wrong
+magic_wrong (a ∷ b ∷ c ∷ rest) (suc (suc (suc k))) few inside before wrong = absurd (omega arith)
 
-pub fourth_wrong : (text : List ℕ) → 3 < length text → ((j : ℕ) → j < 3 → slice_index text j ≡ slice_index first_letters j) → (slice_index text 3 ≡ 49 → ⊥) → (slice_index text 3 ≡ 50 → ⊥) → judge dump text ≡ Broken Magic
+pub fourth_wrong : (text : List ℕ) → 3 < length text → ((j : ℕ) → j < 3 → slice_index text j ≡ slice_index first_bytes j) → (slice_index text 3 ≡ 49 → ⊥) → (slice_index text 3 ≡ 50 → ⊥) → judge dump text ≡ Broken Magic
 fourth_wrong [] inside before not_1 not_2 = absurd (omega arith)
 fourth_wrong (a ∷ []) inside before not_1 not_2 = absurd (omega arith)
 fourth_wrong (a ∷ b ∷ []) inside before not_1 not_2 = absurd (omega arith)
 fourth_wrong (a ∷ b ∷ c ∷ []) inside before not_1 not_2 = absurd (omega arith)
 fourth_wrong (a ∷ b ∷ c ∷ d ∷ rest) inside before not_1 not_2 =
-    letter_taken 76 second a (b ∷ c ∷ d ∷ rest) (before 0 (lit< tt)) ∙ letter_taken 66 third b (c ∷ d ∷ rest) (before 1 (lit< tt)) ∙ letter_taken 68 fourth c (d ∷ rest) (before 2 (lit< tt))
+    magic_byte_taken 76 second a (b ∷ c ∷ d ∷ rest) (before 0 (lit< tt)) ∙ magic_byte_taken 66 third b (c ∷ d ∷ rest) (before 1 (lit< tt)) ∙ magic_byte_taken 68 fourth c (d ∷ rest) (before 2 (lit< tt))
     ∙ fourth_broken d rest not_1 not_2
 
 -- a number of PEs that there may be, and one that there may not
@@ -104,7 +104,7 @@ pes_broken : (n : ℕ) → (n ≡ 0) ⊎ (PES < n) → unless (ltb 0 n && leb n 
 pes_broken n (inl none) = broken (ltb 0 n && leb n PES) Procs (and_left (ltb 0 n) (leb n PES) (le-ltb 0 n (omega arith)))
 pes_broken n (inr many) = broken (ltb 0 n && leb n PES) Procs (and_right (ltb 0 n) (leb n PES) (lt-leb n PES many))
 
--- the fields behind the step, and behind the number of PEs
+-- the fields after the step, and after the number of PEs
 abbrev count_field : Width → (ℕ → Layout) → ℕ → Layout
 count_field w after procs = Field w32 (λ count. unless (leb count ELEMENTS) Count) (λ count. elements w procs 0 count (after count))
 
@@ -153,62 +153,62 @@ module _ (w : Width) (after : ℕ → Layout) where
           ]
         ]
 
--- what is found in a text with its letters, by the numbers behind them
-module _ (text : List ℕ) (procs : ℕ) (has : HasLetters text) (is : procs ≡ from_be_bytes w32 (drop 8 text)) where
+-- what is found in a text with its magic, by the numbers after it
+module _ (text : List ℕ) (procs : ℕ) (has : HasMagic text) (is : procs ≡ from_be_bytes w32 (drop 8 text)) where
   procs_at : procs ≡ from_be_bytes w32 (drop 4 (drop 4 text))
   procs_at = is ∙ ap (from_be_bytes w32) (sym (drop-drop 4 4 text))
 
   pub head_unfinished : length text < 16 → (12 ≤ length text → (0 < procs) × (procs ≤ PES)) → judge dump text ≡ Unfinished
   head_unfinished short good =
       elim (cases_lt (length text) 4) [
-        | inl less ↦ letters_short text has less
-        | inr long ↦ letters_taken text Unfinished long has (λ w after. body_unfinished w after (drop 4 text) (omega (arith, length-drop 4 text))
+        | inl less ↦ magic_short text has less
+        | inr long ↦ magic_taken text Unfinished long has (λ w after. body_unfinished w after (drop 4 text) (omega (arith, length-drop 4 text))
             (λ all. let h = good (omega (arith, length-drop 4 text)) in (subst (λ n. 0 < n) procs_at h.0, subst (λ n. n ≤ PES) procs_at h.1)))
       ]
 
   pub procs_wrong : 12 ≤ length text → (procs ≡ 0) ⊎ (PES < procs) → judge dump text ≡ Broken Procs
   procs_wrong long bad =
-      letters_taken text (Broken Procs) (omega arith) has (λ w after. procs_break w after (drop 4 text) (omega (arith, length-drop 4 text)) (subst (λ n. (n ≡ 0) ⊎ (PES < n)) procs_at bad))
+      magic_taken text (Broken Procs) (omega arith) has (λ w after. procs_break w after (drop 4 text) (omega (arith, length-drop 4 text)) (subst (λ n. (n ≡ 0) ⊎ (PES < n)) procs_at bad))
 
   pub count_wrong : (count : ℕ) → 16 ≤ length text → 0 < procs → procs ≤ PES → count ≡ from_be_bytes w32 (drop 12 text) → ELEMENTS < count → judge dump text ≡ Broken Count
   count_wrong count long some few count_is bad =
-      letters_taken text (Broken Count) (omega arith) has (λ w after. count_breaks w after (drop 4 text) (omega (arith, length-drop 4 text))
+      magic_taken text (Broken Count) (omega arith) has (λ w after. count_breaks w after (drop 4 text) (omega (arith, length-drop 4 text))
       (subst (λ n. 0 < n) procs_at some) (subst (λ n. n ≤ PES) procs_at few) (subst (λ n. ELEMENTS < n) (count_is ∙ ap (from_be_bytes w32) (sym (drop-drop 8 4 text))) bad))
 
 -- the text of a head, and then more
 read_as : (format : Format) (step procs count : ℕ) (more : List ℕ) → step < 2 ^ 32 → 0 < procs → procs ≤ PES → count ≤ ELEMENTS
-    → judge dump ((letters_of format ++ (word step ++ (word procs ++ word count))) ++ more) ≡ judge (elements (load_width format) procs 0 count (behind format count)) more
+    → judge dump ((magic_of format ++ (word step ++ (word procs ++ word count))) ++ more) ≡ judge (elements (load_width format) procs 0 count (behind format count)) more
 read_as Lbd1 step procs count more fits some few within =
-    letter_taken 76 second 76 (66 ∷ 68 ∷ 49 ∷ (word step ++ (word procs ++ (word count ++ more)))) refl
-    ∙ letter_taken 66 third 66 (68 ∷ 49 ∷ (word step ++ (word procs ++ (word count ++ more)))) refl
-    ∙ letter_taken 68 fourth 68 (49 ∷ (word step ++ (word procs ++ (word count ++ more)))) refl
+    magic_byte_taken 76 second 76 (66 ∷ 68 ∷ 49 ∷ (word step ++ (word procs ++ (word count ++ more)))) refl
+    ∙ magic_byte_taken 66 third 66 (68 ∷ 49 ∷ (word step ++ (word procs ++ (word count ++ more)))) refl
+    ∙ magic_byte_taken 68 fourth 68 (49 ∷ (word step ++ (word procs ++ (word count ++ more)))) refl
     ∙ byte_taken (λ byte. unless (eqb byte 49 || eqb byte 50) Magic) (λ byte. cond (eqb byte 49) (body w32 (λ _. End)) (body w64 ending)) 49 (word step ++ (word procs ++ (word count ++ more))) refl
     ∙ body_read w32 (λ _. End) step procs count more fits some few within
 read_as Lbd2 step procs count more fits some few within =
-    letter_taken 76 second 76 (66 ∷ 68 ∷ 50 ∷ (word step ++ (word procs ++ (word count ++ more)))) refl
-    ∙ letter_taken 66 third 66 (68 ∷ 50 ∷ (word step ++ (word procs ++ (word count ++ more)))) refl
-    ∙ letter_taken 68 fourth 68 (50 ∷ (word step ++ (word procs ++ (word count ++ more)))) refl
+    magic_byte_taken 76 second 76 (66 ∷ 68 ∷ 50 ∷ (word step ++ (word procs ++ (word count ++ more)))) refl
+    ∙ magic_byte_taken 66 third 66 (68 ∷ 50 ∷ (word step ++ (word procs ++ (word count ++ more)))) refl
+    ∙ magic_byte_taken 68 fourth 68 (50 ∷ (word step ++ (word procs ++ (word count ++ more)))) refl
     ∙ byte_taken (λ byte. unless (eqb byte 49 || eqb byte 50) Magic) (λ byte. cond (eqb byte 49) (body w32 (λ _. End)) (body w64 ending)) 50 (word step ++ (word procs ++ (word count ++ more))) refl
     ∙ body_read w64 ending step procs count more fits some few within
 
 pub head_read : (h : Head) → IsHead h → (more : List ℕ) → judge dump (head_text h ++ more) ≡ judge (body_of h) more
 head_read h is more = read_as h.format h.step h.procs h.count more is.step is.some_pe is.few_pes is.few
 
--- bytes with these letters and numbers are the text of this head
-pub head_respelled : (bytes : List ℕ) (h : Head) → length bytes ≡ 16 → AreBytes bytes → HasLetters bytes → slice_index bytes 3 ≡ fourth_letter h.format
+-- bytes with this magic and these numbers are the text of this head
+pub head_respelled : (bytes : List ℕ) (h : Head) → length bytes ≡ 16 → AreBytes bytes → HasMagic bytes → slice_index bytes 3 ≡ fourth_byte h.format
     → h.step ≡ from_be_bytes w32 (drop 4 bytes) → h.procs ≡ from_be_bytes w32 (drop 8 bytes) → h.count ≡ from_be_bytes w32 (drop 12 bytes) → bytes ≡ head_text h
 head_respelled bytes h len are has last step procs count =
     front bytes h.format (omega arith) has last
-    ∙ ap (λ rest. letters_of h.format ++ rest)
+    ∙ ap (λ rest. magic_of h.format ++ rest)
     (three_words (drop 4 bytes) h.step h.procs h.count (omega (arith, length-drop 4 bytes)) (later_bytes 4 bytes are) step (procs ∙ ap (from_be_bytes w32) (sym (drop-drop 4 4 bytes))) (count ∙ ap (from_be_bytes w32) (sym (drop-drop 8 4 bytes))))
   where
-    letters_are : (a b c d : ℕ) (rest : List ℕ) (format : Format) → a ≡ 76 → b ≡ 66 → c ≡ 68 → d ≡ fourth_letter format → (a ∷ b ∷ c ∷ d ∷ rest) ≡ letters_of format ++ rest
-    letters_are a b c d rest Lbd1 first second third fourth = cc
-    letters_are a b c d rest Lbd2 first second third fourth = cc
+    magic_is : (a b c d : ℕ) (rest : List ℕ) (format : Format) → a ≡ 76 → b ≡ 66 → c ≡ 68 → d ≡ fourth_byte format → (a ∷ b ∷ c ∷ d ∷ rest) ≡ magic_of format ++ rest
+    magic_is a b c d rest Lbd1 first second third fourth = cc
+    magic_is a b c d rest Lbd2 first second third fourth = cc
 
-    front : (bytes : List ℕ) (format : Format) → 3 < length bytes → HasLetters bytes → slice_index bytes 3 ≡ fourth_letter format → bytes ≡ letters_of format ++ drop 4 bytes
+    front : (bytes : List ℕ) (format : Format) → 3 < length bytes → HasMagic bytes → slice_index bytes 3 ≡ fourth_byte format → bytes ≡ magic_of format ++ drop 4 bytes
     front [] format long has last = absurd (omega arith)
     front (a ∷ []) format long has last = absurd (omega arith)
     front (a ∷ b ∷ []) format long has last = absurd (omega arith)
     front (a ∷ b ∷ c ∷ []) format long has last = absurd (omega arith)
-    front (a ∷ b ∷ c ∷ d ∷ rest) format long has last = letters_are a b c d rest format (has.first (omega arith)) (has.second (omega arith)) (has.third (omega arith)) last
+    front (a ∷ b ∷ c ∷ d ∷ rest) format long has last = magic_is a b c d rest format (has.first (omega arith)) (has.second (omega arith)) (has.third (omega arith)) last

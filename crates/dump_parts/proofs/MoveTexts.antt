@@ -55,7 +55,7 @@ module _ (count all : ℕ) (list : List (ℕ × ℕ × ℕ)) (few : count ≤ EL
   next_move_unfinished begun inside short index present =
       next_move_read begun inside ∙ move_unfinished count (length list) (move_fields count (length list + 1) (all - length list - 1)) begun short index present
 
--- The fault of the move behind those that were taken is that of the text.
+-- The fault of the move after those that were taken is that of the text.
 pub move_fault_behind : (count all : ℕ) (list old : List (ℕ × ℕ × ℕ)) (n : ℕ) (front after rest bytes : List ℕ) (e : DumpError) → count ≤ ELEMENTS → AreMoves count list → length list < all → n ≡ length list
     → BreaksMove count n front e → rest ≡ front ++ after → moves_text list ++ rest ≡ moves_text old ++ bytes → judge (move_fields count 0 all) (moves_text old ++ bytes) ≡ Broken e
 move_fault_behind count all list old n front after rest bytes e few kept inside at breaks parts joined =

@@ -12,16 +12,16 @@ use Rattle.dump_parts.specs.declared.head.Format.TheVariants.{Lbd1, Lbd2}
 use Rattle.dump_parts.specs.declared.head.Head.{Head}
 use Rattle.dump_parts.specs.Heads.{load_width}
 
--- the fields behind the elements
+-- the fields after the elements
 abbrev pub behind : Format → ℕ → Layout
 behind Lbd1 count = End
 behind Lbd2 count = ending count
 
--- the fields behind the head
+-- the fields after the head
 abbrev pub body_of : Head → Layout
 body_of h = elements (load_width h.format) h.procs 0 h.count (behind h.format h.count)
 
--- the bytes of elements behind this head
+-- the bytes of elements after this head
 abbrev pub elements_of : Head → List ℕ → List (ℕ × ℕ) → List ℕ
 elements_of h loads sizes = elements_text (load_width h.format) loads sizes
 

@@ -1,20 +1,20 @@
--- The head of a text: its letters and the three numbers behind them.
+-- The head of a text: its magic and the three numbers after it.
 use Rattle.std.specs.Prelude.{◌≡◌, ◌⊎◌, ℕ, ◌^◌, ◌<◌, ◌≤◌, List, ◌++◌, length, slice_index}
 use Rattle.std.specs.Int.{Width, w32, w64}
 use Rattle.chare_index.specs.declared.limits.TheConstants.Limits.{ELEMENTS, PES}
-use Rattle.dump_format.specs.Text.{word, letters_1, letters_2}
+use Rattle.dump_format.specs.Text.{word, magic_1, magic_2}
 use Rattle.dump_parts.specs.declared.head.Format.{Format}
 use Rattle.dump_parts.specs.declared.head.Format.TheVariants.{Lbd1, Lbd2}
 use Rattle.dump_parts.specs.declared.head.Head.{Head}
 
--- the letters of a format, and the fourth of them
-abbrev pub letters_of : Format → List ℕ
-letters_of Lbd1 = letters_1
-letters_of Lbd2 = letters_2
+-- the magic of a format, and its fourth byte
+abbrev pub magic_of : Format → List ℕ
+magic_of Lbd1 = magic_1
+magic_of Lbd2 = magic_2
 
-abbrev pub fourth_letter : Format → ℕ
-fourth_letter Lbd1 = 49
-fourth_letter Lbd2 = 50
+abbrev pub fourth_byte : Format → ℕ
+fourth_byte Lbd1 = 49
+fourth_byte Lbd2 = 50
 
 -- the width of a load, and the length of an element
 abbrev pub load_width : Format → Width
@@ -34,10 +34,10 @@ pub record IsHead (h : Head) : Type 0 where
 
 -- the bytes of a head
 abbrev pub head_text : Head → List ℕ
-head_text h = letters_of h.format ++ (word h.step ++ (word h.procs ++ word h.count))
+head_text h = magic_of h.format ++ (word h.step ++ (word h.procs ++ word h.count))
 
--- the letters that are there are those of a format
-pub record HasLetters (text : List ℕ) : Type 0 where
+-- the first bytes are those of the magic of a format, as far as they have come
+pub record HasMagic (text : List ℕ) : Type 0 where
   pub first : 0 < length text → slice_index text 0 ≡ 76
   pub second : 1 < length text → slice_index text 1 ≡ 66
   pub third : 2 < length text → slice_index text 2 ≡ 68

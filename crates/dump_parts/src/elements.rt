@@ -16,8 +16,8 @@ use dump_format::DumpError;
 use lb_snapshot::Units;
 use std::alloc::Allocator;
 
-/// Puts the whole elements with which these bytes begin at the ends of the lists, at most as many as are missing, and
-/// returns the bytes behind them. The lists are given room for all elements of the text first.
+/// Appends the whole elements with which these bytes begin to the lists, at most as many as are missing, and returns the
+/// bytes after them. First it reserves room in the lists for all elements of the text.
 ///
 /// # Errors
 ///
@@ -35,7 +35,8 @@ pub fn take_elements<'a, A: Allocator>(
     ensures kept { OnOk result (AreOf head.now loads.new.items sizes.new.items) }
     ensures few { OnOk result (length loads.new.items ≤ head.now.count) }
     ensures short { IfOk result (λ rest. length loads.new.items < head.now.count → length rest.now < element_len head.now.format) }
-    ensures broken { IfErr result (λ e. (e ≡ DumpError.OutOfMemory) ⊎ (judge (body_of head.now) (elements_of head.now loads.old.items sizes.old.items ++ bytes.now) ≡ Broken e)) }
+    ensures broken { IfErr result (λ e. (e ≡ DumpError.OutOfMemory)
+        ⊎ (judge (body_of head.now) (elements_of head.now loads.old.items sizes.old.items ++ bytes.now) ≡ Broken e)) }
 {
     let Head {
         format,
@@ -46,7 +47,7 @@ pub fn take_elements<'a, A: Allocator>(
     let missing = count as usize - loads.len();
     loads.reserve_exact(missing)?;
     sizes.reserve_exact(missing)?;
-    // It is within this limit as it is. The compiler, told so, tests each place once.
+    // It is within this limit already. With this line the compiler knows, and tests each place once.
     let procs = procs.min(Limits::PES);
     let len = format.element_len();
     let end = loads.len() + missing.min(bytes.len() / len);
@@ -61,7 +62,7 @@ pub fn take_elements<'a, A: Allocator>(
     Ok(rest)
 }
 
-/// Judges those fields of element `i` that are whole but its place, where only these bytes of it have come.
+/// Judges the fields of element `i` that are whole, except its place, where only these bytes of it have come.
 ///
 /// # Errors
 ///

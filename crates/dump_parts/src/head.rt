@@ -1,10 +1,10 @@
-//! The letters of a text, and the step, the number of PEs and the number of elements behind them.
+//! The head of a text: the magic, the step, the number of PEs and the number of elements.
 
 ghost use Rattle.std.specs.Prelude.{◌≡◌, ◌+◌, ◌≤◌, ◌<◌, length, slice_index, MatchResult, MatchOption};
 ghost use Rattle.dump_format.specs.Faults.{IsBroken};
 ghost use Rattle.dump_format.specs.Layout.{judge, Unfinished};
 ghost use Rattle.dump_format.specs.Fields.{dump};
-ghost use Rattle.dump_parts.specs.Heads.{HasLetters, IsHead, element_len, fourth_letter, head_text};
+ghost use Rattle.dump_parts.specs.Heads.{HasMagic, IsHead, element_len, fourth_byte, head_text};
 
 use crate::numbers::{WORD_LEN, word};
 use chare_index::Limits;
@@ -13,10 +13,10 @@ use dump_format::DumpError;
 /// The length of the head.
 pub const HEAD_LEN: usize = 16;
 
-/// The letters with which every text begins.
-const LETTERS: [u8; 3] = *b"LBD";
+/// The first three bytes of the magic, with which every text begins.
+const MAGIC: [u8; 3] = *b"LBD";
 
-/// Which format a text has, told by its fourth letter.
+/// Which format a text has, by the fourth byte of its magic.
 #[derive(Clone, Copy, Debug, PartialEq, Eq)]
 pub enum Format {
     /// A snapshot whose loads have four bytes.
@@ -57,7 +57,7 @@ pub struct Head {
     pub count: u32,
 }
 
-/// The head, once these bytes, with which a text begins, are all of it.
+/// The head in the first bytes of a text, or `None` where they are fewer than its 16.
 ///
 /// # Errors
 ///
@@ -70,7 +70,7 @@ pub fn read_head(bytes: &[u8]) -> Result<Option<Head>, DumpError>
         (λ h. IsHead h × (bytes.now ≡ head_text h)))
         (λ e. IsBroken bytes.now e) }
 {
-    judge_letters(bytes)?;
+    judge_magic(bytes)?;
     if bytes.len() < 3 * WORD_LEN {
         return Ok(None);
     }
@@ -93,26 +93,26 @@ pub fn read_head(bytes: &[u8]) -> Result<Option<Head>, DumpError>
     }))
 }
 
-// The letters that are there.
-fn judge_letters(bytes: &[u8]) -> Result<(), DumpError>
-    ensures { MatchResult result (λ _. HasLetters bytes.now) (λ e. IsBroken bytes.now e) }
+// Judges the bytes of the magic that have come.
+fn judge_magic(bytes: &[u8]) -> Result<(), DumpError>
+    ensures { MatchResult result (λ _. HasMagic bytes.now) (λ e. IsBroken bytes.now e) }
 {
-    for k in 0..LETTERS.len().min(bytes.len()) {
-        if bytes[k] != LETTERS[k] {
+    for k in 0..MAGIC.len().min(bytes.len()) {
+        if bytes[k] != MAGIC[k] {
             return Err(DumpError::Magic);
         }
     }
-    if bytes.len() > LETTERS.len() && bytes[3] != b'1' && bytes[3] != b'2' {
+    if bytes.len() > MAGIC.len() && bytes[3] != b'1' && bytes[3] != b'2' {
         return Err(DumpError::Magic);
     }
     Ok(())
 }
 
-// The format of a text that has its letters.
+// The format of a text whose magic is whole.
 fn format_of(bytes: &[u8]) -> Format
     requires long { 3 < length bytes.now }
-    requires letters { HasLetters bytes.now }
-    ensures { slice_index bytes.now 3 ≡ fourth_letter result }
+    requires magic { HasMagic bytes.now }
+    ensures { slice_index bytes.now 3 ≡ fourth_byte result }
 {
     if bytes[3] == b'1' {
         Format::Lbd1

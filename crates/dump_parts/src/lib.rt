@@ -1,7 +1,7 @@
 //! The parts of a dump's text, one after another, from bytes to values: each function takes the bytes that have come,
 //! judges every field that is whole, and returns the values or the first fault. `lb_dump` puts the parts together.
 //!
-//! - [`Head`], with [`Format`] and [`read_head`]: the letters and the three numbers behind them.
+//! - [`Head`], with [`Format`] and [`read_head`]: the magic and the three numbers after it.
 //! - [`take_elements`] and [`judge_element`]: the elements.
 //! - [`take_moves`] and [`judge_move`]: the moves.
 //! - [`word`] and [`long`]: a number of four bytes, and one of eight.

@@ -16,8 +16,8 @@ use std::alloc::Allocator;
 /// The length of a move: its index, the PE on which the element stands, and the one on which it is to run.
 pub const MOVE_LEN: usize = 12;
 
-/// Puts the whole moves with which these bytes begin at the end of the list, at most as many as are missing of `all`, and
-/// returns the bytes behind them. The list is given room for all moves first.
+/// Appends the whole moves with which these bytes begin to the list, at most as many as are missing of `all`, and returns
+/// the bytes after them. First it reserves room in the list for all moves.
 ///
 /// # Errors
 ///
@@ -40,7 +40,7 @@ pub fn take_moves<'a, A: Allocator>(
 {
     let missing = all as usize - moves.len();
     moves.reserve_exact(missing)?;
-    // It is within this limit as it is. The compiler, told so, tests each index once.
+    // It is within this limit already. With this line the compiler knows, and tests each index once.
     let count = count.min(Limits::ELEMENTS);
     let end = moves.len() + missing.min(bytes.len() / MOVE_LEN);
     let mut rest = bytes;
@@ -53,7 +53,7 @@ pub fn take_moves<'a, A: Allocator>(
     Ok(rest)
 }
 
-/// Judges those fields of move `k` that are whole but its last, where only these bytes of it have come.
+/// Judges the fields of move `k` that are whole, except its last, where only these bytes of it have come.
 ///
 /// # Errors
 ///

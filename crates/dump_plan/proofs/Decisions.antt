@@ -1,10 +1,10 @@
--- How what stands behind the elements is judged, as far as it has come.
+-- How what follows the elements is judged, as far as it has come.
 use Rattle.std.proofs.Common.{◌≡◌, ℕ, ◌+◌, ◌-◌, ◌*◌, ◌<◌, ◌≤◌, List, length, drop, refl, ap, sym, subst, ◌∙◌, Some, None, Bool, true, false, inl, inr, ◌⊎◌, arith}
 use Rattle.std.specs.Prelude.{◌==◌, ◌&&◌, nat_le, nat_lt, if◌then◌else◌}
 use Rattle.std.specs.Int.{w32, w64, from_be_bytes}
 use Rattle.std.proofs.lemmas.Bool.{and_from, and_right, le-leb, lt-leb, lt-ltb}
 use Rattle.chare_index.specs.declared.limits.TheConstants.Limits.{PES}
-use Rattle.dump_format.specs.Fields.{any, behind_floor, decision, ending, moves, numbers, unless}
+use Rattle.dump_format.specs.Fields.{any, after_floor, decision, ending, moves, numbers, unless}
 use Rattle.dump_format.specs.Layout.{Layout, End, Field, Unfinished, Broken, judge}
 use Rattle.dump_format.specs.declared.error.DumpError.{DumpError}
 use Rattle.dump_format.specs.declared.error.DumpError.TheVariants.{Flag, Target, Floor, MoveCount}
@@ -21,7 +21,7 @@ fault b e is = ap (λ it. unless it e) is
 
 -- the fields from the kind of the floor on, those from the bottleneck on, and the number of moves
 abbrev floor_field : ℕ → ℕ → Layout
-floor_field count target = Field w32 (λ kind. unless (nat_le kind 1) Floor) (λ kind. behind_floor count target kind)
+floor_field count target = Field w32 (λ kind. unless (nat_le kind 1) Floor) (λ kind. after_floor count target kind)
 
 abbrev lists : ℕ → ℕ → Layout
 lists count target = any w64 (λ _. numbers w32 (target + 1) (floor_field count target))
@@ -81,7 +81,7 @@ pub short_lists : (count : ℕ) (text : List ℕ) (target : ℕ) → IsOpened te
 short_lists count text target known short =
     let needs : Needs (8 + ((target + 1) * 4 + 4)) (lists count target) =
     needs_any w64 (λ _. numbers w32 (target + 1) (floor_field count target)) ((target + 1) * 4 + 4) (λ _. needs_numbers w32 (target + 1) (floor_field count target) 4
-    (needs_field w32 (λ kind. unless (nat_le kind 1) Floor) (λ kind. behind_floor count target kind))) in
+    (needs_field w32 (λ kind. unless (nat_le kind 1) Floor) (λ kind. after_floor count target kind))) in
     opened count text target known ∙ short_at (lists count target) (8 + ((target + 1) * 4 + 4)) text 8 needs known.long (omega arith)
 
 to_floor : (count : ℕ) (text : List ℕ) (target : ℕ) → IsOpened text target → kind_at target ≤ length text → judge (ending count) text ≡ judge (floor_field count target) (drop (kind_at target) text)
@@ -94,7 +94,7 @@ pub broken_floor : (count : ℕ) (text : List ℕ) (target from kind : ℕ) → 
 broken_floor count text target from kind known from_is long is high =
     let there : kind_at target + 4 ≤ length text = subst (λ n. n + 4 ≤ length text) from_is long in
     to_floor count text target known (omega arith)
-    ∙ broken_at w32 (λ k. unless (nat_le k 1) Floor) (λ k. behind_floor count target k) text (kind_at target) kind Floor there (ap (word_at text) (sym from_is) ∙ sym is) (fault (nat_le kind 1) Floor (lt-leb kind 1 high))
+    ∙ broken_at w32 (λ k. unless (nat_le k 1) Floor) (λ k. after_floor count target k) text (kind_at target) kind Floor there (ap (word_at text) (sym from_is) ∙ sym is) (fault (nat_le kind 1) Floor (lt-leb kind 1 high))
 
 -- a kind of a floor that keeps its rule
 pub record IsFloored (text : List ℕ) (target kind : ℕ) : Type 0 where
@@ -103,11 +103,11 @@ pub record IsFloored (text : List ℕ) (target kind : ℕ) : Type 0 where
   pub kind_is : word_at text (kind_at target) ≡ kind
   pub good : kind ≤ 1
 
-floored : (count : ℕ) (text : List ℕ) (target kind : ℕ) → IsFloored text target kind → judge (ending count) text ≡ judge (behind_floor count target kind) (drop (kind_at target + 4) text)
+floored : (count : ℕ) (text : List ℕ) (target kind : ℕ) → IsFloored text target kind → judge (ending count) text ≡ judge (after_floor count target kind) (drop (kind_at target + 4) text)
 floored count text target kind is =
     let long = is.long in
     to_floor count text target is.opened (omega arith)
-    ∙ field_at w32 (λ k. unless (nat_le k 1) Floor) (λ k. behind_floor count target k) text (kind_at target) (kind_at target + 4) kind refl long is.kind_is (kept (nat_le kind 1) Floor (le-leb kind 1 is.good))
+    ∙ field_at w32 (λ k. unless (nat_le k 1) Floor) (λ k. after_floor count target k) text (kind_at target) (kind_at target + 4) kind refl long is.kind_is (kept (nat_le kind 1) Floor (le-leb kind 1 is.good))
 
 -- how many stops there are, and their bytes
 abbrev stops : ℕ → ℕ → ℕ
@@ -131,10 +131,10 @@ short_plan count text target kind is short =
     let needs_v : Needs (target * 8 + (8 + 4)) v = needs_numbers w64 target rest (8 + 4) needs_rest in
     let needs_u : Needs (target * 8 + (target * 8 + (8 + 4))) u = needs_numbers w64 target v (target * 8 + (8 + 4)) needs_v in
     let needs_names : Needs (target * 4 + (target * 8 + (target * 8 + (8 + 4)))) names = needs_numbers w32 target u (target * 8 + (target * 8 + (8 + 4))) needs_u in
-    let needs : Needs (stops kind target * 4 + (target * 4 + (target * 8 + (target * 8 + (8 + 4))))) (behind_floor count target kind) =
+    let needs : Needs (stops kind target * 4 + (target * 4 + (target * 8 + (target * 8 + (8 + 4))))) (after_floor count target kind) =
     needs_numbers w32 (stops kind target) names (target * 4 + (target * 8 + (target * 8 + (8 + 4)))) needs_names in
     floored count text target kind is
-    ∙ short_at (behind_floor count target kind) (stops kind target * 4 + (target * 4 + (target * 8 + (target * 8 + (8 + 4))))) text (kind_at target + 4) needs is.long (omega (arith, stops_len kind target))
+    ∙ short_at (after_floor count target kind) (stops kind target * 4 + (target * 4 + (target * 8 + (target * 8 + (8 + 4))))) text (kind_at target + 4) needs is.long (omega (arith, stops_len kind target))
 
 to_moves : (count : ℕ) (text : List ℕ) (target kind : ℕ) → IsFloored text target kind → length text ≡ plan_len target kind → judge (ending count) text ≡ judge (move_count count) (drop (length text - 4) text)
 to_moves count text target kind is whole =

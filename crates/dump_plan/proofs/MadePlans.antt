@@ -72,7 +72,7 @@ filled_fields r m fields =
       planned = All-replicate (λ (move : ℕ × ℕ × ℕ). move.2 < PES) m (0, 0, 0) (lit< tt);
     }
 
--- behind the bytes of a decision stand its moves
+-- after the bytes of a decision stand its moves
 pub made_judged : {A : Type 0} (count : ℕ) (r : Recorded A) (m : ℕ) (bytes more : List ℕ) → count ≤ ELEMENTS → IsMade bytes count r m → judge (ending count) (bytes ++ more) ≡ judge (moves count 0 m) more
 made_judged count r m bytes more few made =
     ap (λ it. judge (ending count) (it ++ more)) made.spelled
@@ -82,7 +82,7 @@ made_judged count r m bytes more few made =
     ∙ plan_taken count (filled r m) more (filled_recorded count r m made.recorded made.few_moves) (filled_fields r m made.fields) few
     ∙ ap (λ n. judge (moves count 0 n) more) (length-replicate m (0, 0, 0))
 
--- behind a flag of 0 the text ends
+-- after a flag of 0 the text ends
 pub none_judged : (count : ℕ) (more : List ℕ) → judge (ending count) (word 0 ++ more) ≡ judge End more
 none_judged count more = no_decision_taken count more
 

@@ -27,7 +27,7 @@ bytes_left xs ys all =
       ];
     }
 
--- the part behind a front and before the rest
+-- the part after a front and before the rest
 pub bytes_between : (xs ys zs all : List ℕ) → xs ++ (ys ++ zs) ≡ all → AreBytes all → AreBytes ys
 bytes_between xs ys zs all joined known = bytes_left ys zs (bytes_right xs (ys ++ zs) (subst AreBytes (sym joined) known))
 
@@ -49,7 +49,7 @@ word_at-append xs ys at long =
 pub word_read : (xs : List ℕ) (at n : ℕ) → n ≡ from_be_bytes w32 (take (length xs - at) (drop at xs)) → n ≡ word_at xs at
 word_read xs at n e = e ∙ ap (from_be_bytes w32) (take_rest xs at)
 
--- the rest behind so many bytes of a part that begins at an offset
+-- the rest after so many bytes of a part that begins at an offset
 pub behind_part : (xs : List ℕ) (at n : ℕ) (rest : List ℕ) → rest ≡ drop n (take (length xs - at) (drop at xs)) → rest ≡ drop (at + n) xs
 behind_part xs at n rest e = e ∙ (ap (drop n) (take_rest xs at) ∙ drop-drop n at xs)
 

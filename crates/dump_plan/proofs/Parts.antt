@@ -11,13 +11,13 @@ use Rattle.dump_plan.specs.Lists.{floor_len, AreNamedIn, ArePricesIn, IsDivision
 use Rattle.dump_plan.specs.Plans.{flag_in, kind_at, kind_in, plan_bytes, plan_len, target_in, word_at}
 use Rattle.dump_plan.proofs.Numbers.{AreBytes, behind_part, bytes_left, bytes_right, long_first, word-append, word_at-append, word_first}
 
--- the length of the floor behind so many bytes
+-- the length of the floor after so many bytes
 pub floor_whole : (bytes rest : List ℕ) (at count : ℕ) → rest ≡ drop at bytes → length bytes ≡ at + floor_len (word_at bytes at) count → length rest ≡ floor_len (word_at rest 0) count
 floor_whole bytes rest at count is whole =
     let here : length (drop at bytes) ≡ floor_len (word_at bytes at) count = rw length-drop (omega arith) in
     ap length is ∙ (here ∙ ap (λ it. floor_len (from_be_bytes w32 it) count) (sym is))
 
--- the bottleneck, the cuts and the floor behind them
+-- the bottleneck, the cuts and the floor after them
 pub division_read : {A : Type 0} (bytes cut_bytes floor_bytes items : List ℕ) (blocks : ℕ) (division : Division A) → AreBytes bytes → 8 ≤ length bytes
     → division.bottleneck ≡ from_be_bytes w64 bytes → division.bottleneck < 2 ^ 64
     → take (length bytes - 8) (drop 8 bytes) ≡ cut_bytes ++ floor_bytes
@@ -35,7 +35,7 @@ division_read bytes cut_bytes floor_bytes items blocks division known eight is s
       stop_words = floor.words;
     }
 
--- the prices of the blocks, and behind them those of the PEs
+-- the prices of the blocks, and after them those of the PEs
 pub prices_read : {A : Type 0} (bytes first second : List ℕ) (us vs : List ℤ) (blocks : ℕ) (prices : Prices A) → bytes ≡ first ++ second
     → flat_map price us ≡ first → length us ≡ blocks → ArePrices us → prices.u ≡ us
     → flat_map price vs ≡ second → length vs ≡ blocks → ArePrices vs → prices.v ≡ vs → ArePricesIn bytes blocks prices
@@ -48,7 +48,7 @@ prices_read bytes first second us vs blocks prices split u_spelled u_counted u_r
       pe_range = subst ArePrices (sym v_is) v_range;
     }
 
--- the bytes of a whole plan, cut behind its floor
+-- the bytes of a whole plan, cut after its floor
 pub record Cut (bytes front back : List ℕ) (blocks : ℕ) : Type 0 where
   pub target : target_in bytes ≡ blocks
   pub whole : length bytes ≡ plan_len blocks (kind_in bytes)
@@ -62,7 +62,7 @@ front_len bytes front back blocks cut =
     let back_len = cut.back_len in
     omega arith
 
--- the kind of the floor, in the part behind the flag and the target
+-- the kind of the floor, in the part after the flag and the target
 pub front_kind : (bytes front back : List ℕ) (blocks : ℕ) → Cut bytes front back blocks → word_at (take (length front - 8) (drop 8 front)) (8 + 4 * (blocks + 1)) ≡ kind_in bytes
 front_kind bytes front back blocks cut =
     let len : length front ≡ 16 + 4 * (blocks + 1) + floor_len (kind_in bytes) (blocks + 1) = front_len bytes front back blocks cut in

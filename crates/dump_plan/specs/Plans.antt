@@ -16,7 +16,7 @@ use Rattle.dump_plan.specs.declared.plan.Plan.TheVariants.{Begun, Nothing, Made}
 abbrev pub word_at : List ℕ → ℕ → ℕ
 word_at bytes at = from_be_bytes w32 (drop at bytes)
 
--- the flag, the target, where the kind of the floor begins, behind the cuts, and the kind
+-- the flag, the target, where the kind of the floor begins, after the cuts, and the kind
 abbrev pub flag_in : List ℕ → ℕ
 flag_in bytes = from_be_bytes w32 bytes
 
@@ -29,7 +29,7 @@ kind_at target = 16 + 4 * (target + 1)
 abbrev pub kind_in : List ℕ → ℕ
 kind_in bytes = word_at bytes (kind_at (target_in bytes))
 
--- The length up to the moves, by the target and the kind of the floor: behind the kind stand the stops, if there is a
+-- The length up to the moves, by the target and the kind of the floor: after the kind stand the stops, if there is a
 -- fence, the names, the prices of blocks and of PEs, the bytes moved and the number of moves.
 abbrev pub plan_len : ℕ → ℕ → ℕ
 plan_len target kind = kind_at target + 4 + (if kind == 0 then 0 else 4 * (target + 1)) + 20 * target + 12
@@ -39,7 +39,7 @@ abbrev pub floor_kind : {A : Type 0} → Floor A → ℕ
 floor_kind Zero = 0
 floor_kind (Fence stops) = 1
 
--- these bytes have begun a decision, of which more have to come: each field with a rule that is whole keeps it
+-- these bytes begin a decision that is not whole yet, and each whole field keeps its rule
 pub record IsBegun (bytes : List ℕ) : Type 0 where
   pub flag : 4 ≤ length bytes → flag_in bytes ≡ 1
   pub some_target : 8 ≤ length bytes → 0 < target_in bytes
@@ -47,7 +47,7 @@ pub record IsBegun (bytes : List ℕ) : Type 0 where
   pub kind : kind_at (target_in bytes) + 4 ≤ length bytes → kind_in bytes ≤ 1
   pub short : kind_at (target_in bytes) + 4 ≤ length bytes → length bytes < plan_len (target_in bytes) (kind_in bytes)
 
--- these bytes may stand behind the elements, but that the last field with a rule may break it: none follows one that does
+-- these bytes may follow the elements, except that the last field in them may break its rule: no byte follows such a field
 pub record MayBegin (bytes : List ℕ) : Type 0 where
   pub flag : 4 < length bytes → flag_in bytes ≡ 1
   pub some_target : 8 < length bytes → 0 < target_in bytes
@@ -55,7 +55,7 @@ pub record MayBegin (bytes : List ℕ) : Type 0 where
   pub kind : kind_at (target_in bytes) + 4 < length bytes → kind_in bytes ≤ 1
   pub within : kind_at (target_in bytes) + 4 < length bytes → length bytes ≤ plan_len (target_in bytes) (kind_in bytes)
 
--- the bytes of a decision with so many moves, up to them, behind the flag
+-- the bytes of a decision with so many moves, up to them, after the flag
 abbrev pub plan_bytes : {A : Type 0} → Recorded A → ℕ → List ℕ
 plan_bytes r moves =
     word r.target ++ (long r.decision.division.bottleneck ++ (flat_map word r.decision.division.cuts
@@ -63,7 +63,7 @@ plan_bytes r moves =
     ++ (flat_map price r.decision.prices.u ++ (flat_map price r.decision.prices.v
     ++ (long r.decision.moved ++ word moves)))))))
 
--- a decision up to its moves, whose list is empty: at most as many are to follow as there are elements
+-- a decision without its moves, of which at most as many follow as there are elements
 pub record IsMade {A : Type 0} (bytes : List ℕ) (count : ℕ) (r : Recorded A) (moves : ℕ) : Type 0 where
   pub spelled : bytes ≡ word 1 ++ plan_bytes r moves
   pub recorded : IsRecorded count r
@@ -71,7 +71,7 @@ pub record IsMade {A : Type 0} (bytes : List ℕ) (count : ℕ) (r : Recorded A)
   pub no_moves : r.decision.moves ≡ []
   pub few_moves : moves ≤ count
 
--- what these bytes are, behind so many elements
+-- what these bytes are, which follow so many elements
 abbrev pub IsPlan : {A : Type 0} → List ℕ → ℕ → Plan A → Type 0
 IsPlan bytes count Begun = IsBegun bytes × (judge (ending count) bytes ≡ Unfinished)
 IsPlan bytes count Nothing = bytes ≡ word 0

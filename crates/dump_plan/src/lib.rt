@@ -1,5 +1,5 @@
-//! What stands behind the elements of a dump in the format LBD2, up to its moves: a flag and, where that is 1, a decision's
-//! numbers and lists. They come in pieces: [`plan_end`] says up to where the next bytes are wanted, and [`read_plan`] judges
+//! What follows the elements of a dump in the format LBD2, up to its moves: a flag and, where that is 1, a decision's
+//! numbers and lists. They come in pieces: [`plan_end`] returns how many bytes are needed next, and [`read_plan`] judges
 //! what has come and makes a [`Plan`] of it.
 #![tactic(auto)]
 

@@ -13,7 +13,7 @@ use lb_certificates::{Cuts, Division, Floor, Naming, PriceList, Prices, Stops};
 use lb_strategy::{Decision, Moves};
 use std::alloc::{AllocError, Allocator};
 
-/// The decision up to its moves that these bytes are. Each list makes one request, for as much as it needs.
+/// The decision, without its moves, that these bytes are. The memory of each list is requested once, with its exact length.
 ///
 /// # Errors
 ///
@@ -34,7 +34,7 @@ pub(crate) fn recorded_of<A: Allocator + Copy>(
     ensures fields { IfOk result (λ r. AreFields r) }
     ensures no_moves { IfOk result (λ r. r.decision.moves ≡ []) }
 {
-    let (front, back) = bytes.split_at(bytes.len() - behind_floor(target));
+    let (front, back) = bytes.split_at(bytes.len() - after_floor(target));
     let (lists, numbers) = back.split_at(lists_len(target));
     let division = division_of(alloc, &front[2 * WORD_LEN..], target)?;
     let (naming, prices) = naming_of(alloc, lists, target)?;
@@ -58,8 +58,8 @@ fn lists_len(target: usize) -> usize
     WORD_LEN * target + 2 * (LONG_LEN * target)
 }
 
-/// The length of what stands behind the floor, up to the moves.
-pub(crate) fn behind_floor(target: usize) -> usize
+/// The length of what follows the floor, up to the moves.
+pub(crate) fn after_floor(target: usize) -> usize
     requires { target ≤ Limits.PES }
     ensures { result ≡ 20 * target + 12 }
 {
@@ -135,7 +135,7 @@ fn prices_of<A: Allocator + Copy>(
     })
 }
 
-// The numbers of four bytes that these bytes are, of which there are so many.
+// The `count` numbers of four bytes that these bytes are.
 fn words_in<A: Allocator>(alloc: A, bytes: &[u8], count: usize) -> Result<Vec<u32, A>, AllocError>
     requires { length bytes.now ≡ 4 * count }
     ensures spelled { IfOk result (λ words. flat_map word_text words.items ≡ bytes.now) }
@@ -152,7 +152,7 @@ fn words_in<A: Allocator>(alloc: A, bytes: &[u8], count: usize) -> Result<Vec<u3
     Ok(words)
 }
 
-// The prices that these bytes are, of which there are so many.
+// The `count` prices that these bytes are.
 fn prices_in<A: Allocator>(alloc: A, bytes: &[u8], count: usize) -> Result<Vec<i64, A>, AllocError>
     requires { length bytes.now ≡ 8 * count }
     ensures spelled { IfOk result (λ prices. flat_map price prices.items ≡ bytes.now) }

@@ -1,7 +1,7 @@
 use dump_format::Recorded;
 use std::alloc::{Allocator, Global};
 
-/// What the bytes behind the elements are.
+/// What the bytes after the elements are.
 #[derive(Drop)]
 #[derive_where(Debug)]
 pub enum Plan<A: Allocator = Global> {

@@ -3,20 +3,20 @@ ghost use Rattle.dump_format.specs.Fields.{ending};
 ghost use Rattle.dump_format.specs.Layout.{judge, Broken};
 ghost use Rattle.dump_plan.specs.Plans.{IsBegun, IsPlan, MayBegin, flag_in, kind_at, kind_in, plan_len, target_in};
 
-use crate::lists::{behind_floor, recorded_of};
+use crate::lists::{after_floor, recorded_of};
 use crate::plan::Plan;
 use chare_index::Limits;
 use dump_format::DumpError;
 use dump_parts::{WORD_LEN, word};
 use std::alloc::Allocator;
 
-/// Where the target begins, behind the flag.
+/// Where the target begins, after the flag.
 const TARGET_AT: usize = 4;
 
-/// Where the cuts begin, behind the target and the bottleneck.
+/// Where the cuts begin, after the target and the bottleneck.
 const CUTS_AT: usize = 16;
 
-/// How many bytes have to be there before more can be judged: up to the end of the next field that has a rule.
+/// How many bytes there have to be before more can be judged: up to the end of the next field that has a rule.
 pub fn plan_end(begun: &[u8]) -> usize
     requires { IsBegun begun.now }
     ensures more { length begun.now < result }
@@ -36,7 +36,7 @@ pub fn plan_end(begun: &[u8]) -> usize
     plan_len(target, word(&begun[kind_at..]))
 }
 
-/// The plan that these bytes are, or that more have to come. No memory is asked for before all have come.
+/// The plan that these bytes are, or [`Plan::Begun`] where more have to come. No memory is requested before all have come.
 ///
 /// # Errors
 ///
@@ -70,7 +70,7 @@ pub fn read_plan<A: Allocator + Copy>(
     read_lists(alloc, bytes, target as usize, count)
 }
 
-// The same behind a flag of 1 and a target that are good.
+// The same after a flag of 1 and a target that are good.
 fn read_lists<A: Allocator + Copy>(
     alloc: A,
     bytes: &[u8],
@@ -108,7 +108,7 @@ fn read_lists<A: Allocator + Copy>(
     Ok(Plan::Made(recorded, moves))
 }
 
-// Whether a decision may be for so many PEs.
+// Whether so many PEs are 1 to [`Limits::PES`].
 fn is_target(target: u32) -> bool
     ensures { MatchBool result ((0 < target) × (target ≤ Limits.PES)) ((target ≡ 0) ⊎ (Limits.PES < target)) }
 {
@@ -122,7 +122,7 @@ fn is_kind(kind: u32) -> bool
     kind <= 1
 }
 
-// Where the kind of the floor begins, behind the cuts.
+// Where the kind of the floor begins, after the cuts.
 fn kind_at(target: usize) -> usize
     requires { target ≤ Limits.PES }
     ensures { result ≡ kind_at target }
@@ -133,8 +133,8 @@ fn kind_at(target: usize) -> usize
 /// The length of a decision up to its moves, with its flag, by its target and the kind of its floor, 0 or 1.
 pub fn plan_len(target: usize, kind: u32) -> usize
     requires { target ≤ Limits.PES }
-    ensures { result ≡ plan_len target kind }
+    ensures value { result ≡ plan_len target kind }
 {
     let stops = if kind == 0 { 0 } else { target + 1 };
-    kind_at(target) + WORD_LEN + WORD_LEN * stops + behind_floor(target)
+    kind_at(target) + WORD_LEN + WORD_LEN * stops + after_floor(target)
 }

@@ -37,7 +37,7 @@ filled_none item first = rw (none first) refl
 next : (first i : ℕ) → first ≤ i → (i + 1) - first ≡ (i - first) + 1
 next first i above = omega arith
 
--- where the item behind item i stands in a block
+-- where the item after item i stands in a block
 pub place_next : (len first i at : ℕ) → first ≤ i → at ≡ len * (i - first) → at + len ≡ len * ((i + 1) - first)
 place_next len first i at above is = rw (next first i above, mul-add, mul-one, is) refl
 

@@ -8,7 +8,7 @@ use Rattle.dump_format.specs.Dumps.{Dumped}
 use Rattle.dump_format.specs.Text.{word, long, elements_text, floor_text, plan_text, ending_text, lbd2_text}
 use Rattle.dump_writing.specs.Parts.{front_text, division_text, naming_text}
 
--- a head, and the elements behind it
+-- a head, and the elements after it
 pub front_parts : (s : Taken) (head loads : List ℕ) (step procs : ℕ) → step ≡ s.step → procs ≡ s.procs → loads ≡ s.loads → head ≡ 76 ∷ 66 ∷ 68 ∷ 50 ∷ (word step ++ (word procs ++ word (length loads)))
     → head ++ elements_text w64 s.loads s.sizes ≡ front_text s
 unfolding front_text
@@ -25,7 +25,7 @@ plan_parts r =
     let d = r.decision.division in
     ap (λ t. word r.target ++ (long d.bottleneck ++ t)) (append_assoc (flat_map word d.cuts) (floor_text d.floor) (naming_text r.decision))
 
--- all up to the last element, and what stands behind that
+-- all up to the last element, and what follows that
 pub dump_parts : {A : Type 0} (d : Dumped A) → front_text d.snapshot ++ ending_text d.recorded ≡ lbd2_text d
 unfolding front_text
 dump_parts d = refl

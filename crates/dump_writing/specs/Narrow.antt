@@ -9,7 +9,7 @@ use Rattle.dump_format.specs.declared.error.DumpError.TheVariants.{OutOfMemory, 
 abbrev pub taken : ℕ → ℕ → List ℕ → List (ℕ × ℕ) → Taken
 taken step procs loads sizes = record { step = step; procs = procs; loads = loads; sizes = sizes }
 
--- a snapshot each of whose numbers fits the four bytes that it has
+-- a snapshot each of whose numbers fits its four bytes
 pub record IsNarrow (s : Taken) : Type 0 where
   pub snapshot : IsSnapshot s
   pub step : s.step < 2 ^ 32
@@ -21,12 +21,12 @@ pub record IsFirstWide (loads : List ℕ) (i : ℕ) : Type 0 where
   pub wide : 2 ^ 32 ≤ slice_index loads i
   pub earlier : (k : ℕ) → k < i → slice_index loads k < 2 ^ 32
 
--- the fault tells that load
+-- the fault names that load
 abbrev pub IsWideAt : List ℕ → DumpError → Type 0
 IsWideAt loads (Wide i) = IsFirstWide loads i
 IsWideAt loads e = ⊥
 
--- Why the text of a snapshot with these loads was not made: the first load that is too great is told, and memory is
+-- Why the text of a snapshot with these loads was not made: the first load that is too great is reported, and memory is
 -- asked for only where there is none.
 abbrev pub RefusesLbd1 : List ℕ → DumpError → Type 0
 RefusesLbd1 loads (Wide i) = IsFirstWide loads i

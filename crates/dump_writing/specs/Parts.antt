@@ -4,11 +4,11 @@ use Rattle.std.specs.Int.{w64}
 use Rattle.lb_snapshot.specs.Measured.{Taken}
 use Rattle.lb_certificates.specs.declared.division.Division.{Division}
 use Rattle.lb_strategy.specs.declared.decision.Decision.{Decision}
-use Rattle.dump_format.specs.Text.{word, long, price, letters_2, head_text, elements_text, floor_text}
+use Rattle.dump_format.specs.Text.{word, long, price, magic_2, head_text, elements_text, floor_text}
 
 -- all up to the last element
 unfoldable pub front_text : Taken → List ℕ
-front_text s = letters_2 ++ (head_text s ++ elements_text w64 s.loads s.sizes)
+front_text s = magic_2 ++ (head_text s ++ elements_text w64 s.loads s.sizes)
 
 -- a division: the bottleneck, the cuts and the floor
 unfoldable pub division_text : {A : Type 0} → Division A → List ℕ

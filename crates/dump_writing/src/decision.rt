@@ -10,7 +10,7 @@ use lb_strategy::Decision;
 use std::alloc::Allocator;
 use std::io::Write;
 
-/// Writes what stands behind the elements in the format LBD2: 0, or 1 and the decision.
+/// Writes what follows the elements in the format LBD2: 0, or 1 and the decision.
 pub(crate) fn put_ending<W: Write, A: Allocator>(
     writer: &mut W,
     dump: &Dump<A>,

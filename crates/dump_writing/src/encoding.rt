@@ -9,7 +9,7 @@ use dump_format::{Dump, DumpError};
 use lb_snapshot::Snapshot;
 use std::alloc::{AllocError, Allocator};
 
-/// The text of a dump in the format LBD2, in a list that holds it exactly.
+/// The text of a dump in the format LBD2.
 ///
 /// # Errors
 ///
@@ -25,7 +25,7 @@ pub fn encode_dump<A: Allocator, B: Allocator>(
     Ok(text)
 }
 
-/// The text of a snapshot in the format LBD1, in a list that holds it exactly.
+/// The text of a snapshot in the format LBD1.
 ///
 /// # Errors
 ///

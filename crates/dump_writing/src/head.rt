@@ -1,8 +1,7 @@
 ghost use Rattle.std.specs.Prelude.{◌≡◌, ◌∷◌, ◌++◌};
 ghost use Rattle.dump_format.specs.Text.{word};
 
-/// What stands before the elements: the letters, the last of which tells the format, the step, the number of PEs and the
-/// number of elements.
+/// The head: the magic, whose last byte is that of the format, the step, the number of PEs and the number of elements.
 pub(crate) fn head(format: u8, step: u32, procs: u32, count: u32) -> [u8; 16]
     ensures { result ≡ 76 ∷ 66 ∷ 68 ∷ format ∷ (word step ++ (word procs ++ word count)) }
 {

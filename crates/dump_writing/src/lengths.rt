@@ -12,7 +12,7 @@ const WORD_LEN: usize = 4;
 /// The length of a number of 64 bits.
 const LONG_LEN: usize = 8;
 
-/// The length of what stands before the elements.
+/// The length of the head.
 pub(crate) const HEAD_LEN: usize = 16;
 
 /// The length of an element in the format LBD1.
@@ -38,7 +38,7 @@ pub(crate) fn dump_len<A: Allocator>(dump: &Dump<A>) -> usize
     }
 }
 
-// How many bytes the text of a decision has up to its moves.
+// How many bytes the text of a decision has, without its moves.
 fn plan_len<A: Allocator>(recorded: &Recorded<A>) -> usize
     requires { (elements : ℕ) × IsRecorded elements recorded.now }
     ensures value { result ≡ length (plan_text recorded.now) }

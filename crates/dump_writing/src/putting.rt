@@ -27,7 +27,7 @@ pub(crate) fn put<W: Write>(writer: &mut W, bytes: &[u8]) -> Result<(), DumpErro
     Ok(())
 }
 
-// Puts the items `first..end` at the start of a block.
+// Writes the items `first..end` to the start of a block.
 fn fill<const N: usize, L: Items<N>>(block: &mut [u8], list: &L, first: usize, end: usize)
     requires ordered { first ≤ end }
     requires inside { end ≤ L.count list.now }
@@ -41,7 +41,7 @@ fn fill<const N: usize, L: Items<N>>(block: &mut [u8], list: &L, first: usize, e
     }
 }
 
-/// Writes the items of a list, one after another, many at a time.
+/// Writes the items of a list, one after another, a block of them at a time.
 pub(crate) fn put_items<W: Write, const N: usize, L: Items<N>>(
     writer: &mut W,
     list: &L,

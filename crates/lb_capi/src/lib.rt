@@ -6,7 +6,7 @@
 //! - [`tezgumi_abi`]: the number of this interface.
 #![tactic(auto)]
 
-ghost use Rattle.std.specs.Prelude.{◌≡◌, ◌≢◌, ◌↔◌, ◌⊎◌, ◌<◌, ◌≤◌, ◌+◌, ℕ, length, take, pos, negsuc};
+ghost use Rattle.std.specs.Prelude.{◌≡◌, ◌≢◌, ◌↔◌, ◌⊎◌, ◌<◌, ◌≤◌, ◌+◌, ℕ, length, take, drop, pos, negsuc};
 ghost use Rattle.chain_partition.specs.Chosen.{IsChosen};
 ghost use Rattle.lb_certificates.specs.Flaws.{flaw_number};
 ghost use Rattle.lb_certificates.specs.Naming.{IsLeastNaming};
@@ -60,7 +60,8 @@ pub extern "C" fn tezgumi_plan(
     ensures statuses { (result ≡ pos 0) ⊎ (result ≡ negsuc 0) ⊎ (result ≡ negsuc 1) ⊎ (result ≡ negsuc 2) }
     ensures planned { result ≡ pos 0 → IsPlan (run_of loads.now bytes.now places.now procs) pes new_places.new bottleneck.new moved.new }
     ensures input { result ≡ negsuc 0 ↔ ¬ (IsAsked (run_of loads.now bytes.now places.now procs) pes × (length new_places.old ≡ length loads.now)) }
-    ensures load { result ≡ negsuc 2 ↔ ((IsAsked (run_of loads.now bytes.now places.now procs) pes × (length new_places.old ≡ length loads.now)) × ¬ (AreSmall loads.now)) }
+    ensures load { result ≡ negsuc 2
+        ↔ ((IsAsked (run_of loads.now bytes.now places.now procs) pes × (length new_places.old ≡ length loads.now)) × ¬ (AreSmall loads.now)) }
     ensures kept { result ≢ pos 0 → (new_places.new ≡ new_places.old) × (bottleneck.new ≡ bottleneck.old) × (moved.new ≡ moved.old) }
 {
     let run = Run {
@@ -102,13 +103,24 @@ pub extern "C" fn tezgumi_decide(
 ) -> i32
     ensures statuses { (result ≡ pos 0) ⊎ (result ≡ negsuc 0) ⊎ (result ≡ negsuc 1) ⊎ (result ≡ negsuc 2) }
     ensures planned { result ≡ pos 0 → IsPlan (run_of loads.now bytes.now places.now procs) pes new_places.new bottleneck.new moved.new }
-    ensures right { result ≡ pos 0 → IsRightClaim (run_of loads.now bytes.now places.now procs) pes (claim_of bottleneck.new moved.new new_places.new cuts.new (take stops_count.new stops.new) names.new block_prices.new pe_prices.new) }
-    ensures chosen { result ≡ pos 0 → IsChosen loads.now pes (claimed_division (claim_of bottleneck.new moved.new new_places.new cuts.new (take stops_count.new stops.new) names.new block_prices.new pe_prices.new)) }
+    ensures right { result ≡ pos 0
+        → IsRightClaim (run_of loads.now bytes.now places.now procs) pes
+        (claim_of bottleneck.new moved.new new_places.new cuts.new (take stops_count.new stops.new) names.new block_prices.new pe_prices.new) }
+    ensures chosen { result ≡ pos 0
+        → IsChosen loads.now pes
+        (claimed_division (claim_of bottleneck.new moved.new new_places.new cuts.new (take stops_count.new stops.new) names.new block_prices.new pe_prices.new)) }
     ensures least_naming { result ≡ pos 0 → IsLeastNaming (sizes_of (run_of loads.now bytes.now places.now procs)) cuts.new pes names.new }
     ensures counted { result ≡ pos 0 → stops_count.new ≤ pes + 1 }
-    ensures input { result ≡ negsuc 0 ↔ ¬ (IsAsked (run_of loads.now bytes.now places.now procs) pes × HasRoom (length loads.now) pes (room_of new_places.old cuts.old stops.old names.old block_prices.old pe_prices.old)) }
-    ensures load { result ≡ negsuc 2 ↔ ((IsAsked (run_of loads.now bytes.now places.now procs) pes × HasRoom (length loads.now) pes (room_of new_places.old cuts.old stops.old names.old block_prices.old pe_prices.old)) × ¬ (AreSmall loads.now)) }
-    ensures kept { result ≢ pos 0 → room_of new_places.new cuts.new stops.new names.new block_prices.new pe_prices.new ≡ room_of new_places.old cuts.old stops.old names.old block_prices.old pe_prices.old }
+    ensures behind { result ≡ pos 0 → drop stops_count.new stops.new ≡ drop stops_count.new stops.old }
+    ensures input { result ≡ negsuc 0
+        ↔ ¬ (IsAsked (run_of loads.now bytes.now places.now procs) pes
+        × HasRoom (length loads.now) pes (room_of new_places.old cuts.old stops.old names.old block_prices.old pe_prices.old)) }
+    ensures load { result ≡ negsuc 2
+        ↔ ((IsAsked (run_of loads.now bytes.now places.now procs) pes
+        × HasRoom (length loads.now) pes (room_of new_places.old cuts.old stops.old names.old block_prices.old pe_prices.old)) × ¬ (AreSmall loads.now)) }
+    ensures kept { result ≢ pos 0
+        → room_of new_places.new cuts.new stops.new names.new block_prices.new pe_prices.new
+        ≡ room_of new_places.old cuts.old stops.old names.old block_prices.old pe_prices.old }
     ensures numbers_kept { result ≢ pos 0 → (bottleneck.new ≡ bottleneck.old) × (moved.new ≡ moved.old) × (stops_count.new ≡ stops_count.old) }
 {
     let run = Run {
@@ -156,9 +168,14 @@ pub extern "C" fn tezgumi_check(
     block_prices: &[i64],
     pe_prices: &[i64],
 ) -> i32
-    ensures right { result ≡ pos 0 → IsRightClaim (run_of loads.now bytes.now places.now procs) pes (claim_of bottleneck moved new_places.now cuts.now stops.now names.now block_prices.now pe_prices.now) }
-    ensures best { result ≡ pos 0 → IsBest (run_of loads.now bytes.now places.now procs) pes (claim_of bottleneck moved new_places.now cuts.now stops.now names.now block_prices.now pe_prices.now) }
-    ensures flawed { (n : ℕ) → result ≡ pos (n + 1) → (flaw : Flaw) × (flaw_number flaw ≡ n + 1) × IsFirstFlaw (run_of loads.now bytes.now places.now procs) pes (claim_of bottleneck moved new_places.now cuts.now stops.now names.now block_prices.now pe_prices.now) flaw }
+    ensures right { result ≡ pos 0
+        → IsRightClaim (run_of loads.now bytes.now places.now procs) pes (claim_of bottleneck moved new_places.now cuts.now stops.now names.now block_prices.now pe_prices.now) }
+    ensures best { result ≡ pos 0
+        → IsBest (run_of loads.now bytes.now places.now procs) pes (claim_of bottleneck moved new_places.now cuts.now stops.now names.now block_prices.now pe_prices.now) }
+    ensures flawed { (n : ℕ) → result ≡ pos (n + 1)
+        → (flaw : Flaw) × (flaw_number flaw ≡ n + 1)
+        × IsFirstFlaw (run_of loads.now bytes.now places.now procs) pes
+        (claim_of bottleneck moved new_places.now cuts.now stops.now names.now block_prices.now pe_prices.now) flaw }
     ensures refusals { (n : ℕ) → result ≡ negsuc n → n < 3 }
     ensures input { result ≡ negsuc 0 ↔ ¬ (IsAsked (run_of loads.now bytes.now places.now procs) pes) }
     ensures load { result ≡ negsuc 2 ↔ (IsAsked (run_of loads.now bytes.now places.now procs) pes × ¬ (AreSmall loads.now)) }

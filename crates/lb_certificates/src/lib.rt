@@ -1,6 +1,6 @@
 //! What a load balancer decides, and checkers whose `Ok` means that no decision is better.
 //!
-//! - [`Loads`], [`Sizes`] and [`Snapshot`]: what it decides on, passed on from [`lb_snapshot`].
+//! - [`Loads`], [`Sizes`] and [`Snapshot`]: what it decides on, re-exported from [`lb_snapshot`].
 //! - [`Division`], with [`Cuts`], [`Floor`] and [`Stops`]: the elements cut into consecutive blocks, and the
 //!   certificate that no other division has a lighter heaviest block.
 //! - [`Naming`] and [`Prices`], with [`PriceList`]: on which PE each block runs, and the certificate that no

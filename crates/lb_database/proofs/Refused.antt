@@ -1,4 +1,4 @@
--- What a call that was refused tells.
+-- What a call that was refused shows.
 use Rattle.std.proofs.Common.{◌≡◌, ℕ, suc, zero, ◌<◌, ◌≤◌, List, length, get_or, refl, sym, ap, ◌∙◌, subst, arith, Bool, true, false, not, eqb, Option, None, Result, Ok, Err}
 use Rattle.std.specs.Prelude.{IsNone, is_some, MatchResult, IsErrAnd, OnErr}
 use Rattle.std.proofs.lemmas.Bool.{eqb-true, eqb-false, not-true, not-false}

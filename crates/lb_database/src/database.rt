@@ -14,8 +14,8 @@ use std::marker::Model;
 
 /// What is measured of the elements of a chare array in one round: the work units charged to each, and the
 /// packed size in bytes and the place of each element that has reported. It has at most
-/// [`Limits::ELEMENTS`] elements, and its rounds are 1 to [`Limits::ROUND`]. It takes memory where it is made
-/// and for a snapshot, and nowhere else. A call that is refused leaves it unchanged. Contracts see it as the
+/// [`Limits::ELEMENTS`] elements, and its rounds are 1 to [`Limits::ROUND`]. Only `new`, `at` and
+/// `snapshot` take memory. A call that is refused leaves it unchanged. Contracts see it as the
 /// record `Measured`.
 #[derive(Drop)]
 #[derive_where(Debug)]
@@ -26,7 +26,7 @@ pub struct LoadDb<A: Allocator = Global> {
     loads: Vec<Units, A>,
     // The size and the place of each element that has reported in the round.
     reports: Vec<Option<(u32, Pe)>, A>,
-    // How many elements have not reported, kept so that nobody has to look for one.
+    // How many elements have not reported, counted so that `is_complete` need not search the list.
     missing: usize,
 }
 
@@ -81,8 +81,7 @@ impl<A: Allocator> LoadDb<A> {
         })
     }
 
-    /// Adds work units to the load of element `i`, which stops at [`Limits::LOAD`], whether the element has
-    /// reported or not.
+    /// Adds work units to the load of element `i`, up to [`Limits::LOAD`], whether the element has reported or not.
     ///
     /// # Errors
     ///
@@ -101,7 +100,7 @@ impl<A: Allocator> LoadDb<A> {
         }
     }
 
-    /// Notes that element `i` waits at its place `pe` for the end of `round`, packed into so many bytes.
+    /// Records that element `i` waits on `pe` for the end of `round`, and how many bytes it packs into.
     ///
     /// # Errors
     ///
@@ -147,7 +146,7 @@ impl<A: Allocator> LoadDb<A> {
             .all(|report| report.is_none_or(|(_, place)| place.get() < pes))
     }
 
-    /// What a load balancer decides on, taken at `step` of a run on `pes` PEs. All elements have to stand on these,
+    /// What a load balancer decides on, taken at `step` of a run on `pes` PEs. All elements have to stand on these PEs,
     /// which [`stands_on`](LoadDb::stands_on) tests.
     ///
     /// # Errors

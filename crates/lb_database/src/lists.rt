@@ -1,5 +1,5 @@
-//! The lists of a load database and of its snapshots. Each asks once for all its memory before it is filled,
-//! and an empty one asks for none.
+//! The lists of a load database and of its snapshots. All memory of a list is requested at once, before it is filled;
+//! an empty list requests none.
 
 ghost use Rattle.std.specs.Prelude.{◌≡◌, ◌<◌, All, length, map, replicate, Some, IfOk, IsSome, OnErr};
 ghost use Rattle.lb_snapshot.specs.Measured.{IsLoads};
@@ -9,7 +9,7 @@ use chare_index::Pe;
 use lb_snapshot::{Loads, Sizes, Units};
 use std::alloc::{AllocError, Allocator};
 
-/// A list of `n` values that are all this one.
+/// A list of `n` times this value.
 pub(crate) fn filled<T: Copy, A: Allocator>(
     alloc: A,
     value: T,

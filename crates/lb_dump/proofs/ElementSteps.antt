@@ -96,7 +96,7 @@ module _ (A : Type 0) (head : Option Head) (loads : List ℕ) (sizes : List (ℕ
         fresh_elements h next next_sizes (record { head = old.some.head; kept = kept; few = omega (arith, all) }),
       )
 
-  -- an element has begun behind those that are whole
+  -- an element has begun after those that are whole
   pub one_begins : (next : List ℕ) (next_sizes : List (ℕ × ℕ)) (rest next_begun : List ℕ) → begun ≡ [] → elements_of h next next_sizes ++ rest ≡ elements_of h loads sizes ++ bytes → AreOf h next next_sizes → length next < h.count
       → HasBegunElement h.format rest → next_begun ≡ begun ++ rest
       → ((front_text head next next_sizes plan list ++ next_begun) ++ [] ≡ (front_text head loads sizes plan list ++ begun) ++ bytes) × IsAt head next next_sizes plan list next_begun
@@ -139,7 +139,7 @@ module _ (A : Type 0) (head : Option Head) (loads : List ℕ) (sizes : List (ℕ
       (broken_behind (front_text {A = A} (Some h) loads sizes Begun []) begun start rest bytes e parts
       (elements_break A h loads sizes (begun ++ start) e old.some.head (subst (λ (t : List ℕ). judge (body_of h) (elements_of h loads sizes ++ t) ≡ Broken e) grown broken)))
 
--- A fault of an element that has begun behind elements that are whole.
+-- A fault of an element that has begun after elements that are whole.
 pub begun_breaks : (h : Head) (loads : List ℕ) (sizes : List (ℕ × ℕ)) (begun : List ℕ) (e : DumpError) → AreSome h loads sizes → length loads < h.count → BreaksElement h.format h.procs (length loads) begun e
     → judge (body_of h) (elements_of h loads sizes ++ begun) ≡ Broken e
 begun_breaks h loads sizes begun e some missing breaks =

@@ -13,7 +13,7 @@ use Rattle.dump_plan.specs.declared.plan.Plan.TheVariants.{Begun, Nothing, Made}
 use Rattle.lb_dump.specs.Held.{IsAt, elements_part, front_text, plan_part}
 use Rattle.lb_dump.specs.Reading.{HasGoodHead}
 use Rattle.dump_parts.specs.Moves.{moves_text}
-use Rattle.lb_dump.proofs.Lengths.{letters_length}
+use Rattle.lb_dump.proofs.Lengths.{magic_length}
 use Rattle.lb_dump.proofs.PlanSteps.{head_goes_on}
 use Rattle.lb_dump.proofs.Standing.{front_elements, front_none, held_good}
 use Rattle.lb_dump.proofs.Steps.{fresh_elements, none_yet}
@@ -32,7 +32,7 @@ unfolding front_text
 starts_with_head A h loads sizes plan list begun bytes =
     let behind : List ℕ = elements_part (Some h) loads sizes ++ (plan_part plan ++ moves_text list) in
     rw (append_assoc (head_text h ++ behind) begun bytes, append_assoc (head_text h) behind (begun ++ bytes))
-    (ap (λ n. take n (head_text h ++ (behind ++ (begun ++ bytes)))) (sym (letters_length h.format h.step h.procs h.count)) ∙ take-append_seam (head_text h) (behind ++ (begun ++ bytes)))
+    (ap (λ n. take n (head_text h ++ (behind ++ (begun ++ bytes)))) (sym (magic_length h.format h.step h.procs h.count)) ∙ take-append_seam (head_text h) (behind ++ (begun ++ bytes)))
 
 -- the numbers of a head that is there keep their rules
 head_kept : {A : Type 0} (h : Head) (loads : List ℕ) (sizes : List (ℕ × ℕ)) (plan : Plan A) (list : List (ℕ × ℕ × ℕ)) (begun : List ℕ) → IsAt (Some h) loads sizes plan list begun → IsHead h

@@ -4,7 +4,7 @@ use Rattle.chare_index.specs.declared.limits.TheConstants.Limits.{ELEMENTS}
 use Rattle.dump_format.specs.Text.{elements_text, word}
 use Rattle.dump_format.proofs.Spelling.{elements_length_long, elements_length_word, moves_length}
 use Rattle.dump_parts.specs.Elements.{elements_of}
-use Rattle.dump_parts.specs.Heads.{element_len, head_text, letters_of, load_width}
+use Rattle.dump_parts.specs.Heads.{element_len, head_text, magic_of, load_width}
 use Rattle.dump_parts.specs.Moves.{moves_text}
 use Rattle.dump_parts.specs.declared.head.Format.{Format}
 use Rattle.dump_parts.specs.declared.head.Format.TheVariants.{Lbd1, Lbd2}
@@ -16,9 +16,9 @@ use Rattle.dump_plan.specs.declared.plan.Plan.TheVariants.{Begun, Nothing, Made}
 use Rattle.lb_dump.specs.Held.{IsAt, front_text, plan_part}
 use Rattle.lb_dump.specs.Made.{plan_size}
 
-pub letters_length : (format : Format) (a b c : ℕ) → length (letters_of format ++ (word a ++ (word b ++ word c))) ≡ 16
-letters_length Lbd1 a b c = refl
-letters_length Lbd2 a b c = refl
+pub magic_length : (format : Format) (a b c : ℕ) → length (magic_of format ++ (word a ++ (word b ++ word c))) ≡ 16
+magic_length Lbd1 a b c = refl
+magic_length Lbd2 a b c = refl
 
 lengths_of : (format : Format) (loads : List ℕ) (sizes : List (ℕ × ℕ)) → length sizes ≡ length loads → length (elements_text (load_width format) loads sizes) ≡ element_len format * length loads
 lengths_of Lbd1 loads sizes paired = elements_length_word loads sizes (sym paired)
@@ -31,7 +31,7 @@ plan_length h loads sizes (Made r all) list begun at =
     let made : IsMade (word 1 ++ plan_bytes r all) h.count r all = record { spelled = refl; recorded = at.recorded; fields = at.fields; no_moves = at.plan_moves; few_moves = at.few_told } in
     made_length (word 1 ++ plan_bytes r all) h.count r all made
 
--- in each stage behind the head some elements are whole
+-- in each stage after the head some elements are whole
 some_kept : {A : Type 0} (h : Head) (loads : List ℕ) (sizes : List (ℕ × ℕ)) (plan : Plan A) (list : List (ℕ × ℕ × ℕ)) (begun : List ℕ) → IsAt (Some h) loads sizes plan list begun → (length sizes ≡ length loads) × (length loads ≤ ELEMENTS) × (length list ≤ ELEMENTS)
 some_kept h loads sizes Begun list begun at = (at.some.kept.paired, omega (arith, at.some.few, at.some.head.few), omega (arith, ap length at.no_moves))
 some_kept h loads sizes Nothing list begun at = (at.some.kept.paired, omega (arith, at.some.few, at.some.head.few), omega (arith, ap length at.no_moves))
@@ -49,7 +49,7 @@ front_length A (Some k) loads sizes plan list begun h at is =
       length-append (head_text k) (elements_of k loads sizes ++ (plan_part plan ++ moves_text list)),
       length-append (elements_of k loads sizes) (plan_part plan ++ moves_text list),
       length-append (plan_part plan) (moves_text list),
-      letters_length k.format k.step k.procs k.count,
+      magic_length k.format k.step k.procs k.count,
       lengths_of k.format loads sizes (some_kept k loads sizes plan list begun at).0,
       plan_length k loads sizes plan list begun at,
       moves_length list,

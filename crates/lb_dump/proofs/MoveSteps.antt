@@ -20,7 +20,7 @@ use Rattle.lb_dump.proofs.ElementSteps.{no_bytes}
 use Rattle.lb_dump.proofs.Standing.{next_move}
 use Rattle.lb_dump.proofs.Steps.{broken_behind, comes_behind, moves_break, moves_come, no_move_begun}
 
--- behind a plan that tells of moves
+-- after a plan with moves
 pub record AtMoves (A : Type 0) (head : Option Head) (loads : List ℕ) (sizes : List (ℕ × ℕ)) (plan : Plan A) (list : List (ℕ × ℕ × ℕ)) (begun : List ℕ) (count all : ℕ) : Type 0 where
   pub h : Head
   pub r : Recorded A
@@ -101,7 +101,7 @@ module _ (A : Type 0) (head : Option Head) (loads : List ℕ) (sizes : List (ℕ
     stands_with next begun kept (omega (arith, whole)) (λ more. absurd (omega (arith, more, whole))) (λ _. none),
   )
 
-  -- a move has begun behind those that are whole
+  -- a move has begun after those that are whole
   pub one_begins : (next : List (ℕ × ℕ × ℕ)) (rest next_begun : List ℕ) → begun ≡ [] → moves_text next ++ rest ≡ moves_text list ++ bytes → AreMoves count next → length next < all → HasBegunMove count rest → next_begun ≡ begun ++ rest
       → ((front_text head loads sizes plan next ++ next_begun) ++ [] ≡ (front_text head loads sizes plan list ++ begun) ++ bytes) × IsAt head loads sizes plan next next_begun
   one_begins next rest next_begun none joined kept few has grown =
@@ -141,7 +141,7 @@ module _ (A : Type 0) (head : Option Head) (loads : List ℕ) (sizes : List (ℕ
       broken_behind (front_text head loads sizes plan list) begun start rest bytes e parts
       (break_at A head loads sizes plan list begun (begun ++ start) count all e at (subst (λ (t : List ℕ). judge (moves count 0 all) (moves_text list ++ t) ≡ Broken e) grown broken))
 
--- a fault of a move that has begun behind moves that are whole
+-- a fault of a move that has begun after moves that are whole
 pub begun_breaks : (count all : ℕ) (list : List (ℕ × ℕ × ℕ)) (begun : List ℕ) (e : DumpError) → count ≤ ELEMENTS → AreMoves count list → length list < all → BreaksMove count (length list) begun e
     → judge (moves count 0 all) (moves_text list ++ begun) ≡ Broken e
 begun_breaks count all list begun e few kept missing breaks =

@@ -67,7 +67,7 @@ module _ (A : Type 0) (head : Option Head) (loads : List ℕ) (sizes : List (ℕ
       (left_breaks A head loads sizes plan list begun (begun ++ start) e held
       (subst (λ (x : Option Head). judge (left x (length loads) plan (length list)) (begun ++ start) ≡ Broken e) (sym headless) broken))
 
--- behind all elements of LBD2 a plan has begun
+-- after all elements of LBD2 a plan has begun
 pub at_plan : {A : Type 0} (head : Option Head) (loads : List ℕ) (sizes : List (ℕ × ℕ)) (plan : Plan A) (list : List (ℕ × ℕ × ℕ)) (begun : List ℕ) (h : Head) → IsAt head loads sizes plan list begun → head ≡ Some h → plan ≡ Begun
     → IsAtElements h loads sizes list begun
 at_plan None loads sizes plan list begun h at headed none = absurd (let e = headed in cc)

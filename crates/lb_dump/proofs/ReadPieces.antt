@@ -6,12 +6,12 @@ use Rattle.std.specs.Io.KnownBytes.{Consumes, IsAtEnd}
 use Rattle.std.proofs.KnownBytes.{Consumes-trans}
 use Rattle.std.proofs.lemmas.List.{append-nil}
 use Rattle.dump_format.specs.Dumps.{Dumped}
-use Rattle.dump_format.specs.Faults.{IsBroken, IsFault, IsTold, fault_found}
+use Rattle.dump_format.specs.Faults.{IsBroken, IsFault, IsTextFault, fault_found}
 use Rattle.dump_format.specs.Fields.{dump as fields_of_dump}
 use Rattle.dump_format.specs.declared.error.DumpError.{DumpError}
 use Rattle.dump_format.specs.declared.error.DumpError.TheVariants.{OutOfMemory, Read}
 use Rattle.dump_format.proofs.Judging.{broken_stays}
-use Rattle.dump_format.proofs.OnlyFaults.{only_told}
+use Rattle.dump_format.proofs.OnlyFaults.{only_text_faults}
 use Rattle.lb_dump.specs.Reading.{Progress, Feeds, EndsReading, EndsText, IsAnswer}
 
 -- a fault that a byte brings is the first one of the text
@@ -55,7 +55,7 @@ pub no_read_fault : (text piece : List ℕ) (dump new : Progress) (e : DumpError
 no_read_fault text piece dump new e P is_text came read =
     elim (subst (λ (p : Progress). Feeds p piece (Err e) new) is_text came).0 [
       | inl memory ↦ absurd (let h : Read ≡ OutOfMemory = sym read ∙ memory in cc)
-      | inr broken ↦ absurd (subst IsTold read (only_told (text ++ piece) e broken))
+      | inr broken ↦ absurd (subst IsTextFault read (only_text_faults (text ++ piece) e broken))
     ]
 
 -- a piece without a fault is put at the end of the text

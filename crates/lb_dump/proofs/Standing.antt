@@ -1,4 +1,4 @@
--- Where a reader stands: which fields are left behind the parts that are whole, and what is found in the text so far.
+-- Where a reader stands: which fields are left after the parts that are whole, and what is found in the text so far.
 use Rattle.std.proofs.Common.{◌≡◌, ◌⊎◌, inl, inr, ℕ, zero, suc, ◌+◌, ◌-◌, ◌<◌, ◌≤◌, List, [], ◌++◌, length, Option, Some, None, refl, ap, sym, ◌∙◌, subst, append_assoc, arith}
 use Rattle.std.specs.Prelude.{Bool, true, false, MatchBool, nat_le}
 use Rattle.std.proofs.lemmas.Bool.{cases_lt, le-leb, lt-leb}
@@ -28,7 +28,7 @@ use Rattle.dump_parts.proofs.ElementTexts.{elements_read}
 use Rattle.dump_parts.proofs.Partial.{element_unfinished, move_unfinished}
 use Rattle.dump_plan.proofs.MadePlans.{made_judged, none_judged}
 
--- the fields that are left behind the parts that are whole
+-- the fields that are left after the parts that are whole
 abbrev pub left : {A : Type 0} → Option Head → ℕ → Plan A → ℕ → Layout
 left None j plan k = dump
 left (Some h) j Begun k = elements (load_width h.format) h.procs j (h.count - j) (behind h.format h.count)
@@ -64,7 +64,7 @@ pub front_elements : (A : Type 0) (h : Head) (loads : List ℕ) (sizes : List (�
 unfolding front_text
 front_elements A h loads sizes = ap (λ (t : List ℕ). head_text h ++ t) (append-nil (elements_of h loads sizes))
 
--- the fields behind the elements of this head, once all are whole
+-- the fields after the elements of this head, once all are whole
 pub behind_all : (h : Head) (loads : List ℕ) (sizes : List (ℕ × ℕ)) (more : List ℕ) → AreSome h loads sizes → length loads ≡ h.count
     → judge dump (head_text h ++ (elements_of h loads sizes ++ more)) ≡ judge (behind h.format h.count) more
 behind_all h loads sizes more some all =
@@ -111,7 +111,7 @@ pub no_move_left : (count all k : ℕ) (begun : List ℕ) → k ≡ all → begu
 unfolding judge
 no_move_left count all k begun none no_bytes = rw (no_move count k (all - k) (omega arith), no_bytes) refl
 
--- what is found behind the last element
+-- what is found after the last element
 pub narrow_end : (format : Format) (count : ℕ) (begun : List ℕ) → format ≡ Lbd1 → HasBegunPlan format count begun → judge (behind format count) begun ≡ Whole
 unfolding judge
 narrow_end Lbd1 count begun narrow is = rw is refl
@@ -163,7 +163,7 @@ module _ (A : Type 0) where
       → judge dump (front_text (Some h) loads sizes (Made r all) list ++ begun) ≡ Whole
   all_found h loads sizes r all list begun at none = front_judged (Some h) loads sizes (Made r all) list begun begun at ∙ no_move_left h.count all (length list) begun none (at.no_bytes none)
 
--- The same, where what the reader holds is told by equations.
+-- The same, where what the reader holds is given by equations.
 module _ (A : Type 0) where
   pub found_head : (head : Option Head) (loads : List ℕ) (sizes : List (ℕ × ℕ)) (plan : Plan A) (list : List (ℕ × ℕ × ℕ)) (begun : List ℕ) → IsAt head loads sizes plan list begun → head ≡ None
       → judge dump (front_text head loads sizes plan list ++ begun) ≡ Unfinished
@@ -253,7 +253,7 @@ module _ (A : Type 0) where
   plan_begun head loads sizes plan list begun at (inl fresh) unfinished = fresh
   plan_begun head loads sizes plan list begun at (inr none) unfinished = absurd (let found = found_nothing head loads sizes plan list begun at none in cc)
 
--- a test that tells the formats apart tells what is found
+-- a test of the format decides what is found
 pub told_by : (b : Bool) (P Q R S : Type 0) → MatchBool b P Q → (P → R) → (Q → S) → MatchBool b R S
 told_by true P Q R S told if_so if_not = if_so told
 told_by false P Q R S told if_so if_not = if_not told

@@ -38,7 +38,7 @@ no_plan_begun Lbd2 count = (none_begun, field_short w32 _ _ [] (omega arith))
 pub no_move_begun : (count : ℕ) → HasBegunMove count []
 no_move_begun count = record { short = omega arith; index = λ h. absurd (omega (arith, h)); present = λ h. absurd (omega (arith, h)) }
 
--- behind a head there is no element yet
+-- after a head there is no element yet
 pub none_yet : (h : Head) → IsHead h → AreSome h [] []
 none_yet h is =
     record {
@@ -47,12 +47,12 @@ none_yet h is =
       few = omega arith;
     }
 
--- where no part has begun, the reader is at the next element or behind the last
+-- where no part has begun, the reader is at the next element or after the last
 pub fresh_elements : (h : Head) (loads : List ℕ) (sizes : List (ℕ × ℕ)) → AreSome h loads sizes → IsAtElements h loads sizes [] []
 fresh_elements h loads sizes some =
     record { some = some; no_moves = refl; element = λ missing. no_element_begun h.format; plan = λ all. no_plan_begun h.format h.count }
 
--- nothing stands behind the elements of LBD1
+-- nothing follows the elements of LBD1
 pub narrow_bytes : (format : Format) (count : ℕ) (begun : List ℕ) → format ≡ Lbd1 → HasBegunPlan format count begun → begun ≡ []
 narrow_bytes Lbd1 count begun narrow is = is
 narrow_bytes Lbd2 count begun narrow is = cc
@@ -60,7 +60,7 @@ narrow_bytes Lbd2 count begun narrow is = cc
 behind_front : (a b c d e : List ℕ) → (a ++ (b ++ (c ++ d))) ++ e ≡ a ++ (b ++ (c ++ (d ++ e)))
 behind_front a b c d e = simp append_assoc
 
--- A part that comes stands behind what has begun of it.
+-- A part that comes follows what has begun of it.
 pub comes_behind : (front begun start rest bytes : List ℕ) → bytes ≡ start ++ rest → (front ++ (begun ++ start)) ++ rest ≡ (front ++ begun) ++ bytes
 comes_behind front begun start rest bytes e =
     rw (e, append_assoc front (begun ++ start) rest, append_assoc begun start rest, append_assoc front begun (start ++ rest)) refl

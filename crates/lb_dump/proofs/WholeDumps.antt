@@ -5,10 +5,10 @@ use Rattle.std.specs.Int.{w64}
 use Rattle.std.specs.Prelude.{SomeIff}
 use Rattle.dump_format.specs.Dumps.{AreFields, IsRecorded, IsSnapshot, MayRecord}
 use Rattle.dump_format.specs.Faults.{IsWhole}
-use Rattle.dump_format.specs.Text.{IsLbd1, IsLbd2, IsText, elements_text, head_text as snapshot_head, letters_2, plan_text, word}
+use Rattle.dump_format.specs.Text.{IsLbd1, IsLbd2, IsText, elements_text, head_text as snapshot_head, magic_2, plan_text, word}
 use Rattle.dump_format.specs.declared.recorded.Recorded.{Recorded}
 use Rattle.dump_parts.specs.Elements.{elements_of}
-use Rattle.dump_parts.specs.Heads.{head_text, letters_of, load_width}
+use Rattle.dump_parts.specs.Heads.{head_text, magic_of, load_width}
 use Rattle.dump_parts.specs.Moves.{moves_text}
 use Rattle.dump_parts.specs.declared.head.Format.{Format}
 use Rattle.dump_parts.specs.declared.head.Format.TheVariants.{Lbd1, Lbd2}
@@ -64,9 +64,9 @@ module _ {A : Type 0} where
       }
 
 -- the head of a text whose elements are all whole
-head_spelled : (h : Head) (loads : List ℕ) (sizes : List (ℕ × ℕ)) (rest : List ℕ) → length loads ≡ h.count → head_text h ++ rest ≡ letters_of h.format ++ (snapshot_head (taken_of h loads sizes) ++ rest)
+head_spelled : (h : Head) (loads : List ℕ) (sizes : List (ℕ × ℕ)) (rest : List ℕ) → length loads ≡ h.count → head_text h ++ rest ≡ magic_of h.format ++ (snapshot_head (taken_of h loads sizes) ++ rest)
 head_spelled h loads sizes rest all =
-    ap (λ n. (letters_of h.format ++ (word h.step ++ (word h.procs ++ word n))) ++ rest) (sym all) ∙ append_assoc (letters_of h.format) (snapshot_head (taken_of h loads sizes)) rest
+    ap (λ n. (magic_of h.format ++ (word h.step ++ (word h.procs ++ word n))) ++ rest) (sym all) ∙ append_assoc (magic_of h.format) (snapshot_head (taken_of h loads sizes)) rest
 
 -- a text of LBD1
 pub narrow_text : (A : Type 0) (h : Head) (loads : List ℕ) (sizes : List (ℕ × ℕ)) (list : List (ℕ × ℕ × ℕ)) (begun : List ℕ) → IsAtElements h loads sizes list begun → length loads ≡ h.count → h.format ≡ Lbd1
@@ -79,15 +79,15 @@ narrow_text A h loads sizes list begun at all narrow =
       spelled =
           rw (at.no_moves, narrow_bytes h.format h.count begun narrow (at.plan all), append-nil (front_text {A = A} (Some h) loads sizes Begun []))
           (front_elements A h loads sizes ∙ head_spelled h loads sizes (elements_of h loads sizes) all
-          ∙ ap (λ f. letters_of f ++ (snapshot_head (taken_of h loads sizes) ++ elements_text (load_width f) loads sizes)) narrow);
+          ∙ ap (λ f. magic_of f ++ (snapshot_head (taken_of h loads sizes) ++ elements_text (load_width f) loads sizes)) narrow);
     }
 
--- the text of LBD2 up to what stands behind its elements
+-- the text of LBD2 up to what follows its elements
 wide_front : (h : Head) (loads : List ℕ) (sizes : List (ℕ × ℕ)) (rest : List ℕ) → length loads ≡ h.count → h.format ≡ Lbd2
-    → head_text h ++ (elements_of h loads sizes ++ rest) ≡ letters_2 ++ (snapshot_head (taken_of h loads sizes) ++ (elements_text w64 loads sizes ++ rest))
+    → head_text h ++ (elements_of h loads sizes ++ rest) ≡ magic_2 ++ (snapshot_head (taken_of h loads sizes) ++ (elements_text w64 loads sizes ++ rest))
 wide_front h loads sizes rest all wide =
     head_spelled h loads sizes (elements_of h loads sizes ++ rest) all
-    ∙ ap (λ f. letters_of f ++ (snapshot_head (taken_of h loads sizes) ++ (elements_text (load_width f) loads sizes ++ rest))) wide
+    ∙ ap (λ f. magic_of f ++ (snapshot_head (taken_of h loads sizes) ++ (elements_text (load_width f) loads sizes ++ rest))) wide
 
 module _ {A : Type 0} where
   -- a text of LBD2 without a decision

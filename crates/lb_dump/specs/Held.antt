@@ -1,5 +1,5 @@
 -- What a reader holds of a text: the values of each part that is whole, and the bytes of the part that has begun. Of all
--- public items only the model of the reader has these words.
+-- public items only the model of the reader uses these words.
 use Rattle.std.specs.Prelude.{◌≡◌, ℕ, ◌+◌, ◌<◌, ◌≤◌, List, [], ◌++◌, drop, length, Option, Some, None}
 use Rattle.std.specs.Int.{byte_len, from_be_bytes, w32}
 use Rattle.chare_index.specs.declared.limits.TheConstants.Limits.{LOAD, PES, STATE_BYTES}
@@ -62,7 +62,7 @@ pub record IsAtHead (loads : List ℕ) (sizes : List (ℕ × ℕ)) (moves : List
   pub short : length begun < 16
   pub unfinished : judge dump begun ≡ Unfinished
 
--- what has begun behind so many elements: nothing in LBD1, a plan in LBD2
+-- what has begun after so many elements: nothing in LBD1, a plan in LBD2
 abbrev pub HasBegunPlan : Format → ℕ → List ℕ → Type 0
 HasBegunPlan Lbd1 count begun = begun ≡ []
 HasBegunPlan Lbd2 count begun = IsBegun begun × (judge (ending count) begun ≡ Unfinished)
@@ -73,7 +73,7 @@ pub record AreSome (h : Head) (loads : List ℕ) (sizes : List (ℕ × ℕ)) : T
   pub kept : AreOf h loads sizes
   pub few : length loads ≤ h.count
 
--- an element has begun, or what stands behind the last one
+-- an element has begun, or what follows the last one
 pub record IsAtElements (h : Head) (loads : List ℕ) (sizes : List (ℕ × ℕ)) (moves : List (ℕ × ℕ × ℕ)) (begun : List ℕ) : Type 0 where
   pub some : AreSome h loads sizes
   pub no_moves : moves ≡ []
@@ -114,7 +114,7 @@ IsAt (Some h) loads sizes (Made r all) moves begun = IsAtMoves h loads sizes r a
 abbrev pub IsHeld : {A : Type 0} → Held A → Type 0
 IsHeld held = IsAt held.head held.loads.items held.sizes.items held.plan held.moves.items held.begun.items
 
--- the plan is whole, and tells of so many moves
+-- the plan is whole, and says that so many moves follow
 abbrev pub HasMoves : {A : Type 0} → Plan A → ℕ → Type 0
 HasMoves Begun all = ⊥
 HasMoves Nothing all = ⊥

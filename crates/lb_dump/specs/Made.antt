@@ -1,4 +1,4 @@
--- What is made of the parts of a text that is whole. No public clause has these words.
+-- What is made of the parts of a text that is whole. No public clause uses these words.
 use Rattle.std.specs.Prelude.{ℕ, ◌≤◌, List, Option, Some, None}
 use Rattle.chare_index.specs.declared.limits.TheConstants.Limits.{PES}
 use Rattle.lb_snapshot.specs.Measured.{Taken}
@@ -28,7 +28,7 @@ plan_size Begun = 0
 plan_size Nothing = 4
 plan_size (Made r all) = plan_len r.target (floor_kind r.decision.division.floor)
 
--- a decision is for as many PEs as there may be
+-- where there is a decision, its target is at most 256
 abbrev pub HasTarget : {A : Type 0} → Plan A → Type 0
 HasTarget Begun = Unit {0}
 HasTarget Nothing = Unit {0}

@@ -16,22 +16,22 @@ abbrev pub progress_of : List ℕ → Option DumpError → Progress
 progress_of text None = Ok text
 progress_of text (Some e) = Err e
 
--- the answer to a whole text: the dump that it is the text of, or its first fault, or out of memory
+-- the result for a whole text: the dump that it is the text of, or its first fault, or out of memory
 abbrev pub IsAnswer : {A : Type 0} → List ℕ → Result (Dumped A) DumpError → Type 0
 IsAnswer text (Ok d) = IsText d text
 IsAnswer text (Err e) = (e ≡ OutOfMemory) ⊎ IsFault text e
 
--- the answer at the end of a text that is good so far: its dump, or that it is short
+-- the result at the end of a text that is good so far: its dump, or that it is short
 abbrev pub EndsText : {A : Type 0} → List ℕ → Result (Dumped A) DumpError → Type 0
 EndsText text (Ok d) = IsText d text
 EndsText text (Err e) = (e ≡ Short (length text)) × (judge dump text ≡ Unfinished)
 
--- the answer at the end of all pieces: that of the text, or the error that a piece led to
+-- the result at the end of all pieces: that of the text, or the error that a piece led to
 abbrev pub EndsReading : {A : Type 0} → Progress → Result (Dumped A) DumpError → Type 0
 EndsReading (Ok text) answer = EndsText text answer
 EndsReading (Err e) answer = answer ≡ Err e
 
--- a piece that came: the text so far is good, or the answer is its first fault or out of memory, and stays that
+-- a piece that came: the text so far is good, or the result is its first fault or out of memory, and every later one too
 abbrev pub Feeds : Progress → List ℕ → Result ⊤ DumpError → Progress → Type 0
 Feeds (Ok text) piece (Ok _) new = IsGood (text ++ piece) × (new ≡ Ok (text ++ piece))
 Feeds (Ok text) piece (Err e) new = ((e ≡ OutOfMemory) ⊎ IsBroken (text ++ piece) e) × (new ≡ Err e)

@@ -11,7 +11,7 @@ use dump_format::{Dump, DumpError};
 use std::alloc::Allocator;
 use std::io::Read;
 
-/// The bytes that are asked for at a time. It is no limit of the format.
+/// How many bytes are requested at a time. This is no limit of the format.
 const PIECE_LEN: usize = 65_536;
 
 /// How often a reader is called at most: more often than any dump has bytes, so that the call ends.
@@ -32,7 +32,7 @@ pub fn decode<A: Allocator + Copy>(alloc: A, bytes: &[u8]) -> Result<Dump<A>, Du
     reader.end()
 }
 
-/// The dump of the text that a reader gives, to its end. Reads to the end, or to the first fault.
+/// The dump of the text that a reader yields. Reads to the end, or to the first fault.
 ///
 /// # Errors
 ///
@@ -52,14 +52,15 @@ pub fn read_from<R: Read, A: Allocator + Copy>(
     dump.end()
 }
 
-// Feeds `dump`, which has no bytes yet, all that `reader` gives to its end.
+// Feeds `dump`, which has no bytes yet, all bytes of `reader`, up to its end.
 fn feed_all<R: Read, A: Allocator + Copy>(
     alloc: A,
     dump: &mut DumpReader<A>,
     reader: &mut R,
 ) -> Result<(), DumpError>
     requires { dump.old ≡ Ok [] }
-    ensures ended { OnOk result ((text : List ℕ) × (dump.new ≡ Ok text) × Consumes (R.remaining reader.old) (R.remaining reader.new) text × IsAtEnd (R.remaining reader.new)) }
+    ensures ended { OnOk result ((text : List ℕ) × (dump.new ≡ Ok text)
+        × Consumes (R.remaining reader.old) (R.remaining reader.new) text × IsAtEnd (R.remaining reader.new)) }
     ensures fault { IfErr result (λ e. IfSome (R.remaining reader.old) (λ bytes. (e ≡ DumpError.Read) ⊎ ((e ≡ DumpError.OutOfMemory) ⊎ IsFault bytes e))) }
     ensures failed { IfErr result (λ e. e ≡ DumpError.Read → (text : List ℕ) × Consumes (R.remaining reader.old) (R.remaining reader.new) text × IsGood text) }
 {
@@ -68,7 +69,7 @@ fn feed_all<R: Read, A: Allocator + Copy>(
     feed_from(dump, reader, &mut piece)
 }
 
-// The same, with `piece` as the room for the bytes of one call.
+// The same, with `piece` as the buffer of each call.
 fn feed_from<R: Read, A: Allocator + Copy>(
     dump: &mut DumpReader<A>,
     reader: &mut R,
@@ -76,7 +77,8 @@ fn feed_from<R: Read, A: Allocator + Copy>(
 ) -> Result<(), DumpError>
     requires fresh { dump.old ≡ Ok [] }
     requires room { length piece.old ≡ PIECE_LEN }
-    ensures ended { OnOk result ((text : List ℕ) × (dump.new ≡ Ok text) × Consumes (R.remaining reader.old) (R.remaining reader.new) text × IsAtEnd (R.remaining reader.new)) }
+    ensures ended { OnOk result ((text : List ℕ) × (dump.new ≡ Ok text)
+        × Consumes (R.remaining reader.old) (R.remaining reader.new) text × IsAtEnd (R.remaining reader.new)) }
     ensures fault { IfErr result (λ e. IfSome (R.remaining reader.old) (λ bytes. (e ≡ DumpError.Read) ⊎ ((e ≡ DumpError.OutOfMemory) ⊎ IsFault bytes e))) }
     ensures failed { IfErr result (λ e. e ≡ DumpError.Read → (text : List ℕ) × Consumes (R.remaining reader.old) (R.remaining reader.new) text × IsGood text) }
 {

@@ -30,7 +30,7 @@ pub(crate) struct Held<A: Allocator = Global> {
     pub(crate) loads: Vec<Units, A>,
     /// Their sizes and places.
     pub(crate) sizes: Vec<(u32, Pe), A>,
-    /// What stands behind the elements of LBD2, up to the moves.
+    /// What follows the elements of LBD2, up to the moves.
     pub(crate) plan: Plan<A>,
     /// The moves that are whole.
     pub(crate) moves: Vec<(Index, Pe, Pe), A>,
@@ -60,7 +60,7 @@ pub(crate) fn take_in<A: Allocator + Copy>(
     Ok(())
 }
 
-// Takes in the bytes of the next part, or of several of one kind, and returns the bytes behind them.
+// Takes in the bytes of the next part, or of several of one kind, and returns the bytes after them.
 fn take_next<'a, A: Allocator + Copy>(
     held: &mut Held<A>,
     bytes: &'a [u8],
@@ -88,7 +88,7 @@ fn take_next<'a, A: Allocator + Copy>(
     }
 }
 
-// Takes in bytes of the head. The head is judged first, so that what is wrong with it is told where there is no memory too.
+// Takes in bytes of the head. The head is judged first, so that its fault is reported also where no memory is left.
 fn take_head<'a, A: Allocator>(held: &mut Held<A>, bytes: &'a [u8]) -> Result<&'a [u8], DumpError>
     requires held { IsHeld held.old }
     requires headless { held.old.head ≡ None }
@@ -108,7 +108,7 @@ fn take_head<'a, A: Allocator>(held: &mut Held<A>, bytes: &'a [u8]) -> Result<&'
     Ok(rest)
 }
 
-// The head, where these bytes come behind the ones that are there.
+// The head, where these bytes come after the ones that are there.
 #[tactic(auto, using(std::proofs::lemmas::Slice::overwrites, crate::proofs::Steps::take_two))]
 fn head_with(begun: &[u8], more: &[u8]) -> Result<Option<Head>, DumpError>
     requires { length begun.now + length more.now ≤ HEAD_LEN }

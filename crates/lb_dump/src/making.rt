@@ -48,7 +48,7 @@ pub(crate) fn is_whole<A: Allocator>(held: &Held<A>) -> bool
     }
 }
 
-// Whether the format is the one in which nothing stands behind the elements.
+// Whether nothing follows the elements in this format.
 fn is_narrow(format: Format) -> bool
     ensures { MatchBool result (format ≡ Lbd1) (format ≡ Lbd2) }
 {

@@ -9,9 +9,9 @@ use std::alloc::{Allocator, Global};
 use std::marker::Model;
 
 /// Reads a dump that comes in pieces. It puts elements and moves into their lists as they come, and keeps the bytes of one
-/// part at most. With the first byte behind the head the lists take room for as many elements as the head says, at most
-/// 65,536, and with the first byte of a move for as many moves as are told, at most as many. Contracts see the reader as
-/// the text so far or, after a fault, as that fault.
+/// part at most. With the first byte after the head it reserves room for as many elements as the head says, at most 65,536,
+/// and with the first byte of a move for as many moves as the decision says, at most as many as there are elements.
+/// Contracts see the reader as the text so far or, after a fault, as that fault.
 #[derive(Drop)]
 #[derive_where(Debug)]
 pub struct DumpReader<A: Allocator = Global> {
@@ -57,7 +57,7 @@ impl<A: Allocator> DumpReader<A> {
     ///
     /// The first fault of the text so far, with the piece that brings it, and never
     /// [`Short`](DumpError::Short), which only [`end`](Self::end) reports; [`OutOfMemory`](DumpError::OutOfMemory)
-    /// where a request for memory is refused, in place of a fault behind the head that the same piece brings. Each later
+    /// where a request for memory is refused, in place of a fault after the head that the same piece brings. Each later
     /// call returns the same error.
     pub fn feed(&mut self, piece: &[u8]) -> Result<(), DumpError>
     where

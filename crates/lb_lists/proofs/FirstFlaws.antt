@@ -1,13 +1,13 @@
 -- The first flaw of a claim, from what the checkers of divisions and namings answer.
-use Rattle.std.proofs.Common.{◌≡◌, ◌≢◌, ℕ, ℤ, List, inl, inr, length, ap, subst, sym, refl, ◌∙◌}
+use Rattle.std.proofs.Common.{◌≡◌, ℕ, ℤ, List, Option, None, Some, inl, inr, length, ap, subst, sym, ◌∙◌}
+use Rattle.std.specs.Prelude.{MatchOption}
 use Rattle.lb_certificates.specs.Certificate.{IsCertified}
 use Rattle.lb_certificates.specs.Flaws.{HasFlaw, HasNamingFlaw, IsFirst}
 use Rattle.lb_certificates.specs.Naming.{bytes_moved, IsNamed}
 use Rattle.lb_certificates.specs.declared.division.Division.{Division}
 use Rattle.lb_certificates.specs.declared.flaw.Flaw.{Flaw}
-use Rattle.lb_certificates.specs.declared.flaw.Flaw.TheVariants.{MovedWrong, MovesWrong}
 use Rattle.lb_lists.proofs.Claims.{certified_claimed, first_claimed}
-use Rattle.lb_lists.specs.Claims.{claimed_division, division_of, right_moved, Claimed, IsFirstFlaw, IsNamedRight, IsRightClaim}
+use Rattle.lb_lists.specs.Claims.{claimed_division, division_of, right_moved, Claimed, IsFirstFlaw, IsFlawTold, IsNamedRight, IsRightClaim, IsToldRight}
 use Rattle.lb_lists.specs.Places.{ArePlaces}
 use Rattle.lb_lists.specs.Runs.{sizes_of, Listed}
 
@@ -54,30 +54,27 @@ pub in_naming : {A : Type 0} (run : Listed) (pes : ℕ) (claim : Claimed) (loads
 in_naming run pes claim loads sizes d names u v flaw parts holds first =
     inr (inl (certified run pes claim loads sizes d names u v parts holds, of_naming run claim loads sizes d names u v (λ s c n x y. IsFirst (HasNamingFlaw s c n x y) flaw) parts first))
 
-pub in_moved : {A : Type 0} (run : Listed) (pes : ℕ) (claim : Claimed) (loads : List ℕ) (sizes : List (ℕ × ℕ)) (d : Division A) (names : List ℕ) (u v : List ℤ) (moved : ℕ) → ArePartsOf run claim loads sizes d names u v → IsCertified loads pes d → IsNamed sizes d.cuts names u v → moved ≡ bytes_moved sizes d.cuts names → moved ≢ claim.moved → IsFirstFlaw run pes claim MovedWrong
-in_moved run pes claim loads sizes d names u v moved parts holds right moves differs =
-    inr (inr (inl (
-      certified run pes claim loads sizes d names u v parts holds,
-      named run claim loads sizes d names u v parts right,
-      refl,
-      λ same. differs (moved_is run claim loads sizes d names u v moved parts moves ∙ sym same),
-    )))
-
-pub in_places : {A : Type 0} (run : Listed) (pes : ℕ) (claim : Claimed) (loads : List ℕ) (sizes : List (ℕ × ℕ)) (d : Division A) (names : List ℕ) (u v : List ℤ) (moved count : ℕ) → ArePartsOf run claim loads sizes d names u v → IsCertified loads pes d → IsNamed sizes d.cuts names u v → moved ≡ bytes_moved sizes d.cuts names → moved ≡ claim.moved → count ≡ length loads → ¬ (ArePlaces claim.cuts claim.names count claim.new_places) → IsFirstFlaw run pes claim MovesWrong
-in_places run pes claim loads sizes d names u v moved count parts holds right moves same counted misplaced =
-    inr (inr (inr (
-      certified run pes claim loads sizes d names u v parts holds,
-      named run claim loads sizes d names u v parts right,
-      sym same ∙ moved_is run claim loads sizes d names u v moved parts moves,
-      refl,
-      λ placed. misplaced (subst (λ n. ArePlaces claim.cuts claim.names n claim.new_places) (sym (counted ∙ ap length parts.loads_are)) placed),
-    )))
-
-pub right_claim : {A : Type 0} (run : Listed) (pes : ℕ) (claim : Claimed) (loads : List ℕ) (sizes : List (ℕ × ℕ)) (d : Division A) (names : List ℕ) (u v : List ℤ) (moved count : ℕ) → ArePartsOf run claim loads sizes d names u v → IsCertified loads pes d → IsNamed sizes d.cuts names u v → moved ≡ bytes_moved sizes d.cuts names → moved ≡ claim.moved → count ≡ length loads → ArePlaces claim.cuts claim.names count claim.new_places → IsRightClaim run pes claim
-right_claim run pes claim loads sizes d names u v moved count parts holds right moves same counted placed =
+-- the first flaw of what is told of a right division and right names
+pub in_telling : {A : Type 0} (run : Listed) (pes : ℕ) (claim : Claimed) (loads : List ℕ) (sizes : List (ℕ × ℕ)) (d : Division A) (names : List ℕ) (u v : List ℤ) (moved count : ℕ) (result : Option Flaw) → ArePartsOf run claim loads sizes d names u v → IsCertified loads pes d → IsNamed sizes d.cuts names u v → moved ≡ bytes_moved sizes d.cuts names → count ≡ length loads → MatchOption result (IsToldRight moved count claim) (IsFlawTold moved count claim) → MatchOption result (IsRightClaim run pes claim) (IsFirstFlaw run pes claim)
+in_telling run pes claim loads sizes d names u v moved count None parts holds right moves counted told =
     record {
       division = certified run pes claim loads sizes d names u v parts holds;
       named = named run claim loads sizes d names u v parts right;
-      moved = sym same ∙ moved_is run claim loads sizes d names u v moved parts moves;
-      placed = subst (λ n. ArePlaces claim.cuts claim.names n claim.new_places) (counted ∙ ap length parts.loads_are) placed;
+      moved = told.0 ∙ moved_is run claim loads sizes d names u v moved parts moves;
+      placed = subst (λ n. ArePlaces claim.cuts claim.names n claim.new_places) (counted ∙ ap length parts.loads_are) told.1;
     }
+in_telling run pes claim loads sizes d names u v moved count (Some flaw) parts holds right moves counted (inl other) =
+    inr (inr (inl (
+      certified run pes claim loads sizes d names u v parts holds,
+      named run claim loads sizes d names u v parts right,
+      other.0,
+      λ same. other.1 (same ∙ sym (moved_is run claim loads sizes d names u v moved parts moves)),
+    )))
+in_telling run pes claim loads sizes d names u v moved count (Some flaw) parts holds right moves counted (inr misplaced) =
+    inr (inr (inr (
+      certified run pes claim loads sizes d names u v parts holds,
+      named run claim loads sizes d names u v parts right,
+      misplaced.1 ∙ moved_is run claim loads sizes d names u v moved parts moves,
+      misplaced.0,
+      λ placed. misplaced.2 (subst (λ n. ArePlaces claim.cuts claim.names n claim.new_places) (sym (counted ∙ ap length parts.loads_are)) placed),
+    )))

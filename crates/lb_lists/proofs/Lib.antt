@@ -1,5 +1,7 @@
+pub mod Blocks
 pub mod Claims
 pub mod FirstFlaws
+pub mod Greatest
 pub mod OnePlan
 pub mod Plans
 pub mod Zipped

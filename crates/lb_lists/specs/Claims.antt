@@ -64,6 +64,15 @@ pub record IsBest (run : Listed) (pes : ℕ) (claim : Claimed) : Type 0 where
   pub moved : claim.moved ≡ right_moved run claim
   pub placed : IsPlacedRight run claim
 
+-- the claim tells so many bytes, and of each of so many elements the name of its block
+abbrev pub IsToldRight : ℕ → ℕ → Claimed → Type 0
+IsToldRight moved count claim = (claim.moved ≡ moved) × ArePlaces claim.cuts claim.names count claim.new_places
+
+-- the claim tells other bytes; or these, and a wrong place
+abbrev pub IsFlawTold : ℕ → ℕ → Claimed → Flaw → Type 0
+IsFlawTold moved count claim flaw =
+    ((flaw ≡ MovedWrong) × (claim.moved ≢ moved)) ⊎ ((flaw ≡ MovesWrong) × (claim.moved ≡ moved) × ¬ (ArePlaces claim.cuts claim.names count claim.new_places))
+
 -- the first flaw of the claimed division
 abbrev pub IsDivisionFlaw : Listed → ℕ → Claimed → Flaw → Type 0
 IsDivisionFlaw run pes claim flaw = IsFirst (HasFlaw run.loads pes (claimed_division claim)) flaw

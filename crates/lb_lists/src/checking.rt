@@ -2,18 +2,18 @@ ghost use Rattle.std.specs.Prelude.{◌≡◌, ◌<◌, ◌≤◌, None, IfOk, O
 ghost use Rattle.lb_certificates.specs.Chain.{IsDivision};
 ghost use Rattle.lb_certificates.specs.Flaws.{flaw_number};
 ghost use Rattle.lb_certificates.specs.Naming.{blocks_between};
-ghost use Rattle.lb_lists.specs.Claims.{division_of, floor_of, IsBest, IsFirstFlaw, IsRightClaim};
+ghost use Rattle.lb_lists.specs.Claims.{division_of, floor_of, IsBest, IsFirstFlaw, IsFlawTold, IsRightClaim, IsToldRight};
 ghost use Rattle.lb_lists.specs.Places.{ArePlaces};
 ghost use Rattle.lb_lists.specs.Runs.{sizes_of, AreSmall, IsAsked, IsRefusal, Listed};
 
 use crate::claim::Claim;
 use crate::error::RunError;
+use crate::measured::{Measured, measure};
 use crate::places::are_places;
-use crate::run::{Run, snapshot_of};
+use crate::run::Run;
 use chare_index::Limits;
 use lb_certificates::{
-    Cuts, Division, Flaw, Floor, Naming, PriceList, Prices, Snapshot, Stops, check_division,
-    check_naming,
+    Cuts, Division, Flaw, Floor, Naming, PriceList, Prices, Stops, check_division, check_naming,
 };
 use std::alloc::{AllocError, Allocator};
 
@@ -91,9 +91,26 @@ fn is_placed(count: usize, claim: &Claim<'_>) -> bool
     are_places(claim.cuts, claim.names, claim.new_places)
 }
 
+// The first flaw of what a claim tells of a right division and right names: of the bytes, and then of the places.
+fn flaw_told(moved: u64, count: usize, claim: &Claim<'_>) -> Option<Flaw>
+    requires some_block { 0 < blocks_between claim.now.cuts }
+    requires divides { IsDivision 0 count (blocks_between claim.now.cuts) claim.now.cuts }
+    requires few { count ≤ Limits.ELEMENTS }
+    requires named { length claim.now.names ≡ blocks_between claim.now.cuts }
+    ensures { MatchOption result (IsToldRight moved count claim.now) (IsFlawTold moved count claim.now) }
+{
+    if claim.moved != moved {
+        return Some(Flaw::MovedWrong);
+    }
+    if !is_placed(count, claim) {
+        return Some(Flaw::MovesWrong);
+    }
+    None
+}
+
 // The first flaw of a claim with these parts.
 fn first_flaw<A: Allocator>(
-    snapshot: &Snapshot<A>,
+    measured: &Measured<A>,
     pes: u32,
     claim: &Claim<'_>,
     parts: &Parts<A>,
@@ -102,23 +119,22 @@ fn first_flaw<A: Allocator>(
     requires naming { parts.now.naming ≡ claim.now.names }
     requires block_prices { parts.now.prices.u ≡ claim.now.block_prices }
     requires pe_prices { parts.now.prices.v ≡ claim.now.pe_prices }
-    ensures { (run : Listed) → snapshot.now.loads ≡ run.loads → snapshot.now.sizes ≡ sizes_of run → MatchOption result (IsRightClaim run pes claim.now) (IsFirstFlaw run pes claim.now) }
+    ensures { (run : Listed) → measured.now.loads ≡ run.loads → measured.now.sizes ≡ sizes_of run
+        → MatchOption result (IsRightClaim run pes claim.now) (IsFirstFlaw run pes claim.now) }
 {
-    let loads = snapshot.loads();
+    let loads = &measured.loads;
     let division = &parts.division;
     if let Err(flaw) = check_division(loads, pes, division) {
         return Some(flaw);
     }
     match check_naming(
-        snapshot.sizes(),
+        &measured.sizes,
         &division.cuts,
         &parts.naming,
         &parts.prices,
     ) {
         Err(flaw) => Some(flaw),
-        Ok(moved) if moved != claim.moved => Some(Flaw::MovedWrong),
-        Ok(_) if !is_placed(loads.len(), claim) => Some(Flaw::MovesWrong),
-        Ok(_) => None,
+        Ok(moved) => flaw_told(moved, loads.len(), claim),
     }
 }
 
@@ -147,16 +163,16 @@ pub fn check_claim<A: Allocator + Copy>(
     ensures small { OnOk result (AreSmall run.now.loads) }
     ensures refused { IfErr result (IsRefusal (IsAsked run.now pes) (AreSmall run.now.loads)) }
 {
-    let snapshot = match snapshot_of(alloc, run, pes) {
-        Ok(snapshot) => snapshot,
+    let measured = match measure(alloc, run, pes) {
+        Ok(measured) => measured,
         Err(refused) => return Err(refused),
     };
     let Ok(parts) = parts_of(alloc, claim) else {
         return Err(RunError::OutOfMemory);
     };
-    let flaw = first_flaw(&snapshot, pes, claim, &parts);
+    let flaw = first_flaw(&measured, pes, claim, &parts);
     drop(parts);
-    drop(snapshot);
+    drop(measured);
     Ok(flaw)
 }
 

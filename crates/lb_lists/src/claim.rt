@@ -26,5 +26,14 @@ impl<'a> Model for Claim<'a> {
 
     ghost Value = { Claimed };
 
-    ghost view = { λ c. record { bottleneck = c.bottleneck; moved = c.moved; new_places = c.new_places.now; cuts = c.cuts.now; stops = c.stops.now; names = c.names.now; block_prices = c.block_prices.now; pe_prices = c.pe_prices.now } };
+    ghost view = { λ c. record {
+      bottleneck = c.bottleneck;
+      moved = c.moved;
+      new_places = c.new_places.now;
+      cuts = c.cuts.now;
+      stops = c.stops.now;
+      names = c.names.now;
+      block_prices = c.block_prices.now;
+      pe_prices = c.pe_prices.now;
+    } };
 }

@@ -1,4 +1,4 @@
-ghost use Rattle.std.specs.Prelude.{◌≡◌, ◌≤◌, ◌<◌, ◌+◌, ◌↔◌, IsTrue, length, take, IfOk, IfErr, OnOk, OnErr};
+ghost use Rattle.std.specs.Prelude.{◌≡◌, ◌≤◌, ◌<◌, ◌+◌, ◌↔◌, IsTrue, length, take, drop, IfOk, IfErr, OnOk, OnErr};
 ghost use Rattle.chain_partition.specs.Chosen.{IsChosen};
 ghost use Rattle.lb_certificates.specs.Chain.{IsDivision};
 ghost use Rattle.lb_certificates.specs.Naming.{blocks_between, IsLeastNaming};
@@ -9,11 +9,11 @@ ghost use Rattle.lb_lists.specs.Rooms.{claim_in, lists_in, HasListsOf, HasRoom};
 ghost use Rattle.lb_lists.specs.Runs.{sizes_of, AreSmall, IsAsked, IsRefusal};
 
 use crate::error::RunError;
-use crate::planning::{Planned, plan_run, write_plan};
+use crate::plan::{Plan, decide};
+use crate::planning::{Planned, write_plan};
 use crate::run::Run;
 use chare_index::Limits;
 use lb_certificates::Floor;
-use lb_strategy::Decision;
 use std::alloc::Allocator;
 
 /// Room for what is told of a decision for `pes` PEs.
@@ -49,6 +49,7 @@ fn write_stops<A: Allocator>(floor: &Floor<A>, stops: &mut [u32]) -> usize
     requires room { length (stops_in floor.now) ≤ length stops.old }
     ensures counted { result ≡ length (stops_in floor.now) }
     ensures written { take result stops.new ≡ stops_in floor.now }
+    ensures behind { drop result stops.new ≡ drop result stops.old }
     ensures same_room { length stops.new ≡ length stops.old }
 {
     match floor {
@@ -75,37 +76,37 @@ fn has_room(room: &Room<'_>, elements: usize, pes: u32) -> bool
 }
 
 // Writes a decision, and returns its numbers.
-fn write_decision<A: Allocator>(decision: &Decision<A>, room: &mut Room<'_>) -> Decided
-    requires divides { IsDivision 0 (length room.old.new_places.now) (blocks_between decision.now.division.cuts) decision.now.division.cuts }
-    requires some_block { 0 < blocks_between decision.now.division.cuts }
+fn write_decision<A: Allocator>(plan: &Plan<A>, room: &mut Room<'_>) -> Decided
+    requires divides { IsDivision 0 (length room.old.new_places.now) (blocks_between plan.now.division.cuts) plan.now.division.cuts }
+    requires some_block { 0 < blocks_between plan.now.division.cuts }
     requires few { length room.old.new_places.now ≤ Limits.ELEMENTS }
-    requires cuts { length room.old.cuts.now ≡ length decision.now.division.cuts }
-    requires stops { length (stops_in decision.now.division.floor) ≤ length room.old.stops.now }
-    requires names { length room.old.names.now ≡ length decision.now.naming }
-    requires named { length decision.now.naming ≡ blocks_between decision.now.division.cuts }
-    requires block_prices { length room.old.block_prices.now ≡ length decision.now.prices.u }
-    requires pe_prices { length room.old.pe_prices.now ≡ length decision.now.prices.v }
+    requires cuts { length room.old.cuts.now ≡ length plan.now.division.cuts }
+    requires stops { length (stops_in plan.now.division.floor) ≤ length room.old.stops.now }
+    requires names { length room.old.names.now ≡ length plan.now.naming }
+    requires named { length plan.now.naming ≡ blocks_between plan.now.division.cuts }
+    requires block_prices { length room.old.block_prices.now ≡ length plan.now.prices.u }
+    requires pe_prices { length room.old.pe_prices.now ≡ length plan.now.prices.v }
     ensures same_lists { HasListsOf room.old room.new }
-    ensures bottleneck { result.bottleneck ≡ decision.now.division.bottleneck }
-    ensures moved { result.moved ≡ decision.now.moved }
-    ensures counted { result.stops ≡ length (stops_in decision.now.division.floor) }
-    ensures placed { ArePlaces decision.now.division.cuts decision.now.naming (length room.old.new_places.now) room.new.new_places.now }
-    ensures cuts { room.new.cuts.now ≡ decision.now.division.cuts }
-    ensures stops { take result.stops room.new.stops.now ≡ stops_in decision.now.division.floor }
-    ensures names { room.new.names.now ≡ decision.now.naming }
-    ensures block_prices { room.new.block_prices.now ≡ decision.now.prices.u }
-    ensures pe_prices { room.new.pe_prices.now ≡ decision.now.prices.v }
+    ensures bottleneck { result.bottleneck ≡ plan.now.division.bottleneck }
+    ensures moved { result.moved ≡ plan.now.moved }
+    ensures counted { result.stops ≡ length (stops_in plan.now.division.floor) }
+    ensures placed { ArePlaces plan.now.division.cuts plan.now.naming (length room.old.new_places.now) room.new.new_places.now }
+    ensures cuts { room.new.cuts.now ≡ plan.now.division.cuts }
+    ensures stops { take result.stops room.new.stops.now ≡ stops_in plan.now.division.floor }
+    ensures behind { drop result.stops room.new.stops.now ≡ drop result.stops room.old.stops.now }
+    ensures names { room.new.names.now ≡ plan.now.naming }
+    ensures block_prices { room.new.block_prices.now ≡ plan.now.prices.u }
+    ensures pe_prices { room.new.pe_prices.now ≡ plan.now.prices.v }
 {
-    let Planned { bottleneck, moved } = write_plan(decision, room.new_places);
-    room.cuts.copy_from_slice(decision.division.cuts.as_slice());
-    room.names.copy_from_slice(decision.naming.as_slice());
-    room.block_prices
-        .copy_from_slice(decision.prices.u.as_slice());
-    room.pe_prices.copy_from_slice(decision.prices.v.as_slice());
+    let Planned { bottleneck, moved } = write_plan(plan, room.new_places);
+    room.cuts.copy_from_slice(plan.division.cuts.as_slice());
+    room.names.copy_from_slice(plan.naming.as_slice());
+    room.block_prices.copy_from_slice(plan.prices.u.as_slice());
+    room.pe_prices.copy_from_slice(plan.prices.v.as_slice());
     Decided {
         bottleneck,
         moved,
-        stops: write_stops(&decision.division.floor, room.stops),
+        stops: write_stops(&plan.division.floor, room.stops),
     }
 }
 
@@ -128,6 +129,7 @@ pub fn decide_into<A: Allocator + Copy>(
     ensures chosen { IfOk result (λ d. IsChosen run.now.loads pes (claimed_division (claim_in d.bottleneck d.moved d.stops (lists_in room.new)))) }
     ensures least_naming { IfOk result (λ d. IsLeastNaming (sizes_of run.now) room.new.cuts.now pes room.new.names.now) }
     ensures counted { IfOk result (λ d. d.stops ≤ pes + 1) }
+    ensures behind { IfOk result (λ d. drop d.stops room.new.stops.now ≡ drop d.stops room.old.stops.now) }
     ensures asked { OnOk result (IsAsked run.now pes × HasRoom (length run.now.loads) pes (lists_in room.old)) }
     ensures small { OnOk result (AreSmall run.now.loads) }
     ensures refused { IfErr result (IsRefusal (IsAsked run.now pes × HasRoom (length run.now.loads) pes (lists_in room.old)) (AreSmall run.now.loads)) }
@@ -136,11 +138,11 @@ pub fn decide_into<A: Allocator + Copy>(
     if !has_room(room, run.loads.len(), pes) {
         return Err(RunError::BadInput);
     }
-    let decision = match plan_run(alloc, run, pes) {
-        Ok(decision) => decision,
+    let plan = match decide(alloc, run, pes) {
+        Ok(plan) => plan,
         Err(refused) => return Err(refused),
     };
-    let decided = write_decision(&decision, room);
-    drop(decision);
+    let decided = write_decision(&plan, room);
+    drop(plan);
     Ok(decided)
 }

@@ -14,7 +14,9 @@ mod claim;
 mod deciding;
 mod error;
 mod laws;
+mod measured;
 mod places;
+mod plan;
 mod planning;
 mod run;
 

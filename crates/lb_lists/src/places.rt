@@ -1,8 +1,8 @@
 //! The place of each element: the name of its block.
 
-ghost use Rattle.std.specs.Prelude.{◌≡◌, ◌≤◌, ◌<◌, ℕ, length, slice_index, MatchBool};
+ghost use Rattle.std.specs.Prelude.{◌≡◌, ◌≤◌, ◌<◌, ◌↔◌, ℕ, All, IsTrue, length, slice_index, MatchBool};
 ghost use Rattle.lb_certificates.specs.Chain.{IsDivision};
-ghost use Rattle.lb_certificates.specs.Naming.{block_of, blocks_between};
+ghost use Rattle.lb_certificates.specs.Naming.{blocks_between};
 ghost use Rattle.lb_lists.specs.Places.{ArePlaces};
 
 use chare_index::Limits;
@@ -15,10 +15,8 @@ pub(crate) fn write_places(cuts: &[u32], names: &[u32], new_places: &mut [u32])
     requires named { length names.now ≡ blocks_between cuts.now }
     ensures placed { ArePlaces cuts.now names.now (length new_places.old) new_places.new }
 {
-    let mut b = 0;
-    for i in 0..new_places.len() {
-        b = block_from(cuts, b, i as u32);
-        new_places[i] = names[b];
+    for b in 0..names.len() {
+        new_places[cuts[b] as usize..cuts[b + 1] as usize].fill(names[b]);
     }
 }
 
@@ -31,31 +29,20 @@ pub(crate) fn are_places(cuts: &[u32], names: &[u32], new_places: &[u32]) -> boo
     ensures { MatchBool result (ArePlaces cuts.now names.now (length new_places.now) new_places.now)
         (¬ (ArePlaces cuts.now names.now (length new_places.now) new_places.now)) }
 {
-    let mut b = 0;
-    for i in 0..new_places.len() {
-        b = block_from(cuts, b, i as u32);
-        if new_places[i] != names[b] {
+    for b in 0..names.len() {
+        if !are_all(
+            names[b],
+            &new_places[cuts[b] as usize..cuts[b + 1] as usize],
+        ) {
             return false;
         }
     }
     true
 }
 
-// The block of an element, looked for from a block on that it does not stand before.
-#[tactic(auto, using(lb_certificates::proofs::BlockSums::block_of_is))]
-fn block_from(cuts: &[u32], from: usize, i: u32) -> usize
-    requires divides { IsDivision 0 (slice_index cuts.now (blocks_between cuts.now)) (blocks_between cuts.now) cuts.now }
-    requires from { from < blocks_between cuts.now }
-    requires not_before { slice_index cuts.now from ≤ i }
-    requires inside { i < slice_index cuts.now (blocks_between cuts.now) }
-    ensures block { result ≡ block_of cuts.now i }
-    ensures within { result < blocks_between cuts.now }
-    ensures begins { slice_index cuts.now result ≤ i }
+// Whether each of these places is this one.
+fn are_all(name: u32, places: &[u32]) -> bool
+    ensures { IsTrue result ↔ All (λ place. place ≡ name) places.now }
 {
-    for b in from..cuts.len() - 1 {
-        if i < cuts[b + 1] {
-            return b;
-        }
-    }
-    from
+    places.iter().all(|&place| place == name)
 }

@@ -8,11 +8,32 @@ ghost use Rattle.lb_lists.specs.Plans.{IsPlan};
 ghost use Rattle.lb_lists.specs.Runs.{sizes_of, AreSmall, IsAsked, IsRefusal};
 
 use crate::error::RunError;
+use crate::measured::{Measured, measure};
 use crate::places::write_places;
-use crate::run::{Run, snapshot_of};
+use crate::plan::{Plan, decide};
+use crate::run::Run;
 use chare_index::Limits;
+use lb_certificates::Snapshot;
 use lb_strategy::{Decision, plan};
 use std::alloc::Allocator;
+
+// The snapshot of a run that is to go on with `pes` PEs, at step 0.
+fn snapshot_of<A: Allocator + Copy>(
+    alloc: A,
+    run: &Run<'_>,
+    pes: u32,
+) -> Result<Snapshot<A>, RunError>
+    ensures loads { IfOk result (λ s. s.loads ≡ run.now.loads) }
+    ensures sizes { IfOk result (λ s. s.sizes ≡ sizes_of run.now) }
+    ensures asked { OnOk result (IsAsked run.now pes) }
+    ensures small { OnOk result (AreSmall run.now.loads) }
+    ensures refused { IfErr result (IsRefusal (IsAsked run.now pes) (AreSmall run.now.loads)) }
+{
+    match measure(alloc, run, pes) {
+        Ok(Measured { loads, sizes }) => Ok(Snapshot::new(0, run.procs, loads, sizes).unwrap()),
+        Err(refused) => Err(refused),
+    }
+}
 
 /// Decides where each element of a run goes on, on `pes` PEs, as [`plan`] does.
 ///
@@ -77,29 +98,29 @@ pub fn plan_into<A: Allocator + Copy>(
     if new_places.len() != run.loads.len() {
         return Err(RunError::BadInput);
     }
-    let decision = match plan_run(alloc, run, pes) {
-        Ok(decision) => decision,
+    let plan = match decide(alloc, run, pes) {
+        Ok(plan) => plan,
         Err(refused) => return Err(refused),
     };
-    let planned = write_plan(&decision, new_places);
-    drop(decision);
+    let planned = write_plan(&plan, new_places);
+    drop(plan);
     Ok(planned)
 }
 
-// Writes the places of a decision, and returns its numbers.
-pub(crate) fn write_plan<A: Allocator>(decision: &Decision<A>, new_places: &mut [u32]) -> Planned
-    requires divides { IsDivision 0 (length new_places.old) (blocks_between decision.now.division.cuts) decision.now.division.cuts }
-    requires some_block { 0 < blocks_between decision.now.division.cuts }
+/// Writes the places of a plan, and returns its numbers.
+pub(crate) fn write_plan<A: Allocator>(plan: &Plan<A>, new_places: &mut [u32]) -> Planned
+    requires divides { IsDivision 0 (length new_places.old) (blocks_between plan.now.division.cuts) plan.now.division.cuts }
+    requires some_block { 0 < blocks_between plan.now.division.cuts }
     requires few { length new_places.old ≤ Limits.ELEMENTS }
-    requires named { length decision.now.naming ≡ blocks_between decision.now.division.cuts }
-    ensures bottleneck { result.bottleneck ≡ decision.now.division.bottleneck }
-    ensures moved { result.moved ≡ decision.now.moved }
-    ensures placed { ArePlaces decision.now.division.cuts decision.now.naming (length new_places.old) new_places.new }
+    requires named { length plan.now.naming ≡ blocks_between plan.now.division.cuts }
+    ensures bottleneck { result.bottleneck ≡ plan.now.division.bottleneck }
+    ensures moved { result.moved ≡ plan.now.moved }
+    ensures placed { ArePlaces plan.now.division.cuts plan.now.naming (length new_places.old) new_places.new }
 {
-    let cuts = decision.division.cuts.as_slice();
-    write_places(cuts, decision.naming.as_slice(), new_places);
+    let cuts = plan.division.cuts.as_slice();
+    write_places(cuts, plan.naming.as_slice(), new_places);
     Planned {
-        bottleneck: decision.division.bottleneck,
-        moved: decision.moved,
+        bottleneck: plan.division.bottleneck,
+        moved: plan.moved,
     }
 }

@@ -28,7 +28,7 @@ head_line step pes elements =
 abbrev pub bottleneck_line : ℕ → List ℕ
 bottleneck_line bottleneck = codes "bottleneck " ++ decimal bottleneck ++ newline
 
--- a blank and a number
+-- a space and a number
 abbrev pub blank_number : ℕ → List ℕ
 blank_number n = codes " " ++ decimal n
 
@@ -68,7 +68,7 @@ abbrev pub decision_text : {A : Type 0} → Taken → ℕ → Decision A → Lis
 decision_text s pes d =
     head_line s.step pes (length s.loads) ++ bottleneck_line d.division.bottleneck ++ floor_line d.division.floor ++ block_lines s.loads d.division.cuts d.naming pes ++ moved_line d.moved
 
--- the one line where it is out of memory
+-- the one line for out of memory
 abbrev pub memory_line : List ℕ
 memory_line = codes "out of memory" ++ newline
 
@@ -121,7 +121,7 @@ flaw_name PriceGap = codes "PriceGap"
 flaw_name MovedWrong = codes "MovedWrong"
 flaw_name MovesWrong = codes "MovesWrong"
 
--- the numbers that a flaw names: its block, its stop, or its block and its PE, each with a blank before it
+-- the numbers that a flaw names: its block, its stop, or its block and its PE, each with a space before it
 abbrev pub flaw_numbers : Flaw → List ℕ
 flaw_numbers (Heavy b) = blank_number b
 flaw_numbers (FenceLight i) = blank_number i

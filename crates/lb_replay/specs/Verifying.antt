@@ -20,7 +20,7 @@ IsJudged d (Flawed flaw) = MatchOption d.recorded ⊥ (λ r. IsFirstFlaw d.snaps
 IsJudged d NoDecision = d.recorded ≡ None
 IsJudged d _ = ⊥
 
--- The one line of an end. A check never ends as out of memory of the plan.
+-- The one line of an end. A check makes no plan, so it never ends with a fault of one.
 abbrev pub check_line : Ended → List ℕ
 check_line Printed = right_line
 check_line (Dump e) = dump_line e

@@ -22,7 +22,7 @@ pub(crate) enum Fault {
 }
 
 impl Fault {
-    /// The fault that is reported in place of this one where there is no memory for its line.
+    /// The fault that is reported in place of this one where no memory is left for its line.
     pub(crate) fn without_memory(self) -> Fault
         ensures value { result ≡ without_memory self }
     {
@@ -35,7 +35,7 @@ impl Fault {
     }
 }
 
-/// The line where it is out of memory.
+/// The line for out of memory.
 pub(crate) const NO_MEMORY: &str = "out of memory\n";
 
 /// The line that reports a fault.

@@ -1,4 +1,4 @@
-//! Replays a dump of the load database off line: from the bytes of a reader, the text of the least division of its
+//! Replays a dump of the load database offline: from the bytes of a reader, the text of the least division of its
 //! elements into consecutive blocks, with the fence that proves it, the PE of each block and the bytes that move.
 //!
 //! - [`simulate`]: the replay, from the bytes of a reader to the bytes of a writer; [`replay_file`]: that of a file.

@@ -18,7 +18,7 @@ use std::alloc::Allocator;
 use std::io::{self, Read, Write};
 use streams::{Noted, write_out};
 
-/// Replays a dump off line: reads it, plans its balancing step for `procs` PEs (1 to 256), or as many as the
+/// Replays a dump offline: reads it, plans its balancing step for `procs` PEs (1 to 256), or as many as the
 /// dump has, and writes the text of the decision, or the one line of a fault, and nothing else. A decision that the dump
 /// has is read, and ignored.
 ///
@@ -70,7 +70,7 @@ pub fn replay_file<A: Allocator + Copy, R: Read + Drop, W: Write>(
     }
 }
 
-// The text of the decision, made whole, or the fault that kept it from being made.
+// The whole text of the decision, or the fault for which there is none.
 fn replay<A: Allocator + Copy, R: Read>(
     alloc: A,
     reader: &mut R,
@@ -93,7 +93,7 @@ fn replay<A: Allocator + Copy, R: Read>(
     }
 }
 
-// The text of the decision that is planned for a snapshot, or that it is out of memory.
+// The text of the decision that is planned for a snapshot, or out of memory.
 fn planned_text<A: Allocator + Copy, B: Allocator>(
     alloc: A,
     snapshot: &Snapshot<B>,
@@ -110,9 +110,10 @@ fn planned_text<A: Allocator + Copy, B: Allocator>(
     }
 }
 
-/// Writes the line of a fault, or that it is out of memory.
+/// Writes the line of a fault, or the one for out of memory.
 pub(crate) fn report<A: Allocator, W: Write>(alloc: A, writer: &mut W, fault: Fault) -> Ended
-    ensures { ReportsFault (W.contents writer.old) (W.contents writer.new) fault result ⊎ ReportsFault (W.contents writer.old) (W.contents writer.new) (without_memory fault) result }
+    ensures { ReportsFault (W.contents writer.old) (W.contents writer.new) fault result
+        ⊎ ReportsFault (W.contents writer.old) (W.contents writer.new) (without_memory fault) result }
 {
     let Ok(line) = fault_line(alloc, fault) else {
         return report_line(writer, fault.without_memory(), NO_MEMORY.as_bytes());

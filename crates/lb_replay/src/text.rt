@@ -1,4 +1,4 @@
-//! The printed text of a decision. It is made whole before any of it goes out.
+//! The printed text of a decision. All of it is made before any of it is written.
 
 ghost use Rattle.std.specs.Prelude.{◌≡◌, ◌++◌, [], OnOk, IfOk, IfErr, length};
 ghost use Rattle.std.specs.List.{flat_map};
@@ -37,7 +37,7 @@ pub(crate) fn decision_text<A: Allocator, B: Allocator, C: Allocator>(
     }
 }
 
-// Writes the text of a decision where nothing stands yet.
+// Writes the text of a decision to an empty string.
 #[tactic(auto, using(crate::proofs::RightTexts::divides_from_right, crate::proofs::RightTexts::named_from_right))]
 fn push_decision<A: Allocator, B: Allocator, C: Allocator>(
     text: &mut String<A>,
@@ -89,7 +89,7 @@ fn push_floor<A: Allocator, B: Allocator>(
     text.push_str("\n")
 }
 
-// A blank and a number, for each.
+// A space and the number, for each number.
 fn push_numbers<A: Allocator>(text: &mut String<A>, numbers: &[u32]) -> Result<(), AllocError>
     ensures { OnOk result (string_bytes text.new ≡ string_bytes text.old ++ flat_map blank_number numbers.now) }
 {
@@ -144,7 +144,7 @@ fn push_block_start<A: Allocator>(
     write!(text, "block {b} {first}..{end} load {load} pe ")
 }
 
-// The PE of a block, and a dash for one that has no element.
+// The PE of a block, or a dash where the block has no element.
 fn push_pe<A: Allocator>(
     text: &mut String<A>,
     first: u32,

@@ -18,8 +18,8 @@ use streams::{Noted, write_out};
 const RIGHT: &str = "check: ok\n";
 
 /// Checks the decision that was recorded in a dump, whoever made it: reads the dump, and writes one line. It is
-/// `check: ok` where the decision is right for the snapshot and for its target, by [`check`]; or else it tells the first
-/// flaw of the decision, that the dump has none, or the fault of the dump.
+/// `check: ok` where the decision is right for the snapshot and for its target, by [`check`]; otherwise it names the
+/// first flaw of the decision, says that the dump has none, or reports the fault of the dump.
 ///
 /// Out of memory, also for the line itself, is a fault of the dump. The line `check: ok` takes no memory.
 ///

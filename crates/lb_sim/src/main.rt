@@ -1,6 +1,6 @@
-//! `lb_sim [--procs P] [--check] FILE` replays a dump of the load database off line: it prints the least division of the
+//! `lb_sim [--procs P] [--check] FILE` replays a dump of the load database offline: it prints the least division of the
 //! elements into consecutive blocks, with the fence that proves it, the PE of each block and the bytes that move. With
-//! `--check` it prints in its place whether the decision that the dump has is right.
+//! `--check` it prints instead whether the decision in the dump is right.
 //!
 //! - `command_line::asked`: what the words of the command line ask for, and the status where they ask for nothing to be
 //!   done.
@@ -42,7 +42,7 @@ fn main(rt: HostRuntime) -> ExitCode {
     }
 }
 
-// Does what is asked for, and returns the status. No file is opened where that is no task.
+// Does what is asked for, and returns the status. No file is opened where that is not a task.
 fn done(rt: &HostRuntime, asked: Asked<'_>) -> u8
     requires some_pe { ForSome asked.procs (λ p. 1 ≤ p) }
     requires few_pes { ForSome asked.procs (λ p. p ≤ Limits.PES) }

@@ -1,4 +1,4 @@
--- What is measured of the elements of a chare array in one round, and the limits that it keeps.
+-- What is measured of the elements of a chare array in one round, and its limits.
 use Rattle.std.specs.Prelude.{Bool, ◌==◌, ◌&&◌, ◌≡◌, ℕ, ◌<◌, ◌≤◌, List, length, sum, slice_range, All}
 use Rattle.chare_index.specs.declared.limits.TheConstants.Limits.{ELEMENTS, PES, LOAD, STATE_BYTES}
 
@@ -23,7 +23,7 @@ pub record Taken : Type 0 where
   pub loads : List ℕ
   pub sizes : List (ℕ × ℕ)
 
--- the elements stand on the PEs that there are
+-- there is a load for each size, and each element stands on one of the procs PEs
 pub record IsTaken (procs : ℕ) (loads : List ℕ) (sizes : List (ℕ × ℕ)) : Type 0 where
   pub some_pe : 0 < procs
   pub few_pes : procs ≤ PES

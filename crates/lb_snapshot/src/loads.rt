@@ -27,8 +27,8 @@ impl<A: Allocator> Model for Loads<A> {
 }
 
 impl<A: Allocator> Loads<A> {
-    /// These loads, or `None` where they are more than there may be elements, or where one is more than an element
-    /// may have.
+    /// These loads, or `None` where there are more than [`Limits::ELEMENTS`] of them or one is above
+    /// [`Limits::LOAD`].
     pub fn new(units: Vec<Units, A>) -> Option<Self>
         ensures made { SomeIff result (IsLoads units.items) units.items }
     {
@@ -71,7 +71,7 @@ impl<A: Allocator> Loads<A> {
         total(&self.units[first..end])
     }
 
-    /// Gives the list back.
+    /// Returns the list.
     pub fn into_vec(self) -> Vec<Units, A>
         ensures value { result.items ≡ self }
     {
@@ -80,7 +80,7 @@ impl<A: Allocator> Loads<A> {
     }
 }
 
-// The sum of these loads, which are as few and as small as they have to be.
+// The sum of these loads, which are few and small enough for 64 bits.
 #[tactic(auto, using(crate::proofs::LoadSums::next_fits))]
 fn total(units: &[Units]) -> u64
     requires { IsLoads units.now }
@@ -93,8 +93,8 @@ fn total(units: &[Units]) -> u64
     total
 }
 
-// Whether each load is one that an element may have. The limit is all ones, so no load is above it exactly where the
-// bits of all loads together are not: that leaves no branch, and is done for several loads at a time.
+// Whether each load is within the limit. All bits of the limit are set, so no load is above it exactly where the bitwise
+// or of all loads is not. The loop has no branch, and is compiled for several loads at a time.
 #[tactic(auto)]
 fn fit(units: &[Units]) -> bool
     ensures { IsTrue result ↔ All (λ load. load ≤ Limits.LOAD) units.now }

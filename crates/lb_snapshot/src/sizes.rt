@@ -25,8 +25,8 @@ impl<A: Allocator> Model for Sizes<A> {
 }
 
 impl<A: Allocator> Sizes<A> {
-    /// These sizes and places, or `None` where they are more than there may be elements, or where a size is
-    /// more than a packed element may have.
+    /// These sizes and places, or `None` where there are more than [`Limits::ELEMENTS`] of them or a size is above
+    /// [`Limits::STATE_BYTES`].
     pub fn new(pairs: Vec<(u32, Pe), A>) -> Option<Self>
         ensures made { SomeIff result (IsSizes pairs.items) pairs.items }
     {
@@ -60,7 +60,7 @@ impl<A: Allocator> Sizes<A> {
         self.pairs.is_empty()
     }
 
-    /// Gives the list back.
+    /// Returns the list.
     pub fn into_vec(self) -> Vec<(u32, Pe), A>
         ensures value { result.items ≡ self }
     {
@@ -88,7 +88,7 @@ impl<A: Allocator + Copy> Clone for Sizes<A> {
     }
 }
 
-// Whether each size is one that a packed element may have.
+// Whether each size is within the limit.
 fn fit(pairs: &[(u32, Pe)]) -> bool
     ensures { IsTrue result ↔ All (λ size. size.0 ≤ Limits.STATE_BYTES) pairs.now }
 {

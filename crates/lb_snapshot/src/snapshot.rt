@@ -83,7 +83,8 @@ impl<A: Allocator> PartialEq for Snapshot<A> {
     ghost eq = { λ a b. ((a.step == b.step) && (a.procs == b.procs)) && (bytes_eq a.loads b.loads && pointwise same_size a.sizes b.sizes) };
 
     ghost laws = { and_per (and_per (on_per (λ s. s.step) (partial_equiv_from_equiv nat_eq_equiv)) (on_per (λ s. s.procs) (partial_equiv_from_equiv nat_eq_equiv)))
-        (and_per (on_per (λ s. s.loads) (partial_equiv_from_equiv nat_list_eq_equiv)) (on_per (λ s. s.sizes) (lists_per (and_per (on_per (λ t. t.0) (partial_equiv_from_equiv nat_eq_equiv)) (on_per (λ t. t.1) (partial_equiv_from_equiv nat_eq_equiv)))))) };
+        (and_per (on_per (λ s. s.loads) (partial_equiv_from_equiv nat_list_eq_equiv)) (on_per (λ s. s.sizes)
+        (lists_per (and_per (on_per (λ t. t.0) (partial_equiv_from_equiv nat_eq_equiv)) (on_per (λ t. t.1) (partial_equiv_from_equiv nat_eq_equiv)))))) };
 
     fn eq(&self, other: &Self) -> bool {
         (self.step, self.procs) == (other.step, other.procs)

@@ -29,7 +29,7 @@ pub record IsRight {A : Type 0} (loads : List ℕ) (sizes : List (ℕ × ℕ)) (
   pub moved : d.moved ≡ right_moved sizes d
   pub moves : d.moves ≡ right_moves sizes d
 
--- the greatest cost of a block on a PE, where there are so many of each
+-- the greatest cost of a block on a PE, of so many blocks and as many PEs
 pub record IsGreatestCost (blocks : ℕ) (cost : ℕ → ℕ → ℕ) (most : ℕ) : Type 0 where
   pub block : ℕ
   pub pe : ℕ

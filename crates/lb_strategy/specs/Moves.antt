@@ -21,7 +21,7 @@ is_move move = not (move.1 == move.2)
 abbrev pub moves_below : List (ℕ × ℕ) → List ℕ → List ℕ → ℕ → List (ℕ × ℕ × ℕ)
 moves_below sizes cuts names n = filter is_move (map (move_of sizes cuts names) (range_with_len 0 n))
 
--- the cuts begin with 0 and do not fall, element i stands before the last of them, and its block has a PE's name
+-- the cuts begin with 0 and do not fall, element i is below the last of them, and its block has a name that is a PE
 pub record HasPlace (cuts names : List ℕ) (i : ℕ) : Type 0 where
   pub starts : slice_index cuts 0 ≡ 0
   pub ordered : IsNonDecreasing cuts

@@ -58,14 +58,14 @@ fn check_parts<A: Allocator, B: Allocator>(
     if moved != decision.moved {
         return Err(Flaw::MovedWrong);
     }
-    if !tells_moves(sizes, decision) {
+    if !has_right_moves(sizes, decision) {
         return Err(Flaw::MovesWrong);
     }
     Ok(())
 }
 
 // Whether the decision's moves are those that its naming asks for.
-fn tells_moves<A: Allocator, B: Allocator>(sizes: &Sizes<A>, decision: &Decision<B>) -> bool
+fn has_right_moves<A: Allocator, B: Allocator>(sizes: &Sizes<A>, decision: &Decision<B>) -> bool
     requires { IsNamedRight sizes.now decision.now }
     ensures { MatchBool result (decision.now.moves ≡ right_moves sizes.now decision.now)
         (decision.now.moves ≢ right_moves sizes.now decision.now) }

@@ -41,7 +41,7 @@ impl<A: Allocator + Copy> Clone for Decision<A> {
     }
 }
 
-// The division and the naming. Few lists are owned at each way out so.
+// Clones of the division and the naming. In two functions, so that fewer lists are owned at each early return.
 fn clone_blocks<A: Allocator + Copy>(
     decision: &Decision<A>,
 ) -> Result<(Division<A>, Naming<A>), AllocError>
@@ -52,7 +52,7 @@ fn clone_blocks<A: Allocator + Copy>(
     Ok((division, decision.naming.clone()?))
 }
 
-// The prices and the moves.
+// Clones of the prices and the moves.
 fn clone_lists<A: Allocator + Copy>(
     decision: &Decision<A>,
 ) -> Result<(Prices<A>, Moves<A>), AllocError>

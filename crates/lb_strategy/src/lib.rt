@@ -1,5 +1,5 @@
 //! The decision of a balancing step: which elements run where, with every certificate in it, and one check that
-//! a third party runs.
+//! anyone can run.
 //!
 //! - [`Decision`], with its [`Moves`]: what a step decides.
 //! - [`check`]: accepts a decision exactly where every part of it is right.

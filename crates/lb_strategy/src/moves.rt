@@ -41,7 +41,7 @@ impl<A: Allocator> Moves<A> {
         self.moves.as_slice()
     }
 
-    /// Gives the list back.
+    /// Returns the list.
     pub fn into_vec(self) -> Vec<(Index, Pe, Pe), A>
         ensures value { result.items ≡ self }
     {
@@ -53,7 +53,8 @@ impl<A: Allocator> Moves<A> {
 impl<A: Allocator> PartialEq for Moves<A> {
     ghost eq = { λ a b. pointwise same_move a b };
 
-    ghost laws = { lists_per (and_per (and_per (on_per (λ t. t.0) (partial_equiv_from_equiv nat_eq_equiv)) (on_per (λ t. t.1) (partial_equiv_from_equiv nat_eq_equiv))) (on_per (λ t. t.2) (partial_equiv_from_equiv nat_eq_equiv))) };
+    ghost laws = { lists_per (and_per (and_per (on_per (λ t. t.0) (partial_equiv_from_equiv nat_eq_equiv)) (on_per (λ t. t.1) (partial_equiv_from_equiv nat_eq_equiv)))
+        (on_per (λ t. t.2) (partial_equiv_from_equiv nat_eq_equiv))) };
 
     fn eq(&self, other: &Self) -> bool {
         self.as_slice() == other.as_slice()
@@ -69,7 +70,7 @@ impl<A: Allocator + Copy> Clone for Moves<A> {
     }
 }
 
-// The move of an element, where it stands elsewhere than it is to run.
+// The move of an element, where it stands on one PE and is to run on another.
 fn move_of(i: u32, present: Pe, planned: u32) -> Option<(Index, Pe, Pe)>
     requires index { i < Limits.ELEMENTS }
     requires pe { planned < Limits.PES }
@@ -94,7 +95,7 @@ fn push_move<A: Allocator>(
     Ok(())
 }
 
-// The block of an element, looked for from a block on that it does not stand before.
+// The block of an element that stands in this block or a later one.
 #[tactic(auto, using(lb_certificates::proofs::BlockSums::block_of_is))]
 fn block_from(cuts: &[u32], from: usize, i: u32) -> usize
     requires divides { IsDivision 0 (slice_index cuts.now (blocks_between cuts.now)) (blocks_between cuts.now) cuts.now }
@@ -113,7 +114,7 @@ fn block_from(cuts: &[u32], from: usize, i: u32) -> usize
     from
 }
 
-// The place behind the next moves, where they go on with this one.
+// The index after the next move, where the list goes on with this move; where there is no move to make, the same index.
 fn place_behind(
     moves: &[(Index, Pe, Pe)],
     next: usize,
@@ -131,7 +132,7 @@ fn place_behind(
     None
 }
 
-// How many elements stand elsewhere than on this PE.
+// How many elements stand on another PE than this one.
 fn elsewhere(pairs: &[(u32, Pe)], pe: u32) -> usize
     ensures { result ≤ length pairs.now }
 {
@@ -144,7 +145,7 @@ fn elsewhere(pairs: &[(u32, Pe)], pe: u32) -> usize
     count
 }
 
-// How many moves there are: for how many the list needs room.
+// How many moves a naming asks for, which is the capacity of their list.
 fn count_moves(sizes: &[(u32, Pe)], cuts: &[u32], names: &[u32]) -> usize
     requires blocks { AreBlocks sizes.now cuts.now }
     requires naming { IsNaming (blocks_between cuts.now) names.now }

@@ -19,7 +19,7 @@ use std::thread::Threads;
 
 /// Decides where each element of this snapshot runs next, on `pes` PEs, 1 to 256, which may be more or fewer than
 /// those of the run: its blocks are those of [`divide`], named so that the fewest bytes move, and of all such namings it
-/// takes the first in dictionary order. So all of the decision but its prices is determined by the snapshot and `pes`.
+/// takes the first in dictionary order. So the snapshot and `pes` determine all of the decision but its prices.
 /// [`check`](crate::check) accepts the decision. Each price of a block is 0 to the greatest number of bytes that a block
 /// moves on some PE, and each price of a PE is 0 down to as much below 0.
 ///
@@ -47,7 +47,7 @@ pub fn plan<A: Allocator + Copy, B: Allocator>(
 }
 
 /// Decides as [`plan`] does. The division, which is the same, is found by 1 to 64 workers, as [`divide_with`] does: in
-/// each of its probes a worker calls the gate with its number, and a thread that cannot be started is done without.
+/// each of its probes a worker calls the gate with its number, and if a thread cannot be started, the others do its work.
 ///
 /// # Errors
 ///
@@ -77,7 +77,7 @@ pub fn plan_with<R: Threads + Sync, G: Gate + Sync, A: Allocator + Copy, B: Allo
     complete(alloc, snapshot, pes, found)
 }
 
-// The decision whose division was found.
+// The decision with this division.
 #[tactic(auto, using(crate::proofs::RightDecisions::blocks_from_certified))]
 fn complete<A: Allocator + Copy, B: Allocator>(
     alloc: A,
@@ -112,7 +112,7 @@ fn complete<A: Allocator + Copy, B: Allocator>(
 }
 
 // The least naming of these blocks, with its prices, and the bytes that it moves. The table is dropped on return, so its
-// room is free for the greatest list of a decision, that of the moves.
+// memory is free for the longest list of a decision, that of the moves.
 fn named<A: Allocator + Copy, B: Allocator>(
     alloc: A,
     sizes: &Sizes<B>,

@@ -7,7 +7,7 @@ use Rattle.crossbeam_queue.specs.Fifo.{Held, Pushes, Pops, Forks, Merges, Learns
 use Rattle.crossbeam_queue.proofs.Lists.{at_set, at_snoc}
 use Rattle.chare_index.specs.declared.limits.TheConstants.Limits.{SEATS}
 use Rattle.pe_queues.specs.declared.traffic.Traffic.{Traffic}
-use Rattle.pe_queues.specs.Balance.{Balanced, Balances, Seen, IsShare, traffic, all_traffic, no_traffic, with_put, with_take, without_one, of_one, of_both}
+use Rattle.pe_queues.specs.Conservation.{Conserved, Balances, Seen, IsShare, traffic, all_traffic, no_traffic, with_put, with_take, without_one, of_one, of_both}
 use Rattle.pe_queues.proofs.Totals.{changed_there, sum_changed, one_of_sum, all_in_one, sum_of_ones, sum_of_none}
 
 module _ {T : Type 0} where
@@ -38,7 +38,7 @@ module _ {T : Type 0} where
   taken_in weight v = sum_by weight v.takes
 
   -- an empty queue whose seats are all one pass
-  pub begins : Balanced {T = T} [] (all_traffic ∷ [])
+  pub begins : Conserved {T = T} [] (all_traffic ∷ [])
   begins = record {
     seats = refl;
     rooms = refl;
@@ -46,7 +46,7 @@ module _ {T : Type 0} where
     spent = spent_pushed [] all_traffic (λ none. absurd (omega arith)) (λ j u at. absurd (some-ne-none u (sym at)));
   }
 
-  pub pushes : (n pass : ℕ) (v : Traffic T) (x : T) → 0 < v.seats → Pushes Balanced n pass v x (λ w. w ≡ with_put v x)
+  pub pushes : (n pass : ℕ) (v : Traffic T) (x : T) → 0 < v.seats → Pushes Conserved n pass v x (λ w. w ≡ with_put v x)
   pushes n pass v x seated items passes room b at =
       let w : Traffic T = with_put v x in (
         w,
@@ -63,10 +63,10 @@ module _ {T : Type 0} where
         refl,
       )
 
-  pub pops : (pass : ℕ) (v : Traffic T) → 0 < v.seats → Pops Balanced pass v (λ x w. (w ≡ with_take v x) × ((items : List T) × Seen w items))
+  pub pops : (pass : ℕ) (v : Traffic T) → 0 < v.seats → Pops Conserved pass v (λ x w. (w ≡ with_take v x) × ((items : List T) × Seen w items))
   pops pass v seated x items passes b at =
       let w : Traffic T = with_take v x in
-      let kept : Balanced items (set passes pass w) = record {
+      let kept : Conserved items (set passes pass w) = record {
         seats = (let s = sum_changed seats_in passes pass v w at in let b = b.seats in omega arith);
         rooms = (let s = sum_changed rooms_in passes pass v w at in let b = b.rooms in omega arith);
         balance = λ weight.
@@ -78,7 +78,7 @@ module _ {T : Type 0} where
       } in
       (w, kept, (refl, (items, record { passes = set passes pass w; pass = pass; rule = kept; at = changed_there passes pass v w at })))
 
-  pub splits : (pass : ℕ) (v : Traffic T) → 1 < v.seats → Forks Balanced pass v (without_one v) of_one
+  pub splits : (pass : ℕ) (v : Traffic T) → 1 < v.seats → Forks Conserved pass v (without_one v) of_one
   splits pass v two items passes b at =
       let l : Traffic T = without_one v in
       let r : Traffic T = of_one in
@@ -94,7 +94,7 @@ module _ {T : Type 0} where
         spent = spent_pushed ps r (λ none. absurd (omega arith)) (spent_changed passes pass l (λ none. absurd (omega arith)) b.spent);
       }
 
-  pub joins : (pass : ℕ) (v : Traffic T) (other : ℕ) (u : Traffic T) → 0 < v.seats → Merges Balanced pass v other u (of_both v u) no_traffic
+  pub joins : (pass : ℕ) (v : Traffic T) (other : ℕ) (u : Traffic T) → 0 < v.seats → Merges Conserved pass v other u (of_both v u) no_traffic
   joins pass v other u seated items passes b at two at' =
       let w : Traffic T = of_both v u in
       let z : Traffic T = no_traffic in
@@ -112,7 +112,7 @@ module _ {T : Type 0} where
         spent = spent_changed ps other z (λ none. refl) (spent_changed passes pass w (λ none. absurd (omega arith)) b.spent);
       }
 
-  pub looks : (pass : ℕ) (v : Traffic T) → Learns Balanced pass v (Seen v)
+  pub looks : (pass : ℕ) (v : Traffic T) → Learns Conserved pass v (Seen v)
   looks pass v items passes b at = record { passes = passes; pass = pass; rule = b; at = at }
 
   -- the traffic of all seats is all that went through the queue

@@ -8,7 +8,7 @@ use Rattle.crossbeam_queue.specs.Fifo.{Held}
 use Rattle.chare_index.specs.declared.limits.TheConstants.Limits.{SEATS}
 use Rattle.pe_queues.specs.declared.full.Full.{Full}
 use Rattle.pe_queues.specs.declared.traffic.Traffic.{Traffic}
-use Rattle.pe_queues.specs.Balance.{Balances, Seen, IsShare, traffic, with_put, with_take, of_both}
+use Rattle.pe_queues.specs.Conservation.{Balances, Seen, IsShare, traffic, with_put, with_take, of_both}
 use Rattle.pe_queues.specs.Seats.{QueueView, TicketView, SeatView, ticket, seat_of, new_seat, puts_at, takes_at, after_put, after_take, append_each, joined, HeldAt, IsAllSeats, AreRooms, IsSeat}
 use Rattle.pe_queues.proofs.Lists.{alike, all_alike, at_some}
 use Rattle.pe_queues.proofs.Steps.{held_counts}

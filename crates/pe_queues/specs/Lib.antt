@@ -1,4 +1,4 @@
-pub mod Balance
+pub mod Conservation
 pub mod Refusals
 pub mod Seats
 pub mod Whereabouts

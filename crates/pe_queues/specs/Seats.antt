@@ -5,7 +5,7 @@ use Rattle.crossbeam_queue.specs.Passes.{Pass, view}
 use Rattle.atomic_table.specs.Seated.{TableId}
 use Rattle.chare_index.specs.declared.limits.TheConstants.Limits.{PES, SEATS}
 use Rattle.pe_queues.specs.declared.traffic.Traffic.{Traffic}
-use Rattle.pe_queues.specs.Balance.{traffic, Balances, Seen}
+use Rattle.pe_queues.specs.Conservation.{traffic, Balances, Seen}
 
 -- a queue: which one, and how many values it has room for
 pub record QueueView : Type 0 where

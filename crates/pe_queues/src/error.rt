@@ -4,7 +4,7 @@ ghost use Rattle.pe_queues.specs.declared.error.PostError.TheVariants.{OutOfMemo
 use std::alloc::AllocError;
 use thiserror::Error;
 
-/// Why no post was made, or one was not settled. Where several reasons apply, the one with the lowest number is told.
+/// Why no post was made, or one was not settled. Where several reasons apply, the one with the lowest number is reported.
 /// The numbers are stable.
 #[derive(Clone, Copy, Debug, PartialEq, Eq, Error)]
 pub enum PostError {

@@ -1,4 +1,4 @@
-//! The queues of all PEs, and the calls by which threads use them through their seats. docs/QUEUES.md tells the
+//! The queues of all PEs, and the calls by which threads use them through their seats. docs/QUEUES.md has the
 //! protocol.
 ghost use Rattle.std.specs.Prelude.{◌≡◌, ◌≢◌, ◌+◌, ◌<◌, ◌≤◌, All, length, sum_by, slice_index_or, IfOk, IfErr, OnOk, OnErr, IfSome, IfNone, MatchResult};
 ghost use Rattle.chare_index.specs.declared.limits.TheConstants.Limits.{PES, SEATS};

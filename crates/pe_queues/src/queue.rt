@@ -3,7 +3,7 @@ ghost use Rattle.std.specs.Prelude.{◌≡◌, ◌+◌, ◌-◌, ◌<◌, ◌≤
 ghost use Rattle.crossbeam_queue.specs.Fifo.{Held};
 ghost use Rattle.crossbeam_queue.specs.Passes.{view, IsPassOf, ruled_capacity};
 ghost use Rattle.chare_index.specs.declared.limits.TheConstants.Limits.{SEATS};
-ghost use Rattle.pe_queues.specs.Balance.{Balances, Seen, IsShare, all_traffic, with_put, with_take, without_one, of_one, of_both};
+ghost use Rattle.pe_queues.specs.Conservation.{Balances, Seen, IsShare, all_traffic, with_put, with_take, without_one, of_one, of_both};
 ghost use Rattle.pe_queues.specs.Seats.{QueueView, TicketView, ticket, ticket_of};
 
 use crate::full::Full;

@@ -2,7 +2,7 @@
 //! such a rule is that of the invariants of concurrent separation logic: a fact of the shared queue and of what each
 //! thread knows, which every single step keeps.
 ghost use Rattle.std.specs.Prelude.{◌≡◌, List};
-ghost use Rattle.pe_queues.specs.Balance.{Balanced, Seen, all_traffic, with_put, with_take, without_one, of_one, of_both, no_traffic};
+ghost use Rattle.pe_queues.specs.Conservation.{Conserved, Seen, all_traffic, with_put, with_take, without_one, of_one, of_both, no_traffic};
 
 use crate::traffic::Traffic;
 use crossbeam_queue::protocol::{Join, Lesson, Outcome, Protocol, Split};
@@ -11,7 +11,7 @@ use crossbeam_queue::protocol::{Join, Lesson, Outcome, Protocol, Split};
 pub struct Balance;
 
 impl<T> Protocol<T, Traffic<T>> for Balance {
-    ghost holds = { Balanced };
+    ghost holds = { Conserved };
 
     ghost first = { all_traffic };
 }

@@ -8,10 +8,11 @@ use Rattle.chares.specs.declared.carried.Carried.TheVariants.{Letter, Element}
 use Rattle.chares.specs.declared.progress.Progress.{Progress}
 use Rattle.chares.specs.declared.sends.SendError.{SendError}
 use Rattle.pe_state.specs.declared.acted.Acted.TheVariants.{Installed}
-use Rattle.chares.specs.declared.report.Report.TheVariants as Tells
+use Rattle.chares.specs.declared.trace_entry.TraceEntry.TheVariants as Trace
 use Rattle.pe_state.specs.Pes.{PeView, Item, Parcel, Acting, installed, passing, executed, on_letter, on_element, on_parcel, installing, acting, acting_on, pe_after, held}
 use Rattle.pe_state.specs.Refusals.{RefusesStep, RefusesAct, RefusesParcel}
-use Rattle.pe_state.specs.Rooms.{Refuses, found}
+use Rattle.pe_state.specs.Rooms.{found}
+use Rattle.chares.specs.Elements.{Refuses}
 use Rattle.pe_state.specs.declared.error.StepError.{StepError}
 use Rattle.pe_state.specs.declared.error.StepError.TheVariants.{OutOfMemory}
 
@@ -85,7 +86,7 @@ module _ {C : Type 0} (step : Step C) (pack : C → List ℕ) (unpack : List ℕ
 
   -- an element whose bytes unpack is installed, where none stands with its index
   pub installs : (v : PeView C) (p : PackedView) (f : Option (ElementView C)) (chare : C) (k : ℕ) → f ≡ None → unpack p.bytes ≡ Ok (chare, k)
-      → on_element step pack unpack v p f ≡ Some (record { acted = Installed; pe = installed v p chare; reports = Tells.Installed p.index ∷ [] })
+      → on_element step pack unpack v p f ≡ Some (record { acted = Installed; pe = installed v p chare; trace = Trace.Installed p.index ∷ [] })
   installs v p f chare k none e = ap (on_element step pack unpack v p) none ∙ ap (installing step pack unpack v p) e
 
   whole_installs : (v : PeView C) (p : PackedView) (r : Result (C × ℕ) PupError) → IsOk r → IsSome (installing step pack unpack v p r)

@@ -10,7 +10,7 @@ use Rattle.std.proofs.lemmas.Map.Lookups.{exact_unsigned}
 use Rattle.chares.specs.Elements.{ElementView}
 use Rattle.pe_state.specs.Rooms.{found, joined, IsKeyed}
 
-equals : (q e : ℕ) → is_eq (nat_cmp q e) ≡ true → q ≡ e
+pub equals : (q e : ℕ) → is_eq (nat_cmp q e) ≡ true → q ≡ e
 equals q e t = by (nat_cmp q e) refl t
   where
     by : (r : Ordering) → nat_cmp q e ≡ r → is_eq r ≡ true → q ≡ e
@@ -18,7 +18,7 @@ equals q e t = by (nat_cmp q e) refl t
     by Equal m f = exact_unsigned q e m
     by Greater m f = cc
 
-pick : {X : Type 0} (b : Bool) (a o : Option X) (P : X → Type 0) → (b ≡ true → IfSome a P) → (b ≡ false → IfSome o P) → IfSome (cond b a o) P
+pub pick : {X : Type 0} (b : Bool) (a o : Option X) (P : X → Type 0) → (b ≡ true → IfSome a P) → (b ≡ false → IfSome o P) → IfSome (cond b a o) P
 pick true a o P f g = f refl
 pick false a o P f g = g refl
 

@@ -1,44 +1,44 @@
--- What a handler leaves of the outbox, the count and the reports that were lent to it.
+-- What a handler leaves of the outbox, the count and the trace that were lent to it.
 use Rattle.std.proofs.Common.{◌≡◌, ℕ, ◌+◌, ◌++◌, ◌∷◌, [], List, Bool, true, length, Result, Ok, Err, OnOk, OnErr, ap, ◌∙◌}
-use Rattle.chares.specs.Posting.{Posting, Out, posted, with_report, letters_of, posts_of, reported}
-use Rattle.chares.specs.declared.report.Report.{Report}
-use Rattle.pe_state.proofs.Reports.{reported_twice}
+use Rattle.chares.specs.Posting.{Posting, Out, posted, with_entry, letters_of, posts_of, traced}
+use Rattle.chares.specs.declared.trace_entry.TraceEntry.{TraceEntry}
+use Rattle.pe_state.proofs.Traces.{traced_twice}
 
 -- what is lent
-abbrev pub lending : {P : Type 0} → ℕ → ℕ → ℕ → List (Out P) → Bool → List Report → Posting P
-lending me n k outbox b rs = record { me = me; n = n; count = k; outbox = outbox; spare = true; reporting = b; reports = rs }
+abbrev pub lending : {P : Type 0} → ℕ → ℕ → ℕ → List (Out P) → Bool → List TraceEntry → Posting P
+lending me n k outbox b rs = record { me = me; n = n; count = k; outbox = outbox; spare = true; tracing = b; trace = rs }
 
 -- A handler answers r; s is lent to it, and t comes back. If it is Ok, these are posted after a report of what it handled.
-abbrev pub Posts : {P R E : Type 0} → Result R E → Posting P → Posting P → Report → List (ℕ × List ℕ) → Type 0
-Posts r s t rep sends = OnOk r (t ≡ posted (with_report s rep) sends)
+abbrev pub Posts : {P R E : Type 0} → Result R E → Posting P → Posting P → TraceEntry → List (ℕ × List ℕ) → Type 0
+Posts r s t rep sends = OnOk r (t ≡ posted (with_entry s rep) sends)
 
-module _ {P R E : Type 0} (r : Result R E) (me n k : ℕ) (outbox : List (Out P)) (b : Bool) (rs : List Report) (s t : Posting P) (lent : s ≡ lending me n k outbox b rs) where
-  pub outbox_after : (rep : Report) (sends : List (ℕ × List ℕ)) (back old : List (Out P)) → back ≡ t.outbox → outbox ≡ old → Posts r s t rep sends → OnOk r (back ≡ old ++ letters_of me k sends)
+module _ {P R E : Type 0} (r : Result R E) (me n k : ℕ) (outbox : List (Out P)) (b : Bool) (rs : List TraceEntry) (s t : Posting P) (lent : s ≡ lending me n k outbox b rs) where
+  pub outbox_after : (rep : TraceEntry) (sends : List (ℕ × List ℕ)) (back old : List (Out P)) → back ≡ t.outbox → outbox ≡ old → Posts r s t rep sends → OnOk r (back ≡ old ++ letters_of me k sends)
   outbox_after rep sends back old e o h = by r h
     where
       by : (r : Result R E) → Posts r s t rep sends → OnOk r (back ≡ old ++ letters_of me k sends)
       by (Ok x) h = e ∙ ap (λ p. p.outbox) h ∙ ap (λ p. p.outbox ++ letters_of p.me p.count sends) lent ∙ ap (λ v. v ++ letters_of me k sends) o
       by (Err x) h = tt
 
-  pub count_after : (rep : Report) (sends : List (ℕ × List ℕ)) (back : ℕ) → back ≡ t.count → Posts r s t rep sends → OnOk r (back ≡ k + length sends)
+  pub count_after : (rep : TraceEntry) (sends : List (ℕ × List ℕ)) (back : ℕ) → back ≡ t.count → Posts r s t rep sends → OnOk r (back ≡ k + length sends)
   count_after rep sends back e h = by r h
     where
       by : (r : Result R E) → Posts r s t rep sends → OnOk r (back ≡ k + length sends)
       by (Ok x) h = e ∙ ap (λ p. p.count) h ∙ ap (λ p. p.count + length sends) lent
       by (Err x) h = tt
 
-  pub reports_after : (rep : Report) (sends : List (ℕ × List ℕ)) (back old : List Report) → back ≡ t.reports → rs ≡ old → Posts r s t rep sends → OnOk r (back ≡ reported b old (rep ∷ posts_of me k sends))
+  pub reports_after : (rep : TraceEntry) (sends : List (ℕ × List ℕ)) (back old : List TraceEntry) → back ≡ t.trace → rs ≡ old → Posts r s t rep sends → OnOk r (back ≡ traced b old (rep ∷ posts_of me k sends))
   reports_after rep sends back old e o h = by r h
     where
-      by : (r : Result R E) → Posts r s t rep sends → OnOk r (back ≡ reported b old (rep ∷ posts_of me k sends))
+      by : (r : Result R E) → Posts r s t rep sends → OnOk r (back ≡ traced b old (rep ∷ posts_of me k sends))
       by (Ok x) h =
-          e ∙ ap (λ p. p.reports) h
-          ∙ ap (λ p. reported p.reporting (reported p.reporting p.reports (rep ∷ [])) (posts_of p.me p.count sends)) lent
-          ∙ reported_twice b rs rep (posts_of me k sends)
-          ∙ ap (λ v. reported b v (rep ∷ posts_of me k sends)) o
+          e ∙ ap (λ p. p.trace) h
+          ∙ ap (λ p. traced p.tracing (traced p.tracing p.trace (rep ∷ [])) (posts_of p.me p.count sends)) lent
+          ∙ traced_twice b rs rep (posts_of me k sends)
+          ∙ ap (λ v. traced b v (rep ∷ posts_of me k sends)) o
       by (Err x) h = tt
 
-  pub place_after : (rep : Report) (sends : List (ℕ × List ℕ)) → Posts r s t rep sends → OnErr r (t ≡ s) → t.spare ≡ true
+  pub place_after : (rep : TraceEntry) (sends : List (ℕ × List ℕ)) → Posts r s t rep sends → OnErr r (t ≡ s) → t.spare ≡ true
   place_after rep sends h f = by r h f
     where
       by : (r : Result R E) → Posts r s t rep sends → OnErr r (t ≡ s) → t.spare ≡ true
@@ -59,9 +59,9 @@ module _ {P R E : Type 0} (r : Result R E) (me n k : ℕ) (outbox : List (Out P)
       by (Ok x) h = tt
       by (Err x) h = e ∙ ap (λ p. p.count) h ∙ ap (λ p. p.count) lent
 
-  pub same_reports : (back old : List Report) → back ≡ t.reports → rs ≡ old → OnErr r (t ≡ s) → OnErr r (back ≡ old)
-  same_reports back old e o h = by r h
+  pub same_trace : (back old : List TraceEntry) → back ≡ t.trace → rs ≡ old → OnErr r (t ≡ s) → OnErr r (back ≡ old)
+  same_trace back old e o h = by r h
     where
       by : (r : Result R E) → OnErr r (t ≡ s) → OnErr r (back ≡ old)
       by (Ok x) h = tt
-      by (Err x) h = e ∙ ap (λ p. p.reports) h ∙ ap (λ p. p.reports) lent ∙ o
+      by (Err x) h = e ∙ ap (λ p. p.trace) h ∙ ap (λ p. p.trace) lent ∙ o

@@ -1,12 +1,15 @@
 pub mod Acting
 pub mod Below
+pub mod Edits
 pub mod Fronts
 pub mod Handling
 pub mod Histories
 pub mod Installing
 pub mod Keeping
+pub mod Joined
 pub mod Keyed
 pub mod Leaving
 pub mod Lending
+pub mod Places
 pub mod Reasons
-pub mod Reports
+pub mod Traces

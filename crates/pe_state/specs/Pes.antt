@@ -9,8 +9,8 @@ use Rattle.chares.specs.declared.carried.Carried.TheVariants.{Letter, Element}
 use Rattle.chares.specs.declared.entry.Entry.TheVariants.{Letter as OfLetter, Resumption}
 use Rattle.chares.specs.declared.note.Note.{Note}
 use Rattle.chares.specs.declared.progress.Progress.{Progress}
-use Rattle.chares.specs.declared.report.Report.{Report}
-use Rattle.chares.specs.declared.report.Report.TheVariants as Tells
+use Rattle.chares.specs.declared.trace_entry.TraceEntry.{TraceEntry}
+use Rattle.chares.specs.declared.trace_entry.TraceEntry.TheVariants as Trace
 use Rattle.chares.specs.Elements.{ElementView, PackedView, opening_element, packed, unpacked}
 use Rattle.chares.specs.Letters.{LetterView, Done, hopped}
 use Rattle.chares.specs.Posting.{Out, letters_of, posts_of}
@@ -139,7 +139,7 @@ module _ {C : Type 0} where
 pub record Acting (C : Type 0) : Type 0 where
   pub acted : Acted
   pub pe : PeView C
-  pub reports : List Report
+  pub trace : List TraceEntry
 
 module _ {C : Type 0} where
   -- Act on a letter whose element is not in the room: where the look names this PE it goes to the shelf, where it
@@ -149,7 +149,7 @@ module _ {C : Type 0} where
       record {
         acted = Shelved;
         pe = record pe { hand = None; shelf = pe.shelf ++ l ∷ []; kept = None };
-        reports = Tells.Shelved l.id ∷ [];
+        trace = Trace.Shelved l.id ∷ [];
       }
 
   abbrev pub forwarding : PeView C → LetterView → ℕ → Acting C
@@ -157,7 +157,7 @@ module _ {C : Type 0} where
       record {
         acted = Forwarded;
         pe = record pe { hand = None; outbox = pe.outbox ++ letter_at q (hopped l) ∷ []; kept = None };
-        reports = Tells.Forwarded l.id ∷ [];
+        trace = Trace.Forwarded l.id ∷ [];
       }
 
   abbrev pub passing : PeView C → LetterView → Option ℕ → Option (Acting C)
@@ -203,17 +203,17 @@ module _ {C : Type 0} (step : Step C) (pack : C → List ℕ) where
         kept = None;
       }
 
-  -- the reports of what that handler posted
-  abbrev pub handler_posts : PeView C → ℕ → Done → List Report
+  -- the trace entries of what that handler posted
+  abbrev pub handler_posts : PeView C → ℕ → Done → List TraceEntry
   handler_posts pe e done = posts_of pe.me pe.count (sends_in step pack pe.room e pe.n done)
 
   -- Start, where the round is 0, and Resume: an element that stands in the room runs with its resumption
   abbrev pub resumed : PeView C → ℕ → ℕ → PeView C
   resumed pe e round = handled pe e (Resumption round) pe.hand
 
-  -- the reports of that
-  abbrev pub resume_reports : PeView C → ℕ → ℕ → List Report
-  resume_reports pe e round = Tells.Resumed e round ∷ handler_posts pe e (Resumption round)
+  -- the trace entries of that
+  abbrev pub resume_entries : PeView C → ℕ → ℕ → List TraceEntry
+  resume_entries pe e round = Trace.Resumed e round ∷ handler_posts pe e (Resumption round)
 
   -- Act on a letter whose element is in the room: it executes the letter, if it has started
   abbrev pub executed : PeView C → LetterView → Acting C
@@ -221,27 +221,34 @@ module _ {C : Type 0} (step : Step C) (pack : C → List ℕ) where
       record {
         acted = Executed;
         pe = handled pe l.to (OfLetter l) None;
-        reports = Tells.Executed l.id l.to ∷ handler_posts pe l.to (OfLetter l);
+        trace = Trace.Executed l.id l.to ∷ handler_posts pe l.to (OfLetter l);
       }
 
   abbrev pub on_letter : PeView C → LetterView → Option ℕ → Option (ElementView C) → Option (Acting C)
   on_letter pe l look (Some el) = if el.progress.started then Some (executed pe l) else None
   on_letter pe l look None = passing pe l look
 
+  -- so for a letter in the hand, with what stands in the room at its element's index
+  abbrev pub acting_on_letter : PeView C → LetterView → Option ℕ → Option (Acting C)
+  acting_on_letter pe l look = on_letter pe l look (found l.to pe.room)
+
   module _ (unpack : List ℕ → Result (C × ℕ) PupError) where
     -- Act on an element: its bytes are unpacked
     abbrev pub installing : PeView C → PackedView → Result (C × ℕ) PupError → Option (Acting C)
     installing pe p (Err e) = None
-    installing pe p (Ok x) = Some (record { acted = Installed; pe = installed pe p x.0; reports = Tells.Installed p.index ∷ [] })
+    installing pe p (Ok x) = Some (record { acted = Installed; pe = installed pe p x.0; trace = Trace.Installed p.index ∷ [] })
 
     -- but not where an element with its index stands already
     abbrev pub on_element : PeView C → PackedView → Option (ElementView C) → Option (Acting C)
     on_element pe p (Some el) = None
     on_element pe p None = installing pe p (unpack p.bytes)
 
+    abbrev pub acting_on_element : PeView C → PackedView → Option (Acting C)
+    acting_on_element pe p = on_element pe p (found p.index pe.room)
+
     abbrev pub on_parcel : PeView C → Parcel → Option ℕ → Option (Acting C)
-    on_parcel pe (Letter l) look = on_letter pe l look (found l.to pe.room)
-    on_parcel pe (Element p) look = on_element pe p (found p.index pe.room)
+    on_parcel pe (Letter l) look = acting_on_letter pe l look
+    on_parcel pe (Element p) look = acting_on_element pe p
 
     abbrev pub acting_on : PeView C → Option Item → Option (Acting C)
     acting_on pe None = None
@@ -251,8 +258,8 @@ module _ {C : Type 0} (step : Step C) (pack : C → List ℕ) where
     abbrev pub acting : PeView C → Option (Acting C)
     acting pe = acting_on pe pe.hand
 
--- which case of Act it was, the PE after it, and its reports; where it is not enabled nothing changes and nothing is
--- reported
+-- which case of Act it was, the PE after it, and its trace entries; where it is not enabled nothing changes, and there
+-- are none
 abbrev pub acted_of : {C : Type 0} → Option (Acting C) → Option Acted
 acted_of acting = option_map (λ a. a.acted) acting
 
@@ -260,9 +267,9 @@ abbrev pub pe_after : {C : Type 0} → PeView C → Option (Acting C) → PeView
 pe_after pe None = pe
 pe_after pe (Some a) = a.pe
 
-abbrev pub reports_of : {C : Type 0} → Option (Acting C) → List Report
-reports_of None = []
-reports_of (Some a) = a.reports
+abbrev pub trace_of : {C : Type 0} → Option (Acting C) → List TraceEntry
+trace_of None = []
+trace_of (Some a) = a.trace
 
 -- whether an element starts, where the round is 0, or else waits for the end of this round
 abbrev pub is_due : ℕ → Progress → Bool

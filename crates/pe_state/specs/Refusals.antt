@@ -7,7 +7,8 @@ use Rattle.chares.specs.declared.sends.SendError.TheVariants as Send
 use Rattle.pe_state.specs.declared.error.StepError.{StepError}
 use Rattle.pe_state.specs.declared.error.StepError.TheVariants.{OutOfMemory, Unpack, Stranger, TooLong, Worn}
 use Rattle.pe_state.specs.Pes.{PeView, Parcel}
-use Rattle.pe_state.specs.Rooms.{Refuses, RefusesIn}
+use Rattle.pe_state.specs.Rooms.{RefusesIn}
+use Rattle.chares.specs.Elements.{Refuses}
 
 -- the reason of a step for a handler's
 abbrev pub step_error_of : SendError → StepError
@@ -16,7 +17,7 @@ step_error_of Send.TooLong = TooLong
 step_error_of Send.Worn = Worn
 step_error_of Send.OutOfMemory = OutOfMemory
 
--- a call is out of memory, or is refused for what its handler may answer; what is packed always unpacks
+-- a call is out of memory, or is refused for what its handler may return; what is packed always unpacks
 abbrev pub RefusesStep : (SendError → Type 0) → StepError → Type 0
 RefusesStep R OutOfMemory = Unit {0}
 RefusesStep R Unpack = ⊥
@@ -25,7 +26,7 @@ RefusesStep R TooLong = R Send.TooLong
 RefusesStep R Worn = R Send.Worn
 
 module _ {C : Type 0} (refuses : Refuses C) where
-  -- the handler of the element that is resumed may answer this error
+  -- the handler of the element that is resumed may return this error
   abbrev pub RefusesResume : PeView C → ℕ → ℕ → SendError → Type 0
   RefusesResume pe e round error = RefusesIn refuses pe.room e pe.n pe.count (Resumption round) error
 

@@ -1,14 +1,18 @@
 -- The elements that stand on a PE: each beside its index, in the order of these.
-use Rattle.std.specs.Prelude.{◌≡◌, ℕ, List, [], Option, None, IfSome, MatchOption}
+use Rattle.std.specs.Prelude.{◌≡◌, ℕ, List, [], ◌∷◌, Option, None, IfSome, MatchOption}
 use Rattle.std.specs.Ordering.{nat_cmp}
 use Rattle.std.specs.Map.{lookup, set_value, remove_entry}
 use Rattle.std.specs.BTreeMap.{is_at, insert_entry}
 use Rattle.std.specs.Option.{option_map_or}
 use Rattle.chares.specs.declared.entry.Entry.{Entry}
+use Rattle.chares.specs.declared.entry.Entry.TheVariants.{Letter, Resumption}
 use Rattle.chares.specs.declared.note.Note.{Note}
 use Rattle.chares.specs.declared.sends.SendError.{SendError}
-use Rattle.chares.specs.Elements.{ElementView, outcome_of, note_of, ran}
-use Rattle.chares.specs.Letters.{Done}
+use Rattle.chares.specs.declared.trace_entry.TraceEntry.{TraceEntry}
+use Rattle.chares.specs.declared.trace_entry.TraceEntry.TheVariants.{Executed, Resumed}
+use Rattle.chares.specs.Elements.{ElementView, Refuses, sent_by, note_of, ran}
+use Rattle.chares.specs.Letters.{LetterView, Done}
+use Rattle.chares.specs.Posting.{posts_of}
 use Rattle.chares.specs.Steps.{Step}
 
 module _ {X : Type 0} where
@@ -41,17 +45,20 @@ module _ {C : Type 0} (step : Step C) (pack : C → List ℕ) where
 
   -- what its handler sends
   abbrev pub sends_in : List (ℕ × ElementView C) → ℕ → ℕ → Done → List (ℕ × List ℕ)
-  sends_in room e n done = option_map_or (λ el. (outcome_of step pack el n done).sends) (found e room) []
+  sends_in room e n done = option_map_or (λ el. sent_by step pack el n done) (found e room) []
+
+  -- what the trace gets where it executes a letter, and where it is resumed after a round, on a PE that has posted so many
+  -- letters
+  abbrev pub execution_entries : List (ℕ × ElementView C) → ℕ → ℕ → ℕ → LetterView → List TraceEntry
+  execution_entries room n me count l = Executed l.id l.to ∷ posts_of me count (sends_in room l.to n (Letter l))
+
+  abbrev pub resumption_entries : List (ℕ × ElementView C) → ℕ → ℕ → ℕ → ℕ → ℕ → List TraceEntry
+  resumption_entries room e n me count round = Resumed e round ∷ posts_of me count (sends_in room e n (Resumption round))
 
   -- the note that is owed for it
   abbrev pub note_in : List (ℕ × ElementView C) → ℕ → ℕ → ℕ → Done → Option Note
   note_in room e n pe done = option_map_or (λ el. note_of step pack el n pe done) (found e room) None
 
--- When the handler of an element may answer an error: from the state, the index of the element, the number of elements,
--- how many letters the PE has posted, and what the handler is told.
-abbrev pub Refuses : Type 0 → Type 1
-Refuses C = C → ℕ → ℕ → ℕ → Entry (List ℕ) → SendError → Type 0
-
--- an element of the room may answer it
+-- the handler of an element of the room may return this error
 abbrev pub RefusesIn : {C : Type 0} → Refuses C → List (ℕ × ElementView C) → ℕ → ℕ → ℕ → Entry (List ℕ) → SendError → Type 0
-RefusesIn refuses room e n count told error = MatchOption (found e room) ⊥ (λ el. refuses el.chare el.index n count told error)
+RefusesIn refuses room e n count input error = MatchOption (found e room) ⊥ (λ el. refuses el.chare el.index n count input error)

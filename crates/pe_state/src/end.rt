@@ -34,7 +34,17 @@ impl<C: Chare<A>, A: Allocator> Model for PeEnd<C, A> {
 
     ghost Value = { PeView C };
 
-    ghost view = { λ p. record { me = p.me; n = p.n; room = p.room; hand = p.hand; shelf = p.shelf.items; outbox = p.outbox.items; notes = p.notes.items; count = p.count; kept = p.kept } };
+    ghost view = { λ p. record {
+      me = p.me;
+      n = p.n;
+      room = p.room;
+      hand = p.hand;
+      shelf = p.shelf.items;
+      outbox = p.outbox.items;
+      notes = p.notes.items;
+      count = p.count;
+      kept = p.kept;
+    } };
 
     ghost invariant = { λ p. p.count ≤ LETTERS };
 }
@@ -59,7 +69,7 @@ impl<C: Chare<A>, A: Allocator> PeEnd<C, A> {
         ensures value { result.now ≡ self.now.room }
         ensures keyed { IsKeyed self.now.room }
     {
-        let _len = self.room.len();
+        self.room.known();
         &self.room
     }
 

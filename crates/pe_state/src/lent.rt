@@ -6,21 +6,21 @@ ghost use Rattle.std.specs.Option.{option_to_list};
 ghost use Rattle.std.specs.VecDeque.{deque_len, deque_capacity};
 ghost use Rattle.chare_index.specs.declared.limits.TheConstants.Limits.{LETTERS};
 ghost use Rattle.chares.specs.declared.entry.Entry.{Entry};
-ghost use Rattle.chares.specs.declared.report.Report.{Report};
+ghost use Rattle.chares.specs.declared.trace_entry.TraceEntry.{TraceEntry};
 ghost use Rattle.chares.specs.declared.sends.SendError.TheVariants.{OutOfMemory};
-ghost use Rattle.chares.specs.Posting.{letters_of, posts_of, reported};
-ghost use Rattle.pe_state.specs.Rooms.{found, ran_in, sends_in, note_in, RefusesIn};
+ghost use Rattle.chares.specs.Posting.{letters_of, posts_of, traced};
+ghost use Rattle.pe_state.specs.Rooms.{found, ran_in, sends_in, execution_entries, resumption_entries, note_in, RefusesIn};
 
 use crate::parcel::Item;
 use crate::room::Room;
 use chare_index::{Gate, Index, Limits, Pe, Round};
-use chares::{Chare, Letter, Note, Report, SendError, Sends, Unread};
+use chares::{Chare, Letter, Note, SendError, Sends, TraceEntry, Unread};
 use std::alloc::Allocator;
 use std::collections::VecDeque;
 use std::mem::replace;
 
 /// Executes a letter by its element, which stands in the room, and returns the note that is owed for it.
-#[tactic(auto, using(crate::proofs::Reports::reported_twice))]
+#[tactic(auto, using(crate::proofs::Traces::traced_twice))]
 pub(crate) fn execute<C: Chare<A>, A: Allocator + Copy, G: Gate>(
     alloc: A,
     gate: &G,
@@ -30,8 +30,8 @@ pub(crate) fn execute<C: Chare<A>, A: Allocator + Copy, G: Gate>(
     room: &mut Room<C, A>,
     outbox: &mut VecDeque<Item<A>, A>,
     count: &mut u64,
-    reporting: bool,
-    reports: &mut Vec<Report, A>,
+    tracing: bool,
+    trace: &mut Vec<TraceEntry, A>,
 ) -> Result<Option<Note>, Unread<A>>
     requires stands { IsSome (found letter.to room.old) }
     requires member { IfSome (found letter.to room.old) (λ el. el.index < n) }
@@ -42,29 +42,29 @@ pub(crate) fn execute<C: Chare<A>, A: Allocator + Copy, G: Gate>(
     ensures note { IfOk result (λ note. note ≡ note_in C.step C.pack room.old letter.to n me (Entry.Letter letter)) }
     ensures outbox { OnOk result (outbox.new.items ≡ outbox.old.items ++ letters_of me count.old (sends_in C.step C.pack room.old letter.to n (Entry.Letter letter))) }
     ensures count { OnOk result (count.new ≡ count.old + length (sends_in C.step C.pack room.old letter.to n (Entry.Letter letter))) }
-    ensures reports { OnOk result (reports.new.items ≡ reported reporting reports.old.items (Report.Executed letter.id letter.to ∷ posts_of me count.old (sends_in C.step C.pack room.old letter.to n (Entry.Letter letter)))) }
+    ensures trace { OnOk result (trace.new.items ≡ traced tracing trace.old.items (execution_entries C.step C.pack room.old n me count.old letter)) }
     ensures numbered { count.new ≤ LETTERS }
     ensures place { deque_len outbox.new < deque_capacity outbox.new }
     ensures same_room { OnErr result (room.new ≡ room.old) }
     ensures same_outbox { OnErr result (outbox.new.items ≡ outbox.old.items) }
     ensures same_count { OnErr result (count.new ≡ count.old) }
-    ensures same_reports { OnErr result (reports.new.items ≡ reports.old.items) }
+    ensures same_trace { OnErr result (trace.new.items ≡ trace.old.items) }
     ensures letter { IfErr result (λ unread. unread.letter ≡ letter) }
     ensures refused { IfErr result (λ unread. unread.error ≢ OutOfMemory → RefusesIn C.refuses room.old letter.to n count.old (Entry.Letter letter.body) unread.error) }
 {
     let lent = replace(outbox, VecDeque::new(alloc));
-    let told = replace(reports, Vec::new(alloc));
-    let mut sends = Sends::lend(alloc, me, n, *count, lent, true, reporting, told);
-    let answer = room.execute(gate, me, letter, &mut sends);
-    let (posted, back, told) = sends.give_back();
+    let entries = replace(trace, Vec::new(alloc));
+    let mut sends = Sends::lend(alloc, me, n, *count, lent, true, tracing, entries);
+    let handled = room.execute(gate, me, letter, &mut sends);
+    let (posted, back, entries) = sends.give_back();
     *count = posted;
     *outbox = back;
-    *reports = told;
-    answer
+    *trace = entries;
+    handled
 }
 
 /// Resumes an element, which stands in the room, and returns the note that is owed for it.
-#[tactic(auto, using(crate::proofs::Reports::reported_twice))]
+#[tactic(auto, using(crate::proofs::Traces::traced_twice))]
 pub(crate) fn resume<C: Chare<A>, A: Allocator + Copy, G: Gate>(
     alloc: A,
     gate: &G,
@@ -75,8 +75,8 @@ pub(crate) fn resume<C: Chare<A>, A: Allocator + Copy, G: Gate>(
     room: &mut Room<C, A>,
     outbox: &mut VecDeque<Item<A>, A>,
     count: &mut u64,
-    reporting: bool,
-    reports: &mut Vec<Report, A>,
+    tracing: bool,
+    trace: &mut Vec<TraceEntry, A>,
 ) -> Result<Option<Note>, SendError>
     requires stands { IsSome (found index room.old) }
     requires member { IfSome (found index room.old) (λ el. el.index < n) }
@@ -88,27 +88,27 @@ pub(crate) fn resume<C: Chare<A>, A: Allocator + Copy, G: Gate>(
     ensures note { IfOk result (λ note. note ≡ note_in C.step C.pack room.old index n me (Entry.Resumption round)) }
     ensures outbox { OnOk result (outbox.new.items ≡ outbox.old.items ++ letters_of me count.old (sends_in C.step C.pack room.old index n (Entry.Resumption round))) }
     ensures count { OnOk result (count.new ≡ count.old + length (sends_in C.step C.pack room.old index n (Entry.Resumption round))) }
-    ensures reports { OnOk result (reports.new.items ≡ reported reporting reports.old.items (Report.Resumed index round ∷ posts_of me count.old (sends_in C.step C.pack room.old index n (Entry.Resumption round)))) }
+    ensures trace { OnOk result (trace.new.items ≡ traced tracing trace.old.items (resumption_entries C.step C.pack room.old index n me count.old round)) }
     ensures numbered { count.new ≤ LETTERS }
     ensures place { deque_len outbox.new < deque_capacity outbox.new }
     ensures same_room { OnErr result (room.new ≡ room.old) }
     ensures same_outbox { OnErr result (outbox.new.items ≡ outbox.old.items) }
     ensures same_count { OnErr result (count.new ≡ count.old) }
-    ensures same_reports { OnErr result (reports.new.items ≡ reports.old.items) }
+    ensures same_trace { OnErr result (trace.new.items ≡ trace.old.items) }
     ensures refused { IfErr result (λ error. error ≢ OutOfMemory → RefusesIn C.refuses room.old index n count.old (Entry.Resumption round) error) }
 {
     let lent = replace(outbox, VecDeque::new(alloc));
-    let told = replace(reports, Vec::new(alloc));
-    let mut sends = Sends::lend(alloc, me, n, *count, lent, true, reporting, told);
-    let answer = room.resume(gate, me, index, round, &mut sends);
-    let (posted, back, told) = sends.give_back();
+    let entries = replace(trace, Vec::new(alloc));
+    let mut sends = Sends::lend(alloc, me, n, *count, lent, true, tracing, entries);
+    let handled = room.resume(gate, me, index, round, &mut sends);
+    let (posted, back, entries) = sends.give_back();
     *count = posted;
     *outbox = back;
-    *reports = told;
-    answer
+    *trace = entries;
+    handled
 }
 
-/// Owes the board a note, if there is one, in room that was made for it.
+/// Owes the board a note, if there is one, in memory that was reserved for it.
 pub(crate) fn owe<A: Allocator>(notes: &mut VecDeque<Note, A>, note: Option<Note>)
     requires place { deque_len notes.old < deque_capacity notes.old }
     ensures owed { notes.new.items ≡ notes.old.items ++ option_to_list note }

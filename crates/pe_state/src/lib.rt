@@ -5,22 +5,25 @@
 //! - [`PeEnd`]: a PE as a run left it.
 //! - [`Parcel`], with [`HeldParcel`], [`Item`] and [`into_held`]: what is carried from PE to PE, and what a PE holds of
 //!   that.
-//! - [`Room`]: the elements that stand on a PE.
+//! - [`Room`]: the elements that stand on a PE, and [`Entries`], a walk over them.
 //! - [`Acted`]: which case of Act it was.
 //! - [`StepError`]: why a call was refused.
 #![tactic(auto)]
 
 mod acted;
 mod end;
+mod entries;
 mod error;
 mod lent;
 mod parcel;
 mod pe;
 mod room;
+mod row;
 mod shelf;
 
 pub use acted::Acted;
 pub use end::PeEnd;
+pub use entries::Entries;
 pub use error::StepError;
 pub use parcel::{HeldParcel, Item, Parcel, into_held};
 pub use pe::PeState;

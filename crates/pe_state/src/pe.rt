@@ -61,10 +61,30 @@ impl<C: Chare<A>, H: Openings<C>, A: Allocator> Model for PeState<C, H, A> {
 
     ghost Value = { PeView C };
 
-    ghost view = { λ p. record { me = p.me; n = p.n; room = p.room; hand = p.hand; shelf = p.shelf.items; outbox = p.outbox.items; notes = p.notes.items; count = p.count; kept = p.kept } };
+    ghost view = { λ p. record {
+      me = p.me;
+      n = p.n;
+      room = p.room;
+      hand = p.hand;
+      shelf = p.shelf.items;
+      outbox = p.outbox.items;
+      notes = p.notes.items;
+      count = p.count;
+      kept = p.kept;
+    } };
 
     ghost invariant = { λ p.
-        HasHistories C.step C.fits C.pack H.opened (record { me = p.me; n = p.n; room = p.room; hand = p.hand; shelf = p.shelf.items; outbox = p.outbox.items; notes = p.notes.items; count = p.count; kept = p.kept })
+        HasHistories C.step C.fits C.pack H.opened (record {
+          me = p.me;
+          n = p.n;
+          room = p.room;
+          hand = p.hand;
+          shelf = p.shelf.items;
+          outbox = p.outbox.items;
+          notes = p.notes.items;
+          count = p.count;
+          kept = p.kept;
+        })
         × (p.n ≤ ELEMENTS)
         × (p.pes ≡ H.pes)
         × (p.me < H.pes)
@@ -73,207 +93,6 @@ impl<C: Chare<A>, H: Openings<C>, A: Allocator> Model for PeState<C, H, A> {
         × AreBelow H.pes p.outbox.items
         × IsBelow H.pes p.kept
         × (IsSome p.kept → deque_len p.outbox < deque_capacity p.outbox) };
-}
-
-impl<C: Chare<A>, H: Openings<C>, A: Allocator> PeState<C, H, A> {
-    /// Its number.
-    pub fn me(&self) -> Pe
-        ensures value { result ≡ self.now.me }
-        ensures below { result < H.pes }
-    {
-        self.me
-    }
-
-    /// How many PEs there are.
-    pub fn pes(&self) -> u32
-        ensures value { result ≡ H.pes }
-    {
-        self.pes
-    }
-
-    /// How many elements there are on all PEs.
-    pub fn n(&self) -> u32
-        ensures value { result ≡ self.now.n }
-        ensures array { result ≡ length H.opened }
-        ensures few { result ≤ Limits.ELEMENTS }
-    {
-        self.n
-    }
-
-    /// The elements that stand here. The clauses `keyed` and `histories` say what holds of every room and of every PE,
-    /// for a caller that knows nothing else of this one.
-    pub fn room(&self) -> &Room<C, A>
-        ensures value { result.now ≡ self.now.room }
-        ensures keyed { IsKeyed self.now.room }
-        ensures histories { HasHistories C.step C.fits C.pack H.opened self.now }
-    {
-        let _len = self.room.len();
-        &self.room
-    }
-
-    /// The parcel in its hand, with the PE that a look gave.
-    pub fn hand(&self) -> Option<&Item<A>>
-        ensures value { option_copied result ≡ self.now.hand }
-    {
-        self.hand.as_ref()
-    }
-
-    /// The letters that came before their element, in the order in which they came.
-    pub fn shelf(&self) -> &VecDeque<Letter<A>, A>
-        ensures value { result.now.items ≡ self.now.shelf }
-    {
-        &self.shelf
-    }
-
-    /// The parcels that leave this PE, the first first, with the PEs that they go to.
-    pub fn outbox(&self) -> &VecDeque<Item<A>, A>
-        ensures value { result.now.items ≡ self.now.outbox }
-    {
-        &self.outbox
-    }
-
-    /// What it owes the board, the first first.
-    pub fn notes(&self) -> &VecDeque<Note, A>
-        ensures value { result.now.items ≡ self.now.notes }
-    {
-        &self.notes
-    }
-
-    /// How many letters it has posted.
-    pub fn count(&self) -> u64
-        ensures value { result ≡ self.now.count }
-        ensures few { result ≤ Limits.LETTERS }
-    {
-        self.count
-    }
-
-    /// The address of the parcel that it has just given up, which may be handed back.
-    pub fn kept(&self) -> Option<Pe>
-        ensures value { result ≡ self.now.kept }
-    {
-        self.kept
-    }
-
-    /// The element that has to be looked for: that of a letter in the hand without a look, where it does not stand here,
-    /// or else that of a letter without an address at the front of the outbox.
-    pub fn wants(&self) -> Option<Index>
-        ensures value { result ≡ wanted self.now }
-    {
-        if let Some(index) = self.hand_wants() {
-            return Some(index);
-        }
-        let front = self.outbox.front()?;
-        unaddressed(front)
-    }
-
-    /// The PE that the front of the outbox goes to, or `None` where it has no address yet or there is none.
-    pub fn front_out(&self) -> Option<Pe>
-        ensures value { result ≡ front_address self.now.outbox }
-        ensures below { IfSome result (λ to. to < H.pes) }
-    {
-        let front = self.outbox.front()?;
-        front.address
-    }
-
-    /// What is owed to the board first.
-    pub fn next_note(&self) -> Option<Note>
-        ensures value { result ≡ slice_get self.now.notes 0 }
-    {
-        let note = self.notes.front()?;
-        Some(*note)
-    }
-
-    /// Whether an element stands here that may be resumed after this round, or started where that is 0.
-    pub fn may_resume(&self, index: Index, round: Round) -> bool
-        ensures value { result ≡ may_resume self.now index round }
-    {
-        let Some(element) = self.room.element(index) else {
-            return false;
-        };
-        is_due(element.progress(), round)
-    }
-
-    /// Whether an element stands here that waits for the end of its round, and so may depart.
-    pub fn may_depart(&self, index: Index) -> bool
-        ensures value { result ≡ may_depart self.now index }
-    {
-        let Some(element) = self.room.element(index) else {
-            return false;
-        };
-        element.progress().synced
-    }
-
-    /// The round for whose end an element waits that stands here, or `None` where it stands elsewhere or does not wait.
-    /// Such an element may depart, or be resumed after that round.
-    pub fn waits_for(&self, index: Index) -> Option<Round>
-        ensures value { result ≡ waits_at self.now index }
-        ensures resumes { IfSome result (λ round. may_resume self.now index round ≡ true) }
-        ensures departs { IfSome result (λ round. may_depart self.now index ≡ true) }
-        ensures within { IfSome result (λ round. index < length H.opened) }
-    {
-        let element = self.room.element(index)?;
-        let progress = element.progress();
-        if !progress.synced {
-            return None;
-        }
-        Some(Round::new(progress.round.get() + 1).unwrap())
-    }
-}
-
-impl<C: Chare<A>, H: Openings<C>, A: Allocator> PeState<C, H, A> {
-    // The element that the hand wants to be looked for.
-    fn hand_wants(&self) -> Option<Index>
-        ensures value { result ≡ hand_wants self.now }
-    {
-        let item = self.hand.as_ref()?;
-        let index = unaddressed(item)?;
-        if self.room.element(index).is_some() {
-            return None;
-        }
-        Some(index)
-    }
-}
-
-impl<C: Chare<A>, H: Openings<C>, A: Allocator> PeState<C, H, A> {
-    // Holds a parcel in the hand, perhaps with a look.
-    fn hold(&mut self, parcel: HeldParcel<A>, look: Option<Pe>)
-        requires below { IsBelow H.pes look }
-        requires history { IsParcelHistory C.step C.fits C.pack H.opened parcel }
-        ensures ok { self.new ≡ held self.old parcel look }
-    {
-        self.hand = Some(Addressed {
-            parcel,
-            address: look,
-        });
-    }
-
-    // Gives the parcel in the hand, if there is one, this look.
-    fn look_for_hand(&mut self, to: Pe)
-        requires known { to < H.pes }
-        ensures ok { self.new ≡ record self.old { hand = option_map (at_pe to) self.old.hand; kept = None } }
-    {
-        self.kept = None;
-        let Some(Addressed { parcel, address: _ }) = self.hand.take() else {
-            return;
-        };
-        self.hold(parcel, Some(to));
-    }
-
-    // Gives the front of the outbox, if there is one, this address.
-    #[tactic(auto, using(crate::proofs::Below::rest_below))]
-    fn look_for_front(&mut self, to: Pe)
-        requires known { to < H.pes }
-        ensures ok { self.new ≡ record self.old { outbox = front_at to self.old.outbox; kept = None } }
-    {
-        self.kept = None;
-        let Some(Addressed { parcel, address: _ }) = self.outbox.pop_front() else {
-            return;
-        };
-        self.outbox.push_front_reserved(Addressed {
-            parcel,
-            address: Some(to),
-        });
-    }
 }
 
 impl<C: Chare<A>, H: Openings<C>, A: Allocator + Copy> PeState<C, H, A> {
@@ -398,6 +217,151 @@ impl<C: Chare<A>, H: Openings<C>, A: Allocator + Copy> PeState<C, H, A> {
 }
 
 impl<C: Chare<A>, H: Openings<C>, A: Allocator> PeState<C, H, A> {
+    /// Its number.
+    pub fn me(&self) -> Pe
+        ensures value { result ≡ self.now.me }
+        ensures below { result < H.pes }
+    {
+        self.me
+    }
+
+    /// How many PEs there are.
+    pub fn pes(&self) -> u32
+        ensures value { result ≡ H.pes }
+    {
+        self.pes
+    }
+
+    /// How many elements there are on all PEs.
+    pub fn n(&self) -> u32
+        ensures value { result ≡ self.now.n }
+        ensures array { result ≡ length H.opened }
+        ensures few { result ≤ Limits.ELEMENTS }
+    {
+        self.n
+    }
+
+    /// The elements that stand here. The clauses `keyed` and `histories` say what holds of every room and of every PE,
+    /// for a caller that knows nothing else of this one.
+    pub fn room(&self) -> &Room<C, A>
+        ensures value { result.now ≡ self.now.room }
+        ensures keyed { IsKeyed self.now.room }
+        ensures histories { HasHistories C.step C.fits C.pack H.opened self.now }
+    {
+        self.room.known();
+        &self.room
+    }
+
+    /// The parcel in its hand, with the PE that a look gave.
+    pub fn hand(&self) -> Option<&Item<A>>
+        ensures value { option_copied result ≡ self.now.hand }
+    {
+        self.hand.as_ref()
+    }
+
+    /// The letters that came before their element, in the order in which they came.
+    pub fn shelf(&self) -> &VecDeque<Letter<A>, A>
+        ensures value { result.now.items ≡ self.now.shelf }
+    {
+        &self.shelf
+    }
+
+    /// The parcels that leave this PE, the first first, with the PEs that they go to.
+    pub fn outbox(&self) -> &VecDeque<Item<A>, A>
+        ensures value { result.now.items ≡ self.now.outbox }
+    {
+        &self.outbox
+    }
+
+    /// What it owes the board, the first first.
+    pub fn notes(&self) -> &VecDeque<Note, A>
+        ensures value { result.now.items ≡ self.now.notes }
+    {
+        &self.notes
+    }
+
+    /// How many letters it has posted.
+    pub fn count(&self) -> u64
+        ensures value { result ≡ self.now.count }
+        ensures few { result ≤ Limits.LETTERS }
+    {
+        self.count
+    }
+
+    /// The address of the parcel that it has just given up, which may be handed back.
+    pub fn kept(&self) -> Option<Pe>
+        ensures value { result ≡ self.now.kept }
+    {
+        self.kept
+    }
+
+    /// The element that has to be looked for: that of a letter in the hand without a look, where it does not stand here,
+    /// or else that of a letter without an address at the front of the outbox.
+    pub fn wants(&self) -> Option<Index>
+        ensures value { result ≡ wanted self.now }
+    {
+        if let Some(index) = self.hand_wants() {
+            return Some(index);
+        }
+        let front = self.outbox.front()?;
+        unaddressed(front)
+    }
+
+    /// The PE that the front of the outbox goes to, or `None` where it has no address yet or there is none.
+    pub fn front_out(&self) -> Option<Pe>
+        ensures value { result ≡ front_address self.now.outbox }
+        ensures below { IfSome result (λ to. to < H.pes) }
+    {
+        let front = self.outbox.front()?;
+        front.address
+    }
+
+    /// What is owed to the board first.
+    pub fn next_note(&self) -> Option<Note>
+        ensures value { result ≡ slice_get self.now.notes 0 }
+    {
+        let note = self.notes.front()?;
+        Some(*note)
+    }
+
+    /// Whether an element stands here that may be resumed after this round, or started where that is 0.
+    pub fn may_resume(&self, index: Index, round: Round) -> bool
+        ensures value { result ≡ may_resume self.now index round }
+    {
+        let Some(element) = self.room.element(index) else {
+            return false;
+        };
+        is_due(element.progress(), round)
+    }
+
+    /// Whether an element stands here that waits for the end of its round, and so may depart.
+    pub fn may_depart(&self, index: Index) -> bool
+        ensures value { result ≡ may_depart self.now index }
+    {
+        let Some(element) = self.room.element(index) else {
+            return false;
+        };
+        element.progress().synced
+    }
+
+    /// The round for whose end an element waits that stands here, or `None` where it stands elsewhere or does not wait.
+    /// Such an element may depart, or be resumed after that round.
+    pub fn waits_for(&self, index: Index) -> Option<Round>
+        ensures value { result ≡ waits_at self.now index }
+        ensures resumes { IfSome result (λ round. may_resume self.now index round ≡ true) }
+        ensures departs { IfSome result (λ round. may_depart self.now index ≡ true) }
+        ensures within { IfSome result (λ round. index < length H.opened) }
+    {
+        let element = self.room.element(index)?;
+        let progress = element.progress();
+        if !progress.synced {
+            return None;
+        }
+        Some(Round::new(progress.round.get() + 1).unwrap())
+    }
+}
+
+impl<C: Chare<A>, H: Openings<C>, A: Allocator> PeState<C, H, A> {
     /// The PE as the run leaves it. This takes no memory. The clause `histories` says what its type said.
     pub fn into_end(self) -> PeEnd<C, A>
         ensures value { result ≡ self }
@@ -428,6 +392,62 @@ impl<C: Chare<A>, H: Openings<C>, A: Allocator> PeState<C, H, A> {
             count,
             kept,
         }
+    }
+}
+
+impl<C: Chare<A>, H: Openings<C>, A: Allocator> PeState<C, H, A> {
+    // Holds a parcel in the hand, perhaps with a look.
+    fn hold(&mut self, parcel: HeldParcel<A>, look: Option<Pe>)
+        requires below { IsBelow H.pes look }
+        requires history { IsParcelHistory C.step C.fits C.pack H.opened parcel }
+        ensures ok { self.new ≡ held self.old parcel look }
+    {
+        self.hand = Some(Addressed {
+            parcel,
+            address: look,
+        });
+    }
+
+    // Gives the parcel in the hand, if there is one, this look.
+    fn look_for_hand(&mut self, to: Pe)
+        requires known { to < H.pes }
+        ensures ok { self.new ≡ record self.old { hand = option_map (at_pe to) self.old.hand; kept = None } }
+    {
+        self.kept = None;
+        let Some(Addressed { parcel, address: _ }) = self.hand.take() else {
+            return;
+        };
+        self.hold(parcel, Some(to));
+    }
+
+    // Gives the front of the outbox, if there is one, this address.
+    #[tactic(auto, using(crate::proofs::Below::rest_below))]
+    fn look_for_front(&mut self, to: Pe)
+        requires known { to < H.pes }
+        ensures ok { self.new ≡ record self.old { outbox = front_at to self.old.outbox; kept = None } }
+    {
+        self.kept = None;
+        let Some(Addressed { parcel, address: _ }) = self.outbox.pop_front() else {
+            return;
+        };
+        self.outbox.push_front_reserved(Addressed {
+            parcel,
+            address: Some(to),
+        });
+    }
+}
+
+impl<C: Chare<A>, H: Openings<C>, A: Allocator> PeState<C, H, A> {
+    // The element that the hand wants to be looked for.
+    fn hand_wants(&self) -> Option<Index>
+        ensures value { result ≡ hand_wants self.now }
+    {
+        let item = self.hand.as_ref()?;
+        let index = unaddressed(item)?;
+        if self.room.element(index).is_some() {
+            return None;
+        }
+        Some(index)
     }
 }
 

@@ -1,38 +1,69 @@
 //! The elements that stand on a PE.
 
-ghost use Rattle.std.specs.Prelude.{◌≡◌, ◌≢◌, ℕ, ◌<◌, ◌≤◌, [], List, length, IfOk, IfErr, OnOk, OnErr, IfSome, IsSome, IsTrue, ◌↔◌, None, Some, true};
+ghost use Rattle.std.specs.Prelude.{◌≡◌, ◌≢◌, ℕ, ◌+◌, ◌<◌, ◌≤◌, [], List, length, IfOk, IfErr, OnOk, OnErr, IfSome, IsSome, IsTrue, ◌↔◌, None, Some, true};
 ghost use Rattle.std.specs.Option.{option_copied, option_map};
 ghost use Rattle.chares.specs.declared.entry.Entry.{Entry};
-ghost use Rattle.chares.specs.declared.report.Report.{Report};
 ghost use Rattle.chares.specs.declared.sends.SendError.TheVariants.{OutOfMemory};
 ghost use Rattle.chares.specs.Elements.{ElementView, opening_element, packed, unpacked};
-ghost use Rattle.chares.specs.Posting.{posted, with_report};
+ghost use Rattle.chares.specs.Posting.{with_execution, with_resumption};
 ghost use Rattle.pe_state.specs.Rooms.{found, IsKeyed, joined, without, ran_in, sends_in, note_in, RefusesIn};
+ghost use Rattle.pe_state.specs.Rows.{row_of, row_count, entries_of, IsRoom};
 
+use crate::entries::Entries;
+use crate::row::Row;
 use chare_index::{Gate, Index, Limits, Pe, Round};
-use chares::{Chare, Element, Letter, Note, Packed, Packing, SendError, Sends, Unread};
+use chares::{Chare, Element, Letter, Note, Packed, SendError, Sends, Unread};
 use std::alloc::{AllocError, AllocFailed, Allocator, Global};
-use std::collections::BTreeMap;
-use std::collections::btree_map::{Entry as Place, Iter};
 use std::marker::Model;
 
-/// The elements that stand on a PE, by their indices. To look one up, to take one in and to let one go takes a time
-/// that is logarithmic in their number. Contracts see it as the list of the indices, in order, each with its element.
+// How many indices belong to a row.
+const ROW_WIDTH: u32 = 64;
+
+/// The elements that stand on a PE, by their indices. To look one up takes a constant time where the elements are a run of
+/// indices, and never more than a search in a row of 64. To take one in or to let one go moves the others of its row.
+/// Contracts see it as the list of the indices, in order, each with its element.
 #[derive(Drop)]
 pub struct Room<C: Chare<A>, A: Allocator = Global> {
-    map: BTreeMap<u32, Element<C, A>, A>,
+    // The row of the indices from 64 r on has the number r. There is none after the last that ever had an element.
+    rows: Vec<Row<C, A>, A>,
 }
 
 impl<C: Chare<A>, A: Allocator> Model for Room<C, A> {
     ghost use Rattle.std.specs.Prelude.{ℕ, List};
     ghost use Rattle.chares.specs.Elements.{ElementView};
-    ghost use Rattle.pe_state.specs.Rooms.{IsKeyed};
+    ghost use Rattle.pe_state.specs.Rows.{entries_of, IsRoom};
 
     ghost Value = { List (ℕ × ElementView C) };
 
-    ghost view = { λ r. r.map.entries };
+    ghost view = { λ r. entries_of r.rows.items };
 
-    ghost invariant = { λ r. IsKeyed r.map.entries };
+    ghost invariant = { λ r. IsRoom r.rows.items };
+}
+
+// The row of an index.
+fn row_number(index: Index) -> usize
+    ensures value { result ≡ row_of index }
+    ensures few { result < row_count }
+{
+    (index.get() / ROW_WIDTH) as usize
+}
+
+// Makes the rows up to this one.
+fn open_rows<C: Chare<A>, A: Allocator + Copy>(
+    alloc: A,
+    rows: &mut Vec<Row<C, A>, A>,
+    last: usize,
+) -> Result<(), AllocError>
+    requires room { IsRoom rows.old.items }
+    requires few { last < row_count }
+    ensures same { entries_of rows.new.items ≡ entries_of rows.old.items }
+    ensures room { IsRoom rows.new.items }
+    ensures opened { OnOk result (last < length rows.new.items) }
+{
+    while rows.len() <= last {
+        rows.push(Row::new(alloc))?;
+    }
+    Ok(())
 }
 
 impl<C: Chare<A>, A: Allocator> Room<C, A> {
@@ -42,14 +73,25 @@ impl<C: Chare<A>, A: Allocator> Room<C, A> {
         ensures value { result ≡ length self.now }
         ensures keyed { IsKeyed self.now }
     {
-        self.map.len()
+        let mut len = 0;
+        for row in &self.rows {
+            len += row.items().len();
+        }
+        len
+    }
+
+    /// What holds of every room, for a caller that knows nothing else of this one. It costs a run nothing.
+    pub(crate) fn known(&self)
+        ensures keyed { IsKeyed self.now }
+    {
+        let _rows = &self.rows;
     }
 
     /// Whether no element stands in it.
     pub fn is_empty(&self) -> bool
         ensures value { IsTrue result ↔ (length self.now ≡ 0) }
     {
-        self.map.is_empty()
+        self.len() == 0
     }
 
     /// The element with this index, or `None` where it stands elsewhere.
@@ -57,14 +99,18 @@ impl<C: Chare<A>, A: Allocator> Room<C, A> {
         ensures value { option_copied result ≡ found index self.now }
         ensures index { IfSome result (λ element. element.now.index ≡ index) }
     {
-        self.map.get(&index.get())
+        let row = row_number(index);
+        if self.rows.len() <= row {
+            return None;
+        }
+        self.rows[row].element(index)
     }
 
     /// The elements beside their indices, in the order of these.
-    pub fn iter(&self) -> Iter<'_, u32, Element<C, A>>
+    pub fn iter(&self) -> Entries<'_, C, A>
         ensures value { result ≡ self.now }
     {
-        self.map.iter()
+        Entries::new(self.rows.as_slice())
     }
 }
 
@@ -74,7 +120,7 @@ impl<C: Chare<A>, A: Allocator + Copy> Room<C, A> {
         ensures value { result ≡ [] }
     {
         Room {
-            map: BTreeMap::new(alloc),
+            rows: Vec::new(alloc),
         }
     }
 
@@ -84,15 +130,12 @@ impl<C: Chare<A>, A: Allocator + Copy> Room<C, A> {
         ensures ok { OnOk result (self.new ≡ joined index (opening_element index chare) self.old) }
         ensures err { OnErr result (self.new ≡ self.old) }
     {
-        let element = Element::new(alloc, index, chare);
-        if self.map.insert(index.get(), element).is_err() {
-            return Err(AllocError);
-        }
-        Ok(())
+        let row = row_number(index);
+        open_rows(alloc, &mut self.rows, row)?;
+        self.rows[row].place(alloc, index, chare)
     }
 
     /// Executes a letter by its element, which stands here.
-    #[tactic(auto, using(std::proofs::lemmas::Map::Steps::set_value_same))]
     pub(crate) fn execute<G: Gate, P: Drop>(
         &mut self,
         gate: &G,
@@ -105,20 +148,18 @@ impl<C: Chare<A>, A: Allocator + Copy> Room<C, A> {
         requires few { sends.old.n ≤ Limits.ELEMENTS }
         ensures room { OnOk result (self.new ≡ ran_in C.step C.pack self.old letter.to sends.old.n pe (Entry.Letter letter)) }
         ensures note { IfOk result (λ note. note ≡ note_in C.step C.pack self.old letter.to sends.old.n pe (Entry.Letter letter)) }
-        ensures sends { OnOk result (sends.new ≡ posted (with_report sends.old (Report.Executed letter.id letter.to)) (sends_in C.step C.pack self.old letter.to sends.old.n (Entry.Letter letter))) }
+        ensures sends { OnOk result (sends.new ≡ with_execution sends.old letter (sends_in C.step C.pack self.old letter.to sends.old.n (Entry.Letter letter))) }
         ensures err { OnErr result (self.new ≡ self.old) }
         ensures letter { IfErr result (λ unread. unread.letter ≡ letter) }
-        ensures refused { IfErr result (λ unread. unread.error ≢ OutOfMemory → RefusesIn C.refuses self.old letter.to sends.old.n sends.old.count (Entry.Letter letter.body) unread.error) }
+        ensures refused { IfErr result (λ unread. unread.error ≢ OutOfMemory
+            → RefusesIn C.refuses self.old letter.to sends.old.n sends.old.count (Entry.Letter letter.body) unread.error) }
         ensures taken_back { OnErr result (sends.new ≡ sends.old) }
     {
-        let Some(element) = self.map.get_mut(&letter.to().get()) else {
-            unreachable!()
-        };
-        element.execute(gate, pe, letter, sends)
+        let row = row_number(letter.to());
+        self.rows[row].execute(gate, pe, letter, sends)
     }
 
     /// Resumes an element after this round, or starts it where that is 0. It stands here.
-    #[tactic(auto, using(std::proofs::lemmas::Map::Steps::set_value_same))]
     pub(crate) fn resume<G: Gate, P: Drop>(
         &mut self,
         gate: &G,
@@ -133,20 +174,17 @@ impl<C: Chare<A>, A: Allocator + Copy> Room<C, A> {
         requires before_last_round { round < Limits.ROUND }
         ensures room { OnOk result (self.new ≡ ran_in C.step C.pack self.old index sends.old.n pe (Entry.Resumption round)) }
         ensures note { IfOk result (λ note. note ≡ note_in C.step C.pack self.old index sends.old.n pe (Entry.Resumption round)) }
-        ensures sends { OnOk result (sends.new ≡ posted (with_report sends.old (Report.Resumed index round)) (sends_in C.step C.pack self.old index sends.old.n (Entry.Resumption round))) }
+        ensures sends { OnOk result (sends.new ≡ with_resumption sends.old index round (sends_in C.step C.pack self.old index sends.old.n (Entry.Resumption round))) }
         ensures err { OnErr result (self.new ≡ self.old) }
         ensures refused { IfErr result (λ error. error ≢ OutOfMemory → RefusesIn C.refuses self.old index sends.old.n sends.old.count (Entry.Resumption round) error) }
         ensures taken_back { OnErr result (sends.new ≡ sends.old) }
     {
-        let Some(element) = self.map.get_mut(&index.get()) else {
-            unreachable!()
-        };
-        element.resume(gate, pe, round, sends)
+        let row = row_number(index);
+        self.rows[row].resume(gate, pe, index, round, sends)
     }
 
     /// Takes in an element that was packed, with the chare that its bytes unpacked to, where none with its index
     /// stands. Where no memory is left it comes back.
-    #[tactic(auto, using(crate::proofs::Keyed::keyed_joined))]
     pub(crate) fn install(
         &mut self,
         packed: Packed<A>,
@@ -157,11 +195,12 @@ impl<C: Chare<A>, A: Allocator + Copy> Room<C, A> {
         ensures err { OnErr result (self.new ≡ self.old) }
         ensures back { IfErr result (λ failed. failed.value ≡ packed) }
     {
-        let Ok(Place::Vacant(place)) = self.map.entry(packed.index().get()) else {
+        let row = row_number(packed.index());
+        let alloc = *self.rows.allocator();
+        let Ok(()) = open_rows(alloc, &mut self.rows, row) else {
             return Err(AllocFailed { value: packed });
         };
-        place.insert(packed.open(chare));
-        Ok(())
+        self.rows[row].install(packed, chare)
     }
 
     /// Packs an element, which stands here, and lets it go.
@@ -172,13 +211,7 @@ impl<C: Chare<A>, A: Allocator + Copy> Room<C, A> {
         ensures ok { OnOk result (self.new ≡ without index self.old) }
         ensures err { OnErr result (self.new ≡ self.old) }
     {
-        let Some(element) = self.map.get(&index.get()) else {
-            unreachable!()
-        };
-        let packing = Packing::of(alloc, element)?;
-        let Some(element) = self.map.remove(&index.get()) else {
-            unreachable!()
-        };
-        Ok(packing.close(element))
+        let row = row_number(index);
+        self.rows[row].depart(alloc, index)
     }
 }

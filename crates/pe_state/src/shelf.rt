@@ -12,7 +12,7 @@ use std::alloc::Allocator;
 use std::collections::VecDeque;
 
 /// Empties a shelf: puts the letters that are for an element to the back of an outbox, addressed to this PE, and the
-/// others to the back of another shelf, each in order and in room that was made for them.
+/// others to the back of another shelf, each in order and in memory that was reserved for them.
 pub(crate) fn unshelve<A: Allocator>(
     index: Index,
     me: Pe,
@@ -20,8 +20,8 @@ pub(crate) fn unshelve<A: Allocator>(
     rest: &mut VecDeque<Letter<A>, A>,
     outbox: &mut VecDeque<Item<A>, A>,
 )
-    requires rest_room { deque_len rest.old + deque_len shelf.old ≤ deque_capacity rest.old }
-    requires outbox_room { deque_len outbox.old + deque_len shelf.old ≤ deque_capacity outbox.old }
+    requires rest_reserved { deque_len rest.old + deque_len shelf.old ≤ deque_capacity rest.old }
+    requires outbox_reserved { deque_len outbox.old + deque_len shelf.old ≤ deque_capacity outbox.old }
     ensures empty { shelf.new.items ≡ [] }
     ensures rest { rest.new.items ≡ rest.old.items ++ filter (λ l. not (is_for index l)) shelf.old.items }
     ensures outbox { outbox.new.items ≡ outbox.old.items ++ map (letter_at me) (filter (is_for index) shelf.old.items) }

@@ -39,7 +39,7 @@ module _ {C : Type 0} where
     pub same_seat : new.seat ≡ old.seat
 
   -- Report: the board has the first note
-  pub record HandsIn {A : Type 0} (old new : SeatedView C) (before after : BoardState A) (note : Note) : Type 0 where
+  pub record ReportsNote {A : Type 0} (old new : SeatedView C) (before after : BoardState A) (note : Note) : Type 0 where
     pub first : slice_get old.pe.notes 0 ≡ Some note
     pub taken : board_after before note ≡ Some after
     pub done : new.pe ≡ noted old.pe
@@ -51,6 +51,6 @@ due_by pe places e = option_and_then (λ round. if round == places.round then pl
 
 module _ {C : Type 0} (step : Step C) (pack : C → List ℕ) where
   -- Resume and Depart: such an element goes on where it stands, if its place is there, and departs for its place otherwise
-  abbrev pub went_on : PeView C → PlacesView → ℕ → Option ℕ → PeView C
-  went_on pe places e None = pe
-  went_on pe places e (Some place) = if place == pe.me then resumed step pack pe e places.round else departed pack pe e place
+  abbrev pub after_round : PeView C → PlacesView → ℕ → Option ℕ → PeView C
+  after_round pe places e None = pe
+  after_round pe places e (Some place) = if place == pe.me then resumed step pack pe e places.round else departed pack pe e place

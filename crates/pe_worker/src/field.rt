@@ -17,9 +17,12 @@ use std::sync::Wait;
 use std::sync::atomic::Ordering::SeqCst;
 use std::sync::atomic::{AtomicBool, AtomicU64};
 
+// With fewer PEs than this, a walk over the chain is done before a thread for it has started.
+const PES_WORTH_THREADS: u32 = 128;
+
 /// What the workers of a run share: the queues, the words, the board under its lock, and three hints, which workers only
 /// raise and which save them the lock: the last round that was decided, that every element has finished, and that all are
-/// to stop; and how many letters they have told that they executed, for who looks on. No clause rests on a hint or on that
+/// to stop; and how many executed letters they have counted, for who looks on. No clause rests on a hint or on that
 /// number. Contracts see the queues.
 #[derive(Drop)]
 pub struct Field<C: Chare<A>, H: Openings<C>, J: RunBeginning<C>, A: Allocator = Global> {
@@ -32,7 +35,7 @@ pub struct Field<C: Chare<A>, H: Openings<C>, J: RunBeginning<C>, A: Allocator =
     executed: AtomicU64,
     // After how many turns in a row without a step a worker gives up.
     pub(crate) turns: u64,
-    pub(crate) probe_workers: u32,
+    probe_workers: u32,
     of: PhantomData<J>,
 }
 
@@ -52,7 +55,7 @@ impl<C: Chare<A>, H: Openings<C>, J: RunBeginning<C>, A: Allocator> Model for Fi
 
 impl<C: Chare<A>, H: Openings<C>, J: RunBeginning<C>, A: Allocator> Field<C, H, J, A> {
     /// The queues, words and board of a run as it opens. Its workers give up after so many idle turns, and a round is
-    /// decided by 1 to 64 probe workers.
+    /// decided by at most so many probe workers, 1 to 64, and by one where its PEs are few.
     pub fn new(
         post: Post<Parcel<C, H, A>, A>,
         words: Locations<OfRun<C, H>, A>,
@@ -97,6 +100,17 @@ impl<C: Chare<A>, H: Openings<C>, J: RunBeginning<C>, A: Allocator> Field<C, H, 
         &self.post
     }
 
+    /// How many threads search for the division of a round.
+    pub(crate) fn probe_workers(&self) -> u32
+        ensures some_worker { 1 ≤ result }
+        ensures few_workers { result ≤ Limits.PROBE_WORKERS }
+    {
+        if self.post.pes() < PES_WORTH_THREADS {
+            return 1;
+        }
+        self.probe_workers
+    }
+
     /// Lets all workers stop.
     pub(crate) fn stop(&self) {
         self.stopped.store(true, SeqCst);
@@ -123,7 +137,7 @@ impl<C: Chare<A>, H: Openings<C>, J: RunBeginning<C>, A: Allocator> Field<C, H, 
         self.executed.fetch_add(letters, SeqCst);
     }
 
-    /// How many letters were executed, as far as the workers have told.
+    /// How many letters were executed, as far as the workers have counted them.
     pub(crate) fn executed(&self) -> u64 {
         self.executed.load(SeqCst)
     }

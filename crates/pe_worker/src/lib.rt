@@ -1,5 +1,5 @@
 //! One worker of a run over threads: a PE with its seat, the steps that it makes, and the turns in which it makes them.
-//! docs/RUNS.md tells the protocol.
+//! docs/RUNS.md has the protocol.
 #![tactic(auto)]
 
 mod agenda;

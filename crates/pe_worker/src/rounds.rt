@@ -5,18 +5,18 @@ ghost use Rattle.chares.specs.declared.note.Note.{Note};
 ghost use Rattle.pe_state.specs.Pes.{may_depart, may_resume};
 ghost use Rattle.pe_state.specs.declared.error.StepError.TheVariants.{OutOfMemory, Unpack};
 ghost use Rattle.rts_core.specs.Events.{board_after};
-ghost use Rattle.pe_worker.specs.Steps.{HandsIn, due_by, went_on};
+ghost use Rattle.pe_worker.specs.Steps.{ReportsNote, due_by, after_round};
 
 use crate::seated::{OfRun, RunBeginning, SeatedPe};
 use barrier::{BoardSize, RoundPlaces, RunBoard};
 use chare_index::{Gate, Index, Limits, Pe, Round};
-use chares::{Chare, Note, Openings};
+use chares::{Chare, Note, Openings, StateBytes};
 use lb_certificates::Units;
 use pe_queues::Locations;
 use pe_state::StepError;
 use std::alloc::Allocator;
 
-// Hands a note to the board, and returns whether the board takes it.
+// Gives a note to the board, and returns whether the board takes it.
 fn take_note<J: BoardSize, A: Allocator>(board: &mut RunBoard<J, A>, note: &Note) -> bool
     ensures taken { MatchBool result (board_after board.old note.now ≡ Some board.new) (board_after board.old note.now ≡ None) }
     ensures refused { MatchBool result (Unit {0}) (board.new ≡ board.old) }
@@ -29,26 +29,27 @@ fn take_note<J: BoardSize, A: Allocator>(board: &mut RunBoard<J, A>, note: &Note
     }
 }
 
-// Hands a note to the board that an element waits.
+// Reports to the board that an element waits for the end of its round.
 #[tactic(auto, using(rts_core::proofs::Notes::sync_taken, rts_core::proofs::Notes::sync_refused, rts_core::proofs::Notes::sync_elsewhere))]
 fn take_sync<J: BoardSize, A: Allocator>(
     board: &mut RunBoard<J, A>,
     e: Index,
     round: Round,
     units: Units,
-    bytes: u32,
+    bytes: StateBytes,
     at: Pe,
 ) -> bool
-    ensures taken { MatchBool result (board_after board.old (Note.Sync e round units bytes at) ≡ Some board.new) (board_after board.old (Note.Sync e round units bytes at) ≡ None) }
+    ensures taken { MatchBool result (board_after board.old (Note.Sync e round units bytes at) ≡ Some board.new)
+        (board_after board.old (Note.Sync e round units bytes at) ≡ None) }
     ensures refused { MatchBool result (Unit {0}) (board.new ≡ board.old) }
 {
     if board.pes() <= at.get() {
         return false;
     }
-    board.report(e.get(), round, units, bytes, at).is_ok()
+    board.report(e.get(), round, units, bytes.get(), at).is_ok()
 }
 
-// Hands a note to the board that an element has finished.
+// Tells the board that an element has finished.
 #[tactic(auto, using(rts_core::proofs::Notes::finish_taken, rts_core::proofs::Notes::finish_refused))]
 fn take_finish<J: BoardSize, A: Allocator>(board: &mut RunBoard<J, A>, e: Index) -> bool
     ensures taken { MatchBool result (board_after board.old (Note.Finish e) ≡ Some board.new) (board_after board.old (Note.Finish e) ≡ None) }
@@ -58,10 +59,10 @@ fn take_finish<J: BoardSize, A: Allocator>(board: &mut RunBoard<J, A>, e: Index)
 }
 
 impl<C: Chare<A>, H: Openings<C>, J: RunBeginning<C>, A: Allocator + Copy> SeatedPe<C, H, J, A> {
-    /// Report: hands the first note that is owed to the board, under whose lock the caller is, and returns it. It returns
+    /// Report: gives the first note that is owed to the board, under whose lock the caller is, and returns it. It returns
     /// `None`, and changes nothing, where no note is owed, or where the board refuses it, which then stays owed.
-    pub fn hand_in(&mut self, board: &mut RunBoard<OfRun<C, H>, A>) -> Option<Note>
-        ensures step { MatchOption result ((self.new ≡ self.old) × (board.new ≡ board.old)) (HandsIn self.old self.new board.old board.new) }
+    pub fn report(&mut self, board: &mut RunBoard<OfRun<C, H>, A>) -> Option<Note>
+        ensures step { MatchOption result ((self.new ≡ self.old) × (board.new ≡ board.old)) (ReportsNote self.old self.new board.old board.new) }
         ensures refused { MatchOption result (IfSome (slice_get self.old.pe.notes 0) (λ note. board_after board.old note ≡ None)) (λ _. Unit {0}) }
         ensures same_me { self.new.pe.me ≡ self.old.pe.me }
     {
@@ -80,7 +81,7 @@ impl<C: Chare<A>, H: Openings<C>, J: RunBeginning<C>, A: Allocator + Copy> Seate
     ///
     /// # Errors
     ///
-    /// The PE is as it was on any of them: out of memory, or what the handler answers.
+    /// The PE is as it was on any of them: out of memory, or what the handler returns.
     pub fn go_on<G: Gate>(
         &mut self,
         gate: &G,
@@ -90,7 +91,7 @@ impl<C: Chare<A>, H: Openings<C>, J: RunBeginning<C>, A: Allocator + Copy> Seate
     ) -> Result<bool, StepError>
         requires run_pes { words.now.pes ≡ H.pes }
         requires run_elements { words.now.elements ≡ length H.opened }
-        ensures ok { OnOk result (self.new ≡ record self.old { pe = went_on C.step C.pack self.old.pe places.now element (due_by self.old.pe places.now element) }) }
+        ensures ok { OnOk result (self.new ≡ record self.old { pe = after_round C.step C.pack self.old.pe places.now element (due_by self.old.pe places.now element) }) }
         ensures done { IfOk result (λ done. done ≡ is_some (due_by self.old.pe places.now element)) }
         ensures err { OnErr result (self.new ≡ self.old) }
         ensures unpacks { IfErr result (λ error. error ≢ Unpack) }

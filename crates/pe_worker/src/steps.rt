@@ -81,7 +81,7 @@ impl<C: Chare<A>, H: Openings<C>, J: RunBeginning<C>, A: Allocator + Copy> Seate
     ///
     /// # Errors
     ///
-    /// The PE is as it was on any of them: out of memory, or what a handler answers.
+    /// The PE is as it was on any of them: out of memory, or what a handler returns.
     pub fn act<G: Gate>(&mut self, gate: &G) -> Result<Option<Acted>, StepError>
         ensures acted { IfOk result (λ acted. acted ≡ acted_of (acting C.step C.pack C.unpack self.old.pe)) }
         ensures ok { OnOk result (self.new ≡ record self.old { pe = pe_after self.old.pe (acting C.step C.pack C.unpack self.old.pe) }) }
@@ -97,7 +97,7 @@ impl<C: Chare<A>, H: Openings<C>, J: RunBeginning<C>, A: Allocator + Copy> Seate
     ///
     /// # Errors
     ///
-    /// The PE is as it was on any of them: out of memory, or what the handler answers.
+    /// The PE is as it was on any of them: out of memory, or what the handler returns.
     pub fn start<G: Gate>(&mut self, gate: &G, element: Index) -> Result<bool, StepError>
         ensures ok { IfOk result (λ done. self.new ≡ record self.old { pe = (if done then resumed C.step C.pack self.old.pe element 0 else self.old.pe) }) }
         ensures all { IfOk result (λ done. done ≡ may_resume self.old.pe element 0) }

@@ -37,7 +37,7 @@ pub struct Worker<C: Chare<A>, H: Openings<C>, J: RunBeginning<C>, A: Allocator 
     owed: usize,
     // Whether its report was the last that the board waited for.
     completes: bool,
-    // How many letters it has executed since it told of that.
+    // How many letters it has executed since it last added them to the count for who looks on.
     executed: u64,
     fault: Option<Fault>,
 }
@@ -103,7 +103,7 @@ impl<C: Chare<A>, H: Openings<C>, J: RunBeginning<C>, A: Allocator> Work for Wor
 }
 
 impl<C: Chare<A>, H: Openings<C>, J: RunBeginning<C>, A: Allocator> Ended for Worker<C, H, J, A> {
-    /// That no thread could be started for it is its fault. It was told to stop before it began, so its PE is as it opened.
+    /// The fault is that no thread could be started for it. The stop flag was set before it began, so its PE is as it opened.
     fn without_thread(self) -> Self {
         let mut worker = self;
         worker.fault = worker.fault.or(Some(Fault::OutOfMemory));
@@ -113,7 +113,7 @@ impl<C: Chare<A>, H: Openings<C>, J: RunBeginning<C>, A: Allocator> Ended for Wo
 
 impl<C: Chare<A>, H: Openings<C>, J: RunBeginning<C>, A: Allocator + Copy> Worker<C, H, J, A> {
     /// Starts the elements of its PE, and then takes turns until every element has finished, this worker meets a fault, or
-    /// another one has. At a fault all are told to stop. Whatever happens, it keeps what its PE holds. Who looks on is told of
+    /// another one has. A fault sets the stop flag for all. Whatever happens, it keeps what its PE holds. Who looks on is told of
     /// each round that it decides.
     pub fn work<G: Gate + Sync, V: Watch + Sync, R: Threads + Wait + Sync>(
         self,
@@ -305,7 +305,7 @@ impl<C: Chare<A>, H: Openings<C>, J: RunBeginning<C>, A: Allocator + Copy> Worke
         }
         let mut guard = field.barrier.lock(rt);
         let board = &mut *guard;
-        let handed = hand_in_all(&mut self.seated, board, notes);
+        let handed = report_all(&mut self.seated, board, notes);
         self.completes = board.is_complete();
         if board.all_finished() {
             field.tell_finished();
@@ -329,7 +329,7 @@ impl<C: Chare<A>, H: Openings<C>, J: RunBeginning<C>, A: Allocator + Copy> Worke
             return Ok(false);
         }
         self.completes = false;
-        match field.barrier.decide_with(rt, field.probe_workers, gate) {
+        match field.barrier.decide_with(rt, field.probe_workers(), gate) {
             Ok(round) => {
                 field.tell_decided(round);
                 watch.decided(round, field.executed());
@@ -351,19 +351,19 @@ fn arriving<C: Chare<A>, H: Openings<C>, A: Allocator>(pe: &PeState<C, H, A>) ->
     Some(element.index())
 }
 
-// Hands in so many notes, or as many as the board takes, and returns whether it took one.
-fn hand_in_all<C: Chare<A>, H: Openings<C>, J: RunBeginning<C>, A: Allocator + Copy>(
+// Reports so many notes, or as many as the board takes, and returns whether it took one.
+fn report_all<C: Chare<A>, H: Openings<C>, J: RunBeginning<C>, A: Allocator + Copy>(
     seated: &mut SeatedPe<C, H, J, A>,
     board: &mut RunBoard<OfRun<C, H>, A>,
     notes: usize,
 ) -> bool
     ensures same_me { seated.new.pe.me ≡ seated.old.pe.me }
 {
-    let mut handed = false;
+    let mut taken = false;
     for _note in 0..notes {
-        handed = seated.hand_in(board).is_some() || handed;
+        taken = seated.report(board).is_some() || taken;
     }
-    handed
+    taken
 }
 
 // Lets time pass in an idle turn.

@@ -1,4 +1,4 @@
--- The line that tells how far a run is, byte by byte.
+-- The line that says how far a run is, byte by byte.
 use Rattle.std.specs.Prelude.{ℕ, ◌*◌, ◌/◌, ◌-◌, ◌^◌, min, max, List, [], ◌∷◌, ◌++◌, length, codes, Option, None, Some}
 use Rattle.std.specs.Fmt.{decimal}
 use Rattle.std.specs.List.{repeat}

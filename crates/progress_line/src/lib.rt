@@ -2,7 +2,7 @@
 //!
 //! - [`Progress`]: who looks on, or nobody, so that one call of a run serves both.
 //! - [`ProgressLine`]: the line.
-//! - [`Standing`]: what it tells.
+//! - [`Standing`]: what it says.
 //!
 //! ```text
 //! round 12 of 100, 3400 letters executed, 120000 a second

@@ -13,15 +13,15 @@ use std::time::{Clock, Instant};
 /// The least time between two lines, in milliseconds.
 pub(crate) const GAP: u64 = 100;
 
-/// Tells on the standard error how far a run is, in one line that is written over and over. Several threads may tell it of
-/// the rounds that are decided. It takes no memory but its own. What cannot be written is not told, and changes nothing.
+/// Writes to the standard error how far a run is, in one line that is written over and over. Several threads may tell it of
+/// the rounds that are decided. It takes no memory but its own. A line that cannot be written is dropped, and changes nothing.
 #[derive(Drop)]
 pub struct ProgressLine<'a, R> {
     rt: &'a R,
     start: Instant,
     /// How many rounds there will be, and 0 where that is not known.
     rounds: AtomicU64,
-    /// The greatest that was told.
+    /// The greatest round so far.
     round: AtomicU64,
     executed: AtomicU64,
     /// The time from which on the next line may go out, in milliseconds from the start. It is 0 before the first line.

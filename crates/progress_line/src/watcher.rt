@@ -12,7 +12,7 @@ use std::time::Clock;
 pub enum Progress<'a, R> {
     /// Nobody.
     Off,
-    /// A person, to whom a line tells how far it is.
+    /// A person, who reads in a line how far it is.
     On(ProgressLine<'a, R>),
 }
 

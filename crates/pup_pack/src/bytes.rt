@@ -7,8 +7,8 @@ use chare_index::Limits;
 use std::alloc::{Allocator, Global};
 use std::marker::Model;
 
-/// A list of bytes. It packs into how many they are, in four bytes, and then the bytes as they are. Contracts see
-/// it as that list.
+/// A list of bytes. It packs into their number, in four bytes, and then the bytes as they are. Contracts see it as
+/// that list.
 #[derive(Debug, Drop)]
 pub struct Bytes<A: Allocator = Global> {
     all: Vec<u8, A>,

@@ -1,8 +1,8 @@
-//! Packed states: an element that moves between PEs moves as bytes, and who unpacks them gets the value that was
+//! Packed states: an element that moves between PEs moves as bytes, and unpacking them yields the value that was
 //! packed, whatever bytes follow.
 //!
-//! - [`Pup`]: a value that packs, with its law. It is given for `u32`, `u64`, [`Bytes`], [`Items`] and pairs, and
-//!   shows how to write it for a type of your own.
+//! - [`Pup`]: a value that packs, with its law. It is implemented for `u32`, `u64`, [`Bytes`], [`Items`] and pairs;
+//!   its docs show how to implement it for a type of your own.
 //! - [`Bytes`]: a list of bytes. [`Items`]: a list of packed values.
 //! - [`Fields`]: the fields of a struct, packed one after another.
 //! - [`PupError`]: why a value is not packed, or bytes are not unpacked.

@@ -64,8 +64,8 @@ pub fn pack_items<A: Allocator, T: Pup<A>>(
     Ok(())
 }
 
-/// The items whose packs the bytes begin with, and how many bytes these packs have. Memory is asked for as items
-/// are found, so a count that the bytes do not bear out costs none.
+/// The items whose packs the bytes begin with, and how many bytes these packs have. Memory is requested as items are
+/// found, so a count of more items than the bytes have takes no memory for them.
 pub fn unpack_items<A: Allocator + Copy, T: Pup<A> + Drop>(
     alloc: A,
     count: u32,

@@ -13,8 +13,8 @@ use std::alloc::Allocator;
 ///
 /// # A type of your own
 ///
-/// A state of several fields packs into its fields, one after another. They are a pair, or pairs within a pair, so
-/// every member and method hands on to it:
+/// A state of several fields packs into its fields, one after another. They are a pair, or pairs within a pair, to
+/// which every member and method delegates:
 ///
 /// ```text
 /// #[derive(Drop)]
@@ -55,8 +55,8 @@ use std::alloc::Allocator;
 /// ```
 ///
 /// This needs no proof file. The law is put together as the type is: `pair_trips` of the laws of the fields, and
-/// `struct_trips` of how the struct is made of them. A type that some bytes are no value of tests what it unpacked,
-/// answers [`Bad`](PupError::Bad), and has `judged` and `judged_trips` in place of these.
+/// `struct_trips` of how the struct is made of them. A type for which some fields make no value tests what it unpacked,
+/// returns [`Bad`](PupError::Bad), and has `judged` and `judged_trips` in place of these.
 pub trait Pup<A: Allocator>: Sized {
     /// Holds of every value of the type: in the law below an integer is any natural number.
     ghost fits: { Self → Type 0 };
@@ -102,8 +102,8 @@ pub trait Pup<A: Allocator>: Sized {
     /// - [`Bad`](PupError::Bad): the bytes are those of no value of the type.
     /// - [`TooLong`](PupError::TooLong): a list has more than 1,048,576 items, or the value would pack into more
     ///   than 1,048,576 bytes.
-    /// - [`OutOfMemory`](PupError::OutOfMemory): no memory was left. It may come before what only bytes further
-    ///   on would show.
+    /// - [`OutOfMemory`](PupError::OutOfMemory): no memory was left. It may be reported in place of a refusal
+    ///   that only later bytes would show.
     fn unpack(alloc: A, bytes: &[u8]) -> Result<(Self, usize), PupError>
         ensures answer { UnpackAnswer (unpack bytes.now) result }
         ensures within { IfOk result (λ r. r.1 ≤ length bytes.now) };

@@ -30,7 +30,7 @@ pub record IsMeasuredAs (taken : Taken) (e units bytes pe : ℕ) : Type 0 where
   pub load : slice_get taken.loads e ≡ Some units
   pub size : slice_get taken.sizes e ≡ Some (bytes, pe)
 
--- A note that element e waits for the end of a round is right: it names e, and tells what the round's snapshot has of
+-- A note that element e waits for the end of a round is right: it names e, and says what the round's snapshot has of
 -- e, where the round is decided. Otherwise the round is the one under way, after the last that is decided, and nothing
 -- else is asked. A note that an element has finished is never kept as a mark.
 abbrev pub IsSyncOf : {A : Type 0} → BoardState A → ℕ → Note → Type 0
@@ -59,7 +59,7 @@ abbrev pub StandsAsMarked : Option ℕ → Mark → Type 0
 StandsAsMarked place (Synced note) = Unit {0}
 StandsAsMarked place (Resumed round pe) = place ≡ Some pe
 
--- Element e reached AtSync for the decided rounds as their snapshots say: each mark of that tells what the snapshot has;
+-- Element e reached AtSync for the decided rounds as their snapshots say: each mark of that says what the snapshot has;
 -- there is exactly one for each round that is decided, and at most one for the round under way; and they come in the order
 -- of the rounds.
 pub record AreSynced {A : Type 0} (b : BoardState A) (e : ℕ) (marks : List Mark) : Type 0 where

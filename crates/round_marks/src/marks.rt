@@ -14,7 +14,7 @@ use std::alloc::Allocator;
 /// the room of the PE `place`, or is packed where there is none. It takes no memory, and a time that is linear in the
 /// number of marks.
 ///
-/// It answers `true` where the element is one of the board's; where it reached AtSync once for each round that is
+/// It returns `true` where the element is one of the board's; where it reached AtSync once for each round that is
 /// decided, with the load, the size and the PE that the round's snapshot has of it, and perhaps once more for the round
 /// under way, in the order of the rounds; where it started at home and was resumed after decided rounds alone, each time
 /// at its place in the decision; and where it stands on the PE of its last mark, if that is of a resumption.
@@ -65,7 +65,7 @@ fn is_next_sync<A: Allocator>(board: &Board<A>, e: Index, reached: u32, note: &N
     let Some((snapshot, _)) = board.kept_for(*round) else {
         return reached as usize == board.rounds().len();
     };
-    is_measured_as(snapshot, e, *units, *bytes, *pe)
+    is_measured_as(snapshot, e, *units, bytes.get(), *pe)
 }
 
 // Whether a snapshot has this of element `e`.

@@ -12,7 +12,7 @@ use chares::{Carried, Chare, Element, Mark};
 use pe_state::{HeldParcel, Item, PeEnd};
 use std::alloc::Allocator;
 
-/// Whether the marks of all elements of a run agree with what its board decided, as [`element_agrees`] tells it of each:
+/// Whether the marks of all elements of a run agree with what its board decided, as [`element_agrees`] says of each:
 /// of those that its PEs have at the end, and of those that are packed in the parcels that it left in its queues. It takes
 /// no memory, and a time that is linear in the number of marks, letters and PEs.
 pub fn run_agrees<C: Chare<A>, A: Allocator>(
@@ -39,7 +39,7 @@ pub fn parcels_agree<A: Allocator>(board: &Board<A>, parcels: &[HeldParcel<A>]) 
     parcels.iter().all(|parcel| parcel_agrees(board, parcel))
 }
 
-/// Whether the marks of element `e` agree, as [`marks_agree`] tells it of an element that opened on the home of `e` among
+/// Whether the marks of element `e` agree, as [`marks_agree`] says of an element that opened on the home of `e` among
 /// the elements of the board.
 pub fn element_agrees<A: Allocator>(
     board: &Board<A>,

@@ -7,7 +7,7 @@ use Rattle.std.proofs.lemmas.List.Elements.{All-nil, All-cons}
 use Rattle.std.proofs.lemmas.List.Filters.{sum_by-filter_both}
 use Rattle.chares.specs.declared.carried.Carried.TheVariants.{Letter, Element}
 use Rattle.chares.specs.declared.entry.Entry.TheVariants.{Letter as OfLetter}
-use Rattle.chares.specs.declared.report.Report.TheVariants as Tells
+use Rattle.chares.specs.declared.trace_entry.TraceEntry.TheVariants as Trace
 use Rattle.chares.specs.Elements.{ElementView, PackedView, unpacked}
 use Rattle.chares.specs.Letters.{LetterView, hopped}
 use Rattle.chares.specs.Steps.{Step}
@@ -18,11 +18,11 @@ use Rattle.pe_state.specs.declared.acted.Acted.TheVariants.{Installed as IsInsta
 use Rattle.rts_core.specs.Places.{Life}
 use Rattle.rts_core.proofs.Weights.{Weight, weigh, of_parcel, of_item, of_hand, of_element, of_room, sum_by-map, sum_joined}
 use Rattle.rts_core.proofs.Moves.{Work, Moved, quiet}
-use Rattle.rts_core.proofs.Handlers.{handled_moved}
+use Rattle.rts_core.proofs.HandlerSteps.{handled_moved}
 
 -- a PE makes this step, which runs a handler or not, with what is in it
 abbrev pub Acts : {C : Type 0} → Step C → PeView C → Acting C → Type 0
-Acts {C} step pe a = (work : Option (Work C)) × Moved step pe a.pe a.reports work [] []
+Acts {C} step pe a = (work : Option (Work C)) × Moved step pe a.pe a.trace work [] []
 
 pub hand_holds : (g : Weight) (k : Life → ℕ) (hand : Option Item) (x : Item) (parcel : Parcel) → hand ≡ Some x → x.parcel ≡ parcel → of_hand g k hand ≡ of_parcel g k parcel
 hand_holds g k hand x parcel h p = rw h (ap (of_parcel g k) p)
@@ -31,7 +31,7 @@ module _ {C : Type 0} (step : Step C) (pack : C → List ℕ) where
   unfoldable pub shelving_moved : (pe : PeView C) (x : Item) (l : LetterView) → pe.hand ≡ Some x → x.parcel ≡ Letter l → Acts step pe (shelving pe l)
   shelving_moved pe x l h p = (
     None,
-    quiet step pe (shelving pe l).pe (shelving pe l).reports [] []
+    quiet step pe (shelving pe l).pe (shelving pe l).trace [] []
         (λ g k.
         let a : of_hand g k pe.hand ≡ weigh g l = hand_holds g k pe.hand x (Letter l) h p in
         let b : sum_by (weigh g) (pe.shelf ++ l ∷ []) ≡ sum_by (weigh g) pe.shelf + weigh g l = sum_by_push (weigh g) pe.shelf l in
@@ -42,7 +42,7 @@ module _ {C : Type 0} (step : Step C) (pack : C → List ℕ) where
   unfoldable pub forwarding_moved : (pe : PeView C) (x : Item) (l : LetterView) (q : ℕ) → pe.hand ≡ Some x → x.parcel ≡ Letter l → Acts step pe (forwarding pe l q)
   forwarding_moved pe x l q h p = (
     None,
-    quiet step pe (forwarding pe l q).pe (forwarding pe l q).reports [] []
+    quiet step pe (forwarding pe l q).pe (forwarding pe l q).trace [] []
         (λ g k.
         let a : of_hand g k pe.hand ≡ weigh g l = hand_holds g k pe.hand x (Letter l) h p in
         let b : sum_by (of_item g k) (pe.outbox ++ letter_at q (hopped l) ∷ []) ≡ sum_by (of_item g k) pe.outbox + weigh g l = sum_by_push (of_item g k) pe.outbox (letter_at q (hopped l)) in
@@ -63,7 +63,7 @@ module _ {C : Type 0} (step : Step C) (pack : C → List ℕ) where
   unfoldable pub executed_moved : (pe : PeView C) (x : Item) (l : LetterView) (el : ElementView C) → pe.hand ≡ Some x → x.parcel ≡ Letter l → found l.to pe.room ≡ Some el → Acts step pe (executed step pack pe l)
   executed_moved pe x l el h p f = (
     Some (el, OfLetter l),
-    handled_moved step pack pe l.to (OfLetter l) None el (Tells.Executed l.id l.to) f
+    handled_moved step pack pe l.to (OfLetter l) None el (Trace.Executed l.id l.to) f
         (λ g k.
         let a : of_hand g k pe.hand ≡ weigh g l = hand_holds g k pe.hand x (Letter l) h p in
         let b : sum_by (weigh g) (l ∷ []) ≡ weigh g l + 0 = sum_by-cons (weigh g) l [] in
@@ -82,10 +82,10 @@ module _ {C : Type 0} (step : Step C) (pack : C → List ℕ) where
       by false s = cc
 
   unfoldable pub installed_moved : (pe : PeView C) (x : Item) (p : PackedView) (chare : C) → pe.hand ≡ Some x → x.parcel ≡ Element p → found p.index pe.room ≡ None
-      → Acts step pe (record { acted = IsInstalled; pe = installed pe p chare; reports = Tells.Installed p.index ∷ [] })
+      → Acts step pe (record { acted = IsInstalled; pe = installed pe p chare; trace = Trace.Installed p.index ∷ [] })
   installed_moved pe x p chare h is f = (
     None,
-    quiet step pe (installed pe p chare) (Tells.Installed p.index ∷ []) [] []
+    quiet step pe (installed pe p chare) (Trace.Installed p.index ∷ []) [] []
         (λ g k.
         let mine : List LetterView = filter (is_for p.index) pe.shelf in
         let others : List LetterView = filter (λ l. not (is_for p.index l)) pe.shelf in
@@ -103,7 +103,7 @@ module _ {C : Type 0} (step : Step C) (pack : C → List ℕ) where
         → pe.hand ≡ Some x → x.parcel ≡ Element p → found p.index pe.room ≡ None → installing step pack unpack pe p u ≡ Some a → Acts step pe a
     installing_moved pe x p (Err z) a h is f e = cc
     installing_moved pe x p (Ok y) a h is f e =
-        let t : record { acted = IsInstalled; pe = installed pe p y.0; reports = Tells.Installed p.index ∷ [] } ≡ a = cc in
+        let t : record { acted = IsInstalled; pe = installed pe p y.0; trace = Trace.Installed p.index ∷ [] } ≡ a = cc in
         subst (λ (v : Acting C). Acts step pe v) t (installed_moved pe x p y.0 h is f)
 
     pub on_element_moved : (pe : PeView C) (x : Item) (p : PackedView) (o : Option (ElementView C)) (a : Acting C)

@@ -7,22 +7,22 @@ use Rattle.std.proofs.lemmas.List.Sums.{sum_by-cons, sum_by_push}
 use Rattle.chares.specs.declared.entry.Entry.TheVariants.{Resumption}
 use Rattle.chares.specs.declared.note.Note.{Note}
 use Rattle.chares.specs.declared.note.Note.TheVariants.{Sync, Finish}
-use Rattle.chares.specs.declared.report.Report.{Report}
-use Rattle.chares.specs.declared.report.Report.TheVariants.{Departed, Decided}
+use Rattle.chares.specs.declared.trace_entry.TraceEntry.{TraceEntry}
+use Rattle.chares.specs.declared.trace_entry.TraceEntry.TheVariants.{Departed, Decided}
 use Rattle.chares.specs.Elements.{ElementView}
 use Rattle.chares.specs.Steps.{Step}
 use Rattle.at_sync.specs.Boards.{BoardState, place_in}
 use Rattle.pup_pack.specs.declared.error.PupError.{PupError}
-use Rattle.pe_state.specs.Pes.{PeView, Parcel, Acting, wanted, looked, front_address, front_parcel, gave_up, received, noted, resumed, resume_reports, departed, acting, waits_for}
+use Rattle.pe_state.specs.Pes.{PeView, Parcel, Acting, wanted, looked, front_address, front_parcel, gave_up, received, noted, resumed, resume_entries, departed, acting, waits_for}
 use Rattle.pe_state.specs.Rooms.{found}
 use Rattle.rts_core.specs.declared.event.Event.{Event}
-use Rattle.rts_core.specs.declared.event.Event.TheVariants.{Start, Look, Flush, Deliver, Act, Report as Hand, Decide, Depart, Resume}
+use Rattle.rts_core.specs.declared.event.Event.TheVariants.{Start, Look, Flush, Deliver, Act, Report, Decide, Depart, Resume}
 use Rattle.rts_core.specs.Accounts.{posts, executions}
-use Rattle.rts_core.specs.Events.{After, where_true, front_of, due, board_after, note_reports, looked_up, flushed, delivered, delivered_from, handed_in, started, left, went_on, acted, Desk, pe_of, at_desk, desk, with_desk, or_nothing, enabled, Happens, MayDecide}
+use Rattle.rts_core.specs.Events.{After, where_true, front_of, due, board_after, note_entries, look_event, flush_event, delivered, deliver_event, report_event, start_event, depart_event, resume_event, act_event, LocalView, pe_of, local_step, local_view, with_local, or_nothing, enabled, Happens, MayDecide}
 use Rattle.rts_core.specs.Worlds.{WorldView}
 use Rattle.rts_core.proofs.Weights.{Weight, of_parcel, of_queue}
 use Rattle.rts_core.proofs.Moves.{Work, Moved, looked_moved, gave_up_moved, received_moved, noted_moved}
-use Rattle.rts_core.proofs.Handlers.{resumed_moved, departed_moved}
+use Rattle.rts_core.proofs.HandlerSteps.{resumed_moved, departed_moved}
 use Rattle.rts_core.proofs.Acts.{acting_moved}
 use Rattle.rts_core.proofs.WorldSteps.{AreOf, Stepped, stays, stepped, sum_at}
 
@@ -44,35 +44,35 @@ front_is (x ∷ xs) front h = let e : (x, xs) ≡ front = some_same (x, xs) fron
 -- ---- what each event makes of its PE
 
 module _ {C : Type 0} (step : Step C) (pack : C → List ℕ) where
-  abbrev pub Makes : PeView C → PeView C × List Report → Type 0
+  abbrev pub Makes : PeView C → PeView C × List TraceEntry → Type 0
   Makes pe a = (work : Option (Work C)) × Moved step pe a.0 a.1 work [] []
 
-  pub runs_at : (pe : PeView C) (e round : ℕ) (el : ElementView C) (a : PeView C × List Report) → found e pe.room ≡ Some el
-      → (resumed step pack pe e round, resume_reports step pack pe e round) ≡ a → Makes pe a
-  runs_at pe e round el a at h = subst (λ (v : PeView C × List Report). Makes pe v) h (Some (el, Resumption round), resumed_moved step pack pe e round el at)
+  pub runs_at : (pe : PeView C) (e round : ℕ) (el : ElementView C) (a : PeView C × List TraceEntry) → found e pe.room ≡ Some el
+      → (resumed step pack pe e round, resume_entries step pack pe e round) ≡ a → Makes pe a
+  runs_at pe e round el a at h = subst (λ (v : PeView C × List TraceEntry). Makes pe v) h (Some (el, Resumption round), resumed_moved step pack pe e round el at)
 
-  pub started_makes : (pe : PeView C) (e : ℕ) (a : PeView C × List Report) → started step pack pe e ≡ Some a → Makes pe a
-  started_makes pe e a h =
-      option_and_then_some (λ (el : ElementView C). where_true (not el.progress.started) (Some (resumed step pack pe e 0, resume_reports step pack pe e 0))) (found e pe.room) a h
-      (λ el at s. runs_at pe e 0 el a at (some_same (resumed step pack pe e 0, resume_reports step pack pe e 0) a (where_some (not el.progress.started) (Some (resumed step pack pe e 0, resume_reports step pack pe e 0)) a s).1))
+  pub start_event_makes : (pe : PeView C) (e : ℕ) (a : PeView C × List TraceEntry) → start_event step pack pe e ≡ Some a → Makes pe a
+  start_event_makes pe e a h =
+      option_and_then_some (λ (el : ElementView C). where_true (not el.progress.started) (Some (resumed step pack pe e 0, resume_entries step pack pe e 0))) (found e pe.room) a h
+      (λ el at s. runs_at pe e 0 el a at (some_same (resumed step pack pe e 0, resume_entries step pack pe e 0) a (where_some (not el.progress.started) (Some (resumed step pack pe e 0, resume_entries step pack pe e 0)) a s).1))
 
-  pub went_on_makes : {A : Type 0} (p : ℕ) (pe : PeView C) (b : BoardState A) (e : ℕ) (a : PeView C × List Report) → went_on step pack p pe b e ≡ Some a → Makes pe a
-  went_on_makes p pe b e a h =
-      option_and_then_some (λ (at : ℕ × ℕ). where_true (at.1 == p) (Some (resumed step pack pe e at.0, resume_reports step pack pe e at.0))) (due pe b e) a h
+  pub resume_event_makes : {A : Type 0} (p : ℕ) (pe : PeView C) (b : BoardState A) (e : ℕ) (a : PeView C × List TraceEntry) → resume_event step pack p pe b e ≡ Some a → Makes pe a
+  resume_event_makes p pe b e a h =
+      option_and_then_some (λ (at : ℕ × ℕ). where_true (at.1 == p) (Some (resumed step pack pe e at.0, resume_entries step pack pe e at.0))) (due pe b e) a h
       (λ at d s.
       option_and_then_some (λ (el : ElementView C). option_and_then (λ round. option_and_then (λ q. Some (round, q)) (place_in b round e)) (waits_for el)) (found e pe.room) at d
-      (λ el is rest. runs_at pe e at.0 el a is (some_same (resumed step pack pe e at.0, resume_reports step pack pe e at.0) a (where_some (at.1 == p) (Some (resumed step pack pe e at.0, resume_reports step pack pe e at.0)) a s).1)))
+      (λ el is rest. runs_at pe e at.0 el a is (some_same (resumed step pack pe e at.0, resume_entries step pack pe e at.0) a (where_some (at.1 == p) (Some (resumed step pack pe e at.0, resume_entries step pack pe e at.0)) a s).1)))
 
-  pub left_makes : {A : Type 0} (p : ℕ) (pe : PeView C) (words : List ℕ) (b : BoardState A) (e : ℕ) (a : PeView C × List ℕ × List Report) → left step pack p pe words b e ≡ Some a → Moved step pe a.0 a.2 None [] []
-  left_makes p pe words b e a h =
+  pub depart_event_makes : {A : Type 0} (p : ℕ) (pe : PeView C) (words : List ℕ) (b : BoardState A) (e : ℕ) (a : PeView C × List ℕ × List TraceEntry) → depart_event step pack p pe words b e ≡ Some a → Moved step pe a.0 a.2 None [] []
+  depart_event_makes p pe words b e a h =
       option_and_then_some (λ (at : ℕ × ℕ). where_true (not (at.1 == p)) (Some (departed pack pe e at.1, slice_set words e at.1, Departed e ∷ []))) (due pe b e) a h
       (λ at d s.
       let t : (departed pack pe e at.1, slice_set words e at.1, Departed e ∷ []) ≡ a = some_same (departed pack pe e at.1, slice_set words e at.1, Departed e ∷ []) a (where_some (not (at.1 == p)) (Some (departed pack pe e at.1, slice_set words e at.1, Departed e ∷ [])) a s).1 in
-      subst (λ (v : PeView C × List ℕ × List Report). Moved step pe v.0 v.2 None [] []) t (departed_moved step pack pe e at.1))
+      subst (λ (v : PeView C × List ℕ × List TraceEntry). Moved step pe v.0 v.2 None [] []) t (departed_moved step pack pe e at.1))
 
 module _ {C : Type 0} (step : Step C) where
-  pub looked_up_makes : (pe : PeView C) (words : List ℕ) (a : PeView C) → looked_up pe words ≡ Some a → Moved step pe a [] None [] []
-  looked_up_makes pe words a h =
+  pub look_event_makes : (pe : PeView C) (words : List ℕ) (a : PeView C) → look_event pe words ≡ Some a → Moved step pe a [] None [] []
+  look_event_makes pe words a h =
       option_and_then_some (λ e. option_and_then (λ word. Some (looked pe word)) (slice_get words e)) (wanted pe) a h
       (λ e is s.
       option_and_then_some (λ word. Some (looked pe word)) (slice_get words e) a s
@@ -84,8 +84,8 @@ module _ {C : Type 0} (step : Step C) where
     pub moved : Moved step pe a.0 [] None [] (parcel ∷ [])
     pub passes : (g : Weight) (k : _) → sum_by (of_queue g k) a.1 + of_queue g k [] ≡ sum_by (of_queue g k) queues + of_queue g k (parcel ∷ [])
 
-  pub flushed_makes : (pe : PeView C) (queues : List (List Parcel)) (a : PeView C × List (List Parcel)) → flushed pe queues ≡ Some a → Flushes pe queues a
-  flushed_makes pe queues a h =
+  pub flush_event_makes : (pe : PeView C) (queues : List (List Parcel)) (a : PeView C × List (List Parcel)) → flush_event pe queues ≡ Some a → Flushes pe queues a
+  flush_event_makes pe queues a h =
       option_and_then_some (λ q. option_and_then (λ parcel. option_and_then (λ queue. Some (gave_up pe, slice_set queues q (queue ++ parcel ∷ []))) (slice_get queues q)) (front_parcel pe.outbox)) (front_address pe.outbox) a h
       (λ q is r.
       option_and_then_some (λ parcel. option_and_then (λ queue. Some (gave_up pe, slice_set queues q (queue ++ parcel ∷ []))) (slice_get queues q)) (front_parcel pe.outbox) a r
@@ -117,48 +117,48 @@ module _ {C : Type 0} (step : Step C) where
       subst (λ (v : PeView C × List Parcel). Delivers pe queue v) (some_same (received pe front.0, front.1) a s)
       (record { parcel = front.0; moved = received_moved step pe front.0 (none_is pe.hand both.0); fronts = front_is queue front both.1 }))
 
-  pub note_posts : (note : Note) → posts (note_reports note) ≡ []
+  pub note_posts : (note : Note) → posts (note_entries note) ≡ []
   note_posts (Sync e round units bytes pe) = refl
   note_posts (Finish e) = refl
 
-  pub note_executes : (note : Note) → executions (note_reports note) ≡ []
+  pub note_executes : (note : Note) → executions (note_entries note) ≡ []
   note_executes (Sync e round units bytes pe) = refl
   note_executes (Finish e) = refl
 
-  pub handed_in_makes : {A : Type 0} (pe : PeView C) (b : BoardState A) (a : PeView C × BoardState A × List Report) → handed_in pe b ≡ Some a → Moved step pe a.0 a.2 None [] []
-  handed_in_makes {A} pe b a h =
-      option_and_then_some (λ note. option_and_then (λ after. Some (noted pe, after, note_reports note)) (board_after b note)) (slice_get pe.notes 0) a h
+  pub report_event_makes : {A : Type 0} (pe : PeView C) (b : BoardState A) (a : PeView C × BoardState A × List TraceEntry) → report_event pe b ≡ Some a → Moved step pe a.0 a.2 None [] []
+  report_event_makes {A} pe b a h =
+      option_and_then_some (λ note. option_and_then (λ after. Some (noted pe, after, note_entries note)) (board_after b note)) (slice_get pe.notes 0) a h
       (λ note is s.
-      option_and_then_some (λ after. Some (noted pe, after, note_reports note)) (board_after b note) a s
-      (λ after at t. subst (λ (v : PeView C × BoardState A × List Report). Moved step pe v.0 v.2 None [] []) (some_same (noted pe, after, note_reports note) a t) (noted_moved step pe (note_reports note) (note_posts note) (note_executes note))))
+      option_and_then_some (λ after. Some (noted pe, after, note_entries note)) (board_after b note) a s
+      (λ after at t. subst (λ (v : PeView C × BoardState A × List TraceEntry). Moved step pe v.0 v.2 None [] []) (some_same (noted pe, after, note_entries note) a t) (noted_moved step pe (note_entries note) (note_posts note) (note_executes note))))
 
 -- ---- what each event makes of what its PE sees
 
-pub record Desks {C A : Type 0} (step : Step C) (d : Desk C A) (a : Desk C A × List Report) : Type 0 where
+pub record Desks {C A : Type 0} (step : Step C) (d : LocalView C A) (a : LocalView C A × List TraceEntry) : Type 0 where
   pub work : Option (Work C)
   pub came : List Parcel
   pub gone : List Parcel
   pub moved : Moved step d.pe a.0.pe a.1 work came gone
   pub passes : (g : Weight) (k : _) → sum_by (of_queue g k) a.0.queues + of_queue g k came ≡ sum_by (of_queue g k) d.queues + of_queue g k gone
 
-module _ {C A : Type 0} (step : Step C) (pack : C → List ℕ) (unpack : List ℕ → Result (C × ℕ) PupError) (d : Desk C A) where
+module _ {C A : Type 0} (step : Step C) (pack : C → List ℕ) (unpack : List ℕ → Result (C × ℕ) PupError) (d : LocalView C A) where
   -- a step that passes no parcel
-  pub local : (pe : PeView C) (words : List ℕ) (board : BoardState A) (rs : List Report) → Makes step pack d.pe (pe, rs) → Desks step d (record { pe = pe; queues = d.queues; words = words; board = board }, rs)
+  pub local : (pe : PeView C) (words : List ℕ) (board : BoardState A) (rs : List TraceEntry) → Makes step pack d.pe (pe, rs) → Desks step d (record { pe = pe; queues = d.queues; words = words; board = board }, rs)
   local pe words board rs m = record { work = m.0; came = []; gone = []; moved = m.1; passes = λ g k. refl }
 
-  pub then_desk : {X : Type 0} (o : Option X) (f : X → Desk C A × List Report) (a : Desk C A × List Report) → option_and_then (λ x. Some (f x)) o ≡ Some a → ((x : X) → o ≡ Some x → Desks step d (f x)) → Desks step d a
-  then_desk None f a h k = cc
-  then_desk (Some x) f a h k = subst (λ (v : Desk C A × List Report). Desks step d v) (some_same (f x) a h) (k x refl)
+  pub then_local : {X : Type 0} (o : Option X) (f : X → LocalView C A × List TraceEntry) (a : LocalView C A × List TraceEntry) → option_and_then (λ x. Some (f x)) o ≡ Some a → ((x : X) → o ≡ Some x → Desks step d (f x)) → Desks step d a
+  then_local None f a h k = cc
+  then_local (Some x) f a h k = subst (λ (v : LocalView C A × List TraceEntry). Desks step d v) (some_same (f x) a h) (k x refl)
 
-  pub acted_makes : (a : PeView C × List Report) → acted step pack unpack d.pe ≡ Some a → Makes step pack d.pe a
-  acted_makes a h = by (acting step pack unpack d.pe) refl h
+  pub act_event_makes : (a : PeView C × List TraceEntry) → act_event step pack unpack d.pe ≡ Some a → Makes step pack d.pe a
+  act_event_makes a h = by (acting step pack unpack d.pe) refl h
     where
-      by : (o : Option (Acting C)) → acting step pack unpack d.pe ≡ o → option_map (λ (x : Acting C). (x.pe, x.reports)) o ≡ Some a → Makes step pack d.pe a
+      by : (o : Option (Acting C)) → acting step pack unpack d.pe ≡ o → option_map (λ (x : Acting C). (x.pe, x.trace)) o ≡ Some a → Makes step pack d.pe a
       by None at s = cc
-      by (Some x) at s = subst (λ (v : PeView C × List Report). Makes step pack d.pe v) (some_same (x.pe, x.reports) a s) (acting_moved step pack unpack d.pe x at)
+      by (Some x) at s = subst (λ (v : PeView C × List TraceEntry). Makes step pack d.pe v) (some_same (x.pe, x.trace) a s) (acting_moved step pack unpack d.pe x at)
 
-  pub delivered_desk : (p : ℕ) (a : PeView C × List (List Parcel)) → delivered_from d.pe d.queues p ≡ Some a → Desks step d (record { pe = a.0; queues = a.1; words = d.words; board = d.board }, [])
-  delivered_desk p a h =
+  pub delivered_local : (p : ℕ) (a : PeView C × List (List Parcel)) → deliver_event d.pe d.queues p ≡ Some a → Desks step d (record { pe = a.0; queues = a.1; words = d.words; board = d.board }, [])
+  delivered_local p a h =
       option_and_then_some (λ queue. option_and_then (λ after. Some (after.0, slice_set d.queues p after.1)) (delivered d.pe queue)) (slice_get d.queues p) a h
       (λ queue there s.
       option_and_then_some (λ (after : PeView C × List Parcel). Some (after.0, slice_set d.queues p after.1)) (delivered d.pe queue) a s
@@ -177,19 +177,19 @@ module _ {C A : Type 0} (step : Step C) (pack : C → List ℕ) (unpack : List �
             omega (arith, x, y, z);
       })))
 
-  pub flushed_desk : (a : PeView C × List (List Parcel)) → flushed d.pe d.queues ≡ Some a → Desks step d (record { pe = a.0; queues = a.1; words = d.words; board = d.board }, [])
-  flushed_desk a h = let m = flushed_makes step d.pe d.queues a h in record { work = None; came = []; gone = m.parcel ∷ []; moved = m.moved; passes = m.passes }
+  pub flush_event_local : (a : PeView C × List (List Parcel)) → flush_event d.pe d.queues ≡ Some a → Desks step d (record { pe = a.0; queues = a.1; words = d.words; board = d.board }, [])
+  flush_event_local a h = let m = flush_event_makes step d.pe d.queues a h in record { work = None; came = []; gone = m.parcel ∷ []; moved = m.moved; passes = m.passes }
 
-  pub desk_makes : (event : Event) (a : Desk C A × List Report) → at_desk step pack unpack event d ≡ Some a → Desks step d a
-  desk_makes (Start p e) a h = then_desk (started step pack d.pe e) (λ after. (record d { pe = after.0 }, after.1)) a h (λ after is. local after.0 d.words d.board after.1 (started_makes step pack d.pe e after is))
-  desk_makes (Look p) a h = then_desk (looked_up d.pe d.words) (λ after. (record d { pe = after }, [])) a h (λ after is. local after d.words d.board [] (None, looked_up_makes step d.pe d.words after is))
-  desk_makes (Flush p) a h = then_desk (flushed d.pe d.queues) (λ after. (record d { pe = after.0; queues = after.1 }, [])) a h (λ after is. flushed_desk after is)
-  desk_makes (Deliver p) a h = then_desk (delivered_from d.pe d.queues p) (λ after. (record d { pe = after.0; queues = after.1 }, [])) a h (λ after is. delivered_desk p after is)
-  desk_makes (Act p) a h = then_desk (acted step pack unpack d.pe) (λ after. (record d { pe = after.0 }, after.1)) a h (λ after is. local after.0 d.words d.board after.1 (acted_makes after is))
-  desk_makes (Hand p) a h = then_desk (handed_in d.pe d.board) (λ after. (record d { pe = after.0; board = after.1 }, after.2)) a h (λ after is. local after.0 d.words after.1 after.2 (None, handed_in_makes step d.pe d.board after is))
-  desk_makes Decide a h = cc
-  desk_makes (Depart p e) a h = then_desk (left step pack p d.pe d.words d.board e) (λ after. (record d { pe = after.0; words = after.1 }, after.2)) a h (λ after is. local after.0 after.1 d.board after.2 (None, left_makes step pack p d.pe d.words d.board e after is))
-  desk_makes (Resume p e) a h = then_desk (went_on step pack p d.pe d.board e) (λ after. (record d { pe = after.0 }, after.1)) a h (λ after is. local after.0 d.words d.board after.1 (went_on_makes step pack p d.pe d.board e after is))
+  pub local_makes : (event : Event) (a : LocalView C A × List TraceEntry) → local_step step pack unpack event d ≡ Some a → Desks step d a
+  local_makes (Start p e) a h = then_local (start_event step pack d.pe e) (λ after. (record d { pe = after.0 }, after.1)) a h (λ after is. local after.0 d.words d.board after.1 (start_event_makes step pack d.pe e after is))
+  local_makes (Look p) a h = then_local (look_event d.pe d.words) (λ after. (record d { pe = after }, [])) a h (λ after is. local after d.words d.board [] (None, look_event_makes step d.pe d.words after is))
+  local_makes (Flush p) a h = then_local (flush_event d.pe d.queues) (λ after. (record d { pe = after.0; queues = after.1 }, [])) a h (λ after is. flush_event_local after is)
+  local_makes (Deliver p) a h = then_local (deliver_event d.pe d.queues p) (λ after. (record d { pe = after.0; queues = after.1 }, [])) a h (λ after is. delivered_local p after is)
+  local_makes (Act p) a h = then_local (act_event step pack unpack d.pe) (λ after. (record d { pe = after.0 }, after.1)) a h (λ after is. local after.0 d.words d.board after.1 (act_event_makes after is))
+  local_makes (Report p) a h = then_local (report_event d.pe d.board) (λ after. (record d { pe = after.0; board = after.1 }, after.2)) a h (λ after is. local after.0 d.words after.1 after.2 (None, report_event_makes step d.pe d.board after is))
+  local_makes Decide a h = cc
+  local_makes (Depart p e) a h = then_local (depart_event step pack p d.pe d.words d.board e) (λ after. (record d { pe = after.0; words = after.1 }, after.2)) a h (λ after is. local after.0 after.1 d.board after.2 (None, depart_event_makes step pack p d.pe d.words d.board e after is))
+  local_makes (Resume p e) a h = then_local (resume_event step pack p d.pe d.board e) (λ after. (record d { pe = after.0 }, after.1)) a h (λ after is. local after.0 d.words d.board after.1 (resume_event_makes step pack p d.pe d.board e after is))
 
 -- ---- what each event makes of the world
 
@@ -203,19 +203,19 @@ module _ {C A : Type 0} (step : Step C) (pack : C → List ℕ) (unpack : List �
 
   pub enabled_good : (event : Event) (p : ℕ) → Good (or_nothing w (enabled step pack unpack w event p))
   enabled_good event p =
-      bound (slice_get w.pes p) (λ pe. option_and_then (λ after. Some (with_desk w p after.0, after.1)) (at_desk step pack unpack event (desk w pe)))
-      (λ pe at. bound (at_desk step pack unpack event (desk w pe)) (λ after. Some (with_desk w p after.0, after.1))
+      bound (slice_get w.pes p) (λ pe. option_and_then (λ after. Some (with_local w p after.0, after.1)) (local_step step pack unpack event (local_view w pe)))
+      (λ pe at. bound (local_step step pack unpack event (local_view w pe)) (λ after. Some (with_local w p after.0, after.1))
       (λ after h.
-      let m = desk_makes step pack unpack (desk w pe) event after h in
+      let m = local_makes step pack unpack (local_view w pe) event after h in
       stepped step n w p pe after.0.pe after.0.queues after.0.words after.0.board after.1 m.work m.came m.gone are at m.moved m.passes))
 
   pub decided_good : (a : After C A) → MayDecide w.board a.0.board a.1 → a.0 ≡ record w { board = a.0.board } → Good a
   decided_good a (inl d) alone =
-      subst (λ (v : List Report). Stepped step n w a.0 v) (sym d.told)
+      subst (λ (v : List TraceEntry). Stepped step n w a.0 v) (sym d.traced)
       (subst (λ (v : WorldView C A). Stepped step n w v (Decided w.board.database.round ∷ [])) (sym alone)
       (stays step n w w.words a.0.board (Decided w.board.database.round ∷ []) are refl refl))
   decided_good a (inr t) alone =
-      subst (λ (v : List Report). Stepped step n w a.0 v) (sym t.quiet)
+      subst (λ (v : List TraceEntry). Stepped step n w a.0 v) (sym t.quiet)
       (subst (λ (v : WorldView C A). Stepped step n w v []) (sym alone)
       (stays step n w w.words a.0.board [] are refl refl))
 

@@ -10,13 +10,13 @@ use Rattle.at_sync.specs.Boards.{BoardState, after_report, after_finish}
 use Rattle.lb_database.specs.Measuring.{elements}
 use Rattle.chares.specs.declared.note.Note.{Note}
 use Rattle.chares.specs.declared.note.Note.TheVariants.{Sync, Finish}
-use Rattle.chares.specs.declared.report.Report.{Report}
+use Rattle.chares.specs.declared.trace_entry.TraceEntry.{TraceEntry}
 use Rattle.chares.specs.Steps.{Step}
 use Rattle.pe_state.specs.Histories.{IsParcelHistory, HasHistories}
 use Rattle.pe_state.specs.Pes.{PeView, Parcel, Acting, front_parcel, front_address, wanted, looked, received, gave_up, noted, acting}
 use Rattle.pe_state.specs.Rooms.{found}
 use Rattle.pe_state.proofs.Histories.{looked_holds, resumed_holds, gave_up_holds, front_holds, received_holds, acting_holds, noted_holds, departed_holds}
-use Rattle.rts_core.specs.Events.{where_true, looked_up, flushed, delivered, delivered_from, handed_in, board_after, note_reports, started, left, went_on, acted, due, front_of}
+use Rattle.rts_core.specs.Events.{where_true, look_event, flush_event, delivered, deliver_event, report_event, board_after, note_entries, start_event, depart_event, resume_event, act_event, due, front_of}
 use Rattle.rts_core.specs.Parts.{or_same}
 
 -- what a test lets through
@@ -44,9 +44,9 @@ one_of_all {X} P xs i all = by (slice_get xs i) refl
 
 module _ {C : Type 0} (step : Step C) (fits : C → Type 0) (pack : C → List ℕ) (opened : List C) where
   -- Look
-  pub looked_up_holds : (pe : PeView C) (words : List ℕ) → HasHistories step fits pack opened pe → HasHistories step fits pack opened (or_same pe (looked_up pe words))
-  looked_up_holds pe words h =
-      or_same_holds (HasHistories step fits pack opened) pe (looked_up pe words) h (by_wanted (wanted pe))
+  pub look_event_holds : (pe : PeView C) (words : List ℕ) → HasHistories step fits pack opened pe → HasHistories step fits pack opened (or_same pe (look_event pe words))
+  look_event_holds pe words h =
+      or_same_holds (HasHistories step fits pack opened) pe (look_event pe words) h (by_wanted (wanted pe))
     where
       by_word : (o : Option ℕ) → IfSome (option_and_then (λ (word : ℕ). Some (looked pe word)) o) (HasHistories step fits pack opened)
       by_word None = tt
@@ -57,20 +57,20 @@ module _ {C : Type 0} (step : Step C) (fits : C → Type 0) (pack : C → List �
       by_wanted (Some e) = by_word (slice_get words e)
 
   -- Start
-  pub started_holds : (pe : PeView C) (e : ℕ) → HasHistories step fits pack opened pe → IfSome (started step pack pe e) (λ after. HasHistories step fits pack opened after.0)
-  started_holds pe e h =
+  pub start_event_holds : (pe : PeView C) (e : ℕ) → HasHistories step fits pack opened pe → IfSome (start_event step pack pe e) (λ after. HasHistories step fits pack opened after.0)
+  start_event_holds pe e h =
       and_then_holds (λ after. HasHistories step fits pack opened after.0) _ (found e pe.room)
       (λ el _. where_holds (λ after. HasHistories step fits pack opened after.0) _ _ (resumed_holds step fits pack opened pe e 0 h))
 
   -- Resume
-  pub went_on_holds : {A : Type 0} (p : ℕ) (pe : PeView C) (b : BoardState A) (e : ℕ) → HasHistories step fits pack opened pe → IfSome (went_on step pack p pe b e) (λ after. HasHistories step fits pack opened after.0)
-  went_on_holds p pe b e h =
+  pub resume_event_holds : {A : Type 0} (p : ℕ) (pe : PeView C) (b : BoardState A) (e : ℕ) → HasHistories step fits pack opened pe → IfSome (resume_event step pack p pe b e) (λ after. HasHistories step fits pack opened after.0)
+  resume_event_holds p pe b e h =
       and_then_holds (λ after. HasHistories step fits pack opened after.0) _ (due pe b e)
       (λ at _. where_holds (λ after. HasHistories step fits pack opened after.0) _ _ (resumed_holds step fits pack opened pe e at.0 h))
 
   -- Flush
-  pub flushed_holds : (pe : PeView C) (queues : List (List Parcel)) → HasHistories step fits pack opened pe → All (All (IsParcelHistory step fits pack opened)) queues → IfSome (flushed pe queues) (λ after. HasHistories step fits pack opened after.0 × All (All (IsParcelHistory step fits pack opened)) after.1)
-  flushed_holds pe queues h k = by_address (front_address pe.outbox)
+  pub flush_event_holds : (pe : PeView C) (queues : List (List Parcel)) → HasHistories step fits pack opened pe → All (All (IsParcelHistory step fits pack opened)) queues → IfSome (flush_event pe queues) (λ after. HasHistories step fits pack opened after.0 × All (All (IsParcelHistory step fits pack opened)) after.1)
+  flush_event_holds pe queues h k = by_address (front_address pe.outbox)
     where
       by_queue : (q : ℕ) (parcel : Parcel) (o : Option (List Parcel)) → IsParcelHistory step fits pack opened parcel → IfSome o (All (IsParcelHistory step fits pack opened)) → IfSome (option_and_then (λ (queue : List Parcel). Some (gave_up pe, slice_set queues q (queue ++ parcel ∷ []))) o) (λ (after : PeView C × List (List Parcel)). HasHistories step fits pack opened after.0 × All (All (IsParcelHistory step fits pack opened)) after.1)
       by_queue q parcel None p all = tt
@@ -94,8 +94,8 @@ module _ {C : Type 0} (step : Step C) (fits : C → Type 0) (pack : C → List �
       by [] true all = tt
       by (x ∷ xs) true all = (received_holds step fits pack opened pe x h (All-head (IsParcelHistory step fits pack opened) x xs all), All-tail (IsParcelHistory step fits pack opened) x xs all)
 
-  pub delivered_from_holds : (pe : PeView C) (queues : List (List Parcel)) (p : ℕ) → HasHistories step fits pack opened pe → All (All (IsParcelHistory step fits pack opened)) queues → IfSome (delivered_from pe queues p) (λ after. HasHistories step fits pack opened after.0 × All (All (IsParcelHistory step fits pack opened)) after.1)
-  delivered_from_holds pe queues p h k = by_queue (slice_get queues p) (one_of_all (All (IsParcelHistory step fits pack opened)) queues p k)
+  pub deliver_event_holds : (pe : PeView C) (queues : List (List Parcel)) (p : ℕ) → HasHistories step fits pack opened pe → All (All (IsParcelHistory step fits pack opened)) queues → IfSome (deliver_event pe queues p) (λ after. HasHistories step fits pack opened after.0 × All (All (IsParcelHistory step fits pack opened)) after.1)
+  deliver_event_holds pe queues p h k = by_queue (slice_get queues p) (one_of_all (All (IsParcelHistory step fits pack opened)) queues p k)
     where
       by_delivered : (o : Option (PeView C × List Parcel)) → IfSome o (λ after. HasHistories step fits pack opened after.0 × All (IsParcelHistory step fits pack opened) after.1) → IfSome (option_and_then (λ (after : PeView C × List Parcel). Some (after.0, slice_set queues p after.1)) o) (λ (after : PeView C × List (List Parcel)). HasHistories step fits pack opened after.0 × All (All (IsParcelHistory step fits pack opened)) after.1)
       by_delivered None d = tt
@@ -109,10 +109,10 @@ module _ {C : Type 0} (step : Step C) (fits : C → Type 0) (pack : C → List �
       (trip : (s : C) (rest : List ℕ) → fits s → counted s → length (pack s) ≤ STATE_BYTES → unpack (pack s ++ rest) ≡ Ok (s, length (pack s)))
       (packs : (s : C) → fits s → counted s × (length (pack s) ≤ STATE_BYTES)) where
     -- Act
-    pub acted_holds : (pe : PeView C) → HasHistories step fits pack opened pe → IfSome (acted step pack unpack pe) (λ after. HasHistories step fits pack opened after.0)
-    acted_holds pe h = by (acting step pack unpack pe) (acting_holds step fits pack opened counted unpack trip packs pe h)
+    pub act_event_holds : (pe : PeView C) → HasHistories step fits pack opened pe → IfSome (act_event step pack unpack pe) (λ after. HasHistories step fits pack opened after.0)
+    act_event_holds pe h = by (acting step pack unpack pe) (acting_holds step fits pack opened counted unpack trip packs pe h)
       where
-        by : (o : Option (Acting C)) → IfSome o (λ a. HasHistories step fits pack opened a.pe) → IfSome {T = PeView C × List Report} (option_map (λ (a : Acting C). (a.pe, a.reports)) o) (λ after. HasHistories step fits pack opened after.0)
+        by : (o : Option (Acting C)) → IfSome o (λ a. HasHistories step fits pack opened a.pe) → IfSome {T = PeView C × List TraceEntry} (option_map (λ (a : Acting C). (a.pe, a.trace)) o) (λ after. HasHistories step fits pack opened after.0)
         by None k = tt
         by (Some a) k = k
 
@@ -125,16 +125,16 @@ board_after_kept {A} b (Finish e) =
 
 -- After the step of a PE, whether it was enabled or not.
 module _ {C : Type 0} (step : Step C) (fits : C → Type 0) (pack : C → List ℕ) (opened : List C) where
-  pub pe_kept : {V E : Type 0} (pe pe' : PeView C) (o : Option (PeView C × List Report)) (r : Result V E) (items : V → List Report) → HasHistories step fits pack opened pe → IfSome o (λ after. HasHistories step fits pack opened after.0) → IfOk r (λ v. (pe', items v) ≡ or_same (pe, []) o) → OnErr r (pe' ≡ pe) → HasHistories step fits pack opened pe'
+  pub pe_kept : {V E : Type 0} (pe pe' : PeView C) (o : Option (PeView C × List TraceEntry)) (r : Result V E) (items : V → List TraceEntry) → HasHistories step fits pack opened pe → IfSome o (λ after. HasHistories step fits pack opened after.0) → IfOk r (λ v. (pe', items v) ≡ or_same (pe, []) o) → OnErr r (pe' ≡ pe) → HasHistories step fits pack opened pe'
   pe_kept pe pe' o (Ok v) items h k ok err =
-      subst (λ (x : PeView C × List Report). HasHistories step fits pack opened x.0) (sym ok)
-      (or_same_holds (λ (x : PeView C × List Report). HasHistories step fits pack opened x.0) (pe, []) o h k)
+      subst (λ (x : PeView C × List TraceEntry). HasHistories step fits pack opened x.0) (sym ok)
+      (or_same_holds (λ (x : PeView C × List TraceEntry). HasHistories step fits pack opened x.0) (pe, []) o h k)
   pe_kept pe pe' o (Err e) items h k ok err = subst (λ (x : PeView C). HasHistories step fits pack opened x) (sym err) h
 
-  pub words_kept : {V E : Type 0} (pe pe' : PeView C) (words words' : List ℕ) (o : Option (PeView C × List ℕ × List Report)) (r : Result V E) (items : V → List Report) → HasHistories step fits pack opened pe → IfSome o (λ after. HasHistories step fits pack opened after.0) → IfOk r (λ v. (pe', words', items v) ≡ or_same (pe, words, []) o) → OnErr r (pe' ≡ pe) → HasHistories step fits pack opened pe'
+  pub words_kept : {V E : Type 0} (pe pe' : PeView C) (words words' : List ℕ) (o : Option (PeView C × List ℕ × List TraceEntry)) (r : Result V E) (items : V → List TraceEntry) → HasHistories step fits pack opened pe → IfSome o (λ after. HasHistories step fits pack opened after.0) → IfOk r (λ v. (pe', words', items v) ≡ or_same (pe, words, []) o) → OnErr r (pe' ≡ pe) → HasHistories step fits pack opened pe'
   words_kept pe pe' words words' o (Ok v) items h k ok err =
-      subst (λ (x : PeView C × List ℕ × List Report). HasHistories step fits pack opened x.0) (sym ok)
-      (or_same_holds (λ (x : PeView C × List ℕ × List Report). HasHistories step fits pack opened x.0) (pe, words, []) o h k)
+      subst (λ (x : PeView C × List ℕ × List TraceEntry). HasHistories step fits pack opened x.0) (sym ok)
+      (or_same_holds (λ (x : PeView C × List ℕ × List TraceEntry). HasHistories step fits pack opened x.0) (pe, words, []) o h k)
   words_kept pe pe' words words' o (Err e) items h k ok err = subst (λ (x : PeView C). HasHistories step fits pack opened x) (sym err) h
 
   pub queues_kept : (pe pe' : PeView C) (queues queues' : List (List Parcel)) (o : Option (PeView C × List (List Parcel))) → HasHistories step fits pack opened pe → All (All (IsParcelHistory step fits pack opened)) queues → IfSome o (λ after. HasHistories step fits pack opened after.0 × All (All (IsParcelHistory step fits pack opened)) after.1) → (pe', queues') ≡ or_same (pe, queues) o → HasHistories step fits pack opened pe' × All (All (IsParcelHistory step fits pack opened)) queues'
@@ -142,24 +142,24 @@ module _ {C : Type 0} (step : Step C) (fits : C → Type 0) (pack : C → List �
       subst (λ (x : PeView C × List (List Parcel)). HasHistories step fits pack opened x.0 × All (All (IsParcelHistory step fits pack opened)) x.1) (sym ok)
       (or_same_holds (λ (x : PeView C × List (List Parcel)). HasHistories step fits pack opened x.0 × All (All (IsParcelHistory step fits pack opened)) x.1) (pe, queues) o (h, parcels) k)
 
-  handed_in_holds : {A : Type 0} (pe : PeView C) (b : BoardState A) → HasHistories step fits pack opened pe → IfSome (handed_in pe b) (λ after. HasHistories step fits pack opened after.0 × (elements after.1.database ≡ elements b.database) × (after.1.pes ≡ b.pes))
-  handed_in_holds {A} pe b h = by_note (slice_get pe.notes 0)
+  report_event_holds : {A : Type 0} (pe : PeView C) (b : BoardState A) → HasHistories step fits pack opened pe → IfSome (report_event pe b) (λ after. HasHistories step fits pack opened after.0 × (elements after.1.database ≡ elements b.database) × (after.1.pes ≡ b.pes))
+  report_event_holds {A} pe b h = by_note (slice_get pe.notes 0)
     where
-      by_board : (note : Note) (o : Option (BoardState A)) → IfSome o (λ after. (elements after.database ≡ elements b.database) × (after.pes ≡ b.pes)) → IfSome (option_and_then (λ (after : BoardState A). Some (noted pe, after, note_reports note)) o) (λ (after : PeView C × BoardState A × List Report). HasHistories step fits pack opened after.0 × (elements after.1.database ≡ elements b.database) × (after.1.pes ≡ b.pes))
+      by_board : (note : Note) (o : Option (BoardState A)) → IfSome o (λ after. (elements after.database ≡ elements b.database) × (after.pes ≡ b.pes)) → IfSome (option_and_then (λ (after : BoardState A). Some (noted pe, after, note_entries note)) o) (λ (after : PeView C × BoardState A × List TraceEntry). HasHistories step fits pack opened after.0 × (elements after.1.database ≡ elements b.database) × (after.1.pes ≡ b.pes))
       by_board note None k = tt
       by_board note (Some after) k = (noted_holds step fits pack opened pe h, k.0, k.1)
 
-      by_note : (o : Option Note) → IfSome (option_and_then (λ (note : Note). option_and_then (λ (after : BoardState A). Some (noted pe, after, note_reports note)) (board_after b note)) o) (λ (after : PeView C × BoardState A × List Report). HasHistories step fits pack opened after.0 × (elements after.1.database ≡ elements b.database) × (after.1.pes ≡ b.pes))
+      by_note : (o : Option Note) → IfSome (option_and_then (λ (note : Note). option_and_then (λ (after : BoardState A). Some (noted pe, after, note_entries note)) (board_after b note)) o) (λ (after : PeView C × BoardState A × List TraceEntry). HasHistories step fits pack opened after.0 × (elements after.1.database ≡ elements b.database) × (after.1.pes ≡ b.pes))
       by_note None = tt
       by_note (Some note) = by_board note (board_after b note) (board_after_kept b note)
 
-  pub board_kept : {A : Type 0} (pe pe' : PeView C) (b b' : BoardState A) (reports : List Report) → HasHistories step fits pack opened pe → (pe', b', reports) ≡ or_same (pe, b, []) (handed_in pe b) → HasHistories step fits pack opened pe' × (elements b'.database ≡ elements b.database) × (b'.pes ≡ b.pes)
+  pub board_kept : {A : Type 0} (pe pe' : PeView C) (b b' : BoardState A) (reports : List TraceEntry) → HasHistories step fits pack opened pe → (pe', b', reports) ≡ or_same (pe, b, []) (report_event pe b) → HasHistories step fits pack opened pe' × (elements b'.database ≡ elements b.database) × (b'.pes ≡ b.pes)
   board_kept {A} pe pe' b b' reports h ok =
-      subst (λ (x : PeView C × BoardState A × List Report). HasHistories step fits pack opened x.0 × (elements x.1.database ≡ elements b.database) × (x.1.pes ≡ b.pes)) (sym ok)
-      (or_same_holds (λ (x : PeView C × BoardState A × List Report). HasHistories step fits pack opened x.0 × (elements x.1.database ≡ elements b.database) × (x.1.pes ≡ b.pes)) (pe, b, []) (handed_in pe b) (h, refl, refl) (handed_in_holds pe b h))
+      subst (λ (x : PeView C × BoardState A × List TraceEntry). HasHistories step fits pack opened x.0 × (elements x.1.database ≡ elements b.database) × (x.1.pes ≡ b.pes)) (sym ok)
+      (or_same_holds (λ (x : PeView C × BoardState A × List TraceEntry). HasHistories step fits pack opened x.0 × (elements x.1.database ≡ elements b.database) × (x.1.pes ≡ b.pes)) (pe, b, []) (report_event pe b) (h, refl, refl) (report_event_holds pe b h))
 
   -- Depart
-  pub left_holds : {A : Type 0} (p : ℕ) (pe : PeView C) (words : List ℕ) (b : BoardState A) (e : ℕ) → HasHistories step fits pack opened pe → IfSome (found e pe.room) (λ el. fits el.chare) → IfSome (left step pack p pe words b e) (λ after. HasHistories step fits pack opened after.0)
-  left_holds p pe words b e h f =
+  pub depart_event_holds : {A : Type 0} (p : ℕ) (pe : PeView C) (words : List ℕ) (b : BoardState A) (e : ℕ) → HasHistories step fits pack opened pe → IfSome (found e pe.room) (λ el. fits el.chare) → IfSome (depart_event step pack p pe words b e) (λ after. HasHistories step fits pack opened after.0)
+  depart_event_holds p pe words b e h f =
       and_then_holds (λ after. HasHistories step fits pack opened after.0) _ (due pe b e)
       (λ at _. where_holds (λ after. HasHistories step fits pack opened after.0) _ _ (departed_holds step fits pack opened pe e at.1 h f))

@@ -1,7 +1,8 @@
 pub mod Acts
 pub mod Counts
+pub mod EachElement
 pub mod EventSteps
-pub mod Handlers
+pub mod HandlerSteps
 pub mod Histories
 pub mod Listings
 pub mod LocalAccount
@@ -13,10 +14,12 @@ pub mod Moves
 pub mod Notes
 pub mod OpeningWeights
 pub mod Openings
+pub mod Rooms
 pub mod RunAccount
 pub mod RunLaws
 pub mod Sent
 pub mod Steps
+pub mod Turns
 pub mod Weights
 pub mod WorldAccount
 pub mod WorldSteps

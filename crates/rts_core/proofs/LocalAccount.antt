@@ -18,7 +18,7 @@ use Rattle.pe_state.specs.Rooms.{found, IsKeyed}
 use Rattle.rts_core.specs.Accounts.{message}
 use Rattle.rts_core.specs.Calls.{Call, MayCall, IsRunning, posted_as, came_in, gone_in, sent_in, after_call, with_call}
 use Rattle.pe_state.specs.Histories.{HasHistories}
-use Rattle.rts_core.specs.Ledgers.{Ledger, no_ledger, entered_in, IsBalanced, IsSteady, IsLocalAccount}
+use Rattle.rts_core.specs.Ledgers.{Ledger, no_ledger, entered_in, AddsUp, IsSteady, IsLocalAccount}
 use Rattle.rts_core.specs.Places.{Life, lives_in, lives_at, letters_of_entry, letters_of_life, sends_of}
 use Rattle.rts_core.specs.Worlds.{opening_pes, opening_world}
 use Rattle.rts_core.proofs.Weights.{Weight, weigh, of_pe, of_queue, sum_by-flat_map}
@@ -134,7 +134,7 @@ module _ {C : Type 0} (step : Step C) (pes : ℕ) (chares : List C) (some : 1 �
   opening_local = all_of (λ pe. IsLocalAccount step chares pe pe no_ledger) states (λ i pe at. record {
     same_me = refl;
     letters = record {
-      balance = λ g.
+      conserved = λ g.
           let b = zero_each (λ (x : PeView C). of_pe no_letter (in_journal g) x) states (states_weigh no_letter (in_journal g) ∙ unlived (in_journal g) (λ e. refl) 0 chares) i pe at in
           let c = zero_each (λ (x : PeView C). of_pe g no_life x) states (states_weigh g no_life ∙ unlived no_life (λ e. refl) 0 chares) i pe at in
           let d = pe_all g pe in

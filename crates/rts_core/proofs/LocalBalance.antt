@@ -4,16 +4,16 @@ use Rattle.std.specs.List.{flat_map, range_with_len}
 use Rattle.std.proofs.lemmas.List.{map-append}
 use Rattle.std.proofs.lemmas.List.Sums.{sum_by-append}
 use Rattle.std.proofs.lemmas.Grind.{flat_map-append}
-use Rattle.chares.specs.declared.report.Report.{Report}
-use Rattle.chares.specs.declared.report.Report.TheVariants as Tells
+use Rattle.chares.specs.declared.trace_entry.TraceEntry.{TraceEntry}
+use Rattle.chares.specs.declared.trace_entry.TraceEntry.TheVariants as Trace
 use Rattle.chares.specs.Letters.{LetterView}
 use Rattle.chares.specs.Steps.{Step}
 use Rattle.pe_state.specs.Pes.{PeView, Parcel, front_parcel, received, looked, gave_up, handed_back, noted, departed}
-use Rattle.rts_core.specs.Ledgers.{Ledger, entered_in, all_letters_in, all_letters_at, IsBalanced}
+use Rattle.rts_core.specs.Ledgers.{Ledger, entered_in, all_letters_in, all_letters_at, AddsUp}
 use Rattle.rts_core.specs.Places.{Life, letters_in, lives_in, letters_at, lives_at, letters_of_life}
 use Rattle.rts_core.proofs.Weights.{Weight, weigh, of_parcel, of_pe, of_queue, sum_by-flat_map, sum_by-same, sum_by-both}
 use Rattle.rts_core.proofs.Moves.{Work, numbered, work_letters, work_sends, before, after, posted, Moved, received_moved, looked_moved, gave_up_moved, handed_back_moved, noted_moved}
-use Rattle.rts_core.proofs.Handlers.{departed_moved}
+use Rattle.rts_core.proofs.HandlerSteps.{departed_moved}
 use Rattle.rts_core.proofs.Listings.{no_life, no_letter, sum_zero, before_none, after_none, parcel_letters, parcel_lives, pe_letters, pe_lives}
 use Rattle.rts_core.proofs.Sent.{journal_more}
 
@@ -75,14 +75,14 @@ ids_join me count old ss h =
 
 module _ {C : Type 0} (step : Step C) where
   -- a step of the PE keeps the account
-  pub balance_moved : (pe pe' : PeView C) (rs : List Report) (work : Option (Work C)) (came gone : List Parcel) (ledger : Ledger) → Moved step pe pe' rs work came gone → IsBalanced pe ledger → IsBalanced pe' (entered_in ledger came gone (posted step pe work))
+  pub balance_moved : (pe pe' : PeView C) (rs : List TraceEntry) (work : Option (Work C)) (came gone : List Parcel) (ledger : Ledger) → Moved step pe pe' rs work came gone → AddsUp pe ledger → AddsUp pe' (entered_in ledger came gone (posted step pe work))
   balance_moved pe pe' rs work came gone ledger m h =
       record {
-        balance = λ g.
+        conserved = λ g.
             let a = m.weighs g no_life in
             let b = m.weighs no_letter (in_journal g) in
             let c : after (in_journal g) work ≡ before (in_journal g) work + sum_by (weigh g) (work_letters work) = work_journal g work in
-            let d : sum_by (weigh g) (all_letters_at pe) + sum_by (weigh g) (flat_map all_letters_in ledger.gone) ≡ sum_by (weigh g) (flat_map all_letters_in ledger.came) + sum_by (weigh g) ledger.posted = h.balance g in
+            let d : sum_by (weigh g) (all_letters_at pe) + sum_by (weigh g) (flat_map all_letters_in ledger.gone) ≡ sum_by (weigh g) (flat_map all_letters_in ledger.came) + sum_by (weigh g) ledger.posted = h.conserved g in
             let e = pe_all g pe in
             let f = pe_all g pe' in
             let i = parcels_all g came in

@@ -5,25 +5,25 @@ use Rattle.std.specs.Option.{option_map_or, option_to_list}
 use Rattle.std.proofs.lemmas.List.Sums.{sum_by-append}
 use Rattle.chares.specs.declared.carried.Carried.TheVariants.{Letter, Element}
 use Rattle.chares.specs.declared.entry.Entry.TheVariants.{Letter as OfLetter, Resumption}
-use Rattle.chares.specs.declared.report.Report.{Report}
-use Rattle.chares.specs.declared.report.Report.TheVariants as Tells
+use Rattle.chares.specs.declared.trace_entry.TraceEntry.{TraceEntry}
+use Rattle.chares.specs.declared.trace_entry.TraceEntry.TheVariants as Trace
 use Rattle.chares.specs.Elements.{ElementView, PackedView}
 use Rattle.chares.specs.Letters.{LetterView}
 use Rattle.chares.specs.Steps.{Step}
 use Rattle.pup_pack.specs.declared.error.PupError.{PupError}
-use Rattle.pe_state.specs.Pes.{PeView, Parcel, Item, Acting, front_parcel, received, looked, gave_up, handed_back, noted, departed, resumed, resume_reports, executed, on_letter, passing, shelving, forwarding, installed, installing, on_element, on_parcel, acting_on, acting, pe_after}
+use Rattle.pe_state.specs.Pes.{PeView, Parcel, Item, Acting, front_parcel, received, looked, gave_up, handed_back, noted, departed, resumed, resume_entries, executed, on_letter, passing, shelving, forwarding, installed, installing, on_element, on_parcel, acting_on, acting, pe_after}
 use Rattle.pe_state.specs.Rooms.{found, sends_in}
 use Rattle.pe_state.specs.declared.acted.Acted.TheVariants.{Installed as IsInstalled}
 use Rattle.rts_core.specs.Calls.{Call, Place, Receive, HandBack, Look, Send, NoteDone, Act, Depart, Resume, Refused, MayCall, IsRunning, came_in, gone_in, sent_on, sent_acting, sent_in, after_call}
 use Rattle.rts_core.specs.Places.{Life}
 use Rattle.rts_core.proofs.Weights.{Weight, of_item}
 use Rattle.rts_core.proofs.Moves.{Work, work_sends, Moved, quiet, received_moved, looked_moved, gave_up_moved, handed_back_moved, noted_moved}
-use Rattle.rts_core.proofs.Handlers.{departed_moved, resumed_moved}
+use Rattle.rts_core.proofs.HandlerSteps.{departed_moved, resumed_moved}
 use Rattle.rts_core.proofs.Acts.{Acts, shelving_moved, forwarding_moved, executed_moved, installed_moved}
 
 -- a step of a PE to another state, in which it receives, gives away and sends this
 pub record IsStep {C : Type 0} (step : Step C) (pe pe' : PeView C) (came gone : List Parcel) (sends : List (ℕ × List ℕ)) : Type 0 where
-  pub reports : List Report
+  pub reports : List TraceEntry
   pub work : Option (Work C)
   pub moved : Moved step pe pe' reports work came gone
   pub sent : work_sends step pe.n work ≡ sends
@@ -34,7 +34,7 @@ none_in_front g k (x ∷ xs) h = cc
 
 module _ {C : Type 0} (step : Step C) where
   -- a step that runs no handler
-  still : (pe pe' : PeView C) (rs : List Report) (came gone : List Parcel) → Moved step pe pe' rs None came gone → IsStep step pe pe' came gone []
+  still : (pe pe' : PeView C) (rs : List TraceEntry) (came gone : List Parcel) → Moved step pe pe' rs None came gone → IsStep step pe pe' came gone []
   still pe pe' rs came gone m = record { reports = rs; work = None; moved = m; sent = refl }
 
   pub same_step : (pe : PeView C) → IsStep step pe pe [] [] []
@@ -50,7 +50,7 @@ module _ {C : Type 0} (step : Step C) (pack : C → List ℕ) (pe : PeView C) wh
   resumed_step : (e round : ℕ) (o : Option (ElementView C)) → found e pe.room ≡ o → IsStep step pe (resumed step pack pe e round) [] [] (sends_in step pack pe.room e pe.n (Resumption round))
   resumed_step e round (Some el) h =
       record {
-        reports = resume_reports step pack pe e round;
+        reports = resume_entries step pack pe e round;
         work = Some (el, Resumption round);
         moved = resumed_moved step pack pe e round el h;
         sent = rw h refl;
@@ -67,7 +67,7 @@ module _ {C : Type 0} (step : Step C) (pack : C → List ℕ) (pe : PeView C) wh
   ActStep sends a = IsStep step pe a.pe [] [] sends
 
   act_step : (a : Acting C) (sends : List (ℕ × List ℕ)) (acts : Acts step pe a) → work_sends step pe.n acts.0 ≡ sends → ActStep sends a
-  act_step a sends acts is = record { reports = a.reports; work = acts.0; moved = acts.1; sent = is }
+  act_step a sends acts is = record { reports = a.trace; work = acts.0; moved = acts.1; sent = is }
 
   passing_step : (x : Item) (l : LetterView) (look : Option ℕ) (a : Acting C) → pe.hand ≡ Some x → x.parcel ≡ Letter l → passing pe l look ≡ Some a → ActStep [] a
   unfolding forwarding_moved shelving_moved
@@ -100,8 +100,8 @@ module _ {C : Type 0} (step : Step C) (pack : C → List ℕ) (pe : PeView C) wh
     unfolding installed_moved
     installing_step x p (Err z) a h is f e = cc
     installing_step x p (Ok y) a h is f e =
-        let t : record { acted = IsInstalled; pe = installed pe p y.0; reports = Tells.Installed p.index ∷ [] } ≡ a = cc in
-        subst (ActStep []) t (act_step (record { acted = IsInstalled; pe = installed pe p y.0; reports = Tells.Installed p.index ∷ [] }) [] (installed_moved step pack pe x p y.0 h is f) refl)
+        let t : record { acted = IsInstalled; pe = installed pe p y.0; trace = Trace.Installed p.index ∷ [] } ≡ a = cc in
+        subst (ActStep []) t (act_step (record { acted = IsInstalled; pe = installed pe p y.0; trace = Trace.Installed p.index ∷ [] }) [] (installed_moved step pack pe x p y.0 h is f) refl)
 
     element_step : (x : Item) (p : PackedView) (o : Option (ElementView C)) (a : Acting C)
         → pe.hand ≡ Some x → x.parcel ≡ Element p → found p.index pe.room ≡ o → on_element step pack unpack pe p o ≡ Some a → ActStep [] a
@@ -130,6 +130,6 @@ module _ {C : Type 0} (step : Step C) (pack : C → List ℕ) (pe : PeView C) wh
     call_step Send may running = gave_up_step step pe (front_parcel pe.outbox) refl
     call_step NoteDone may running = still step pe (noted pe) [] [] [] (noted_moved step pe [] refl refl)
     call_step Act may running = acting_step (acting step pack unpack pe) refl
-    call_step (Depart e q) may running = still step pe (departed pack pe e q) (Tells.Departed e ∷ []) [] [] (departed_moved step pack pe e q)
+    call_step (Depart e q) may running = still step pe (departed pack pe e q) (Trace.Departed e ∷ []) [] [] (departed_moved step pack pe e q)
     call_step (Resume e round) may running = resumed_step e round (found e pe.room) refl
     call_step Refused may running = same_step step pe

@@ -4,9 +4,9 @@ use Rattle.std.proofs.Common.{◌≡◌, ℕ, ◌+◌, List, [], ◌∷◌, ◌+
 use Rattle.std.specs.Prelude.{All, IfSome, drop}
 use Rattle.std.specs.Option.{option_map}
 use Rattle.std.proofs.lemmas.List.Sums.{sum_by-cons}
-use Rattle.chares.specs.declared.report.Report.{Report}
+use Rattle.chares.specs.declared.trace_entry.TraceEntry.{TraceEntry}
 use Rattle.chares.specs.Elements.{ElementView}
-use Rattle.chares.specs.Letters.{LetterView, Done, told_of}
+use Rattle.chares.specs.Letters.{LetterView, Done, input_of}
 use Rattle.chares.specs.Posting.{letter_to}
 use Rattle.chares.specs.Steps.{Step}
 use Rattle.pe_state.specs.Pes.{PeView, Parcel, Item, front_parcel, front_at, received, looked, looked_in, hand_wants, gave_up, handed_back, noted}
@@ -38,13 +38,13 @@ after k (Some x) = k (x.0.index, x.0.journal ++ x.1 ∷ [])
 
 abbrev pub work_sends : {C : Type 0} → Step C → ℕ → Option (Work C) → List (ℕ × List ℕ)
 work_sends step n None = []
-work_sends step n (Some x) = (step x.0.chare x.0.index n (told_of x.1)).sends
+work_sends step n (Some x) = (step x.0.chare x.0.index n (input_of x.1)).sends
 
 abbrev pub posted : {C : Type 0} → Step C → PeView C → Option (Work C) → List LetterView
 posted step pe work = numbered pe.me pe.count (work_sends step pe.n work)
 
 -- a step of a PE to another state, with these reports, that runs this handler, receives these parcels and gives these away
-pub record Moved {C : Type 0} (step : Step C) (pe pe' : PeView C) (rs : List Report) (work : Option (Work C)) (came gone : List Parcel) : Type 0 where
+pub record Moved {C : Type 0} (step : Step C) (pe pe' : PeView C) (rs : List TraceEntry) (work : Option (Work C)) (came gone : List Parcel) : Type 0 where
   pub weighs : (g : Weight) (k : Life → ℕ) → of_pe g k pe' + (sum_by (weigh g) (work_letters work) + (before k work + of_queue g k gone)) ≡ of_pe g k pe + (sum_by (weigh g) (posted step pe work) + (after k work + of_queue g k came))
   pub stood : IfSome work (λ x. (e : ℕ) × (found e pe.room ≡ Some x.0) × All (λ l. l.to ≡ e) (letters_of_entry x.1))
   pub tells_posts : (r : Said → ℕ) → sum_by r (posts rs) ≡ sum_by (λ l. r (l.id, l.to)) (posted step pe work)
@@ -55,7 +55,7 @@ pub record Moved {C : Type 0} (step : Step C) (pe pe' : PeView C) (rs : List Rep
 
 -- ---- steps that run no handler
 
-pub quiet : {C : Type 0} (step : Step C) (pe pe' : PeView C) (rs : List Report) (came gone : List Parcel)
+pub quiet : {C : Type 0} (step : Step C) (pe pe' : PeView C) (rs : List TraceEntry) (came gone : List Parcel)
     → ((g : Weight) (k : Life → ℕ) → of_pe g k pe' + of_queue g k gone ≡ of_pe g k pe + of_queue g k came)
     → posts rs ≡ [] → executions rs ≡ [] → pe'.me ≡ pe.me → pe'.n ≡ pe.n → pe'.count ≡ pe.count
     → Moved step pe pe' rs None came gone
@@ -76,7 +76,7 @@ received_moved step pe parcel h =
     (λ g k. rw h (omega (arith, sum_by-cons (of_parcel g k) parcel [])))
     refl refl refl refl refl
 
-pub noted_moved : {C : Type 0} (step : Step C) (pe : PeView C) (rs : List Report) → posts rs ≡ [] → executions rs ≡ [] → Moved step pe (noted pe) rs None [] []
+pub noted_moved : {C : Type 0} (step : Step C) (pe : PeView C) (rs : List TraceEntry) → posts rs ≡ [] → executions rs ≡ [] → Moved step pe (noted pe) rs None [] []
 noted_moved step pe rs p x = quiet step pe (noted pe) rs [] [] (λ g k. refl) p x refl refl refl
 
 pub hand_at : (g : Weight) (k : Life → ℕ) (q : ℕ) (hand : Option Item) → of_hand g k (option_map (λ x. record { parcel = x.parcel; address = Some q }) hand) ≡ of_hand g k hand

@@ -14,7 +14,7 @@ use Rattle.chares.specs.Elements.{opening_element}
 use Rattle.pe_state.specs.Pes.{PeView, new_pe, placed}
 use Rattle.pe_state.specs.Rooms.{found, joined}
 use Rattle.rts_core.specs.Places.{Life}
-use Rattle.rts_core.specs.Worlds.{WorldView, home, placed_on, settled, opening_world}
+use Rattle.rts_core.specs.Worlds.{WorldView, home, placed_on, all_placed, opening_world}
 use Rattle.rts_core.proofs.Weights.{Weight, of_pe, of_queue, of_room, of_element, of_world, sum_joined}
 use Rattle.rts_core.proofs.WorldSteps.{AreOf, Numbered, known, sum_at, each_set}
 
@@ -58,13 +58,13 @@ pub placed_open : {C : Type 0} (n e : ℕ) (pes : List (PeView C)) (q : ℕ) (ch
 placed_open n e pes q chare None at h = λ i x is. open_next n e i x (h i x is)
 placed_open n e pes q chare (Some pe) at h = λ i x. each_set pes q pe (placed pe e chare) at (λ j v. Opens n (e + 1) j v) (λ j v is. open_next n e j v (h j v is)) (open_placed n e q pe chare (h q pe at)) i x (nat_eq i q) refl
 
-pub settled_open : {C : Type 0} (n : ℕ) (pes : List (PeView C)) (e : ℕ) (chares : List C) → AllOpen n e pes → AllOpen n (e + length chares) (settled n pes e chares)
+pub settled_open : {C : Type 0} (n : ℕ) (pes : List (PeView C)) (e : ℕ) (chares : List C) → AllOpen n e pes → AllOpen n (e + length chares) (all_placed n pes e chares)
 settled_open {C} n pes e [] h = subst (λ (v : ℕ). AllOpen n v pes) (let k : e ≡ e + length {A = C} [] = omega arith in k) h
 settled_open {C} n pes e (chare ∷ chares) h =
     let q = home e n (length pes) in
     let next : List (PeView C) = placed_on pes q e chare (slice_get pes q) in
     let k : (e + 1) + length chares ≡ e + length (chare ∷ chares) = omega arith in
-    subst (λ (v : ℕ). AllOpen n v (settled n next (e + 1) chares)) k
+    subst (λ (v : ℕ). AllOpen n v (all_placed n next (e + 1) chares)) k
     (settled_open n next (e + 1) chares (placed_open n e pes q chare (slice_get pes q) refl h))
 
 -- ---- weights
@@ -93,7 +93,7 @@ module _ {C : Type 0} (g : Weight) (k : Life → ℕ) where
   placed_length pes q e chare (Some pe) = length-set {A = PeView C} pes q (placed pe e chare)
 
   pub settled_weighs : (n m : ℕ) (pes : List (PeView C)) (e : ℕ) (chares : List C) → length pes ≡ m → AllOpen n e pes → ((i : ℕ) → i < n → home i n m < m) → e + length chares ≤ n
-      → sum_by (of_pe g k) (settled n pes e chares) ≡ sum_by (of_pe g k) pes + sum_by k (opened_lives e chares)
+      → sum_by (of_pe g k) (all_placed n pes e chares) ≡ sum_by (of_pe g k) pes + sum_by k (opened_lives e chares)
   settled_weighs n m pes e [] len h homes le = let z : sum_by k (opened_lives {C = C} e []) ≡ 0 = refl in omega (arith, z)
   settled_weighs n m pes e (chare ∷ chares) len h homes le =
       let q = home e n (length pes) in

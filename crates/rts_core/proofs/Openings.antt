@@ -22,7 +22,7 @@ use Rattle.chare_index.specs.declared.limits.TheConstants.Limits.{ELEMENTS, PES}
 use Rattle.pe_state.specs.Histories.{HasHistories, IsParcelHistory}
 use Rattle.pe_state.proofs.Histories.{new_holds, placed_holds}
 use Rattle.rts_core.specs.Histories.{AreHistories}
-use Rattle.rts_core.specs.Worlds.{IsWorld, home, placed_on, settled}
+use Rattle.rts_core.specs.Worlds.{IsWorld, home, placed_on, all_placed}
 
 -- on one of the PEs
 pub home_below : (e n pes : ℕ) → e < n → 1 ≤ pes → home e n pes < pes
@@ -65,9 +65,9 @@ pes_more {C} n q me made made' pe pushed all made_pe same =
     pushed ∙ (rw (all, made_pe, same, list_more (λ (k : ℕ). new_pe {C = C} k n) q) refl)
 
 -- one more chare is placed
-pub settle_step : {C : Type 0} (n e i : ℕ) (pes pes' : List (PeView C)) (chare : C) (left left' : List C) (last : List (PeView C))
-    → i ≡ e → left ≡ chare ∷ left' → pes' ≡ placed_on pes (home i n (length pes)) i chare (slice_get pes (home i n (length pes))) → settled n pes e left ≡ last → settled n pes' (e + 1) left' ≡ last
-settle_step n e i pes pes' chare left left' last same items placed inv = rw (placed, same) (rw items at inv)
+pub place_all_step : {C : Type 0} (n e i : ℕ) (pes pes' : List (PeView C)) (chare : C) (left left' : List C) (last : List (PeView C))
+    → i ≡ e → left ≡ chare ∷ left' → pes' ≡ placed_on pes (home i n (length pes)) i chare (slice_get pes (home i n (length pes))) → all_placed n pes e left ≡ last → all_placed n pes' (e + 1) left' ≡ last
+place_all_step n e i pes pes' chare left left' last same items placed inv = rw (placed, same) (rw items at inv)
 
 module _ {C : Type 0} (step : Step C) (fits : C → Type 0) (pack : C → List ℕ) (opened : List C) where
   -- after a call that places it, unless it is refused

@@ -4,16 +4,16 @@ use Rattle.std.specs.Prelude.{Result, slice_get, ◌==◌, if◌then◌else◌}
 use Rattle.std.specs.Option.{option_map_or}
 use Rattle.std.proofs.lemmas.Bool.Decides.{nat_tests}
 use Rattle.std.proofs.lemmas.List.Sums.{sum_by-cons}
-use Rattle.chares.specs.declared.report.Report.{Report}
+use Rattle.chares.specs.declared.trace_entry.TraceEntry.{TraceEntry}
 use Rattle.chares.specs.Steps.{Step}
 use Rattle.pup_pack.specs.declared.error.PupError.{PupError}
 use Rattle.pe_state.specs.Pes.{PeView}
 use Rattle.rts_core.specs.declared.event.Event.{Event}
-use Rattle.rts_core.specs.Accounts.{times, is_number, Said, says_both, executions, Accounted, message, AreSent, IsCounted, IsTold}
+use Rattle.rts_core.specs.Accounts.{times, is_number, Said, says_both, executions, Accounted, message, AreSent, IsCounted, IsTraced}
 use Rattle.rts_core.specs.Events.{After, Happens}
 use Rattle.rts_core.specs.Histories.{AreHistories}
 use Rattle.rts_core.specs.Places.{Life, letters, lives, journaled, letters_of_life, sent_over, sends_of, sends}
-use Rattle.rts_core.specs.Runs.{Leads}
+use Rattle.rts_core.specs.Runs.{Reaches}
 use Rattle.rts_core.specs.Worlds.{WorldView, opening_world}
 use Rattle.rts_core.proofs.Weights.{Weight, weigh, of_world, sum_by-flat_map}
 use Rattle.rts_core.proofs.WorldSteps.{known, below}
@@ -101,7 +101,7 @@ module _ {C A : Type 0} (step : Step C) (fits : C → Type 0) (pack : C → List
 
 module _ {C A : Type 0} (step : Step C) (pack : C → List ℕ) (unpack : List ℕ → Result (C × ℕ) PupError) (pes : ℕ) (chares : List C) (some : 1 ≤ pes) where
   -- what was kept from the opening on is the account
-  pub kept_accounted : (w : WorldView C A) (trace : List Report) → Kept (length chares) (opening_world pes chares) w trace → Accounted (length chares) w trace
+  pub kept_accounted : (w : WorldView C A) (trace : List TraceEntry) → Kept (length chares) (opening_world pes chares) w trace → Accounted (length chares) w trace
   kept_accounted w trace kept =
       record {
         once = λ id.
@@ -129,24 +129,24 @@ module _ {C A : Type 0} (step : Step C) (pack : C → List ℕ) (unpack : List �
       }
 
   -- the account holds after every list of events
-  pub accounted : (events : List Event) (last : After C A) → Leads step pack unpack (opening_world pes chares) events last → Accounted (length chares) last.0 last.1
+  pub accounted : (events : List Event) (last : After C A) → Reaches step pack unpack (opening_world pes chares) events last → Accounted (length chares) last.0 last.1
   accounted events last run =
       kept_accounted last.0 last.1 (run_keeps step pack unpack (length chares) (opening_world pes chares) events last (opening_of A pes chares some) run)
 
   -- and after one more event
-  pub accounted_next : (events : List Event) (w : WorldView C A) (trace : List Report) (event : Event) (next : After C A) → Leads step pack unpack (opening_world pes chares) events (w, trace) → Happens step pack unpack w event next → Accounted (length chares) next.0 (trace ++ next.1)
+  pub accounted_next : (events : List Event) (w : WorldView C A) (trace : List TraceEntry) (event : Event) (next : After C A) → Reaches step pack unpack (opening_world pes chares) events (w, trace) → Happens step pack unpack w event next → Accounted (length chares) next.0 (trace ++ next.1)
   accounted_next events w trace event next run happens =
       let a : Kept (length chares) (opening_world pes chares) w trace = run_keeps step pack unpack (length chares) (opening_world pes chares) events (w, trace) (opening_of A pes chares some) run in
       let b : Kept (length chares) w next.0 next.1 = step_keeps step (length chares) w next.0 next.1 (happens_good step pack unpack (length chares) w a.same_array event next happens) in
       kept_accounted next.0 (trace ++ next.1) (kept_join (length chares) (opening_world pes chares) w next.0 trace next.1 a b)
 
   -- and every letter is counted
-  pub counted : (events : List Event) (last : After C A) → Leads step pack unpack (opening_world pes chares) events last → IsCounted last.0
+  pub counted : (events : List Event) (last : After C A) → Reaches step pack unpack (opening_world pes chares) events last → IsCounted last.0
   counted events last run =
       (run_keeps step pack unpack (length chares) (opening_world pes chares) events last (opening_of A pes chares some) run).counted (opening_counted A step pes chares some)
 
   -- the trace tells how many letters were posted, and which were executed
-  pub kept_told : (w : WorldView C A) (trace : List Report) → Kept (length chares) (opening_world pes chares) w trace → IsTold w trace
+  pub kept_told : (w : WorldView C A) (trace : List TraceEntry) → Kept (length chares) (opening_world pes chares) w trace → IsTraced w trace
   kept_told w trace kept =
       record {
         posted = let a = opening_counts A pes chares some in omega (arith, a, kept.posted);
@@ -164,6 +164,6 @@ module _ {C A : Type 0} (step : Step C) (pack : C → List ℕ) (unpack : List �
       }
 
   -- so it does after every list of events
-  pub told : (events : List Event) (last : After C A) → Leads step pack unpack (opening_world pes chares) events last → IsTold last.0 last.1
+  pub told : (events : List Event) (last : After C A) → Reaches step pack unpack (opening_world pes chares) events last → IsTraced last.0 last.1
   told events last run =
       kept_told last.0 last.1 (run_keeps step pack unpack (length chares) (opening_world pes chares) events last (opening_of A pes chares some) run)

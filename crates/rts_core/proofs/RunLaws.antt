@@ -3,14 +3,14 @@ use Rattle.std.proofs.Common.{◌≡◌, ℕ, ◌+◌, List, [], ◌∷◌, ◌+
 use Rattle.std.specs.Prelude.{Result, slice_get, if◌then◌else◌}
 use Rattle.std.proofs.lemmas.List.Sums.{sum_by-append}
 use Rattle.std.proofs.lemmas.Grind.{flat_map-append}
-use Rattle.chares.specs.declared.report.Report.{Report}
+use Rattle.chares.specs.declared.trace_entry.TraceEntry.{TraceEntry}
 use Rattle.chares.specs.Steps.{Step}
 use Rattle.pup_pack.specs.declared.error.PupError.{PupError}
 use Rattle.rts_core.specs.declared.event.Event.{Event}
-use Rattle.rts_core.specs.Accounts.{Said, posted_by, executed_by, posts, executions, says_number, posted_count, IsCounted}
+use Rattle.rts_core.specs.Accounts.{Said, post_of, execution_of, posts, executions, says_number, posted_count, IsCounted}
 use Rattle.rts_core.specs.Events.{After}
 use Rattle.rts_core.specs.Places.{Life, letters_of_life}
-use Rattle.rts_core.specs.Runs.{Leads}
+use Rattle.rts_core.specs.Runs.{Reaches}
 use Rattle.rts_core.specs.Worlds.{WorldView}
 use Rattle.rts_core.proofs.Weights.{Weight, weigh, of_world}
 use Rattle.rts_core.proofs.Moves.{Work, work_letters, before, after}
@@ -38,7 +38,7 @@ number_said q j x = if says_number (q, j) x then 1 else 0
 -- from a world to another with a trace: in places and executed is what was in places and what was posted; the elements
 -- are the same; a PE has posted each number that it has posted since or before, once; in journals is what was there and
 -- what was executed; and as many letters are posted as there are posts
-pub record Kept {C A : Type 0} (n : ℕ) (w w' : WorldView C A) (rs : List Report) : Type 0 where
+pub record Kept {C A : Type 0} (n : ℕ) (w w' : WorldView C A) (rs : List TraceEntry) : Type 0 where
   pub once : (r : Said → ℕ) → of_world (by_said r) no_life w' + sum_by r (executions rs) ≡ of_world (by_said r) no_life w + sum_by r (posts rs)
   pub stands : (i : ℕ → ℕ) → of_world no_letter (by_index i) w' ≡ of_world no_letter (by_index i) w
   pub numbers : Numbered w → (q j : ℕ) → sum_by (number_said q j) (posts rs) + known j (slice_get w.pes q) ≡ known j (slice_get w'.pes q)
@@ -52,7 +52,7 @@ pub same_index : {C : Type 0} (i : ℕ → ℕ) (work : Option (Work C)) → bef
 same_index i None = refl
 same_index i (Some x) = refl
 
-pub step_keeps : {C A : Type 0} (step : Step C) (n : ℕ) (w w' : WorldView C A) (rs : List Report) → Stepped step n w w' rs → Kept n w w' rs
+pub step_keeps : {C A : Type 0} (step : Step C) (n : ℕ) (w w' : WorldView C A) (rs : List TraceEntry) → Stepped step n w w' rs → Kept n w w' rs
 step_keeps step n w w' rs s =
     record {
       once = λ r.
@@ -86,13 +86,13 @@ step_keeps step n w w' rs s =
           omega (arith, a, b, c);
     }
 
-pub posts_join : (r : Said → ℕ) (xs ys : List Report) → sum_by r (posts (xs ++ ys)) ≡ sum_by r (posts xs) + sum_by r (posts ys)
-posts_join r xs ys = ap (sum_by r) (flat_map-append posted_by xs ys) ∙ sum_by-append r (posts xs) (posts ys)
+pub posts_join : (r : Said → ℕ) (xs ys : List TraceEntry) → sum_by r (posts (xs ++ ys)) ≡ sum_by r (posts xs) + sum_by r (posts ys)
+posts_join r xs ys = ap (sum_by r) (flat_map-append post_of xs ys) ∙ sum_by-append r (posts xs) (posts ys)
 
-pub executions_join : (r : Said → ℕ) (xs ys : List Report) → sum_by r (executions (xs ++ ys)) ≡ sum_by r (executions xs) + sum_by r (executions ys)
-executions_join r xs ys = ap (sum_by r) (flat_map-append executed_by xs ys) ∙ sum_by-append r (executions xs) (executions ys)
+pub executions_join : (r : Said → ℕ) (xs ys : List TraceEntry) → sum_by r (executions (xs ++ ys)) ≡ sum_by r (executions xs) + sum_by r (executions ys)
+executions_join r xs ys = ap (sum_by r) (flat_map-append execution_of xs ys) ∙ sum_by-append r (executions xs) (executions ys)
 
-pub kept_join : {C A : Type 0} (n : ℕ) (u v w : WorldView C A) (xs ys : List Report) → Kept n u v xs → Kept n v w ys → Kept n u w (xs ++ ys)
+pub kept_join : {C A : Type 0} (n : ℕ) (u v w : WorldView C A) (xs ys : List TraceEntry) → Kept n u v xs → Kept n v w ys → Kept n u w (xs ++ ys)
 kept_join n u v w xs ys a b =
     record {
       once = λ r. omega (arith, a.once r, b.once r, posts_join r xs ys, executions_join r xs ys);
@@ -111,7 +111,7 @@ pub kept_same : {C A : Type 0} (n : ℕ) (w : WorldView C A) → AreOf n w → K
 kept_same n w are = record { once = λ r. refl; stands = λ i. refl; numbers = λ numbered q j. zero-add _; same_numbers = λ numbered. numbered; same_array = are; counted = λ h. h; journals = λ r. sym (add-zero _); posted = sym (add-zero _) }
 
 module _ {C A : Type 0} (step : Step C) (pack : C → List ℕ) (unpack : List ℕ → Result (C × ℕ) PupError) (n : ℕ) where
-  pub run_keeps : (w : WorldView C A) (events : List Event) (last : After C A) → AreOf n w → Leads step pack unpack w events last → Kept n w last.0 last.1
+  pub run_keeps : (w : WorldView C A) (events : List Event) (last : After C A) → AreOf n w → Reaches step pack unpack w events last → Kept n w last.0 last.1
   run_keeps w [] last are run = subst (λ (v : After C A). Kept n w v.0 v.1) (sym run) (kept_same n w are)
   run_keeps w (event ∷ events) last are (first, rest, happens, leads, is) =
       let a : Kept n w first.0 first.1 = step_keeps step n w first.0 first.1 (happens_good step pack unpack n w are event first happens) in

@@ -8,9 +8,9 @@ use Rattle.std.proofs.lemmas.List.Sums.{sum_by-cons, sum_by-append}
 use Rattle.std.proofs.lemmas.Grind.{flat_map-append}
 use Rattle.std.proofs.lemmas.Map.Views.{IfSome-lookup_from_All}
 use Rattle.std.proofs.lemmas.Option.{slice_get_within, get_or_from_slice_get}
-use Rattle.chares.specs.declared.report.Report.{Report}
+use Rattle.chares.specs.declared.trace_entry.TraceEntry.{TraceEntry}
 use Rattle.chares.specs.Elements.{ElementView, ran, lived, opening_element, IsHistory}
-use Rattle.chares.specs.Letters.{LetterView, Done, told_of}
+use Rattle.chares.specs.Letters.{LetterView, Done, input_of}
 use Rattle.chares.specs.Steps.{Step}
 use Rattle.pe_state.specs.Rooms.{found}
 use Rattle.rts_core.specs.Accounts.{message, AreSent, IsCounted}
@@ -30,16 +30,16 @@ by_message h = λ id to body. h (to, body)
 -- the chare of element e of n after these entries, from this chare on
 abbrev pub folded : {C : Type 0} → Step C → ℕ → ℕ → C → List Done → C
 folded step e n chare [] = chare
-folded step e n chare (done ∷ journal) = folded step e n (step chare e n (told_of done)).state journal
+folded step e n chare (done ∷ journal) = folded step e n (step chare e n (input_of done)).state journal
 
 -- one more entry adds its sends
 pub sent_more : {C : Type 0} (step : Step C) (e n : ℕ) (h : ℕ × List ℕ → ℕ) (c : C) (xs : List Done) (done : Done)
-    → sum_by h (sent_over step e n c (xs ++ done ∷ [])) ≡ sum_by h (sent_over step e n c xs) + sum_by h (step (folded step e n c xs) e n (told_of done)).sends
+    → sum_by h (sent_over step e n c (xs ++ done ∷ [])) ≡ sum_by h (sent_over step e n c xs) + sum_by h (step (folded step e n c xs) e n (input_of done)).sends
 sent_more step e n h c [] done =
-    let a = sum_by-append h (step c e n (told_of done)).sends [] in
+    let a = sum_by-append h (step c e n (input_of done)).sends [] in
     omega (arith, a)
 sent_more step e n h c (x ∷ xs) done =
-    let one = step c e n (told_of x) in
+    let one = step c e n (input_of x) in
     let a = sum_by-append h one.sends (sent_over step e n one.state (xs ++ done ∷ [])) in
     let b = sum_by-append h one.sends (sent_over step e n one.state xs) in
     let ih = sent_more step e n h one.state xs done in
@@ -66,10 +66,10 @@ history_folded {C} step pack opened el h =
     sym c ∙ (sym a ∙ b)
 
 pub sends_more : {C : Type 0} (step : Step C) (pack : C → List ℕ) (opened : List C) (h : ℕ × List ℕ → ℕ) (el : ElementView C) (done : Done) → IsHistory step pack opened el
-    → sum_by h (sends_of step opened (el.index, el.journal ++ done ∷ [])) ≡ sum_by h (sends_of step opened (life_of el)) + sum_by h (step el.chare el.index (length opened) (told_of done)).sends
+    → sum_by h (sends_of step opened (el.index, el.journal ++ done ∷ [])) ≡ sum_by h (sends_of step opened (life_of el)) + sum_by h (step el.chare el.index (length opened) (input_of done)).sends
 sends_more {C} step pack opened h el done is =
-    let a : sum_by h (sent_over step el.index (length opened) is.opening (el.journal ++ done ∷ [])) ≡ sum_by h (sent_over step el.index (length opened) is.opening el.journal) + sum_by h (step (folded step el.index (length opened) is.opening el.journal) el.index (length opened) (told_of done)).sends = sent_more step el.index (length opened) h is.opening el.journal done in
-    let b : sum_by h (sent_over step el.index (length opened) is.opening (el.journal ++ done ∷ [])) ≡ sum_by h (sent_over step el.index (length opened) is.opening el.journal) + sum_by h (step el.chare el.index (length opened) (told_of done)).sends = subst (λ (v : C). sum_by h (sent_over step el.index (length opened) is.opening (el.journal ++ done ∷ [])) ≡ sum_by h (sent_over step el.index (length opened) is.opening el.journal) + sum_by h (step v el.index (length opened) (told_of done)).sends) (history_folded step pack opened el is) a in
+    let a : sum_by h (sent_over step el.index (length opened) is.opening (el.journal ++ done ∷ [])) ≡ sum_by h (sent_over step el.index (length opened) is.opening el.journal) + sum_by h (step (folded step el.index (length opened) is.opening el.journal) el.index (length opened) (input_of done)).sends = sent_more step el.index (length opened) h is.opening el.journal done in
+    let b : sum_by h (sent_over step el.index (length opened) is.opening (el.journal ++ done ∷ [])) ≡ sum_by h (sent_over step el.index (length opened) is.opening el.journal) + sum_by h (step el.chare el.index (length opened) (input_of done)).sends = subst (λ (v : C). sum_by h (sent_over step el.index (length opened) is.opening (el.journal ++ done ∷ [])) ≡ sum_by h (sent_over step el.index (length opened) is.opening el.journal) + sum_by h (step v el.index (length opened) (input_of done)).sends) (history_folded step pack opened el is) a in
     rw is.opens b
 
 -- what holds of all holds of one
@@ -100,7 +100,7 @@ module _ {C A : Type 0} (step : Step C) (fits : C → Type 0) (pack : C → List
   work_sent w h (Some x) are stood = sends_more step pack opened h x.0 x.1 (stands_history w x.0 are stood)
 
   -- what the elements have sent is in places or in journals after an event where it was so before
-  pub sent_step : (w w' : WorldView C A) (rs : List Report) → AreHistories step fits pack opened w → Stepped step (length opened) w w' rs → AreSent step opened w → AreSent step opened w'
+  pub sent_step : (w w' : WorldView C A) (rs : List TraceEntry) → AreHistories step fits pack opened w → Stepped step (length opened) w w' rs → AreSent step opened w → AreSent step opened w'
   sent_step w w' rs are s h weight =
       let a = s.weighs (by_message weight) no_life in
       let b = s.weighs no_letter (sends_weight step opened weight) in
@@ -131,7 +131,7 @@ abbrev pub each_one : Weight
 each_one id to body = 1
 
 -- all letters that were posted are counted after an event where they were so before
-pub counted_step : {C A : Type 0} (step : Step C) (n : ℕ) (w w' : WorldView C A) (rs : List Report) → Stepped step n w w' rs → IsCounted w → IsCounted w'
+pub counted_step : {C A : Type 0} (step : Step C) (n : ℕ) (w w' : WorldView C A) (rs : List TraceEntry) → Stepped step n w w' rs → IsCounted w → IsCounted w'
 counted_step step n w w' rs s h =
     let a = s.weighs each_one no_life in
     let j = s.weighs no_letter (λ x. sum_by (weigh each_one) (letters_of_life x)) in

@@ -1,7 +1,7 @@
 -- The account of a world over one call that makes an event of it, or is refused.
 use Rattle.std.proofs.Common.{◌≡◌, ℕ, ◌≤◌, List, [], ◌++◌, length, Result, Ok, Err, sym, subst, replicate}
 use Rattle.std.specs.Prelude.{IfOk, OnErr}
-use Rattle.chares.specs.declared.report.Report.{Report}
+use Rattle.chares.specs.declared.trace_entry.TraceEntry.{TraceEntry}
 use Rattle.chares.specs.Steps.{Step}
 use Rattle.pup_pack.specs.declared.error.PupError.{PupError}
 use Rattle.rts_core.specs.declared.event.Event.{Event}
@@ -10,7 +10,7 @@ use Rattle.at_sync.specs.Boards.{BoardState}
 use Rattle.pe_state.specs.Pes.{PeView}
 use Rattle.rts_core.specs.Events.{Happens, MayDecide, or_nothing, enabled}
 use Rattle.rts_core.specs.Histories.{AreHistories}
-use Rattle.rts_core.specs.Runs.{Leads}
+use Rattle.rts_core.specs.Runs.{Reaches}
 use Rattle.rts_core.specs.Worlds.{WorldView, opening_world}
 use Rattle.rts_core.proofs.RunAccount.{accounted_next, sent_next, counted_next, opening_sent, opening_counted, kept_accounted}
 use Rattle.rts_core.proofs.EventSteps.{enabled_good, decided_good}
@@ -21,33 +21,33 @@ use Rattle.rts_core.proofs.WorldSteps.{AreOf, Stepped}
 
 module _ {C A E : Type 0} (step : Step C) (fits : C → Type 0) (pack : C → List ℕ) (unpack : List ℕ → Result (C × ℕ) PupError) (opened : List C) (pes : ℕ) (w w' : WorldView C A) (event : Event) where
   -- what was led to with a trace is accounted for after the event, with its reports
-  pub accounted_ok : (r : Result (List Report) E) → 1 ≤ pes → IfOk r (λ reports. Happens step pack unpack w event (w', reports)) → IfOk r (λ reports. (events : List Event) (trace : List Report) → Leads step pack unpack (opening_world pes opened) events (w, trace) → Accounted (length opened) w' (trace ++ reports))
+  pub accounted_ok : (r : Result (List TraceEntry) E) → 1 ≤ pes → IfOk r (λ reports. Happens step pack unpack w event (w', reports)) → IfOk r (λ reports. (events : List Event) (trace : List TraceEntry) → Reaches step pack unpack (opening_world pes opened) events (w, trace) → Accounted (length opened) w' (trace ++ reports))
   accounted_ok (Ok reports) some ok = λ events trace run. accounted_next step pack unpack pes opened some events w trace event (w', reports) run ok
   accounted_ok (Err e) some ok = tt
 
   -- what was sent is in places or in journals, after it as before
-  pub sent_ok : (r : Result (List Report) E) → AreHistories step fits pack opened w → AreSent step opened w → IfOk r (λ reports. Happens step pack unpack w event (w', reports)) → OnErr r (w' ≡ w) → AreSent step opened w'
+  pub sent_ok : (r : Result (List TraceEntry) E) → AreHistories step fits pack opened w → AreSent step opened w → IfOk r (λ reports. Happens step pack unpack w event (w', reports)) → OnErr r (w' ≡ w) → AreSent step opened w'
   sent_ok (Ok reports) are sent ok err = sent_next step fits pack unpack opened w event (w', reports) are sent ok
   sent_ok (Err e) are sent ok err = subst (λ (v : WorldView C A). AreSent step opened v) (sym err) sent
 
   -- so is every letter counted
-  pub counted_ok : (r : Result (List Report) E) → AreHistories step fits pack opened w → IsCounted w → IfOk r (λ reports. Happens step pack unpack w event (w', reports)) → OnErr r (w' ≡ w) → IsCounted w'
+  pub counted_ok : (r : Result (List TraceEntry) E) → AreHistories step fits pack opened w → IsCounted w → IfOk r (λ reports. Happens step pack unpack w event (w', reports)) → OnErr r (w' ≡ w) → IsCounted w'
   counted_ok (Ok reports) are count ok err = counted_next step fits pack unpack opened w event (w', reports) are count ok
   counted_ok (Err e) are count ok err = subst (λ (v : WorldView C A). IsCounted v) (sym err) count
 
 module _ {C A : Type 0} (step : Step C) (fits : C → Type 0) (pack : C → List ℕ) (unpack : List ℕ → Result (C × ℕ) PupError) (opened : List C) (w w' : WorldView C A) (event : Event) (p : ℕ) where
   -- the same of a step of one PE
-  pub sent_at : {E : Type 0} (r : Result (List Report) E) → AreHistories step fits pack opened w → AreSent step opened w → IfOk r (λ reports. (w', reports) ≡ or_nothing w (enabled step pack unpack w event p)) → OnErr r (w' ≡ w) → AreSent step opened w'
+  pub sent_at : {E : Type 0} (r : Result (List TraceEntry) E) → AreHistories step fits pack opened w → AreSent step opened w → IfOk r (λ reports. (w', reports) ≡ or_nothing w (enabled step pack unpack w event p)) → OnErr r (w' ≡ w) → AreSent step opened w'
   sent_at (Ok reports) are sent ok err =
       let of : AreOf (length opened) w = histories_of step fits pack opened w are in
-      let s : Stepped step (length opened) w w' reports = subst (λ (v : WorldView C A × List Report). Stepped step (length opened) w v.0 v.1) (sym ok) (enabled_good step pack unpack (length opened) w of event p) in
+      let s : Stepped step (length opened) w w' reports = subst (λ (v : WorldView C A × List TraceEntry). Stepped step (length opened) w v.0 v.1) (sym ok) (enabled_good step pack unpack (length opened) w of event p) in
       sent_step step fits pack opened w w' reports are s sent
   sent_at (Err e) are sent ok err = subst (λ (v : WorldView C A). AreSent step opened v) (sym err) sent
 
-  pub counted_at : {E : Type 0} (r : Result (List Report) E) → AreHistories step fits pack opened w → IsCounted w → IfOk r (λ reports. (w', reports) ≡ or_nothing w (enabled step pack unpack w event p)) → OnErr r (w' ≡ w) → IsCounted w'
+  pub counted_at : {E : Type 0} (r : Result (List TraceEntry) E) → AreHistories step fits pack opened w → IsCounted w → IfOk r (λ reports. (w', reports) ≡ or_nothing w (enabled step pack unpack w event p)) → OnErr r (w' ≡ w) → IsCounted w'
   counted_at (Ok reports) are count ok err =
       let of : AreOf (length opened) w = histories_of step fits pack opened w are in
-      let s : Stepped step (length opened) w w' reports = subst (λ (v : WorldView C A × List Report). Stepped step (length opened) w v.0 v.1) (sym ok) (enabled_good step pack unpack (length opened) w of event p) in
+      let s : Stepped step (length opened) w w' reports = subst (λ (v : WorldView C A × List TraceEntry). Stepped step (length opened) w v.0 v.1) (sym ok) (enabled_good step pack unpack (length opened) w of event p) in
       counted_step step (length opened) w w' reports s count
   counted_at (Err e) are count ok err = subst (λ (v : WorldView C A). IsCounted v) (sym err) count
 
@@ -64,20 +64,20 @@ module _ {C A : Type 0} (step : Step C) (pes : ℕ) (chares opened : List C) (xs
 
 -- the account after a step of one PE, and after a decision
 module _ {C A : Type 0} (step : Step C) (pack : C → List ℕ) (unpack : List ℕ → Result (C × ℕ) PupError) (opened : List C) (pes : ℕ) (w w' : WorldView C A) where
-  abbrev pub AccountedAfter : List Report → Type 0
-  AccountedAfter reports = (events : List Event) (trace : List Report) → Leads step pack unpack (opening_world pes opened) events (w, trace) → Accounted (length opened) w' (trace ++ reports)
+  abbrev pub AccountedAfter : List TraceEntry → Type 0
+  AccountedAfter reports = (events : List Event) (trace : List TraceEntry) → Reaches step pack unpack (opening_world pes opened) events (w, trace) → Accounted (length opened) w' (trace ++ reports)
 
-  pub accounted_after : (reports : List Report) → 1 ≤ pes → (AreOf (length opened) w → Stepped step (length opened) w w' reports) → AccountedAfter reports
+  pub accounted_after : (reports : List TraceEntry) → 1 ≤ pes → (AreOf (length opened) w → Stepped step (length opened) w w' reports) → AccountedAfter reports
   accounted_after reports some steps events trace run =
       let a : Kept (length opened) (opening_world pes opened) w trace = run_keeps step pack unpack (length opened) (opening_world pes opened) events (w, trace) (opening_of A pes opened some) run in
       let b : Kept (length opened) w w' reports = step_keeps step (length opened) w w' reports (steps a.same_array) in
       kept_accounted step pack unpack pes opened some w' (trace ++ reports) (kept_join (length opened) (opening_world pes opened) w w' trace reports a b)
 
-  pub accounted_at : {E : Type 0} (event : Event) (p : ℕ) (r : Result (List Report) E) → 1 ≤ pes → IfOk r (λ reports. (w', reports) ≡ or_nothing w (enabled step pack unpack w event p)) → IfOk r AccountedAfter
+  pub accounted_at : {E : Type 0} (event : Event) (p : ℕ) (r : Result (List TraceEntry) E) → 1 ≤ pes → IfOk r (λ reports. (w', reports) ≡ or_nothing w (enabled step pack unpack w event p)) → IfOk r AccountedAfter
   accounted_at event p (Ok reports) some ok =
-      accounted_after reports some (λ of. subst (λ (v : WorldView C A × List Report). Stepped step (length opened) w v.0 v.1) (sym ok) (enabled_good step pack unpack (length opened) w of event p))
+      accounted_after reports some (λ of. subst (λ (v : WorldView C A × List TraceEntry). Stepped step (length opened) w v.0 v.1) (sym ok) (enabled_good step pack unpack (length opened) w of event p))
   accounted_at event p (Err e) some ok = tt
 
-  pub accounted_decided : {E : Type 0} (r : Result (List Report) E) → 1 ≤ pes → IfOk r (λ reports. MayDecide w.board w'.board reports × (w' ≡ record w { board = w'.board })) → IfOk r AccountedAfter
+  pub accounted_decided : {E : Type 0} (r : Result (List TraceEntry) E) → 1 ≤ pes → IfOk r (λ reports. MayDecide w.board w'.board reports × (w' ≡ record w { board = w'.board })) → IfOk r AccountedAfter
   accounted_decided (Ok reports) some ok = accounted_after reports some (λ of. decided_good step pack unpack (length opened) w of (w', reports) ok.0 ok.1)
   accounted_decided (Err e) some ok = tt

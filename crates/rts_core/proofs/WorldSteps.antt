@@ -4,7 +4,7 @@ use Rattle.std.specs.Prelude.{All, IfSome, slice_get, slice_set, nat_lt, nat_eq,
 use Rattle.std.proofs.lemmas.Bool.Decides.{nat_tests}
 use Rattle.std.proofs.lemmas.Option.{slice_get_within, get_or_from_slice_get}
 use Rattle.std.proofs.lemmas.List.Sums.{sum_by-cons, sum_by-set}
-use Rattle.chares.specs.declared.report.Report.{Report}
+use Rattle.chares.specs.declared.trace_entry.TraceEntry.{TraceEntry}
 use Rattle.chares.specs.Elements.{ElementView}
 use Rattle.chares.specs.Letters.{LetterView}
 use Rattle.chares.specs.Posting.{letter_to}
@@ -106,7 +106,7 @@ Stands {C} w el = (p : ℕ) × (pe : PeView C) × (e : ℕ) × (slice_get w.pes 
 
 -- from a world to another, with these reports: what it holds and what was posted weighs what it holds then and what
 -- was executed, however letters and elements are weighed
-pub record Stepped {C A : Type 0} (step : Step C) (n : ℕ) (w w' : WorldView C A) (rs : List Report) : Type 0 where
+pub record Stepped {C A : Type 0} (step : Step C) (n : ℕ) (w w' : WorldView C A) (rs : List TraceEntry) : Type 0 where
   pub work : Option (Work C)
   pub new : List LetterView
   pub weighs : (g : Weight) (k : Life → ℕ) → of_world g k w' + (sum_by (weigh g) (work_letters work) + before k work) ≡ of_world g k w + (sum_by (weigh g) new + after k work)
@@ -119,7 +119,7 @@ pub record Stepped {C A : Type 0} (step : Step C) (n : ℕ) (w w' : WorldView C 
   pub numbers : Numbered w → (q j : ℕ) → sum_by (number_at q j) new + known j (slice_get w.pes q) ≡ known j (slice_get w'.pes q)
   pub counts : posted_count w' ≡ posted_count w + sum_by (λ l. 1) new
 
-pub stays : {C A : Type 0} (step : Step C) (n : ℕ) (w : WorldView C A) (words : List ℕ) (board : BoardState A) (rs : List Report)
+pub stays : {C A : Type 0} (step : Step C) (n : ℕ) (w : WorldView C A) (words : List ℕ) (board : BoardState A) (rs : List TraceEntry)
     → AreOf n w → posts rs ≡ [] → executions rs ≡ []
     → Stepped step n w (record { pes = w.pes; queues = w.queues; words = words; board = board }) rs
 stays step n w words board rs are p x =
@@ -166,7 +166,7 @@ module _ {C : Type 0} (pes : List (PeView C)) (p : ℕ) (pe pe' : PeView C) (at 
       rw (get_set_other pes p q pe' e, z, zero-add) refl
 
 -- a step of one PE, where its parcels come from queues and go to them
-pub stepped : {C A : Type 0} (step : Step C) (n : ℕ) (w : WorldView C A) (p : ℕ) (pe pe' : PeView C) (queues : List (List Parcel)) (words : List ℕ) (board : BoardState A) (rs : List Report) (work : Option (Work C)) (came gone : List Parcel)
+pub stepped : {C A : Type 0} (step : Step C) (n : ℕ) (w : WorldView C A) (p : ℕ) (pe pe' : PeView C) (queues : List (List Parcel)) (words : List ℕ) (board : BoardState A) (rs : List TraceEntry) (work : Option (Work C)) (came gone : List Parcel)
     → AreOf n w → slice_get w.pes p ≡ Some pe → Moved step pe pe' rs work came gone
     → ((g : Weight) (k : Life → ℕ) → sum_by (of_queue g k) queues + of_queue g k came ≡ sum_by (of_queue g k) w.queues + of_queue g k gone)
     → Stepped step n w (record { pes = slice_set w.pes p pe'; queues = queues; words = words; board = board }) rs

@@ -10,30 +10,30 @@ use Rattle.std.proofs.lemmas.List.Elements.{All-set}
 use Rattle.pup_pack.specs.declared.error.PupError.{PupError}
 use Rattle.at_sync.specs.Boards.{BoardState}
 use Rattle.lb_database.specs.Measuring.{elements}
-use Rattle.chares.specs.declared.report.Report.{Report}
+use Rattle.chares.specs.declared.trace_entry.TraceEntry.{TraceEntry}
 use Rattle.chares.specs.Steps.{Step}
 use Rattle.pe_state.specs.Pes.{PeView, Parcel}
 use Rattle.rts_core.specs.declared.event.Event.{Event}
-use Rattle.rts_core.specs.Events.{Desk, After, at_desk, desk, with_desk, or_nothing, enabled, MayDecide}
+use Rattle.rts_core.specs.Events.{LocalView, After, local_step, local_view, with_local, or_nothing, enabled, MayDecide}
 use Rattle.pe_state.specs.Histories.{HasHistories}
-use Rattle.rts_core.specs.Histories.{AreHistories, IsDesk}
+use Rattle.rts_core.specs.Histories.{AreHistories, IsLocalView}
 use Rattle.rts_core.specs.Parts.{or_same}
 use Rattle.rts_core.specs.Worlds.{WorldView, IsWorld}
 
 -- what a PE makes of an event is what the world makes of it
-pub enabled_at : {C A : Type 0} (step : Step C) (pack : C → List ℕ) (unpack : List ℕ → Result (C × ℕ) PupError) (w : WorldView C A) (event : Event) (p : ℕ) (pe : PeView C) (d : Desk C A) (reports : List Report)
-    → slice_get w.pes p ≡ Some pe → slice_set w.pes p pe ≡ w.pes → (d, reports) ≡ or_same (desk w pe, []) (at_desk step pack unpack event (desk w pe)) → (with_desk w p d, reports) ≡ or_nothing w (enabled step pack unpack w event p)
+pub enabled_at : {C A : Type 0} (step : Step C) (pack : C → List ℕ) (unpack : List ℕ → Result (C × ℕ) PupError) (w : WorldView C A) (event : Event) (p : ℕ) (pe : PeView C) (d : LocalView C A) (reports : List TraceEntry)
+    → slice_get w.pes p ≡ Some pe → slice_set w.pes p pe ≡ w.pes → (d, reports) ≡ or_same (local_view w pe, []) (local_step step pack unpack event (local_view w pe)) → (with_local w p d, reports) ≡ or_nothing w (enabled step pack unpack w event p)
 enabled_at {C} {A} step pack unpack w event p pe d reports at same e =
-    rw at (by (at_desk step pack unpack event (desk w pe)) e)
+    rw at (by (local_step step pack unpack event (local_view w pe)) e)
   where
-    by : (o : Option (Desk C A × List Report)) → (d, reports) ≡ or_same (desk w pe, []) o → ◌≡◌ {A = After C A} (with_desk w p d, reports) (or_nothing w (option_and_then (λ (after : Desk C A × List Report). Some (with_desk w p after.0, after.1)) o))
+    by : (o : Option (LocalView C A × List TraceEntry)) → (d, reports) ≡ or_same (local_view w pe, []) o → ◌≡◌ {A = After C A} (with_local w p d, reports) (or_nothing w (option_and_then (λ (after : LocalView C A × List TraceEntry). Some (with_local w p after.0, after.1)) o))
     by None k =
-        ap (λ (x : Desk C A × List Report). (with_desk w p x.0, x.1)) k
+        ap (λ (x : LocalView C A × List TraceEntry). (with_local w p x.0, x.1)) k
         ∙ ap (λ (pes : List (PeView C)). (record { pes = pes; queues = w.queues; words = w.words; board = w.board }, [])) same
-    by (Some after) k = ap (λ (x : Desk C A × List Report). (with_desk w p x.0, x.1)) k
+    by (Some after) k = ap (λ (x : LocalView C A × List TraceEntry). (with_local w p x.0, x.1)) k
 
-pub enabled_ok : {C A E : Type 0} (step : Step C) (pack : C → List ℕ) (unpack : List ℕ → Result (C × ℕ) PupError) (w : WorldView C A) (event : Event) (p : ℕ) (pe : PeView C) (d : Desk C A) (r : Result (List Report) E)
-    → slice_get w.pes p ≡ Some pe → slice_set w.pes p pe ≡ w.pes → IfOk r (λ reports. (d, reports) ≡ or_same (desk w pe, []) (at_desk step pack unpack event (desk w pe))) → IfOk r (λ reports. (with_desk w p d, reports) ≡ or_nothing w (enabled step pack unpack w event p))
+pub enabled_ok : {C A E : Type 0} (step : Step C) (pack : C → List ℕ) (unpack : List ℕ → Result (C × ℕ) PupError) (w : WorldView C A) (event : Event) (p : ℕ) (pe : PeView C) (d : LocalView C A) (r : Result (List TraceEntry) E)
+    → slice_get w.pes p ≡ Some pe → slice_set w.pes p pe ≡ w.pes → IfOk r (λ reports. (d, reports) ≡ or_same (local_view w pe, []) (local_step step pack unpack event (local_view w pe))) → IfOk r (λ reports. (with_local w p d, reports) ≡ or_nothing w (enabled step pack unpack w event p))
 enabled_ok step pack unpack w event p pe d (Ok reports) at same ok = enabled_at step pack unpack w event p pe d reports at same ok
 enabled_ok step pack unpack w event p pe d (Err e) at same ok = tt
 
@@ -43,9 +43,9 @@ same_at pes p pe pe' (Ok v) same err = tt
 same_at pes p pe pe' (Err e) same err = ap (slice_set pes p) err ∙ same
 
 -- it is still a world, of the same run
-pub world_desk : {C A : Type 0} (step : Step C) (fits : C → Type 0) (pack : C → List ℕ) (opened : List C) (pes : ℕ) (w : WorldView C A) (p : ℕ) (d : Desk C A)
-    → IsWorld (length opened) pes w → IsDesk step fits pack opened pes d → length d.queues ≡ length w.queues → length d.words ≡ length w.words → IsWorld (length opened) pes (with_desk w p d)
-world_desk {C} step fits pack opened pes w p d h k queues words =
+pub world_local : {C A : Type 0} (step : Step C) (fits : C → Type 0) (pack : C → List ℕ) (opened : List C) (pes : ℕ) (w : WorldView C A) (p : ℕ) (d : LocalView C A)
+    → IsWorld (length opened) pes w → IsLocalView step fits pack opened pes d → length d.queues ≡ length w.queues → length d.words ≡ length w.words → IsWorld (length opened) pes (with_local w p d)
+world_local {C} step fits pack opened pes w p d h k queues words =
     record {
       some_pe = h.some_pe;
       few_pes = h.few_pes;
@@ -58,9 +58,9 @@ world_desk {C} step fits pack opened pes w p d h k queues words =
       board_pes = k.board_pes;
     }
 
-pub histories_desk : {C A : Type 0} (step : Step C) (fits : C → Type 0) (pack : C → List ℕ) (opened : List C) (pes : ℕ) (w : WorldView C A) (p : ℕ) (d : Desk C A)
-    → AreHistories step fits pack opened w → IsDesk step fits pack opened pes d → AreHistories step fits pack opened (with_desk w p d)
-histories_desk step fits pack opened pes w p d h k =
+pub histories_local : {C A : Type 0} (step : Step C) (fits : C → Type 0) (pack : C → List ℕ) (opened : List C) (pes : ℕ) (w : WorldView C A) (p : ℕ) (d : LocalView C A)
+    → AreHistories step fits pack opened w → IsLocalView step fits pack opened pes d → AreHistories step fits pack opened (with_local w p d)
+histories_local step fits pack opened pes w p d h k =
     record { pes = All-set (HasHistories step fits pack opened) w.pes p d.pe k.histories h.pes; queues = k.parcels }
 
 -- the same after the board has changed
@@ -95,7 +95,7 @@ nothing_changed {C} {A} (Err e) w w' pes queues words board =
     ∙ ap (λ (x : BoardState A). record { pes = w.pes; queues = w.queues; words = w.words; board = x }) board))
 
 -- a decision changes the board alone
-pub decided_alone : {C A E : Type 0} (r : Result (List Report) E) (w : WorldView C A) (b : BoardState A) → IfOk r (λ reports. MayDecide w.board b reports) → IfOk r (λ reports. MayDecide w.board b reports × (◌≡◌ {A = WorldView C A} (record { pes = w.pes; queues = w.queues; words = w.words; board = b }) (record { pes = w.pes; queues = w.queues; words = w.words; board = b })))
+pub decided_alone : {C A E : Type 0} (r : Result (List TraceEntry) E) (w : WorldView C A) (b : BoardState A) → IfOk r (λ reports. MayDecide w.board b reports) → IfOk r (λ reports. MayDecide w.board b reports × (◌≡◌ {A = WorldView C A} (record { pes = w.pes; queues = w.queues; words = w.words; board = b }) (record { pes = w.pes; queues = w.queues; words = w.words; board = b })))
 decided_alone (Ok reports) w b ok = (ok, refl)
 decided_alone (Err e) w b ok = tt
 

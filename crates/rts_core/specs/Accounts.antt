@@ -1,8 +1,8 @@
 -- The account of a run: where each letter is that was posted, and what an element has to do with it.
 use Rattle.std.specs.Prelude.{◌≡◌, ℕ, ◌+◌, ◌<◌, ◌≤◌, List, [], ◌∷◌, length, sum_by, Bool, ◌&&◌, ◌==◌, if◌then◌else◌}
 use Rattle.std.specs.List.{flat_map}
-use Rattle.chares.specs.declared.report.Report.{Report}
-use Rattle.chares.specs.declared.report.Report.TheVariants as Tells
+use Rattle.chares.specs.declared.trace_entry.TraceEntry.{TraceEntry}
+use Rattle.chares.specs.declared.trace_entry.TraceEntry.TheVariants as Trace
 use Rattle.chares.specs.Letters.{LetterView}
 use Rattle.chares.specs.Steps.{Step}
 use Rattle.rts_core.specs.Places.{letters, lives, journaled, sends}
@@ -16,20 +16,20 @@ times test xs = sum_by (λ x. if test x then 1 else 0) xs
 abbrev pub Said : Type 0
 Said = (ℕ × ℕ) × ℕ
 
-abbrev pub posted_by : Report → List Said
-posted_by (Tells.Posted id to) = (id, to) ∷ []
-posted_by r = []
+abbrev pub post_of : TraceEntry → List Said
+post_of (Trace.Posted id to) = (id, to) ∷ []
+post_of r = []
 
-abbrev pub executed_by : Report → List Said
-executed_by (Tells.Executed id e) = (id, e) ∷ []
-executed_by r = []
+abbrev pub execution_of : TraceEntry → List Said
+execution_of (Trace.Executed id e) = (id, e) ∷ []
+execution_of r = []
 
 -- the posts and the executions of a trace
-abbrev pub posts : List Report → List Said
-posts trace = flat_map posted_by trace
+abbrev pub posts : List TraceEntry → List Said
+posts trace = flat_map post_of trace
 
-abbrev pub executions : List Report → List Said
-executions trace = flat_map executed_by trace
+abbrev pub executions : List TraceEntry → List Said
+executions trace = flat_map execution_of trace
 
 -- whether this is a number
 abbrev pub is_number : ℕ × ℕ → ℕ × ℕ → Bool
@@ -45,7 +45,7 @@ says_both id e x = is_number id x.0 && (x.1 == e)
 -- The account of a world of n elements that was reached with a trace: a letter number is in the places and among the
 -- executions as often as it was posted, and that is at most once; where it was executed by an element it was posted
 -- to this element; and each element is in exactly one place.
-pub record Accounted {C A : Type 0} (n : ℕ) (w : WorldView C A) (trace : List Report) : Type 0 where
+pub record Accounted {C A : Type 0} (n : ℕ) (w : WorldView C A) (trace : List TraceEntry) : Type 0 where
   pub once : (id : ℕ × ℕ) → times (λ l. is_number id l.id) (letters w) + times (says_number id) (executions trace) ≡ times (says_number id) (posts trace)
   pub at_most_once : (id : ℕ × ℕ) → times (says_number id) (posts trace) ≤ 1
   pub own : (id : ℕ × ℕ) (e : ℕ) → times (says_both id e) (executions trace) ≤ times (says_both id e) (posts trace)
@@ -77,9 +77,9 @@ held_count w = length (letters w)
 abbrev pub IsCounted : {C A : Type 0} → WorldView C A → Type 0
 IsCounted w = posted_count w ≡ executed_count w + held_count w
 
--- A trace tells what a world counts: as many letters were posted as it has posts, and as many executed as it has
+-- A trace agrees with what a world counts: as many letters were posted as it has posts, and as many executed as it has
 -- executions; and a letter number is in journals as often as the trace says that it was executed.
-pub record IsTold {C A : Type 0} (w : WorldView C A) (trace : List Report) : Type 0 where
+pub record IsTraced {C A : Type 0} (w : WorldView C A) (trace : List TraceEntry) : Type 0 where
   pub posted : posted_count w ≡ length (posts trace)
   pub executed : executed_count w ≡ length (executions trace)
   pub journals : (id : ℕ × ℕ) → times (λ l. is_number id l.id) (journaled w) ≡ times (says_number id) (executions trace)

@@ -8,9 +8,10 @@ use Rattle.chares.specs.Letters.{LetterView}
 use Rattle.chares.specs.Posting.{letter_to}
 use Rattle.chares.specs.Steps.{Step}
 use Rattle.pup_pack.specs.declared.error.PupError.{PupError}
-use Rattle.pe_state.specs.Pes.{PeView, Parcel, Acting, front_parcel, placed, received, looked, gave_up, handed_back, noted, departed, resumed, acting, pe_after}
-use Rattle.pe_state.specs.Rooms.{found, sends_in}
-use Rattle.rts_core.specs.Ledgers.{Ledger, entered_in}
+use Rattle.pe_state.specs.Pes.{PeView, Parcel, Acting, new_pe, front_parcel, placed, received, looked, gave_up, handed_back, noted, departed, resumed, acting, pe_after}
+use Rattle.pe_state.specs.Histories.{HasHistories}
+use Rattle.pe_state.specs.Rooms.{found, sends_in, IsKeyed}
+use Rattle.rts_core.specs.Ledgers.{Ledger, no_ledger, entered_in, AddsUp, IsLocalAccount}
 
 -- a call of a PE: a chare is placed as an element; a parcel is received, or handed back; an element was looked for; the
 -- front of the outbox is sent; a note is done; the PE acts; an element departs to a PE, or is resumed after a round; or
@@ -101,3 +102,17 @@ module _ {C : Type 0} (step : Step C) (pack : C → List ℕ) (unpack : List ℕ
   abbrev pub with_calls : Ledger → PeView C → List (Call C) → Ledger
   with_calls ledger pe [] = ledger
   with_calls ledger pe (call ∷ calls) = with_calls (with_call ledger pe call) (after_call pe call) calls
+
+  -- after these calls, from an empty PE on, what the PE has adds up with its ledger
+  abbrev pub AddsUpAfter : ℕ → ℕ → List (Call C) → Type 0
+  AddsUpAfter me n calls = AddsUp (after_calls (new_pe me n) calls) (with_calls no_ledger (new_pe me n) calls)
+
+  -- one more call keeps that
+  abbrev pub KeepsAddingUp : PeView C → Ledger → Call C → Type 0
+  KeepsAddingUp pe ledger call = MayCall pe call → AddsUp pe ledger → AddsUp (after_call pe call) (with_call ledger pe call)
+
+  -- one more call, but the placing of a chare, keeps the local account of a PE whose elements are what their journals say
+  abbrev pub KeepsLocalAccount : (C → Type 0) → List C → PeView C → PeView C → Ledger → Call C → Type 0
+  KeepsLocalAccount fits opened start pe ledger call =
+      MayCall pe call → IsRunning call → HasHistories step fits pack opened pe → IsKeyed pe.room
+      → IsLocalAccount step opened start pe ledger → IsLocalAccount step opened start (after_call pe call) (with_call ledger pe call)

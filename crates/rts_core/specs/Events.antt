@@ -2,19 +2,18 @@
 -- those of docs/EVENTS.md; what a handler does, and Act in its four cases, is said of one PE.
 use Rattle.std.specs.Prelude.{◌≡◌, ℕ, ◌+◌, List, [], ◌∷◌, ◌++◌, Option, None, Some, Bool, not, ◌&&◌, ◌==◌, ◌⊎◌, Result, if◌then◌else◌, nat_lt, is_none, slice_get, slice_set, MatchOption}
 use Rattle.std.specs.Option.{option_map, option_and_then}
-use Rattle.chare_index.specs.declared.limits.TheConstants.Limits.{STATE_BYTES}
 use Rattle.at_sync.specs.Boards.{BoardState, Decides, place_in, after_report, after_finish}
 use Rattle.lb_database.specs.Measuring.{IsComplete, elements, report_of}
 use Rattle.chares.specs.declared.note.Note.{Note}
 use Rattle.chares.specs.declared.note.Note.TheVariants.{Sync, Finish}
-use Rattle.chares.specs.declared.report.Report.{Report}
-use Rattle.chares.specs.declared.report.Report.TheVariants.{Synced, Decided, Departed}
+use Rattle.chares.specs.declared.trace_entry.TraceEntry.{TraceEntry}
+use Rattle.chares.specs.declared.trace_entry.TraceEntry.TheVariants.{Synced, Decided, Departed}
 use Rattle.chares.specs.Elements.{ElementView}
 use Rattle.chares.specs.Steps.{Step}
 use Rattle.pup_pack.specs.declared.error.PupError.{PupError}
 use Rattle.rts_core.specs.declared.event.Event.{Event}
-use Rattle.rts_core.specs.declared.event.Event.TheVariants.{Start, Look, Flush, Deliver, Act, Report as Hand, Decide, Depart, Resume}
-use Rattle.pe_state.specs.Pes.{PeView, Parcel, wanted, looked, front_address, front_parcel, gave_up, received, noted, resumed, resume_reports, departed, acting, waits_for}
+use Rattle.rts_core.specs.declared.event.Event.TheVariants.{Start, Look, Flush, Deliver, Act, Report, Decide, Depart, Resume}
+use Rattle.pe_state.specs.Pes.{PeView, Parcel, wanted, looked, front_address, front_parcel, gave_up, received, noted, resumed, resume_entries, departed, acting, waits_for}
 use Rattle.pe_state.specs.Rooms.{found}
 use Rattle.rts_core.specs.Worlds.{WorldView}
 
@@ -40,32 +39,32 @@ due pe b e = do
   q ← place_in b round e
   Some (round, q)
 
--- the board after a note, where it is one that the board takes: of an element on one of its PEs, for its round, the
--- first of that element there, and of a size within the limit
+-- the board after a note, where it is one that the board takes: of an element that it knows, on one of its PEs, for its
+-- round, and the first of that element there; or that an element has finished which it knows
 abbrev pub board_after : {A : Type 0} → BoardState A → Note → Option (BoardState A)
 board_after b (Sync e round units bytes pe) =
     where_true
-    (nat_lt pe b.pes && (nat_lt e (elements b.database) && ((round == b.database.round) && (is_none (report_of b.database e) && not (nat_lt STATE_BYTES bytes)))))
+    (nat_lt pe b.pes && (nat_lt e (elements b.database) && ((round == b.database.round) && is_none (report_of b.database e))))
     (Some (after_report b e units bytes pe))
 board_after b (Finish e) = where_true (nat_lt e (elements b.database)) (Some (after_finish b e))
 
--- what is reported of a note
-abbrev pub note_reports : Note → List Report
-note_reports (Sync e round units bytes pe) = Synced e round ∷ []
-note_reports (Finish e) = []
+-- the trace entries of a note
+abbrev pub note_entries : Note → List TraceEntry
+note_entries (Sync e round units bytes pe) = Synced e round ∷ []
+note_entries (Finish e) = []
 
 -- What an event makes of a PE, and of what else it reads or changes, where it is enabled.
 module _ {C : Type 0} where
   -- Look: a letter has to be looked for; it gets the PE in the word of its element
-  abbrev pub looked_up : PeView C → List ℕ → Option (PeView C)
-  looked_up pe words = do
+  abbrev pub look_event : PeView C → List ℕ → Option (PeView C)
+  look_event pe words = do
     e ← wanted pe
     word ← slice_get words e
     Some (looked pe word)
 
   -- Flush: the front of the outbox has an address; it goes to the back of that PE's queue
-  abbrev pub flushed : PeView C → List (List Parcel) → Option (PeView C × List (List Parcel))
-  flushed pe queues = do
+  abbrev pub flush_event : PeView C → List (List Parcel) → Option (PeView C × List (List Parcel))
+  flush_event pe queues = do
     q ← front_address pe.outbox
     parcel ← front_parcel pe.outbox
     queue ← slice_get queues q
@@ -77,45 +76,45 @@ module _ {C : Type 0} where
     front ← where_true (is_none pe.hand) (front_of queue)
     Some (received pe front.0, front.1)
 
-  abbrev pub delivered_from : PeView C → List (List Parcel) → ℕ → Option (PeView C × List (List Parcel))
-  delivered_from pe queues p = do
+  abbrev pub deliver_event : PeView C → List (List Parcel) → ℕ → Option (PeView C × List (List Parcel))
+  deliver_event pe queues p = do
     queue ← slice_get queues p
     after ← delivered pe queue
     Some (after.0, slice_set queues p after.1)
 
-  -- Report: a note is owed; the first one goes to the board
-  abbrev pub handed_in : {A : Type 0} → PeView C → BoardState A → Option (PeView C × BoardState A × List Report)
-  handed_in pe b = do
+  -- Report: a note is owed; the first one goes to the board, which takes it
+  abbrev pub report_event : {A : Type 0} → PeView C → BoardState A → Option (PeView C × BoardState A × List TraceEntry)
+  report_event pe b = do
     note ← slice_get pe.notes 0
     after ← board_after b note
-    Some (noted pe, after, note_reports note)
+    Some (noted pe, after, note_entries note)
 
 module _ {C : Type 0} (step : Step C) (pack : C → List ℕ) where
   -- Start: e stands in the room and has not started; its handler runs for round 0
-  abbrev pub started : PeView C → ℕ → Option (PeView C × List Report)
-  started pe e = do
+  abbrev pub start_event : PeView C → ℕ → Option (PeView C × List TraceEntry)
+  start_event pe e = do
     el ← found e pe.room
-    where_true (not el.progress.started) (Some (resumed step pack pe e 0, resume_reports step pack pe e 0))
+    where_true (not el.progress.started) (Some (resumed step pack pe e 0, resume_entries step pack pe e 0))
 
   -- Depart, of PE p: e waits for the end of a round that is decided, and its place is another PE; it is packed and put
   -- into the outbox for that PE, which its word names from now on
-  abbrev pub left : {A : Type 0} → ℕ → PeView C → List ℕ → BoardState A → ℕ → Option (PeView C × List ℕ × List Report)
-  left p pe words b e = do
+  abbrev pub depart_event : {A : Type 0} → ℕ → PeView C → List ℕ → BoardState A → ℕ → Option (PeView C × List ℕ × List TraceEntry)
+  depart_event p pe words b e = do
     at ← due pe b e
     where_true (not (at.1 == p)) (Some (departed pack pe e at.1, slice_set words e at.1, Departed e ∷ []))
 
   -- Resume, of PE p: the same, and its place is p; its handler runs for that round
-  abbrev pub went_on : {A : Type 0} → ℕ → PeView C → BoardState A → ℕ → Option (PeView C × List Report)
-  went_on p pe b e = do
+  abbrev pub resume_event : {A : Type 0} → ℕ → PeView C → BoardState A → ℕ → Option (PeView C × List TraceEntry)
+  resume_event p pe b e = do
     at ← due pe b e
-    where_true (at.1 == p) (Some (resumed step pack pe e at.0, resume_reports step pack pe e at.0))
+    where_true (at.1 == p) (Some (resumed step pack pe e at.0, resume_entries step pack pe e at.0))
 
   -- Act: what the hand holds is installed, executed, shelved or forwarded
-  abbrev pub acted : (List ℕ → Result (C × ℕ) PupError) → PeView C → Option (PeView C × List Report)
-  acted unpack pe = option_map (λ a. (a.pe, a.reports)) (acting step pack unpack pe)
+  abbrev pub act_event : (List ℕ → Result (C × ℕ) PupError) → PeView C → Option (PeView C × List TraceEntry)
+  act_event unpack pe = option_map (λ a. (a.pe, a.trace)) (acting step pack unpack pe)
 
--- What one PE sees as it makes a step: itself, the queues, the words and the board.
-pub record Desk (C A : Type 0) : Type 0 where
+-- The local view of a PE, which makes a step: the PE itself, the queues, the words and the board.
+pub record LocalView (C A : Type 0) : Type 0 where
   pub pe : PeView C
   pub queues : List (List Parcel)
   pub words : List ℕ
@@ -128,69 +127,69 @@ pe_of (Look p) = Some p
 pe_of (Flush p) = Some p
 pe_of (Deliver p) = Some p
 pe_of (Act p) = Some p
-pe_of (Hand p) = Some p
+pe_of (Report p) = Some p
 pe_of Decide = None
 pe_of (Depart p e) = Some p
 pe_of (Resume p e) = Some p
 
 module _ {C A : Type 0} (step : Step C) (pack : C → List ℕ) (unpack : List ℕ → Result (C × ℕ) PupError) where
-  -- what that PE makes of it, and its reports, where the event is enabled
-  abbrev pub at_desk : Event → Desk C A → Option (Desk C A × List Report)
-  at_desk (Start p e) d = do
-    after ← started step pack d.pe e
+  -- its step: what that PE makes of the event, with the trace entries, where the event is enabled
+  abbrev pub local_step : Event → LocalView C A → Option (LocalView C A × List TraceEntry)
+  local_step (Start p e) d = do
+    after ← start_event step pack d.pe e
     Some (record d { pe = after.0 }, after.1)
-  at_desk (Look p) d = do
-    after ← looked_up d.pe d.words
+  local_step (Look p) d = do
+    after ← look_event d.pe d.words
     Some (record d { pe = after }, [])
-  at_desk (Flush p) d = do
-    after ← flushed d.pe d.queues
+  local_step (Flush p) d = do
+    after ← flush_event d.pe d.queues
     Some (record d { pe = after.0; queues = after.1 }, [])
-  at_desk (Deliver p) d = do
-    after ← delivered_from d.pe d.queues p
+  local_step (Deliver p) d = do
+    after ← deliver_event d.pe d.queues p
     Some (record d { pe = after.0; queues = after.1 }, [])
-  at_desk (Act p) d = do
-    after ← acted step pack unpack d.pe
+  local_step (Act p) d = do
+    after ← act_event step pack unpack d.pe
     Some (record d { pe = after.0 }, after.1)
-  at_desk (Hand p) d = do
-    after ← handed_in d.pe d.board
+  local_step (Report p) d = do
+    after ← report_event d.pe d.board
     Some (record d { pe = after.0; board = after.1 }, after.2)
-  at_desk (Depart p e) d = do
-    after ← left step pack p d.pe d.words d.board e
+  local_step (Depart p e) d = do
+    after ← depart_event step pack p d.pe d.words d.board e
     Some (record d { pe = after.0; words = after.1 }, after.2)
-  at_desk (Resume p e) d = do
-    after ← went_on step pack p d.pe d.board e
+  local_step (Resume p e) d = do
+    after ← resume_event step pack p d.pe d.board e
     Some (record d { pe = after.0 }, after.1)
-  at_desk Decide d = None
+  local_step Decide d = None
 
--- the world after an event, and its reports
+-- the world after an event, and the trace entries of that
 abbrev pub After : Type 0 → Type 0 → Type 0
-After C A = WorldView C A × List Report
+After C A = WorldView C A × List TraceEntry
 
--- a PE of the world with all that it sees, and the world after its step
-abbrev pub desk : {C A : Type 0} → WorldView C A → PeView C → Desk C A
-desk w pe = record { pe = pe; queues = w.queues; words = w.words; board = w.board }
+-- the local view of a PE of the world, and the world after the step of that PE
+abbrev pub local_view : {C A : Type 0} → WorldView C A → PeView C → LocalView C A
+local_view w pe = record { pe = pe; queues = w.queues; words = w.words; board = w.board }
 
-abbrev pub with_desk : {C A : Type 0} → WorldView C A → ℕ → Desk C A → WorldView C A
-with_desk w p d = record { pes = slice_set w.pes p d.pe; queues = d.queues; words = d.words; board = d.board }
+abbrev pub with_local : {C A : Type 0} → WorldView C A → ℕ → LocalView C A → WorldView C A
+with_local w p d = record { pes = slice_set w.pes p d.pe; queues = d.queues; words = d.words; board = d.board }
 
--- an event that is not enabled changes nothing, and reports nothing
+-- an event that is not enabled changes nothing, and adds nothing to the trace
 abbrev pub or_nothing : {C A : Type 0} → WorldView C A → Option (After C A) → After C A
 or_nothing w None = (w, [])
 or_nothing w (Some after) = after
 
 -- Decide, where every element has reported in a round that is not the last: the board decides it
-pub record IsDecision {A : Type 0} (before after : BoardState A) (reports : List Report) : Type 0 where
+pub record IsDecision {A : Type 0} (before after : BoardState A) (reports : List TraceEntry) : Type 0 where
   pub decides : Decides before after
-  pub told : reports ≡ Decided before.database.round ∷ []
+  pub traced : reports ≡ Decided before.database.round ∷ []
 
 -- Decide, where an element has not reported
-pub record IsTooEarly {A : Type 0} (before after : BoardState A) (reports : List Report) : Type 0 where
+pub record IsTooEarly {A : Type 0} (before after : BoardState A) (reports : List TraceEntry) : Type 0 where
   pub incomplete : ¬ (IsComplete before.database)
   pub same : after ≡ before
   pub quiet : reports ≡ []
 
 -- the board decides, or it is too early
-abbrev pub MayDecide : {A : Type 0} → BoardState A → BoardState A → List Report → Type 0
+abbrev pub MayDecide : {A : Type 0} → BoardState A → BoardState A → List TraceEntry → Type 0
 MayDecide before after reports = IsDecision before after reports ⊎ IsTooEarly before after reports
 
 module _ {C A : Type 0} (step : Step C) (pack : C → List ℕ) (unpack : List ℕ → Result (C × ℕ) PupError) where
@@ -198,8 +197,8 @@ module _ {C A : Type 0} (step : Step C) (pack : C → List ℕ) (unpack : List �
   abbrev pub enabled : WorldView C A → Event → ℕ → Option (After C A)
   enabled w event p = do
     pe ← slice_get w.pes p
-    after ← at_desk step pack unpack event (desk w pe)
-    Some (with_desk w p after.0, after.1)
+    after ← local_step step pack unpack event (local_view w pe)
+    Some (with_local w p after.0, after.1)
 
   -- what an event makes of a world; which of the best decisions is made is free
   abbrev pub Happens : WorldView C A → Event → After C A → Type 0

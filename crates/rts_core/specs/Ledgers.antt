@@ -31,8 +31,8 @@ all_letters_at pe = letters_at pe ++ flat_map letters_of_life (lives_at pe)
 
 -- Letters posted and received are letters given away, held and in journals: however a weight is given to the number,
 -- the element and the body of each, the sums agree. And the numbers posted are those below the count, in order.
-pub record IsBalanced {C : Type 0} (pe : PeView C) (ledger : Ledger) : Type 0 where
-  pub balance : (weight : ℕ × ℕ → ℕ → List ℕ → ℕ) → sum_by (λ l. weight l.id l.to l.body) (all_letters_at pe) + sum_by (λ l. weight l.id l.to l.body) (flat_map all_letters_in ledger.gone) ≡ sum_by (λ l. weight l.id l.to l.body) (flat_map all_letters_in ledger.came) + sum_by (λ l. weight l.id l.to l.body) ledger.posted
+pub record AddsUp {C : Type 0} (pe : PeView C) (ledger : Ledger) : Type 0 where
+  pub conserved : (weight : ℕ × ℕ → ℕ → List ℕ → ℕ) → sum_by (λ l. weight l.id l.to l.body) (all_letters_at pe) + sum_by (λ l. weight l.id l.to l.body) (flat_map all_letters_in ledger.gone) ≡ sum_by (λ l. weight l.id l.to l.body) (flat_map all_letters_in ledger.came) + sum_by (λ l. weight l.id l.to l.body) ledger.posted
   pub numbered : map (λ l. l.id) ledger.posted ≡ map (λ k. (pe.me, k)) (range_with_len 0 pe.count)
 
 -- A weight of elements that no handler changes: an element weighs the same after one more entry, be it a resumption or
@@ -40,12 +40,12 @@ pub record IsBalanced {C : Type 0} (pe : PeView C) (ledger : Ledger) : Type 0 wh
 abbrev pub IsSteady : (Life → ℕ) → Type 0
 IsSteady weight = (e : ℕ) (journal : List Done) (done : Done) → All (λ l. l.to ≡ e) (letters_of_entry done) → weight (e, journal ++ done ∷ []) ≡ weight (e, journal)
 
--- The whole local account of a PE that began as `start`. Its letters are balanced. The elements that it had and received
+-- The whole local account of a PE that began as `start`. Its letters add up. The elements that it had and received
 -- are those that it has and has given away, however they are weighed by what no handler changes. And what its elements
 -- have sent, and those that it gave away, is what it has posted and what those had sent that it received, with target and
 -- body.
 pub record IsLocalAccount {C : Type 0} (step : Step C) (opened : List C) (start pe : PeView C) (ledger : Ledger) : Type 0 where
   pub same_me : pe.me ≡ start.me
-  pub letters : IsBalanced pe ledger
+  pub letters : AddsUp pe ledger
   pub lives : (weight : Life → ℕ) → IsSteady weight → sum_by weight (lives_at pe) + sum_by weight (flat_map lives_in ledger.gone) ≡ sum_by weight (lives_at start) + sum_by weight (flat_map lives_in ledger.came)
   pub sent : (weight : ℕ × List ℕ → ℕ) → sum_by weight (flat_map (sends_of step opened) (lives_at pe)) + sum_by weight (flat_map (sends_of step opened) (flat_map lives_in ledger.gone)) ≡ sum_by (λ l. weight (message l)) ledger.posted + sum_by weight (flat_map (sends_of step opened) (flat_map lives_in ledger.came))

@@ -9,7 +9,7 @@ use Rattle.std.specs.Option.{option_map_or, option_to_list}
 use Rattle.chares.specs.declared.carried.Carried.TheVariants.{Letter, Element}
 use Rattle.chares.specs.declared.entry.Entry.TheVariants.{Letter as OfLetter, Resumption}
 use Rattle.chares.specs.Elements.{ElementView}
-use Rattle.chares.specs.Letters.{LetterView, Done, told_of}
+use Rattle.chares.specs.Letters.{LetterView, Done, input_of}
 use Rattle.chares.specs.Steps.{Step}
 use Rattle.pe_state.specs.Pes.{PeView, Parcel, Item}
 use Rattle.rts_core.specs.Worlds.{WorldView}
@@ -65,7 +65,7 @@ module _ {C : Type 0} (step : Step C) where
   abbrev pub sent_over : ℕ → ℕ → C → List Done → List (ℕ × List ℕ)
   sent_over e n chare [] = []
   sent_over e n chare (done ∷ journal) =
-      (step chare e n (told_of done)).sends ++ sent_over e n (step chare e n (told_of done)).state journal
+      (step chare e n (input_of done)).sends ++ sent_over e n (step chare e n (input_of done)).state journal
 
   -- what an element has sent: what its chare sends over its journal, from its opening state on
   abbrev pub sends_of : List C → Life → List (ℕ × List ℕ)

@@ -25,15 +25,15 @@ placed_on pes q e chare None = pes
 placed_on pes q e chare (Some pe) = slice_set pes q (placed pe e chare)
 
 -- each of these chares, the first as element e of n, is placed on its home
-abbrev pub settled : {C : Type 0} → ℕ → List (PeView C) → ℕ → List C → List (PeView C)
-settled n pes e [] = pes
-settled n pes e (chare ∷ chares) =
+abbrev pub all_placed : {C : Type 0} → ℕ → List (PeView C) → ℕ → List C → List (PeView C)
+all_placed n pes e [] = pes
+all_placed n pes e (chare ∷ chares) =
     let q = home e n (length pes) in
-    settled n (placed_on pes q e chare (slice_get pes q)) (e + 1) chares
+    all_placed n (placed_on pes q e chare (slice_get pes q)) (e + 1) chares
 
 -- the PEs as a run opens: each element stands on its home, not started
 abbrev pub opening_pes : {C : Type 0} → ℕ → List C → List (PeView C)
-opening_pes pes chares = settled (length chares) (map (λ q. new_pe q (length chares)) (range_with_len 0 pes)) 0 chares
+opening_pes pes chares = all_placed (length chares) (map (λ q. new_pe q (length chares)) (range_with_len 0 pes)) 0 chares
 
 -- the words as a run of n elements opens: of each element its home
 abbrev pub opening_words : ℕ → ℕ → List ℕ

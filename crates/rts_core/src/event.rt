@@ -16,7 +16,7 @@ pub enum Event {
     Deliver(Pe),
     /// This PE acts on what its hand holds.
     Act(Pe),
-    /// This PE hands the first note that it owes to the board.
+    /// The board gets the first note that this PE owes.
     Report(Pe),
     /// The board decides its round.
     Decide,

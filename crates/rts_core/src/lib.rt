@@ -3,25 +3,25 @@
 //! - [`World`], with [`Event`], [`Reports`] and [`Account`]: a run, step by step, and where its letters are.
 //! - [`Chare`], with [`Here`], [`Effect`], [`Sends`] and [`SendError`]: what a program writes.
 //! - [`PeState`], with [`Room`], [`HeldParcel`], [`PeEnd`] and [`StepError`]: one PE, which a worker runs.
-//! - [`Element`], [`Letter`], [`Entry`], [`Progress`], [`Note`], [`Mark`] and [`Report`]: what they hold and tell.
+//! - [`Element`], [`Letter`], [`Entry`], [`Progress`], [`Note`], [`Mark`] and [`TraceEntry`]: what they hold, and what a step adds to the trace.
 #![tactic(auto)]
 
 mod account;
-mod balancing;
 mod event;
+mod handlers;
 mod laws;
 mod opening;
-mod passing;
 mod queue;
 mod reports;
 mod stepping;
-mod working;
+mod sync;
+mod transport;
 mod world;
 
 pub use account::{Account, addressed, letters_held};
 pub use chares::{
-    Chare, Effect, Element, Entry, Here, Letter, LetterId, Mark, Note, Progress, Report, SendError,
-    Sends,
+    Chare, Effect, Element, Entry, Here, Letter, LetterId, Mark, Note, Progress, SendError, Sends,
+    TraceEntry,
 };
 pub use event::Event;
 pub use laws::{account_laws, local_account_laws};

@@ -7,7 +7,7 @@ ghost use Rattle.std.specs.Map.{keys_of};
 ghost use Rattle.chare_index.specs.declared.limits.TheConstants.Limits.{ELEMENTS, PES};
 ghost use Rattle.pe_state.specs.Pes.{PeView, new_pe};
 ghost use Rattle.pe_state.specs.Histories.{HasHistories};
-ghost use Rattle.rts_core.specs.Worlds.{home, placed_on, settled, opening_pes, opening_words};
+ghost use Rattle.rts_core.specs.Worlds.{home, placed_on, all_placed, opening_pes, opening_words};
 
 use crate::queue::Queue;
 use chare_index::{Index, Limits, Pe, opening_pe};
@@ -35,7 +35,7 @@ pub fn opening_pes<C: Chare<A>, H: Openings<C>, A: Allocator + Copy>(
 {
     let n = chares.len() as u32;
     let mut made = bare_pes(alloc, pes, n)?;
-    settle(&mut made, n, chares)?;
+    place_all(&mut made, n, chares)?;
     Ok(made)
 }
 
@@ -101,7 +101,7 @@ pub fn opening_words<A: Allocator>(alloc: A, n: u32, pes: u32) -> Result<Vec<Pe,
 }
 
 // Places each chare on the PE on which it opens.
-fn settle<C: Chare<A>, H: Openings<C>, A: Allocator + Copy>(
+fn place_all<C: Chare<A>, H: Openings<C>, A: Allocator + Copy>(
     pes: &mut Vec<PeState<C, H, A>, A>,
     n: u32,
     chares: Vec<C, A>,
@@ -113,7 +113,7 @@ fn settle<C: Chare<A>, H: Openings<C>, A: Allocator + Copy>(
     requires few_pes { length pes.old.items ≤ Limits.PES }
     requires histories { All (HasHistories C.step C.fits C.pack H.opened) pes.old.items }
     requires empty { All (λ pe. All (λ k. k < 0) (keys_of pe.room)) pes.old.items }
-    ensures settled { OnOk result (pes.new.items ≡ settled n pes.old.items 0 chares.items) }
+    ensures all_placed { OnOk result (pes.new.items ≡ all_placed n pes.old.items 0 chares.items) }
     ensures counted { length pes.new.items ≡ length pes.old.items }
     ensures histories { OnOk result (All (HasHistories C.step C.fits C.pack H.opened) pes.new.items) }
 {
@@ -157,7 +157,8 @@ fn place_home<C: Chare<A>, H: Openings<C>, A: Allocator + Copy>(
     requires few_pes { length pes.old.items ≤ Limits.PES }
     requires histories { All (HasHistories C.step C.fits C.pack H.opened) pes.old.items }
     requires before { All (λ pe. All (λ k. k < index) (keys_of pe.room)) pes.old.items }
-    ensures placed { OnOk result (pes.new.items ≡ placed_on pes.old.items (home index n (length pes.old.items)) index chare (slice_get pes.old.items (home index n (length pes.old.items)))) }
+    ensures placed { OnOk result
+        (pes.new.items ≡ placed_on pes.old.items (home index n (length pes.old.items)) index chare (slice_get pes.old.items (home index n (length pes.old.items)))) }
     ensures counted { length pes.new.items ≡ length pes.old.items }
     ensures histories { OnOk result (All (HasHistories C.step C.fits C.pack H.opened) pes.new.items) }
     ensures before { OnOk result (All (λ pe. All (λ k. k < index + 1) (keys_of pe.room)) pes.new.items) }

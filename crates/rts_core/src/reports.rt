@@ -1,28 +1,28 @@
-//! What an event reports.
+//! What a step of the world returns.
 
 ghost use Rattle.std.specs.Prelude.{◌≡◌, [], ◌↔◌, IsTrue, length};
 
-use chares::Report;
+use chares::TraceEntry;
 use std::alloc::{Allocator, Global};
 use std::marker::Model;
 
-/// The reports of one event, in order. Contracts see them as a list.
+/// The reports of one event: the entries that it adds to the trace, in order. Contracts see them as a list.
 #[derive(Drop)]
 pub struct Reports<A: Allocator = Global> {
-    reports: Vec<Report, A>,
+    reports: Vec<TraceEntry, A>,
 }
 
 impl<A: Allocator> Model for Reports<A> {
     ghost use Rattle.std.specs.Prelude.{List};
-    ghost use Rattle.chares.specs.declared.report.Report.{Report};
+    ghost use Rattle.chares.specs.declared.trace_entry.TraceEntry.{TraceEntry};
 
-    ghost Value = { List Report };
+    ghost Value = { List TraceEntry };
 
     ghost view = { λ r. r.reports.items };
 }
 
 impl<A: Allocator> Reports<A> {
-    /// Of an event that reports nothing.
+    /// Of an event that adds nothing to the trace.
     pub(crate) fn none(alloc: A) -> Self
         ensures made { result ≡ [] }
     {
@@ -31,21 +31,21 @@ impl<A: Allocator> Reports<A> {
         }
     }
 
-    /// Of an event with these reports.
-    pub(crate) fn of(reports: Vec<Report, A>) -> Self
+    /// Of an event with these entries.
+    pub(crate) fn of(reports: Vec<TraceEntry, A>) -> Self
         ensures made { result ≡ reports.items }
     {
         Reports { reports }
     }
 
-    /// The reports.
-    pub fn as_slice(&self) -> &[Report]
+    /// The entries.
+    pub fn as_slice(&self) -> &[TraceEntry]
         ensures value { result.now ≡ self.now }
     {
         self.reports.as_slice()
     }
 
-    /// How many reports there are.
+    /// How many entries there are.
     pub fn len(&self) -> usize
         ensures value { result ≡ length self.now }
     {

@@ -2,19 +2,19 @@
 
 ghost use Rattle.std.specs.Prelude.{◌≡◌, ◌<◌, ℕ, List, [], length, IfOk, IfErr, OnOk, OnErr, IfSome, MatchOption, All, slice_get};
 ghost use Rattle.lb_database.specs.Measuring.{elements};
-ghost use Rattle.chares.specs.declared.report.Report.{Report};
-ghost use Rattle.rts_core.specs.Events.{Desk, at_desk, or_nothing, enabled};
-ghost use Rattle.rts_core.specs.Histories.{IsDesk, AreHistories};
+ghost use Rattle.chares.specs.declared.trace_entry.TraceEntry.{TraceEntry};
+ghost use Rattle.rts_core.specs.Events.{LocalView, local_step, or_nothing, enabled};
+ghost use Rattle.rts_core.specs.Histories.{IsLocalView, AreHistories};
 ghost use Rattle.rts_core.specs.Parts.{or_same};
 ghost use Rattle.rts_core.specs.Refusals.{RefusesAt};
 ghost use Rattle.rts_core.specs.Worlds.{IsWorld};
 
-use crate::balancing::{depart, hand_in};
 use crate::event::Event;
-use crate::passing::{deliver_at, flush, look_up};
+use crate::handlers::{act, resume, start};
 use crate::queue::Queue;
 use crate::reports::Reports;
-use crate::working::{act, resume, start};
+use crate::sync::{depart, report};
+use crate::transport::{deliver_at, flush, look_up};
 use at_sync::Board;
 use chare_index::Pe;
 use chares::{Chare, Openings};
@@ -31,14 +31,17 @@ pub(crate) fn step_at<C: Chare<A>, H: Openings<C>, A: Allocator + Copy>(
     board: &mut Board<A>,
 ) -> Result<Reports<A>, StepError>
     requires words_counted { length words.old ≡ length H.opened }
-    requires run { IsDesk C.step C.fits C.pack H.opened H.pes (record { pe = pe.old; queues = queues.old; words = words.old; board = board.old }) }
-    ensures ok { IfOk result (λ reports. (record { pe = pe.new; queues = queues.new; words = words.new; board = board.new }, reports) ≡ or_same (record { pe = pe.old; queues = queues.old; words = words.old; board = board.old }, []) (at_desk C.step C.pack C.unpack event (record { pe = pe.old; queues = queues.old; words = words.old; board = board.old }))) }
+    requires run { IsLocalView C.step C.fits C.pack H.opened H.pes (record { pe = pe.old; queues = queues.old; words = words.old; board = board.old }) }
+    ensures ok { IfOk result
+        (λ reports. (record { pe = pe.new; queues = queues.new; words = words.new; board = board.new }, reports)
+        ≡ or_same (record { pe = pe.old; queues = queues.old; words = words.old; board = board.old }, [])
+        (local_step C.step C.pack C.unpack event (record { pe = pe.old; queues = queues.old; words = words.old; board = board.old }))) }
     ensures same_pe { OnErr result (pe.new ≡ pe.old) }
     ensures same_queues { OnErr result (queues.new ≡ queues.old) }
     ensures same_words { OnErr result (words.new ≡ words.old) }
     ensures same_board { OnErr result (board.new ≡ board.old) }
     ensures refused { IfErr result (RefusesAt C.step C.pack C.refuses C.unpack event (record { pe = pe.old; queues = queues.old; words = words.old; board = board.old })) }
-    ensures kept { IsDesk C.step C.fits C.pack H.opened H.pes (record { pe = pe.new; queues = queues.new; words = words.new; board = board.new }) }
+    ensures kept { IsLocalView C.step C.fits C.pack H.opened H.pes (record { pe = pe.new; queues = queues.new; words = words.new; board = board.new }) }
 {
     match event {
         Event::Start(_, e) => start(alloc, pe, e),
@@ -56,7 +59,7 @@ pub(crate) fn step_at<C: Chare<A>, H: Openings<C>, A: Allocator + Copy>(
         }
         Event::Act(_) => act(alloc, pe),
         Event::Report(_) => {
-            let reports = hand_in(alloc, pe, board)?;
+            let reports = report(alloc, pe, board)?;
             Ok(reports)
         }
         Event::Decide => Ok(Reports::none(alloc)),
@@ -78,12 +81,17 @@ pub(crate) fn step_in<C: Chare<A>, H: Openings<C>, A: Allocator + Copy>(
 ) -> Result<Reports<A>, StepError>
     requires world { IsWorld (length H.opened) H.pes (record { pes = pes.old; queues = queues.old; words = words.old; board = board.old }) }
     requires run { AreHistories C.step C.fits C.pack H.opened (record { pes = pes.old; queues = queues.old; words = words.old; board = board.old }) }
-    ensures ok { IfOk result (λ reports. (record { pes = pes.new; queues = queues.new; words = words.new; board = board.new }, reports) ≡ or_nothing (record { pes = pes.old; queues = queues.old; words = words.old; board = board.old }) (enabled C.step C.pack C.unpack (record { pes = pes.old; queues = queues.old; words = words.old; board = board.old }) event p)) }
+    ensures ok { IfOk result
+        (λ reports. (record { pes = pes.new; queues = queues.new; words = words.new; board = board.new }, reports)
+        ≡ or_nothing (record { pes = pes.old; queues = queues.old; words = words.old; board = board.old })
+        (enabled C.step C.pack C.unpack (record { pes = pes.old; queues = queues.old; words = words.old; board = board.old }) event p)) }
     ensures same_pes { OnErr result (pes.new ≡ pes.old) }
     ensures same_queues { OnErr result (queues.new ≡ queues.old) }
     ensures same_words { OnErr result (words.new ≡ words.old) }
     ensures same_board { OnErr result (board.new ≡ board.old) }
-    ensures refused { IfErr result (λ error. MatchOption (slice_get pes.old p) ⊥ (λ pe. RefusesAt C.step C.pack C.refuses C.unpack event (record { pe = pe; queues = queues.old; words = words.old; board = board.old }) error)) }
+    ensures refused { IfErr result
+        (λ error. MatchOption (slice_get pes.old p) ⊥
+        (λ pe. RefusesAt C.step C.pack C.refuses C.unpack event (record { pe = pe; queues = queues.old; words = words.old; board = board.old }) error)) }
     ensures world { IsWorld (length H.opened) H.pes (record { pes = pes.new; queues = queues.new; words = words.new; board = board.new }) }
     ensures run { AreHistories C.step C.fits C.pack H.opened (record { pes = pes.new; queues = queues.new; words = words.new; board = board.new }) }
 {

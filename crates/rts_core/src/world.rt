@@ -4,22 +4,22 @@ ghost use Rattle.std.specs.Prelude.{◌++◌, ◌+◌, ◌≡◌, ◌<◌, ◌�
 ghost use Rattle.std.specs.Option.{option_copied};
 ghost use Rattle.lb_database.specs.Measuring.{elements};
 ghost use Rattle.pe_state.specs.Pes.{PeView};
-ghost use Rattle.rts_core.specs.Events.{Happens, MayDecide, or_nothing, enabled, desk};
-ghost use Rattle.chares.specs.declared.report.Report.{Report};
+ghost use Rattle.rts_core.specs.Events.{Happens, MayDecide, or_nothing, enabled, local_view};
+ghost use Rattle.chares.specs.declared.trace_entry.TraceEntry.{TraceEntry};
 ghost use Rattle.rts_core.specs.declared.event.Event.{Event};
 ghost use Rattle.rts_core.specs.Accounts.{Accounted, AreSent, IsCounted, posted_count, executed_count, held_count};
-ghost use Rattle.rts_core.specs.Runs.{Leads};
+ghost use Rattle.rts_core.specs.Runs.{Reaches};
 ghost use Rattle.rts_core.specs.Histories.{AreHistories};
 ghost use Rattle.rts_core.specs.Refusals.{RefusesAt, RefusesDecide, RefusesEvent};
 ghost use Rattle.rts_core.specs.Worlds.{IsWorld, opening_world};
 
 use crate::account::{Account, held_by, posted_by, queued_in};
-use crate::balancing::decide;
 use crate::event::Event;
 use crate::opening::{opening_pes, opening_queues, opening_words};
 use crate::queue::Queue;
 use crate::reports::Reports;
 use crate::stepping::step_in;
+use crate::sync::decide;
 use at_sync::Board;
 use chare_index::{Index, Limits, Pe};
 use chares::{Chare, Openings};
@@ -29,6 +29,22 @@ use std::marker::Model;
 
 /// The PEs of a run with a queue before each, the word of each element, and the board. A step that is refused leaves it
 /// as it was. Contracts see it as the record `WorldView`. Every element in it is what its journal says, wherever it is.
+///
+/// # Example
+///
+/// Two elements on two PEs, each of which posts a letter to the other as it starts. One letter is looked for, put into
+/// the queue of the other PE, taken from it and executed; the other letter waits in its outbox.
+///
+/// ```text
+/// let mut world = World::new(rt.alloc(), 2, chares)?;
+/// world.step(Event::Start(p0, e0))?;
+/// world.step(Event::Start(p1, e1))?;
+/// world.step(Event::Look(p0))?;
+/// world.step(Event::Flush(p0))?;
+/// world.step(Event::Deliver(p1))?;
+/// world.step(Event::Act(p1))?;
+/// assert!(world.account() == Account { posted: 2, executed: 1, held: 1 });
+/// ```
 #[derive(Drop)]
 pub struct World<C: Chare<A>, H: Openings<C>, A: Allocator = Global> {
     pes: Vec<PeState<C, H, A>, A>,
@@ -83,18 +99,20 @@ impl<C: Chare<A>, H: Openings<C>, A: Allocator + Copy> World<C, H, A> {
         })
     }
 
-    /// One event. It returns what is reported of it, in order. An event that is not enabled, or that names a PE or an
-    /// element that is not there, changes nothing and reports nothing.
+    /// One event. It returns the trace entries of the event, in order. An event that is not enabled, or that names a PE or
+    /// an element that is not there, changes nothing and has no trace entries.
     ///
-    /// What holds of the trace of every list of events is proved above this crate: that nobody goes on before all have
-    /// reported and the round was decided, once, and that each then stands at its place (`barrier_law::barrier_law`); that
+    /// What holds of the trace of every list of events is proved above this crate: that no element goes on before all have
+    /// reported and the round was decided, once, and that each then stands at its place (`barrier_laws::barrier_law`); that
+    /// the board takes every note that is owed (`agreement_laws::agreement_laws`); that no element arrives where one with its
+    /// index stands (`place_laws::place_laws`); that
     /// a letter is forwarded no more often than its element has departed since it was posted, and that a letter on a shelf
-    /// waits for an element that is on its way (`chase_law::chase_law`).
+    /// waits for an element that is on its way (`letter_laws::chase_law`).
     ///
     /// # Errors
     ///
     /// The world is as it was on any of them. [`Worn`](StepError::Worn) where the last round was to be decided;
-    /// otherwise [`OutOfMemory`](StepError::OutOfMemory), or what a handler answers.
+    /// otherwise [`OutOfMemory`](StepError::OutOfMemory), or what a handler returns.
     pub fn step(&mut self, event: Event) -> Result<Reports<A>, StepError>
         ensures ok { IfOk result (λ reports. Happens C.step C.pack C.unpack self.old event (self.new, reports)) }
         ensures err { OnErr result (self.new ≡ self.old) }
@@ -102,7 +120,9 @@ impl<C: Chare<A>, H: Openings<C>, A: Allocator + Copy> World<C, H, A> {
         ensures history { AreHistories C.step C.fits C.pack H.opened self.new }
         ensures sent { AreSent C.step H.opened self.new }
         ensures counted { IsCounted self.new }
-        ensures account { IfOk result (λ reports. (events : List Event) (trace : List Report) → Leads C.step C.pack C.unpack (opening_world H.pes H.opened) events (self.old, trace) → Accounted (length H.opened) self.new (trace ++ reports)) }
+        ensures account { IfOk result
+            (λ reports. (events : List Event) (trace : List TraceEntry) → Reaches C.step C.pack C.unpack (opening_world H.pes H.opened) events (self.old, trace)
+            → Accounted (length H.opened) self.new (trace ++ reports)) }
     {
         let Some(p) = event.pe() else {
             return self.decide();
@@ -114,7 +134,7 @@ impl<C: Chare<A>, H: Openings<C>, A: Allocator + Copy> World<C, H, A> {
     fn step_of(&mut self, p: Pe, event: Event) -> Result<Reports<A>, StepError>
         ensures ok { IfOk result (λ reports. (self.new, reports) ≡ or_nothing self.old (enabled C.step C.pack C.unpack self.old event p)) }
         ensures err { OnErr result (self.new ≡ self.old) }
-        ensures refused { IfErr result (λ error. MatchOption (slice_get self.old.pes p) ⊥ (λ pe. RefusesAt C.step C.pack C.refuses C.unpack event (desk self.old pe) error)) }
+        ensures refused { IfErr result (λ error. MatchOption (slice_get self.old.pes p) ⊥ (λ pe. RefusesAt C.step C.pack C.refuses C.unpack event (local_view self.old pe) error)) }
         ensures history { AreHistories C.step C.fits C.pack H.opened self.new }
         ensures sent { AreSent C.step H.opened self.new }
         ensures counted { IsCounted self.new }

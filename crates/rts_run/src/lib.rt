@@ -6,7 +6,7 @@
 //! - [`Outcome`]: what a run left, of which nothing is lost, whatever the schedule was and whatever went wrong.
 //! - [`RunError`]: why a run did not begin. [`Fault`]: why one ended early.
 //!
-//! docs/RUNS.md tells the protocol.
+//! docs/RUNS.md has the protocol.
 #![tactic(auto)]
 
 mod config;

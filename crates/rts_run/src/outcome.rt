@@ -5,10 +5,13 @@ ghost use Rattle.chare_index.specs.declared.limits.TheConstants.Limits.{PES};
 ghost use Rattle.at_sync.specs.Boards.{IsBoard};
 ghost use Rattle.rts_core.specs.Accounts.{IsCounted, posted_count, executed_count, held_count};
 ghost use Rattle.run_account.specs.RunAccounts.{left_world};
+ghost use Rattle.rts_run.specs.Outcomes.{element_on};
+ghost use Rattle.std.specs.Option.{option_copied};
 
 use crate::counting::{held_by, posted_by, queued_in};
 use at_sync::Board;
-use chares::Chare;
+use chare_index::Index;
+use chares::{Chare, Element};
 use lb_certificates::Snapshot;
 use lb_strategy::Decision;
 use pe_state::{HeldParcel, PeEnd};
@@ -74,6 +77,14 @@ impl<C: Chare<A>, A: Allocator> Outcome<C, A> {
         &self.ends
     }
 
+    /// The element with this index, on the PE where it stands; `None` where there is none, or it was on its way as a fault
+    /// ended the run. It is looked for on one PE after another.
+    pub fn element(&self, index: Index) -> Option<&Element<C, A>>
+        ensures value { option_copied result ≡ element_on index self.now.ends }
+    {
+        element_on(&self.ends, index)
+    }
+
     /// What is left in the queue of each PE, in order, the front of each first.
     pub fn left(&self) -> &[Vec<HeldParcel<A>, A>]
         ensures value { map (λ q. q.items) result.now ≡ self.now.left }
@@ -121,4 +132,19 @@ impl<C: Chare<A>, A: Allocator> Outcome<C, A> {
             held,
         }
     }
+}
+
+// The element with this index, on the first of these PEs where one stands.
+fn element_on<C: Chare<A>, A: Allocator>(
+    ends: &[PeEnd<C, A>],
+    index: Index,
+) -> Option<&Element<C, A>>
+    ensures value { option_copied result ≡ element_on index ends.now }
+{
+    for end in ends {
+        if let Some(element) = end.room().element(index) {
+            return Some(element);
+        }
+    }
+    None
 }

@@ -29,7 +29,7 @@ use pe_state::{HeldParcel, Parcel, PeEnd, PeState};
 use pe_worker::{Fault, Field, NoWatch, OfRun, RunBeginning, Watch, Worker};
 use round_marks::run_agrees;
 use rts_core::{opening_pes, opening_words};
-use run_account::{LeftRoom, take_next};
+use run_account::{LeftBuffers, take_next};
 use std::alloc::{AllocError, Allocator};
 use std::collections::VecDeque;
 use std::marker::Brand;
@@ -69,7 +69,7 @@ pub fn run<
     run_watched(rt, alloc, config, gate, &NoWatch, chares)
 }
 
-/// Runs chares as [`run`] does, while somebody looks on, who is told of each round as it is decided.
+/// Runs chares as [`run`] does, while a [`Watch`](crate::Watch) is called for each round as it is decided.
 ///
 /// # Errors
 ///
@@ -106,7 +106,7 @@ pub fn run_watched<
     }
 }
 
-// The run of the chares that `H` names, as its type parameters then tell of all that it is made of.
+// The run of the chares that `H` names; the types of all that it is made of name them too.
 fn run_as<
     C: Chare<A> + Send,
     H: Openings<C> + Send + Sync,
@@ -246,7 +246,7 @@ fn run_named<
 {
     let count = config.pes as usize;
     let room = Vec::with_capacity(alloc, count)?;
-    let left = LeftRoom::new(alloc, count, config.capacity as usize)?;
+    let left = LeftBuffers::new(alloc, count, config.capacity as usize)?;
     let crew = Crew::with_capacity(alloc, count)?;
     let (states, seats) = (VecDeque::from_vec(states), VecDeque::from_vec(seats));
     let workers = open_workers::<C, H, J, A>(alloc, config.pes, states, seats)?;
@@ -278,7 +278,7 @@ fn work_all<
     crew: Crew<Worker<C, H, J, A>, A>,
     workers: VecDeque<Worker<C, H, J, A>, A>,
 ) -> VecDeque<Worker<C, H, J, A>, A>
-    requires room { deque_len workers ≤ crew }
+    requires places { deque_len workers ≤ crew }
     ensures in_order { map (λ w. w.seated.pe.me) result.items ≡ map (λ w. w.seated.pe.me) workers.items }
 {
     let work = |worker: Worker<C, H, J, A>| -> Worker<C, H, J, A>

@@ -64,7 +64,7 @@ module _ {C : Type 0} (step : Step C) (fits : C → Type 0) (pack : C → List �
         in_order = ap (λ (v : ℕ). v ∷ []) first;
         ledger = w.ledger;
         letters = λ g.
-            let a = w.local.letters.balance g in
+            let a = w.local.letters.conserved g in
             let b = sum_by-cons (λ (x : PeView C). sum_by (weigh g) (all_letters_at x)) pe [] in
             let z : sum_by (λ (x : PeView C). sum_by (weigh g) (all_letters_at x)) [] ≡ 0 = refl in
             omega (arith, a, b, z);
@@ -104,7 +104,7 @@ module _ {C : Type 0} (step : Step C) (fits : C → Type 0) (pack : C → List �
         ledger = both t.ledger w.ledger;
         letters = λ g.
             let a = t.letters g in
-            let b = w.local.letters.balance g in
+            let b = w.local.letters.conserved g in
             let c = sum_by_push (λ (x : PeView C). sum_by (weigh g) (all_letters_at x)) ends pe in
             let d = joined_all g t.ledger.came w.ledger.came in
             let e = joined_all g t.ledger.gone w.ledger.gone in

@@ -13,7 +13,7 @@ use Rattle.at_sync.specs.Boards.{BoardState}
 use Rattle.chares.specs.Letters.{LetterView}
 use Rattle.chares.specs.Steps.{Step}
 use Rattle.pe_state.specs.Pes.{PeView, Parcel}
-use Rattle.pe_queues.specs.Balance.{Balances}
+use Rattle.pe_queues.specs.Conservation.{Balances}
 use Rattle.pe_queues.specs.Seats.{SeatView, AreLeft}
 use Rattle.rts_core.specs.Accounts.{times, is_number, message, AreSent, IsCounted}
 use Rattle.rts_core.specs.Ledgers.{IsSteady, all_letters_in, all_letters_at}

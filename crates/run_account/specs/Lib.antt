@@ -1,3 +1,3 @@
+pub mod Buffers
 pub mod Gathering
-pub mod Rooms
 pub mod RunAccounts

@@ -7,7 +7,7 @@ ghost use Rattle.rts_core.specs.Histories.{AreHistories};
 ghost use Rattle.rts_core.specs.Worlds.{opening_pes};
 ghost use Rattle.run_account.specs.RunAccounts.{IsRunAccount, left_world};
 
-use crate::left::LeftRoom;
+use crate::left::LeftBuffers;
 use chares::{Chare, Openings};
 use pe_queues::{Post, Seat};
 use pe_state::{HeldParcel, Parcel, PeEnd};
@@ -85,7 +85,7 @@ impl<C: Chare<A>, H: Openings<C>, J: RunBeginning<C>, A: Allocator> Gathered<C, 
         self,
         rt: &R,
         post: Post<Parcel<C, H, A>, A>,
-        room: LeftRoom<A>,
+        room: LeftBuffers<A>,
     ) -> (Vec<PeEnd<C, A>, A>, Vec<Vec<HeldParcel<A>, A>, A>)
         requires own { post ≡ J.beginning.post }
         requires all_seats { sum_by (λ n. n) J.beginning.shares ≡ SEATS }

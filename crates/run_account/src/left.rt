@@ -11,28 +11,28 @@ use std::collections::VecDeque;
 use std::marker::Model;
 
 /// Room for the parcels that a run leaves in its queues. It is made before the run, so that a run that ends for want of
-/// memory loses nothing. Contracts see the number of queues, and for how many parcels of each there is room.
+/// memory loses nothing. Contracts see the number of queues, and for how many parcels of each they have capacity.
 #[derive(Drop)]
-pub struct LeftRoom<A: Allocator = Global> {
+pub struct LeftBuffers<A: Allocator = Global> {
     // An empty list for each queue.
-    rooms: VecDeque<Vec<HeldParcel<A>, A>, A>,
+    buffers: VecDeque<Vec<HeldParcel<A>, A>, A>,
     // Where they go once they are full. It is empty until the end.
     left: Vec<Vec<HeldParcel<A>, A>, A>,
     capacity: usize,
 }
 
-impl<A: Allocator> Model for LeftRoom<A> {
-    ghost use Rattle.run_account.specs.Rooms.{AreRooms, RoomView};
+impl<A: Allocator> Model for LeftBuffers<A> {
+    ghost use Rattle.run_account.specs.Buffers.{AreBuffers, BufferView};
     ghost use Rattle.std.specs.Prelude.{length};
 
-    ghost Value = { RoomView };
+    ghost Value = { BufferView };
 
-    ghost view = { λ r. record { queues = length r.rooms.items; capacity = r.capacity } };
+    ghost view = { λ r. record { queues = length r.buffers.items; capacity = r.capacity } };
 
-    ghost invariant = { λ r. AreRooms r.capacity r.rooms.items r.left };
+    ghost invariant = { λ r. AreBuffers r.capacity r.buffers.items r.left };
 }
 
-impl<A: Allocator> LeftRoom<A> {
+impl<A: Allocator> LeftBuffers<A> {
     /// Room for so many queues, each of so many parcels. The only error is that memory was refused.
     pub fn new(alloc: A, queues: usize, capacity: usize) -> Result<Self, AllocError>
     where
@@ -41,9 +41,9 @@ impl<A: Allocator> LeftRoom<A> {
         ensures capacity { IfOk result (λ room. room.capacity ≡ capacity) }
     {
         let left = Vec::with_capacity(alloc, queues)?;
-        let rooms = empty_rooms(alloc, queues, capacity)?;
-        Ok(LeftRoom {
-            rooms,
+        let buffers = empty_buffers(alloc, queues, capacity)?;
+        Ok(LeftBuffers {
+            buffers,
             left,
             capacity,
         })
@@ -60,14 +60,14 @@ impl<A: Allocator> LeftRoom<A> {
         ensures parcels { map (λ queue. queue.items) result.items ≡ map (λ queue. queue.items) queues.items }
         ensures histories { All (λ queue. All (IsParcelHistory C.step C.fits C.pack H.opened) queue.items) result.items }
     {
-        let LeftRoom {
-            mut rooms,
+        let LeftBuffers {
+            mut buffers,
             mut left,
             capacity: _,
         } = self;
         let mut queues = VecDeque::from_vec(queues);
         while let Some(queue) = take_next(&mut queues) {
-            let Some(room) = take_next(&mut rooms) else {
+            let Some(room) = take_next(&mut buffers) else {
                 unreachable!()
             };
             left.push_reserved(release_queue(queue, room));
@@ -77,20 +77,20 @@ impl<A: Allocator> LeftRoom<A> {
 }
 
 // So many empty lists, each with room for so many parcels.
-fn empty_rooms<A: Allocator + Copy>(
+fn empty_buffers<A: Allocator + Copy>(
     alloc: A,
     queues: usize,
     capacity: usize,
 ) -> Result<VecDeque<Vec<HeldParcel<A>, A>, A>, AllocError>
-    ensures one_each { IfOk result (λ rooms. length rooms.items ≡ queues) }
-    ensures empty { IfOk result (λ rooms. All (λ room. (room.items ≡ []) × (capacity ≤ vec_capacity room)) rooms.items) }
+    ensures one_each { IfOk result (λ buffers. length buffers.items ≡ queues) }
+    ensures empty { IfOk result (λ buffers. All (λ room. (room.items ≡ []) × (capacity ≤ vec_capacity room)) buffers.items) }
 {
-    let mut rooms = VecDeque::with_capacity(alloc, queues)?;
+    let mut buffers = VecDeque::with_capacity(alloc, queues)?;
     for _queue in 0..queues {
         let room = Vec::with_capacity(alloc, capacity)?;
-        rooms.push_back_reserved(room);
+        buffers.push_back_reserved(room);
     }
-    Ok(rooms)
+    Ok(buffers)
 }
 
 // The parcels of one queue, in the room that was made for them.

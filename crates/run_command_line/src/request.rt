@@ -7,6 +7,6 @@ pub struct Asked<'a> {
     pub dump: Option<&'a str>,
     /// Whether dumps are written in the format LBD1, which has no decision.
     pub lbd1: bool,
-    /// Whether the progress of the run is told also where the standard error is no terminal.
+    /// Whether the progress of the run is written also where the standard error is no terminal.
     pub progress: bool,
 }

@@ -1,7 +1,7 @@
 -- What the sum of an element is: that of the tally which it opened with, after all that it has handled.
 use Rattle.std.specs.Prelude.{◌≡◌, ℕ, ◌==◌, List, [], ◌∷◌, length, slice_get, Some}
 use Rattle.std.specs.Map.{lookup}
-use Rattle.chares.specs.Letters.{Done, told_of}
+use Rattle.chares.specs.Letters.{Done, input_of}
 use Rattle.chares.specs.Steps.{Step}
 use Rattle.rts_core.specs.Places.{lives}
 use Rattle.rts_core.specs.Histories.{AreHistories}
@@ -19,7 +19,7 @@ pub record IsTallyRun {A : Type 0} (fits : TallyView → Type 0) (opened : List 
 -- the chare of element e of n after these entries, from this chare on
 abbrev pub chare_after : {C : Type 0} → Step C → ℕ → ℕ → C → List Done → C
 chare_after step e n chare [] = chare
-chare_after step e n chare (done ∷ journal) = chare_after step e n (step chare e n (told_of done)).state journal
+chare_after step e n chare (done ∷ journal) = chare_after step e n (step chare e n (input_of done)).state journal
 
 -- Element e of a run that opened with these tallies stands somewhere with its journal, and the sum that is found there is
 -- that of the tally which it opened with, after the entries of the journal.

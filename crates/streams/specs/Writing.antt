@@ -1,4 +1,4 @@
--- What a writer got of a text that did not go out whole.
+-- What a writer took of a text that was not written whole.
 use Rattle.std.specs.Prelude.{ℕ, ◌≤◌, List, length, take, Option}
 use Rattle.std.specs.Io.KnownBytes.{Appends}
 

@@ -7,7 +7,8 @@ use std::io::Write;
 /// Writes these bytes and flushes the writer, and returns whether that succeeded. It stops at the first call that
 /// fails, with any error, or that takes nothing; a prefix has then been written.
 pub fn write_out<W: Write>(writer: &mut W, bytes: &[u8]) -> bool
-    ensures written { MatchBool result (Appends (W.contents writer.old) (W.contents writer.new) bytes.now) (WritesPrefix (W.contents writer.old) (W.contents writer.new) bytes.now) }
+    ensures written { MatchBool result (Appends (W.contents writer.old) (W.contents writer.new) bytes.now)
+        (WritesPrefix (W.contents writer.old) (W.contents writer.new) bytes.now) }
 {
     let mut rest = bytes;
     while !rest.is_empty() {

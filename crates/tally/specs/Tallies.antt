@@ -73,7 +73,7 @@ abbrev pub tally_step : TallyView → ℕ → ℕ → Entry (List ℕ) → Outco
 tally_step t me n (Letter body) = on_letter t body
 tally_step t me n (Resumption round) = on_resume t me n
 
--- it answers an error only where no letter number is left for its amount
+-- it returns an error only where no letter number is left for its amount
 abbrev pub TallyRefuses : TallyView → ℕ → ℕ → ℕ → Entry (List ℕ) → SendError → Type 0
 TallyRefuses t me n count (Resumption round) Worn = (t.posted < length t.amounts) × (count ≡ LETTERS)
 TallyRefuses t me n count _ _ = ⊥

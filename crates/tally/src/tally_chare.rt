@@ -55,7 +55,8 @@ impl<A: Allocator> Tally<A> {
     where
         A: Copy,
         ensures value { IfOk result (λ t. t ≡ record { posted = 0; got = 0; sum = 0; amounts = amounts.now; pad = replicate pad 0 }) }
-        ensures refused { IfErr result (λ error. error ≢ OutOfMemory → (error ≡ Bad) × (is_tally (record { posted = 0; got = 0; sum = 0; amounts = amounts.now; pad = replicate pad 0 }) ≡ false)) }
+        ensures refused { IfErr result
+            (λ error. error ≢ OutOfMemory → (error ≡ Bad) × (is_tally (record { posted = 0; got = 0; sum = 0; amounts = amounts.now; pad = replicate pad 0 }) ≡ false)) }
     {
         if !are_within(0, amounts.len(), pad) {
             return Err(PupError::Bad);
@@ -123,7 +124,8 @@ impl<A: Allocator + Copy> Pup<A> for Tally<A> {
 
     ghost unpack = { λ bytes. judged is_tally (made of_parts (⟦<Parts<A> as Pup<A>>⟧.unpack bytes)) };
 
-    ghost round_trip = { (judged_trips is_tally (struct_trips parts of_parts (λ _. refl) (pair_trips u32_trips (pair_trips u32_trips (pair_trips u64_trips (pair_trips (list_trips u32_trips) bytes_trips)))))).trip };
+    ghost round_trip = { (judged_trips is_tally
+        (struct_trips parts of_parts (λ _. refl) (pair_trips u32_trips (pair_trips u32_trips (pair_trips u64_trips (pair_trips (list_trips u32_trips) bytes_trips)))))).trip };
 
     fn packed_len(&self) -> u32 {
         (

@@ -43,7 +43,7 @@ impl<D: Ended> Model for Begun<D> {
 }
 
 impl<D: Ended> Begun<D> {
-    // Starts a worker in a thread. Where none can be started, all are told to stop, and this one works here, so that it
+    // Starts a worker in a thread. Where none can be started, the stop flag is set for all, and this one works here, so that it
     // ends at once.
     pub(crate) fn begin<'s, E, W: Work + Send + 's, F: Fn(W) -> D + Sync>(
         scope: &Scope<'s, E>,

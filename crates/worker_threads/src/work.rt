@@ -13,7 +13,7 @@ pub trait Work: Drop {
 
 /// What a worker ends as.
 pub trait Ended: Work {
-    /// The end of a worker for which no thread could be started. It was told to stop before it began, as all were, and has
+    /// The end of a worker for which no thread could be started. The stop flag was set before it began, and it has
     /// worked without a thread.
     fn without_thread(self) -> Self
         ensures same_number { Self.number result ≡ Self.number self };

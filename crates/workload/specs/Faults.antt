@@ -1,4 +1,4 @@
--- Which fault of bytes that are no workload is told: that of the first faulty line.
+-- Which fault of bytes that are no workload is reported: that of the first faulty line.
 use Rattle.std.specs.Prelude.{◌≡◌, ℕ, ◌+◌, ◌^◌, ◌<◌, ◌≤◌, ◌⊎◌, Bool, false, IsTrue, ◌==◌, ◌&&◌, nat_le, List, [], ◌∷◌, ◌++◌, length, slice_index, codes, All}
 use Rattle.chare_index.specs.declared.limits.TheConstants.Limits.{ELEMENTS, PES}
 use Rattle.tally.specs.declared.tally_limits.TheConstants.TallyLimits.{AMOUNTS, PAD_BYTES}

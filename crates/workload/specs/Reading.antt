@@ -15,18 +15,18 @@ pub record NeedsMemory (bytes : List ℕ) : Type 0 where
   pub head : 4 ≤ length lines
   pub more : is_whole lines ≡ false
 
--- the answer to bytes: the workload that they are the text of, or their fault, or out of memory
+-- what bytes are read as: the workload that they are the text of, or their fault, or out of memory
 abbrev pub IsAnswer : List ℕ → Result WorkloadView WorkError → Type 0
 IsAnswer bytes (Ok w) = IsText w bytes
 IsAnswer bytes (Err e) = ((e ≡ OutOfMemory) × NeedsMemory bytes) ⊎ IsFault bytes e
 
 -- The fault of bytes that come from a reader, of which no more are read than the longest text has, and one. A fault
--- of a line is told where the bytes up to that limit have it, whatever follows them, and else that they are too many.
+-- of a line is reported where the bytes up to that limit have it, whatever follows them, and else that they are too many.
 abbrev pub IsReadFault : List ℕ → WorkError → Type 0
 IsReadFault bytes Long = (TEXT_BYTES < length bytes) × IsOpen (take TEXT_BYTES bytes)
 IsReadFault bytes e = IsLineFault bytes e × (TEXT_BYTES < length bytes → IsBroken (take TEXT_BYTES bytes) e)
 
--- the answer to the bytes of a reader that did not fail
+-- what the bytes of a reader that did not fail are read as
 abbrev pub IsReadAnswer : List ℕ → Result WorkloadView WorkError → Type 0
 IsReadAnswer bytes (Ok w) = IsText w bytes
 IsReadAnswer bytes (Err e) = (e ≡ OutOfMemory) ⊎ IsReadFault bytes e
@@ -37,7 +37,7 @@ IsReadError bytes Read = IsOpen bytes
 IsReadError bytes OutOfMemory = Unit {0}
 IsReadError bytes e = IsReadFault bytes e
 
--- and what they show of an answer
+-- and what they show of a result
 abbrev pub IsReading : List ℕ → Result WorkloadView WorkError → Type 0
 IsReading bytes (Ok w) = IsText w bytes
 IsReading bytes (Err e) = IsReadError bytes e

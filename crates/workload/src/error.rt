@@ -5,7 +5,7 @@ ghost use Rattle.workload.specs.declared.error.WorkError.TheVariants.{OutOfMemor
 use std::alloc::{AllocError, AllocFailed};
 use thiserror::Error;
 
-/// Why a workload was not read. Lines are numbered from 1, and of several faulty lines the first is told.
+/// Why a workload was not read. Lines are numbered from 1, and of several faulty lines the first is reported.
 #[derive(Clone, Copy, Debug, PartialEq, Eq, Error)]
 pub enum WorkError {
     /// This line has not the form that a line at its place has, is missing, is not ended, or follows the last line.

@@ -34,7 +34,8 @@ pub(crate) fn feed_all<R: Read, A: Allocator + Copy>(
     ensures ended { OnOk result ((text : List ℕ) × (run text (start []) ≡ Ok (state_of judge.new)) × IsHeld judge.new
         × Consumes (R.remaining reader.old) (R.remaining reader.new) text × IsAtEnd (R.remaining reader.new) × (length text ≤ TEXT_BYTES)) }
     ensures fault { IfErr result (λ e. IfSome (R.remaining reader.old) (λ bytes. (e ≡ WorkError.Read) ⊎ ((e ≡ WorkError.OutOfMemory) ⊎ IsReadFault bytes e))) }
-    ensures stopped { IfErr result (λ e. (text : List ℕ) × Consumes (R.remaining reader.old) (R.remaining reader.new) text × (length text ≤ TEXT_BYTES + 1) × IsReadError text e) }
+    ensures stopped { IfErr result (λ e. (text : List ℕ) × Consumes (R.remaining reader.old) (R.remaining reader.new) text
+        × (length text ≤ TEXT_BYTES + 1) × IsReadError text e) }
 {
     let mut piece = Vec::new(alloc);
     piece.resize(PIECE_LEN, 0)?;
@@ -54,7 +55,8 @@ fn feed_from<R: Read, A: Allocator + Copy>(
     ensures ended { OnOk result ((text : List ℕ) × (run text (start []) ≡ Ok (state_of judge.new)) × IsHeld judge.new
         × Consumes (R.remaining reader.old) (R.remaining reader.new) text × IsAtEnd (R.remaining reader.new) × (length text ≤ TEXT_BYTES)) }
     ensures fault { IfErr result (λ e. IfSome (R.remaining reader.old) (λ bytes. (e ≡ WorkError.Read) ⊎ ((e ≡ WorkError.OutOfMemory) ⊎ IsReadFault bytes e))) }
-    ensures stopped { IfErr result (λ e. (text : List ℕ) × Consumes (R.remaining reader.old) (R.remaining reader.new) text × (length text ≤ TEXT_BYTES + 1) × IsReadError text e) }
+    ensures stopped { IfErr result (λ e. (text : List ℕ) × Consumes (R.remaining reader.old) (R.remaining reader.new) text
+        × (length text ≤ TEXT_BYTES + 1) × IsReadError text e) }
 {
     let mut taken = 0;
     for _ in 0..CALLS {

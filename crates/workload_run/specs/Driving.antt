@@ -33,7 +33,7 @@ pub record IsLeftBy {A : Type 0} (fits : TallyView → Type 0) (chares : List Ta
   pub marks : o.fault ≢ Some Mismatch → AreAllMarked o.board o.ends o.left
   pub unpacks : o.fault ≢ Some Unpack
 
--- This is what the run left of the workload that the bytes are the text of, and the text that tells it. Where the reader
+-- This is what the run left of the workload that the bytes are the text of, and the text of that. Where the reader
 -- does not report its bytes, the workload is any.
 pub record IsRunOf {A : Type 0} (fits : TallyView → Type 0) (bytes : Option (List ℕ)) (o : OutcomeView TallyView A) (text : List ℕ) : Type 0 where
   pub workload : WorkloadView
@@ -41,7 +41,7 @@ pub record IsRunOf {A : Type 0} (fits : TallyView → Type 0) (bytes : Option (L
   pub left : IsLeftBy fits (tallies_of workload) workload.pes o
   pub told : text ≡ outcome_text workload.chares o
 
--- The fault of the workload that is told: that of the bytes that were read, before which the reader had the bytes and has
+-- The fault of the workload that is reported: that of the bytes that were read, before which the reader had the bytes and has
 -- the rest now, or that the reader failed while no fault stood in them; and where the bytes of the reader are known, it
 -- failed, or that is the fault of these.
 pub record IsRefusal (bytes rest : Option (List ℕ)) (e : WorkError) : Type 0 where
@@ -51,7 +51,7 @@ pub record IsRefusal (bytes rest : Option (List ℕ)) (e : WorkError) : Type 0 w
   pub known : IfSome bytes (λ all. (e ≡ Read) ⊎ IsReadFault all e)
 
 module _ {A : Type 0} (fits : TallyView → Type 0) (bytes rest old new : Option (List ℕ)) where
-  -- what there is to tell: what the run left, or without a run the fault of the workload
+  -- what there is to write: what the run left, or without a run the fault of the workload
   abbrev pub MayTell : Option (OutcomeView TallyView A) → List ℕ → Type 0
   MayTell (Some o) text = IsRunOf fits bytes o text
   MayTell None text = (e : WorkError) × IsRefusal bytes rest e × (text ≡ fault_line e)

@@ -1,4 +1,4 @@
--- The one line that is written where there is no outcome to tell of.
+-- The one line that is written where there is no outcome.
 use Rattle.std.specs.Prelude.{ℕ, List, [], ◌∷◌, ◌++◌, codes}
 use Rattle.std.specs.Fmt.{decimal}
 use Rattle.workload.specs.declared.error.WorkError.{WorkError}

@@ -44,8 +44,10 @@ pub fn drive<T: Threads + Wait + Sync, R: Read, W: Write, A: Allocator + Copy + 
 ) -> Driven<A>
     requires some_turn { 1 ≤ turns }
     requires few_turns { turns ≤ Limits.IDLE_TURNS }
-    ensures ends { EndsDrive ⟦<Tally<A> as Pup<A>>⟧.fits (R.remaining reader.old) (R.remaining reader.new) (W.contents writer.old) (W.contents writer.new) result.outcome result.ended }
-    ensures outcome { IsOfWorkload ⟦<Tally<A> as Pup<A>>⟧.fits (R.remaining reader.old) (R.remaining reader.new) (W.contents writer.old) (W.contents writer.new) result.outcome }
+    ensures ends { EndsDrive ⟦<Tally<A> as Pup<A>>⟧.fits (R.remaining reader.old) (R.remaining reader.new)
+        (W.contents writer.old) (W.contents writer.new) result.outcome result.ended }
+    ensures outcome { IsOfWorkload ⟦<Tally<A> as Pup<A>>⟧.fits (R.remaining reader.old) (R.remaining reader.new)
+        (W.contents writer.old) (W.contents writer.new) result.outcome }
 {
     drive_watched(rt, alloc, reader, writer, turns, &NoWatch)
 }
@@ -68,7 +70,9 @@ pub fn drive_file<
 ) -> (Driven<A>, Option<io::Error>)
     requires some_turn { 1 ≤ turns }
     requires few_turns { turns ≤ Limits.IDLE_TURNS }
-    ensures opened { IfOk file (λ file. (rest : Option (List ℕ)) × EndsDrive ⟦<Tally<A> as Pup<A>>⟧.fits (R.remaining file) rest (W.contents writer.old) (W.contents writer.new) result.0.outcome result.0.ended) }
+    ensures opened { IfOk file
+        (λ file. (rest : Option (List ℕ))
+        × EndsDrive ⟦<Tally<A> as Pup<A>>⟧.fits (R.remaining file) rest (W.contents writer.old) (W.contents writer.new) result.0.outcome result.0.ended) }
     ensures unopened { IfErr file (λ _. ReportsUnread (W.contents writer.old) (W.contents writer.new) result.0.ended) }
     ensures reason { IfErr file (λ reason. result.1 ≡ Some reason) }
 {
@@ -95,8 +99,10 @@ fn drive_watched<
 >(rt: &T, alloc: A, reader: &mut R, writer: &mut W, turns: u64, watch: &V) -> Driven<A>
     requires some_turn { 1 ≤ turns }
     requires few_turns { turns ≤ Limits.IDLE_TURNS }
-    ensures ends { EndsDrive ⟦<Tally<A> as Pup<A>>⟧.fits (R.remaining reader.old) (R.remaining reader.new) (W.contents writer.old) (W.contents writer.new) result.outcome result.ended }
-    ensures outcome { IsOfWorkload ⟦<Tally<A> as Pup<A>>⟧.fits (R.remaining reader.old) (R.remaining reader.new) (W.contents writer.old) (W.contents writer.new) result.outcome }
+    ensures ends { EndsDrive ⟦<Tally<A> as Pup<A>>⟧.fits (R.remaining reader.old) (R.remaining reader.new)
+        (W.contents writer.old) (W.contents writer.new) result.outcome result.ended }
+    ensures outcome { IsOfWorkload ⟦<Tally<A> as Pup<A>>⟧.fits (R.remaining reader.old) (R.remaining reader.new)
+        (W.contents writer.old) (W.contents writer.new) result.outcome }
 {
     match Workload::read_from(alloc, reader) {
         Ok(workload) => {

@@ -1,4 +1,4 @@
-//! The one line that is written where there is no outcome to tell of.
+//! The one line that is written where there is no outcome.
 
 ghost use Rattle.std.specs.Prelude.{◌≡◌, IfOk};
 ghost use Rattle.std.specs.String.{string_bytes};

@@ -2,15 +2,15 @@
 
 ghost use Rattle.std.specs.Prelude.{◌≡◌, ℕ, ◌++◌, ◌∷◌, [], ◌<◌, ◌≤◌, List, length, IfOk, IfErr, OnOk, OnErr, IfSome, IsSome, Ok, None, Some, true};
 ghost use Rattle.std.specs.VecDeque.{deque_len, deque_capacity};
-ghost use Rattle.chares.specs.Posting.{reported};
-ghost use Rattle.pe_state.specs.Pes.{PeView, acting, acted_of, pe_after, reports_of, on_letter, on_element, held, executed, passing, shelving, forwarding, installed};
+ghost use Rattle.chares.specs.Posting.{traced};
+ghost use Rattle.pe_state.specs.Pes.{PeView, acting, acted_of, pe_after, trace_of, acting_on_letter, acting_on_element, held, executed, passing, shelving, forwarding, installed};
 ghost use Rattle.pe_state.specs.Refusals.{RefusesStep, RefusesAct, RefusesParcel};
 ghost use Rattle.pe_state.specs.Rooms.{found};
 ghost use Rattle.pe_state.specs.Standing.{IsBelow};
 ghost use Rattle.chares.specs.Elements.{unpacked, IsHistory, IsPackedHistory};
 ghost use Rattle.chares.specs.declared.carried.Carried.{Carried};
 ghost use Rattle.chares.specs.declared.entry.Entry.{Entry};
-ghost use Rattle.chares.specs.declared.report.Report.{Report};
+ghost use Rattle.chares.specs.declared.trace_entry.TraceEntry.{TraceEntry};
 ghost use Rattle.pe_state.specs.declared.error.StepError.TheVariants.{OutOfMemory};
 
 use crate::acted::Acted;
@@ -20,8 +20,8 @@ use crate::pe::PeState;
 use crate::shelf::unshelve;
 use chare_index::{Gate, Index, Pe};
 use chares::{
-    Addressed, Carried, Chare, Letter, Openings, Packed, Report, Unread, add_report,
-    room_for_report,
+    Addressed, Carried, Chare, Letter, Openings, Packed, TraceEntry, Unread, add_entry,
+    reserve_entry,
 };
 use std::alloc::{AllocError, AllocFailed, Allocator, Global};
 use std::collections::VecDeque;
@@ -37,7 +37,7 @@ impl<C: Chare<A>, H: Openings<C>, A: Allocator + Copy> PeState<C, H, A> {
     /// # Errors
     ///
     /// The PE is as it was on any of them, and the parcel stays in its hand. [`OutOfMemory`](StepError::OutOfMemory), or
-    /// what the handler answers.
+    /// what the handler returns.
     pub fn act<G: Gate>(&mut self, gate: &G) -> Result<Option<Acted>, StepError>
         ensures answer { IfOk result (λ acted. acted ≡ acted_of (acting C.step C.pack C.unpack self.old)) }
         ensures ok { OnOk result (self.new ≡ pe_after self.old (acting C.step C.pack C.unpack self.old)) }
@@ -45,51 +45,49 @@ impl<C: Chare<A>, H: Openings<C>, A: Allocator + Copy> PeState<C, H, A> {
         ensures enabled { OnErr result (IsSome (acting C.step C.pack C.unpack self.old)) }
         ensures refused { IfErr result (RefusesStep (RefusesAct C.refuses self.old)) }
     {
-        let mut reports = Vec::new(self.alloc);
-        self.act_with(gate, false, &mut reports)
+        let mut trace = Vec::new(self.alloc);
+        self.act_with(gate, false, &mut trace)
     }
 
-    /// Acts as [`act`](PeState::act) does, and appends what the event reports, in order: an execution before what it
+    /// Acts as [`act`](PeState::act) does, and appends its entries to a trace, in order: an execution before what it
     /// posted. On a refusal, and where nothing is done, nothing is appended.
-    pub fn act_reporting<G: Gate>(
+    pub fn act_traced<G: Gate>(
         &mut self,
         gate: &G,
-        reports: &mut Vec<Report, A>,
+        trace: &mut Vec<TraceEntry, A>,
     ) -> Result<Option<Acted>, StepError>
         ensures answer { IfOk result (λ acted. acted ≡ acted_of (acting C.step C.pack C.unpack self.old)) }
         ensures ok { OnOk result (self.new ≡ pe_after self.old (acting C.step C.pack C.unpack self.old)) }
         ensures err { OnErr result (self.new ≡ self.old) }
         ensures enabled { OnErr result (IsSome (acting C.step C.pack C.unpack self.old)) }
         ensures refused { IfErr result (RefusesStep (RefusesAct C.refuses self.old)) }
-        ensures reports { OnOk result (reports.new.items ≡ reports.old.items ++ reports_of (acting C.step C.pack C.unpack self.old)) }
-        ensures same_reports { OnErr result (reports.new.items ≡ reports.old.items) }
+        ensures trace { OnOk result (trace.new.items ≡ trace.old.items ++ trace_of (acting C.step C.pack C.unpack self.old)) }
+        ensures same_trace { OnErr result (trace.new.items ≡ trace.old.items) }
     {
-        self.act_with(gate, true, reports)
+        self.act_with(gate, true, trace)
     }
 
-    // Acts, and adds what is to be reported where that is wanted.
+    // Acts, and appends to the trace where one is kept.
     fn act_with<G: Gate>(
         &mut self,
         gate: &G,
-        reporting: bool,
-        reports: &mut Vec<Report, A>,
+        tracing: bool,
+        trace: &mut Vec<TraceEntry, A>,
     ) -> Result<Option<Acted>, StepError>
         ensures answer { IfOk result (λ acted. acted ≡ acted_of (acting C.step C.pack C.unpack self.old)) }
         ensures ok { OnOk result (self.new ≡ pe_after self.old (acting C.step C.pack C.unpack self.old)) }
         ensures err { OnErr result (self.new ≡ self.old) }
         ensures enabled { OnErr result (IsSome (acting C.step C.pack C.unpack self.old)) }
         ensures refused { IfErr result (RefusesStep (RefusesAct C.refuses self.old)) }
-        ensures reports { OnOk result (reports.new.items ≡ reported reporting reports.old.items (reports_of (acting C.step C.pack C.unpack self.old))) }
-        ensures same_reports { OnErr result (reports.new.items ≡ reports.old.items) }
+        ensures trace { OnOk result (trace.new.items ≡ traced tracing trace.old.items (trace_of (acting C.step C.pack C.unpack self.old))) }
+        ensures same_trace { OnErr result (trace.new.items ≡ trace.old.items) }
     {
         let Some(Addressed { parcel, address }) = self.hand.take() else {
             return Ok(None);
         };
         match parcel {
-            Carried::Letter(letter) => {
-                self.act_on_letter(gate, letter, address, reporting, reports)
-            }
-            Carried::Element(element) => self.act_on_element(element, address, reporting, reports),
+            Carried::Letter(letter) => { self.act_on_letter(gate, letter, address, tracing, trace) }
+            Carried::Element(element) => self.act_on_element(element, address, tracing, trace),
         }
     }
 }
@@ -101,27 +99,27 @@ impl<C: Chare<A>, H: Openings<C>, A: Allocator + Copy> PeState<C, H, A> {
         gate: &G,
         letter: Letter<A>,
         look: Option<Pe>,
-        reporting: bool,
-        reports: &mut Vec<Report, A>,
+        tracing: bool,
+        trace: &mut Vec<TraceEntry, A>,
     ) -> Result<Option<Acted>, StepError>
         requires empty { self.old.hand ≡ None }
         requires below { IsBelow H.pes look }
-        ensures answer { IfOk result (λ acted. acted ≡ acted_of (on_letter C.step C.pack self.old letter look (found letter.to self.old.room))) }
-        ensures ok { OnOk result (self.new ≡ pe_after (held self.old (Carried.Letter letter) look) (on_letter C.step C.pack self.old letter look (found letter.to self.old.room))) }
+        ensures answer { IfOk result (λ acted. acted ≡ acted_of (acting_on_letter C.step C.pack self.old letter look)) }
+        ensures ok { OnOk result (self.new ≡ pe_after (held self.old (Carried.Letter letter) look) (acting_on_letter C.step C.pack self.old letter look)) }
         ensures err { OnErr result (self.new ≡ held self.old (Carried.Letter letter) look) }
-        ensures enabled { OnErr result (IsSome (on_letter C.step C.pack self.old letter look (found letter.to self.old.room))) }
+        ensures enabled { OnErr result (IsSome (acting_on_letter C.step C.pack self.old letter look)) }
         ensures refused { IfErr result (RefusesStep (RefusesParcel C.refuses self.old (Carried.Letter letter))) }
-        ensures reports { OnOk result (reports.new.items ≡ reported reporting reports.old.items (reports_of (on_letter C.step C.pack self.old letter look (found letter.to self.old.room)))) }
-        ensures same_reports { OnErr result (reports.new.items ≡ reports.old.items) }
+        ensures trace { OnOk result (trace.new.items ≡ traced tracing trace.old.items (trace_of (acting_on_letter C.step C.pack self.old letter look))) }
+        ensures same_trace { OnErr result (trace.new.items ≡ trace.old.items) }
     {
         let Some(element) = self.room.element(letter.to()) else {
-            return self.pass_on(letter, look, reporting, reports);
+            return self.pass_on(letter, look, tracing, trace);
         };
         if !element.progress().started {
             self.hold(Carried::Letter(letter), look);
             return Ok(None);
         }
-        self.execute(gate, letter, look, reporting, reports)?;
+        self.execute(gate, letter, look, tracing, trace)?;
         Ok(Some(Acted::Executed))
     }
 
@@ -131,8 +129,8 @@ impl<C: Chare<A>, H: Openings<C>, A: Allocator + Copy> PeState<C, H, A> {
         gate: &G,
         letter: Letter<A>,
         look: Option<Pe>,
-        reporting: bool,
-        reports: &mut Vec<Report, A>,
+        tracing: bool,
+        trace: &mut Vec<TraceEntry, A>,
     ) -> Result<(), StepError>
         requires empty { self.old.hand ≡ None }
         requires below { IsBelow H.pes look }
@@ -140,8 +138,8 @@ impl<C: Chare<A>, H: Openings<C>, A: Allocator + Copy> PeState<C, H, A> {
         ensures ok { OnOk result (self.new ≡ (executed C.step C.pack self.old letter).pe) }
         ensures err { OnErr result (self.new ≡ held self.old (Carried.Letter letter) look) }
         ensures refused { IfErr result (RefusesStep (RefusesParcel C.refuses self.old (Carried.Letter letter))) }
-        ensures reports { OnOk result (reports.new.items ≡ reported reporting reports.old.items (executed C.step C.pack self.old letter).reports) }
-        ensures same_reports { OnErr result (reports.new.items ≡ reports.old.items) }
+        ensures trace { OnOk result (trace.new.items ≡ traced tracing trace.old.items (executed C.step C.pack self.old letter).trace) }
+        ensures same_trace { OnErr result (trace.new.items ≡ trace.old.items) }
     {
         let Ok(()) = self.notes.reserve(1) else {
             self.hold(Carried::Letter(letter), look);
@@ -151,7 +149,7 @@ impl<C: Chare<A>, H: Openings<C>, A: Allocator + Copy> PeState<C, H, A> {
             self.hold(Carried::Letter(letter), look);
             return Err(StepError::OutOfMemory);
         };
-        let answer = lent::execute(
+        let handled = lent::execute(
             self.alloc,
             gate,
             self.me,
@@ -160,10 +158,10 @@ impl<C: Chare<A>, H: Openings<C>, A: Allocator + Copy> PeState<C, H, A> {
             &mut self.room,
             &mut self.outbox,
             &mut self.count,
-            reporting,
-            reports,
+            tracing,
+            trace,
         );
-        let note = match answer {
+        let note = match handled {
             Ok(note) => note,
             Err(unread) => {
                 let Unread { letter, error } = unread;
@@ -177,13 +175,13 @@ impl<C: Chare<A>, H: Openings<C>, A: Allocator + Copy> PeState<C, H, A> {
     }
 
     // Acts on a letter whose element does not stand here.
-    #[tactic(auto, using(crate::proofs::Reports::reported_none))]
+    #[tactic(auto, using(crate::proofs::Traces::traced_none))]
     fn pass_on(
         &mut self,
         letter: Letter<A>,
         look: Option<Pe>,
-        reporting: bool,
-        reports: &mut Vec<Report, A>,
+        tracing: bool,
+        trace: &mut Vec<TraceEntry, A>,
     ) -> Result<Option<Acted>, StepError>
         requires empty { self.old.hand ≡ None }
         requires below { IsBelow H.pes look }
@@ -192,18 +190,18 @@ impl<C: Chare<A>, H: Openings<C>, A: Allocator + Copy> PeState<C, H, A> {
         ensures err { OnErr result (self.new ≡ held self.old (Carried.Letter letter) look) }
         ensures enabled { OnErr result (IsSome (passing self.old letter look)) }
         ensures only_memory { IfErr result (λ error. error ≡ OutOfMemory) }
-        ensures reports { OnOk result (reports.new.items ≡ reported reporting reports.old.items (reports_of (passing self.old letter look))) }
-        ensures same_reports { OnErr result (reports.new.items ≡ reports.old.items) }
+        ensures trace { OnOk result (trace.new.items ≡ traced tracing trace.old.items (trace_of (passing self.old letter look))) }
+        ensures same_trace { OnErr result (trace.new.items ≡ trace.old.items) }
     {
         let Some(to) = look else {
             self.hold(Carried::Letter(letter), look);
             return Ok(None);
         };
         if to == self.me {
-            self.shelve(letter, to, reporting, reports)?;
+            self.shelve(letter, to, tracing, trace)?;
             return Ok(Some(Acted::Shelved));
         }
-        self.forward(letter, to, reporting, reports)?;
+        self.forward(letter, to, tracing, trace)?;
         Ok(Some(Acted::Forwarded))
     }
 
@@ -212,17 +210,17 @@ impl<C: Chare<A>, H: Openings<C>, A: Allocator + Copy> PeState<C, H, A> {
         &mut self,
         letter: Letter<A>,
         look: Pe,
-        reporting: bool,
-        reports: &mut Vec<Report, A>,
+        tracing: bool,
+        trace: &mut Vec<TraceEntry, A>,
     ) -> Result<(), AllocError>
         requires empty { self.old.hand ≡ None }
         requires below { look < H.pes }
         ensures ok { OnOk result (self.new ≡ (shelving self.old letter).pe) }
         ensures err { OnErr result (self.new ≡ held self.old (Carried.Letter letter) (Some look)) }
-        ensures reports { OnOk result (reports.new.items ≡ reported reporting reports.old.items (shelving self.old letter).reports) }
-        ensures same_reports { OnErr result (reports.new.items ≡ reports.old.items) }
+        ensures trace { OnOk result (trace.new.items ≡ traced tracing trace.old.items (shelving self.old letter).trace) }
+        ensures same_trace { OnErr result (trace.new.items ≡ trace.old.items) }
     {
-        let Ok(()) = room_for_report(reports, reporting) else {
+        let Ok(()) = reserve_entry(trace, tracing) else {
             self.hold(Carried::Letter(letter), Some(look));
             return Err(AllocError);
         };
@@ -231,7 +229,7 @@ impl<C: Chare<A>, H: Openings<C>, A: Allocator + Copy> PeState<C, H, A> {
             self.hold(Carried::Letter(refused.value), Some(look));
             return Err(AllocError);
         }
-        add_report(reports, reporting, Report::Shelved(id));
+        add_entry(trace, tracing, TraceEntry::Shelved(id));
         self.kept = None;
         Ok(())
     }
@@ -242,17 +240,17 @@ impl<C: Chare<A>, H: Openings<C>, A: Allocator + Copy> PeState<C, H, A> {
         &mut self,
         mut letter: Letter<A>,
         to: Pe,
-        reporting: bool,
-        reports: &mut Vec<Report, A>,
+        tracing: bool,
+        trace: &mut Vec<TraceEntry, A>,
     ) -> Result<(), AllocError>
         requires empty { self.old.hand ≡ None }
         requires below { to < H.pes }
         ensures ok { OnOk result (self.new ≡ (forwarding self.old letter to).pe) }
         ensures err { OnErr result (self.new ≡ held self.old (Carried.Letter letter) (Some to)) }
-        ensures reports { OnOk result (reports.new.items ≡ reported reporting reports.old.items (forwarding self.old letter to).reports) }
-        ensures same_reports { OnErr result (reports.new.items ≡ reports.old.items) }
+        ensures trace { OnOk result (trace.new.items ≡ traced tracing trace.old.items (forwarding self.old letter to).trace) }
+        ensures same_trace { OnErr result (trace.new.items ≡ trace.old.items) }
     {
-        let Ok(()) = room_for_report(reports, reporting) else {
+        let Ok(()) = reserve_entry(trace, tracing) else {
             self.hold(Carried::Letter(letter), Some(to));
             return Err(AllocError);
         };
@@ -260,7 +258,7 @@ impl<C: Chare<A>, H: Openings<C>, A: Allocator + Copy> PeState<C, H, A> {
             self.hold(Carried::Letter(letter), Some(to));
             return Err(AllocError);
         };
-        add_report(reports, reporting, Report::Forwarded(letter.id()));
+        add_entry(trace, tracing, TraceEntry::Forwarded(letter.id()));
         letter.hop();
         self.outbox.push_back_reserved(Addressed {
             parcel: Carried::Letter(letter),
@@ -273,24 +271,24 @@ impl<C: Chare<A>, H: Openings<C>, A: Allocator + Copy> PeState<C, H, A> {
 
 impl<C: Chare<A>, H: Openings<C>, A: Allocator + Copy> PeState<C, H, A> {
     // Acts on an element that was taken from the hand.
-    #[tactic(auto, using(crate::proofs::Reports::reported_none))]
+    #[tactic(auto, using(crate::proofs::Traces::traced_none))]
     fn act_on_element(
         &mut self,
         element: Packed<A>,
         look: Option<Pe>,
-        reporting: bool,
-        reports: &mut Vec<Report, A>,
+        tracing: bool,
+        trace: &mut Vec<TraceEntry, A>,
     ) -> Result<Option<Acted>, StepError>
         requires empty { self.old.hand ≡ None }
         requires below { IsBelow H.pes look }
         requires consistent { IsPackedHistory C.step C.fits C.pack H.opened element }
-        ensures answer { IfOk result (λ acted. acted ≡ acted_of (on_element C.step C.pack C.unpack self.old element (found element.index self.old.room))) }
-        ensures ok { OnOk result (self.new ≡ pe_after (held self.old (Carried.Element element) look) (on_element C.step C.pack C.unpack self.old element (found element.index self.old.room))) }
+        ensures answer { IfOk result (λ acted. acted ≡ acted_of (acting_on_element C.step C.pack C.unpack self.old element)) }
+        ensures ok { OnOk result (self.new ≡ pe_after (held self.old (Carried.Element element) look) (acting_on_element C.step C.pack C.unpack self.old element)) }
         ensures err { OnErr result (self.new ≡ held self.old (Carried.Element element) look) }
-        ensures enabled { OnErr result (IsSome (on_element C.step C.pack C.unpack self.old element (found element.index self.old.room))) }
+        ensures enabled { OnErr result (IsSome (acting_on_element C.step C.pack C.unpack self.old element)) }
         ensures only_memory { IfErr result (λ error. error ≡ OutOfMemory) }
-        ensures reports { OnOk result (reports.new.items ≡ reported reporting reports.old.items (reports_of (on_element C.step C.pack C.unpack self.old element (found element.index self.old.room)))) }
-        ensures same_reports { OnErr result (reports.new.items ≡ reports.old.items) }
+        ensures trace { OnOk result (trace.new.items ≡ traced tracing trace.old.items (trace_of (acting_on_element C.step C.pack C.unpack self.old element))) }
+        ensures same_trace { OnErr result (trace.new.items ≡ trace.old.items) }
     {
         if self.room.element(element.index()).is_some() {
             self.hold(Carried::Element(element), look);
@@ -300,7 +298,7 @@ impl<C: Chare<A>, H: Openings<C>, A: Allocator + Copy> PeState<C, H, A> {
             self.hold(Carried::Element(element), look);
             return Err(StepError::OutOfMemory);
         };
-        self.install(element, chare, look, reporting, reports)?;
+        self.install(element, chare, look, tracing, trace)?;
         Ok(Some(Acted::Installed))
     }
 }
@@ -313,8 +311,8 @@ impl<C: Chare<A>, H: Openings<C>, A: Allocator + Copy> PeState<C, H, A> {
         element: Packed<A>,
         chare: C,
         look: Option<Pe>,
-        reporting: bool,
-        reports: &mut Vec<Report, A>,
+        tracing: bool,
+        trace: &mut Vec<TraceEntry, A>,
     ) -> Result<(), AllocError>
         requires empty { self.old.hand ≡ None }
         requires below { IsBelow H.pes look }
@@ -323,10 +321,10 @@ impl<C: Chare<A>, H: Openings<C>, A: Allocator + Copy> PeState<C, H, A> {
         requires history { IsHistory C.step C.pack H.opened (unpacked element chare) }
         ensures ok { OnOk result (self.new ≡ installed self.old element chare) }
         ensures err { OnErr result (self.new ≡ held self.old (Carried.Element element) look) }
-        ensures reports { OnOk result (reports.new.items ≡ reported reporting reports.old.items (Report.Installed element.index ∷ [])) }
-        ensures same_reports { OnErr result (reports.new.items ≡ reports.old.items) }
+        ensures trace { OnOk result (trace.new.items ≡ traced tracing trace.old.items (TraceEntry.Installed element.index ∷ [])) }
+        ensures same_trace { OnErr result (trace.new.items ≡ trace.old.items) }
     {
-        let Ok(()) = room_for_report(reports, reporting) else {
+        let Ok(()) = reserve_entry(trace, tracing) else {
             self.hold(Carried::Element(element), look);
             return Err(AllocError);
         };
@@ -343,7 +341,7 @@ impl<C: Chare<A>, H: Openings<C>, A: Allocator + Copy> PeState<C, H, A> {
             self.hold(Carried::Element(refused.value), look);
             return Err(AllocError);
         }
-        add_report(reports, reporting, Report::Installed(index));
+        add_entry(trace, tracing, TraceEntry::Installed(index));
         unshelve(index, self.me, &mut self.shelf, &mut rest, &mut self.outbox);
         self.shelf = rest;
         self.kept = None;

@@ -1,15 +1,15 @@
 //! The resumption of an element.
 
 ghost use Rattle.std.specs.Prelude.{◌≡◌, ℕ, ◌++◌, ◌∷◌, [], ◌<◌, ◌≤◌, List, length, IfOk, IfErr, OnOk, OnErr, IfSome, IsSome, Ok, None, Some, true};
-ghost use Rattle.chares.specs.Posting.{reported};
-ghost use Rattle.pe_state.specs.Pes.{may_resume, resumed, resume_reports};
+ghost use Rattle.chares.specs.Posting.{traced};
+ghost use Rattle.pe_state.specs.Pes.{may_resume, resumed, resume_entries};
 ghost use Rattle.pe_state.specs.Refusals.{RefusesStep, RefusesResume};
 
 use crate::error::StepError;
 use crate::lent;
 use crate::pe::PeState;
 use chare_index::{Gate, Index, Limits, Round};
-use chares::{Chare, Openings, Report};
+use chares::{Chare, Openings, TraceEntry};
 use std::alloc::{Allocator, Global};
 
 impl<C: Chare<A>, H: Openings<C>, A: Allocator + Copy> PeState<C, H, A> {
@@ -18,7 +18,7 @@ impl<C: Chare<A>, H: Openings<C>, A: Allocator + Copy> PeState<C, H, A> {
     ///
     /// # Errors
     ///
-    /// The PE is as it was on any of them: [`OutOfMemory`](StepError::OutOfMemory), or what the handler answers.
+    /// The PE is as it was on any of them: [`OutOfMemory`](StepError::OutOfMemory), or what the handler returns.
     pub fn resume<G: Gate>(&mut self, gate: &G, index: Index, round: Round) -> Result<(), StepError>
         requires due { may_resume self.old index round ≡ true }
         requires before_last_round { round < Limits.ROUND }
@@ -26,47 +26,47 @@ impl<C: Chare<A>, H: Openings<C>, A: Allocator + Copy> PeState<C, H, A> {
         ensures err { OnErr result (self.new ≡ self.old) }
         ensures refused { IfErr result (RefusesStep (RefusesResume C.refuses self.old index round)) }
     {
-        let mut reports = Vec::new(self.alloc);
-        self.resume_with(gate, index, round, false, &mut reports)
+        let mut trace = Vec::new(self.alloc);
+        self.resume_with(gate, index, round, false, &mut trace)
     }
 
-    /// Resumes as [`resume`](PeState::resume) does, and appends what the event reports, in order: the resumption before
+    /// Resumes as [`resume`](PeState::resume) does, and appends its entries to a trace, in order: the resumption before
     /// what it posted. On a refusal nothing is appended.
-    pub fn resume_reporting<G: Gate>(
+    pub fn resume_traced<G: Gate>(
         &mut self,
         gate: &G,
         index: Index,
         round: Round,
-        reports: &mut Vec<Report, A>,
+        trace: &mut Vec<TraceEntry, A>,
     ) -> Result<(), StepError>
         requires due { may_resume self.old index round ≡ true }
         requires before_last_round { round < Limits.ROUND }
         ensures ok { OnOk result (self.new ≡ resumed C.step C.pack self.old index round) }
         ensures err { OnErr result (self.new ≡ self.old) }
         ensures refused { IfErr result (RefusesStep (RefusesResume C.refuses self.old index round)) }
-        ensures reports { OnOk result (reports.new.items ≡ reports.old.items ++ resume_reports C.step C.pack self.old index round) }
-        ensures same_reports { OnErr result (reports.new.items ≡ reports.old.items) }
+        ensures trace { OnOk result (trace.new.items ≡ trace.old.items ++ resume_entries C.step C.pack self.old index round) }
+        ensures same_trace { OnErr result (trace.new.items ≡ trace.old.items) }
     {
-        self.resume_with(gate, index, round, true, reports)
+        self.resume_with(gate, index, round, true, trace)
     }
 
-    // Resumes, and adds what is to be reported where that is wanted.
+    // Resumes, and appends to the trace where one is kept.
     #[tactic(auto, using(crate::proofs::Below::posted_below, crate::proofs::Reasons::same_reason))]
     fn resume_with<G: Gate>(
         &mut self,
         gate: &G,
         index: Index,
         round: Round,
-        reporting: bool,
-        reports: &mut Vec<Report, A>,
+        tracing: bool,
+        trace: &mut Vec<TraceEntry, A>,
     ) -> Result<(), StepError>
         requires due { may_resume self.old index round ≡ true }
         requires before_last_round { round < Limits.ROUND }
         ensures ok { OnOk result (self.new ≡ resumed C.step C.pack self.old index round) }
         ensures err { OnErr result (self.new ≡ self.old) }
         ensures refused { IfErr result (RefusesStep (RefusesResume C.refuses self.old index round)) }
-        ensures reports { OnOk result (reports.new.items ≡ reported reporting reports.old.items (resume_reports C.step C.pack self.old index round)) }
-        ensures same_reports { OnErr result (reports.new.items ≡ reports.old.items) }
+        ensures trace { OnOk result (trace.new.items ≡ traced tracing trace.old.items (resume_entries C.step C.pack self.old index round)) }
+        ensures same_trace { OnErr result (trace.new.items ≡ trace.old.items) }
     {
         self.notes.reserve(1)?;
         self.outbox.reserve(1)?;
@@ -80,8 +80,8 @@ impl<C: Chare<A>, H: Openings<C>, A: Allocator + Copy> PeState<C, H, A> {
             &mut self.room,
             &mut self.outbox,
             &mut self.count,
-            reporting,
-            reports,
+            tracing,
+            trace,
         )?;
         lent::owe(&mut self.notes, note);
         self.kept = None;

@@ -5,7 +5,7 @@ use Rattle.block_assignment.proofs.Prices.{greatest_small}
 use Rattle.block_assignment.proofs.assignment.cheapest.Goals as goal
 
 -- a matching of all blocks is a naming at their prices
-tight_if_all_named : (s : State) → IsSized s → IsMatched s → s.named ≡ s.table.blocks → IsTight s.table.blocks (cost_at s.table) s.paid s.rebate s.names
+tight_if_all_named : (s : State) → IsSized s → IsMatched s → s.named ≡ s.table.blocks → IsTight s.table.blocks (cost_at s.table) s.price s.discount s.names
 tight_if_all_named s sized matched all =
     record {
       naming = record {
@@ -33,25 +33,25 @@ returns-clause-tight g c =
     let table : s.table ≡ c.args.table.now = c.loop.invariant.table in
     let same : s.table.blocks ≡ c.args.table.now.blocks = ap (λ (x : Table). x.blocks) table in
     let all : s.named ≡ s.table.blocks = omega (arith, same, c.loop.invariant.named, c.blocks-end.ensures.value, c.loop-test.false, c.loop.auto.counter-end) in
-    rw (c.into_parts.ensures.paid, c.into_parts.ensures.rebate, c.into_parts.ensures.names) (subst (λ t. IsTight t.blocks (cost_at t) s.paid s.rebate s.names) table (tight_if_all_named s c.loop.invariant.sized c.loop.invariant.matched all))
+    rw (c.into_parts.ensures.price, c.into_parts.ensures.discount, c.into_parts.ensures.names) (subst (λ t. IsTight t.blocks (cost_at t) s.price s.discount s.names) table (tight_if_all_named s c.loop.invariant.sized c.loop.invariant.matched all))
 
-pub returns-clause-paid : goal.returns-clause-paid
-returns-clause-paid g c =
-    rw c.into_parts.ensures.paid (c.loop.invariant.sized.paid_length ∙ ap (λ (x : Table). x.blocks) c.loop.invariant.table)
+pub returns-clause-price : goal.returns-clause-price
+returns-clause-price g c =
+    rw c.into_parts.ensures.price (c.loop.invariant.sized.price_length ∙ ap (λ (x : Table). x.blocks) c.loop.invariant.table)
 
-pub returns-clause-rebates : goal.returns-clause-rebates
-returns-clause-rebates g c =
-    rw c.into_parts.ensures.rebate (c.loop.invariant.sized.rebate_length ∙ ap (λ (x : Table). x.blocks) c.loop.invariant.table)
+pub returns-clause-discounts : goal.returns-clause-discounts
+returns-clause-discounts g c =
+    rw c.into_parts.ensures.discount (c.loop.invariant.sized.discount_length ∙ ap (λ (x : Table). x.blocks) c.loop.invariant.table)
 
-pub returns-clause-paid_small : goal.returns-clause-paid_small
-returns-clause-paid_small g c =
+pub returns-clause-prices_small : goal.returns-clause-prices_small
+returns-clause-prices_small g c =
     let s : State = c.loop.search in
-    rw c.into_parts.ensures.paid (subst (λ (t : Table). (b : ℕ) → b < t.blocks → slice_index s.paid b ≤ greatest t.costs) c.loop.invariant.table c.loop.invariant.small.paid)
+    rw c.into_parts.ensures.price (subst (λ (t : Table). (b : ℕ) → b < t.blocks → slice_index s.price b ≤ greatest t.costs) c.loop.invariant.table c.loop.invariant.small.price)
 
-pub returns-clause-rebates_small : goal.returns-clause-rebates_small
-returns-clause-rebates_small g c =
+pub returns-clause-discounts_small : goal.returns-clause-discounts_small
+returns-clause-discounts_small g c =
     let s : State = c.loop.search in
-    rw c.into_parts.ensures.rebate (subst (λ (t : Table). (p : ℕ) → p < t.blocks → slice_index s.rebate p ≤ greatest t.costs) c.loop.invariant.table c.loop.invariant.small.rebate)
+    rw c.into_parts.ensures.discount (subst (λ (t : Table). (p : ℕ) → p < t.blocks → slice_index s.discount p ≤ greatest t.costs) c.loop.invariant.table c.loop.invariant.small.discount)
 
 pub returns-clause-costs_small : goal.returns-clause-costs_small
 returns-clause-costs_small g c = greatest_small c.args.table.now.costs (2 ^ 36) c.blocks-end.ensures.within_limits.small

@@ -11,8 +11,8 @@ make_least-requires-clause-allowed g c =
     let takers : List (List ℕ) = c.deref.result.now in
     let same : takers ≡ c.write_takers.new.takers = c.deref.ensures.value ∙ written _ _ _ (omega arith) in
     let counted : length takers ≡ c.args.table.now.blocks = ap (λ (xs : List (List ℕ)). length xs) same ∙ omega (arith, c.write_takers.auto.takers, c.deref_mut.ensures.len, c.in_ok-takers.ensures.len, c.blocks-blocks.ensures.value) in
-    let exact : IsExact c.args.table.now.blocks (cost_at c.args.table.now) c.args.paid.now c.args.rebate.now takers = subst (λ t. IsExact c.args.table.now.blocks (cost_at c.args.table.now) c.args.paid.now c.args.rebate.now t) (sym same) c.write_takers.ensures.exact in
-    allowed_if_tight c.args.table.now.blocks (cost_at c.args.table.now) c.args.paid.now c.args.rebate.now c.args.names.now takers counted exact c.requires.tight
+    let exact : IsExact c.args.table.now.blocks (cost_at c.args.table.now) c.args.price.now c.args.discount.now takers = subst (λ t. IsExact c.args.table.now.blocks (cost_at c.args.table.now) c.args.price.now c.args.discount.now t) (sym same) c.write_takers.ensures.exact in
+    allowed_if_tight c.args.table.now.blocks (cost_at c.args.table.now) c.args.price.now c.args.discount.now c.args.names.now takers counted exact c.requires.tight
 
 pub returns-clause-tight : goal.returns-clause-tight
 returns-clause-tight g c =
@@ -21,9 +21,9 @@ returns-clause-tight g c =
     let takers : List (List ℕ) = c.deref.result.now in
     let same : takers ≡ c.write_takers.new.takers = c.deref.ensures.value ∙ written _ _ _ (omega arith) in
     let counted : length takers ≡ blocks = omega arith in
-    let exact : IsExact blocks cost c.args.paid.now c.args.rebate.now takers = subst (λ t. IsExact blocks cost c.args.paid.now c.args.rebate.now t) (sym same) c.write_takers.ensures.exact in
+    let exact : IsExact blocks cost c.args.price.now c.args.discount.now takers = subst (λ t. IsExact blocks cost c.args.price.now c.args.discount.now t) (sym same) c.write_takers.ensures.exact in
     let naming : IsNaming blocks c.make_least.new.names = subst (λ n. IsNaming n c.make_least.new.names) counted c.make_least.ensures.naming in
-    tight_if_allowed blocks cost c.args.paid.now c.args.rebate.now c.args.names.now c.make_least.new.names takers counted exact c.requires.tight naming c.make_least.ensures.allowed
+    tight_if_allowed blocks cost c.args.price.now c.args.discount.now c.args.names.now c.make_least.new.names takers counted exact c.requires.tight naming c.make_least.ensures.allowed
 
 pub returns-clause-least_naming : goal.returns-clause-least_naming
 returns-clause-least_naming g c =
@@ -32,16 +32,16 @@ returns-clause-least_naming g c =
     let takers : List (List ℕ) = c.deref.result.now in
     let same : takers ≡ c.write_takers.new.takers = c.deref.ensures.value ∙ written _ _ _ (omega arith) in
     let counted : length takers ≡ blocks = omega arith in
-    let exact : IsExact blocks cost c.args.paid.now c.args.rebate.now takers = subst (λ t. IsExact blocks cost c.args.paid.now c.args.rebate.now t) (sym same) c.write_takers.ensures.exact in
+    let exact : IsExact blocks cost c.args.price.now c.args.discount.now takers = subst (λ t. IsExact blocks cost c.args.price.now c.args.discount.now t) (sym same) c.write_takers.ensures.exact in
     let naming : IsNaming blocks c.make_least.new.names = subst (λ n. IsNaming n c.make_least.new.names) counted c.make_least.ensures.naming in
-    let tight : IsTight blocks cost c.args.paid.now c.args.rebate.now c.make_least.new.names = tight_if_allowed blocks cost c.args.paid.now c.args.rebate.now c.args.names.now c.make_least.new.names takers counted exact c.requires.tight naming c.make_least.ensures.allowed in
-    first_from_least blocks cost c.args.paid.now c.args.rebate.now c.make_least.new.names takers counted exact tight c.make_least.ensures.least
+    let tight : IsTight blocks cost c.args.price.now c.args.discount.now c.make_least.new.names = tight_if_allowed blocks cost c.args.price.now c.args.discount.now c.args.names.now c.make_least.new.names takers counted exact c.requires.tight naming c.make_least.ensures.allowed in
+    first_from_least blocks cost c.args.price.now c.args.discount.now c.make_least.new.names takers counted exact tight c.make_least.ensures.least
 
-pub write_takers-requires-clause-paid : goal.write_takers-requires-clause-paid
-write_takers-requires-clause-paid g c = c.requires.paid
+pub write_takers-requires-clause-price : goal.write_takers-requires-clause-price
+write_takers-requires-clause-price g c = c.requires.price
 
-pub write_takers-requires-clause-rebates : goal.write_takers-requires-clause-rebates
-write_takers-requires-clause-rebates g c = c.requires.rebates
+pub write_takers-requires-clause-discounts : goal.write_takers-requires-clause-discounts
+write_takers-requires-clause-discounts g c = c.requires.discounts
 
 pub write_takers-requires-clause-small : goal.write_takers-requires-clause-small
 write_takers-requires-clause-small g c = c.requires.small

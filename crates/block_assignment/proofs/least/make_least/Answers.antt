@@ -7,10 +7,10 @@ use Rattle.block_assignment.proofs.least.make_least.Goals as goal
 pub loop-b-preserved : goal.loop-b-preserved
 loop-b-preserved c =
     record {
-      naming = c.settle.ensures.naming;
-      allowed = c.settle.ensures.allowed;
+      naming = c.give_least_pe.ensures.naming;
+      allowed = c.give_least_pe.ensures.allowed;
       least = λ k inside. elim (cases_eq k c.loop-b.b) [
-        | inl last ↦ subst (λ m. IsLeastAt c.args.takers.now c.settle.new.names m) (sym last) c.settle.ensures.least
-        | inr other ↦ least_before c.args.takers.now c.loop-b.names c.settle.new.names c.loop-b.b c.settle.ensures.before c.loop-b.invariant.least k (omega (arith, inside, other))
+        | inl last ↦ subst (λ m. IsLeastAt c.args.takers.now c.give_least_pe.new.names m) (sym last) c.give_least_pe.ensures.least
+        | inr other ↦ least_before c.args.takers.now c.loop-b.names c.give_least_pe.new.names c.loop-b.b c.give_least_pe.ensures.before c.loop-b.invariant.least k (omega (arith, inside, other))
       ];
     }

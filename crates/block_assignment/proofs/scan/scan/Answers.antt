@@ -9,8 +9,8 @@ pub loop-p-preserved : goal.loop-p-preserved
 loop-p-preserved c =
     let k : ℕ = c.loop-p.p in
     let inside : k < length c.args.row.now = c.loop-p-test.true in
-    let there : ℕ = c.args.joining.distance + slice_index c.args.row.now k + slice_index c.args.rebate.now k - c.args.joining.paid in
-    let exact : there + c.args.joining.paid ≡ c.args.joining.distance + slice_index c.args.row.now k + slice_index c.args.rebate.now k = omega (arith, c.requires.low k inside) in
+    let there : ℕ = c.args.joining.distance + slice_index c.args.row.now k + slice_index c.args.discount.now k - c.args.joining.price in
+    let exact : there + c.args.joining.price ≡ c.args.joining.distance + slice_index c.args.row.now k + slice_index c.args.discount.now k = omega (arith, c.requires.low k inside) in
     let small : there < 2 ^ 64 - 1 = omega (arith, c.requires.near, c.requires.small k inside) in
     let in_distance : k < length c.loop-p.distance = omega arith in
     let in_from : k < length c.loop-p.from = omega arith in
@@ -25,7 +25,7 @@ loop-p-preserved c =
                 let d2 : w.if-way-far.distance ≡ set c.loop-p.distance k there = v.distance-is in
                 let f2 : w.if-way-far.from ≡ set c.loop-p.from k c.args.joining.block = v.from-is in
                 let here : slice_index w.if-way-far.distance k ≡ w.if-way-far.far = ap (λ xs. slice_index xs k) d2 ∙ get_or-set_same c.loop-p.distance k there 0 in_distance ∙ sym v.far-is in
-                let walked : Walked c.args.joining.distance c.args.joining.paid c.args.joining.block c.args.row.now c.args.rebate.now c.args.rank.now c.args.distance.now c.args.from.now (set c.loop-p.distance k there) (set c.loop-p.from k c.args.joining.block) (k + 1) = walked_nearer _ _ _ _ _ _ _ _ _ _ k there c.loop-p.invariant.walked w.if-rank-p-eq0.true in_distance in_from exact v.if-way-far.true in
+                let walked : Walked c.args.joining.distance c.args.joining.price c.args.joining.block c.args.row.now c.args.discount.now c.args.rank.now c.args.distance.now c.args.from.now (set c.loop-p.distance k there) (set c.loop-p.from k c.args.joining.block) (k + 1) = walked_nearer _ _ _ _ _ _ _ _ _ _ k there c.loop-p.invariant.walked w.if-rank-p-eq0.true in_distance in_from exact v.if-way-far.true in
                 let same : (p : ℕ) → p ≢ k → slice_index w.if-way-far.distance p ≡ slice_index c.loop-p.distance p = λ p other. ap (λ xs. slice_index xs p) d2 ∙ get_or-set_other c.loop-p.distance k p there 0 other in
                 record {
                   walked = rw (d, f, d2, f2) walked;
@@ -35,7 +35,7 @@ loop-p-preserved c =
                 let d2 : w.if-way-far.distance ≡ c.loop-p.distance = v.distance-is in
                 let f2 : w.if-way-far.from ≡ c.loop-p.from = v.from-is in
                 let here : slice_index w.if-way-far.distance k ≡ w.if-way-far.far = ap (λ xs. slice_index xs k) d2 ∙ sym v.far-is in
-                let walked : Walked c.args.joining.distance c.args.joining.paid c.args.joining.block c.args.row.now c.args.rebate.now c.args.rank.now c.args.distance.now c.args.from.now c.loop-p.distance c.loop-p.from (k + 1) = walked_kept _ _ _ _ _ _ _ _ _ _ k there c.loop-p.invariant.walked exact v.if-way-far.false in
+                let walked : Walked c.args.joining.distance c.args.joining.price c.args.joining.block c.args.row.now c.args.discount.now c.args.rank.now c.args.distance.now c.args.from.now c.loop-p.distance c.loop-p.from (k + 1) = walked_kept _ _ _ _ _ _ _ _ _ _ k there c.loop-p.invariant.walked exact v.if-way-far.false in
                 let same : (p : ℕ) → p ≢ k → slice_index w.if-way-far.distance p ≡ slice_index c.loop-p.distance p = λ p other. ap (λ xs. slice_index xs p) d2 in
                 record {
                   walked = rw (d, f, d2, f2) walked;
@@ -52,7 +52,7 @@ loop-p-preserved c =
                 let d2 : w.if-way-far.distance ≡ set c.loop-p.distance k there = v.distance-is in
                 let f2 : w.if-way-far.from ≡ set c.loop-p.from k c.args.joining.block = v.from-is in
                 let here : slice_index w.if-way-far.distance k ≡ w.if-way-far.far = ap (λ xs. slice_index xs k) d2 ∙ get_or-set_same c.loop-p.distance k there 0 in_distance ∙ sym v.far-is in
-                let walked : Walked c.args.joining.distance c.args.joining.paid c.args.joining.block c.args.row.now c.args.rebate.now c.args.rank.now c.args.distance.now c.args.from.now (set c.loop-p.distance k there) (set c.loop-p.from k c.args.joining.block) (k + 1) = walked_nearer _ _ _ _ _ _ _ _ _ _ k there c.loop-p.invariant.walked w.if-rank-p-eq0.true in_distance in_from exact v.if-way-far.true in
+                let walked : Walked c.args.joining.distance c.args.joining.price c.args.joining.block c.args.row.now c.args.discount.now c.args.rank.now c.args.distance.now c.args.from.now (set c.loop-p.distance k there) (set c.loop-p.from k c.args.joining.block) (k + 1) = walked_nearer _ _ _ _ _ _ _ _ _ _ k there c.loop-p.invariant.walked w.if-rank-p-eq0.true in_distance in_from exact v.if-way-far.true in
                 let same : (p : ℕ) → p ≢ k → slice_index w.if-way-far.distance p ≡ slice_index c.loop-p.distance p = λ p other. ap (λ xs. slice_index xs p) d2 ∙ get_or-set_other c.loop-p.distance k p there 0 other in
                 let some : slice_index w.if-way-far.distance k < 2 ^ 64 - 1 = omega (arith, small, ap (λ xs. slice_index xs k) d2, get_or-set_same c.loop-p.distance k there 0 in_distance) in
                 record {
@@ -63,7 +63,7 @@ loop-p-preserved c =
                 let d2 : w.if-way-far.distance ≡ c.loop-p.distance = v.distance-is in
                 let f2 : w.if-way-far.from ≡ c.loop-p.from = v.from-is in
                 let here : slice_index w.if-way-far.distance k ≡ w.if-way-far.far = ap (λ xs. slice_index xs k) d2 ∙ sym v.far-is in
-                let walked : Walked c.args.joining.distance c.args.joining.paid c.args.joining.block c.args.row.now c.args.rebate.now c.args.rank.now c.args.distance.now c.args.from.now c.loop-p.distance c.loop-p.from (k + 1) = walked_kept _ _ _ _ _ _ _ _ _ _ k there c.loop-p.invariant.walked exact v.if-way-far.false in
+                let walked : Walked c.args.joining.distance c.args.joining.price c.args.joining.block c.args.row.now c.args.discount.now c.args.rank.now c.args.distance.now c.args.from.now c.loop-p.distance c.loop-p.from (k + 1) = walked_kept _ _ _ _ _ _ _ _ _ _ k there c.loop-p.invariant.walked exact v.if-way-far.false in
                 let same : (p : ℕ) → p ≢ k → slice_index w.if-way-far.distance p ≡ slice_index c.loop-p.distance p = λ p other. ap (λ xs. slice_index xs p) d2 in
                 let some : slice_index w.if-way-far.distance k < 2 ^ 64 - 1 = omega (arith, small, ap (λ xs. slice_index xs k) d2, v.if-way-far.false) in
                 record {

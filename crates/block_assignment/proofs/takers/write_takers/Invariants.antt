@@ -6,6 +6,6 @@ use Rattle.block_assignment.proofs.takers.write_takers.Given as goal
 abbrev pub invariant-loop-b : goal.invariant-loop-b
 invariant-loop-b g l =
     record {
-      done : (k p : ℕ) → k < l.b → p < l.table.blocks → (may_have l.takers k p ≡ 1) ↔ (slice_index l.paid k ≡ cost_at l.table k p + slice_index l.rebate p);
+      done : (k p : ℕ) → k < l.b → p < l.table.blocks → (may_have l.takers k p ≡ 1) ↔ (slice_index l.price k ≡ cost_at l.table k p + slice_index l.discount p);
       to_do : (k p : ℕ) → l.b ≤ k → p < l.table.blocks → may_have l.takers k p ≡ 0;
     }

@@ -18,6 +18,6 @@ pub returns-clause-spelled : goal.returns-clause-spelled
 returns-clause-spelled g c =
     let cut : Cut c.args.bytes.now c.split_at.result.0.now c.split_at.result.1.now c.args.target =
     record { target = c.requires.target; whole = c.requires.whole; split = c.split_at.ensures.by_index.0; back_len = omega arith } in
-    plan_spelled c.args.bytes.now c.split_at.result.0.now c.split_at.result.1.now c.split_at-2.result.0.now c.split_at-2.result.1.now c.behind_floor.result c.lists_len.result
+    plan_spelled c.args.bytes.now c.split_at.result.0.now c.split_at.result.1.now c.split_at-2.result.0.now c.split_at-2.result.1.now c.after_floor.result c.lists_len.result
     (record { target = c.args.target; decision = record { division = c.in_ok-division.division; naming = c.in_ok-naming.naming; prices = c.in_ok-naming.prices; moved = c.long.result; moves = c.new-2.result } })
-    cut (record { small = λ i. (c.type_inv.bytes i).fits }) c.requires.flag c.in_ok-division.ensures c.behind_floor.ensures c.split_at.ensures.back c.lists_len.ensures c.split_at-2.ensures.back c.split_at-2.ensures.by_index.0 c.in_ok-naming.ensures c.long.ensures.value
+    cut (record { small = λ i. (c.type_inv.bytes i).fits }) c.requires.flag c.in_ok-division.ensures c.after_floor.ensures c.split_at.ensures.back c.lists_len.ensures c.split_at-2.ensures.back c.split_at-2.ensures.by_index.0 c.in_ok-naming.ensures c.long.ensures.value

@@ -1,6 +1,6 @@
 use Rattle.std.proofs.Common.{◌≡◌, ◌∙◌, ◌++◌, inr, subst, sym, arith}
 use Rattle.std.proofs.lemmas.Result.{err_from_is_err_and}
-use Rattle.dump_format.proofs.OnlyFaults.{only_told}
+use Rattle.dump_format.proofs.OnlyFaults.{only_text_faults}
 use Rattle.dump_format.specs.Faults.{IsBroken}
 use Rattle.dump_format.specs.declared.error.DumpError.TheVariants.{OutOfMemory}
 use Rattle.lb_dump.proofs.GoodHeads.{good_in_head}
@@ -26,7 +26,7 @@ returns-in_err-head-clause-head_first g c refused =
     let p = err_from_is_err_and c.from_residual.result c.from_residual.ensures.1 in
     let broken = rw c.deref.ensures.value at c.in_err-head.ensures.answer in
     let memory : p.0 ≡ OutOfMemory = (let same = sym p.1 ∙ refused in cc) in
-    absurd (only_told text OutOfMemory (subst (λ e. IsBroken text e) (sym p.2 ∙ memory) broken))
+    absurd (only_text_faults text OutOfMemory (subst (λ e. IsBroken text e) (sym p.2 ∙ memory) broken))
 
 pub returns-in_err-extend_from_slice-clause-head_first : goal.returns-in_err-extend_from_slice-clause-head_first
 returns-in_err-extend_from_slice-clause-head_first g c refused =

@@ -51,12 +51,12 @@ returns-then-moved-decision-clause-exact g c = (
   λ right. let told = right.moved in search (rules, told),
 )
 
-pub returns-then-not-tells_moves-clause-exact : goal.returns-then-not-tells_moves-clause-exact
-returns-then-not-tells_moves-clause-exact g c = (
+pub returns-then-not-has_right_moves-clause-exact : goal.returns-then-not-has_right_moves-clause-exact
+returns-then-not-has_right_moves-clause-exact g c = (
   λ ok. let bad : false ≡ true = ok in cc,
   λ right. let told = right.moves in search (rules, told),
 )
 
-pub returns-then-not-tells_moves-clause-first_flaw : goal.returns-then-not-tells_moves-clause-first_flaw
-returns-then-not-tells_moves-clause-first_flaw g c =
+pub returns-then-not-has_right_moves-clause-first_flaw : goal.returns-then-not-has_right_moves-clause-first_flaw
+returns-then-not-has_right_moves-clause-first_flaw g c =
     inr (inr (inr (c.in_ok-check_division.ensures.exact.0 refl, c.in_ok-moved.ensures.exact.0 refl, refl, search rules, search rules)))

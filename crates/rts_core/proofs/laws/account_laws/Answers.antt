@@ -10,8 +10,8 @@ pub returns-clause-counted : goal.returns-clause-counted
 returns-clause-counted g c = λ pes chares events last some run. counted g.C.Chare.step g.C.Pup.pack g.C.Pup.unpack pes chares some events last run
 
 -- src/laws.rt:20:1
-pub returns-clause-told : goal.returns-clause-told
-returns-clause-told g c = λ pes chares events last some run. told g.C.Chare.step g.C.Pup.pack g.C.Pup.unpack pes chares some events last run
+pub returns-clause-traced : goal.returns-clause-traced
+returns-clause-traced g c = λ pes chares events last some run. told g.C.Chare.step g.C.Pup.pack g.C.Pup.unpack pes chares some events last run
 
 -- src/laws.rt:20:1
 pub returns-clause-opening_sent : goal.returns-clause-opening_sent
@@ -19,4 +19,4 @@ returns-clause-opening_sent g c = λ pes chares some. opening_sent g.row.A.Denot
 
 -- src/laws.rt:20:1
 pub returns-clause-still_sent : goal.returns-clause-still_sent
-returns-clause-still_sent g c = λ opened w event next are sent happens. sent_next g.C.Chare.step g.C.Pup.fits g.C.Pup.pack g.C.Pup.unpack opened w event next are sent happens
+returns-clause-still_sent g c = λ w event next happens opened are sent. sent_next g.C.Chare.step g.C.Pup.fits g.C.Pup.pack g.C.Pup.unpack opened w event next are sent happens

@@ -2,11 +2,11 @@ use Rattle.rts_core.proofs.LocalAccount.{local_call, opening_local}
 use Rattle.rts_core.proofs.LocalCalls.{all_calls, kept_call}
 use Rattle.rts_core.proofs.laws.local_account_laws.Goals as goal
 
-pub returns-clause-balance : goal.returns-clause-balance
-returns-clause-balance g c = λ me n calls may. all_calls g.C.Chare.step g.C.Pup.pack g.C.Pup.unpack me n calls may
+pub returns-clause-adds_up : goal.returns-clause-adds_up
+returns-clause-adds_up g c = λ me n calls may. all_calls g.C.Chare.step g.C.Pup.pack g.C.Pup.unpack me n calls may
 
-pub returns-clause-still_balanced : goal.returns-clause-still_balanced
-returns-clause-still_balanced g c = λ pe ledger call may balanced. kept_call g.C.Chare.step ledger g.C.Pup.pack g.C.Pup.unpack pe call may balanced
+pub returns-clause-still_adds_up : goal.returns-clause-still_adds_up
+returns-clause-still_adds_up g c = λ pe ledger call may balanced. kept_call g.C.Chare.step ledger g.C.Pup.pack g.C.Pup.unpack pe call may balanced
 
 pub returns-clause-opening : goal.returns-clause-opening
 returns-clause-opening g c = λ pes chares some. opening_local g.C.Chare.step pes chares some

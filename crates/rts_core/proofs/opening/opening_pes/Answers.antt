@@ -6,38 +6,38 @@ use Rattle.pe_state.specs.Histories.{HasHistories}
 use Rattle.rts_core.proofs.Openings.{KeysBelow, opening_histories, opening_keys}
 use Rattle.rts_core.proofs.opening.opening_pes.Goals as goal
 
-pub settle-requires-clause-array : goal.settle-requires-clause-array
-settle-requires-clause-array g c = omega (arith, ap length c.requires.opened)
+pub place_all-requires-clause-array : goal.place_all-requires-clause-array
+place_all-requires-clause-array g c = omega (arith, ap length c.requires.opened)
 
-pub settle-requires-clause-some_pe : goal.settle-requires-clause-some_pe
-settle-requires-clause-some_pe g c =
+pub place_all-requires-clause-some_pe : goal.place_all-requires-clause-some_pe
+place_all-requires-clause-some_pe g c =
     let counted : length c.in_ok-made.made.items ≡ c.args.pes = ap length c.in_ok-made.ensures ∙ length-map-range_with_len (λ (q : ℕ). new_pe {C = g.row.C.Denot} q c.len-n.result) 0 c.args.pes in
     omega (arith, counted, c.requires.some_pe)
 
-pub settle-requires-clause-few_pes : goal.settle-requires-clause-few_pes
-settle-requires-clause-few_pes g c =
+pub place_all-requires-clause-few_pes : goal.place_all-requires-clause-few_pes
+place_all-requires-clause-few_pes g c =
     let counted : length c.in_ok-made.made.items ≡ c.args.pes = ap length c.in_ok-made.ensures ∙ length-map-range_with_len (λ (q : ℕ). new_pe {C = g.row.C.Denot} q c.len-n.result) 0 c.args.pes in
     omega (arith, counted, c.requires.few_pes)
 
-pub settle-requires-clause-histories : goal.settle-requires-clause-histories
-settle-requires-clause-histories g c =
+pub place_all-requires-clause-histories : goal.place_all-requires-clause-histories
+place_all-requires-clause-histories g c =
     let same : c.len-n.result ≡ length g.H.Openings.opened = omega (arith, ap length c.requires.opened) in
     subst (λ (xs : List (PeView g.row.C.Denot)). All (HasHistories g.C.Chare.step g.C.Pup.fits g.C.Pup.pack g.H.Openings.opened) xs) (sym c.in_ok-made.ensures)
     (opening_histories g.C.Chare.step g.C.Pup.fits g.C.Pup.pack g.H.Openings.opened c.len-n.result c.args.pes same)
 
-pub settle-requires-clause-empty : goal.settle-requires-clause-empty
-settle-requires-clause-empty g c =
+pub place_all-requires-clause-empty : goal.place_all-requires-clause-empty
+place_all-requires-clause-empty g c =
     subst (λ (xs : List (PeView g.row.C.Denot)). All (KeysBelow {C = g.row.C.Denot} 0) xs) (sym c.in_ok-made.ensures)
     (opening_keys g.row.C.Denot c.len-n.result c.args.pes)
 
 pub returns-clause-value : goal.returns-clause-value
 returns-clause-value g c =
     let same : length c.args.chares.items ≡ c.len-n.result = omega arith in
-    rw (c.in_ok-settle.ensures.settled, c.in_ok-made.ensures, same) refl
+    rw (c.in_ok-place_all.ensures.all_placed, c.in_ok-made.ensures, same) refl
 
 pub returns-clause-counted : goal.returns-clause-counted
 returns-clause-counted g c =
-    c.in_ok-settle.ensures.counted ∙ (ap length c.in_ok-made.ensures ∙ length-map-range_with_len (λ (q : ℕ). new_pe {C = g.row.C.Denot} q c.len-n.result) 0 c.args.pes)
+    c.in_ok-place_all.ensures.counted ∙ (ap length c.in_ok-made.ensures ∙ length-map-range_with_len (λ (q : ℕ). new_pe {C = g.row.C.Denot} q c.len-n.result) 0 c.args.pes)
 
 pub returns-clause-histories : goal.returns-clause-histories
-returns-clause-histories g c = c.in_ok-settle.ensures.histories
+returns-clause-histories g c = c.in_ok-place_all.ensures.histories

@@ -23,8 +23,8 @@ open_workers-requires-clause-fresh g c = rw c.from_vec-states.ensures.items (rw 
 pub open_workers-requires-clause-new : goal.open_workers-requires-clause-new
 open_workers-requires-clause-new g c = rw c.from_vec-seats.ensures.items (rw (← c.requires.own) c.requires.new)
 
-pub work_all-done-requires-clause-room : goal.work_all-done-requires-clause-room
-work_all-done-requires-clause-room g c κs within = omega (arith, c.in_ok-workers.ensures.counted, c.in_ok-crew.ensures.made, ap length c.from_vec-states.ensures.items, c.requires.counted, c.requires.run)
+pub work_all-done-requires-clause-places : goal.work_all-done-requires-clause-places
+work_all-done-requires-clause-places g c κs within = omega (arith, c.in_ok-workers.ensures.counted, c.in_ok-crew.ensures.made, ap length c.from_vec-states.ensures.items, c.requires.counted, c.requires.run)
 
 pub unreachable-requires : goal.unreachable-requires
 unreachable-requires g c =

@@ -7,50 +7,50 @@ use Rattle.block_assignment.proofs.search.Search.name_next.Goals as goal
 
 pub loop-nearest-init : goal.loop-nearest-init
 loop-nearest-init g c =
-    let made = c.plant-nearest.ensures in
+    let made = c.start_tree-nearest.ensures in
     record {
       sized = made.sized;
       matched = made.matched;
       tree = made.tree;
       table = made.table;
       named = made.named;
-      nearest = subst (λ (t : Table). MatchOption c.plant-nearest.result ((p : ℕ) → p < t.blocks → 0 < slice_index c.plant-nearest.new.self.rank p) (IsNearest c.plant-nearest.new.self.rank c.plant-nearest.new.self.distance t.blocks)) (sym made.table) made.nearest;
+      nearest = subst (λ (t : Table). MatchOption c.start_tree-nearest.result ((p : ℕ) → p < t.blocks → 0 < slice_index c.start_tree-nearest.new.self.rank p) (IsNearest c.start_tree-nearest.new.self.rank c.start_tree-nearest.new.self.distance t.blocks)) (sym made.table) made.nearest;
       to_scan = omega (arith, made.unscanned, ap (λ (t : Table). t.blocks) made.table);
     }
 
 pub loop-nearest-preserved : goal.loop-nearest-preserved
 loop-nearest-preserved g c =
     let known = c.loop-nearest.invariant in
-    let next = c.join-nearest.ensures in
+    let next = c.grow-nearest.ensures in
     record {
       sized = next.sized;
       matched = next.matched;
       tree = next.tree;
       table = next.table ∙ known.table;
       named = next.named ∙ known.named;
-      nearest = subst (λ (t : Table). MatchOption c.join-nearest.result ((p : ℕ) → p < t.blocks → 0 < slice_index c.join-nearest.new.self.rank p) (IsNearest c.join-nearest.new.self.rank c.join-nearest.new.self.distance t.blocks)) (sym next.table) next.nearest;
+      nearest = subst (λ (t : Table). MatchOption c.grow-nearest.result ((p : ℕ) → p < t.blocks → 0 < slice_index c.grow-nearest.new.self.rank p) (IsNearest c.grow-nearest.new.self.rank c.grow-nearest.new.self.distance t.blocks)) (sym next.table) next.nearest;
       to_scan = omega (arith, next.unscanned, known.to_scan, ap (λ (t : Table). t.blocks) next.table);
     }
 
 pub loop-nearest-smaller : goal.loop-nearest-smaller
-loop-nearest-smaller g c = omega (arith, c.join-nearest.ensures.unscanned)
+loop-nearest-smaller g c = omega (arith, c.grow-nearest.ensures.unscanned)
 
 pub returns-in_default-index-clause-sized : goal.returns-in_default-index-clause-sized
-returns-in_default-index-clause-sized g c = c.move_on.ensures.sized
+returns-in_default-index-clause-sized g c = c.augment.ensures.sized
 
 pub returns-in_default-index-clause-matched : goal.returns-in_default-index-clause-matched
-returns-in_default-index-clause-matched g c = c.move_on.ensures.matched
+returns-in_default-index-clause-matched g c = c.augment.ensures.matched
 
 pub returns-in_default-index-clause-small : goal.returns-in_default-index-clause-small
 returns-in_default-index-clause-small g c =
     let fewer : c.raise.new.self.named < c.raise.new.self.table.blocks = omega (arith, c.raise.ensures.named, c.loop-nearest.invariant.named, ap (λ (t : Table). t.blocks) c.raise.ensures.table, ap (λ (t : Table). t.blocks) c.loop-nearest.invariant.table, c.requires.unnamed) in
-    small_kept c.raise.new.self c.move_on.new.self c.move_on.ensures.table c.move_on.ensures.paid c.move_on.ensures.rebate (small_from_matched c.raise.new.self c.raise.ensures.sized.is_table c.raise.ensures.matched fewer)
+    small_kept c.raise.new.self c.augment.new.self c.augment.ensures.table c.augment.ensures.price c.augment.ensures.discount (small_from_matched c.raise.new.self c.raise.ensures.sized.is_table c.raise.ensures.matched fewer)
 
 pub returns-in_default-index-clause-table : goal.returns-in_default-index-clause-table
-returns-in_default-index-clause-table g c = c.move_on.ensures.table ∙ c.raise.ensures.table ∙ c.loop-nearest.invariant.table
+returns-in_default-index-clause-table g c = c.augment.ensures.table ∙ c.raise.ensures.table ∙ c.loop-nearest.invariant.table
 
 pub returns-in_default-index-clause-named : goal.returns-in_default-index-clause-named
-returns-in_default-index-clause-named g c = c.move_on.ensures.named ∙ ap (λ n. n + 1) (c.raise.ensures.named ∙ c.loop-nearest.invariant.named)
+returns-in_default-index-clause-named g c = c.augment.ensures.named ∙ ap (λ n. n + 1) (c.raise.ensures.named ∙ c.loop-nearest.invariant.named)
 
 -- the loop does not end, since the tree has not scanned all PEs
 no_end : (g : _) (c : goal.In_default g) → ⊥
@@ -74,14 +74,14 @@ returns-clause-table g c = absurd (no_end g c)
 pub returns-clause-named : goal.returns-clause-named
 returns-clause-named g c = absurd (no_end g c)
 
-pub plant-nearest-requires-clause-sized : goal.plant-nearest-requires-clause-sized
-plant-nearest-requires-clause-sized g c = c.requires.sized
+pub start_tree-nearest-requires-clause-sized : goal.start_tree-nearest-requires-clause-sized
+start_tree-nearest-requires-clause-sized g c = c.requires.sized
 
-pub plant-nearest-requires-clause-matched : goal.plant-nearest-requires-clause-matched
-plant-nearest-requires-clause-matched g c = c.requires.matched
+pub start_tree-nearest-requires-clause-matched : goal.start_tree-nearest-requires-clause-matched
+start_tree-nearest-requires-clause-matched g c = c.requires.matched
 
-pub plant-nearest-requires-clause-unnamed : goal.plant-nearest-requires-clause-unnamed
-plant-nearest-requires-clause-unnamed g c = c.requires.unnamed
+pub start_tree-nearest-requires-clause-unnamed : goal.start_tree-nearest-requires-clause-unnamed
+start_tree-nearest-requires-clause-unnamed g c = c.requires.unnamed
 
 pub raise-requires-clause-sized : goal.raise-requires-clause-sized
 raise-requires-clause-sized g c = c.loop-nearest.invariant.sized
@@ -96,31 +96,31 @@ pub raise-requires-clause-unnamed : goal.raise-requires-clause-unnamed
 raise-requires-clause-unnamed g c =
     omega (arith, c.loop-nearest.invariant.named, ap (λ (t : Table). t.blocks) c.loop-nearest.invariant.table, c.requires.unnamed)
 
-pub join-nearest-requires-clause-sized : goal.join-nearest-requires-clause-sized
-join-nearest-requires-clause-sized g c = c.loop-nearest.invariant.sized
+pub grow-nearest-requires-clause-sized : goal.grow-nearest-requires-clause-sized
+grow-nearest-requires-clause-sized g c = c.loop-nearest.invariant.sized
 
-pub join-nearest-requires-clause-matched : goal.join-nearest-requires-clause-matched
-join-nearest-requires-clause-matched g c = c.loop-nearest.invariant.matched
+pub grow-nearest-requires-clause-matched : goal.grow-nearest-requires-clause-matched
+grow-nearest-requires-clause-matched g c = c.loop-nearest.invariant.matched
 
-pub join-nearest-requires-clause-tree : goal.join-nearest-requires-clause-tree
-join-nearest-requires-clause-tree g c = c.loop-nearest.invariant.tree
+pub grow-nearest-requires-clause-tree : goal.grow-nearest-requires-clause-tree
+grow-nearest-requires-clause-tree g c = c.loop-nearest.invariant.tree
 
-pub join-nearest-requires-clause-unnamed : goal.join-nearest-requires-clause-unnamed
-join-nearest-requires-clause-unnamed g c =
+pub grow-nearest-requires-clause-unnamed : goal.grow-nearest-requires-clause-unnamed
+grow-nearest-requires-clause-unnamed g c =
     omega (arith, c.loop-nearest.invariant.named, ap (λ (t : Table). t.blocks) c.loop-nearest.invariant.table, c.requires.unnamed)
 
-pub move_on-requires-clause-sized : goal.move_on-requires-clause-sized
-move_on-requires-clause-sized g c = c.raise.ensures.sized
+pub augment-requires-clause-sized : goal.augment-requires-clause-sized
+augment-requires-clause-sized g c = c.raise.ensures.sized
 
-pub move_on-requires-clause-matched : goal.move_on-requires-clause-matched
-move_on-requires-clause-matched g c = c.raise.ensures.matched
+pub augment-requires-clause-matched : goal.augment-requires-clause-matched
+augment-requires-clause-matched g c = c.raise.ensures.matched
 
-pub move_on-requires-clause-path : goal.move_on-requires-clause-path
-move_on-requires-clause-path g c = c.raise.ensures.path
+pub augment-requires-clause-path : goal.augment-requires-clause-path
+augment-requires-clause-path g c = c.raise.ensures.path
 
-pub move_on-requires-clause-scanned : goal.move_on-requires-clause-scanned
-move_on-requires-clause-scanned g c = c.raise.ensures.scanned
+pub augment-requires-clause-scanned : goal.augment-requires-clause-scanned
+augment-requires-clause-scanned g c = c.raise.ensures.scanned
 
-pub move_on-requires-clause-unnamed : goal.move_on-requires-clause-unnamed
-move_on-requires-clause-unnamed g c =
+pub augment-requires-clause-unnamed : goal.augment-requires-clause-unnamed
+augment-requires-clause-unnamed g c =
     omega (arith, c.raise.ensures.named, ap (λ (t : Table). t.blocks) c.raise.ensures.table, c.loop-nearest.invariant.named, ap (λ (t : Table). t.blocks) c.loop-nearest.invariant.table, c.requires.unnamed)

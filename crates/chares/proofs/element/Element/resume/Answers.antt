@@ -1,11 +1,11 @@
 use Rattle.std.proofs.Common.{ℕ, ◌<◌, ◌++◌, ◌∷◌, [], refl, sym, ap, subst, ◌∙◌, append_assoc}
 use Rattle.chare_index.specs.declared.limits.TheConstants.Limits.{ROUND}
 use Rattle.chares.specs.Elements.{ElementView}
-use Rattle.chares.specs.Posting.{with_report}
+use Rattle.chares.specs.Posting.{with_entry}
 use Rattle.chares.specs.Progressing.{charged, synced_mark}
 use Rattle.chares.specs.declared.entry.Entry.TheVariants.{Resumption}
 use Rattle.chares.specs.declared.note.Mark.TheVariants.{Resumed}
-use Rattle.chares.specs.declared.report.Report.TheVariants as Tells
+use Rattle.chares.specs.declared.trace_entry.TraceEntry.TheVariants as Trace
 use Rattle.chares.proofs.Histories.{ended_before}
 use Rattle.chares.proofs.Postings.{all_rewound}
 use Rattle.chares.proofs.Running.{no_answer, no_note, whatever, memory, same_parts, note_after, element_after, sends_after, refused_after}
@@ -59,26 +59,26 @@ returns-in_err-reserve-2-clause-taken_back g c = whatever _ _ refl
 
 -- none for the report
 
-pub invariant_of-self-in_err-tell : goal.invariant_of-self-in_err-tell
-invariant_of-self-in_err-tell g c = c.self.invariant
+pub invariant_of-self-in_err-log : goal.invariant_of-self-in_err-log
+invariant_of-self-in_err-log g c = c.self.invariant
 
-pub returns-in_err-tell-clause-element : goal.returns-in_err-tell-clause-element
-returns-in_err-tell-clause-element g c = no_answer _ _ c.from_residual-in_err-tell.ensures.0
+pub returns-in_err-log-clause-element : goal.returns-in_err-log-clause-element
+returns-in_err-log-clause-element g c = no_answer _ _ c.from_residual-in_err-log.ensures.0
 
-pub returns-in_err-tell-clause-note : goal.returns-in_err-tell-clause-note
-returns-in_err-tell-clause-note g c = no_note _ _ c.from_residual-in_err-tell.ensures.0
+pub returns-in_err-log-clause-note : goal.returns-in_err-log-clause-note
+returns-in_err-log-clause-note g c = no_note _ _ c.from_residual-in_err-log.ensures.0
 
-pub returns-in_err-tell-clause-sends : goal.returns-in_err-tell-clause-sends
-returns-in_err-tell-clause-sends g c = no_answer _ _ c.from_residual-in_err-tell.ensures.0
+pub returns-in_err-log-clause-sends : goal.returns-in_err-log-clause-sends
+returns-in_err-log-clause-sends g c = no_answer _ _ c.from_residual-in_err-log.ensures.0
 
-pub returns-in_err-tell-clause-err : goal.returns-in_err-tell-clause-err
-returns-in_err-tell-clause-err g c = whatever _ _ (same_parts _ _ _ _ _ refl c.reserve.ensures.items c.reserve-2.ensures.items c.self.view_is)
+pub returns-in_err-log-clause-err : goal.returns-in_err-log-clause-err
+returns-in_err-log-clause-err g c = whatever _ _ (same_parts _ _ _ _ _ refl c.reserve.ensures.items c.reserve-2.ensures.items c.self.view_is)
 
-pub returns-in_err-tell-clause-refused : goal.returns-in_err-tell-clause-refused
-returns-in_err-tell-clause-refused g c = memory _ _ c.from_residual-in_err-tell.ensures.1
+pub returns-in_err-log-clause-refused : goal.returns-in_err-log-clause-refused
+returns-in_err-log-clause-refused g c = memory _ _ c.from_residual-in_err-log.ensures.1
 
-pub returns-in_err-tell-clause-taken_back : goal.returns-in_err-tell-clause-taken_back
-returns-in_err-tell-clause-taken_back g c = whatever _ _ (c.in_err-tell.ensures.err)
+pub returns-in_err-log-clause-taken_back : goal.returns-in_err-log-clause-taken_back
+returns-in_err-log-clause-taken_back g c = whatever _ _ (c.in_err-log.ensures.err)
 
 -- the handler is refused
 
@@ -90,28 +90,28 @@ returns-in-Err-clause-err g c = same_parts _ _ _ _ _ c.in-Err.ensures.err c.rese
 
 pub returns-in-Err-clause-refused : goal.returns-in-Err-clause-refused
 returns-in-Err-clause-refused g c =
-    refused_after _ _ _ _ _ _ (Resumption c.args.round) (Tells.Resumed c.self.inside.index c.args.round) c.self.view_is (c.n.ensures.value ∙ ap (λ p. p.n) c.in_ok-tell.ensures.ok) c.in_ok-tell.ensures.ok g.C.Chare.refuses _ c.in-Err.ensures.refused
+    refused_after _ _ _ _ _ _ (Resumption c.args.round) (Trace.Resumed c.self.inside.index c.args.round) c.self.view_is (c.n.ensures.value ∙ ap (λ p. p.n) c.in_ok-log.ensures.ok) c.in_ok-log.ensures.ok g.C.Chare.refuses _ c.in-Err.ensures.refused
 
 pub returns-in-Err-clause-taken_back : goal.returns-in-Err-clause-taken_back
 returns-in-Err-clause-taken_back g c =
-    all_rewound c.args.sends.now c.tell.new.self c.on_resume.new.sends c.rewind.new.self (Tells.Resumed c.self.inside.index c.args.round) c.on_resume.ensures.only_posts.0 _ _ _
-    c.in_ok-tell.ensures.ok c.on_resume.ensures.only_posts.1 c.count-count.ensures.value c.waiting-waiting.ensures.value c.told-told.ensures.value c.rewind.ensures.ok
+    all_rewound c.args.sends.now c.log.new.self c.on_resume.new.sends c.rewind.new.self (Trace.Resumed c.self.inside.index c.args.round) c.on_resume.ensures.only_posts.0 _ _ _
+    c.in_ok-log.ensures.ok c.on_resume.ensures.only_posts.1 c.count-count.ensures.value c.waiting-waiting.ensures.value c.logged-logged.ensures.value c.rewind.ensures.ok
 
 -- the handler answers
 
 pub returns-clause-note : goal.returns-clause-note
-returns-clause-note g c = note_after g.C.Chare.step g.C.Pup.pack _ _ _ _ _ (Resumption c.args.round) _ _ _ _ _ _ c.self.view_is (c.n.ensures.value ∙ ap (λ p. p.n) c.in_ok-tell.ensures.ok)
-    (record { told_is = refl; state_is = c.in-Ok.ensures.state; effect_is = c.in-Ok.ensures.effect; work_is = c.charged-progress.ensures.value ∙ ap (λ p. charged p c.in-Ok.effect.units) c.resumed.ensures.value; end_is = c.ending-ending.ensures.value; note_is = c.owed-note.ensures })
+returns-clause-note g c = note_after g.C.Chare.step g.C.Pup.pack _ _ _ _ _ (Resumption c.args.round) _ _ _ _ _ _ c.self.view_is (c.n.ensures.value ∙ ap (λ p. p.n) c.in_ok-log.ensures.ok)
+    (record { input_is = refl; state_is = c.in-Ok.ensures.state; effect_is = c.in-Ok.ensures.effect; work_is = c.charged-progress.ensures.value ∙ ap (λ p. charged p c.in-Ok.effect.units) c.resumed.ensures.value; end_is = c.ending-ending.ensures.value; note_is = c.owed-note.ensures })
 
 pub returns-clause-sends : goal.returns-clause-sends
 returns-clause-sends g c =
-    let told = c.in_ok-tell.ensures.ok ∙ ap (λ (v : ElementView g.row.C.Denot). with_report c.args.sends.now (Tells.Resumed v.index c.args.round)) c.self.view_is in
-    sends_after _ _ _ _ _ _ (Resumption c.args.round) (Tells.Resumed c.args.self.now.index c.args.round) c.self.view_is (c.n.ensures.value ∙ ap (λ p. p.n) c.in_ok-tell.ensures.ok) told g.C.Chare.step _ c.in-Ok.ensures.sends
+    let logged = c.in_ok-log.ensures.ok ∙ ap (λ (v : ElementView g.row.C.Denot). with_entry c.args.sends.now (Trace.Resumed v.index c.args.round)) c.self.view_is in
+    sends_after _ _ _ _ _ _ (Resumption c.args.round) (Trace.Resumed c.args.self.now.index c.args.round) c.self.view_is (c.n.ensures.value ∙ ap (λ p. p.n) c.in_ok-log.ensures.ok) logged g.C.Chare.step _ c.in-Ok.ensures.sends
 
 pub returns-clause-element : goal.returns-clause-element
 returns-clause-element g c =
-    element_after g.C.Chare.step g.C.Pup.pack _ _ _ _ _ (Resumption c.args.round) _ _ _ _ _ _ c.self.view_is (c.n.ensures.value ∙ ap (λ p. p.n) c.in_ok-tell.ensures.ok)
-    (record { told_is = refl; state_is = c.in-Ok.ensures.state; effect_is = c.in-Ok.ensures.effect; work_is = c.charged-progress.ensures.value ∙ ap (λ p. charged p c.in-Ok.effect.units) c.resumed.ensures.value; end_is = c.ending-ending.ensures.value; note_is = c.owed-note.ensures })
+    element_after g.C.Chare.step g.C.Pup.pack _ _ _ _ _ (Resumption c.args.round) _ _ _ _ _ _ c.self.view_is (c.n.ensures.value ∙ ap (λ p. p.n) c.in_ok-log.ensures.ok)
+    (record { input_is = refl; state_is = c.in-Ok.ensures.state; effect_is = c.in-Ok.ensures.effect; work_is = c.charged-progress.ensures.value ∙ ap (λ p. charged p c.in-Ok.effect.units) c.resumed.ensures.value; end_is = c.ending-ending.ensures.value; note_is = c.owed-note.ensures })
     _ _ _
     (c.in-Ok-push.ensures.items ∙ ap (λ v. v ++ Resumption c.args.round ∷ []) c.reserve.ensures.items)
     c.ended-self-inside.ensures.value

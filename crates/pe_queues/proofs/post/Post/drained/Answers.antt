@@ -1,7 +1,7 @@
 use Rattle.std.proofs.Common.{◌≡◌, ◌<◌, ◌≤◌, ◌∙◌, ap, sym, length, get_or, arith, rules}
 use Rattle.std.proofs.lemmas.List.{length-set, get_or-set_other}
 use Rattle.chare_index.specs.declared.limits.TheConstants.Limits.{SEATS}
-use Rattle.pe_queues.specs.Balance.{Balances}
+use Rattle.pe_queues.specs.Conservation.{Balances}
 use Rattle.pe_queues.specs.Seats.{TicketView}
 use Rattle.pe_queues.proofs.Lists.{below_more}
 use Rattle.pe_queues.proofs.Tickets.{same_count, own_queue, rooms_there, balance_here, balance_there, tickets_of_post}

@@ -1,5 +1,5 @@
 use Rattle.std.proofs.Common.{◌≡◌, ◌<◌, ◌≤◌, ℕ, length, get_or}
-use Rattle.pe_queues.specs.Balance.{Balances}
+use Rattle.pe_queues.specs.Conservation.{Balances}
 use Rattle.pe_queues.proofs.post.Post.drained.Given as goal
 
 abbrev pub invariant-loop-k : goal.invariant-loop-k

@@ -1,6 +1,6 @@
 use Rattle.std.proofs.Common.{◌≡◌, ◌<◌, ◌∙◌, ap, sym, length, get_or, arith, rules}
 use Rattle.std.proofs.lemmas.List.{length-set, get_or-set_other}
-use Rattle.pe_queues.specs.Balance.{IsShare}
+use Rattle.pe_queues.specs.Conservation.{IsShare}
 use Rattle.pe_queues.specs.Seats.{TicketView, joined}
 use Rattle.pe_queues.proofs.Lists.{popped, above_more}
 use Rattle.pe_queues.proofs.Tickets.{both, same_count, own_queue, joined_here, seats_joined, seat_joined}

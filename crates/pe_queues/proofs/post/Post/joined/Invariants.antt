@@ -1,5 +1,5 @@
 use Rattle.std.proofs.Common.{◌≡◌, ◌<◌, ◌≤◌, ℕ, length, get_or}
-use Rattle.pe_queues.specs.Balance.{IsShare}
+use Rattle.pe_queues.specs.Conservation.{IsShare}
 use Rattle.pe_queues.proofs.Tickets.{both}
 use Rattle.pe_queues.proofs.post.Post.joined.Given as goal
 

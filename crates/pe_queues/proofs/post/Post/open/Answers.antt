@@ -1,7 +1,7 @@
 use Rattle.std.proofs.Common.{◌≡◌, ◌≤◌, ◌++◌, ◌∷◌, ◌∙◌, [], length, map, vec_capacity, ap, sym, refl, arith, rules}
 use Rattle.std.proofs.lemmas.List.{map-append, length-map}
 use Rattle.std.proofs.lemmas.List.Elements.{All-push, All-map}
-use Rattle.pe_queues.specs.Balance.{all_traffic}
+use Rattle.pe_queues.specs.Conservation.{all_traffic}
 use Rattle.pe_queues.specs.Seats.{ticket}
 use Rattle.pe_queues.proofs.Tickets.{seat_fresh}
 use Rattle.pe_queues.proofs.post.Post.open.Goals as goal

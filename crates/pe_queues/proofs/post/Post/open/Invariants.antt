@@ -1,5 +1,5 @@
 use Rattle.std.proofs.Common.{◌≡◌, ◌≤◌, [], All, length, map, vec_capacity}
-use Rattle.pe_queues.specs.Balance.{all_traffic}
+use Rattle.pe_queues.specs.Conservation.{all_traffic}
 use Rattle.pe_queues.specs.Seats.{ticket}
 use Rattle.pe_queues.proofs.post.Post.open.Given as goal
 

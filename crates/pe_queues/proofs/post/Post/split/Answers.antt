@@ -2,7 +2,7 @@ use Rattle.std.proofs.Common.{◌≡◌, ◌<◌, ◌≤◌, ◌-◌, ◌∙◌,
 use Rattle.std.proofs.lemmas.List.{length-set, length-map, get_or-set_other, get_or-map, take_all}
 use Rattle.std.proofs.lemmas.List.Elements.{All-map}
 use Rattle.std.proofs.Math.Seq.{map-set_same}
-use Rattle.pe_queues.specs.Balance.{of_one}
+use Rattle.pe_queues.specs.Conservation.{of_one}
 use Rattle.pe_queues.specs.Seats.{ticket, seat_of, new_seat}
 use Rattle.pe_queues.proofs.Lists.{below_more}
 use Rattle.pe_queues.proofs.Tickets.{same_count, same_counts, own_queue, ticket_more, seat_fresh, rooms_kept}

@@ -1,5 +1,5 @@
 use Rattle.std.proofs.Common.{◌≡◌, ◌-◌, ◌<◌, ◌≤◌, ℕ, length, map, get_or, take, vec_capacity}
-use Rattle.pe_queues.specs.Balance.{of_one}
+use Rattle.pe_queues.specs.Conservation.{of_one}
 use Rattle.pe_queues.specs.Seats.{ticket}
 use Rattle.pe_queues.proofs.post.Post.split.Given as goal
 

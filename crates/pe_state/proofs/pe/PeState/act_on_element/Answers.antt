@@ -13,10 +13,10 @@ returns-clause-ok g c =
     let none = sym (ap (λ p. found c.args.element.index p.room) c.self.view_is) ∙ sym (ap (λ e. found e c.self.inside.room) c.index.ensures.value) ∙ lacking (λ x. x.now) c.element.result _ c.element.ensures.value (sym c.is_some.ensures ∙ c.if-is_some.false) in
     rw (installs g.C.Chare.step g.C.Pup.pack g.C.Pup.unpack c.args.self.now c.args.element _ c.in-Ok.chare _ none c.in-Ok.ensures.unpacks.1) c.in_ok-install.ensures.ok
 
-pub returns-clause-reports : goal.returns-clause-reports
-returns-clause-reports g c =
+pub returns-clause-trace : goal.returns-clause-trace
+returns-clause-trace g c =
     let none = sym (ap (λ p. found c.args.element.index p.room) c.self.view_is) ∙ sym (ap (λ e. found e c.self.inside.room) c.index.ensures.value) ∙ lacking (λ x. x.now) c.element.result _ c.element.ensures.value (sym c.is_some.ensures ∙ c.if-is_some.false) in
-    rw (installs g.C.Chare.step g.C.Pup.pack g.C.Pup.unpack c.args.self.now c.args.element _ c.in-Ok.chare _ none c.in-Ok.ensures.unpacks.1) c.in_ok-install.ensures.reports
+    rw (installs g.C.Chare.step g.C.Pup.pack g.C.Pup.unpack c.args.self.now c.args.element _ c.in-Ok.chare _ none c.in-Ok.ensures.unpacks.1) c.in_ok-install.ensures.trace
 
 pub returns-in_err-install-clause-enabled : goal.returns-in_err-install-clause-enabled
 returns-in_err-install-clause-enabled g c =

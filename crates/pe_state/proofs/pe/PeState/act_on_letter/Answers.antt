@@ -1,12 +1,12 @@
 use Rattle.std.proofs.Common.{refl, sym, ap, is_some, ◌∙◌}
-use Rattle.chares.specs.Posting.{reported}
+use Rattle.chares.specs.Posting.{traced}
 use Rattle.chares.specs.declared.carried.Carried.TheVariants as Carried
-use Rattle.pe_state.specs.Pes.{PeView, acted_of, held, pe_after, reports_of}
+use Rattle.pe_state.specs.Pes.{PeView, acted_of, held, pe_after, trace_of}
 use Rattle.pe_state.specs.Refusals.{RefusesParcel, RefusesStep}
 use Rattle.pe_state.specs.Rooms.{found}
 use Rattle.pe_state.proofs.Acting.{memory_refuses, whatever, waits, runs}
 use Rattle.pe_state.proofs.Keeping.{no_answer, no_value, same_error}
-use Rattle.pe_state.proofs.Reports.{reported_none}
+use Rattle.pe_state.proofs.Traces.{traced_none}
 use Rattle.pe_state.proofs.pe.PeState.act_on_letter.Goals as goal
 
 -- its element does not stand here
@@ -32,10 +32,10 @@ returns-in_default-clause-enabled g c =
     let none = sym (c.in_default.ensures.value ∙ ap (λ k. found k c.self.inside.room) c.to.ensures.value ∙ ap (λ (v : PeView g.row.C.Denot). found c.args.letter.to v.room) c.self.view_is) in
     rw none c.pass_on.ensures.enabled
 
-pub returns-in_default-clause-reports : goal.returns-in_default-clause-reports
-returns-in_default-clause-reports g c =
+pub returns-in_default-clause-trace : goal.returns-in_default-clause-trace
+returns-in_default-clause-trace g c =
     let none = sym (c.in_default.ensures.value ∙ ap (λ k. found k c.self.inside.room) c.to.ensures.value ∙ ap (λ (v : PeView g.row.C.Denot). found c.args.letter.to v.room) c.self.view_is) in
-    rw none c.pass_on.ensures.reports
+    rw none c.pass_on.ensures.trace
 
 pub returns-in_default-clause-err : goal.returns-in_default-clause-err
 returns-in_default-clause-err g c = c.pass_on.ensures.err
@@ -43,8 +43,8 @@ returns-in_default-clause-err g c = c.pass_on.ensures.err
 pub returns-in_default-clause-refused : goal.returns-in_default-clause-refused
 returns-in_default-clause-refused g c = memory_refuses (RefusesParcel g.C.Chare.refuses c.args.self.now (Carried.Letter c.args.letter)) _ c.pass_on.ensures.only_memory
 
-pub returns-in_default-clause-same_reports : goal.returns-in_default-clause-same_reports
-returns-in_default-clause-same_reports g c = c.pass_on.ensures.same_reports
+pub returns-in_default-clause-same_trace : goal.returns-in_default-clause-same_trace
+returns-in_default-clause-same_trace g c = c.pass_on.ensures.same_trace
 
 -- its element has not started
 
@@ -60,11 +60,11 @@ returns-then-not-progress-clause-ok g c =
     let w = waits g.C.Chare.step g.C.Pup.pack g.C.Pup.unpack c.args.self.now c.args.letter c.args.look _ _ _ some c.progress.ensures.value c.if-not-progress.true in
     c.hold.ensures.ok ∙ sym (ap (pe_after (held c.args.self.now (Carried.Letter c.args.letter) c.args.look)) w)
 
-pub returns-then-not-progress-clause-reports : goal.returns-then-not-progress-clause-reports
-returns-then-not-progress-clause-reports g c =
+pub returns-then-not-progress-clause-trace : goal.returns-then-not-progress-clause-trace
+returns-then-not-progress-clause-trace g c =
     let some = sym (c.in-Some.ensures.value ∙ ap (λ k. found k c.self.inside.room) c.to.ensures.value ∙ ap (λ (v : PeView g.row.C.Denot). found c.args.letter.to v.room) c.self.view_is) in
     let w = waits g.C.Chare.step g.C.Pup.pack g.C.Pup.unpack c.args.self.now c.args.letter c.args.look _ _ _ some c.progress.ensures.value c.if-not-progress.true in
-    rw w (reported_none c.args.reporting c.args.reports.now.items)
+    rw w (traced_none c.args.tracing c.args.trace.now.items)
 
 -- its element executes it
 
@@ -91,11 +91,11 @@ returns-in_err-execute-clause-enabled g c =
 pub returns-in_err-execute-clause-refused : goal.returns-in_err-execute-clause-refused
 returns-in_err-execute-clause-refused g c = same_error (RefusesStep (RefusesParcel g.C.Chare.refuses c.args.self.now (Carried.Letter c.args.letter))) _ _ c.from_residual.ensures.1 c.in_err-execute.ensures.refused
 
-pub returns-in_err-execute-clause-reports : goal.returns-in_err-execute-clause-reports
-returns-in_err-execute-clause-reports g c = no_answer _ _ c.from_residual.ensures.0
+pub returns-in_err-execute-clause-trace : goal.returns-in_err-execute-clause-trace
+returns-in_err-execute-clause-trace g c = no_answer _ _ c.from_residual.ensures.0
 
-pub returns-in_err-execute-clause-same_reports : goal.returns-in_err-execute-clause-same_reports
-returns-in_err-execute-clause-same_reports g c = whatever _ _ c.in_err-execute.ensures.same_reports
+pub returns-in_err-execute-clause-same_trace : goal.returns-in_err-execute-clause-same_trace
+returns-in_err-execute-clause-same_trace g c = whatever _ _ c.in_err-execute.ensures.same_trace
 
 pub returns-clause-answer : goal.returns-clause-answer
 returns-clause-answer g c =
@@ -109,8 +109,8 @@ returns-clause-ok g c =
     let r = runs g.C.Chare.step g.C.Pup.pack g.C.Pup.unpack c.args.self.now c.args.letter c.args.look _ _ _ some c.progress.ensures.value c.if-not-progress.false in
     c.in_ok-execute.ensures.ok ∙ sym (ap (pe_after (held c.args.self.now (Carried.Letter c.args.letter) c.args.look)) r)
 
-pub returns-clause-reports : goal.returns-clause-reports
-returns-clause-reports g c =
+pub returns-clause-trace : goal.returns-clause-trace
+returns-clause-trace g c =
     let some = sym (c.in-Some.ensures.value ∙ ap (λ k. found k c.self.inside.room) c.to.ensures.value ∙ ap (λ (v : PeView g.row.C.Denot). found c.args.letter.to v.room) c.self.view_is) in
     let r = runs g.C.Chare.step g.C.Pup.pack g.C.Pup.unpack c.args.self.now c.args.letter c.args.look _ _ _ some c.progress.ensures.value c.if-not-progress.false in
-    c.in_ok-execute.ensures.reports ∙ sym (ap (λ a. reported c.args.reporting c.args.reports.now.items (reports_of a)) r)
+    c.in_ok-execute.ensures.trace ∙ sym (ap (λ a. traced c.args.tracing c.args.trace.now.items (trace_of a)) r)

@@ -4,7 +4,7 @@ use Rattle.pe_state.specs.Histories.{IsParcelHistory}
 use Rattle.pe_state.specs.Pes.{Item, Parcel, acted_of, pe_after}
 use Rattle.pe_state.specs.Standing.{IsHandBelow}
 use Rattle.pe_state.proofs.Histories.{emptied_holds}
-use Rattle.pe_state.proofs.Reports.{reported_none}
+use Rattle.pe_state.proofs.Traces.{traced_none}
 use Rattle.pe_state.proofs.Acting.{Holds, held_again, idle, same_hand, after_same, acting_on_letter, acting_on_element, refuses_letter, memory_refuses}
 use Rattle.pe_state.specs.Refusals.{RefusesAct}
 use Rattle.pe_state.proofs.pe.PeState.act_with.Goals as goal
@@ -24,11 +24,11 @@ returns-in-Letter-clause-err g c = rw (held_again _ _ c.take.new.self _ _ _ (in_
 pub returns-in-Letter-clause-enabled : goal.returns-in-Letter-clause-enabled
 returns-in-Letter-clause-enabled g c = rw (acting_on_letter g.C.Chare.step g.C.Pup.pack g.C.Pup.unpack _ _ c.take.new.self _ _ _ (in_letter g c)) c.act_on_letter.ensures.enabled
 
-pub returns-in-Letter-clause-reports : goal.returns-in-Letter-clause-reports
-returns-in-Letter-clause-reports g c = rw (acting_on_letter g.C.Chare.step g.C.Pup.pack g.C.Pup.unpack _ _ c.take.new.self _ _ _ (in_letter g c)) c.act_on_letter.ensures.reports
+pub returns-in-Letter-clause-trace : goal.returns-in-Letter-clause-trace
+returns-in-Letter-clause-trace g c = rw (acting_on_letter g.C.Chare.step g.C.Pup.pack g.C.Pup.unpack _ _ c.take.new.self _ _ _ (in_letter g c)) c.act_on_letter.ensures.trace
 
-pub returns-in-Letter-clause-same_reports : goal.returns-in-Letter-clause-same_reports
-returns-in-Letter-clause-same_reports g c = c.act_on_letter.ensures.same_reports
+pub returns-in-Letter-clause-same_trace : goal.returns-in-Letter-clause-same_trace
+returns-in-Letter-clause-same_trace g c = c.act_on_letter.ensures.same_trace
 
 in_element : (g : _) (c : goal.After-act_on_element g) → Holds c.args.self.now (record { me = c.self.inside.me; n = c.self.inside.n; room = c.self.inside.room; hand = c.self.inside.hand; shelf = c.self.inside.shelf.items; outbox = c.self.inside.outbox.items; notes = c.self.inside.notes.items; count = c.self.inside.count; kept = c.self.inside.kept }) c.in-Some.field-0 (Element c.in-Element.element) c.in-Some.field-0.address
 in_element g c = record { view_is = sym c.self.view_is; in_hand = sym c.take.ensures.value ∙ c.in-Some.is; parcel_is = c.in-Element.is; look_is = refl }
@@ -45,11 +45,11 @@ returns-in-Element-clause-err g c = rw (held_again _ _ c.take.new.self _ _ _ (in
 pub returns-in-Element-clause-enabled : goal.returns-in-Element-clause-enabled
 returns-in-Element-clause-enabled g c = rw (acting_on_element g.C.Chare.step g.C.Pup.pack g.C.Pup.unpack _ _ c.take.new.self _ _ _ (in_element g c)) c.act_on_element.ensures.enabled
 
-pub returns-in-Element-clause-reports : goal.returns-in-Element-clause-reports
-returns-in-Element-clause-reports g c = rw (acting_on_element g.C.Chare.step g.C.Pup.pack g.C.Pup.unpack _ _ c.take.new.self _ _ _ (in_element g c)) c.act_on_element.ensures.reports
+pub returns-in-Element-clause-trace : goal.returns-in-Element-clause-trace
+returns-in-Element-clause-trace g c = rw (acting_on_element g.C.Chare.step g.C.Pup.pack g.C.Pup.unpack _ _ c.take.new.self _ _ _ (in_element g c)) c.act_on_element.ensures.trace
 
-pub returns-in-Element-clause-same_reports : goal.returns-in-Element-clause-same_reports
-returns-in-Element-clause-same_reports g c = c.act_on_element.ensures.same_reports
+pub returns-in-Element-clause-same_trace : goal.returns-in-Element-clause-same_trace
+returns-in-Element-clause-same_trace g c = c.act_on_element.ensures.same_trace
 
 pub returns-in-Letter-clause-refused : goal.returns-in-Letter-clause-refused
 returns-in-Letter-clause-refused g c = rw (refuses_letter g.C.Chare.refuses _ _ c.take.new.self _ _ _ (in_letter g c)) c.act_on_letter.ensures.refused
@@ -72,10 +72,10 @@ returns-in_default-clause-ok g c =
     let nothing = idle g.C.Chare.step g.C.Pup.pack g.C.Pup.unpack c.args.self.now _ c.self.view_is c.in_default.ensures.value in
     same_hand c.args.self.now _ c.take.new.self c.self.view_is c.in_default.ensures.after c.in_default.ensures.value ∙ sym (ap (pe_after c.args.self.now) nothing)
 
-pub returns-in_default-clause-reports : goal.returns-in_default-clause-reports
-returns-in_default-clause-reports g c =
+pub returns-in_default-clause-trace : goal.returns-in_default-clause-trace
+returns-in_default-clause-trace g c =
     let nothing = idle g.C.Chare.step g.C.Pup.pack g.C.Pup.unpack c.args.self.now _ c.self.view_is c.in_default.ensures.value in
-    rw nothing (reported_none c.args.reporting c.args.reports.now.items)
+    rw nothing (traced_none c.args.tracing c.args.trace.now.items)
 
 pub invariant_of-self-in-Letter : goal.invariant_of-self-in-Letter
 invariant_of-self-in-Letter g c =

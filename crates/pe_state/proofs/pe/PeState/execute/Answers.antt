@@ -1,8 +1,8 @@
 use Rattle.std.proofs.Common.{◌∷◌, None, refl, ◌∙◌, ap, subst}
-use Rattle.chares.specs.Posting.{reported}
+use Rattle.chares.specs.Posting.{traced}
 use Rattle.chares.specs.declared.carried.Carried.TheVariants as Carried
 use Rattle.chares.specs.declared.entry.Entry.TheVariants.{Letter}
-use Rattle.chares.specs.declared.report.Report.TheVariants as Tells
+use Rattle.chares.specs.declared.trace_entry.TraceEntry.TheVariants as Trace
 use Rattle.pe_state.specs.Pes.{PeView, held, handler_posts}
 use Rattle.pe_state.specs.Refusals.{RefusesParcel}
 use Rattle.pe_state.proofs.Below.{posted_below}
@@ -32,8 +32,8 @@ invariant_of-self-in_default-reserve g c =
 pub returns-in_default-reserve-clause-err : goal.returns-in_default-reserve-clause-err
 returns-in_default-reserve-clause-err g c = held_same _ _ _ _ _ c.hold-in_default-reserve.ensures.ok (same_view _ _ _ _ _ _ refl c.reserve-2.ensures.items c.reserve.ensures.items refl c.self.view_is)
 
-pub execute-answer-requires-clause-member : goal.execute-answer-requires-clause-member
-execute-answer-requires-clause-member g c = member_of c.args.letter.to c.self.invariant.0
+pub execute-handled-requires-clause-member : goal.execute-handled-requires-clause-member
+execute-handled-requires-clause-member g c = member_of c.args.letter.to c.self.invariant.0
 
 -- the handler is refused
 
@@ -54,25 +54,25 @@ returns-in-Err-clause-refused g c =
     same_reason (RefusesParcel g.C.Chare.refuses c.args.self.now (Carried.Letter c.args.letter)) c.in-Err.unread.error c.from.result c.from.ensures
     (λ k. subst (λ (v : PeView g.row.C.Denot). RefusesParcel g.C.Chare.refuses v (Carried.Letter c.args.letter) c.in-Err.unread.error) c.self.view_is (c.in-Err.ensures.refused k))
 
-pub returns-in-Err-clause-same_reports : goal.returns-in-Err-clause-same_reports
-returns-in-Err-clause-same_reports g c = c.in-Err.ensures.same_reports
+pub returns-in-Err-clause-same_trace : goal.returns-in-Err-clause-same_trace
+returns-in-Err-clause-same_trace g c = c.in-Err.ensures.same_trace
 
 -- the handler answers
 
 pub invariant_of-self-2 : goal.invariant_of-self-2
 invariant_of-self-2 g c =
     let i = c.self.invariant in
-    let a = c.in-Ok-answer.ensures in
+    let a = c.in-Ok-handled.ensures in
     let after = handler_holds g.C.Chare.step g.C.Pup.fits g.C.Pup.pack g.H.Openings.opened c.args.letter.to (Letter c.args.letter) None _ i.0 tt refl a.room (ap (λ p. p.hand) c.self.view_is ∙ c.requires.empty) c.reserve-2.ensures.items a.outbox in
     (after, i.1, i.2, i.3, a.numbered, i.5, outbox_below _ _ _ a.outbox (posted_below _ c.self.inside.me c.self.inside.count c.reserve-2.new.self.items _ (outbox_below _ _ _ c.reserve-2.ensures.items i.6)), tt, λ k. a.place)
 
 pub returns-clause-ok : goal.returns-clause-ok
 returns-clause-ok g c =
-    let a = c.in-Ok-answer.ensures in
+    let a = c.in-Ok-handled.ensures in
     handled_is g.C.Chare.step g.C.Pup.pack _ _ c.args.letter.to (Letter c.args.letter) None _ _ _ _ _ _ _
     c.self.view_is (ap (λ p. p.hand) c.self.view_is ∙ c.requires.empty) a.room c.reserve-2.ensures.items a.outbox c.reserve.ensures.items a.note c.owe.ensures.owed a.count
 
-pub returns-clause-reports : goal.returns-clause-reports
-returns-clause-reports g c =
-    c.in-Ok-answer.ensures.reports
-    ∙ ap (λ (v : PeView g.row.C.Denot). reported c.args.reporting c.args.reports.now.items (Tells.Executed c.args.letter.id c.args.letter.to ∷ handler_posts g.C.Chare.step g.C.Pup.pack v c.args.letter.to (Letter c.args.letter))) c.self.view_is
+pub returns-clause-trace : goal.returns-clause-trace
+returns-clause-trace g c =
+    c.in-Ok-handled.ensures.trace
+    ∙ ap (λ (v : PeView g.row.C.Denot). traced c.args.tracing c.args.trace.now.items (Trace.Executed c.args.letter.id c.args.letter.to ∷ handler_posts g.C.Chare.step g.C.Pup.pack v c.args.letter.to (Letter c.args.letter))) c.self.view_is

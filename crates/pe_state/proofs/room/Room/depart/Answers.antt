@@ -1,40 +1,60 @@
-use Rattle.std.proofs.Common.{Option, Some, IfSome, refl, ap, sym, subst, ◌∙◌}
-use Rattle.std.specs.Option.{option_map}
-use Rattle.chares.specs.Elements.{ElementView, packed}
-use Rattle.pe_state.specs.Rooms.{found}
-use Rattle.pe_state.proofs.Acting.{whatever}
-use Rattle.pe_state.proofs.Keeping.{no_answer, no_value}
-use Rattle.pe_state.proofs.Leaving.{same_element}
+use Rattle.std.proofs.Common.{◌≡◌, ℕ, List, Option, ap, sym, subst, ◌∙◌, arith}
+use Rattle.std.specs.Prelude.{IsSome}
+use Rattle.std.proofs.lemmas.Result.{on_ok_weaker, on_err_weaker}
+use Rattle.chares.specs.Elements.{ElementView}
+use Rattle.pe_state.specs.Rooms.{found, without}
+use Rattle.pe_state.specs.Rows.{row_of, entries_of}
+use Rattle.pe_state.proofs.Edits.{either_way, found_there, has_row, same_row, without_row}
 use Rattle.pe_state.proofs.room.Room.depart.Goals as goal
 
--- no memory for the pack
+pub index_mut-requires : goal.index_mut-requires
+index_mut-requires g c =
+    let at : c.row_number-row.result ≡ row_of c.args.index = c.row_number-row.ensures.value in
+    let some : IsSome (found c.args.index (entries_of c.self.inside.rows.items)) = subst (λ (r : List (ℕ × ElementView g.row.C.Denot)). IsSome (found c.args.index r)) (sym c.self.view_is) c.requires.stands in
+    let h = has_row c.self.inside.rows.items c.row_number-row.result c.args.index c.self.invariant at some in
+    omega (arith, h)
 
-pub returns-in_err-packing-clause-value : goal.returns-in_err-packing-clause-value
-returns-in_err-packing-clause-value g c = no_value _ _ c.from_residual.ensures.0
+pub depart-requires : goal.depart-requires
+depart-requires g c =
+    let at : c.row_number-row.result ≡ row_of c.args.index = c.row_number-row.ensures.value in
+    let some : IsSome (found c.args.index (entries_of c.self.inside.rows.items)) = subst (λ (r : List (ℕ × ElementView g.row.C.Denot)). IsSome (found c.args.index r)) (sym c.self.view_is) c.requires.stands in
+    let h = has_row c.self.inside.rows.items c.row_number-row.result c.args.index c.self.invariant at some in
+    let there = found_there c.self.inside.rows.items c.row_number-row.result c.args.index c.index_mut.result.now c.self.invariant h at c.index_mut.ensures.value ∙ ap (found c.args.index) c.self.view_is in
+    record { stands = subst (λ (o : Option (ElementView g.row.C.Denot)). IsSome o) (sym there) c.requires.stands }
 
-pub returns-in_err-packing-clause-fits : goal.returns-in_err-packing-clause-fits
-returns-in_err-packing-clause-fits g c = no_answer _ _ c.from_residual.ensures.0
-
-pub returns-in_err-packing-clause-ok : goal.returns-in_err-packing-clause-ok
-returns-in_err-packing-clause-ok g c = no_answer _ _ c.from_residual.ensures.0
-
-pub returns-in_err-packing-clause-err : goal.returns-in_err-packing-clause-err
-returns-in_err-packing-clause-err g c = whatever _ _ refl
-
--- the element leaves
-
-pub close-requires : goal.close-requires
-close-requires g c =
-    let looked = c.in-Some.ensures.value ∙ ap (λ k. found k c.self.inside.map.entries) c.get.ensures.value ∙ ap (found c.args.index) c.self.view_is in
-    let taken = c.in-Some-remove.ensures.value ∙ ap (λ k. found k c.self.inside.map.entries) c.get-3.ensures.value ∙ ap (found c.args.index) c.self.view_is in
-    record { pack = c.in_ok-packing.ensures.pack ∙ ap (λ (el : ElementView g.row.C.Denot). g.C.Pup.pack el.chare) (same_element looked taken) }
+pub invariant_of-self : goal.invariant_of-self
+invariant_of-self g c =
+    let at : c.row_number-row.result ≡ row_of c.args.index = c.row_number-row.ensures.value in
+    let some : IsSome (found c.args.index (entries_of c.self.inside.rows.items)) = subst (λ (r : List (ℕ × ElementView g.row.C.Denot)). IsSome (found c.args.index r)) (sym c.self.view_is) c.requires.stands in
+    let h = has_row c.self.inside.rows.items c.row_number-row.result c.args.index c.self.invariant at some in
+    either_way c.depart.result (λ k. (without_row c.self.inside.rows.items c.row_number-row.result c.args.index c.index_mut.result.now c.depart.new.self c.self.invariant h at c.index_mut.ensures.value k).1) (λ k. (same_row c.self.inside.rows.items c.row_number-row.result c.args.index c.index_mut.result.now c.depart.new.self c.self.invariant h at c.index_mut.ensures.value k).1) c.depart.ensures.ok c.depart.ensures.err
 
 pub returns-clause-value : goal.returns-clause-value
 returns-clause-value g c =
-    let taken = c.in-Some-remove.ensures.value ∙ ap (λ k. found k c.self.inside.map.entries) c.get-3.ensures.value ∙ ap (found c.args.index) c.self.view_is in
-    ap (option_map (packed g.C.Pup.pack)) (sym taken) ∙ ap Some (sym c.close.ensures.value)
+    let at : c.row_number-row.result ≡ row_of c.args.index = c.row_number-row.ensures.value in
+    let some : IsSome (found c.args.index (entries_of c.self.inside.rows.items)) = subst (λ (r : List (ℕ × ElementView g.row.C.Denot)). IsSome (found c.args.index r)) (sym c.self.view_is) c.requires.stands in
+    let h = has_row c.self.inside.rows.items c.row_number-row.result c.args.index c.self.invariant at some in
+    let there = found_there c.self.inside.rows.items c.row_number-row.result c.args.index c.index_mut.result.now c.self.invariant h at c.index_mut.ensures.value ∙ ap (found c.args.index) c.self.view_is in
+    rw (sym there) c.depart.ensures.value
 
 pub returns-clause-fits : goal.returns-clause-fits
 returns-clause-fits g c =
-    let looked = c.in-Some.ensures.value ∙ ap (λ k. found k c.self.inside.map.entries) c.get.ensures.value ∙ ap (found c.args.index) c.self.view_is in
-    subst (λ (f : Option (ElementView g.row.C.Denot)). IfSome f (λ el. g.C.Pup.fits el.chare)) looked c.in_ok-packing.ensures.value
+    let at : c.row_number-row.result ≡ row_of c.args.index = c.row_number-row.ensures.value in
+    let some : IsSome (found c.args.index (entries_of c.self.inside.rows.items)) = subst (λ (r : List (ℕ × ElementView g.row.C.Denot)). IsSome (found c.args.index r)) (sym c.self.view_is) c.requires.stands in
+    let h = has_row c.self.inside.rows.items c.row_number-row.result c.args.index c.self.invariant at some in
+    let there = found_there c.self.inside.rows.items c.row_number-row.result c.args.index c.index_mut.result.now c.self.invariant h at c.index_mut.ensures.value ∙ ap (found c.args.index) c.self.view_is in
+    rw (sym there) c.depart.ensures.fits
+
+pub returns-clause-ok : goal.returns-clause-ok
+returns-clause-ok g c =
+    let at : c.row_number-row.result ≡ row_of c.args.index = c.row_number-row.ensures.value in
+    let some : IsSome (found c.args.index (entries_of c.self.inside.rows.items)) = subst (λ (r : List (ℕ × ElementView g.row.C.Denot)). IsSome (found c.args.index r)) (sym c.self.view_is) c.requires.stands in
+    let h = has_row c.self.inside.rows.items c.row_number-row.result c.args.index c.self.invariant at some in
+    on_ok_weaker c.depart.result (λ k. (without_row c.self.inside.rows.items c.row_number-row.result c.args.index c.index_mut.result.now c.depart.new.self c.self.invariant h at c.index_mut.ensures.value k).0 ∙ ap (λ (r : List (ℕ × ElementView g.row.C.Denot)). without c.args.index r) c.self.view_is) c.depart.ensures.ok
+
+pub returns-clause-err : goal.returns-clause-err
+returns-clause-err g c =
+    let at : c.row_number-row.result ≡ row_of c.args.index = c.row_number-row.ensures.value in
+    let some : IsSome (found c.args.index (entries_of c.self.inside.rows.items)) = subst (λ (r : List (ℕ × ElementView g.row.C.Denot)). IsSome (found c.args.index r)) (sym c.self.view_is) c.requires.stands in
+    let h = has_row c.self.inside.rows.items c.row_number-row.result c.args.index c.self.invariant at some in
+    on_err_weaker c.depart.result (λ k. (same_row c.self.inside.rows.items c.row_number-row.result c.args.index c.index_mut.result.now c.depart.new.self c.self.invariant h at c.index_mut.ensures.value k).0 ∙ c.self.view_is) c.depart.ensures.err

@@ -1,0 +1,12 @@
+pub mod Deciding
+pub mod Events
+pub mod ReportEvent
+pub mod Handlers
+pub mod OnlyDecide
+pub mod Openings
+pub mod Parcels
+pub mod Reporting
+pub mod Rooms
+pub mod Snapshots
+pub mod Turns
+pub mod Taken

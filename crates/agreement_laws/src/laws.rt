@@ -1,0 +1,26 @@
+//! Laws of all runs.
+
+ghost use Rattle.std.specs.Prelude.{◌≡◌, ℕ, ◌<◌, ◌≤◌, List, length, Contains, Some};
+ghost use Rattle.at_sync.specs.Boards.{Kept, kept_of};
+ghost use Rattle.chares.specs.declared.trace_entry.TraceEntry.{TraceEntry};
+ghost use Rattle.chares.specs.declared.trace_entry.TraceEntry.TheVariants.{Decided};
+ghost use Rattle.rts_core.specs.declared.event.Event.{Event};
+ghost use Rattle.rts_core.specs.Events.{After, Happens};
+ghost use Rattle.rts_core.specs.Runs.{ForEachRun, ForEachStep};
+ghost use Rattle.rts_core.specs.Worlds.{WorldView, opening_world};
+ghost use Rattle.agreement_laws.specs.Agreement.{Agrees, AllTaken, DecidesOfMarks};
+
+use chares::Chare;
+use std::alloc::Allocator;
+
+/// The agreement of every world that a list of events reaches, from an opening on. The function does nothing: its
+/// clauses are the laws, of whatever chares and however many PEs, in any order of events. In each world the board and
+/// the elements agree on who has reported for the round under way, who is at work in it, and who waits for its place;
+/// the board takes every note that a PE owes, so a report is enabled wherever a note is owed; and where a round is
+/// decided, its snapshot has each element on the PE in whose room it stands then, with the load and the size of its mark
+/// for that round.
+pub fn agreement_laws<C: Chare<A>, A: Allocator>()
+    ensures agreement { ForEachRun C.step C.pack C.unpack (λ (chares : List C) (last : After C A). Agrees (length chares) last.0) }
+    ensures notes { ForEachRun C.step C.pack C.unpack (λ (chares : List C) (last : After C A). AllTaken last.0) }
+    ensures snapshot { ForEachStep C.step C.pack C.unpack (λ (chares : List C) (w : WorldView C A) (next : After C A). DecidesOfMarks (length chares) w next) }
+{}

@@ -1,0 +1,11 @@
+pub mod Acts
+pub mod Boards
+pub mod KeptRounds
+pub mod Measured
+pub mod Once
+pub mod Ordered
+pub mod Resumptions
+pub mod RunOrders
+pub mod Runs
+pub mod Stands
+pub mod Tallies

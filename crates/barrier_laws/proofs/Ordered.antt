@@ -1,0 +1,69 @@
+-- The rounds of an element come in order as it opens, and each handler keeps that.
+use Rattle.std.proofs.Common.{◌≡◌, ℕ, ◌+◌, inl, inr, Bool, true, false, Option, Some, None, List, refl}
+use Rattle.std.specs.Prelude.{All, IfSome, if◌then◌else◌}
+use Rattle.std.proofs.lemmas.List.Elements.{All-weaker}
+use Rattle.chares.specs.declared.carried.Carried.TheVariants.{Letter, Element}
+use Rattle.chares.specs.declared.entry.Entry.TheVariants.{Letter as OfLetter, Resumption}
+use Rattle.chares.specs.Elements.{ElementView, PackedView}
+use Rattle.chares.specs.Steps.{Step}
+use Rattle.element_laws.specs.Orders.{IsInOrder, IsElementInOrder}
+use Rattle.element_laws.proofs.Orders.{in_order_ran, in_order_opening}
+use Rattle.pe_state.specs.Pes.{PeView, Parcel, Item, waits_for}
+use Rattle.rts_core.specs.Worlds.{WorldView}
+use Rattle.rts_core.proofs.EachElement.{IsKept, ParcelKept, ItemKept, PeKept, WorldKept}
+use Rattle.rts_core.proofs.Rooms.{each_value}
+use Rattle.barrier_laws.specs.Orders.{IsParcelInOrder, HasOrder, AreInOrder}
+
+-- an element stands beside its index, and its rounds come in order; so do those of one that is packed
+abbrev pub Fits : {C : Type 0} → ℕ → ElementView C → Type 0
+Fits e el = (el.index ≡ e) × IsElementInOrder el
+
+abbrev pub PackedFits : PackedView → Type 0
+PackedFits p = IsInOrder p.journal p.progress p.marks
+
+abbrev pub Ordered : {C : Type 0} → PeView C → Type 0
+Ordered {C} pe = PeKept (Fits {C = C}) PackedFits pe
+
+abbrev pub AllOrdered : {C A : Type 0} → WorldView C A → Type 0
+AllOrdered {C} w = WorldKept (Fits {C = C}) PackedFits w
+
+pub waits_is : {C : Type 0} (el : ElementView C) (round : ℕ) → waits_for el ≡ Some round → (el.progress.synced ≡ true) × (round ≡ el.progress.round + 1)
+waits_is el round h = by el.progress.synced refl h
+  where
+    by : (b : Bool) → el.progress.synced ≡ b → (if b then Some (el.progress.round + 1) else None) ≡ Some round → (el.progress.synced ≡ true) × (round ≡ el.progress.round + 1)
+    by true t k = (t, cc)
+    by false t k = cc
+
+pub kept : {C : Type 0} (step : Step C) (pack : C → List ℕ) → IsKept step pack Fits PackedFits
+kept step pack =
+    record {
+      opens = λ e chare. (refl, in_order_opening e chare);
+      starts = λ e n me el k fresh. (k.0, in_order_ran step pack el n me (Resumption 0) k.1 (inl (fresh, refl)));
+      goes_on = λ e n me round el k waits. (k.0, in_order_ran step pack el n me (Resumption round) k.1 (inr (waits_is el round waits)));
+      executes = λ n me l el k started. (k.0, in_order_ran step pack el n me (OfLetter l) k.1 started);
+      packs = λ e el k. k.1;
+      unpacks = λ p chare k. (refl, k);
+    }
+
+parcel_order : (parcel : Parcel) → ParcelKept PackedFits parcel → IsParcelInOrder parcel
+parcel_order (Letter l) k = tt
+parcel_order (Element p) k = k
+
+hand_order : (o : Option Item) → IfSome o (ItemKept PackedFits) → IfSome o (λ x. IsParcelInOrder x.parcel)
+hand_order None k = tt
+hand_order (Some x) k = parcel_order x.parcel k
+
+order_of : {C : Type 0} (pe : PeView C) → Ordered pe → HasOrder pe
+order_of pe h =
+    record {
+      room = each_value Fits IsElementInOrder (λ e el k. k.1) pe.room h.room;
+      hand = hand_order pe.hand h.hand;
+      outbox = All-weaker (ItemKept PackedFits) (λ x. IsParcelInOrder x.parcel) (λ x k. parcel_order x.parcel k) pe.outbox h.outbox;
+    }
+
+pub are_in_order : {C A : Type 0} (w : WorldView C A) → AllOrdered w → AreInOrder w
+are_in_order w h =
+    record {
+      pes = All-weaker Ordered HasOrder order_of w.pes h.pes;
+      queues = All-weaker (All (ParcelKept PackedFits)) (All IsParcelInOrder) (λ queue. All-weaker (ParcelKept PackedFits) IsParcelInOrder parcel_order queue) w.queues h.queues;
+    }

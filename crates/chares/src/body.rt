@@ -1,0 +1,74 @@
+ghost use Rattle.std.specs.Prelude.{◌≡◌, ◌≤◌, length, IfOk};
+
+use std::alloc::{AllocError, Allocator, Global};
+use std::marker::Model;
+
+/// How many bytes a body keeps in itself.
+const SHORT: usize = 15;
+
+/// What a letter says, a list of bytes. Up to 15 of them lie in the letter itself, since most letters are short, and a
+/// letter that needs no memory of its own is posted, kept and dropped for less. More lie on the heap.
+#[derive(Drop)]
+pub(crate) struct Body<A: Allocator = Global> {
+    bytes: Bytes<A>,
+}
+
+// Where the bytes lie. A vector of its own would make each letter longer, so it is boxed.
+#[derive(Drop)]
+enum Bytes<A: Allocator> {
+    Short([u8; SHORT], u8),
+    Long(Box<Vec<u8, A>, A>),
+}
+
+impl<A: Allocator> Model for Body<A> {
+    ghost use Rattle.std.specs.Prelude.{ℕ, List};
+    ghost use Rattle.chares.specs.Bodies.{bytes_of, IsBody};
+
+    ghost Value = { List ℕ };
+
+    ghost view = { λ b. bytes_of b.bytes };
+
+    ghost invariant = { λ b. IsBody b.bytes };
+}
+
+impl<A: Allocator> Body<A> {
+    /// The bytes.
+    pub(crate) fn as_slice(&self) -> &[u8]
+        ensures value { result.now ≡ self.now }
+    {
+        match &self.bytes {
+            Bytes::Short(bytes, len) => &bytes[..*len as usize],
+            Bytes::Long(bytes) => bytes.as_slice(),
+        }
+    }
+}
+
+impl<A: Allocator + Copy> Body<A> {
+    /// A copy of the bytes. It needs memory only where there are more than 15.
+    pub(crate) fn copy_of(alloc: A, bytes: &[u8]) -> Result<Self, AllocError>
+        ensures value { IfOk result (λ body. body ≡ bytes.now) }
+    {
+        if bytes.len() <= SHORT {
+            return Ok(Body::short(bytes));
+        }
+        let long = Vec::from_slice(alloc, bytes)?;
+        let Ok(long) = Box::new(alloc, long) else {
+            return Err(AllocError);
+        };
+        Ok(Body {
+            bytes: Bytes::Long(long),
+        })
+    }
+
+    // A copy of a few bytes.
+    fn short(bytes: &[u8]) -> Self
+        requires few { length bytes.now ≤ SHORT }
+        ensures value { result ≡ bytes.now }
+    {
+        let mut short = [0; SHORT];
+        short[..bytes.len()].copy_from_slice(bytes);
+        Body {
+            bytes: Bytes::Short(short, bytes.len() as u8),
+        }
+    }
+}

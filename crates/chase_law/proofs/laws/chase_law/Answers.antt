@@ -1,9 +1,0 @@
-use Rattle.chase_law.proofs.Chased.{chased}
-use Rattle.chase_law.proofs.laws.chase_law.Goals as goal
-
--- src/laws.rt:17:1
-pub returns : goal.returns
-returns g c =
-    record {
-      chase = λ pes chares events last some run. chased g.C.Chare.step g.C.Pup.pack g.C.Pup.unpack pes chares some events last run;
-    }

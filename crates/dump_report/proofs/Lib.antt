@@ -1,0 +1,2 @@
+pub mod OneReports
+pub mod Plans

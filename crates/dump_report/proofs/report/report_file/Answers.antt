@@ -1,0 +1,5 @@
+use Rattle.dump_report.proofs.report.report_file.Goals as goal
+
+pub returns-in-Ok-clause-opened : goal.returns-in-Ok-clause-opened
+returns-in-Ok-clause-opened g c =
+    rw c.in-Ok.is (g.R.Read.remaining c.report_dump-ended.new.reader.inner, rw c.new-noted.ensures.inner at c.report_dump-ended.ensures.ends)

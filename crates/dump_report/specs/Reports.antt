@@ -1,0 +1,69 @@
+-- How a report on a dump ends, and what its writer holds then.
+use Rattle.std.specs.Prelude.{◌≡◌, ℕ, ◌≤◌, ◌==◌, if◌then◌else◌, length, List, [], ◌∷◌, ◌++◌, Option, IfSome}
+use Rattle.std.specs.Io.KnownBytes.{Appends}
+use Rattle.chain_partition.specs.Chosen.{IsChosen}
+use Rattle.chare_index.specs.declared.limits.TheConstants.Limits.{PES}
+use Rattle.dump_format.specs.Dumps.{Dumped}
+use Rattle.dump_format.specs.Text.{IsText}
+use Rattle.lb_certificates.specs.Naming.{IsLeastNaming}
+use Rattle.lb_replay.specs.Simulation.{IsReadFault}
+use Rattle.lb_replay.specs.declared.ended.Ended.{Ended}
+use Rattle.lb_replay.specs.declared.ended.Ended.TheVariants.{Printed, WriteFailed}
+use Rattle.lb_snapshot.specs.Measured.{Taken}
+use Rattle.lb_strategy.specs.Decisions.{IsRight}
+use Rattle.lb_strategy.specs.declared.decision.Decision.{Decision}
+use Rattle.load_report.specs.Text.{planned_text, present_text}
+use Rattle.load_report.specs.declared.style.Style.{Style}
+use Rattle.streams.specs.Writing.{WritesPrefix}
+
+-- a number of PEs that there may be
+abbrev pub IsNumber : ℕ → Type 0
+IsNumber p = (1 ≤ p) × (p ≤ PES)
+
+-- the numbers of PEs that decisions are made for: those that are asked for, or else that of the dump
+abbrev pub numbers_of : List ℕ → ℕ → List ℕ
+numbers_of procs own = if length procs == 0 then own ∷ [] else procs
+
+-- this is what is said of a right decision on the snapshot, of the chosen division and the least naming
+pub record IsPlan (A : Type 0) (style : Style) (name : List ℕ) (s : Taken) (pes : ℕ) (text : List ℕ) : Type 0 where
+  pub decision : Decision A
+  pub chosen : IsChosen s.loads pes decision.division
+  pub least : IsLeastNaming s.sizes decision.division.cuts pes decision.naming
+  pub right : IsRight s.loads s.sizes pes decision
+  pub printed : text ≡ planned_text style name s pes decision
+
+-- what is said of the decisions for these numbers of PEs, one after another
+abbrev pub ArePlans : (A : Type 0) → Style → List ℕ → Taken → List ℕ → List ℕ → Type 0
+ArePlans A style name s [] text = text ≡ []
+ArePlans A style name s (p ∷ procs) text =
+    (first : List ℕ) × (rest : List ℕ) × IsPlan A style name s p first × ArePlans A style name s procs rest × (text ≡ first ++ rest)
+
+-- this is what is said of a snapshot: of its present placement, and then of a decision for each number of PEs
+pub record IsSaid (A : Type 0) (style : Style) (name : List ℕ) (procs : List ℕ) (s : Taken) (text : List ℕ) : Type 0 where
+  pub plans : List ℕ
+  pub planned : ArePlans A style name s (numbers_of procs s.procs) plans
+  pub printed : text ≡ present_text style name s ++ plans
+
+-- This is the report on the dump that the bytes are a text of. Where the reader does not report its bytes, the dump is any.
+pub record IsReport (A : Type 0) (bytes : Option (List ℕ)) (style : Style) (name : List ℕ) (procs : List ℕ) (text : List ℕ) : Type 0 where
+  pub dump : Dumped A
+  pub read : IfSome bytes (IsText dump)
+  pub said : IsSaid A style name procs dump.snapshot text
+
+-- The fault in place of a report: one of the dump; or one of the plan, which can only be that it is out of memory.
+abbrev pub IsFoundFault : Option (List ℕ) → Option (List ℕ) → Ended → Type 0
+IsFoundFault bytes rest (Ended.Dump e) = IsReadFault bytes rest e
+IsFoundFault bytes rest (Ended.Plan e) = Unit {0}
+IsFoundFault bytes rest _ = ⊥
+
+-- What the writer holds after each end: the whole report, or nothing of it where there is a fault, or a prefix where the
+-- writer failed. The reader had these bytes, and has the rest.
+abbrev pub EndsReport : (A : Type 0) → Option (List ℕ) → Option (List ℕ) → Style → List ℕ → List ℕ → Option (List ℕ) → Option (List ℕ) → Ended → Type 0
+EndsReport A bytes rest style name procs old new Printed =
+    (text : List ℕ) × IsReport A bytes style name procs text × Appends old new text
+EndsReport A bytes rest style name procs old new (Ended.Dump e) =
+    IsReadFault bytes rest e × (new ≡ old)
+EndsReport A bytes rest style name procs old new (Ended.Plan e) = new ≡ old
+EndsReport A bytes rest style name procs old new WriteFailed =
+    (text : List ℕ) × IsReport A bytes style name procs text × WritesPrefix old new text
+EndsReport A bytes rest style name procs old new _ = ⊥

@@ -1,0 +1,85 @@
+ghost use Rattle.std.specs.Prelude.{◌≡◌, ℕ, All, List, Option, Some, IfOk, IfErr};
+ghost use Rattle.dump_report.specs.Reports.{EndsReport, IsFoundFault, IsNumber, IsReport};
+ghost use Rattle.dump_format.specs.declared.error.DumpError.TheVariants.{Read};
+ghost use Rattle.lb_replay.specs.declared.ended.Ended.TheVariants.{Dump};
+
+use crate::snapshot_text::snapshot_text;
+use lb_dump::{DumpError, read_from};
+use lb_replay::Ended;
+use load_report::Style;
+use std::alloc::Allocator;
+use std::io::{self, Read, Write};
+use streams::{Noted, write_out};
+
+/// Reports on a dump: reads it, plans its balancing step for each of these numbers of PEs (each 1 to 256), or for as many
+/// as the dump has where none is given, and writes the report, with this name in it. Nothing is written where there is a
+/// fault: it is returned. A decision that the dump has is read, and ignored.
+///
+/// What is written is one function of the bytes read, the name, the numbers and the style: the clause `one_text`.
+pub fn report_dump<A: Allocator + Copy, R: Read, W: Write>(
+    alloc: A,
+    reader: &mut R,
+    writer: &mut W,
+    name: &str,
+    procs: &[u32],
+    style: Style,
+) -> Ended
+    requires procs { All IsNumber procs.now }
+    ensures ends { EndsReport A (R.remaining reader.old) (R.remaining reader.new) style name.now procs.now (W.contents writer.old) (W.contents writer.new) result }
+    ensures one_text { (bytes text other : List ℕ) → IsReport A (Some bytes) style name.now procs.now text
+        → IsReport A (Some bytes) style name.now procs.now other → text ≡ other }
+{
+    match report_text(alloc, reader, name, procs, style) {
+        Ok(text) if write_out(writer, &text) => Ended::Printed,
+        Ok(_) => Ended::WriteFailed,
+        Err(fault) => fault,
+    }
+}
+
+/// Reports on the dump in a file as [`report_dump`] does, and returns also the system's reason where a read failed. A file
+/// that could not be opened counts as a dump that was not read.
+pub fn report_file<A: Allocator + Copy, R: Read + Drop, W: Write>(
+    alloc: A,
+    file: io::Result<R>,
+    writer: &mut W,
+    name: &str,
+    procs: &[u32],
+    style: Style,
+) -> (Ended, Option<io::Error>)
+    requires procs { All IsNumber procs.now }
+    ensures opened { IfOk file (λ file. (rest : Option (List ℕ))
+        × EndsReport A (R.remaining file) rest style name.now procs.now (W.contents writer.old) (W.contents writer.new) result.0) }
+    ensures unopened { IfErr file (λ _. (result.0 ≡ Dump Read) × (W.contents writer.new ≡ W.contents writer.old)) }
+    ensures reason { IfErr file (λ reason. result.1 ≡ Some reason) }
+{
+    match file {
+        Ok(reader) => {
+            let mut noted = Noted::new(reader);
+            let ended = report_dump(alloc, &mut noted, writer, name, procs, style);
+            (ended, noted.failure())
+        }
+        Err(reason) => (Ended::Dump(DumpError::Read), Some(reason)),
+    }
+}
+
+// The report on a dump, made whole, or the fault that kept it from being made.
+fn report_text<A: Allocator + Copy, R: Read>(
+    alloc: A,
+    reader: &mut R,
+    name: &str,
+    procs: &[u32],
+    style: Style,
+) -> Result<Vec<u8, A>, Ended>
+    requires { All IsNumber procs.now }
+    ensures text { IfOk result (λ text. IsReport A (R.remaining reader.old) style name.now procs.now text.items) }
+    ensures fault { IfErr result (IsFoundFault (R.remaining reader.old) (R.remaining reader.new)) }
+{
+    match read_from(alloc, reader) {
+        Ok(dump) => {
+            let text = snapshot_text(alloc, dump.snapshot(), name, procs, style);
+            drop(dump);
+            text
+        }
+        Err(fault) => Err(Ended::Dump(fault)),
+    }
+}

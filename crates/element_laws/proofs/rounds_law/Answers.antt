@@ -1,0 +1,16 @@
+use Rattle.element_laws.proofs.Ends.{phase_once}
+use Rattle.element_laws.proofs.Orders.{in_order_ran}
+use Rattle.element_laws.proofs.Phases.{phase}
+use Rattle.element_laws.proofs.rounds_law.Goals as goal
+
+-- src/lib.rt:22:1
+pub returns-clause-phase : goal.returns-clause-phase
+returns-clause-phase g c = λ opened el is order e round load bytes pe has. phase g.C.Chare.step g.C.Pup.pack opened el is order e round load bytes pe has
+
+-- src/lib.rt:22:1
+pub returns-clause-once : goal.returns-clause-once
+returns-clause-once g c = λ opened el is order chare opens round load bytes other_load other_bytes x y. phase_once g.C.Chare.step g.C.Pup.pack opened el is order chare opens round load bytes other_load other_bytes x y
+
+-- src/lib.rt:22:1
+pub returns-clause-handled : goal.returns-clause-handled
+returns-clause-handled g c = λ el n pe done is may. in_order_ran g.C.Chare.step g.C.Pup.pack el n pe done is may

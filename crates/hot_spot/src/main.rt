@@ -1,0 +1,120 @@
+//! `hot_spot [--elements N] [--pes P] [--rounds R] [--work W] [--static]` runs a chain of strips whose work wanders. It prints
+//! the loads of each round and the checksum of all cells, and on the standard error how long the run took.
+//!
+//! - `hot_spot_run::run_chain`: the run. `hot_spot_run::text_of`: what is printed.
+#![tactic(auto)]
+
+mod help;
+mod words;
+
+use crate::words::{RunOptions, read_options};
+use hot_spot_run::{Chain, ChainError, run_chain, text_of};
+use hot_spot_strip::Mode;
+use rts_run::Config;
+use std::alloc::AllocError;
+use std::process::ExitCode;
+use std::sync::Wait;
+use std::thread::Threads;
+use std::time::{Clock, Instant};
+use std::{env, io};
+use streams::write_out;
+
+/// Cells of each strip.
+const CELLS: u32 = 16;
+
+/// The status where the words cannot be had, or are refused.
+const NO_WORDS: u8 = 2;
+
+/// The status where a fault ended the run early.
+const FAULT: u8 = 4;
+
+/// The status where memory was refused, or the output failed.
+const NO_OUTPUT: u8 = 5;
+
+fn main(rt: HostRuntime) -> ExitCode {
+    let Ok(args) = env::args(&rt) else {
+        return ExitCode::from(NO_WORDS);
+    };
+    let Ok(words) = args.collect::<Vec<String>>(rt.alloc()) else {
+        return ExitCode::from(NO_WORDS);
+    };
+    let Ok(words) = words
+        .iter()
+        .map(|word| word.as_str())
+        .collect::<Vec<&str>>(rt.alloc())
+    else {
+        return ExitCode::from(NO_WORDS);
+    };
+    match read_options(rt.alloc(), &words) {
+        Ok(options) => ExitCode::from(ran(&rt, &options)),
+        Err(error) => {
+            let _ = error.print(&rt);
+            ExitCode::from(if error.use_stderr() { NO_WORDS } else { 0 })
+        }
+    }
+}
+
+// Runs the chain, and returns the status.
+fn ran<R: Threads + Wait + Sync + Clock + Print + Eprint + AllocGlobal>(
+    rt: &R,
+    options: &RunOptions,
+) -> u8 {
+    let Ok(cells) = cells_of(rt, options.elements) else {
+        return NO_OUTPUT;
+    };
+    let chain = Chain {
+        mode: if options.is_static {
+            Mode::Static
+        } else {
+            Mode::Balanced
+        },
+        rounds: options.rounds,
+        work: options.work,
+        cells: &cells,
+    };
+    match told(rt, &chain, options.pes) {
+        Ok(status) => status,
+        Err(error) => {
+            let _ = eprintln!(rt; "hot_spot: {error}");
+            NO_OUTPUT
+        }
+    }
+}
+
+// How many cells each strip has.
+fn cells_of<R: AllocGlobal>(rt: &R, strips: u32) -> Result<Vec<u32>, AllocError> {
+    let mut cells = Vec::new(rt.alloc());
+    cells.resize(strips as usize, CELLS)?;
+    Ok(cells)
+}
+
+// Runs a chain and prints what it left.
+fn told<R: Threads + Wait + Sync + Clock + Print + Eprint + AllocGlobal>(
+    rt: &R,
+    chain: &Chain<'_>,
+    pes: u32,
+) -> Result<u8, ChainError> {
+    let config = Config::usual(pes);
+    let start = Instant::now(rt);
+    let outcome = run_chain(rt, rt.alloc(), &config, chain)?;
+    if let Ok(start) = start {
+        tell_time(rt, &start, outcome.account().executed);
+    }
+    let text = text_of(rt.alloc(), chain, pes, &outcome)?;
+    if !write_out(&mut io::writer(rt), text.as_bytes()) {
+        return Ok(NO_OUTPUT);
+    }
+    Ok(if outcome.fault().is_some() { FAULT } else { 0 })
+}
+
+// Tells on the standard error how long a run took, and how many letters it handled in a second.
+fn tell_time<R: Clock + Eprint>(rt: &R, start: &Instant, letters: u64) {
+    let Ok(elapsed) = start.elapsed(rt) else {
+        return;
+    };
+    let micros = u64::try_from(elapsed.as_micros())
+        .unwrap_or(u64::MAX)
+        .max(1);
+    let rate = letters.saturating_mul(1_000_000) / micros;
+    let _ = eprintln!(rt; "hot_spot: {micros} microseconds, {letters} letters, {rate} a second");
+}

@@ -1,0 +1,38 @@
+//! The run of a chain of strips.
+
+ghost use Rattle.std.specs.Prelude.{IfOk};
+ghost use Rattle.hot_spot_strip.specs.Openings.{opening_strips};
+ghost use Rattle.hot_spot_strip.specs.Strips.{strip_step};
+ghost use Rattle.rts_core.specs.Histories.{AreHistories};
+ghost use Rattle.run_account.specs.RunAccounts.{IsRunAccount, left_world};
+
+use chare_index::NoGate;
+use hot_spot_strip::{Chain, ChainError, Strip};
+use pup_pack::Pup;
+use rts_run::{Config, Outcome, RunError, run};
+use std::alloc::Allocator;
+use std::sync::Wait;
+use std::thread::Threads;
+
+/// Runs a chain of strips on PEs.
+///
+/// # Errors
+///
+/// [`Limit`](ChainError::Limit) where a number of the chain or of the config is out of its limits, or there are more strips
+/// than an array may have, and [`OutOfMemory`](ChainError::OutOfMemory). No thread was started then.
+pub fn run_chain<R: Threads + Wait + Sync, A: Allocator + Copy + Send + Sync>(
+    rt: &R,
+    alloc: A,
+    config: &Config,
+    chain: &Chain<'_>,
+) -> Result<Outcome<Strip<A>, A>, ChainError>
+    ensures account { IfOk result (λ o. IsRunAccount strip_step (opening_strips chain.now.mode chain.now.rounds chain.now.work 0 chain.now.cells.now) (left_world o.ends o.left)) }
+    ensures histories { IfOk result (λ o. AreHistories strip_step ⟦<Strip<A> as Pup<A>>⟧.fits ⟦<Strip<A> as Pup<A>>⟧.pack (opening_strips chain.now.mode chain.now.rounds chain.now.work 0 chain.now.cells.now) (left_world o.ends o.left)) }
+{
+    let strips = chain.strips(alloc)?;
+    match run(rt, alloc, config, &NoGate, strips) {
+        Ok(outcome) => Ok(outcome),
+        Err(RunError::Config) => Err(ChainError::Limit),
+        Err(RunError::OutOfMemory) => Err(ChainError::OutOfMemory),
+    }
+}

@@ -1,0 +1,10 @@
+pub mod Cells
+pub mod Chains
+pub mod Coming
+pub mod Mixing
+pub mod Modes
+pub mod Openings
+pub mod Profile
+pub mod Showing
+pub mod Slots
+pub mod Strips

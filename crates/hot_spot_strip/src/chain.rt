@@ -1,0 +1,78 @@
+//! A chain of strips, as it opens.
+
+ghost use Rattle.std.specs.Prelude.{◌≡◌, ◌-◌, ◌≤◌, IfOk};
+ghost use Rattle.hot_spot_strip.specs.Openings.{opening_cells, opening_strips};
+ghost use Rattle.hot_spot_strip.specs.Strips.{opening_strip};
+
+use crate::error::ChainError;
+use crate::mixing::mix;
+use crate::mode::Mode;
+use crate::strip::Strip;
+use pup_pack::Items;
+use std::alloc::{AllocError, Allocator};
+
+/// A chain of strips. The cell with number `k`, counted from 0 over all strips, begins as `mix(k)`.
+#[derive(Clone, Copy, Debug)]
+pub struct Chain<'a> {
+    /// Whether it is balanced.
+    pub mode: Mode,
+    /// How many rounds it has.
+    pub rounds: u32,
+    /// How many rounds of mixing a cell in the middle of the hot spot takes more than one far from it.
+    pub work: u32,
+    /// How many cells each strip has, from one end to the other.
+    pub cells: &'a [u32],
+}
+
+impl Chain<'_> {
+    /// Its strips, as they open.
+    ///
+    /// # Errors
+    ///
+    /// The first that is met: [`Limit`](ChainError::Limit) where a number is past its limit, or
+    /// [`OutOfMemory`](ChainError::OutOfMemory).
+    pub fn strips<A: Allocator + Copy>(&self, alloc: A) -> Result<Vec<Strip<A>, A>, ChainError>
+        ensures opened { IfOk result (λ strips. strips.items ≡ opening_strips self.now.mode self.now.rounds self.now.work 0 self.now.cells.now) }
+    {
+        let mut strips = Vec::new(alloc);
+        let mut first = 0u64;
+        for count in self.cells {
+            let Some(end) = first.checked_add(u64::from(*count)) else {
+                return Err(ChainError::Limit);
+            };
+            let strip = self.strip(alloc, first, end)?;
+            strips.push(strip)?;
+            first = end;
+        }
+        Ok(strips)
+    }
+
+    // The strip with the cells from number `first` up to `end`, as it opens.
+    fn strip<A: Allocator + Copy>(
+        &self,
+        alloc: A,
+        first: u64,
+        end: u64,
+    ) -> Result<Strip<A>, ChainError>
+        requires ordered { first ≤ end }
+        ensures opened { IfOk result (λ strip. strip ≡ opening_strip self.now.mode self.now.rounds self.now.work (opening_cells first (end - first))) }
+    {
+        let cells = cells(alloc, first, end)?;
+        match Strip::new(alloc, self.mode, self.rounds, self.work, cells) {
+            Some(strip) => Ok(strip),
+            None => Err(ChainError::Limit),
+        }
+    }
+}
+
+// The cells with the numbers from `first` up to `end`.
+fn cells<A: Allocator>(alloc: A, first: u64, end: u64) -> Result<Items<u64, A>, AllocError>
+    requires ordered { first ≤ end }
+    ensures opened { IfOk result (λ cells. cells ≡ opening_cells first (end - first)) }
+{
+    let mut cells = Vec::new(alloc);
+    for number in first..end {
+        cells.push(mix(number))?;
+    }
+    Ok(Items::new(cells))
+}

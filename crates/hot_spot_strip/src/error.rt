@@ -1,0 +1,35 @@
+use std::alloc::{AllocError, AllocFailed};
+use thiserror::Error;
+
+/// Why there is no chain, or no run of it.
+#[derive(Clone, Copy, Debug, PartialEq, Eq, Error)]
+pub enum ChainError {
+    /// A number is out of its limits, or there are more strips than an array may have.
+    #[error("a number is out of its limits")]
+    Limit = 1,
+    /// No memory was left.
+    #[error("out of memory")]
+    OutOfMemory = 2,
+}
+
+impl From<AllocError> for ChainError {
+    ghost use Rattle.std.specs.Prelude.{◌≡◌};
+    ghost use Rattle.hot_spot_strip.specs.declared.error.ChainError.TheVariants.{OutOfMemory};
+
+    ghost from_gives = { λ _ error. error ≡ OutOfMemory };
+
+    fn from(_: AllocError) -> ChainError {
+        ChainError::OutOfMemory
+    }
+}
+
+impl<T: Drop> From<AllocFailed<T>> for ChainError {
+    ghost use Rattle.std.specs.Prelude.{◌≡◌};
+    ghost use Rattle.hot_spot_strip.specs.declared.error.ChainError.TheVariants.{OutOfMemory};
+
+    ghost from_gives = { λ _ error. error ≡ OutOfMemory };
+
+    fn from(_: AllocFailed<T>) -> ChainError {
+        ChainError::OutOfMemory
+    }
+}

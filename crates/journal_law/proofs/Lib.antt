@@ -1,3 +1,0 @@
-pub mod Journals
-pub mod Owned
-pub mod Runs

@@ -1,0 +1,18 @@
+use Rattle.std.proofs.Common.{◌≡◌, rules, refl, ◌∙◌}
+use Rattle.block_assignment.specs.Table.{cost_at}
+use Rattle.lb_certificates.specs.Naming.{naming_cost}
+use Rattle.lb_strategy.proofs.RightDecisions.{least_by_table, moved_by_table, named_by_table}
+use Rattle.lb_lists.proofs.plan.named.Goals as goal
+
+pub returns-clause-named : goal.returns-clause-named
+returns-clause-named g c =
+    named_by_table c.args.sizes.now c.args.cuts.now c.in_ok-naming.naming c.in_ok-naming.prices.u c.in_ok-naming.prices.v c.in_ok-table.table c.requires.blocks c.in_ok-table.ensures.table c.in_ok-naming.ensures.naming c.in_ok-naming.ensures.proved
+
+pub returns-clause-least_naming : goal.returns-clause-least_naming
+returns-clause-least_naming g c =
+    least_by_table c.args.sizes.now c.args.cuts.now c.in_ok-naming.naming _ c.in_ok-table.table refl c.requires.blocks c.in_ok-table.ensures.table c.in_ok-naming.ensures.least_naming
+
+pub returns-clause-moved : goal.returns-clause-moved
+returns-clause-moved g c =
+    let cost : c.cost_of-moved.result ≡ naming_cost c.in_ok-table.table.blocks (cost_at c.in_ok-table.table) c.in_ok-naming.naming = search rules in
+    cost ∙ moved_by_table c.args.sizes.now c.args.cuts.now c.in_ok-naming.naming c.in_ok-table.table c.requires.blocks c.in_ok-table.ensures.table c.in_ok-naming.ensures.naming

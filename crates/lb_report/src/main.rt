@@ -1,0 +1,112 @@
+//! `lb_report [--procs P[,P..]] [--csv] [--moves] FILE..` reports on dumps of load databases: how balanced the loads are at
+//! present, and after the least division into consecutive blocks, and what moves.
+//!
+//! - `report_command_line::asked`: what the words of the command line ask for, and `numbers` the numbers of PEs in them.
+//! - `dump_report::report_file`: the report on one dump, and how it ended; `Ended::status` is the status for it.
+#![tactic(auto)]
+
+ghost use Rattle.std.specs.Prelude.{All};
+ghost use Rattle.report_command_line.specs.Numbers.{IsNumber};
+
+mod telling;
+
+use dump_report::{report_dump, report_file};
+use lb_replay::Ended;
+use load_report::Style;
+use report_command_line::{Asked, NO_WORDS, NumbersError, asked, numbers, words_status};
+use std::fs::File;
+use std::process::ExitCode;
+use std::{env, io};
+use streams::{Noted, write_out};
+use telling::tell;
+
+fn main(rt: HostRuntime) -> ExitCode {
+    let Ok(args) = env::args(&rt) else {
+        return ExitCode::from(NO_WORDS);
+    };
+    let Ok(words) = args.collect::<Vec<String>>(rt.alloc()) else {
+        return ExitCode::from(NO_WORDS);
+    };
+    let Ok(words) = words
+        .iter()
+        .map(|word| word.as_str())
+        .collect::<Vec<&str>>(rt.alloc())
+    else {
+        return ExitCode::from(NO_WORDS);
+    };
+    match asked(rt.alloc(), &words) {
+        Ok(asked) => ExitCode::from(done(&rt, &asked)),
+        Err(error) => {
+            let _ = error.print(&rt);
+            ExitCode::from(words_status(&error))
+        }
+    }
+}
+
+// Does what is asked for, and returns the status.
+fn done(rt: &HostRuntime, asked: &Asked<'_>) -> u8 {
+    let Some(text) = asked.procs else {
+        return headed(rt, asked, &[]);
+    };
+    match numbers(rt.alloc(), text) {
+        Ok(procs) => headed(rt, asked, &procs),
+        Err(NumbersError::Spelling) => {
+            let _ = eprintln!(rt;
+                "lb_report: --procs {text}: give numbers of 1 to 256 with a comma between two, as in 4,8,16"
+            );
+            NO_WORDS
+        }
+        Err(NumbersError::OutOfMemory) => Ended::WriteFailed.status(),
+    }
+}
+
+// Prints the line of the names of the columns, and then the report on each file.
+fn headed(rt: &HostRuntime, asked: &Asked<'_>, procs: &[u32]) -> u8
+    requires { All IsNumber procs.now }
+{
+    let style = Style {
+        csv: asked.csv,
+        moves: asked.moves,
+    };
+    let mut output = Noted::new(io::writer(rt));
+    if !write_out(&mut output, style.head().as_bytes()) {
+        tell(rt, "", Ended::WriteFailed, output.failure());
+        return Ended::WriteFailed.status();
+    }
+    all(rt, asked.files.as_slice(), procs, style)
+}
+
+// Prints the report on each file, and returns the status of the first that has a fault, or 0. Nothing is done after the
+// output has failed.
+fn all(rt: &HostRuntime, names: &[&str], procs: &[u32], style: Style) -> u8
+    requires { All IsNumber procs.now }
+{
+    let mut status = 0;
+    for name in names {
+        let ended = one(rt, name, procs, style);
+        if status == 0 {
+            status = ended.status();
+        }
+        if ended == Ended::WriteFailed {
+            return status;
+        }
+    }
+    status
+}
+
+// Prints the report on a file, or tells its fault on the standard error.
+fn one(rt: &HostRuntime, name: &str, procs: &[u32], style: Style) -> Ended
+    requires { All IsNumber procs.now }
+{
+    let mut output = Noted::new(io::writer(rt));
+    let (ended, reason) = if name == "-" {
+        let mut input = Noted::new(rt.stdin());
+        let ended = report_dump(rt.alloc(), &mut input, &mut output, name, procs, style);
+        (ended, input.failure())
+    } else {
+        let file = File::open(rt, name);
+        report_file(rt.alloc(), file, &mut output, name, procs, style)
+    };
+    tell(rt, name, ended, reason.or(output.failure()));
+    ended
+}

@@ -1,0 +1,3 @@
+pub mod Placements
+pub mod PlacedCounts
+pub mod PlacedLoads

@@ -1,0 +1,8 @@
+use Rattle.std.proofs.Common.{◌≡◌, ◌++◌, take}
+use Rattle.std.specs.List.{flat_map}
+use Rattle.load_report.specs.Text.{aligned}
+use Rattle.load_report.proofs.line.push_row.Given as goal
+
+abbrev pub invariant-loop-column : goal.invariant-loop-column
+invariant-loop-column g l =
+    l.text.items ≡ l.initial.text.items ++ flat_map aligned (take l.column-index l.columns)

@@ -1,5 +1,0 @@
-use Rattle.refusing_alloc.specs.Attempts.{EachTold}
-use Rattle.refusing_alloc.proofs.attempts.each_refusal.Given as goal
-
-abbrev pub invariant-loop-refusals : goal.invariant-loop-refusals
-invariant-loop-refusals g l = EachTold (goal.F-post g l.attempt) l.inner l.refusals

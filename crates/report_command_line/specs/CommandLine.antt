@@ -1,0 +1,50 @@
+-- What clap reads from the words of a command line: `lb_report [--procs P[,P..]] [--csv] [--moves] FILE..`.
+use Rattle.std.specs.Prelude.{◌≡◌, List, [], Option, Some, codes, true, unwrap_or}
+use Rattle.clap.specs.Words.{App, Rule, Text, all_of, first_of, matches_of, new_app, new_rule, one_of, with_rule}
+use Rattle.clap.specs.declared.builder.action.ArgAction.TheVariants.{Append, Set, SetTrue}
+
+-- the dumps, of which one has to be named
+abbrev pub files_rule : Rule
+files_rule = record (new_rule (codes "file")) {
+  action = Some Append;
+  value_names = 1;
+  required = true;
+}
+
+-- the numbers of PEs to plan for
+abbrev pub procs_rule : Rule
+procs_rule = record (new_rule (codes "procs")) {
+  long = Some (codes "procs");
+  action = Some Set;
+  value_names = 1;
+}
+
+-- two flags, which take no word
+abbrev pub csv_rule : Rule
+csv_rule = record (new_rule (codes "csv")) { long = Some (codes "csv"); action = Some SetTrue }
+
+abbrev pub moves_rule : Rule
+moves_rule = record (new_rule (codes "moves")) { long = Some (codes "moves"); action = Some SetTrue }
+
+-- the program before its words are declared: it has a version
+abbrev pub versioned : App
+versioned = let plain = new_app (codes "lb_report") in record plain { top = record plain.top { has_version = true } }
+
+-- the program with its words, to which clap adds those that ask for help and for the version
+abbrev pub program : App
+program = with_rule (with_rule (with_rule (with_rule versioned files_rule) procs_rule) csv_rule) moves_rule
+
+-- the words that name the dumps
+abbrev pub files_in : List Text → List Text
+files_in words = unwrap_or (all_of (codes "file") (matches_of program words)) []
+
+-- the word that says for how many PEs
+abbrev pub procs_in : List Text → Option Text
+procs_in words = first_of (codes "procs") (matches_of program words)
+
+-- the words have this flag, which clap reads as the text `true`, and a flag that is not there as `false`
+abbrev pub AsksCsv : List Text → Type 0
+AsksCsv words = one_of (codes "csv") (matches_of program words) ≡ Some (codes "true")
+
+abbrev pub AsksMoves : List Text → Type 0
+AsksMoves words = one_of (codes "moves") (matches_of program words) ≡ Some (codes "true")

@@ -1,0 +1,18 @@
+-- Numbers of PEs, as a word of a command line spells them.
+use Rattle.std.specs.Prelude.{ℕ, ◌≤◌, List, [], ◌∷◌, ◌++◌, codes}
+use Rattle.std.specs.Fmt.{decimal}
+use Rattle.std.specs.List.{flat_map}
+use Rattle.chare_index.specs.declared.limits.TheConstants.Limits.{PES}
+
+-- a number of PEs that there may be
+abbrev pub IsNumber : ℕ → Type 0
+IsNumber p = (1 ≤ p) × (p ≤ PES)
+
+-- a comma and a number, for each
+abbrev pub numerals_after : List ℕ → List ℕ
+numerals_after numbers = flat_map (λ n. codes "," ++ decimal n) numbers
+
+-- numbers with a comma between two
+abbrev pub numerals : List ℕ → List ℕ
+numerals [] = []
+numerals (n ∷ numbers) = decimal n ++ numerals_after numbers

@@ -1,0 +1,31 @@
+//! What `--help` says. Its lines have at most 80 characters.
+
+/// What the program does, in a line.
+pub(crate) const ABOUT: &str =
+    "Tells how balanced the loads of dumps are, before and after a balancing step";
+
+/// What is printed, and the statuses.
+pub(crate) const HOW_TO: &str = "\
+Of each file a line tells of the present placement, and one more of the least
+division into consecutive blocks, for each number of PEs.
+
+Example: lb_report --csv three-elements.lbd1 prints (a line is folded here):
+  file,placement,procs,elements,max,avg,imbalance,least,moved,moved_percent,
+    bytes,bytes_percent,empty
+  \"three-elements.lbd1\",present,2,3,3,2.000,1.500,,,,,,0
+  \"three-elements.lbd1\",planned,2,3,2,2.000,1.000,2,1,33.333,10,37.037,0
+
+procs, elements   the PEs, and the elements on them
+max, avg          the greatest and the average load of a PE, in work units
+imbalance         max over avg
+least             the least that max can be, with whole elements in blocks
+moved, bytes      the elements that move, and their packed bytes; in per cent
+empty             the PEs without an element
+
+Quotients have three decimals, rounded down. - stands where nothing applies.
+With --moves each line tells of an element that moves: its number, the PE that
+it leaves, the PE that it goes to, and its packed bytes.
+
+Faults are told on standard error, and the other files are reported all the
+same. Status: 0 all well, 2 words; else that of the first file with a fault:
+3 the dump, 5 memory or output.";

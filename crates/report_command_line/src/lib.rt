@@ -1,0 +1,25 @@
+//! The command line of `lb_report`: what its words ask for, and the status where they ask for no report. clap reads them,
+//! and writes the texts of what it refuses, of help and of the version.
+//!
+//! ```
+//! use report_command_line::{NO_WORDS, asked, numbers, words_status};
+//!
+//! let words = ["lb_report", "--procs", "4,8", "--csv", "one.lbd1", "two.lbd1"];
+//! let asked_for = asked(alloc, &words).unwrap();
+//! assert!(asked_for.files.as_slice() == ["one.lbd1", "two.lbd1"]);
+//! assert!(asked_for.csv && !asked_for.moves);
+//! assert!(numbers(alloc, asked_for.procs.unwrap()).unwrap().as_slice() == [4, 8]);
+//!
+//! let error = asked(alloc, &["lb_report"]).unwrap_err();
+//! assert!(words_status(&error) == NO_WORDS);
+//! ```
+#![tactic(auto)]
+
+mod help;
+mod request;
+mod spelled;
+mod words;
+
+pub use request::Asked;
+pub use spelled::{NumbersError, numbers};
+pub use words::{NO_WORDS, asked, words_status};

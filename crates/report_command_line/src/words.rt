@@ -1,0 +1,127 @@
+ghost use Rattle.std.specs.Prelude.{◌≡◌, ◌≢◌, ◌⊎◌, ◌↔◌, [], IfOk, IsTrue, Some, codes, map, option_map, unwrap_or};
+ghost use Rattle.clap.specs.Built.{FitsChain};
+ghost use Rattle.clap.specs.Values.{kind_of};
+ghost use Rattle.clap.specs.Walk.{texts};
+ghost use Rattle.clap.specs.Words.{FailsBy, app_of, fault_of, first_value, found_of, matched_of, one_text, raw_values, rule_of};
+ghost use Rattle.report_command_line.specs.CommandLine.{AsksCsv, AsksMoves, csv_rule, files_in, files_rule, moves_rule, procs_in, procs_rule, program};
+ghost use Rattle.clap.specs.declared.error.kind.ErrorKind.TheVariants.{DisplayHelp, DisplayVersion};
+
+use crate::help::{ABOUT, HOW_TO};
+use crate::request::Asked;
+use clap::{Arg, ArgAction, ArgMatches, Command, Error};
+use std::alloc::{AllocError, Global};
+
+/// The status where the words of the command line cannot be had, or are refused.
+pub const NO_WORDS: u8 = 2;
+
+/// The status where the words ask for no report: 0 for help or the version, and else [`NO_WORDS`].
+pub fn words_status(error: &Error) -> u8
+    ensures shown { (kind_of error.now ≡ DisplayHelp) ⊎ (kind_of error.now ≡ DisplayVersion) → result ≡ 0 }
+    ensures refused { (kind_of error.now ≢ DisplayHelp) → (kind_of error.now ≢ DisplayVersion) → result ≡ NO_WORDS }
+{
+    if error.use_stderr() { NO_WORDS } else { 0 }
+}
+
+/// Reads the words of a command line, the program's name first.
+///
+/// # Errors
+///
+/// The words are not `[--procs P[,P..]] [--csv] [--moves] FILE..`, help or the version is asked for, or it is out of memory.
+/// The error has the text to print; [`words_status`] is the status for it.
+pub fn asked<'a>(alloc: Global, words: &'a [&'a str]) -> Result<Asked<'a>, Error>
+    ensures faults { FailsBy (fault_of program (texts words.now)) result }
+    ensures files { IfOk result (λ asked. files_in (texts words.now) ≡ texts asked.files.items) }
+    ensures procs { IfOk result (λ asked. procs_in (texts words.now) ≡ option_map (λ text. text.now) asked.procs) }
+    ensures csv { IfOk result (λ asked. IsTrue asked.csv ↔ AsksCsv (texts words.now)) }
+    ensures moves { IfOk result (λ asked. IsTrue asked.moves ↔ AsksMoves (texts words.now)) }
+{
+    match command(alloc)?.try_get_matches_from(words) {
+        Ok(matches) => Ok(found(alloc, &matches)?),
+        Err(error) => Err(error),
+    }
+}
+
+// The words that are understood: `lb_report [--procs P[,P..]] [--csv] [--moves] FILE..`, and those for help and for the
+// version, which clap adds.
+fn command<'a>(alloc: Global) -> Result<Command<'a>, AllocError>
+    ensures program { IfOk result (λ command. app_of command ≡ program) }
+{
+    let command = Command::new(alloc, "lb_report")
+        .version("0.1.0")
+        .about(ABOUT)
+        .after_help(HOW_TO);
+    let command = command.arg(files(alloc))?;
+    let command = command.arg(procs(alloc))?;
+    let command = command.arg(csv(alloc))?;
+    command.arg(moves(alloc))
+}
+
+fn files<'a>(alloc: Global) -> Arg<'a>
+    ensures rule { rule_of result ≡ files_rule }
+    ensures fits { FitsChain result }
+{
+    Arg::new(alloc, "file")
+        .value_name("FILE")
+        .help("Dumps of load databases, as charm_run --dump writes them;{n}- is the standard input")
+        .required(true)
+        .action(ArgAction::Append)
+}
+
+fn procs<'a>(alloc: Global) -> Arg<'a>
+    ensures rule { rule_of result ≡ procs_rule }
+    ensures fits { FitsChain result }
+{
+    Arg::new(alloc, "procs")
+        .long("procs")
+        .value_name("P[,P..]")
+        .help(
+            "Plans for each of these numbers of PEs, 1 to 256, in place{n}of the dump's own number",
+        )
+        .action(ArgAction::Set)
+}
+
+fn csv<'a>(alloc: Global) -> Arg<'a>
+    ensures rule { rule_of result ≡ csv_rule }
+    ensures fits { FitsChain result }
+{
+    Arg::new(alloc, "csv")
+        .long("csv")
+        .help("Prints comma-separated values in place of a table")
+        .action(ArgAction::SetTrue)
+}
+
+fn moves<'a>(alloc: Global) -> Arg<'a>
+    ensures rule { rule_of result ≡ moves_rule }
+    ensures fits { FitsChain result }
+{
+    Arg::new(alloc, "moves")
+        .long("moves")
+        .help("Lists the elements that move in place of the figures")
+        .action(ArgAction::SetTrue)
+}
+
+// What the words ask for.
+fn found<'a>(alloc: Global, matches: &ArgMatches<'a>) -> Result<Asked<'a>, AllocError>
+    ensures files { IfOk result (λ asked. unwrap_or (option_map raw_values (matched_of (found_of matches.now) (codes "file"))) [] ≡ texts asked.files.items) }
+    ensures procs { IfOk result (λ asked. first_value (found_of matches.now) (codes "procs") ≡ option_map (λ text. text.now) asked.procs) }
+    ensures csv { IfOk result (λ asked. IsTrue asked.csv ↔ (one_text (found_of matches.now) (codes "csv") ≡ Some (codes "true"))) }
+    ensures moves { IfOk result (λ asked. IsTrue asked.moves ↔ (one_text (found_of matches.now) (codes "moves") ≡ Some (codes "true"))) }
+{
+    let files = files_of(alloc, matches)?;
+    Ok(Asked {
+        files,
+        procs: matches.get_str("procs"),
+        csv: matches.get_one("csv") == Some(true),
+        moves: matches.get_one("moves") == Some(true),
+    })
+}
+
+// The dumps that are named.
+fn files_of<'a>(alloc: Global, matches: &ArgMatches<'a>) -> Result<Vec<&'a str>, AllocError>
+    ensures { IfOk result (λ files. unwrap_or (option_map raw_values (matched_of (found_of matches.now) (codes "file"))) [] ≡ texts files.items) }
+{
+    match matches.get_strs("file") {
+        Some(files) => Vec::from_slice(alloc, files),
+        None => Ok(Vec::new(alloc)),
+    }
+}

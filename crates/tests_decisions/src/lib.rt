@@ -1,0 +1,28 @@
+//! Tests of how a decision is made and checked: snapshots, certificates, divisions, namings and whole decisions.
+//! They use public calls only, on worked examples whose results come from outside, on full arrays, and beside slow
+//! references: [`reference`] tries every decision.
+#![tactic(auto)]
+
+#[cfg(test)]
+mod certificates;
+#[cfg(test)]
+mod decisions;
+#[cfg(test)]
+mod divisions;
+#[cfg(test)]
+mod equal_costs;
+#[cfg(test)]
+mod equality;
+#[cfg(test)]
+mod fixtures;
+#[cfg(test)]
+mod limits;
+#[cfg(test)]
+mod naming_checks;
+#[cfg(test)]
+mod namings;
+pub mod reference;
+#[cfg(test)]
+mod walks;
+#[cfg(test)]
+mod workers;

@@ -1,0 +1,100 @@
+//! What the tests are made of: how a result is judged, the parts of a decision, and texts by their numbers. What can't
+//! be made ends the test.
+
+ghost use Rattle.std.specs.Prelude.{◌≡◌, true};
+
+use lb_dump::{Dump, DumpError, decode, encode, encode_dump};
+use lb_snapshot::Snapshot;
+use std::alloc::Global;
+use std::fmt::Debug;
+use std::process::Abort;
+
+/// Ends the test where this does not hold, with what it was to hold for.
+pub(crate) fn assert_for<R: Debug + Copy>(rt: &impl Abort, holds: bool, row: R)
+    ensures held { holds ≡ true }
+{
+    assert!(rt; holds, "{row:?}");
+}
+
+/// Whether these lists are the same.
+pub(crate) fn same<T: PartialEq>(some: &[T], others: &[T]) -> bool {
+    some == others
+}
+
+/// A copy of a list.
+pub(crate) fn list<T: Copy>(rt: &(impl Abort + AllocGlobal), items: &[T]) -> Vec<T> {
+    Vec::from_slice(rt.alloc(), items).expect(rt, "out of memory")
+}
+
+/// Adds an item to a list.
+pub(crate) fn push<T: Copy>(rt: &impl Abort, items: &mut Vec<T>, item: T) {
+    items.push(item).expect(rt, "out of memory");
+}
+
+/// Whether the example was found, with no decision.
+pub(crate) fn is_example(found: Result<Dump, DumpError>) -> bool {
+    let same = match &found {
+        Ok(dump) => dump.recorded().is_none() && tests_fixtures::is_example(dump.snapshot()),
+        Err(_) => false,
+    };
+    drop(found);
+    same
+}
+
+/// Whether a text that is decoded has this fault, or none.
+pub(crate) fn decodes_to(alloc: Global, text: &[u8], fault: Option<DumpError>) -> bool {
+    decode(alloc, text).err() == fault
+}
+
+/// Whether a snapshot has this text, in the format LBD1.
+pub(crate) fn has_text(rt: &(impl Abort + AllocGlobal), snapshot: &Snapshot, text: &[u8]) -> bool {
+    let encoded = encode(rt.alloc(), snapshot).expect(rt, "no text");
+    let has = same(&encoded, text);
+    drop(encoded);
+    has
+}
+
+/// Whether a dump has this text, in the format LBD2.
+pub(crate) fn has_dump_text(rt: &(impl Abort + AllocGlobal), dump: &Dump, text: &[u8]) -> bool {
+    let encoded = encode_dump(rt.alloc(), dump).expect(rt, "out of memory");
+    let has = same(&encoded, text);
+    drop(encoded);
+    has
+}
+
+/// Whether a dump has this text, in the format that the text has.
+pub(crate) fn spells(rt: &(impl Abort + AllocGlobal), dump: &Dump, text: &[u8]) -> bool {
+    if text.starts_with(b"LBD1") {
+        return dump.recorded().is_none() && has_text(rt, dump.snapshot(), text);
+    }
+    has_dump_text(rt, dump, text)
+}
+
+/// Whether a dump was found that has this text, or this fault.
+pub(crate) fn comes_to(
+    rt: &(impl Abort + AllocGlobal),
+    found: Result<Dump, DumpError>,
+    expected: Result<&[u8], DumpError>,
+) -> bool {
+    let same = match (&found, expected) {
+        (Ok(dump), Ok(text)) => spells(rt, dump, text),
+        (Err(found), Err(fault)) => *found == fault,
+        _ => false,
+    };
+    drop(found);
+    same
+}
+
+/// A text with this byte at an offset.
+pub(crate) fn changed(
+    rt: &(impl Abort + AllocGlobal),
+    text: &[u8],
+    offset: usize,
+    byte: u8,
+) -> Vec<u8> {
+    let mut changed = list(rt, text);
+    if offset < changed.len() {
+        changed[offset] = byte;
+    }
+    changed
+}

@@ -1,0 +1,3 @@
+mod Counting
+pub mod Refusals
+pub mod SamePairs

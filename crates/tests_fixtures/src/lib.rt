@@ -1,0 +1,23 @@
+//! What the tests of several crates are made of.
+//!
+//! - [`Refusing`]: an allocator that hands each request on to another one, but for one request, which it refuses.
+//! - [`each_refusal`], with [`Outcome`] and [`Failure`]: runs an attempt once for each request that it makes, and
+//!   refuses that request.
+//! - [`Source`] and [`Sink`]: a reader and a writer that fail once, in mid-stream.
+//! - [`example`] and its dumps, rows of dumps ([`push_element`]), and [`pe`] and [`round`] by their numbers.
+#![tactic(auto)]
+
+mod attempts;
+mod numbers;
+mod refusing;
+mod requests;
+mod rows;
+mod streams;
+mod worked;
+
+pub use attempts::{Failure, Outcome, each_refusal};
+pub use numbers::{pe, round};
+pub use refusing::Refusing;
+pub use rows::push_element;
+pub use streams::{Sink, Source};
+pub use worked::{EXAMPLE_DUMP, RECORDED_DUMP, example, example_sizes, is_example};

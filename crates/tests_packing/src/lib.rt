@@ -1,0 +1,10 @@
+//! Tests of what a PE packs, and of where elements begin: worked rows, types of a user's own, each refusal, and full
+//! sizes. They use public calls only.
+#![tactic(auto)]
+
+#[cfg(test)]
+mod fixtures;
+#[cfg(test)]
+mod opening;
+#[cfg(test)]
+mod packing;

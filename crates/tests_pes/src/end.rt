@@ -1,0 +1,97 @@
+//! What a run leaves is read where nothing names its array any more: a PE, and a parcel.
+
+ghost use Rattle.std.specs.Prelude.{◌≡◌, ◌∷◌, []};
+
+use crate::fixtures::{index, look_here, pe, relay, start, with_two};
+use chare_index::NoGate;
+use chares::{Carried, LetterId, Openings};
+use pe_state::{HeldParcel, PeEnd, PeState, into_held};
+use std::marker::Brand;
+use std::process::Abort;
+use tests_chares::Relay;
+
+// Element 1 has started: it has posted a letter and owes a note.
+fn started<H: Openings<Relay>>(
+    rt: &(impl Abort + AllocGlobal),
+    first: Relay,
+    second: Relay,
+) -> PeState<Relay, H>
+    requires pes { H.pes ≡ 1 }
+    requires opening { H.opened ≡ first ∷ second ∷ [] }
+{
+    let mut at = with_two::<Relay, H>(rt, first, second);
+    assert!(rt; start(rt, &mut at, &NoGate, 1).is_ok());
+    at
+}
+
+fn left<H: Openings<Relay>>(
+    rt: &(impl Abort + AllocGlobal),
+    first: Relay,
+    second: Relay,
+) -> PeEnd<Relay>
+    requires pes { H.pes ≡ 1 }
+    requires opening { H.opened ≡ first ∷ second ∷ [] }
+{
+    let at = started::<H>(rt, first, second);
+    at.into_end()
+}
+
+// The run is over here, and its PE goes on.
+fn run(rt: &(impl Abort + AllocGlobal), first: Relay, second: Relay) -> PeEnd<Relay> {
+    left::<Brand>(rt, first, second)
+}
+
+// Whether an element stands there that has started.
+fn has_started(rt: &impl Abort, end: &PeEnd<Relay>, e: u32) -> bool {
+    let element = end.room().element(index(rt, e)).expect(rt, "not here");
+    element.progress().started
+}
+
+#[test]
+fn a_pe_is_read_after_its_run(rt: HostRuntime) {
+    let (first, second) = (relay(&rt), relay(&rt));
+    let end = run(&rt, first, second);
+    assert!(rt; end.me() == pe(&rt, 0) && end.n() == 2 && end.count() == 1);
+    assert!(rt; end.hand().is_none() && end.shelf().is_empty() && end.kept().is_none());
+    assert!(rt; end.outbox().len() == 1 && end.notes().len() == 1 && end.room().len() == 2);
+    assert!(rt; !has_started(&rt, &end, 0) && has_started(&rt, &end, 1));
+    drop(end);
+}
+
+// The letter of element 1 leaves its PE.
+fn sent<H: Openings<Relay>>(
+    rt: &(impl Abort + AllocGlobal),
+    first: Relay,
+    second: Relay,
+) -> HeldParcel
+    requires pes { H.pes ≡ 1 }
+    requires opening { H.opened ≡ first ∷ second ∷ [] }
+{
+    let mut at = started::<H>(rt, first, second);
+    look_here(&mut at);
+    assert!(rt; at.front_out().is_some());
+    let parcel = at.sent();
+    drop(at);
+    into_held(parcel)
+}
+
+// The run is over here, and its parcel goes on.
+fn send(rt: &(impl Abort + AllocGlobal), first: Relay, second: Relay) -> HeldParcel {
+    sent::<Brand>(rt, first, second)
+}
+
+// The number of a letter, or `None` where the parcel is none.
+fn number(parcel: &HeldParcel) -> Option<LetterId> {
+    let Carried::Letter(letter) = parcel else {
+        return None;
+    };
+    Some(letter.id())
+}
+
+#[test]
+fn a_parcel_is_read_after_its_run(rt: HostRuntime) {
+    let (first, second) = (relay(&rt), relay(&rt));
+    let parcel = send(&rt, first, second);
+    assert!(rt; number(&parcel) == Some((pe(&rt, 0), 0)));
+    drop(parcel);
+}

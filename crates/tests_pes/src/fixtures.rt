@@ -1,0 +1,105 @@
+//! What the tests are made of: numbers, a relay, a PE with two elements, and a parcel in its hand. What can't be made ends the
+//! test.
+
+ghost use Rattle.std.specs.Prelude.{◌≡◌, ◌∷◌, [], true};
+
+use chare_index::{Gate, Index, Pe, Round};
+use chares::{Chare, Openings, StateBytes};
+use pe_state::{PeState, StepError};
+use std::alloc::{Allocator, Global};
+use std::fmt::Debug;
+use std::process::Abort;
+use tests_chares::Relay;
+
+/// Ends the test where this does not hold, with what it was to hold for.
+pub(crate) fn assert_for<R: Debug + Copy>(rt: &impl Abort, holds: bool, row: R)
+    ensures held { holds ≡ true }
+{
+    assert!(rt; holds, "{row:?}");
+}
+
+pub(crate) fn pe(rt: &impl Abort, number: u32) -> Pe
+    ensures value { result ≡ number }
+{
+    Pe::new(number).expect(rt, "no such PE")
+}
+
+pub(crate) fn index(rt: &impl Abort, place: u32) -> Index
+    ensures value { result ≡ place }
+{
+    Index::new(place).expect(rt, "no such element")
+}
+
+pub(crate) fn round(rt: &impl Abort, number: u32) -> Round {
+    Round::new(number).expect(rt, "no such round")
+}
+
+pub(crate) fn state_bytes(rt: &impl Abort, bytes: u32) -> StateBytes {
+    StateBytes::new(bytes).expect(rt, "no such length")
+}
+
+/// A relay that starts one letter, which ends where it goes.
+pub(crate) fn relay(rt: &(impl Abort + AllocGlobal)) -> Relay {
+    Relay::with_body(rt.alloc(), 1, &[0]).expect(rt, "no relay")
+}
+
+/// A PE that has no other beside it, with two elements.
+pub(crate) fn with_two<C: Chare<Global>, H: Openings<C>>(
+    rt: &(impl Abort + AllocGlobal),
+    first: C,
+    second: C,
+) -> PeState<C, H>
+    requires pes { H.pes ≡ 1 }
+    requires opening { H.opened ≡ first ∷ second ∷ [] }
+{
+    let (e0, e1) = (index(rt, 0), index(rt, 1));
+    let mut at = PeState::new(rt.alloc(), pe(rt, 0), 1, 2);
+    at.place(e0, first).expect(rt, "out of memory");
+    assert!(rt; at.room().element(e1).is_none());
+    at.place(e1, second).expect(rt, "out of memory");
+    at
+}
+
+/// Starts an element that has not started.
+pub(crate) fn start<C: Chare<Global>, H: Openings<C>, G: Gate>(
+    rt: &impl Abort,
+    at: &mut PeState<C, H>,
+    gate: &G,
+    e: u32,
+) -> Result<(), StepError> {
+    let (index, r0) = (index(rt, e), round(rt, 0));
+    assert!(rt; r0.get() == 0 && at.may_resume(index, r0));
+    at.resume(gate, index, r0)
+}
+
+/// What is looked for, if anything is, is believed to be on this PE.
+pub(crate) fn look_here<C: Chare<A>, H: Openings<C>, A: Allocator + Copy>(
+    at: &mut PeState<C, H, A>,
+) {
+    if at.wants().is_none() {
+        return;
+    }
+    let to = at.me();
+    at.look(to);
+}
+
+// The front of the outbox goes into the hand.
+fn deliver_front<C: Chare<A>, H: Openings<C>, A: Allocator + Copy>(
+    rt: &impl Abort,
+    at: &mut PeState<C, H, A>,
+) {
+    assert!(rt; at.front_out().is_some());
+    let parcel = at.sent();
+    assert!(rt; at.hand().is_none());
+    at.receive(parcel);
+}
+
+/// The front of the outbox goes into the hand, on a PE that has no other beside it.
+pub(crate) fn bring<C: Chare<A>, H: Openings<C>, A: Allocator + Copy>(
+    rt: &impl Abort,
+    at: &mut PeState<C, H, A>,
+) {
+    look_here(at);
+    deliver_front(rt, at);
+    look_here(at);
+}

@@ -1,0 +1,142 @@
+//! A handler that posts two letters, and one that is refused its second.
+
+ghost use Rattle.std.specs.Prelude.{◌≡◌, ◌∷◌, []};
+
+use crate::fixtures::{assert_for, index, pe, start, with_two};
+use chare_index::{Gate, Index, NoGate, Round};
+use chares::{Carried, Chare, Effect, Here, LetterId, Openings, SendError, Sends};
+use pe_state::{Item, PeState, StepError};
+use pup_pack::{Pup, PupError};
+use std::alloc::Allocator;
+use std::marker::{Brand, Model};
+use std::process::Abort;
+
+// A chare that posts two empty letters at each resumption: to itself, and then to another element.
+#[derive(Drop)]
+struct Twice {
+    other: u32,
+}
+
+impl Model for Twice {
+    ghost use Rattle.std.specs.Prelude.{ℕ};
+
+    ghost Value = { ℕ };
+
+    ghost view = { λ t. t.other };
+}
+
+impl<A: Allocator> Pup<A> for Twice {
+    ghost use Rattle.pup_pack.specs.Trips.{u32_trips};
+
+    ghost fits = { λ t. ⟦<u32 as Pup<A>>⟧.fits t };
+
+    ghost counted = { λ t. ⟦<u32 as Pup<A>>⟧.counted t };
+
+    ghost pack = { λ t. ⟦<u32 as Pup<A>>⟧.pack t };
+
+    ghost unpack = { λ bytes. ⟦<u32 as Pup<A>>⟧.unpack bytes };
+
+    ghost round_trip = { u32_trips.trip };
+
+    fn packed_len(&self) -> u32 {
+        <u32 as Pup<A>>::packed_len(&self.other)
+    }
+
+    fn pack_into(&self, out: &mut Vec<u8, A>) -> Result<(), PupError> {
+        self.other.pack_into(out)
+    }
+
+    fn unpack(alloc: A, bytes: &[u8]) -> Result<(Twice, usize), PupError> {
+        let (other, len) = <u32 as Pup<A>>::unpack(alloc, bytes)?;
+        Ok((Twice { other }, len))
+    }
+}
+
+impl<A: Allocator + Copy> Chare<A> for Twice {
+    ghost use Rattle.tests_pes.specs.Twices.{TwiceRefuses, twice_packs, twice_step};
+
+    ghost step = { twice_step };
+
+    ghost refuses = { TwiceRefuses };
+
+    ghost packs = { λ t fit. twice_packs t };
+
+    fn on_letter<G: Gate, P: Drop>(
+        &mut self,
+        _here: &Here<'_, G>,
+        _body: &[u8],
+        _sends: &mut Sends<P, A>,
+    ) -> Result<Effect, SendError> {
+        Ok(Effect {
+            units: 0,
+            at_sync: false,
+            finished: true,
+        })
+    }
+
+    #[tactic(auto, using(chares::proofs::SeveralPosts::posted_twice))]
+    fn on_resume<G: Gate, P: Drop>(
+        &mut self,
+        here: &Here<'_, G>,
+        _round: Round,
+        sends: &mut Sends<P, A>,
+    ) -> Result<Effect, SendError> {
+        sends.put(here.me, &[])?;
+        let other = Index::new(self.other).ok_or(SendError::Stranger)?;
+        sends.put(other, &[])?;
+        Ok(Effect {
+            units: 0,
+            at_sync: true,
+            finished: false,
+        })
+    }
+}
+
+// The number of a letter and its element, or `None` where that is no letter.
+fn numbered(item: Option<&Item>) -> Option<(LetterId, Index)> {
+    let Carried::Letter(letter) = &item?.parcel else {
+        return None;
+    };
+    Some((letter.id(), letter.to()))
+}
+
+// Element 1 starts and posts its two letters, the first that the PE has posted.
+fn start_second<H: Openings<Twice>>(rt: &impl Abort, at: &mut PeState<Twice, H>) {
+    assert!(rt; start(rt, at, &NoGate, 1).is_ok());
+    assert!(rt; at.count() == 2 && at.outbox().len() == 2);
+    let (p0, front, back) = (pe(rt, 0), at.outbox().front(), at.outbox().back());
+    assert!(rt; numbered(front) == Some(((p0, 0), index(rt, 1))));
+    assert!(rt; numbered(back) == Some(((p0, 1), index(rt, 0))));
+}
+
+fn posts_both<H: Openings<Twice>>(rt: &(impl Abort + AllocGlobal), first: Twice, second: Twice)
+    requires pes { H.pes ≡ 1 }
+    requires opening { H.opened ≡ first ∷ second ∷ [] }
+{
+    let mut at = with_two::<Twice, H>(rt, first, second);
+    start_second(rt, &mut at);
+    drop(at);
+}
+
+#[test]
+fn a_handler_posts_two_letters(rt: HostRuntime) {
+    posts_both::<Brand>(&rt, Twice { other: 1 }, Twice { other: 0 });
+}
+
+// Element 0 is refused its second letter, to an element that is not there.
+fn posts_neither<H: Openings<Twice>>(rt: &(impl Abort + AllocGlobal), first: Twice, second: Twice)
+    requires pes { H.pes ≡ 1 }
+    requires opening { H.opened ≡ first ∷ second ∷ [] }
+{
+    let mut at = with_two::<Twice, H>(rt, first, second);
+    let refusal = start(rt, &mut at, &NoGate, 0).err();
+    assert_for(rt, refusal == Some(StepError::Stranger), refusal);
+    assert!(rt; at.count() == 0 && at.outbox().is_empty());
+    start_second(rt, &mut at);
+    drop(at);
+}
+
+#[test]
+fn a_letter_before_a_refused_one_is_taken_back(rt: HostRuntime) {
+    posts_neither::<Brand>(&rt, Twice { other: 2 }, Twice { other: 0 });
+}

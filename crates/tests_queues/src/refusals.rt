@@ -1,0 +1,88 @@
+//! Memory: refused where posts and locations are made, one request after the other, and taken nowhere else.
+
+ghost use Rattle.std.specs.Prelude.{◌≡◌, IfOk};
+
+use crate::seats::two_seats;
+use pe_queues::{Full, Locations, PeCount, Post, PostError};
+use std::alloc::{AllocError, Allocator, Global};
+use std::marker::Brand;
+use std::sync::Wait;
+use std::test::Fail;
+use tests_fixtures::{Failure, Outcome, Refusing, each_refusal, pe};
+
+// No call here makes as many requests.
+const MOST_TURNS: u64 = 40;
+
+// What a post with so many queues and seats comes to.
+fn opens<A: Allocator + Copy>(alloc: A, pes: u32, seats: u32) -> Outcome {
+    match &Post::<u32, A>::new(alloc, pes, seats, 4) {
+        Ok((post, given)) if post.pes() == pes && given.len() == seats as usize => Outcome::Right,
+        Err(PostError::OutOfMemory) => Outcome::Refused,
+        _ => Outcome::Wrong,
+    }
+}
+
+// The number of requests of such a post, each of which was refused and reported.
+fn requests(alloc: Global, pes: u32, seats: u32) -> Result<u64, Failure> {
+    each_refusal(alloc, MOST_TURNS, |lent| opens(lent, pes, seats))
+}
+
+#[test]
+fn each_refused_request_of_a_post_is_told(rt: HostRuntime) -> Result<(), Fail> {
+    assert!(rt; requests(rt.alloc(), 1, 1)? == 9, "one queue and one seat");
+    assert!(rt;
+        requests(rt.alloc(), 1, 2)? == 10,
+        "one queue and two seats"
+    );
+    assert!(rt;
+        requests(rt.alloc(), 2, 1)? == 14,
+        "two queues and one seat"
+    );
+    Ok(())
+}
+
+// Where three elements are, on a run of so many PEs.
+fn locates<P: PeCount, A: Allocator>(alloc: A, pes: u32) -> Outcome
+    requires { (pes ≡ P.pes) × (pes ≡ 2) }
+{
+    match Locations::<P, A>::new(alloc, &[pe(0), pe(1), pe(1)], pes) {
+        Ok(places) if places.len() == 3 && places.pes() == 2 => Outcome::Right,
+        Ok(_) => Outcome::Wrong,
+        Err(AllocError) => Outcome::Refused,
+    }
+}
+
+// The same on two PEs.
+fn locates_on_two(alloc: &Refusing<Global>) -> Outcome {
+    locates::<Brand, _>(alloc, 2)
+}
+
+#[test]
+fn the_refused_request_of_locations_is_told(rt: HostRuntime) -> Result<(), Fail> {
+    let refusals = each_refusal(rt.alloc(), MOST_TURNS, locates_on_two)?;
+    assert!(rt; refusals == 1, "the words");
+    Ok(())
+}
+
+// Whether two values are put, a third one is refused, the first one is taken, and the second one is left.
+fn uses<A: Allocator + Copy, R: Wait>(rt: &R, alloc: A) -> Result<bool, PostError> {
+    let (post, mut first, mut second) = two_seats(alloc, 2)?;
+    let all_put = post.put(rt, &mut first, pe(0), 1u32).is_ok()
+        && post.put(rt, &mut second, pe(0), 2).is_ok()
+        && post.put(rt, &mut first, pe(0), 3) == Err(Full(3))
+        && post.take(rt, &mut second, pe(0)) == Some(1);
+    let all = post.join(first, second);
+    let left = post.settle(rt, all).map_err(|unsettled| unsettled.cause)?;
+    Ok(all_put && left.len() == 1 && left[0].as_slice() == [2].as_slice())
+}
+
+// How many requests are made until a post and its seats are there, and how many until it is settled.
+#[test]
+fn nothing_but_new_takes_memory(rt: HostRuntime) -> Result<(), Fail> {
+    let made = Refusing::new(rt.alloc(), 0);
+    assert!(rt; two_seats::<u32, _>(&made, 2).is_ok());
+    let used = Refusing::new(rt.alloc(), 0);
+    assert!(rt; uses(&rt, &used) == Ok(true));
+    assert!(rt; used.requests() == made.requests());
+    Ok(())
+}

@@ -1,0 +1,120 @@
+//! What the tests start from, whether lists are the same, and how refusals are counted. What can't be made ends the
+//! test.
+
+ghost use Rattle.std.specs.Prelude.{◌≡◌, true};
+
+use block_assignment::CostTable;
+use chain_partition::Prefix;
+use lb_certificates::{Cuts, Loads, Sizes, Snapshot};
+use std::alloc::{AllocError, Allocator, Global};
+use std::fmt::Debug;
+use std::process::Abort;
+use tests_fixtures::{Outcome, Refusing, each_refusal, example, example_sizes};
+
+/// Ends the test where this does not hold, with what it was to hold for.
+pub(crate) fn assert_for<R: Debug + Copy>(rt: &impl Abort, holds: bool, row: R)
+    ensures held { holds ≡ true }
+{
+    assert!(rt; holds, "{row:?}");
+}
+
+/// An allocator that may refuse a request, lent.
+pub(crate) type Lent<'a> = &'a Refusing<Global>;
+
+/// No call here makes as many requests.
+pub(crate) const MOST_TURNS: u64 = 40;
+
+/// Five elements.
+pub(crate) fn five(rt: &(impl Abort + AllocGlobal)) -> Loads {
+    let units = Vec::from_slice(rt.alloc(), &[1, 2, 3, 4, 5]).expect(rt, "out of memory");
+    Loads::new(units).expect(rt, "too many loads")
+}
+
+/// The running sums of five.
+pub(crate) fn sums<A: Allocator>(rt: &(impl Abort + AllocGlobal), alloc: A) -> Prefix<A> {
+    let five = five(rt);
+    let sums = Prefix::of(alloc, &five).expect(rt, "out of memory");
+    drop(five);
+    sums
+}
+
+/// The example.
+pub(crate) fn snapshot<A: Allocator + Copy>(rt: &impl Abort, alloc: A) -> Snapshot<A> {
+    example(alloc).expect(rt, "out of memory")
+}
+
+/// The cuts of the example's two blocks.
+pub(crate) fn cuts(rt: &(impl Abort + AllocGlobal)) -> Cuts {
+    Cuts::new(Vec::from_slice(rt.alloc(), &[0, 2, 3]).expect(rt, "out of memory"))
+}
+
+/// The table of the costs of two blocks, or `None` where these cuts divide the elements into no two.
+pub(crate) fn table_of<A: Allocator + Copy>(
+    alloc: A,
+    sizes: &Sizes,
+    cuts: &Cuts,
+) -> Option<Result<CostTable<A>, AllocError>> {
+    if cuts.as_slice().len() != 3 || !cuts.divides(sizes.len()) {
+        return None;
+    }
+    Some(CostTable::of(alloc, sizes, cuts))
+}
+
+/// The table of the costs of the example's two blocks.
+pub(crate) fn table<A: Allocator + Copy>(
+    rt: &(impl Abort + AllocGlobal),
+    alloc: A,
+) -> CostTable<A> {
+    let sizes = example_sizes(rt.alloc()).expect(rt, "out of memory");
+    let cuts = cuts(rt);
+    let table = table_of(alloc, &sizes, &cuts);
+    drop(cuts);
+    drop(sizes);
+    table.expect(rt, "two blocks").expect(rt, "out of memory")
+}
+
+/// Whether these are the same items.
+pub(crate) fn same<T: PartialEq>(some: &[T], others: &[T]) -> bool {
+    some == others
+}
+
+/// What a copy comes to, which is to be equal to what it was made from.
+pub(crate) fn is_copied<T: PartialEq + Drop>(
+    answer: Result<T, AllocError>,
+    original: &T,
+) -> Outcome {
+    let outcome = match &answer {
+        Ok(copy) if copy == original => Outcome::Right,
+        Ok(_) => Outcome::Wrong,
+        Err(AllocError) => Outcome::Refused,
+    };
+    drop(answer);
+    outcome
+}
+
+/// Asserts that an attempt makes so many requests, for these things, each of which is refused and reported.
+pub(crate) fn assert_requests<F: Fn(&Refusing<Global>) -> Outcome>(
+    rt: &(impl Abort + AllocGlobal),
+    attempt: F,
+    requests: u64,
+    things: &str,
+)
+    requires callable { F.IsAlwaysCallable attempt }
+{
+    let refusals = each_refusal(rt.alloc(), MOST_TURNS, attempt);
+    let refusals = refusals.expect(rt, "a refusal was not told");
+    assert_for(rt, refusals == requests, (things, refusals, requests));
+}
+
+/// Asserts the same of an attempt that reads what was made before it, with memory of its own.
+pub(crate) fn assert_requests_on<T, F: Fn(&Refusing<Global>, &T) -> Outcome>(
+    rt: &(impl Abort + AllocGlobal),
+    attempt: F,
+    on: &T,
+    requests: u64,
+    things: &str,
+)
+    requires callable { F.IsAlwaysCallable attempt }
+{
+    assert_requests(rt, |alloc| attempt(alloc, on), requests, things);
+}

@@ -1,0 +1,46 @@
+//! The reports on the worked dump of `tests_fixtures`.
+
+ghost use Rattle.std.specs.Prelude.{◌≡◌, All, true};
+ghost use Rattle.dump_report.specs.Reports.{IsNumber};
+
+use dump_report::report_dump;
+use lb_replay::Ended;
+use load_report::Style;
+use std::fmt::Debug;
+use std::process::Abort;
+
+/// Ends the test where this does not hold, with what it was to hold for.
+pub(crate) fn assert_for<R: Debug + Copy>(rt: &impl Abort, holds: bool, row: R)
+    ensures held { holds ≡ true }
+{
+    assert!(rt; holds, "{row:?}");
+}
+
+/// Comma-separated values.
+pub(crate) const VALUES: Style = Style {
+    csv: true,
+    moves: false,
+};
+
+/// The values of the worked dump, under the name `three`.
+pub(crate) const THREE: &str = "\"three\",present,2,3,3,2.000,1.500,,,,,,0\n\
+    \"three\",planned,2,3,2,2.000,1.000,2,1,33.333,10,37.037,0\n";
+
+/// Whether a report on these bytes, under the name `three`, is this text and ends so.
+pub(crate) fn reports(
+    rt: &impl AllocGlobal,
+    bytes: &[u8],
+    procs: &[u32],
+    style: Style,
+    text: &str,
+    end: Ended,
+) -> bool
+    requires { All IsNumber procs.now }
+{
+    let mut written = Vec::new(rt.alloc());
+    let mut reader = bytes;
+    let ended = report_dump(rt.alloc(), &mut reader, &mut written, "three", procs, style);
+    let found = ended == end && written.as_slice() == text.as_bytes();
+    drop(written);
+    found
+}

@@ -1,0 +1,13 @@
+//! Tests of whole reports, from the bytes of dumps to the text on them: worked dumps, a fault among several files, a
+//! thousand files, a writer and allocators that fail; and of the words of a command line. The figures were worked out by
+//! hand and by a program that is none of this project's. They use public calls only.
+#![tactic(auto)]
+
+#[cfg(test)]
+mod failures;
+#[cfg(test)]
+mod fixtures;
+#[cfg(test)]
+mod reports;
+#[cfg(test)]
+mod words;

@@ -1,0 +1,34 @@
+//! Tests of runs over threads: worked examples whose results come from outside, runs that end early, queues with little
+//! room, loads at their limit, refused memory, full sizes, and random runs after which each letter is found by hand.
+#![tactic(auto)]
+
+#[cfg(test)]
+mod ends_early;
+#[cfg(test)]
+mod errand;
+#[cfg(test)]
+mod fixtures;
+#[cfg(test)]
+mod found;
+#[cfg(test)]
+mod heavy;
+#[cfg(test)]
+mod narrow;
+#[cfg(test)]
+mod numbers;
+#[cfg(test)]
+mod random;
+#[cfg(test)]
+mod refused_memory;
+#[cfg(test)]
+mod repeats;
+#[cfg(test)]
+mod sizes;
+#[cfg(test)]
+mod tallies;
+#[cfg(test)]
+mod together;
+#[cfg(test)]
+mod watched;
+#[cfg(test)]
+mod worked;

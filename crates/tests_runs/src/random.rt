@@ -1,0 +1,167 @@
+//! Random small runs, after each of which every letter and every element is found by hand.
+
+use crate::fixtures::assert_for;
+use crate::found::compare;
+use chare_index::NoGate;
+use chares::Chare;
+use rts_run::{Config, Fault, Outcome, run};
+use std::alloc::Global;
+use std::process::Abort;
+use std::sync::Wait;
+use std::thread::Threads;
+use tally::Tally;
+use tests_chares::{Courier, Relay};
+
+// How often each of the three chares is run.
+const TURNS: u32 = 100;
+
+// The xorshift generator of 64 bits of G. Marsaglia, "Xorshift RNGs", Journal of Statistical Software 8(14), 2003.
+#[derive(Drop)]
+struct Draw {
+    state: u64,
+}
+
+impl Draw {
+    fn new() -> Draw {
+        Draw {
+            state: 88_172_645_463_325_252,
+        }
+    }
+
+    // A number below this one, or 0.
+    fn below(&mut self, bound: u32) -> u32 {
+        let mut state = self.state;
+        state ^= state << 13;
+        state ^= state >> 7;
+        state ^= state << 17;
+        self.state = state;
+        let high = u32::try_from(state >> 32).unwrap_or(0);
+        high.checked_rem(bound).unwrap_or(0)
+    }
+
+    // From 1 up to this number.
+    fn up_to(&mut self, most: u32) -> u32 {
+        self.below(most).saturating_add(1)
+    }
+
+    // The limits of a run on up to six PEs, with room for up to four parcels before each. Its workers give up at once, soon
+    // or late.
+    fn config(&mut self) -> Config {
+        let turns = match self.below(5) {
+            0 => 1,
+            1 => 5,
+            2 => 50,
+            _ => 1_000,
+        };
+        Config {
+            pes: self.up_to(6),
+            capacity: self.up_to(4),
+            turns,
+            probe_workers: self.up_to(2),
+        }
+    }
+
+    // Up to eight tallies of three amounts.
+    fn tallies(&mut self, rt: &(impl Abort + AllocGlobal)) -> Vec<Tally> {
+        let mut chares = Vec::new(rt.alloc());
+        for _ in 0..self.up_to(8) {
+            let amounts = [self.below(9), self.below(9), self.below(9)];
+            let next = Tally::with_amounts(rt.alloc(), &amounts, 0).expect(rt, "no tally");
+            chares.push(next).expect(rt, "out of memory");
+        }
+        chares
+    }
+
+    // Up to eight relays of three rounds, whose letters are handed on up to twice.
+    fn relays(&mut self, rt: &(impl Abort + AllocGlobal)) -> Vec<Relay> {
+        let mut chares = Vec::new(rt.alloc());
+        for _ in 0..self.up_to(8) {
+            let (first, second) = (self.below(256), self.below(256));
+            let body = [
+                u8::try_from(first).unwrap_or(0),
+                u8::try_from(second).unwrap_or(0),
+            ];
+            let next = Relay::with_body(rt.alloc(), 3, &body).expect(rt, "no relay");
+            chares.push(next).expect(rt, "out of memory");
+        }
+        chares
+    }
+
+    // Up to eight couriers, some to no element, and some with too long a body.
+    fn couriers(&mut self, rt: &(impl Abort + AllocGlobal)) -> Vec<Courier> {
+        let n = self.up_to(8);
+        let mut chares = Vec::new(rt.alloc());
+        for _ in 0..n {
+            let to = self.below(n.saturating_add(1));
+            let len = if self.below(12) == 0 { 1_025 } else { 4 };
+            let next = Courier::with_zeros(rt.alloc(), to, self.below(4).min(1), len).expect(
+                rt,
+                "no courier",
+            );
+            chares.push(next).expect(rt, "out of memory");
+        }
+        chares
+    }
+}
+
+// Whether every element of a run has finished.
+fn have_finished<C: Chare<Global>>(outcome: &Outcome<C>, n: u32) -> bool {
+    let mut all = true;
+    for i in 0..n {
+        all &= outcome.board().has_finished(i) == Some(true);
+    }
+    all
+}
+
+// Runs these chares, and finds all that is left. Where there is no fault every element has finished.
+fn run_and_find<C: Chare<Global> + Send, R: Threads + Wait + Sync + Abort + AllocGlobal>(
+    rt: &R,
+    config: &Config,
+    chares: Vec<C>,
+) -> Option<Fault> {
+    let n = chares.len();
+    let outcome = run(rt, rt.alloc(), config, &NoGate, chares).expect(rt, "the run did not begin");
+    compare(rt, &outcome, n);
+    let fault = outcome.fault();
+    if fault == None {
+        let elements = u32::try_from(n).expect(rt, "too many elements");
+        assert_for(rt, have_finished(&outcome, elements), *config);
+    }
+    drop(outcome);
+    fault
+}
+
+#[test]
+fn each_letter_of_a_run_of_tallies_is_found(rt: HostRuntime) {
+    let mut draw = Draw::new();
+    for _ in 0..TURNS {
+        let (config, chares) = (draw.config(), draw.tallies(&rt));
+        let fault = run_and_find(&rt, &config, chares);
+        let may = fault == None || fault == Some(Fault::Idle);
+        assert_for(&rt, may, (config, fault));
+    }
+}
+
+#[test]
+fn each_letter_of_a_run_of_relays_is_found(rt: HostRuntime) {
+    let mut draw = Draw::new();
+    for _ in 0..TURNS {
+        let (config, chares) = (draw.config(), draw.relays(&rt));
+        let fault = run_and_find(&rt, &config, chares);
+        let may = fault == None || fault == Some(Fault::Idle);
+        assert_for(&rt, may, (config, fault));
+    }
+}
+
+#[test]
+fn each_letter_of_a_run_of_couriers_is_found(rt: HostRuntime) {
+    let (mut draw, mut refused) = (Draw::new(), 0u32);
+    for _ in 0..TURNS {
+        let (config, chares) = (draw.config(), draw.couriers(&rt));
+        let fault = run_and_find(&rt, &config, chares);
+        if fault == Some(Fault::Stranger) || fault == Some(Fault::TooLong) {
+            refused = refused.saturating_add(1);
+        }
+    }
+    assert_for(&rt, refused > 0, refused);
+}

@@ -1,0 +1,92 @@
+//! The worked example, with each of its requests for memory refused in turn.
+
+use crate::fixtures::{assert_for, patient};
+use crate::tallies::{EXAMPLE, EXAMPLE_TEXT, tallies, text_of};
+use chare_index::NoGate;
+use rts_run::{Fault, Outcome, RunError, run};
+use std::alloc::Global;
+use std::process::Abort;
+use std::sync::Wait;
+use std::thread::Threads;
+use tally::Tally;
+use tests_fixtures::Refusing;
+
+// No run here makes as many requests.
+const MOST_TURNS: u64 = 2_000;
+
+// A tally, and what a run of tallies leaves, with this allocator.
+type Lent<'a> = &'a Refusing<Global>;
+
+// How often a run did not begin, ended early, and ended well though a request was refused.
+#[derive(Default, Drop)]
+struct Counts {
+    refused: u64,
+    early: u64,
+    well: u64,
+}
+
+// What is left is whole, whether or not a request was refused, and it is the worked example where there is no fault.
+fn expect_whole<'a>(
+    rt: &(impl Abort + AllocGlobal),
+    outcome: &Outcome<Tally<Lent<'a>>, Lent<'a>>,
+    turn: u64,
+) {
+    assert_for(rt, outcome.ends().len() == 2, turn);
+    assert_for(rt, outcome.left().len() == 2, turn);
+    let account = outcome.account();
+    let whole = account.executed.checked_add(account.held);
+    assert_for(rt, whole == Some(account.posted), (turn, account));
+    let fault = outcome.fault();
+    if fault == None {
+        let text = text_of(rt, outcome);
+        assert_for(rt, text.as_str() == EXAMPLE_TEXT, turn);
+    } else {
+        assert_for(rt, fault == Some(Fault::OutOfMemory), (turn, fault));
+    }
+}
+
+// A run in which this request is refused, and whether it was made.
+fn refuses<R: Threads + Wait + Sync + Abort + AllocGlobal>(
+    rt: &R,
+    counts: &mut Counts,
+    turn: u64,
+) -> bool {
+    let alloc = Refusing::new(rt.alloc(), turn);
+    let Ok(chares) = tallies(&alloc, &EXAMPLE) else {
+        return true;
+    };
+    match run(rt, &alloc, &patient(2, 1_024), &NoGate, chares) {
+        Ok(outcome) => {
+            expect_whole(rt, &outcome, turn);
+            if outcome.fault() == None {
+                counts.well = counts.well.saturating_add(1);
+            } else {
+                counts.early = counts.early.saturating_add(1);
+            }
+            drop(outcome);
+        }
+        Err(error) => {
+            assert_for(rt, error == RunError::OutOfMemory, (turn, error));
+            counts.refused = counts.refused.saturating_add(1);
+        }
+    }
+    alloc.has_refused()
+}
+
+#[test]
+fn each_request_of_a_run(rt: HostRuntime) {
+    let mut counts = Counts::default();
+    for turn in 1..MOST_TURNS {
+        if !refuses(&rt, &mut counts, turn) {
+            break;
+        }
+    }
+    let Counts {
+        refused,
+        early,
+        well,
+    } = counts;
+    let found = (refused, early, well);
+    assert_for(&rt, refused > 10 && early > 10 && well > 0, found);
+    assert_for(&rt, refused.saturating_add(early) < MOST_TURNS - 100, found);
+}

@@ -1,0 +1,117 @@
+//! Runs of tallies, and what is printed of them: a line for each round, their sums, and the account.
+
+use chare_index::{Index, NoGate};
+use pup_pack::PupError;
+use rts_run::{Config, Outcome, run};
+use std::alloc::{AllocError, Allocator};
+use std::process::Abort;
+use std::sync::Wait;
+use std::thread::Threads;
+use tally::Tally;
+
+/// The amounts of each tally, one for each round, and so many bytes of padding.
+pub(crate) type Amounts<'a> = (&'a [&'a [u32]], usize);
+
+/// The tallies with these amounts.
+pub(crate) fn tallies<A: Allocator + Copy>(
+    alloc: A,
+    amounts: &Amounts<'_>,
+) -> Result<Vec<Tally<A>, A>, PupError> {
+    let (each, pad) = amounts;
+    let mut tallies = Vec::new(alloc);
+    for own in *each {
+        let next = Tally::with_amounts(alloc, *own, *pad)?;
+        tallies.push(next)?;
+    }
+    Ok(tallies)
+}
+
+/// Runs the tallies with these amounts.
+pub(crate) fn run_tallies<R: Threads + Wait + Sync + Abort + AllocGlobal>(
+    rt: &R,
+    config: &Config,
+    amounts: &Amounts<'_>,
+) -> Outcome<Tally> {
+    let chares = tallies(rt.alloc(), amounts).expect(rt, "no tallies");
+    run(rt, rt.alloc(), config, &NoGate, chares).expect(rt, "the run did not begin")
+}
+
+/// The sum of a tally, or `None` where it stands on no PE.
+pub(crate) fn sum_of<A: Allocator + Copy>(outcome: &Outcome<Tally<A>, A>, e: Index) -> Option<u64> {
+    for end in outcome.ends() {
+        if let Some(element) = end.room().element(e) {
+            return Some(element.chare().sum());
+        }
+    }
+    None
+}
+
+// Adds the line of each round.
+fn push_rounds<A: Allocator + Copy>(
+    text: &mut String,
+    outcome: &Outcome<Tally<A>, A>,
+) -> Result<(), AllocError> {
+    for (snapshot, decision) in outcome.rounds() {
+        let (round, bottleneck) = (snapshot.step(), decision.division.bottleneck);
+        let moved = decision.moved;
+        writeln!(text, "round {round} bottleneck {bottleneck} moved {moved}")?;
+    }
+    Ok(())
+}
+
+// Adds the sums of all tallies that stand on a PE, in order.
+fn push_sums<A: Allocator + Copy>(
+    text: &mut String,
+    outcome: &Outcome<Tally<A>, A>,
+) -> Result<(), AllocError> {
+    text.push_str("sums")?;
+    for i in 0..65_536u32 {
+        let Some(e) = Index::new(i) else {
+            break;
+        };
+        let Some(sum) = sum_of(outcome, e) else {
+            break;
+        };
+        write!(text, " {sum}")?;
+    }
+    text.push_str("\n")
+}
+
+// Adds the account.
+fn push_account<A: Allocator + Copy>(
+    text: &mut String,
+    outcome: &Outcome<Tally<A>, A>,
+) -> Result<(), AllocError> {
+    let account = outcome.account();
+    let (posted, executed, held) = (account.posted, account.executed, account.held);
+    writeln!(text, "posted {posted} executed {executed} held {held}")
+}
+
+// All of it.
+fn push_all<A: Allocator + Copy>(
+    text: &mut String,
+    outcome: &Outcome<Tally<A>, A>,
+) -> Result<(), AllocError> {
+    push_rounds(text, outcome)?;
+    push_sums(text, outcome)?;
+    push_account(text, outcome)
+}
+
+/// What is printed of a run.
+pub(crate) fn text_of<A: Allocator + Copy>(
+    rt: &(impl Abort + AllocGlobal),
+    outcome: &Outcome<Tally<A>, A>,
+) -> String {
+    let mut text = String::new(rt.alloc());
+    push_all(&mut text, outcome).expect(rt, "out of memory");
+    text
+}
+
+/// The amounts of the worked example.
+pub(crate) const EXAMPLE: Amounts<'static> = (&[&[1, 2], &[1, 2], &[2, 2], &[6, 2]], 8);
+
+/// What is printed of the worked example.
+pub(crate) const EXAMPLE_TEXT: &str = "round 1 bottleneck 6 moved 40\n\
+    round 2 bottleneck 4 moved 40\n\
+    sums 8 3 3 4\n\
+    posted 8 executed 8 held 0\n";

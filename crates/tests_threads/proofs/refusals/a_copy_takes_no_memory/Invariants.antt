@@ -1,0 +1,4 @@
+use Rattle.tests_threads.proofs.refusals.a_copy_takes_no_memory.Given as goal
+
+abbrev pub ghosts-copy_requests : goal.ghosts-copy_requests
+ghosts-copy_requests g a = record { elements = 2; pes = 2 }

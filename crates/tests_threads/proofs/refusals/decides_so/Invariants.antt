@@ -1,0 +1,4 @@
+use Rattle.tests_threads.proofs.refusals.decides_so.Given as goal
+
+abbrev pub ghosts-decides : goal.ghosts-decides
+ghosts-decides g a = record { elements = 2; pes = 2 }

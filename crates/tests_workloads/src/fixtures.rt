@@ -1,0 +1,55 @@
+//! What the tests here are made of: the worked workload, and runs from bytes to bytes.
+
+ghost use Rattle.std.specs.Prelude.{◌≡◌, true};
+
+use std::alloc::Global;
+use std::fmt::Debug;
+use std::process::Abort;
+use std::sync::Wait;
+use std::thread::Threads;
+use workload_run::{Driven, Ended, drive};
+
+/// The worked workload.
+pub(crate) const WORKED: &[u8] =
+    b"pes 2\nrounds 2\npad 8\nchares 4\namounts 1 1 2 6\namounts 2 2 2 2\n";
+
+/// What is printed of its run.
+pub(crate) const WORKED_TEXT: &str = "round 1 bottleneck 6 moved 40\n\
+    round 2 bottleneck 4 moved 40\n\
+    sums 8 3 3 4\n\
+    posted 8 executed 8 held 0\n";
+
+/// After how many idle turns a worker gives up.
+pub(crate) const TURNS: u64 = 1_000_000_000;
+
+/// Ends the test where this does not hold, with what it was to hold for.
+pub(crate) fn assert_for<R: Debug + Copy>(rt: &impl Abort, holds: bool, row: R)
+    ensures held { holds ≡ true }
+{
+    assert!(rt; holds, "{row:?}");
+}
+
+/// What came of a workload, and what was written.
+pub(crate) fn driven<R: Threads + Wait + Sync + Abort + AllocGlobal>(
+    rt: &R,
+    workload: &[u8],
+) -> (Driven<Global>, Vec<u8>) {
+    let mut reader = workload;
+    let mut text = Vec::new(rt.alloc());
+    let driven = drive(rt, rt.alloc(), &mut reader, &mut text, TURNS);
+    (driven, text)
+}
+
+/// Whether the run of a workload ends so, with this status, and writes just this.
+pub(crate) fn tells<R: Threads + Wait + Sync + Abort + AllocGlobal>(
+    rt: &R,
+    workload: &[u8],
+    ended: Ended,
+    status: u8,
+    text: &str,
+) -> bool {
+    let (driven, written) = driven(rt, workload);
+    let right = driven.ended == ended && driven.status() == status;
+    drop(driven);
+    right && written.as_slice() == text.as_bytes()
+}

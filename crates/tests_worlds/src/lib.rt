@@ -1,0 +1,28 @@
+//! Tests of the runtime: worlds event by event, what elements report, and what is decided for them. They use public
+//! calls only, on worked examples whose results come from outside, and on full sizes.
+#![tactic(auto)]
+
+#[cfg(test)]
+mod bodies;
+#[cfg(test)]
+mod empty;
+#[cfg(test)]
+mod errors;
+#[cfg(test)]
+mod example;
+#[cfg(test)]
+mod fixtures;
+#[cfg(test)]
+mod opening;
+#[cfg(test)]
+mod random;
+#[cfg(test)]
+mod requests;
+#[cfg(test)]
+mod scripts;
+#[cfg(test)]
+mod seen;
+#[cfg(test)]
+mod steps;
+#[cfg(test)]
+mod waiting;

@@ -1,0 +1,181 @@
+//! Worlds that are opened, and taken through events one by one.
+
+ghost use Rattle.std.specs.Prelude.{◌≡◌};
+
+use crate::fixtures::assert_for;
+use chare_index::Pe;
+use chares::{Carried, Chare, Entry, Letter, Openings, TraceEntry};
+use rts_core::{
+    Account, Event, HeldParcel, Parcel, PeState, Queue, Reports, Room, StepError, World,
+};
+use std::alloc::{AllocError, Allocator};
+use std::process::Abort;
+
+/// An event, and its reports in order.
+pub(crate) type Step<'a> = (Event, &'a [TraceEntry]);
+
+/// An event had just these reports.
+pub(crate) fn expect_reports<A: Allocator>(
+    rt: &impl Abort,
+    event: &Event,
+    found: &Reports<A>,
+    want: &[TraceEntry],
+) {
+    let reports = found.as_slice();
+    let counted = found.len() == want.len() && found.is_empty() == want.is_empty();
+    assert_for(rt, reports == want && counted, (event, reports));
+}
+
+// Takes one step, which has just these reports, and returns whether it was refused once for memory. Then the account is
+// as before, and the same event has its reports.
+fn take_one<C: Chare<A>, H: Openings<C>, A: Allocator + Copy>(
+    rt: &impl Abort,
+    world: &mut World<C, H, A>,
+    event: &Event,
+    want: &[TraceEntry],
+) -> bool {
+    let before = account(world);
+    let refused = match world.step(*event) {
+        Ok(reports) => {
+            expect_reports(rt, event, &reports, want);
+            return false;
+        }
+        Err(error) => error,
+    };
+    assert_for(rt, refused == StepError::OutOfMemory, (*event, refused));
+    assert_for(rt, account(world) == before, *event);
+    let reports = world.step(*event).expect(rt, "refused again");
+    expect_reports(rt, event, &reports, want);
+    true
+}
+
+/// Takes these steps in turn, each of which has just these reports, and returns whether one was refused for memory.
+pub(crate) fn take<C: Chare<A>, H: Openings<C>, A: Allocator + Copy>(
+    rt: &impl Abort,
+    world: &mut World<C, H, A>,
+    steps: &[Step<'_>],
+) -> bool {
+    let mut refused = false;
+    for (event, want) in steps {
+        refused |= take_one(rt, world, event, *want);
+    }
+    refused
+}
+
+/// The same, where nothing is refused.
+pub(crate) fn run<C: Chare<A>, H: Openings<C>, A: Allocator + Copy>(
+    rt: &impl Abort,
+    world: &mut World<C, H, A>,
+    steps: &[Step<'_>],
+) {
+    assert!(rt; !take(rt, world, steps), "refused");
+}
+
+// How many letters were posted, executed, and are held, counted one by one where they are.
+fn account<C: Chare<A>, H: Openings<C>, A: Allocator + Copy>(
+    world: &World<C, H, A>,
+) -> (u64, u64, u64) {
+    let mut count = Count::default();
+    for p in 0..256 {
+        let Some(p) = Pe::new(p) else {
+            continue;
+        };
+        if let (Some(pe), Some(queue)) = (world.pe(p), world.queue(p)) {
+            count.pe(pe);
+            count.queue(queue);
+        }
+    }
+    (count.posted, count.executed, count.held)
+}
+
+/// Whether so many letters were posted, executed, and are held, both counted one by one and as the world counts.
+pub(crate) fn has_account<C: Chare<A>, H: Openings<C>, A: Allocator + Copy>(
+    world: &World<C, H, A>,
+    posted: u64,
+    executed: u64,
+    held: u64,
+) -> bool {
+    let told = Account {
+        posted,
+        executed,
+        held,
+    };
+    account(world) == (posted, executed, held) && world.account() == told
+}
+
+/// A world that opens with these chares.
+pub(crate) fn opened<C: Chare<A>, H: Openings<C>, A: Allocator + Copy>(
+    rt: &impl Abort,
+    alloc: A,
+    pes: u32,
+    chares: Vec<C, A>,
+) -> Result<World<C, H, A>, AllocError>
+    requires run { pes ≡ H.pes }
+    requires opened { chares.items ≡ H.opened }
+{
+    assert!(rt; 1 <= pes && pes <= 256, "no such number of PEs");
+    assert!(rt; chares.len() <= 65_536, "too many elements");
+    World::new(alloc, pes, chares)
+}
+
+// Letters counted one by one. So few are posted here that no count wraps.
+#[derive(Default, Drop)]
+struct Count {
+    posted: u64,
+    executed: u64,
+    held: u64,
+}
+
+impl Count {
+    // Counts the letters of a journal.
+    fn journal<A: Allocator>(&mut self, journal: &[Entry<Letter<A>>]) {
+        for entry in journal {
+            if matches!(entry, Entry::Letter(_)) {
+                self.executed = self.executed.wrapping_add(1);
+            }
+        }
+    }
+
+    // Counts a letter that is carried, or those that an element on its way has executed.
+    fn parcel<C: Chare<A>, H: Openings<C>, A: Allocator>(&mut self, parcel: &Parcel<C, H, A>) {
+        match parcel {
+            Carried::Letter(_) => self.held = self.held.wrapping_add(1),
+            Carried::Element(element) => self.journal(element.journal()),
+        }
+    }
+
+    // So of a parcel that a PE holds.
+    fn held_parcel<A: Allocator>(&mut self, parcel: &HeldParcel<A>) {
+        match parcel {
+            Carried::Letter(_) => self.held = self.held.wrapping_add(1),
+            Carried::Element(element) => self.journal(element.journal()),
+        }
+    }
+
+    // Counts the letters of a queue.
+    fn queue<C: Chare<A>, H: Openings<C>, A: Allocator>(&mut self, queue: &Queue<C, H, A>) {
+        for parcel in queue.parcels().iter() {
+            self.parcel(parcel);
+        }
+    }
+
+    // Counts the letters that the elements in a room have executed.
+    fn room<C: Chare<A>, A: Allocator>(&mut self, room: &Room<C, A>) {
+        for (_, element) in room.iter() {
+            self.journal(element.journal());
+        }
+    }
+
+    // Counts the letters of a PE.
+    fn pe<C: Chare<A>, H: Openings<C>, A: Allocator>(&mut self, pe: &PeState<C, H, A>) {
+        self.posted = self.posted.wrapping_add(pe.count());
+        self.held = self.held.wrapping_add(pe.shelf().len() as u64);
+        if let Some(item) = pe.hand() {
+            self.held_parcel(&item.parcel);
+        }
+        for item in pe.outbox().iter() {
+            self.held_parcel(&item.parcel);
+        }
+        self.room(pe.room());
+    }
+}

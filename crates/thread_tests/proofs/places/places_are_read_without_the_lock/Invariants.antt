@@ -1,4 +1,0 @@
-use Rattle.thread_tests.proofs.places.places_are_read_without_the_lock.Given as goal
-
-abbrev pub ghosts-passes : goal.ghosts-passes
-ghosts-passes g a = record { elements = 2; pes = 2 }

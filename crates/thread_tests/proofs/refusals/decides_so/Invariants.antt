@@ -1,4 +1,0 @@
-use Rattle.thread_tests.proofs.refusals.decides_so.Given as goal
-
-abbrev pub ghosts-decides : goal.ghosts-decides
-ghosts-decides g a = record { elements = 2; pes = 2 }

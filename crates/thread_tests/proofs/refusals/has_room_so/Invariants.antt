@@ -1,4 +1,0 @@
-use Rattle.thread_tests.proofs.refusals.has_room_so.Given as goal
-
-abbrev pub ghosts-has_room : goal.ghosts-has_room
-ghosts-has_room a = record { elements = 2; pes = a.pes }
