@@ -54,7 +54,7 @@ with_word old new arg app rule is added fits ruled = added.shape fits.1 ∙ ap (
 
 pub returns-clause-program : goal.returns-clause-program
 returns-clause-program c =
-    let one = with_word c.about-command.result c.in_ok-command.command c.file.result versioned file_rule (search rules) c.in_ok-command.ensures c.file.ensures.fits c.file.ensures.rule in
+    let one = with_word c.after_help-command.result c.in_ok-command.command c.file.result versioned file_rule (search rules) c.in_ok-command.ensures c.file.ensures.fits c.file.ensures.rule in
     let two = with_word _ c.in_ok-command-2.command c.procs.result _ procs_rule one c.in_ok-command-2.ensures c.procs.ensures.fits c.procs.ensures.rule in
     IfOk-weaker c.arg-3.result _ _ (λ command added.
     with_word _ command c.check.result _ check_rule two added c.check.ensures.fits c.check.ensures.rule) c.arg-3.ensures
@@ -68,7 +68,7 @@ returns-clause-named c =
     } in
     IfOk-weaker c.arg-3.result _ _ (λ command added m parsed.
     subst (λ id. is_some (first_value (found_of m) id) ≡ true) named.file_id
-    (required_in_chain c.about-command.result command (chain c.file.result c.procs.result c.check.result) 0 c.file.result m
+    (required_in_chain c.after_help-command.result command (chain c.file.result c.procs.result c.check.result) 0 c.file.result m
     (c.in_ok-command.command, c.in_ok-command.ensures, (c.in_ok-command-2.command, c.in_ok-command-2.ensures, (command, added, refl)))
     (search rules) (search rules) (search rules) (search rules)
     (all_fit _ _ _ c.file.ensures.fits c.procs.ensures.fits c.check.ensures.fits)
