@@ -26,6 +26,15 @@ const TURNS: u64 = 1_000_000_000;
 /// The line where a dump was not written.
 const NO_DUMP: &str = "dump: write failed\n";
 
+/// What to do about a file that cannot be read.
+const READABLE: &str = "give a file with a workload that you may read, or /dev/stdin for the standard input";
+
+/// What to do about a file whose text is not that of a workload.
+const RIGHT: &str = "give a workload: pes, rounds, pad and chares, a line each, and then the amounts of each round";
+
+/// The status where the file cannot be read, or its workload has a fault.
+const FAULT: u8 = 3;
+
 /// The status where output was not written.
 const NO_OUTPUT: u8 = 5;
 
@@ -56,7 +65,8 @@ fn main(rt: HostRuntime) -> ExitCode {
 }
 
 // Opens the workload, runs it to the standard output, writes the dumps that are asked for, and returns the status. Where a
-// read failed, the standard error has the file's name and the system's reason.
+// read failed or the file has no right workload, the standard error has the file's name, the system's reason, and what to
+// do.
 fn ran<R: Threads + Wait + Sync + Files + Clock + Print + Eprint + AllocGlobal>(
     rt: &R,
     asked: &Asked<'_>,
@@ -67,9 +77,11 @@ fn ran<R: Threads + Wait + Sync + Files + Clock + Print + Eprint + AllocGlobal>(
     let mut writer = io::writer(rt);
     let (driven, reason) = drive_file(rt, rt.alloc(), file, &mut writer, TURNS, &progress);
     progress.finish();
-    if let Some(reason) = reason {
-        let _ = eprintln!(rt; "charm_run: {}: {reason}", asked.file);
-    }
+    let _ = match reason {
+        Some(reason) => eprintln!(rt; "charm_run: {}: {reason}; {READABLE}", asked.file),
+        None if driven.status() == FAULT => eprintln!(rt; "charm_run: {}: {RIGHT}", asked.file),
+        None => Ok(()),
+    };
     let format = DumpFormat::asked(asked.lbd1);
     match asked.dump {
         Some(prefix) if !dumped(rt, &driven, format, prefix) => {

@@ -55,7 +55,7 @@ fn command<'a>(alloc: Global) -> Result<Command<'a>, AllocError>
     ensures named { IfOk result NamesFile }
 {
     let command = Command::new(alloc, "lb_sim")
-        .version("0.1.0")
+        .version("0.2.0")
         .about(ABOUT)
         .after_help(HOW_TO);
     let command = command.arg(file(alloc))?;

@@ -26,7 +26,7 @@ pub(crate) fn read_options<'a>(alloc: Global, words: &'a [&'a str]) -> Result<Ru
 
 fn command<'a>(alloc: Global) -> Result<Command<'a>, AllocError> {
     let command = Command::new(alloc, "hot_spot")
-        .version("0.1.0")
+        .version("0.2.0")
         .about(ABOUT)
         .after_help(HOW_TO);
     let command = command.arg(elements(alloc))?;

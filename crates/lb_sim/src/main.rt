@@ -19,6 +19,15 @@ use std::fs::File;
 use std::process::ExitCode;
 use std::{env, io};
 
+/// The status where the file cannot be read, or its dump has a fault.
+const FAULT: u8 = 3;
+
+/// What to do about a file that cannot be read.
+const READABLE: &str = "give a file with a dump that you may read, or /dev/stdin for the standard input";
+
+/// What to do about a file without a whole dump.
+const WHOLE: &str = "give a whole dump, which begins with LBD1 or LBD2: charm_run --dump writes them";
+
 fn main(rt: HostRuntime) -> ExitCode {
     let Ok(args) = env::args(&rt) else {
         return ExitCode::from(NO_WORDS);
@@ -54,15 +63,17 @@ fn done(rt: &HostRuntime, asked: Asked<'_>) -> u8
     ran(rt, asked.file, task)
 }
 
-// Opens the file, does the task to the standard output, and returns the status. Where a read failed, the standard error
-// has the file's name and the system's reason.
+// Opens the file, does the task to the standard output, and returns the status. Where a read failed or the file has no
+// whole dump, the standard error has the file's name, the system's reason, and what to do.
 fn ran(rt: &HostRuntime, name: &str, task: Task) -> u8
     requires { MayRun task }
 {
     let file = File::open(rt, name);
     let (status, reason) = run(rt.alloc(), task, file, &mut io::writer(rt));
-    if let Some(reason) = reason {
-        let _ = eprintln!(rt; "lb_sim: {name}: {reason}");
-    }
+    let _ = match reason {
+        Some(reason) => eprintln!(rt; "lb_sim: {name}: {reason}; {READABLE}"),
+        None if status == FAULT => eprintln!(rt; "lb_sim: {name}: {WHOLE}"),
+        None => Ok(()),
+    };
     status
 }

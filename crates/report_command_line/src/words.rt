@@ -47,7 +47,7 @@ fn command<'a>(alloc: Global) -> Result<Command<'a>, AllocError>
     ensures program { IfOk result (λ command. app_of command ≡ program) }
 {
     let command = Command::new(alloc, "lb_report")
-        .version("0.1.0")
+        .version("0.2.0")
         .about(ABOUT)
         .after_help(HOW_TO);
     let command = command.arg(files(alloc))?;
