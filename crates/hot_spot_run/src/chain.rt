@@ -27,7 +27,8 @@ pub fn run_chain<R: Threads + Wait + Sync, A: Allocator + Copy + Send + Sync>(
     chain: &Chain<'_>,
 ) -> Result<Outcome<Strip<A>, A>, ChainError>
     ensures account { IfOk result (λ o. IsRunAccount strip_step (opening_strips chain.now.mode chain.now.rounds chain.now.work 0 chain.now.cells.now) (left_world o.ends o.left)) }
-    ensures histories { IfOk result (λ o. AreHistories strip_step ⟦<Strip<A> as Pup<A>>⟧.fits ⟦<Strip<A> as Pup<A>>⟧.pack (opening_strips chain.now.mode chain.now.rounds chain.now.work 0 chain.now.cells.now) (left_world o.ends o.left)) }
+    ensures histories { IfOk result (λ o. AreHistories strip_step ⟦<Strip<A> as Pup<A>>⟧.fits ⟦<Strip<A> as Pup<A>>⟧.pack
+        (opening_strips chain.now.mode chain.now.rounds chain.now.work 0 chain.now.cells.now) (left_world o.ends o.left)) }
 {
     let strips = chain.strips(alloc)?;
     match run(rt, alloc, config, &NoGate, strips) {

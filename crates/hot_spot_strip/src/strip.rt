@@ -131,7 +131,8 @@ impl<A: Allocator + Copy> Pup<A> for Strip<A> {
     ghost unpack = { λ bytes. judged is_strip (made of_parts (⟦<Parts<A> as Pup<A>>⟧.unpack bytes)) };
 
     ghost round_trip = { (judged_trips is_strip (struct_trips parts of_parts (λ _. refl)
-        (pair_trips mode_trips (pair_trips u32_trips (pair_trips u32_trips (pair_trips u32_trips (pair_trips u32_trips (pair_trips slot_trips (pair_trips slot_trips (pair_trips slot_trips (pair_trips slot_trips (list_trips u64_trips)))))))))))).trip };
+        (pair_trips mode_trips (pair_trips u32_trips (pair_trips u32_trips (pair_trips u32_trips (pair_trips u32_trips
+        (pair_trips slot_trips (pair_trips slot_trips (pair_trips slot_trips (pair_trips slot_trips (list_trips u64_trips)))))))))))).trip };
 
     fn packed_len(&self) -> u32 {
         let came = &self.came;

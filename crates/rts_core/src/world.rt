@@ -134,7 +134,8 @@ impl<C: Chare<A>, H: Openings<C>, A: Allocator + Copy> World<C, H, A> {
     fn step_of(&mut self, p: Pe, event: Event) -> Result<Reports<A>, StepError>
         ensures ok { IfOk result (λ reports. (self.new, reports) ≡ or_nothing self.old (enabled C.step C.pack C.unpack self.old event p)) }
         ensures err { OnErr result (self.new ≡ self.old) }
-        ensures refused { IfErr result (λ error. MatchOption (slice_get self.old.pes p) ⊥ (λ pe. RefusesAt C.step C.pack C.refuses C.unpack event (local_view self.old pe) error)) }
+        ensures refused { IfErr result (λ error. MatchOption (slice_get self.old.pes p) ⊥
+            (λ pe. RefusesAt C.step C.pack C.refuses C.unpack event (local_view self.old pe) error)) }
         ensures history { AreHistories C.step C.fits C.pack H.opened self.new }
         ensures sent { AreSent C.step H.opened self.new }
         ensures counted { IsCounted self.new }
