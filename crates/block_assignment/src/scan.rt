@@ -33,7 +33,7 @@ pub(crate) fn scan(
     row: &[u64],
     discount: &[u64],
     rank: &[u32],
-    to_scan: &[u8],
+    to_scan: &[u32],
     holders: &[Option<u32>],
     distance: &mut [u64],
     from: &mut [u32],

@@ -5,13 +5,13 @@ ghost use Rattle.chare_index.specs.declared.limits.TheConstants.Limits.{PES};
 
 use std::marker::Model;
 
-/// PEs, each below 256, in ascending order. Contracts see the list of their numbers.
+/// At most 256 PEs in ascending order. Contracts see the list of their numbers.
 #[derive(Drop)]
 pub(crate) struct ToScan {
     // How many there are.
     count: usize,
     // Their numbers, at the start. What is behind them is not read.
-    pes: [u8; 256],
+    pes: [u32; 256],
 }
 
 impl Model for ToScan {
@@ -31,7 +31,7 @@ impl ToScan {
     {
         let mut pes = [0; 256];
         for p in 0..end {
-            pes[p as usize] = p as u8;
+            pes[p as usize] = p;
         }
         ToScan {
             count: end as usize,
@@ -40,7 +40,7 @@ impl ToScan {
     }
 
     /// Their numbers.
-    pub(crate) fn as_slice(&self) -> &[u8]
+    pub(crate) fn as_slice(&self) -> &[u32]
         ensures { result.now ≡ self.now }
     {
         &self.pes[..self.count]
