@@ -2,7 +2,6 @@
 use Rattle.std.proofs.Common.{◌≡◌, ◌≢◌, ℕ, ◌+◌, ◌-◌, ◌^◌, ◌<◌, ◌≤◌, inl, inr, List, Option, Some, None, MatchOption, IfSome, length, set, slice_index, slice_index_or, arith, ap, sym, ◌∙◌, subst, refl}
 use Rattle.std.proofs.lemmas.Bool.{cases_eq, cases_lt}
 use Rattle.std.proofs.lemmas.List.{get_or-set_same, get_or-set_other, get_or_default, get_or_past}
-use Rattle.block_assignment.specs.declared.scan.Found.{Found}
 use Rattle.block_assignment.specs.Search.{IsNearest, IsRelaxed, IsUnscanned}
 
 -- the walk has come to PE k
@@ -13,10 +12,10 @@ pub record Walked (far price block : ℕ) (row discount rank old_distance old_fr
   pub to_do_distance : (p : ℕ) → k ≤ p → slice_index distance p ≡ slice_index old_distance p
   pub to_do_from : (p : ℕ) → k ≤ p → slice_index from p ≡ slice_index old_from p
 
--- the nearest PE before k, and how far it is
-pub record Nearest (rank distance : List ℕ) (nearest : Option Found) (least k : ℕ) : Type 0 where
-  pub which : MatchOption nearest ((p : ℕ) → p < k → 0 < slice_index rank p) (λ found. IsNearest rank distance k found.pe)
-  pub far : MatchOption nearest (least ≡ 2 ^ 64 - 1) (λ found. least ≡ slice_index distance found.pe)
+-- the place of the nearest PE before k, and how far it is
+pub record Nearest (rank pes distance : List ℕ) (nearest : Option ℕ) (least k : ℕ) : Type 0 where
+  pub which : MatchOption nearest ((p : ℕ) → p < k → 0 < slice_index rank p) (λ place. IsNearest rank distance k (slice_index pes place))
+  pub far : MatchOption nearest (least ≡ 2 ^ 64 - 1) (λ place. least ≡ slice_index distance (slice_index pes place))
 
 -- the PE at a place of the list, or the end of the PEs behind its end
 abbrev pub pe_at : List ℕ → ℕ → ℕ → ℕ
@@ -143,23 +142,24 @@ walked_nearer far price block row discount rank old_distance old_from distance f
     }
 
 -- what is the same before k, is as near there
-same_before : (rank distance new : List ℕ) (nearest : Option Found) (least k : ℕ) → Nearest rank distance nearest least k → ((p : ℕ) → p ≢ k → slice_index new p ≡ slice_index distance p) → Nearest rank new nearest least k
-same_before rank distance new None least k before same = record { which = before.which; far = before.far }
-same_before rank distance new (Some found) least k before same =
-    let inside : found.pe < k = before.which.inside in
-    let apart : slice_index rank found.pe ≡ 0 = before.which.apart in
+same_before : (rank pes distance new : List ℕ) (nearest : Option ℕ) (least k : ℕ) → Nearest rank pes distance nearest least k → ((p : ℕ) → p ≢ k → slice_index new p ≡ slice_index distance p) → Nearest rank pes new nearest least k
+same_before rank pes distance new None least k before same = record { which = before.which; far = before.far }
+same_before rank pes distance new (Some place) least k before same =
+    let q : ℕ = slice_index pes place in
+    let inside : q < k = before.which.inside in
+    let apart : slice_index rank q ≡ 0 = before.which.apart in
     record {
       which = record {
         inside = inside;
         apart = apart;
-        least = λ p within not_yet. omega (arith, before.which.least p within not_yet, same p (omega arith), same found.pe (omega arith));
+        least = λ p within not_yet. omega (arith, before.which.least p within not_yet, same p (omega arith), same q (omega arith));
       };
-      far = omega (arith, before.far, same found.pe (omega arith));
+      far = omega (arith, before.far, same q (omega arith));
     }
 
 -- PEs that were scanned before are none
-pub nearest_to : (rank distance : List ℕ) (nearest : Option Found) (least k next : ℕ) → Nearest rank distance nearest least k → k ≤ next → ((p : ℕ) → k ≤ p → p < next → 0 < slice_index rank p) → Nearest rank distance nearest least next
-nearest_to rank distance None least k next before behind scanned =
+pub nearest_to : (rank pes distance : List ℕ) (nearest : Option ℕ) (least k next : ℕ) → Nearest rank pes distance nearest least k → k ≤ next → ((p : ℕ) → k ≤ p → p < next → 0 < slice_index rank p) → Nearest rank pes distance nearest least next
+nearest_to rank pes distance None least k next before behind scanned =
     record {
       which = λ p inside. elim (cases_lt p k) [
         | inl earlier ↦ before.which p earlier
@@ -167,9 +167,10 @@ nearest_to rank distance None least k next before behind scanned =
       ];
       far = before.far;
     }
-nearest_to rank distance (Some found) least k next before behind scanned =
-    let inside : found.pe < k = before.which.inside in
-    let apart : slice_index rank found.pe ≡ 0 = before.which.apart in
+nearest_to rank pes distance (Some place) least k next before behind scanned =
+    let q : ℕ = slice_index pes place in
+    let inside : q < k = before.which.inside in
+    let apart : slice_index rank q ≡ 0 = before.which.apart in
     record {
       which = record {
         inside = omega (arith, inside, behind);
@@ -182,14 +183,14 @@ nearest_to rank distance (Some found) least k next before behind scanned =
       far = before.far;
     }
 
--- PE k is taken
-nearest_taken : (rank distance : List ℕ) (nearest : Option Found) (least k place : ℕ) → Nearest rank distance nearest least k → slice_index rank k ≡ 0 → slice_index distance k ≤ least → Nearest rank distance (Some (record { pe = k; place = place })) (slice_index distance k) (k + 1)
-nearest_taken rank distance nearest least k place before unscanned near =
+-- the PE at a place is taken
+nearest_taken : (rank pes distance : List ℕ) (nearest : Option ℕ) (least place : ℕ) → Nearest rank pes distance nearest least (slice_index pes place) → slice_index rank (slice_index pes place) ≡ 0 → slice_index distance (slice_index pes place) ≤ least → Nearest rank pes distance (Some place) (slice_index distance (slice_index pes place)) (slice_index pes place + 1)
+nearest_taken rank pes distance nearest least place before unscanned near =
     record {
       which = record {
         inside = omega arith;
         apart = unscanned;
-        least = λ p within not_yet. elim (cases_eq p k) [
+        least = λ p within not_yet. elim (cases_eq p (slice_index pes place)) [
           | inl here ↦ omega (arith, ap (λ r. slice_index distance r) here)
           | inr other ↦ farther nearest before p (omega arith) not_yet
         ];
@@ -197,16 +198,17 @@ nearest_taken rank distance nearest least k place before unscanned near =
       far = refl;
     }
   where
-    farther : (nearest : Option Found) → Nearest rank distance nearest least k → (p : ℕ) → p < k → slice_index rank p ≡ 0 → slice_index distance k ≤ slice_index distance p
+    farther : (nearest : Option ℕ) → Nearest rank pes distance nearest least (slice_index pes place) → (p : ℕ) → p < slice_index pes place → slice_index rank p ≡ 0 → slice_index distance (slice_index pes place) ≤ slice_index distance p
     farther None before p inside not_yet = absurd (omega (arith, before.which p inside, not_yet))
     farther (Some found) before p inside not_yet = omega (arith, before.which.least p inside not_yet, before.far, near)
 
 -- PE k is left
-nearest_left : (rank distance : List ℕ) (nearest : Option Found) (least k : ℕ) → Nearest rank distance nearest least k → slice_index rank k ≡ 0 → slice_index distance k < 2 ^ 64 - 1 → least ≤ slice_index distance k → Nearest rank distance nearest least (k + 1)
-nearest_left rank distance None least k before unscanned some far = absurd (omega (arith, before.far, some, far))
-nearest_left rank distance (Some found) least k before unscanned some far =
-    let inside : found.pe < k = before.which.inside in
-    let apart : slice_index rank found.pe ≡ 0 = before.which.apart in
+nearest_left : (rank pes distance : List ℕ) (nearest : Option ℕ) (least k : ℕ) → Nearest rank pes distance nearest least k → slice_index rank k ≡ 0 → slice_index distance k < 2 ^ 64 - 1 → least ≤ slice_index distance k → Nearest rank pes distance nearest least (k + 1)
+nearest_left rank pes distance None least k before unscanned some far = absurd (omega (arith, before.far, some, far))
+nearest_left rank pes distance (Some place) least k before unscanned some far =
+    let q : ℕ = slice_index pes place in
+    let inside : q < k = before.which.inside in
+    let apart : slice_index rank q ≡ 0 = before.which.apart in
     record {
       which = record {
         inside = omega arith;
@@ -219,16 +221,20 @@ nearest_left rank distance (Some found) least k before unscanned some far =
       far = before.far;
     }
 
--- the same, where k may have come nearer just before
-pub taken : (rank distance new : List ℕ) (nearest : Option Found) (least k place : ℕ) → Nearest rank distance nearest least k → ((p : ℕ) → p ≢ k → slice_index new p ≡ slice_index distance p) → slice_index rank k ≡ 0 → slice_index new k ≤ least → Nearest rank new (Some (record { pe = k; place = place })) (slice_index new k) (k + 1)
-taken rank distance new nearest least k place before same unscanned near =
-    nearest_taken rank new nearest least k place (same_before rank distance new nearest least k before same) unscanned near
+-- the same, where this PE may have come nearer just before
+pub taken : (rank pes distance new : List ℕ) (nearest : Option ℕ) (least place : ℕ) → Nearest rank pes distance nearest least (slice_index pes place) → ((p : ℕ) → p ≢ slice_index pes place → slice_index new p ≡ slice_index distance p) → slice_index rank (slice_index pes place) ≡ 0 → slice_index new (slice_index pes place) ≤ least → Nearest rank pes new (Some place) (slice_index new (slice_index pes place)) (slice_index pes place + 1)
+taken rank pes distance new nearest least place before same unscanned near =
+    nearest_taken rank pes new nearest least place (same_before rank pes distance new nearest least (slice_index pes place) before same) unscanned near
 
-pub left : (rank distance new : List ℕ) (nearest : Option Found) (least k : ℕ) → Nearest rank distance nearest least k → ((p : ℕ) → p ≢ k → slice_index new p ≡ slice_index distance p) → slice_index rank k ≡ 0 → slice_index new k < 2 ^ 64 - 1 → least ≤ slice_index new k → Nearest rank new nearest least (k + 1)
-left rank distance new nearest least k before same unscanned some far =
-    nearest_left rank new nearest least k (same_before rank distance new nearest least k before same) unscanned some far
+pub left : (rank pes distance new : List ℕ) (nearest : Option ℕ) (least k : ℕ) → Nearest rank pes distance nearest least k → ((p : ℕ) → p ≢ k → slice_index new p ≡ slice_index distance p) → slice_index rank k ≡ 0 → slice_index new k < 2 ^ 64 - 1 → least ≤ slice_index new k → Nearest rank pes new nearest least (k + 1)
+left rank pes distance new nearest least k before same unscanned some far =
+    nearest_left rank pes new nearest least k (same_before rank pes distance new nearest least k before same) unscanned some far
 
 -- what was found before a place, was found before the next
-pub found_before : (pes : List ℕ) (nearest : Option Found) (place : ℕ) → IfSome nearest (λ found. (found.place < place) × (slice_index pes found.place ≡ found.pe)) → IfSome nearest (λ found. (found.place < place + 1) × (slice_index pes found.place ≡ found.pe))
-found_before pes None place found = found
-found_before pes (Some at) place found = (omega (arith, found.0), found.1)
+pub found_before : (nearest : Option ℕ) (place : ℕ) → IfSome nearest (λ found. found < place) → IfSome nearest (λ found. found < place + 1)
+found_before None place found = found
+found_before (Some at) place found = omega (arith, found)
+
+pub found_inside : (nearest : Option ℕ) (place end : ℕ) → IfSome nearest (λ found. found < place) → place ≤ end → IfSome nearest (λ found. found < end)
+found_inside None place end found inside = found
+found_inside (Some at) place end found inside = omega (arith, found, inside)

@@ -14,19 +14,9 @@ pub(crate) struct Joining {
     pub(crate) distance: u64,
 }
 
-/// The nearest PE of those that were not scanned.
-#[derive(Clone, Copy)]
-pub(crate) struct Found {
-    /// Its number.
-    pub(crate) pe: u32,
-    /// Its place in the list of them.
-    pub(crate) place: usize,
-}
-
 /// Brings PEs that were not scanned nearer by way of a block that joins the tree, whose costs are this row, and returns
-/// the nearest of them. A free PE is taken before others that are as near, so that equal costs do not make the tree grow.
-/// Only the list of these PEs is walked over, and what the tree has scanned costs nothing: that is half of all PEs where
-/// trees grow large. The ranks are what the contract speaks of.
+/// the place of the nearest in the list of them. A free PE is taken before others that are as near, so that equal costs
+/// do not make the tree grow. No other PEs are looked at, and the ranks are not read: they say which PEs the list has.
 #[inline(never)]
 pub(crate) fn scan(
     joining: Joining,
@@ -37,7 +27,7 @@ pub(crate) fn scan(
     holders: &[Option<u32>],
     distance: &mut [u64],
     from: &mut [u32],
-) -> Option<Found>
+) -> Option<usize>
     requires discounts { length discount.now ≡ length row.now }
     requires ranks { length rank.now ≡ length row.now }
     requires unscanned { IsUnscanned rank.now to_scan.now (length row.now) }
@@ -52,8 +42,10 @@ pub(crate) fn scan(
         (slice_index distance.old p) (slice_index from.old p) (slice_index distance.new p) (slice_index from.new p) }
     ensures kept_distance { (p : ℕ) → 0 < slice_index rank.now p → slice_index distance.new p ≡ slice_index distance.old p }
     ensures kept_from { (p : ℕ) → 0 < slice_index rank.now p → slice_index from.new p ≡ slice_index from.old p }
-    ensures nearest { MatchOption result ((p : ℕ) → p < length row.now → 0 < slice_index rank.now p) (λ found. IsNearest rank.now distance.new (length row.now) found.pe) }
-    ensures place { IfSome result (λ found. (found.place < length to_scan.now) × (slice_index to_scan.now found.place ≡ found.pe)) }
+    ensures nearest { MatchOption result
+        ((p : ℕ) → p < length row.now → 0 < slice_index rank.now p)
+        (λ place. IsNearest rank.now distance.new (length row.now) (slice_index to_scan.now place)) }
+    ensures listed { IfSome result (λ place. place < length to_scan.now) }
 {
     let mut nearest = None;
     let mut least = u64::MAX;
@@ -68,10 +60,7 @@ pub(crate) fn scan(
             from[p] = joining.block;
         }
         if comes_first(far, &holders[p], least, held) {
-            nearest = Some(Found {
-                pe: p as u32,
-                place,
-            });
+            nearest = Some(place);
             least = far;
             held = holders[p].is_some();
         }

@@ -9,7 +9,7 @@ ghost use Rattle.std.specs.Prelude.{◌≡◌, ℕ, ◌+◌, ◌^◌, ◌<◌, �
 ghost use Rattle.block_assignment.specs.Table.{cost_at};
 ghost use Rattle.block_assignment.specs.Search.{State, IsSized, IsMatched, IsTree, IsPath, IsSmall, IsNearest, IsRaised, IsUnscanned, unscanned};
 
-use crate::scan::{Found, Joining, scan};
+use crate::scan::{Joining, scan};
 use crate::table::CostTable;
 use crate::to_scan::ToScan;
 use std::alloc::{AllocError, Allocator};
@@ -97,14 +97,15 @@ impl<A: Allocator, B: Allocator> Search<'_, A, B> {
         let mut to_scan = ToScan::below(self.table.blocks());
         let mut nearest = self.start_tree(&to_scan);
         let mut rank = 1;
-        while let Some(found) = nearest {
-            let Some(block) = self.holders[found.pe as usize] else {
-                self.raise(found.pe, rank);
-                self.augment(found.pe);
+        while let Some(place) = nearest {
+            let pe = to_scan.at(place);
+            let Some(block) = self.holders[pe as usize] else {
+                self.raise(pe, rank);
+                self.augment(pe);
                 return;
             };
-            to_scan.remove(found.place);
-            nearest = self.grow(&to_scan, block, found.pe, rank);
+            to_scan.remove(place);
+            nearest = self.grow(&to_scan, block, pe, rank);
             rank += 1;
         }
     }
@@ -118,8 +119,8 @@ impl<A: Allocator, B: Allocator> Search<'_, A, B> {
         (self.names, self.price, self.discount)
     }
 
-    // Starts a tree of the next block alone, and returns the nearest PE.
-    fn start_tree(&mut self, to_scan: &ToScan) -> Option<Found>
+    // Starts a tree of the next block alone, and returns the place of the nearest PE in the list, which has all.
+    fn start_tree(&mut self, to_scan: &ToScan) -> Option<usize>
         requires sized { IsSized self.old }
         requires matched { IsMatched self.old }
         requires unnamed { self.old.named < self.old.table.blocks }
@@ -134,8 +135,8 @@ impl<A: Allocator, B: Allocator> Search<'_, A, B> {
         ensures listed { IsUnscanned self.new.rank to_scan.now self.old.table.blocks }
         ensures nearest { MatchOption result
             ((p : ℕ) → p < self.old.table.blocks → 0 < slice_index self.new.rank p)
-            (λ found. IsNearest self.new.rank self.new.distance self.old.table.blocks found.pe) }
-        ensures place { IfSome result (λ found. (found.place < length to_scan.now) × (slice_index to_scan.now found.place ≡ found.pe)) }
+            (λ place. IsNearest self.new.rank self.new.distance self.old.table.blocks (slice_index to_scan.now place)) }
+        ensures inside { IfSome result (λ place. place < length to_scan.now) }
     {
         let root = self.named;
         self.rank.fill(0);
@@ -157,9 +158,9 @@ impl<A: Allocator, B: Allocator> Search<'_, A, B> {
         )
     }
 
-    // Scans the nearest PE, adds the block that holds it to the tree, and returns the PE that is nearest then. The list
-    // has the PEs that are not scanned then.
-    fn grow(&mut self, to_scan: &ToScan, block: u32, pe: u32, rank: u32) -> Option<Found>
+    // Scans the nearest PE, which the list no longer has, adds the block that holds it to the tree, and returns the place
+    // of the PE that is nearest then.
+    fn grow(&mut self, to_scan: &ToScan, block: u32, pe: u32, rank: u32) -> Option<usize>
         requires sized { IsSized self.old }
         requires matched { IsMatched self.old }
         requires tree { IsTree rank self.old }
@@ -176,8 +177,8 @@ impl<A: Allocator, B: Allocator> Search<'_, A, B> {
         ensures listed { IsUnscanned self.new.rank to_scan.now self.old.table.blocks }
         ensures nearest { MatchOption result
             ((p : ℕ) → p < self.old.table.blocks → 0 < slice_index self.new.rank p)
-            (λ found. IsNearest self.new.rank self.new.distance self.old.table.blocks found.pe) }
-        ensures place { IfSome result (λ found. (found.place < length to_scan.now) × (slice_index to_scan.now found.place ≡ found.pe)) }
+            (λ place. IsNearest self.new.rank self.new.distance self.old.table.blocks (slice_index to_scan.now place)) }
+        ensures inside { IfSome result (λ place. place < length to_scan.now) }
     {
         self.rank[pe as usize] = rank;
         let joining = Joining {

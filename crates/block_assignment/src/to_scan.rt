@@ -46,6 +46,14 @@ impl ToScan {
         &self.pes[..self.count]
     }
 
+    /// The PE at a place.
+    pub(crate) fn at(&self, place: usize) -> u32
+        requires { place < length self.now }
+        ensures { result ≡ slice_index self.now place }
+    {
+        self.as_slice()[place]
+    }
+
     /// Takes out the PE at a place. Those behind it move up by one.
     pub(crate) fn remove(&mut self, place: usize)
         requires inside { place < length self.old }

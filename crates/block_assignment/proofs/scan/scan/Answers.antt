@@ -1,7 +1,7 @@
 use Rattle.std.proofs.Common.{sym, ◌≡◌, ◌≢◌, ℕ, Some, ◌+◌, ◌-◌, ◌^◌, ◌<◌, ◌≤◌, length, set, slice_index, arith, ap, ◌∙◌, subst, refl, MatchOption}
 use Rattle.std.proofs.lemmas.List.{get_or-set_same, get_or-set_other, get_or_default, get_or_past}
 use Rattle.block_assignment.specs.Search.{IsNearest, IsUnscanned}
-use Rattle.block_assignment.proofs.Scans.{Walked, Nearest, pe_at, scanned_first, scanned_next, next_behind, walked_to, walked_kept, walked_nearer, nearest_to, taken, left, found_before}
+use Rattle.block_assignment.proofs.Scans.{Walked, Nearest, pe_at, scanned_first, scanned_next, next_behind, walked_to, walked_kept, walked_nearer, nearest_to, taken, left, found_before, found_inside}
 use Rattle.block_assignment.proofs.scan.scan.Goals.{then-comes_first, then-way-far, else-way-far, else-comes_first}
 use Rattle.block_assignment.proofs.scan.scan.Goals as goal
 
@@ -19,7 +19,7 @@ loop-place-preserved c =
     let behind : k + 1 ≤ next = next_behind c.args.rank.now c.args.to_scan.now end place listed in_list in
     let between : (p : ℕ) → k + 1 ≤ p → p < next → 0 < slice_index c.args.rank.now p = scanned_next c.args.rank.now c.args.to_scan.now end place listed in_list in
     let walked_before : Walked c.args.joining.distance c.args.joining.price c.args.joining.block c.args.row.now c.args.discount.now c.args.rank.now c.args.distance.now c.args.from.now c.loop-place.distance c.loop-place.from k = subst (λ n. Walked c.args.joining.distance c.args.joining.price c.args.joining.block c.args.row.now c.args.discount.now c.args.rank.now c.args.distance.now c.args.from.now c.loop-place.distance c.loop-place.from n) at_k c.loop-place.invariant.walked in
-    let nearest_before : Nearest c.args.rank.now c.loop-place.distance c.loop-place.nearest c.loop-place.least k = subst (λ n. Nearest c.args.rank.now c.loop-place.distance c.loop-place.nearest c.loop-place.least n) at_k c.loop-place.invariant.nearest in
+    let nearest_before : Nearest c.args.rank.now c.args.to_scan.now c.loop-place.distance c.loop-place.nearest c.loop-place.least k = subst (λ n. Nearest c.args.rank.now c.args.to_scan.now c.loop-place.distance c.loop-place.nearest c.loop-place.least n) at_k c.loop-place.invariant.nearest in
     let there : ℕ = c.args.joining.distance + slice_index c.args.row.now k + slice_index c.args.discount.now k - c.args.joining.price in
     let exact : there + c.args.joining.price ≡ c.args.joining.distance + slice_index c.args.row.now k + slice_index c.args.discount.now k = omega (arith, c.requires.low k inside) in
     let small : there < 2 ^ 64 - 1 = omega (arith, c.requires.near, c.requires.small k inside) in
@@ -51,20 +51,20 @@ loop-place-preserved c =
     let walked : Walked c.args.joining.distance c.args.joining.price c.args.joining.block c.args.row.now c.args.discount.now c.args.rank.now c.args.distance.now c.args.from.now c.if-way-far.distance c.if-way-far.from next = walked_to _ _ _ _ _ _ _ _ _ _ (k + 1) next walked_here behind between in
     elim c.if-comes_first.branch [
       | then-comes_first w ↦
-          let n : c.if-comes_first.nearest ≡ Some (record { pe = k; place = place }) = w.nearest-is in
+          let n : c.if-comes_first.nearest ≡ Some place = w.nearest-is in
           let near : c.if-way-far.far ≤ c.loop-place.least = (let h = rw w.if-comes_first.true at c.comes_first.ensures in h) in
           record {
             walked = walked;
-            nearest = rw (n, w.least-is, sym here) (nearest_to c.args.rank.now c.if-way-far.distance _ _ (k + 1) next (taken c.args.rank.now c.loop-place.distance c.if-way-far.distance c.loop-place.nearest c.loop-place.least k place nearest_before same unscanned (omega (arith, here, near))) behind between);
-            found = rw n (omega arith, refl);
+            nearest = rw (n, w.least-is, sym here) (nearest_to c.args.rank.now c.args.to_scan.now c.if-way-far.distance _ _ (k + 1) next (taken c.args.rank.now c.args.to_scan.now c.loop-place.distance c.if-way-far.distance c.loop-place.nearest c.loop-place.least place nearest_before same unscanned (omega (arith, here, near))) behind between);
+            found = rw n (omega arith);
           }
       | else-comes_first w ↦
           let n : c.if-comes_first.nearest ≡ c.loop-place.nearest = w.nearest-is in
           let near : c.loop-place.least ≤ c.if-way-far.far = (let h = rw w.if-comes_first.false at c.comes_first.ensures in h) in
           record {
             walked = walked;
-            nearest = rw (n, w.least-is) (nearest_to c.args.rank.now c.if-way-far.distance _ _ (k + 1) next (left c.args.rank.now c.loop-place.distance c.if-way-far.distance c.loop-place.nearest c.loop-place.least k nearest_before same unscanned (omega (arith, here, some)) (omega (arith, here, near))) behind between);
-            found = rw n (found_before c.args.to_scan.now c.loop-place.nearest place c.loop-place.invariant.found);
+            nearest = rw (n, w.least-is) (nearest_to c.args.rank.now c.args.to_scan.now c.if-way-far.distance _ _ (k + 1) next (left c.args.rank.now c.args.to_scan.now c.loop-place.distance c.if-way-far.distance c.loop-place.nearest c.loop-place.least k nearest_before same unscanned (omega (arith, here, some)) (omega (arith, here, near))) behind between);
+            found = rw n (found_before c.loop-place.nearest place c.loop-place.invariant.found);
           }
     ]
 
@@ -80,7 +80,7 @@ loop-place-init c =
         to_do_distance = λ p _. refl;
         to_do_from = λ p _. refl;
       }) (omega arith) before;
-      nearest = nearest_to _ _ _ _ 0 first (record { which = λ p inside. absurd (omega (arith, inside)); far = refl }) (omega arith) before;
+      nearest = nearest_to _ _ _ _ _ 0 first (record { which = λ p inside. absurd (omega (arith, inside)); far = refl }) (omega arith) before;
       found = tt;
     }
 
@@ -96,4 +96,7 @@ returns-clause-kept_from c = c.loop-place.invariant.walked.kept_from
 pub returns-clause-nearest : goal.returns-clause-nearest
 returns-clause-nearest c =
     let end : pe_at c.args.to_scan.now c.loop-place.place (length c.args.row.now) ≡ length c.args.row.now = get_or_past c.args.to_scan.now c.loop-place.place (length c.args.row.now) c.loop-place-test.false in
-    subst (λ n. MatchOption c.loop-place.nearest ((p : ℕ) → p < n → 0 < slice_index c.args.rank.now p) (λ found. IsNearest c.args.rank.now c.loop-place.distance n found.pe)) end c.loop-place.invariant.nearest.which
+    subst (λ n. MatchOption c.loop-place.nearest ((p : ℕ) → p < n → 0 < slice_index c.args.rank.now p) (λ place. IsNearest c.args.rank.now c.loop-place.distance n (slice_index c.args.to_scan.now place))) end c.loop-place.invariant.nearest.which
+
+pub returns-clause-listed : goal.returns-clause-listed
+returns-clause-listed c = found_inside c.loop-place.nearest c.loop-place.place (length c.args.to_scan.now) c.loop-place.invariant.found c.loop-place.auto.place-end

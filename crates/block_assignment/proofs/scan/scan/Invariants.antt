@@ -1,4 +1,4 @@
-use Rattle.std.proofs.Common.{◌≡◌, ◌<◌, IfSome, length, slice_index}
+use Rattle.std.proofs.Common.{◌<◌, IfSome, length}
 use Rattle.block_assignment.proofs.Scans.{Walked, Nearest, pe_at}
 use Rattle.block_assignment.proofs.scan.scan.Given as goal
 
@@ -7,6 +7,6 @@ abbrev pub invariant-loop-place : goal.invariant-loop-place
 invariant-loop-place l =
     record {
       walked : Walked l.joining.distance l.joining.price l.joining.block l.row l.discount l.rank l.initial.distance l.initial.from l.distance l.from (pe_at l.to_scan l.place (length l.row));
-      nearest : Nearest l.rank l.distance l.nearest l.least (pe_at l.to_scan l.place (length l.row));
-      found : IfSome l.nearest (λ found. (found.place < l.place) × (slice_index l.to_scan found.place ≡ found.pe));
+      nearest : Nearest l.rank l.to_scan l.distance l.nearest l.least (pe_at l.to_scan l.place (length l.row));
+      found : IfSome l.nearest (λ found. found < l.place);
     }

@@ -139,9 +139,9 @@ pub returns-clause-nearest : goal.returns-clause-nearest
 returns-clause-nearest g c =
     let s : State = record { table = c.self.inside.table.now; named = c.self.inside.named; names = c.self.inside.names.items; holders = c.self.inside.holders.items; price = c.self.inside.price.items; discount = c.self.inside.discount.items; rank = c.self.inside.rank.items; distance = c.self.inside.distance.items; from = c.self.inside.from.items } in
     let w : take c.self.inside.distance.len (c.scan.new.distance ++ drop (length c.scan.new.distance) c.self.inside.distance.items) ≡ c.scan.new.distance = written _ _ _ (c.scan.auto.distance ∙ c.deref_mut.ensures.len) in
-    let h = rw c.deref-2.ensures.value at c.scan.ensures.nearest in
+    let h = rw (c.deref-2.ensures.value, c.as_slice.ensures) at c.scan.ensures.nearest in
     let counted : length c.row.result.now ≡ c.args.self.now.table.blocks = c.row.ensures.counted ∙ ap (λ (z : State). z.table.blocks) c.self.view_is in
-    rw w (subst (λ n. MatchOption c.scan.result ((p : ℕ) → p < n → 0 < slice_index (set s.rank c.args.pe c.args.rank) p) (λ found. IsNearest (set s.rank c.args.pe c.args.rank) c.scan.new.distance n found.pe)) counted h)
+    rw w (subst (λ n. MatchOption c.scan.result ((p : ℕ) → p < n → 0 < slice_index (set s.rank c.args.pe c.args.rank) p) (λ place. IsNearest (set s.rank c.args.pe c.args.rank) c.scan.new.distance n (slice_index c.args.to_scan.now place))) counted h)
 
-pub returns-clause-place : goal.returns-clause-place
-returns-clause-place g c = (let h = rw c.as_slice.ensures at c.scan.ensures.place in h)
+pub returns-clause-inside : goal.returns-clause-inside
+returns-clause-inside g c = (let h = rw c.as_slice.ensures at c.scan.ensures.listed in h)

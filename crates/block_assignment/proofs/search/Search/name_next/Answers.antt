@@ -16,8 +16,8 @@ loop-nearest-init g c =
       table = made.table;
       named = made.named;
       listed = subst (λ (t : Table). IsUnscanned c.start_tree-nearest.new.self.rank c.below-to_scan.result t.blocks) (sym made.table) made.listed;
-      nearest = subst (λ (t : Table). MatchOption c.start_tree-nearest.result ((p : ℕ) → p < t.blocks → 0 < slice_index c.start_tree-nearest.new.self.rank p) (λ found. IsNearest c.start_tree-nearest.new.self.rank c.start_tree-nearest.new.self.distance t.blocks found.pe)) (sym made.table) made.nearest;
-      place = made.place;
+      nearest = subst (λ (t : Table). MatchOption c.start_tree-nearest.result ((p : ℕ) → p < t.blocks → 0 < slice_index c.start_tree-nearest.new.self.rank p) (λ place. IsNearest c.start_tree-nearest.new.self.rank c.start_tree-nearest.new.self.distance t.blocks (slice_index c.below-to_scan.result place))) (sym made.table) made.nearest;
+      inside = made.inside;
       not_yet = omega (arith, made.unscanned, ap (λ (t : Table). t.blocks) made.table);
     }
 
@@ -32,8 +32,8 @@ loop-nearest-preserved g c =
       table = next.table ∙ known.table;
       named = next.named ∙ known.named;
       listed = subst (λ (t : Table). IsUnscanned c.grow-nearest.new.self.rank c.remove.new.self t.blocks) (sym next.table) next.listed;
-      nearest = subst (λ (t : Table). MatchOption c.grow-nearest.result ((p : ℕ) → p < t.blocks → 0 < slice_index c.grow-nearest.new.self.rank p) (λ found. IsNearest c.grow-nearest.new.self.rank c.grow-nearest.new.self.distance t.blocks found.pe)) (sym next.table) next.nearest;
-      place = next.place;
+      nearest = subst (λ (t : Table). MatchOption c.grow-nearest.result ((p : ℕ) → p < t.blocks → 0 < slice_index c.grow-nearest.new.self.rank p) (λ place. IsNearest c.grow-nearest.new.self.rank c.grow-nearest.new.self.distance t.blocks (slice_index c.remove.new.self place))) (sym next.table) next.nearest;
+      inside = next.inside;
       not_yet = omega (arith, next.unscanned, known.not_yet, ap (λ (t : Table). t.blocks) next.table);
     }
 
@@ -47,14 +47,14 @@ pub start_tree-nearest-requires-clause-each : goal.start_tree-nearest-requires-c
 start_tree-nearest-requires-clause-each g c = λ p inside. c.below-to_scan.ensures.each p (omega (arith, inside, c.blocks-2.ensures.value, ap (λ (z : State). z.table.blocks) c.self.view_is))
 
 pub remove-requires : goal.remove-requires
-remove-requires g c = record { inside = (let h = rw c.in-Some.is at c.loop-nearest.invariant.place in h.0) }
+remove-requires g c = record { inside = (let h = rw c.in-Some.is at c.loop-nearest.invariant.inside in h) }
 
 pub grow-nearest-requires-clause-listed : goal.grow-nearest-requires-clause-listed
 grow-nearest-requires-clause-listed g c =
-    let place = rw c.in-Some.is at c.loop-nearest.invariant.place in
+    let inside = rw c.in-Some.is at c.loop-nearest.invariant.inside in
     let nearest = rw c.in-Some.is at c.loop-nearest.invariant.nearest in
-    let without : IsWithout c.loop-nearest.to_scan c.remove.new.self c.in-Some.found.place = record { inside = place.0; fewer = c.remove.ensures.fewer; before = c.remove.ensures.before; behind = c.remove.ensures.behind } in
-    one_less_listed c.loop-nearest.self.rank c.loop-nearest.to_scan c.remove.new.self c.loop-nearest.self.table.blocks c.in-Some.found.place c.in-Some.found.pe c.loop-nearest.rank c.loop-nearest.invariant.listed without place.1 (omega (arith, nearest.inside, c.loop-nearest.invariant.sized.rank_length)) c.loop-nearest.invariant.tree.some
+    let without : IsWithout c.loop-nearest.to_scan c.remove.new.self c.in-Some.place = record { inside = inside; fewer = c.remove.ensures.fewer; before = c.remove.ensures.before; behind = c.remove.ensures.behind } in
+    one_less_listed c.loop-nearest.self.rank c.loop-nearest.to_scan c.remove.new.self c.loop-nearest.self.table.blocks c.in-Some.place c.at-pe.result c.loop-nearest.rank c.loop-nearest.invariant.listed without (sym c.at-pe.ensures) (omega (arith, c.at-pe.ensures, nearest.inside, c.loop-nearest.invariant.sized.rank_length)) c.loop-nearest.invariant.tree.some
 
 pub loop-nearest-smaller : goal.loop-nearest-smaller
 loop-nearest-smaller g c = omega (arith, c.grow-nearest.ensures.unscanned)

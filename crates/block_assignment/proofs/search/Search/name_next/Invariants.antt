@@ -11,8 +11,8 @@ invariant-loop-nearest g l =
       table : l.self.table ≡ l.fn.self.table;
       named : l.self.named ≡ l.fn.self.named;
       listed : IsUnscanned l.self.rank l.to_scan l.self.table.blocks;
-      nearest : MatchOption l.nearest ((p : ℕ) → p < l.self.table.blocks → 0 < slice_index l.self.rank p) (λ found. IsNearest l.self.rank l.self.distance l.self.table.blocks found.pe);
-      place : IfSome l.nearest (λ found. (found.place < length l.to_scan) × (slice_index l.to_scan found.place ≡ found.pe));
+      nearest : MatchOption l.nearest ((p : ℕ) → p < l.self.table.blocks → 0 < slice_index l.self.rank p) (λ place. IsNearest l.self.rank l.self.distance l.self.table.blocks (slice_index l.to_scan place));
+      inside : IfSome l.nearest (λ place. place < length l.to_scan);
       not_yet : l.rank + unscanned l.self.rank ≡ l.self.table.blocks + 1;
     }
 
