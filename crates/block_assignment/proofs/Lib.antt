@@ -15,3 +15,4 @@ pub mod Steps
 pub mod Sums
 pub mod Tight
 pub mod Trees
+pub mod Unscanned

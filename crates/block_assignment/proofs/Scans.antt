@@ -1,8 +1,8 @@
--- One walk over the PEs that were not scanned.
-use Rattle.std.proofs.Common.{◌≡◌, ◌≢◌, ℕ, ◌+◌, ◌-◌, ◌^◌, ◌<◌, ◌≤◌, inl, inr, List, Option, Some, None, MatchOption, length, set, slice_index, arith, ap, sym, ◌∙◌, subst, refl}
-use Rattle.std.proofs.lemmas.Bool.{cases_eq}
-use Rattle.std.proofs.lemmas.List.{get_or-set_same, get_or-set_other}
-use Rattle.block_assignment.specs.Search.{IsNearest, IsRelaxed}
+-- One walk over the list of the PEs that were not scanned.
+use Rattle.std.proofs.Common.{◌≡◌, ◌≢◌, ℕ, ◌+◌, ◌-◌, ◌^◌, ◌<◌, ◌≤◌, inl, inr, List, Option, Some, None, MatchOption, IfSome, length, set, slice_index, slice_index_or, arith, ap, sym, ◌∙◌, subst, refl}
+use Rattle.std.proofs.lemmas.Bool.{cases_eq, cases_lt}
+use Rattle.std.proofs.lemmas.List.{get_or-set_same, get_or-set_other, get_or_default, get_or_past}
+use Rattle.block_assignment.specs.Search.{IsNearest, IsRelaxed, IsUnscanned}
 
 -- the walk has come to PE k
 pub record Walked (far price block : ℕ) (row discount rank old_distance old_from distance from : List ℕ) (k : ℕ) : Type 0 where
@@ -12,23 +12,76 @@ pub record Walked (far price block : ℕ) (row discount rank old_distance old_fr
   pub to_do_distance : (p : ℕ) → k ≤ p → slice_index distance p ≡ slice_index old_distance p
   pub to_do_from : (p : ℕ) → k ≤ p → slice_index from p ≡ slice_index old_from p
 
--- the nearest PE before k, and how far it is
-pub record Nearest (rank distance : List ℕ) (nearest : Option ℕ) (least k : ℕ) : Type 0 where
-  pub which : MatchOption nearest ((p : ℕ) → p < k → 0 < slice_index rank p) (IsNearest rank distance k)
-  pub far : MatchOption nearest (least ≡ 2 ^ 64 - 1) (λ q. least ≡ slice_index distance q)
+-- the place of the nearest PE before k, and how far it is
+pub record Nearest (rank pes distance : List ℕ) (nearest : Option ℕ) (least k : ℕ) : Type 0 where
+  pub which : MatchOption nearest ((p : ℕ) → p < k → 0 < slice_index rank p) (λ place. IsNearest rank distance k (slice_index pes place))
+  pub far : MatchOption nearest (least ≡ 2 ^ 64 - 1) (λ place. least ≡ slice_index distance (slice_index pes place))
 
--- a PE that was scanned before is passed by
-pub walked_by : (far price block : ℕ) (row discount rank old_distance old_from distance from : List ℕ) (k : ℕ) → Walked far price block row discount rank old_distance old_from distance from k → 0 < slice_index rank k → Walked far price block row discount rank old_distance old_from distance from (k + 1)
-walked_by far price block row discount rank old_distance old_from distance from k walked scanned =
+-- the PE at a place of the list, or the end of the PEs behind its end
+abbrev pub pe_at : List ℕ → ℕ → ℕ → ℕ
+pe_at pes place end = slice_index_or pes place end
+
+-- PEs between two of the list that follow each other were scanned
+pub scanned_between : (rank pes : List ℕ) (end place p : ℕ) → IsUnscanned rank pes end → ((i : ℕ) → i < place → slice_index pes i < p) → p < end → p < pe_at pes place end → 0 < slice_index rank p
+scanned_between rank pes end place p listed past inside before =
+    elim (cases_eq (slice_index rank p) 0) [
+      | inl unscanned ↦ absurd (missed (listed.each p inside unscanned))
+      | inr scanned ↦ omega (arith, scanned)
+    ]
+  where
+    missed : (i : ℕ) × (i < length pes) × (slice_index pes i ≡ p) → ⊥
+    missed at = elim (cases_lt at.0 place) [
+      | inl earlier ↦ absurd (omega (arith, past at.0 earlier, at.2))
+      | inr later ↦ elim (cases_eq at.0 place) [
+        | inl here ↦ absurd (omega (arith, before, get_or_default pes place end 0 (omega (arith, here, at.1)), ap (λ i. slice_index pes i) here, at.2))
+        | inr other ↦ absurd (omega (arith, before, get_or_default pes place end 0 (omega (arith, later, at.1)), listed.ascending place at.0 (omega (arith, later, other)) at.1, at.2))
+      ]
+    ]
+
+-- no PE of the list is at its end or behind it
+pub at_most_end : (rank pes : List ℕ) (end place : ℕ) → IsUnscanned rank pes end → pe_at pes place end ≤ end
+at_most_end rank pes end place listed =
+    elim (cases_lt place (length pes)) [
+      | inl inside ↦ omega (arith, get_or_default pes place end 0 inside, listed.below place inside)
+      | inr past ↦ omega (arith, get_or_past pes place end past)
+    ]
+
+-- before the first PE of the list all were scanned
+pub scanned_first : (rank pes : List ℕ) (end : ℕ) → IsUnscanned rank pes end → (p : ℕ) → p < pe_at pes 0 end → 0 < slice_index rank p
+scanned_first rank pes end listed p before =
+    scanned_between rank pes end 0 p listed (λ i none. absurd (omega (arith, none))) (omega (arith, before, at_most_end rank pes end 0 listed)) before
+
+-- and so were all between one and the next
+pub scanned_next : (rank pes : List ℕ) (end place : ℕ) → IsUnscanned rank pes end → place < length pes → (p : ℕ) → slice_index pes place + 1 ≤ p → p < pe_at pes (place + 1) end → 0 < slice_index rank p
+scanned_next rank pes end place listed inside p past before =
+    scanned_between rank pes end (place + 1) p listed passed (omega (arith, before, at_most_end rank pes end (place + 1) listed)) before
+  where
+    passed : (i : ℕ) → i < place + 1 → slice_index pes i < p
+    passed i earlier = elim (cases_eq i place) [
+      | inl here ↦ omega (arith, past, ap (λ k. slice_index pes k) here)
+      | inr other ↦ omega (arith, past, listed.ascending i place (omega (arith, earlier, other)) inside)
+    ]
+
+-- which is behind the one
+pub next_behind : (rank pes : List ℕ) (end place : ℕ) → IsUnscanned rank pes end → place < length pes → slice_index pes place + 1 ≤ pe_at pes (place + 1) end
+next_behind rank pes end place listed inside =
+    elim (cases_lt (place + 1) (length pes)) [
+      | inl more ↦ omega (arith, get_or_default pes (place + 1) end 0 more, listed.ascending place (place + 1) (omega arith) more)
+      | inr last ↦ omega (arith, get_or_past pes (place + 1) end last, listed.below place inside)
+    ]
+
+-- PEs that were scanned before are passed by
+pub walked_to : (far price block : ℕ) (row discount rank old_distance old_from distance from : List ℕ) (k next : ℕ) → Walked far price block row discount rank old_distance old_from distance from k → k ≤ next → ((p : ℕ) → k ≤ p → p < next → 0 < slice_index rank p) → Walked far price block row discount rank old_distance old_from distance from next
+walked_to far price block row discount rank old_distance old_from distance from k next walked behind scanned =
     record {
-      relaxed = λ p inside not_yet. elim (cases_eq p k) [
-        | inl here ↦ absurd (omega (arith, scanned, not_yet, ap (λ q. slice_index rank q) here))
-        | inr other ↦ walked.relaxed p (omega arith) not_yet
+      relaxed = λ p inside not_yet. elim (cases_lt p k) [
+        | inl before ↦ walked.relaxed p before not_yet
+        | inr past ↦ absurd (omega (arith, scanned p past inside, not_yet))
       ];
       kept_distance = walked.kept_distance;
       kept_from = walked.kept_from;
-      to_do_distance = λ p past. walked.to_do_distance p (omega arith);
-      to_do_from = λ p past. walked.to_do_from p (omega arith);
+      to_do_distance = λ p past. walked.to_do_distance p (omega (arith, behind, past));
+      to_do_from = λ p past. walked.to_do_from p (omega (arith, behind, past));
     }
 
 -- a PE that is as near as before
@@ -89,9 +142,10 @@ walked_nearer far price block row discount rank old_distance old_from distance f
     }
 
 -- what is the same before k, is as near there
-same_before : (rank distance new : List ℕ) (nearest : Option ℕ) (least k : ℕ) → Nearest rank distance nearest least k → ((p : ℕ) → p ≢ k → slice_index new p ≡ slice_index distance p) → Nearest rank new nearest least k
-same_before rank distance new None least k before same = record { which = before.which; far = before.far }
-same_before rank distance new (Some q) least k before same =
+same_before : (rank pes distance new : List ℕ) (nearest : Option ℕ) (least k : ℕ) → Nearest rank pes distance nearest least k → ((p : ℕ) → p ≢ k → slice_index new p ≡ slice_index distance p) → Nearest rank pes new nearest least k
+same_before rank pes distance new None least k before same = record { which = before.which; far = before.far }
+same_before rank pes distance new (Some place) least k before same =
+    let q : ℕ = slice_index pes place in
     let inside : q < k = before.which.inside in
     let apart : slice_index rank q ≡ 0 = before.which.apart in
     record {
@@ -103,39 +157,40 @@ same_before rank distance new (Some q) least k before same =
       far = omega (arith, before.far, same q (omega arith));
     }
 
--- a PE that was scanned before is none
-pub nearest_by : (rank distance : List ℕ) (nearest : Option ℕ) (least k : ℕ) → Nearest rank distance nearest least k → 0 < slice_index rank k → Nearest rank distance nearest least (k + 1)
-nearest_by rank distance None least k before scanned =
+-- PEs that were scanned before are none
+pub nearest_to : (rank pes distance : List ℕ) (nearest : Option ℕ) (least k next : ℕ) → Nearest rank pes distance nearest least k → k ≤ next → ((p : ℕ) → k ≤ p → p < next → 0 < slice_index rank p) → Nearest rank pes distance nearest least next
+nearest_to rank pes distance None least k next before behind scanned =
     record {
-      which = λ p inside. elim (cases_eq p k) [
-        | inl here ↦ subst (λ q. 0 < slice_index rank q) (sym here) scanned
-        | inr other ↦ before.which p (omega arith)
+      which = λ p inside. elim (cases_lt p k) [
+        | inl earlier ↦ before.which p earlier
+        | inr past ↦ scanned p past inside
       ];
       far = before.far;
     }
-nearest_by rank distance (Some q) least k before scanned =
+nearest_to rank pes distance (Some place) least k next before behind scanned =
+    let q : ℕ = slice_index pes place in
     let inside : q < k = before.which.inside in
     let apart : slice_index rank q ≡ 0 = before.which.apart in
     record {
       which = record {
-        inside = omega arith;
+        inside = omega (arith, inside, behind);
         apart = apart;
-        least = λ p within not_yet. elim (cases_eq p k) [
-          | inl here ↦ absurd (omega (arith, scanned, not_yet, ap (λ r. slice_index rank r) here))
-          | inr other ↦ before.which.least p (omega arith) not_yet
+        least = λ p within not_yet. elim (cases_lt p k) [
+          | inl earlier ↦ before.which.least p earlier not_yet
+          | inr past ↦ absurd (omega (arith, scanned p past within, not_yet))
         ];
       };
       far = before.far;
     }
 
--- PE k is taken
-nearest_taken : (rank distance : List ℕ) (nearest : Option ℕ) (least k : ℕ) → Nearest rank distance nearest least k → slice_index rank k ≡ 0 → slice_index distance k ≤ least → Nearest rank distance (Some k) (slice_index distance k) (k + 1)
-nearest_taken rank distance nearest least k before unscanned near =
+-- the PE at a place is taken
+nearest_taken : (rank pes distance : List ℕ) (nearest : Option ℕ) (least place : ℕ) → Nearest rank pes distance nearest least (slice_index pes place) → slice_index rank (slice_index pes place) ≡ 0 → slice_index distance (slice_index pes place) ≤ least → Nearest rank pes distance (Some place) (slice_index distance (slice_index pes place)) (slice_index pes place + 1)
+nearest_taken rank pes distance nearest least place before unscanned near =
     record {
       which = record {
         inside = omega arith;
         apart = unscanned;
-        least = λ p within not_yet. elim (cases_eq p k) [
+        least = λ p within not_yet. elim (cases_eq p (slice_index pes place)) [
           | inl here ↦ omega (arith, ap (λ r. slice_index distance r) here)
           | inr other ↦ farther nearest before p (omega arith) not_yet
         ];
@@ -143,14 +198,15 @@ nearest_taken rank distance nearest least k before unscanned near =
       far = refl;
     }
   where
-    farther : (nearest : Option ℕ) → Nearest rank distance nearest least k → (p : ℕ) → p < k → slice_index rank p ≡ 0 → slice_index distance k ≤ slice_index distance p
+    farther : (nearest : Option ℕ) → Nearest rank pes distance nearest least (slice_index pes place) → (p : ℕ) → p < slice_index pes place → slice_index rank p ≡ 0 → slice_index distance (slice_index pes place) ≤ slice_index distance p
     farther None before p inside not_yet = absurd (omega (arith, before.which p inside, not_yet))
-    farther (Some q) before p inside not_yet = omega (arith, before.which.least p inside not_yet, before.far, near)
+    farther (Some found) before p inside not_yet = omega (arith, before.which.least p inside not_yet, before.far, near)
 
 -- PE k is left
-nearest_left : (rank distance : List ℕ) (nearest : Option ℕ) (least k : ℕ) → Nearest rank distance nearest least k → slice_index rank k ≡ 0 → slice_index distance k < 2 ^ 64 - 1 → least ≤ slice_index distance k → Nearest rank distance nearest least (k + 1)
-nearest_left rank distance None least k before unscanned some far = absurd (omega (arith, before.far, some, far))
-nearest_left rank distance (Some q) least k before unscanned some far =
+nearest_left : (rank pes distance : List ℕ) (nearest : Option ℕ) (least k : ℕ) → Nearest rank pes distance nearest least k → slice_index rank k ≡ 0 → slice_index distance k < 2 ^ 64 - 1 → least ≤ slice_index distance k → Nearest rank pes distance nearest least (k + 1)
+nearest_left rank pes distance None least k before unscanned some far = absurd (omega (arith, before.far, some, far))
+nearest_left rank pes distance (Some place) least k before unscanned some far =
+    let q : ℕ = slice_index pes place in
     let inside : q < k = before.which.inside in
     let apart : slice_index rank q ≡ 0 = before.which.apart in
     record {
@@ -165,11 +221,20 @@ nearest_left rank distance (Some q) least k before unscanned some far =
       far = before.far;
     }
 
--- the same, where k may have come nearer just before
-pub taken : (rank distance new : List ℕ) (nearest : Option ℕ) (least k : ℕ) → Nearest rank distance nearest least k → ((p : ℕ) → p ≢ k → slice_index new p ≡ slice_index distance p) → slice_index rank k ≡ 0 → slice_index new k ≤ least → Nearest rank new (Some k) (slice_index new k) (k + 1)
-taken rank distance new nearest least k before same unscanned near =
-    nearest_taken rank new nearest least k (same_before rank distance new nearest least k before same) unscanned near
+-- the same, where this PE may have come nearer just before
+pub taken : (rank pes distance new : List ℕ) (nearest : Option ℕ) (least place : ℕ) → Nearest rank pes distance nearest least (slice_index pes place) → ((p : ℕ) → p ≢ slice_index pes place → slice_index new p ≡ slice_index distance p) → slice_index rank (slice_index pes place) ≡ 0 → slice_index new (slice_index pes place) ≤ least → Nearest rank pes new (Some place) (slice_index new (slice_index pes place)) (slice_index pes place + 1)
+taken rank pes distance new nearest least place before same unscanned near =
+    nearest_taken rank pes new nearest least place (same_before rank pes distance new nearest least (slice_index pes place) before same) unscanned near
 
-pub left : (rank distance new : List ℕ) (nearest : Option ℕ) (least k : ℕ) → Nearest rank distance nearest least k → ((p : ℕ) → p ≢ k → slice_index new p ≡ slice_index distance p) → slice_index rank k ≡ 0 → slice_index new k < 2 ^ 64 - 1 → least ≤ slice_index new k → Nearest rank new nearest least (k + 1)
-left rank distance new nearest least k before same unscanned some far =
-    nearest_left rank new nearest least k (same_before rank distance new nearest least k before same) unscanned some far
+pub left : (rank pes distance new : List ℕ) (nearest : Option ℕ) (least k : ℕ) → Nearest rank pes distance nearest least k → ((p : ℕ) → p ≢ k → slice_index new p ≡ slice_index distance p) → slice_index rank k ≡ 0 → slice_index new k < 2 ^ 64 - 1 → least ≤ slice_index new k → Nearest rank pes new nearest least (k + 1)
+left rank pes distance new nearest least k before same unscanned some far =
+    nearest_left rank pes new nearest least k (same_before rank pes distance new nearest least k before same) unscanned some far
+
+-- what was found before a place, was found before the next
+pub found_before : (nearest : Option ℕ) (place : ℕ) → IfSome nearest (λ found. found < place) → IfSome nearest (λ found. found < place + 1)
+found_before None place found = found
+found_before (Some at) place found = omega (arith, found)
+
+pub found_inside : (nearest : Option ℕ) (place end : ℕ) → IfSome nearest (λ found. found < place) → place ≤ end → IfSome nearest (λ found. found < end)
+found_inside None place end found inside = found
+found_inside (Some at) place end found inside = omega (arith, found, inside)

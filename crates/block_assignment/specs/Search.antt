@@ -95,6 +95,13 @@ pub record IsSmall (s : State) : Type 0 where
 abbrev pub unscanned : List ℕ → ℕ
 unscanned rank = count_by (λ r. r == 0) rank
 
+-- The list has the PEs below end that were not scanned, each once and in ascending order.
+pub record IsUnscanned (rank pes : List ℕ) (end : ℕ) : Type 0 where
+  pub below : (i : ℕ) → i < length pes → slice_index pes i < end
+  pub apart : (i : ℕ) → i < length pes → slice_index rank (slice_index pes i) ≡ 0
+  pub ascending : (i j : ℕ) → i < j → j < length pes → slice_index pes i < slice_index pes j
+  pub each : (p : ℕ) → p < end → slice_index rank p ≡ 0 → (i : ℕ) × (i < length pes) × (slice_index pes i ≡ p)
+
 -- of the first PEs one that was not scanned, and is nearest of those
 pub record IsNearest (rank distance : List ℕ) (end pe : ℕ) : Type 0 where
   pub inside : pe < end

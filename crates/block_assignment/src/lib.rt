@@ -31,6 +31,7 @@ mod scan;
 mod search;
 mod table;
 mod takers;
+mod to_scan;
 
 pub use assignment::name_blocks;
 pub use error::NameError;

@@ -1,7 +1,7 @@
 //! One step of the search: one walk over the PEs that were not scanned.
 
-ghost use Rattle.std.specs.Prelude.{◌≡◌, ℕ, ◌+◌, ◌^◌, ◌<◌, ◌≤◌, length, slice_index, MatchBool, MatchOption};
-ghost use Rattle.block_assignment.specs.Search.{IsNearest, IsRelaxed};
+ghost use Rattle.std.specs.Prelude.{◌≡◌, ℕ, ◌+◌, ◌^◌, ◌<◌, ◌≤◌, length, slice_index, IfSome, MatchBool, MatchOption};
+ghost use Rattle.block_assignment.specs.Search.{IsNearest, IsRelaxed, IsUnscanned};
 
 /// A block that joins the tree of a search.
 #[derive(Clone, Copy)]
@@ -15,20 +15,22 @@ pub(crate) struct Joining {
 }
 
 /// Brings PEs that were not scanned nearer by way of a block that joins the tree, whose costs are this row, and returns
-/// the nearest of them. A free PE is taken before others that are as near, so that equal costs do not make the tree grow.
+/// the place of the nearest in the list of them. A free PE is taken before others that are as near, so that equal costs
+/// do not make the tree grow. No other PEs are looked at, and the ranks are not read: they say which PEs the list has.
 #[inline(never)]
 pub(crate) fn scan(
     joining: Joining,
     row: &[u64],
     discount: &[u64],
     rank: &[u32],
+    to_scan: &[u32],
     holders: &[Option<u32>],
     distance: &mut [u64],
     from: &mut [u32],
-) -> Option<u32>
-    requires few { length row.now < 2 ^ 32 }
+) -> Option<usize>
     requires discounts { length discount.now ≡ length row.now }
     requires ranks { length rank.now ≡ length row.now }
+    requires unscanned { IsUnscanned rank.now to_scan.now (length row.now) }
     requires held { length holders.now ≡ length row.now }
     requires distances { length distance.old ≡ length row.now }
     requires froms { length from.old ≡ length row.now }
@@ -40,25 +42,27 @@ pub(crate) fn scan(
         (slice_index distance.old p) (slice_index from.old p) (slice_index distance.new p) (slice_index from.new p) }
     ensures kept_distance { (p : ℕ) → 0 < slice_index rank.now p → slice_index distance.new p ≡ slice_index distance.old p }
     ensures kept_from { (p : ℕ) → 0 < slice_index rank.now p → slice_index from.new p ≡ slice_index from.old p }
-    ensures nearest { MatchOption result ((p : ℕ) → p < length row.now → 0 < slice_index rank.now p) (IsNearest rank.now distance.new (length row.now)) }
+    ensures nearest { MatchOption result
+        ((p : ℕ) → p < length row.now → 0 < slice_index rank.now p)
+        (λ place. IsNearest rank.now distance.new (length row.now) (slice_index to_scan.now place)) }
+    ensures listed { IfSome result (λ place. place < length to_scan.now) }
 {
     let mut nearest = None;
     let mut least = u64::MAX;
     let mut held = true;
-    for p in 0..row.len() {
-        if rank[p] == 0 {
-            let way = joining.distance + row[p] + discount[p] - joining.price;
-            let mut far = distance[p];
-            if way < far {
-                far = way;
-                distance[p] = way;
-                from[p] = joining.block;
-            }
-            if comes_first(far, &holders[p], least, held) {
-                nearest = Some(p as u32);
-                least = far;
-                held = holders[p].is_some();
-            }
+    for place in 0..to_scan.len() {
+        let p = to_scan[place] as usize;
+        let way = joining.distance + row[p] + discount[p] - joining.price;
+        let mut far = distance[p];
+        if way < far {
+            far = way;
+            distance[p] = way;
+            from[p] = joining.block;
+        }
+        if comes_first(far, &holders[p], least, held) {
+            nearest = Some(place);
+            least = far;
+            held = holders[p].is_some();
         }
     }
     nearest

@@ -5,12 +5,13 @@
 //! problems", Journal of the Society for Industrial and Applied Mathematics 5(1), 1957; R. Jonker and A. Volgenant, "A
 //! shortest augmenting path algorithm for dense and sparse linear assignment problems", Computing 38, 1987.
 
-ghost use Rattle.std.specs.Prelude.{◌≡◌, ℕ, ◌+◌, ◌^◌, ◌<◌, ◌≤◌, length, slice_index, slice_index_or, replicate, IfOk, MatchOption, Some, None};
+ghost use Rattle.std.specs.Prelude.{◌≡◌, ℕ, ◌+◌, ◌^◌, ◌<◌, ◌≤◌, length, slice_index, slice_index_or, set, replicate, IfOk, IfSome, MatchOption, Some, None};
 ghost use Rattle.block_assignment.specs.Table.{cost_at};
-ghost use Rattle.block_assignment.specs.Search.{State, IsSized, IsMatched, IsTree, IsPath, IsSmall, IsNearest, IsRaised, unscanned};
+ghost use Rattle.block_assignment.specs.Search.{State, IsSized, IsMatched, IsTree, IsPath, IsSmall, IsNearest, IsRaised, IsUnscanned, unscanned};
 
 use crate::scan::{Joining, scan};
 use crate::table::CostTable;
+use crate::to_scan::ToScan;
 use std::alloc::{AllocError, Allocator};
 use std::marker::Model;
 
@@ -93,15 +94,18 @@ impl<A: Allocator, B: Allocator> Search<'_, A, B> {
         ensures table { self.new.table ≡ self.old.table }
         ensures named { self.new.named ≡ self.old.named + 1 }
     {
-        let mut nearest = self.start_tree();
+        let mut to_scan = ToScan::below(self.table.blocks());
+        let mut nearest = self.start_tree(&to_scan);
         let mut rank = 1;
-        while let Some(pe) = nearest {
+        while let Some(place) = nearest {
+            let pe = to_scan.at(place);
             let Some(block) = self.holders[pe as usize] else {
                 self.raise(pe, rank);
                 self.augment(pe);
                 return;
             };
-            nearest = self.grow(block, pe, rank);
+            to_scan.remove(place);
+            nearest = self.grow(&to_scan, block, pe, rank);
             rank += 1;
         }
     }
@@ -115,20 +119,24 @@ impl<A: Allocator, B: Allocator> Search<'_, A, B> {
         (self.names, self.price, self.discount)
     }
 
-    // Starts a tree of the next block alone, and returns the nearest PE.
-    fn start_tree(&mut self) -> Option<u32>
+    // Starts a tree of the next block alone, and returns the place of the nearest PE in the list, which has all.
+    fn start_tree(&mut self, to_scan: &ToScan) -> Option<usize>
         requires sized { IsSized self.old }
         requires matched { IsMatched self.old }
         requires unnamed { self.old.named < self.old.table.blocks }
+        requires counted { length to_scan.now ≡ self.old.table.blocks }
+        requires each { (p : ℕ) → p < self.old.table.blocks → slice_index to_scan.now p ≡ p }
         ensures sized { IsSized self.new }
         ensures matched { IsMatched self.new }
         ensures tree { IsTree 1 self.new }
         ensures table { self.new.table ≡ self.old.table }
         ensures named { self.new.named ≡ self.old.named }
         ensures unscanned { unscanned self.new.rank ≡ self.old.table.blocks }
+        ensures listed { IsUnscanned self.new.rank to_scan.now self.old.table.blocks }
         ensures nearest { MatchOption result
             ((p : ℕ) → p < self.old.table.blocks → 0 < slice_index self.new.rank p)
-            (IsNearest self.new.rank self.new.distance self.old.table.blocks) }
+            (λ place. IsNearest self.new.rank self.new.distance self.old.table.blocks (slice_index to_scan.now place)) }
+        ensures inside { IfSome result (λ place. place < length to_scan.now) }
     {
         let root = self.named;
         self.rank.fill(0);
@@ -143,29 +151,34 @@ impl<A: Allocator, B: Allocator> Search<'_, A, B> {
             self.table.row(root as u32),
             &self.discount,
             &self.rank,
+            to_scan.as_slice(),
             &self.holders,
             &mut self.distance,
             &mut self.from,
         )
     }
 
-    // Scans the nearest PE, adds the block that holds it to the tree, and returns the PE that is nearest then.
-    fn grow(&mut self, block: u32, pe: u32, rank: u32) -> Option<u32>
+    // Scans the nearest PE, which the list no longer has, adds the block that holds it to the tree, and returns the place
+    // of the PE that is nearest then.
+    fn grow(&mut self, to_scan: &ToScan, block: u32, pe: u32, rank: u32) -> Option<usize>
         requires sized { IsSized self.old }
         requires matched { IsMatched self.old }
         requires tree { IsTree rank self.old }
         requires unnamed { self.old.named < self.old.table.blocks }
         requires nearest { IsNearest self.old.rank self.old.distance self.old.table.blocks pe }
         requires held { slice_index_or self.old.holders pe None ≡ Some block }
+        requires listed { IsUnscanned (set self.old.rank pe rank) to_scan.now self.old.table.blocks }
         ensures sized { IsSized self.new }
         ensures matched { IsMatched self.new }
         ensures tree { IsTree (rank + 1) self.new }
         ensures table { self.new.table ≡ self.old.table }
         ensures named { self.new.named ≡ self.old.named }
         ensures unscanned { unscanned self.new.rank + 1 ≡ unscanned self.old.rank }
+        ensures listed { IsUnscanned self.new.rank to_scan.now self.old.table.blocks }
         ensures nearest { MatchOption result
             ((p : ℕ) → p < self.old.table.blocks → 0 < slice_index self.new.rank p)
-            (IsNearest self.new.rank self.new.distance self.old.table.blocks) }
+            (λ place. IsNearest self.new.rank self.new.distance self.old.table.blocks (slice_index to_scan.now place)) }
+        ensures inside { IfSome result (λ place. place < length to_scan.now) }
     {
         self.rank[pe as usize] = rank;
         let joining = Joining {
@@ -178,6 +191,7 @@ impl<A: Allocator, B: Allocator> Search<'_, A, B> {
             self.table.row(block),
             &self.discount,
             &self.rank,
+            to_scan.as_slice(),
             &self.holders,
             &mut self.distance,
             &mut self.from,

@@ -1,8 +1,9 @@
 use Rattle.std.proofs.Common.{◌<◌, ◌+◌, ℕ, MatchOption, slice_index, arith, ap, sym, ◌∙◌, subst}
 use Rattle.block_assignment.specs.Table.{Table}
-use Rattle.block_assignment.specs.Search.{IsNearest}
+use Rattle.block_assignment.specs.Search.{State, IsNearest, IsUnscanned}
 use Rattle.block_assignment.proofs.Prices.{small_from_matched, small_kept}
 use Rattle.block_assignment.proofs.Trees.{not_all_scanned}
+use Rattle.block_assignment.proofs.Unscanned.{IsWithout, one_less_listed}
 use Rattle.block_assignment.proofs.search.Search.name_next.Goals as goal
 
 pub loop-nearest-init : goal.loop-nearest-init
@@ -14,8 +15,10 @@ loop-nearest-init g c =
       tree = made.tree;
       table = made.table;
       named = made.named;
-      nearest = subst (λ (t : Table). MatchOption c.start_tree-nearest.result ((p : ℕ) → p < t.blocks → 0 < slice_index c.start_tree-nearest.new.self.rank p) (IsNearest c.start_tree-nearest.new.self.rank c.start_tree-nearest.new.self.distance t.blocks)) (sym made.table) made.nearest;
-      to_scan = omega (arith, made.unscanned, ap (λ (t : Table). t.blocks) made.table);
+      listed = subst (λ (t : Table). IsUnscanned c.start_tree-nearest.new.self.rank c.below-to_scan.result t.blocks) (sym made.table) made.listed;
+      nearest = subst (λ (t : Table). MatchOption c.start_tree-nearest.result ((p : ℕ) → p < t.blocks → 0 < slice_index c.start_tree-nearest.new.self.rank p) (λ place. IsNearest c.start_tree-nearest.new.self.rank c.start_tree-nearest.new.self.distance t.blocks (slice_index c.below-to_scan.result place))) (sym made.table) made.nearest;
+      inside = made.inside;
+      not_yet = omega (arith, made.unscanned, ap (λ (t : Table). t.blocks) made.table);
     }
 
 pub loop-nearest-preserved : goal.loop-nearest-preserved
@@ -28,9 +31,30 @@ loop-nearest-preserved g c =
       tree = next.tree;
       table = next.table ∙ known.table;
       named = next.named ∙ known.named;
-      nearest = subst (λ (t : Table). MatchOption c.grow-nearest.result ((p : ℕ) → p < t.blocks → 0 < slice_index c.grow-nearest.new.self.rank p) (IsNearest c.grow-nearest.new.self.rank c.grow-nearest.new.self.distance t.blocks)) (sym next.table) next.nearest;
-      to_scan = omega (arith, next.unscanned, known.to_scan, ap (λ (t : Table). t.blocks) next.table);
+      listed = subst (λ (t : Table). IsUnscanned c.grow-nearest.new.self.rank c.remove.new.self t.blocks) (sym next.table) next.listed;
+      nearest = subst (λ (t : Table). MatchOption c.grow-nearest.result ((p : ℕ) → p < t.blocks → 0 < slice_index c.grow-nearest.new.self.rank p) (λ place. IsNearest c.grow-nearest.new.self.rank c.grow-nearest.new.self.distance t.blocks (slice_index c.remove.new.self place))) (sym next.table) next.nearest;
+      inside = next.inside;
+      not_yet = omega (arith, next.unscanned, known.not_yet, ap (λ (t : Table). t.blocks) next.table);
     }
+
+pub below-to_scan-requires : goal.below-to_scan-requires
+below-to_scan-requires g c = record { few = omega (arith, c.blocks-2.ensures.value, c.blocks-2.ensures.within_limits.few_blocks) }
+
+pub start_tree-nearest-requires-clause-counted : goal.start_tree-nearest-requires-clause-counted
+start_tree-nearest-requires-clause-counted g c = c.below-to_scan.ensures.counted ∙ c.blocks-2.ensures.value ∙ ap (λ (z : State). z.table.blocks) c.self.view_is
+
+pub start_tree-nearest-requires-clause-each : goal.start_tree-nearest-requires-clause-each
+start_tree-nearest-requires-clause-each g c = λ p inside. c.below-to_scan.ensures.each p (omega (arith, inside, c.blocks-2.ensures.value, ap (λ (z : State). z.table.blocks) c.self.view_is))
+
+pub remove-requires : goal.remove-requires
+remove-requires g c = record { inside = (let h = rw c.in-Some.is at c.loop-nearest.invariant.inside in h) }
+
+pub grow-nearest-requires-clause-listed : goal.grow-nearest-requires-clause-listed
+grow-nearest-requires-clause-listed g c =
+    let inside = rw c.in-Some.is at c.loop-nearest.invariant.inside in
+    let nearest = rw c.in-Some.is at c.loop-nearest.invariant.nearest in
+    let without : IsWithout c.loop-nearest.to_scan c.remove.new.self c.in-Some.place = record { inside = inside; fewer = c.remove.ensures.fewer; before = c.remove.ensures.before; behind = c.remove.ensures.behind } in
+    one_less_listed c.loop-nearest.self.rank c.loop-nearest.to_scan c.remove.new.self c.loop-nearest.self.table.blocks c.in-Some.place c.at-pe.result c.loop-nearest.rank c.loop-nearest.invariant.listed without (sym c.at-pe.ensures) (omega (arith, c.at-pe.ensures, nearest.inside, c.loop-nearest.invariant.sized.rank_length)) c.loop-nearest.invariant.tree.some
 
 pub loop-nearest-smaller : goal.loop-nearest-smaller
 loop-nearest-smaller g c = omega (arith, c.grow-nearest.ensures.unscanned)

@@ -1,8 +1,9 @@
 use Rattle.std.proofs.Common.{◌≡◌, ℕ, ◌<◌, ◌++◌, List, Option, MatchOption, length, take, drop, slice_index, arith, ap, sym, ◌∙◌, subst, refl}
 use Rattle.std.proofs.lemmas.List.{get_or_read}
-use Rattle.block_assignment.specs.Search.{State, IsNearest}
+use Rattle.block_assignment.specs.Search.{State, IsNearest, IsUnscanned}
 use Rattle.block_assignment.proofs.Joinings.{IsRow, row_low, row_small, relaxed_by_row, IsNext, next_ready}
 use Rattle.block_assignment.proofs.Trees.{written, grown_sized, grown_matched, none_scanned, started_tree, StartsTree}
+use Rattle.block_assignment.proofs.Unscanned.{all_listed}
 use Rattle.block_assignment.proofs.search.Search.start_tree.Goals as goal
 
 pub index-requires : goal.index-requires
@@ -109,10 +110,27 @@ returns-clause-unscanned g c =
     let counted : length c.fill.new.self.items ≡ s.table.blocks = omega (arith, c.fill.ensures.len, r.sized.rank_length) in
     none_scanned c.fill.new.self.items (λ p inside. c.fill.ensures.clones p 0 (omega (arith, inside, c.fill.ensures.len)) refl) ∙ counted ∙ ap (λ (z : State). z.table.blocks) c.self.view_is
 
+pub scan-requires-clause-unscanned : goal.scan-requires-clause-unscanned
+scan-requires-clause-unscanned g c =
+    let end : ℕ = c.args.self.now.table.blocks in
+    let counted : length c.self.inside.rank.items ≡ end = ap (λ (z : State). length z.rank) c.self.view_is ∙ c.requires.sized.rank_length in
+    let none : (p : ℕ) → p < end → slice_index c.fill.new.self.items p ≡ 0 = λ p inside. c.fill.ensures.clones p 0 (omega (arith, inside, counted)) refl in
+    let row : length c.row.result.now ≡ end = c.row.ensures.counted ∙ ap (λ (z : State). z.table.blocks) c.self.view_is in
+    rw (c.deref-2.ensures.value, c.as_slice.ensures) (subst (λ n. IsUnscanned c.fill.new.self.items c.args.to_scan.now n) (sym row) (all_listed c.fill.new.self.items c.args.to_scan.now end none c.requires.counted c.requires.each))
+
+pub returns-clause-listed : goal.returns-clause-listed
+returns-clause-listed g c =
+    let end : ℕ = c.args.self.now.table.blocks in
+    let counted : length c.self.inside.rank.items ≡ end = ap (λ (z : State). length z.rank) c.self.view_is ∙ c.requires.sized.rank_length in
+    let none : (p : ℕ) → p < end → slice_index c.fill.new.self.items p ≡ 0 = λ p inside. c.fill.ensures.clones p 0 (omega (arith, inside, counted)) refl in
+    all_listed c.fill.new.self.items c.args.to_scan.now end none c.requires.counted c.requires.each
+
 pub returns-clause-nearest : goal.returns-clause-nearest
 returns-clause-nearest g c =
-    let s : State = record { table = c.self.inside.table.now; named = c.self.inside.named; names = c.self.inside.names.items; holders = c.self.inside.holders.items; price = c.self.inside.price.items; discount = c.self.inside.discount.items; rank = c.self.inside.rank.items; distance = c.self.inside.distance.items; from = c.self.inside.from.items } in
     let w : take c.fill-2.new.self.len (c.scan.new.distance ++ drop (length c.scan.new.distance) c.fill-2.new.self.items) ≡ c.scan.new.distance = written _ _ _ (c.scan.auto.distance ∙ c.deref_mut.ensures.len) in
-    let h = rw c.deref-2.ensures.value at c.scan.ensures.nearest in
+    let h = rw (c.deref-2.ensures.value, c.as_slice.ensures) at c.scan.ensures.nearest in
     let counted : length c.row.result.now ≡ c.args.self.now.table.blocks = c.row.ensures.counted ∙ ap (λ (z : State). z.table.blocks) c.self.view_is in
-    rw w (subst (λ n. MatchOption c.scan.result ((p : ℕ) → p < n → 0 < slice_index c.fill.new.self.items p) (IsNearest c.fill.new.self.items c.scan.new.distance n)) counted h)
+    rw w (subst (λ n. MatchOption c.scan.result ((p : ℕ) → p < n → 0 < slice_index c.fill.new.self.items p) (λ place. IsNearest c.fill.new.self.items c.scan.new.distance n (slice_index c.args.to_scan.now place))) counted h)
+
+pub returns-clause-inside : goal.returns-clause-inside
+returns-clause-inside g c = (let h = rw c.as_slice.ensures at c.scan.ensures.listed in h)
