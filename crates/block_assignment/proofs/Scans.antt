@@ -63,12 +63,12 @@ scanned_last rank pes end listed p past inside =
     scanned_between rank pes end (length pes) p listed (omega arith) past inside (λ none. absurd (omega (arith, none)))
 
 -- and so were all between one and the one before it
-pub scanned_next : (rank pes : List ℕ) (end place : ℕ) → IsUnscanned rank pes end → place < length pes → (p : ℕ) → behind pes place ≤ p → p < slice_index pes place → 0 < slice_index rank p
+scanned_next : (rank pes : List ℕ) (end place : ℕ) → IsUnscanned rank pes end → place < length pes → (p : ℕ) → behind pes place ≤ p → p < slice_index pes place → 0 < slice_index rank p
 scanned_next rank pes end place listed inside p past before =
     scanned_between rank pes end place p listed (omega (arith, inside)) past (omega (arith, before, listed.below place inside)) (λ _. before)
 
 -- which is before the one
-pub next_before : (rank pes : List ℕ) (end place : ℕ) → IsUnscanned rank pes end → place < length pes → behind pes place ≤ slice_index pes place
+next_before : (rank pes : List ℕ) (end place : ℕ) → IsUnscanned rank pes end → place < length pes → behind pes place ≤ slice_index pes place
 next_before rank pes end place listed inside =
     elim (cases_eq place 0) [
       | inl first ↦ omega (arith, behind_none pes place first)
@@ -77,6 +77,24 @@ next_before rank pes end place listed inside =
   where
     behind_none : (pes : List ℕ) (count : ℕ) → count ≡ 0 → behind pes count ≡ 0
     behind_none pes count none = grind arith
+
+-- the walk comes to the PE at a place, and behind it lie those that it was at
+pub record AtPlace (rank pes : List ℕ) (end place : ℕ) : Type 0 where
+  pub in_list : place < length pes
+  pub inside : slice_index pes place < end
+  pub unscanned : slice_index rank (slice_index pes place) ≡ 0
+  pub before : behind pes place ≤ slice_index pes place
+  pub between : (p : ℕ) → behind pes place ≤ p → p < slice_index pes place → 0 < slice_index rank p
+
+pub at_place : (rank pes : List ℕ) (end place : ℕ) → IsUnscanned rank pes end → place < length pes → AtPlace rank pes end place
+at_place rank pes end place listed inside =
+    record {
+      in_list = inside;
+      inside = listed.below place inside;
+      unscanned = listed.apart place inside;
+      before = next_before rank pes end place listed inside;
+      between = scanned_next rank pes end place listed inside;
+    }
 
 pub last_inside : (rank pes : List ℕ) (end : ℕ) → IsUnscanned rank pes end → behind pes (length pes) ≤ end
 last_inside rank pes end listed =
@@ -261,13 +279,22 @@ nearest_left rank pes distance (Some place) least end k known unscanned some far
     }
 
 -- the same, where this PE may have come nearer just before
-pub taken : (rank pes distance new : List ℕ) (nearest : Option ℕ) (least end place : ℕ) → Nearest rank pes distance nearest least end (slice_index pes place + 1) → ((p : ℕ) → p ≢ slice_index pes place → slice_index new p ≡ slice_index distance p) → slice_index pes place < end → slice_index rank (slice_index pes place) ≡ 0 → slice_index new (slice_index pes place) ≤ least → Nearest rank pes new (Some place) (slice_index new (slice_index pes place)) end (slice_index pes place)
+taken : (rank pes distance new : List ℕ) (nearest : Option ℕ) (least end place : ℕ) → Nearest rank pes distance nearest least end (slice_index pes place + 1) → ((p : ℕ) → p ≢ slice_index pes place → slice_index new p ≡ slice_index distance p) → slice_index pes place < end → slice_index rank (slice_index pes place) ≡ 0 → slice_index new (slice_index pes place) ≤ least → Nearest rank pes new (Some place) (slice_index new (slice_index pes place)) end (slice_index pes place)
 taken rank pes distance new nearest least end place known same inside unscanned near =
     nearest_taken rank pes new nearest least end place (same_behind rank pes distance new nearest least end (slice_index pes place) known same) inside unscanned near
 
-pub left : (rank pes distance new : List ℕ) (nearest : Option ℕ) (least end k : ℕ) → Nearest rank pes distance nearest least end (k + 1) → ((p : ℕ) → p ≢ k → slice_index new p ≡ slice_index distance p) → slice_index rank k ≡ 0 → slice_index new k < 2 ^ 64 - 1 → least ≤ slice_index new k → Nearest rank pes new nearest least end k
+left : (rank pes distance new : List ℕ) (nearest : Option ℕ) (least end k : ℕ) → Nearest rank pes distance nearest least end (k + 1) → ((p : ℕ) → p ≢ k → slice_index new p ≡ slice_index distance p) → slice_index rank k ≡ 0 → slice_index new k < 2 ^ 64 - 1 → least ≤ slice_index new k → Nearest rank pes new nearest least end k
 left rank pes distance new nearest least end k known same unscanned some far =
     nearest_left rank pes new nearest least end k (same_behind rank pes distance new nearest least end k known same) unscanned some far
+
+-- the step of the walk at a place, where the PE there is taken, and where it is left
+pub step_taken : (far price block : ℕ) (row discount rank pes old_distance old_from old distance from : List ℕ) (nearest : Option ℕ) (least end place new_far : ℕ) → Relaxing far price block row discount rank old_distance old_from old distance from end (slice_index pes place) new_far → AtPlace rank pes end place → Nearest rank pes old nearest least end (slice_index pes place + 1) → new_far ≤ least → Nearest rank pes distance (Some place) new_far end (behind pes place)
+step_taken far price block row discount rank pes old_distance old_from old distance from nearest least end place new_far r at known near =
+    subst (λ x. Nearest rank pes distance (Some place) x end (behind pes place)) r.here (nearest_to rank pes distance (Some place) (slice_index distance (slice_index pes place)) end (slice_index pes place) (behind pes place) (taken rank pes old distance nearest least end place known r.same at.inside at.unscanned (omega (arith, r.here, near))) at.before at.between)
+
+pub step_left : (far price block : ℕ) (row discount rank pes old_distance old_from old distance from : List ℕ) (nearest : Option ℕ) (least end place new_far : ℕ) → Relaxing far price block row discount rank old_distance old_from old distance from end (slice_index pes place) new_far → AtPlace rank pes end place → Nearest rank pes old nearest least end (slice_index pes place + 1) → least ≤ new_far → Nearest rank pes distance nearest least end (behind pes place)
+step_left far price block row discount rank pes old_distance old_from old distance from nearest least end place new_far r at known near =
+    nearest_to rank pes distance nearest least end (slice_index pes place) (behind pes place) (left rank pes old distance nearest least end (slice_index pes place) known r.same at.unscanned (omega (arith, r.here, r.some)) (omega (arith, r.here, near))) at.before at.between
 
 -- what was found of all PEs
 pub nearest_of_all : (rank pes distance : List ℕ) (nearest : Option ℕ) (least end : ℕ) → Nearest rank pes distance nearest least end 0 → MatchOption nearest ((p : ℕ) → p < end → 0 < slice_index rank p) (λ place. IsNearest rank distance end (slice_index pes place))

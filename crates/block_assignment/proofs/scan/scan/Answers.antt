@@ -1,6 +1,6 @@
-use Rattle.std.proofs.Common.{sym, ◌≡◌, ℕ, ◌+◌, ◌-◌, ◌^◌, ◌<◌, ◌≤◌, List, None, length, set, slice_index, arith, subst, refl}
+use Rattle.std.proofs.Common.{◌≡◌, ℕ, ◌+◌, ◌-◌, ◌^◌, ◌<◌, ◌≤◌, List, None, length, set, slice_index, arith, subst, refl}
 use Rattle.block_assignment.specs.Search.{IsUnscanned}
-use Rattle.block_assignment.proofs.Scans.{Walked, Nearest, Relaxing, behind, behind_some, scanned_last, scanned_next, next_before, last_inside, walked_to, relaxed_nearer, relaxed_kept, nearest_to, taken, left}
+use Rattle.block_assignment.proofs.Scans.{Walked, Nearest, Relaxing, AtPlace, at_place, behind, behind_some, scanned_last, last_inside, walked_to, relaxed_nearer, relaxed_kept, nearest_to, step_taken, step_left}
 use Rattle.block_assignment.proofs.scan.scan.Goals.{then-way-far, else-way-far}
 use Rattle.block_assignment.proofs.scan.scan.Goals as goal
 
@@ -33,8 +33,8 @@ loop-place-preserved-then-comes_first c =
     let some : 0 < c.loop-place.place = c.loop-place-test.true in
     let in_list : place < length pes = omega (arith, some, known.few) in
     let listed : IsUnscanned c.args.rank.now pes end = c.requires.unscanned in
-    let inside : k < end = listed.below place in_list in
-    let unscanned : slice_index c.args.rank.now k ≡ 0 = listed.apart place in_list in
+    let at : AtPlace c.args.rank.now pes end place = at_place c.args.rank.now pes end place listed in_list in
+    let inside : k < end = at.inside in
     let walked : Walked c.args.joining.distance c.args.joining.price c.args.joining.block c.args.row.now c.args.discount.now c.args.rank.now c.args.distance.now c.args.from.now c.loop-place.distance c.loop-place.from end (k + 1) = subst (λ n. Walked c.args.joining.distance c.args.joining.price c.args.joining.block c.args.row.now c.args.discount.now c.args.rank.now c.args.distance.now c.args.from.now c.loop-place.distance c.loop-place.from end n) (behind_some pes c.loop-place.place some) known.walked in
     let nearest : Nearest c.args.rank.now pes c.loop-place.distance c.loop-place.nearest c.loop-place.least end (k + 1) = subst (λ n. Nearest c.args.rank.now pes c.loop-place.distance c.loop-place.nearest c.loop-place.least end n) (behind_some pes c.loop-place.place some) known.nearest in
     let there : ℕ = c.args.joining.distance + slice_index c.args.row.now k + slice_index c.args.discount.now k - c.args.joining.price in
@@ -47,18 +47,16 @@ loop-place-preserved-then-comes_first c =
           let d : c.if-way-far.distance ≡ set c.loop-place.distance k there = v.distance-is in
           let f : c.if-way-far.from ≡ set c.loop-place.from k c.args.joining.block = v.from-is in
           let e : c.if-way-far.far ≡ there = v.far-is in
-          rw (d, f, e) (relaxed_nearer _ _ _ _ _ _ _ _ _ _ end k there walked unscanned in_distance in_from exact v.if-way-far.true small)
+          rw (d, f, e) (relaxed_nearer _ _ _ _ _ _ _ _ _ _ end k there walked at.unscanned in_distance in_from exact v.if-way-far.true small)
       | else-way-far v ↦
           let e : c.if-way-far.far ≡ slice_index c.loop-place.distance k = v.far-is in
           rw (v.distance-is, v.from-is, e) (relaxed_kept _ _ _ _ _ _ _ _ _ _ end k there walked exact v.if-way-far.false small)
     ] in
-    let before : behind pes place ≤ k = next_before c.args.rank.now pes end place listed in_list in
-    let between : (p : ℕ) → behind pes place ≤ p → p < k → 0 < slice_index c.args.rank.now p = scanned_next c.args.rank.now pes end place listed in_list in
     let near : c.if-way-far.far ≤ c.loop-place.least = (let h = rw c.if-comes_first.true at c.comes_first.ensures in h) in
     record {
       few = omega (arith, in_list);
-      walked = walked_to _ _ _ _ _ _ _ _ _ _ end k (behind pes place) r.walked before between;
-      nearest = rw (sym r.here) (nearest_to c.args.rank.now pes c.if-way-far.distance _ _ end k (behind pes place) (taken c.args.rank.now pes c.loop-place.distance c.if-way-far.distance c.loop-place.nearest c.loop-place.least end place nearest r.same inside unscanned (omega (arith, r.here, near))) before between);
+      walked = walked_to _ _ _ _ _ _ _ _ _ _ end k (behind pes place) r.walked at.before at.between;
+      nearest = step_taken _ _ _ _ _ _ pes _ _ _ _ _ _ _ end place c.if-way-far.far r at nearest near;
       found = in_list;
     }
 
@@ -72,8 +70,8 @@ loop-place-preserved c =
     let some : 0 < c.loop-place.place = c.loop-place-test.true in
     let in_list : place < length pes = omega (arith, some, known.few) in
     let listed : IsUnscanned c.args.rank.now pes end = c.requires.unscanned in
-    let inside : k < end = listed.below place in_list in
-    let unscanned : slice_index c.args.rank.now k ≡ 0 = listed.apart place in_list in
+    let at : AtPlace c.args.rank.now pes end place = at_place c.args.rank.now pes end place listed in_list in
+    let inside : k < end = at.inside in
     let walked : Walked c.args.joining.distance c.args.joining.price c.args.joining.block c.args.row.now c.args.discount.now c.args.rank.now c.args.distance.now c.args.from.now c.loop-place.distance c.loop-place.from end (k + 1) = subst (λ n. Walked c.args.joining.distance c.args.joining.price c.args.joining.block c.args.row.now c.args.discount.now c.args.rank.now c.args.distance.now c.args.from.now c.loop-place.distance c.loop-place.from end n) (behind_some pes c.loop-place.place some) known.walked in
     let nearest : Nearest c.args.rank.now pes c.loop-place.distance c.loop-place.nearest c.loop-place.least end (k + 1) = subst (λ n. Nearest c.args.rank.now pes c.loop-place.distance c.loop-place.nearest c.loop-place.least end n) (behind_some pes c.loop-place.place some) known.nearest in
     let there : ℕ = c.args.joining.distance + slice_index c.args.row.now k + slice_index c.args.discount.now k - c.args.joining.price in
@@ -86,17 +84,15 @@ loop-place-preserved c =
           let d : c.if-way-far.distance ≡ set c.loop-place.distance k there = v.distance-is in
           let f : c.if-way-far.from ≡ set c.loop-place.from k c.args.joining.block = v.from-is in
           let e : c.if-way-far.far ≡ there = v.far-is in
-          rw (d, f, e) (relaxed_nearer _ _ _ _ _ _ _ _ _ _ end k there walked unscanned in_distance in_from exact v.if-way-far.true small)
+          rw (d, f, e) (relaxed_nearer _ _ _ _ _ _ _ _ _ _ end k there walked at.unscanned in_distance in_from exact v.if-way-far.true small)
       | else-way-far v ↦
           let e : c.if-way-far.far ≡ slice_index c.loop-place.distance k = v.far-is in
           rw (v.distance-is, v.from-is, e) (relaxed_kept _ _ _ _ _ _ _ _ _ _ end k there walked exact v.if-way-far.false small)
     ] in
-    let before : behind pes place ≤ k = next_before c.args.rank.now pes end place listed in_list in
-    let between : (p : ℕ) → behind pes place ≤ p → p < k → 0 < slice_index c.args.rank.now p = scanned_next c.args.rank.now pes end place listed in_list in
     let near : c.loop-place.least ≤ c.if-way-far.far = (let h = rw c.if-comes_first.false at c.comes_first.ensures in h) in
     record {
       few = omega (arith, in_list);
-      walked = walked_to _ _ _ _ _ _ _ _ _ _ end k (behind pes place) r.walked before between;
-      nearest = nearest_to c.args.rank.now pes c.if-way-far.distance _ _ end k (behind pes place) (left c.args.rank.now pes c.loop-place.distance c.if-way-far.distance c.loop-place.nearest c.loop-place.least end k nearest r.same unscanned (omega (arith, r.here, r.some)) (omega (arith, r.here, near))) before between;
+      walked = walked_to _ _ _ _ _ _ _ _ _ _ end k (behind pes place) r.walked at.before at.between;
+      nearest = step_left _ _ _ _ _ _ pes _ _ _ _ _ _ _ end place c.if-way-far.far r at nearest near;
       found = known.found;
     }
