@@ -31,6 +31,9 @@ behind pes count = if nat_lt 0 count then slice_index pes (count - 1) + 1 else 0
 pub behind_some : (pes : List ℕ) (count : ℕ) → 0 < count → behind pes count ≡ slice_index pes (count - 1) + 1
 behind_some pes count some = grind arith
 
+pub behind_none : (pes : List ℕ) (count : ℕ) → count ≡ 0 → behind pes count ≡ 0
+behind_none pes count none = grind arith
+
 -- PEs between two of the list that follow each other were scanned
 scanned_between : (rank pes : List ℕ) (end place p : ℕ) → IsUnscanned rank pes end → place ≤ length pes → behind pes place ≤ p → p < end → (place < length pes → p < slice_index pes place) → 0 < slice_index rank p
 scanned_between rank pes end place p listed few past inside before =
@@ -74,9 +77,6 @@ next_before rank pes end place listed inside =
       | inl first ↦ omega (arith, behind_none pes place first)
       | inr other ↦ omega (arith, behind_some pes place (omega (arith, other)), listed.ascending (place - 1) place (omega (arith, other)) inside)
     ]
-  where
-    behind_none : (pes : List ℕ) (count : ℕ) → count ≡ 0 → behind pes count ≡ 0
-    behind_none pes count none = grind arith
 
 -- the walk comes to the PE at a place, and behind it lie those that it was at
 pub record AtPlace (rank pes : List ℕ) (end place : ℕ) : Type 0 where

@@ -1,6 +1,6 @@
 use Rattle.std.proofs.Common.{◌≡◌, ℕ, ◌+◌, ◌-◌, ◌^◌, ◌<◌, ◌≤◌, List, None, length, set, slice_index, arith, subst, refl}
 use Rattle.block_assignment.specs.Search.{IsUnscanned}
-use Rattle.block_assignment.proofs.Scans.{Walked, Nearest, Relaxing, AtPlace, at_place, behind, behind_some, scanned_last, last_inside, walked_to, relaxed_nearer, relaxed_kept, nearest_to, step_taken, step_left}
+use Rattle.block_assignment.proofs.Scans.{Walked, Nearest, Relaxing, AtPlace, at_place, behind, behind_some, behind_none, scanned_last, last_inside, walked_to, relaxed_nearer, relaxed_kept, nearest_to, step_taken, step_left, nearest_of_all}
 use Rattle.block_assignment.proofs.scan.scan.Goals.{then-way-far, else-way-far}
 use Rattle.block_assignment.proofs.scan.scan.Goals as goal
 
@@ -96,3 +96,20 @@ loop-place-preserved c =
       nearest = step_left _ _ _ _ _ _ pes _ _ _ _ _ _ _ end place c.if-way-far.far r at nearest near;
       found = known.found;
     }
+
+pub returns-clause-relaxed : goal.returns-clause-relaxed
+returns-clause-relaxed c = λ p inside not_yet. c.loop-place.invariant.walked.relaxed p (omega (arith, behind_none c.args.to_scan.now c.loop-place.place (omega (arith, c.loop-place-test.false)))) inside not_yet
+
+pub returns-clause-kept_distance : goal.returns-clause-kept_distance
+returns-clause-kept_distance c = c.loop-place.invariant.walked.kept_distance
+
+pub returns-clause-kept_from : goal.returns-clause-kept_from
+returns-clause-kept_from c = c.loop-place.invariant.walked.kept_from
+
+pub returns-clause-nearest : goal.returns-clause-nearest
+returns-clause-nearest c =
+    let all : behind c.args.to_scan.now c.loop-place.place ≡ 0 = behind_none c.args.to_scan.now c.loop-place.place (omega (arith, c.loop-place-test.false)) in
+    nearest_of_all c.args.rank.now c.args.to_scan.now c.loop-place.distance c.loop-place.nearest c.loop-place.least (length c.args.row.now) (subst (λ k. Nearest c.args.rank.now c.args.to_scan.now c.loop-place.distance c.loop-place.nearest c.loop-place.least (length c.args.row.now) k) all c.loop-place.invariant.nearest)
+
+pub returns-clause-listed : goal.returns-clause-listed
+returns-clause-listed c = c.loop-place.invariant.found
