@@ -17,6 +17,7 @@ pub(crate) struct Joining {
 /// Brings PEs that were not scanned nearer by way of a block that joins the tree, whose costs are this row, and returns
 /// the place of the nearest in the list of them. A free PE is taken before others that are as near, so that equal costs
 /// do not make the tree grow. No other PEs are looked at, and the ranks are not read: they say which PEs the list has.
+/// The walk goes from the end of the list to its start, since a loop down to 0 compares its place with no length.
 #[inline(never)]
 pub(crate) fn scan(
     joining: Joining,
@@ -49,8 +50,10 @@ pub(crate) fn scan(
 {
     let mut nearest = None;
     let mut least = u64::MAX;
-    let mut held = true;
-    for place in 0..to_scan.len() {
+    let mut free = false;
+    let mut place = to_scan.len();
+    while place > 0 {
+        place -= 1;
         let p = to_scan[place] as usize;
         let way = joining.distance + row[p] + discount[p] - joining.price;
         let mut far = distance[p];
@@ -59,20 +62,20 @@ pub(crate) fn scan(
             distance[p] = way;
             from[p] = joining.block;
         }
-        if comes_first(far, &holders[p], least, held) {
+        if comes_first(far, &holders[p], least, free) {
             nearest = Some(place);
             least = far;
-            held = holders[p].is_some();
+            free = holders[p].is_none();
         }
     }
     nearest
 }
 
-// Whether a PE is to be scanned before the nearest of those before it: it is nearer, or the first free one of those
-// that are as near. Most PEs are farther, so one comparison rules them out; the holder is looked up only where a PE is
-// as near, which is rare.
-fn comes_first(far: u64, holder: &Option<u32>, least: u64, least_held: bool) -> bool
+// Whether a PE is to be scanned before the nearest of those behind it: it is nearer, or as near and free, or as near
+// where that is not free. So of those that are as near it is the first free one, or the first if none is free. Most PEs
+// are farther, so one comparison rules them out; the holder is looked up only where a PE is as near, which is rare.
+fn comes_first(far: u64, holder: &Option<u32>, least: u64, least_free: bool) -> bool
     ensures { MatchBool result (far ≤ least) (least ≤ far) }
 {
-    far <= least && (far < least || (least_held && holder.is_none()))
+    far <= least && (far < least || !least_free || holder.is_none())
 }

@@ -3,15 +3,16 @@
 ghost use Rattle.std.specs.Prelude.{◌≡◌, ℕ, ◌+◌, ◌<◌, ◌≤◌, List, length, slice_index, take};
 ghost use Rattle.chare_index.specs.declared.limits.TheConstants.Limits.{PES};
 
+use chare_index::Limits;
 use std::marker::Model;
 
-/// At most 256 PEs in ascending order. Contracts see the list of their numbers.
+/// PEs in ascending order. Contracts see the list of their numbers.
 #[derive(Drop)]
 pub(crate) struct ToScan {
     // How many there are.
     count: usize,
     // Their numbers, at the start. What is behind them is not read.
-    pes: [u32; 256],
+    pes: [u32; Limits::PES as usize],
 }
 
 impl Model for ToScan {
@@ -19,7 +20,7 @@ impl Model for ToScan {
 
     ghost view = { λ s. take s.count s.pes };
 
-    ghost invariant = { λ s. s.count ≤ 256 };
+    ghost invariant = { λ s. s.count ≤ PES };
 }
 
 impl ToScan {
@@ -29,7 +30,7 @@ impl ToScan {
         ensures counted { length result ≡ end }
         ensures each { (p : ℕ) → p < end → slice_index result p ≡ p }
     {
-        let mut pes = [0; 256];
+        let mut pes = [0; Limits::PES as usize];
         for p in 0..end {
             pes[p as usize] = p;
         }

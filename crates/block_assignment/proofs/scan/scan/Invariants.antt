@@ -1,12 +1,16 @@
-use Rattle.std.proofs.Common.{◌<◌, IfSome, length}
-use Rattle.block_assignment.proofs.Scans.{Walked, Nearest, pe_at}
+use Rattle.std.proofs.Common.{◌<◌, ◌≤◌, IfSome, length}
+use Rattle.block_assignment.proofs.Scans.{Walked, Nearest, behind}
 use Rattle.block_assignment.proofs.scan.scan.Given as goal
 
--- `pe_at` is the PE at the place that the walk has come to, or at its end the end of the PEs
+-- `behind` is the PE behind the last entry that the walk has not come to
 abbrev pub invariant-loop-place : goal.invariant-loop-place
 invariant-loop-place l =
     record {
-      walked : Walked l.joining.distance l.joining.price l.joining.block l.row l.discount l.rank l.initial.distance l.initial.from l.distance l.from (pe_at l.to_scan l.place (length l.row));
-      nearest : Nearest l.rank l.to_scan l.distance l.nearest l.least (pe_at l.to_scan l.place (length l.row));
-      found : IfSome l.nearest (λ found. found < l.place);
+      few : l.place ≤ length l.to_scan;
+      walked : Walked l.joining.distance l.joining.price l.joining.block l.row l.discount l.rank l.initial.distance l.initial.from l.distance l.from (length l.row) (behind l.to_scan l.place);
+      nearest : Nearest l.rank l.to_scan l.distance l.nearest l.least (length l.row) (behind l.to_scan l.place);
+      found : IfSome l.nearest (λ found. found < length l.to_scan);
     }
+
+abbrev pub decreases-loop-place : goal.decreases-loop-place
+decreases-loop-place l = l.place
