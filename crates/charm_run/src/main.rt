@@ -27,10 +27,12 @@ const TURNS: u64 = 1_000_000_000;
 const NO_DUMP: &str = "dump: write failed\n";
 
 /// What to do about a file that cannot be read.
-const READABLE: &str = "give a file with a workload that you may read, or /dev/stdin for the standard input";
+const READABLE: &str =
+    "give a file with a workload that you may read, or /dev/stdin for the standard input";
 
 /// What to do about a file whose text is not that of a workload.
-const RIGHT: &str = "give a workload: pes, rounds, pad and chares, a line each, and then the amounts of each round";
+const RIGHT: &str =
+    "give a workload: pes, rounds, pad and chares, a line each, and then the amounts of each round";
 
 /// The status where the file cannot be read, or its workload has a fault.
 const FAULT: u8 = 3;

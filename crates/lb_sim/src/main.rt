@@ -23,10 +23,12 @@ use std::{env, io};
 const FAULT: u8 = 3;
 
 /// What to do about a file that cannot be read.
-const READABLE: &str = "give a file with a dump that you may read, or /dev/stdin for the standard input";
+const READABLE: &str =
+    "give a file with a dump that you may read, or /dev/stdin for the standard input";
 
 /// What to do about a file without a whole dump.
-const WHOLE: &str = "give a whole dump, which begins with LBD1 or LBD2: charm_run --dump writes them";
+const WHOLE: &str =
+    "give a whole dump, which begins with LBD1 or LBD2: charm_run --dump writes them";
 
 fn main(rt: HostRuntime) -> ExitCode {
     let Ok(args) = env::args(&rt) else {
