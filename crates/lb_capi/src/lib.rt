@@ -11,11 +11,15 @@ ghost use Rattle.chain_partition.specs.Chosen.{IsChosen};
 ghost use Rattle.lb_certificates.specs.Flaws.{flaw_number};
 ghost use Rattle.lb_certificates.specs.Naming.{IsLeastNaming};
 ghost use Rattle.lb_certificates.specs.declared.flaw.Flaw.{Flaw};
+ghost use Rattle.lb_strategy.specs.Decisions.{ArePricesBounded};
 ghost use Rattle.lb_lists.specs.Claims.{claimed_division, IsBest, IsFirstFlaw, IsRightClaim};
 ghost use Rattle.lb_lists.specs.Plans.{IsPlan};
 ghost use Rattle.lb_lists.specs.Rooms.{claim_in, HasRoom};
 ghost use Rattle.lb_lists.specs.Runs.{sizes_of, AreSmall, IsAsked};
 ghost use Rattle.lb_capi.specs.Calls.{claim_of, refusal_status, room_of, run_of};
+
+#[cfg(test)]
+mod tests;
 
 use lb_lists::{Claim, Room, Run, RunError, check_claim, decide_into, number_of, plan_into};
 use std::alloc::Global;
@@ -81,8 +85,10 @@ pub extern "C" fn tezgumi_plan(
 }
 
 /// Plans as [`tezgumi_plan`] does, and writes the certificates too: `pes + 1` cuts; as many stops, or none where the
-/// bottleneck is 0, and how many; `pes` names, and `pes` prices of blocks and of PEs. Each list has room for so many, or
-/// the input is bad.
+/// bottleneck is 0, and how many; `pes` names, and `pes` prices of blocks and of PEs. The input is bad unless there is one
+/// new place for each element, `cuts` and `stops` have `pes + 1` entries, and names and prices `pes` each. Each price of a
+/// block is 0 to the greatest number of bytes that a block moves on some PE, and each price of a PE is 0 down to as much
+/// below 0.
 #[unsafe(no_mangle)]
 pub extern "C" fn tezgumi_decide(
     alloc: Global,
@@ -110,6 +116,7 @@ pub extern "C" fn tezgumi_decide(
         → IsChosen loads.now pes
         (claimed_division (claim_of bottleneck.new moved.new new_places.new cuts.new (take stops_count.new stops.new) names.new block_prices.new pe_prices.new)) }
     ensures least_naming { result ≡ pos 0 → IsLeastNaming (sizes_of (run_of loads.now bytes.now places.now procs)) cuts.new pes names.new }
+    ensures bounded { result ≡ pos 0 → ArePricesBounded (sizes_of (run_of loads.now bytes.now places.now procs)) cuts.new block_prices.new pe_prices.new }
     ensures counted { result ≡ pos 0 → stops_count.new ≤ pes + 1 }
     ensures behind { result ≡ pos 0 → drop stops_count.new stops.new ≡ drop stops_count.new stops.old }
     ensures input { result ≡ negsuc 0
@@ -150,7 +157,8 @@ pub extern "C" fn tezgumi_decide(
 
 /// Checks what somebody claims of a run and `pes` PEs: 0 where every part is right, and otherwise the number of its first
 /// flaw. Or -1 where the lists are no run, or `pes` is not 1 to 256; -3 where only a load is too great; -2 where memory
-/// was refused.
+/// was refused. A list of the claim may have any length: one that is wrong is a flaw of the claim, and of a list that is
+/// too long no more is copied than shows that.
 #[unsafe(no_mangle)]
 pub extern "C" fn tezgumi_check(
     alloc: Global,

@@ -4,4 +4,5 @@ pub mod FirstFlaws
 pub mod Greatest
 pub mod OnePlan
 pub mod Plans
+pub mod ShortClaims
 pub mod Zipped
