@@ -5,6 +5,10 @@ use Rattle.lb_strategy.proofs.RightDecisions.{least_by_table, moved_by_table, na
 use Rattle.lb_strategy.proofs.PriceBounds.{bounded_by_table}
 use Rattle.lb_lists.proofs.plan.named.Goals as goal
 
+pub returns-clause-bounded : goal.returns-clause-bounded
+returns-clause-bounded g c =
+    bounded_by_table c.args.sizes.now c.args.cuts.now c.in_ok-naming.prices.u c.in_ok-naming.prices.v c.in_ok-table.table (subst IsTable c.table.view_is c.table.invariant) c.in_ok-table.ensures.table c.in_ok-naming.ensures.bounded
+
 pub returns-clause-named : goal.returns-clause-named
 returns-clause-named g c =
     named_by_table c.args.sizes.now c.args.cuts.now c.in_ok-naming.naming c.in_ok-naming.prices.u c.in_ok-naming.prices.v c.in_ok-table.table c.requires.blocks c.in_ok-table.ensures.table c.in_ok-naming.ensures.naming c.in_ok-naming.ensures.proved
@@ -17,7 +21,3 @@ pub returns-clause-moved : goal.returns-clause-moved
 returns-clause-moved g c =
     let cost : c.cost_of-moved.result ≡ naming_cost c.in_ok-table.table.blocks (cost_at c.in_ok-table.table) c.in_ok-naming.naming = search rules in
     cost ∙ moved_by_table c.args.sizes.now c.args.cuts.now c.in_ok-naming.naming c.in_ok-table.table c.requires.blocks c.in_ok-table.ensures.table c.in_ok-naming.ensures.naming
-
-pub returns-clause-bounded : goal.returns-clause-bounded
-returns-clause-bounded g c =
-    bounded_by_table c.args.sizes.now c.args.cuts.now c.in_ok-naming.prices.u c.in_ok-naming.prices.v c.in_ok-table.table (subst IsTable c.table.view_is c.table.invariant) c.in_ok-table.ensures.table c.in_ok-naming.ensures.bounded
