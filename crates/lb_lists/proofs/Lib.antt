@@ -5,4 +5,5 @@ pub mod Greatest
 pub mod OnePlan
 pub mod Plans
 pub mod ShortClaims
+pub mod Ticks
 pub mod Zipped
