@@ -9,7 +9,7 @@
  *
  * There are two layers.
  *
- *   1. tezgumi_abi, tezgumi_plan, tezgumi_decide and tezgumi_check are the library's exports. What they answer is proved.
+ *   1. tezgumi_abi, tezgumi_plan, tezgumi_decide, tezgumi_check and tezgumi_scale are the library's exports. What they answer is proved.
  *      A list is a pointer and a length, in elements. The caller owes:
  *        - no pointer is null, not even that of a list without elements, and each is aligned for its type: to 8 bytes for
  *          64-bit numbers, and to 4 for 32-bit ones;
@@ -57,6 +57,9 @@ enum {
     TEZGUMI_BAD_INPUT = -1, /* a length, a place that is not below procs, no PE, or a limit other than TEZGUMI_LOAD */
     TEZGUMI_BAD_LOAD = -3,  /* all else is in order, and a load is above TEZGUMI_LOAD */
     TEZGUMI_NO_MEMORY = -2, /* all is in order, and malloc or realloc refused */
+    TEZGUMI_NOT_A_NUMBER = -4, /* of loads to be scaled the first that is wrong is not a number */
+    TEZGUMI_NEGATIVE = -5,     /* or it is below 0 */
+    TEZGUMI_INFINITE = -6,     /* or it is infinite */
     /* Above 0 the claim is wrong, and this is the least flaw that it has. */
     TEZGUMI_CUT_COUNT = 1,    /* there are not pes + 1 cuts */
     TEZGUMI_CUT_START = 2,    /* the first cut is not 0 */
@@ -87,6 +90,9 @@ static inline const char *tezgumi_status_name(int32_t status)
     case TEZGUMI_BAD_INPUT: return "bad input";
     case TEZGUMI_BAD_LOAD: return "a load is too great";
     case TEZGUMI_NO_MEMORY: return "out of memory";
+    case TEZGUMI_NOT_A_NUMBER: return "a load is not a number";
+    case TEZGUMI_NEGATIVE: return "a load is negative";
+    case TEZGUMI_INFINITE: return "a load is infinite";
     case TEZGUMI_CUT_COUNT: return "wrong number of cuts";
     case TEZGUMI_CUT_START: return "the first cut is not 0";
     case TEZGUMI_CUT_ORDER: return "a cut is greater than the next";
@@ -159,6 +165,16 @@ int32_t tezgumi_check(
     const uint32_t *cuts, size_t cuts_len, const uint32_t *stops, size_t stops_len,
     const uint32_t *names, size_t names_len,
     const int64_t *block_prices, size_t block_prices_len, const int64_t *pe_prices, size_t pe_prices_len);
+
+/* Counts loads that were measured, in seconds say, in a unit that it chooses, so that they can be planned.
+ *
+ * scaled has as many entries as loads, of which there are TEZGUMI_ELEMENTS at most. TEZGUMI_OK: *unit is the least power of
+ * two in which no count is above TEZGUMI_LOAD, and not below 2^-1074; scaled[i] is loads[i] / *unit, rounded down. So a
+ * bottleneck times *unit is in seconds, and n elements have no division whose heaviest block is lighter, in seconds, by
+ * more than n units than that of the division that is least for the counts. This is proved.
+ * Otherwise TEZGUMI_BAD_INPUT, or what is wrong with the first load that is wrong: TEZGUMI_NOT_A_NUMBER, TEZGUMI_NEGATIVE
+ * (which minus infinity is, and -0 is not) or TEZGUMI_INFINITE; and nothing is written. It takes no memory. */
+int32_t tezgumi_scale(const double *loads, size_t loads_len, uint64_t *scaled, size_t scaled_len, double *unit);
 
 /* ---- 2. Runs and decisions ---- */
 
@@ -292,6 +308,24 @@ static inline int tezgumi_fit(const tezgumi_run *r, const tezgumi_decision *d)
 static inline void *tezgumi_or(const void *list, size_t count, void *none)
 {
     return count ? (void *)(uintptr_t)list : none;
+}
+
+/* Counts n measured loads as tezgumi_scale does, into room for n counts. unit may be null. */
+static inline int32_t tezgumi_scale_loads(const double *loads, size_t n, uint64_t *scaled, double *unit)
+{
+    tezgumi_area areas[3];
+    uint64_t none = 0;
+    double found = 0;
+    int32_t status;
+    if (n > TEZGUMI_ELEMENTS) return TEZGUMI_BAD_INPUT;
+    areas[0] = tezgumi_area_of(loads, n, sizeof *loads);
+    areas[1] = tezgumi_area_of(scaled, n, sizeof *scaled);
+    areas[2] = tezgumi_area_of(unit, unit ? 1 : 0, sizeof *unit);
+    if (!tezgumi_are_usable(areas, 1, 3)) return TEZGUMI_BAD_INPUT;
+    status = tezgumi_scale(
+        (const double *)tezgumi_or(loads, n, &none), n, (uint64_t *)tezgumi_or(scaled, n, &none), n, &found);
+    if (status == TEZGUMI_OK && unit) *unit = found;
+    return status;
 }
 
 /* Plans a run for pes PEs. new_places has room for the run's elements. bottleneck and moved may be null. */

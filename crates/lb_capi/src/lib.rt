@@ -3,10 +3,11 @@
 //!
 //! - [`tezgumi_plan`]: plans over the caller's own lists; [`tezgumi_decide`] writes the certificates too.
 //! - [`tezgumi_check`]: checks a plan with its certificates, whoever made it.
+//! - [`tezgumi_scale`]: loads in seconds as whole numbers, which can be planned.
 //! - [`tezgumi_abi`]: the number of this interface.
 #![tactic(auto)]
 
-ghost use Rattle.std.specs.Prelude.{◌≡◌, ◌≢◌, ◌↔◌, ◌⊎◌, ◌<◌, ◌≤◌, ◌+◌, ℕ, length, take, drop, pos, negsuc};
+ghost use Rattle.std.specs.Prelude.{◌≡◌, ◌≢◌, ◌↔◌, ◌⊎◌, ◌<◌, ◌≤◌, ◌+◌, ℕ, All, length, take, drop, pos, negsuc};
 ghost use Rattle.chain_partition.specs.Chosen.{IsChosen};
 ghost use Rattle.lb_certificates.specs.Flaws.{flaw_number};
 ghost use Rattle.lb_certificates.specs.Naming.{IsLeastNaming};
@@ -16,12 +17,17 @@ ghost use Rattle.lb_lists.specs.Claims.{claimed_division, IsBest, IsFirstFlaw, I
 ghost use Rattle.lb_lists.specs.Plans.{IsPlan};
 ghost use Rattle.lb_lists.specs.Rooms.{claim_in, HasRoom};
 ghost use Rattle.lb_lists.specs.Runs.{sizes_of, AreSmall, IsAsked};
-ghost use Rattle.lb_capi.specs.Calls.{claim_of, refusal_status, room_of, run_of};
+ghost use Rattle.lb_lists.specs.Scales.{IsFirstScaleFault, IsMeasured, IsRoomFor, IsScaled};
+ghost use Rattle.lb_lists.specs.declared.scaling.ScaleError.TheVariants.{NotANumber, Negative, Infinite};
+ghost use Rattle.lb_capi.specs.Calls.{claim_of, refusal_status, room_of, run_of, scale_status};
 
 #[cfg(test)]
 mod tests;
 
-use lb_lists::{Claim, Room, Run, RunError, check_claim, decide_into, number_of, plan_into};
+use lb_lists::{
+    Claim, Room, Run, RunError, ScaleError, check_claim, decide_into, number_of, plan_into,
+    scale_loads,
+};
 use std::alloc::Global;
 
 // The number of this interface.
@@ -208,5 +214,41 @@ pub extern "C" fn tezgumi_check(
         Ok(None) => 0,
         Ok(Some(flaw)) => i32::from(number_of(flaw)),
         Err(error) => status_of(error),
+    }
+}
+
+// The status of a refusal to scale.
+fn scale_status_of(error: ScaleError) -> i32
+    ensures { result ≡ scale_status error }
+{
+    match error {
+        ScaleError::BadInput => -1,
+        ScaleError::NotANumber => -4,
+        ScaleError::Negative => -5,
+        ScaleError::Infinite => -6,
+    }
+}
+
+/// Counts loads that were measured in the finest unit of a power of two that keeps their limit, each rounded down, and writes
+/// the counts and the unit: 0. Or -1 where there is not one count for each load, or there are more than 65,536; otherwise, of
+/// the first load that is wrong, -4 where it is no number, -5 where it is below 0 and -6 where it is infinite. Then nothing is
+/// written.
+#[unsafe(no_mangle)]
+pub extern "C" fn tezgumi_scale(loads: &[f64], scaled: &mut [u64], unit: &mut f64) -> i32
+    ensures scaled { result ≡ pos 0 → IsScaled loads.now unit.new scaled.new }
+    ensures succeeds { result ≡ pos 0 ↔ (IsRoomFor (length scaled.old) loads.now × All IsMeasured loads.now) }
+    ensures input { result ≡ negsuc 0 ↔ ¬ (IsRoomFor (length scaled.old) loads.now) }
+    ensures not_a_number { result ≡ negsuc 3 → IsFirstScaleFault loads.now NotANumber }
+    ensures negative { result ≡ negsuc 4 → IsFirstScaleFault loads.now Negative }
+    ensures infinite { result ≡ negsuc 5 → IsFirstScaleFault loads.now Infinite }
+    ensures statuses { (result ≡ pos 0) ⊎ (result ≡ negsuc 0) ⊎ (result ≡ negsuc 3) ⊎ (result ≡ negsuc 4) ⊎ (result ≡ negsuc 5) }
+    ensures kept { result ≢ pos 0 → (scaled.new ≡ scaled.old) × (unit.new ≡ unit.old) }
+{
+    match scale_loads(loads, scaled) {
+        Ok(found) => {
+            *unit = found;
+            0
+        }
+        Err(error) => scale_status_of(error),
     }
 }

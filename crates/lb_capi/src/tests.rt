@@ -1,7 +1,7 @@
 //! Each export where it succeeds, which no clause promises: memory may be refused. They stand here and not in a crate of
 //! tests, since no crate can depend on a static library. The answers were worked out by hand.
 
-use crate::{tezgumi_abi, tezgumi_check, tezgumi_decide, tezgumi_plan};
+use crate::{tezgumi_abi, tezgumi_check, tezgumi_decide, tezgumi_plan, tezgumi_scale};
 use std::alloc::Global;
 
 // Three elements on two PEs. The first two are one block, on PE 1, to which the first moves: 10 bytes. On PE 0 that block
@@ -106,4 +106,23 @@ fn a_claim_is_checked(rt: HostRuntime) {
     assert!(rt; status_with(alloc, 3, 10, &PE_PRICES) == 10);
     assert!(rt; status_with(alloc, 2, 11, &PE_PRICES) == 18);
     assert!(rt; status_with(alloc, 2, 10, &[0, 8, 0]) == 15);
+}
+
+// What scaling these loads comes to: the status, the counts and the unit.
+fn scaled(loads: &[f64]) -> (i32, [u64; 2], f64) {
+    let (mut counts, mut unit) = ([7; 2], 7.0);
+    let status = tezgumi_scale(loads, &mut counts, &mut unit);
+    (status, counts, unit)
+}
+
+#[test]
+fn loads_are_scaled(rt: HostRuntime) {
+    // 1.5 is 3 * 2^45 units of 2^-46; in units half as great it would be 3 * 2^46, which is more than 2^47 - 1.
+    let (status, counts, unit) = scaled(&[1.5, 0.25]);
+    assert!(rt; status == 0 && unit == 1.0 / 70_368_744_177_664.0);
+    assert!(rt; counts[0] == 105_553_116_266_496 && counts[1] == 17_592_186_044_416);
+    assert!(rt; scaled(&[f64::NAN, -1.0]).0 == -4 && scaled(&[0.5, -1.0]).0 == -5);
+    assert!(rt; scaled(&[f64::INFINITY, f64::NAN]).0 == -6 && scaled(&[1.0]).0 == -1);
+    let (status, counts, unit) = scaled(&[f64::NEG_INFINITY, 1.0]);
+    assert!(rt; status == -5 && counts[0] == 7 && counts[1] == 7 && unit == 7.0);
 }

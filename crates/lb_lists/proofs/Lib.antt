@@ -2,6 +2,7 @@ pub mod Blocks
 pub mod Claims
 pub mod FirstFlaws
 pub mod Greatest
+pub mod NearLeast
 pub mod OnePlan
 pub mod Plans
 pub mod ShortClaims

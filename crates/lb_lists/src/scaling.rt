@@ -149,10 +149,11 @@ fn unit_of(power: u32) -> f64
 
 /// Counts loads that were measured, as in seconds, in a unit that it chooses: the least power of two in which no count is
 /// above [`Limits::LOAD`](chare_index::Limits::LOAD), so that the counts can be planned. Each is rounded down. The unit is
-/// returned; times it, a bottleneck is again in seconds.
+/// returned; a bottleneck times the unit is in seconds again.
 ///
-/// In any block at most a unit an element was rounded away: so the heaviest block of a least division of the counts is
-/// heavier, in seconds, than that of any other division by at most as many units as there are elements ([`near_least`](crate::near_least)).
+/// Less than a unit an element was rounded away. So a division that is least for the counts is, in seconds, nearly least
+/// for the loads: no other has a heaviest block that is lighter by more than as many units as there are elements
+/// ([`near_least`](crate::near_least)).
 ///
 /// # Errors
 ///

@@ -1,4 +1,3 @@
-use Rattle.std.proofs.Common.{◌≡◌, arith}
 use Rattle.lb_lists.proofs.Ticks.{down_by, up_by, up_few}
 use Rattle.lb_lists.proofs.scaling.count_of.Goals as goal
 

@@ -1,4 +1,4 @@
-use Rattle.std.proofs.Common.{◌≡◌, ◌∙◌, sym}
+use Rattle.std.proofs.Common.{◌∙◌, sym}
 use Rattle.lb_lists.proofs.Ticks.{infinite_wrong, nan_wrong, negative_wrong, nothing_wrong, tested_above, tested_below}
 use Rattle.lb_lists.proofs.scaling.fault_of.Goals as goal
 

@@ -1,4 +1,4 @@
-use Rattle.std.proofs.Common.{◌≡◌, ◌∙◌, ◌-◌, arith, ap, sym}
+use Rattle.std.proofs.Common.{◌∙◌, arith, sym}
 use Rattle.std.proofs.Math.Nat.{mul-one}
 use Rattle.std.specs.Bool.{passes}
 use Rattle.lb_lists.proofs.Ticks.{measured_number, some_bits, zero_bits}

@@ -1,4 +1,4 @@
-use Rattle.std.proofs.Common.{◌≡◌, ◌<◌, ◌-◌, ◌*◌, ◌%◌, ◌^◌, arith}
+use Rattle.std.proofs.Common.{arith}
 use Rattle.std.proofs.Math.Pow.{pow-lt}
 use Rattle.lb_lists.proofs.Ticks.{high_unit, low_unit, number_bits}
 use Rattle.lb_lists.proofs.scaling.unit_of.Goals as goal
