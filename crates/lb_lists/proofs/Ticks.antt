@@ -11,7 +11,7 @@ use Rattle.std.specs.Prelude.{slice_index_or}
 use lib.Dec.{T, eqb, leb, ltb, lt→ltb, ltb→lt}
 use lib.IntN.{ℤ, pos}
 use mathlib.Core.Bool.{cond, not}
-use lib.Ieee.{Float, nan, inf, fin, binary64, fits, lt, up, down, odd, of_fields, of_bits, to_bits, is_nan, nan_bits, hid, top, ones, low}
+use lib.Ieee.{Float, nan, inf, fin, binary64, fits, lt, up, down, odd, of_fields, of_bits, to_bits, is_nan, nan_bits, hid, top, ones}
 use lib.Ieee.Bits.{of_bits-to_bits, nan_bits_is}
 use lib.Ieee.Exact.{HasValue, odd_sign}
 use lib.Ieee.Fits.{down_pos, up_pos}

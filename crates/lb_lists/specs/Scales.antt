@@ -1,5 +1,5 @@
 -- Loads that were measured as binary64 numbers, counted in whole units.
-use Rattle.std.specs.Prelude.{◌≡◌, ◌≢◌, ◌⊎◌, ℕ, ◌-◌, ◌*◌, ◌/◌, ◌^◌, ◌<◌, ◌≤◌, List, length, map, take, All, true, false, slice_index_or}
+use Rattle.std.specs.Prelude.{◌≡◌, ◌⊎◌, ℕ, ◌*◌, ◌/◌, ◌^◌, ◌<◌, ◌≤◌, List, length, map, take, All, true, false, slice_index_or}
 use Rattle.std.specs.Float.{Float, nan, inf, fin, float_zero}
 use lib.Ieee.{up, down}
 use Rattle.chare_index.specs.declared.limits.TheConstants.Limits.{ELEMENTS, LOAD}
