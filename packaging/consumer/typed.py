@@ -32,7 +32,7 @@ def heaviest(run: tezgumi.Run, pes: int) -> int:
 
 def main() -> None:
     loads, sizes, places = [2, 1, 2, 4, 4, 5], [100, 100, 100, 300, 300, 300], [0, 0, 1, 2, 2, 2]
-    run = tezgumi.Run(3, np.array(loads, np.int32), np.array(sizes, np.uint8 if max(sizes) < 256 else np.int64), Series(places))
+    run = tezgumi.Run(3, np.array(loads, np.int32), np.array(sizes, np.uint16), Series(places))
     assert run == tezgumi.Run(procs=3, loads=loads, bytes=sizes, places=places)
     print("tezgumi", tezgumi.__version__, "heaviest", heaviest(run, 3))
     plan: tezgumi.Plan = tezgumi.plan(run)
