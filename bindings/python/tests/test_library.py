@@ -10,7 +10,7 @@ import tezgumi
 from support import CHECKOUT, PACKAGES, THREE, TimedTest
 from tezgumi import library
 
-OTHER = "unsigned tezgumi_abi(void) { return 99; } int tezgumi_plan, tezgumi_decide, tezgumi_check;"
+OTHER = "unsigned tezgumi_abi(void) { return 99; } int tezgumi_plan, tezgumi_decide, tezgumi_check, tezgumi_scale;"
 
 
 class Found(TimedTest):

@@ -42,7 +42,7 @@ def library() -> ctypes.CDLL:
         found = ctypes.CDLL(path)
         found.tezgumi_abi.restype = _WORD
         abi = found.tezgumi_abi()
-        calls = found.tezgumi_plan, found.tezgumi_decide, found.tezgumi_check
+        calls = found.tezgumi_plan, found.tezgumi_decide, found.tezgumi_check, found.tezgumi_scale
     except (OSError, AttributeError) as error:
         raise LibraryError(f"no libtezgumi ({error}); {_HELP}") from error
     if abi != ABI:
@@ -52,6 +52,7 @@ def library() -> ctypes.CDLL:
     found.tezgumi_plan.argtypes = _PLAN
     found.tezgumi_decide.argtypes = _PLAN + _LIST * 2 + [_POINTER] + _LIST * 3
     found.tezgumi_check.argtypes = _RUN + _LIST + [_LONG, _LONG] + _LIST * 5
+    found.tezgumi_scale.argtypes = _LIST * 2 + [_POINTER]
     return found
 
 

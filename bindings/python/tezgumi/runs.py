@@ -9,6 +9,7 @@ from numpy.typing import ArrayLike, NDArray
 
 from .errors import InputError, LoadError
 from .lists import frozen, same_fields, shown, whole_number
+from .scales import are_floats, in_units, scaled, unit_of
 
 ELEMENTS = 65_536
 """At most so many elements."""
@@ -44,9 +45,15 @@ class _Record:
 class Run(_Record):
     """A chain of elements, in order, on `procs` PEs: the load, the packed size and the present PE of each.
 
-    The lists may be numpy arrays or plain lists of whole numbers. A float is refused: round it first. They are copied, and
-    cannot be written to; with copy=False an array that has the type already is taken as it is, and must not be written to
-    while the run is in use. `replace(run, procs=4)` of dataclasses makes another run.
+    The lists may be numpy arrays or plain lists of whole numbers. They are copied, and cannot be written to; with copy=False
+    an array that has the type already is taken as it is, and must not be written to while the run is in use.
+    `replace(run, procs=4)` of dataclasses makes another run.
+
+    A float is refused, but as a load where it is asked for. With scale=True the loads are measured, in seconds say, and are
+    counted in the finest unit of a power of two that the limit of a load allows, each rounded down; with unit=0.001 floats
+    are counted in that unit, each rounded to the nearest, and whole numbers are counts in it already. `unit` has the unit,
+    or None. A bottleneck times the unit is in seconds again; and for scaled loads it is proved that no division has a
+    heaviest block that is lighter, in seconds, than that of the plan by more than as many units as there are elements.
     """
 
     procs: int
@@ -55,23 +62,38 @@ class Run(_Record):
     places: NDArray[np.uint32]
     step: int = 0
     copy: InitVar[bool] = True
+    unit: float | None = None
+    scale: InitVar[bool] = False
 
     if TYPE_CHECKING:
         def __init__(
                 self, procs: int, loads: ArrayLike, bytes: ArrayLike, places: ArrayLike, step: int = 0,
-                copy: bool = True) -> None: ...
+                copy: bool = True, unit: float | None = None, scale: bool = False) -> None: ...
 
-    def __post_init__(self, copy: bool) -> None:
+    def __post_init__(self, copy: bool, scale: bool) -> None:
         self._keep("procs", whole_number(self.procs, 1, PES, "procs"))
         self._keep("step", whole_number(self.step, 0, _WORD, "step"))
         self._keep("bytes", frozen(self.bytes, np.uint32, "bytes", _wrong_bytes, STATE_BYTES, copy))
         self._keep("places", frozen(self.places, np.uint32, "places", self._wrong_place, self.procs - 1, copy))
+        self._count(scale)
         self._keep("loads", frozen(self.loads, np.uint64, "loads", _wrong_load, LOAD, copy))
         counts = len(self.loads), len(self.bytes), len(self.places)
         if len(set(counts)) > 1:
             raise InputError("there are {} loads, {} packed sizes and {} places; an element has one of each".format(*counts))
         if counts[0] > ELEMENTS:
             raise InputError(f"there are {counts[0]} elements, and at most {ELEMENTS} are taken")
+
+    def _count(self, scale: bool) -> None:
+        if scale and self.unit is not None:
+            raise InputError("scale chooses a unit, and unit gives one: leave one out")
+        if scale:
+            counts, unit = scaled(self.loads, ELEMENTS)
+            self._keep("loads", counts)
+            self._keep("unit", unit)
+        elif self.unit is not None:
+            self._keep("unit", unit_of(self.unit))
+            if are_floats(self.loads):
+                self._keep("loads", in_units(self.loads, self.unit, LOAD))
 
     def _wrong_place(self, index: int, value: Any) -> InputError:
         return on_no_processor(index, value, self.procs)
@@ -81,7 +103,8 @@ class Run(_Record):
 
     def __repr__(self) -> str:
         lists = ", ".join(f"{name}={shown(getattr(self, name))}" for name in ("loads", "bytes", "places"))
-        return f"Run({len(self)} elements, procs={self.procs}, {lists}, step={self.step})"
+        unit = "" if self.unit is None else f", unit={self.unit!r}"
+        return f"Run({len(self)} elements, procs={self.procs}, {lists}, step={self.step}{unit})"
 
     def after(self, plan: Plan, step: int | None = None) -> Run:
         """The run as it stands once the elements of a plan or a decision have moved."""
