@@ -40,11 +40,11 @@ def in_units(loads: ArrayLike, unit: float, most: int) -> NDArray[np.uint64]:
         if _is_wrong(values, status).any():
             raise _first_wrong(values, status)
     with np.errstate(over="ignore"):
-        counts = np.rint(values / unit)
+        counts: NDArray[np.float64] = np.rint(values / unit)
     if counts.size and not counts.max() <= most:
         index = int(np.argmax(~(counts <= most)))
         raise LoadError(f"element {index} has too great a load: {values[index]!s} is more than {most} units of {unit!r}")
-    return counts.astype(np.uint64)
+    return np.asarray(counts, np.uint64)
 
 
 def unit_of(value: Any) -> float:
