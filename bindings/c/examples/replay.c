@@ -44,10 +44,11 @@ static int read_dump(FILE *file, dump *d)
     return fgetc(file) == EOF;
 }
 
+/* Prints a decision, and the number of PEs that it was made for, which may be another than the run's. */
 static void print_decision(const dump *d, const tezgumi_decision *decision)
 {
     uint32_t b, i;
-    printf("step %" PRIu32 " procs %" PRIu32 " elements %" PRIu32 "\n", d->step, d->run.procs, d->run.n);
+    printf("step %" PRIu32 " procs %" PRIu32 " elements %" PRIu32 "\n", d->step, decision->pes, d->run.n);
     printf("bottleneck %" PRIu64 "\nfence", decision->bottleneck);
     for (i = 0; i < decision->stops_count; i++) printf(" %" PRIu32, decision->stops[i]);
     if (decision->stops_count == 0) printf(" zero");
@@ -75,13 +76,21 @@ static int32_t replay(const dump *d, uint32_t pes)
     return status;
 }
 
+/* The number of PEs that a word gives; 0, which the planner refuses, where it gives none. */
+static uint32_t pes_of(const char *word)
+{
+    char *end;
+    const unsigned long number = strtoul(word, &end, 10);
+    return *end || number > TEZGUMI_PES ? 0 : (uint32_t)number;
+}
+
 int main(int count, char **words)
 {
     FILE *file = count > 1 ? fopen(words[1], "rb") : NULL;
     dump d;
     int32_t status = TEZGUMI_BAD_INPUT;
     memset(&d, 0, sizeof d);
-    if (file && read_dump(file, &d)) status = replay(&d, count > 2 ? (uint32_t)strtoul(words[2], NULL, 10) : d.run.procs);
+    if (file && read_dump(file, &d)) status = replay(&d, count > 2 ? pes_of(words[2]) : d.run.procs);
     if (status != TEZGUMI_OK) fprintf(stderr, "not replayed: %s\n", tezgumi_status_name(status));
     if (file) fclose(file);
     free(d.loads);

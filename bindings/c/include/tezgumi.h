@@ -9,18 +9,21 @@
  *
  * There are two layers.
  *
- *   1. tezgumi_abi, tezgumi_plan, tezgumi_decide and tezgumi_check are the library's exports. What they answer is proved.
+ *   1. tezgumi_abi, tezgumi_plan, tezgumi_decide, tezgumi_check and tezgumi_scale are the library's exports. What they answer is proved.
  *      A list is a pointer and a length, in elements. The caller owes:
- *        - no pointer is null, not even that of a list without elements, and each is aligned for its type;
+ *        - no pointer is null, not even that of a list without elements, and each is aligned for its type: to 8 bytes for
+ *          64-bit numbers, and to 4 for 32-bit ones;
  *        - each list has the elements that its length says;
  *        - what a call writes overlaps nothing else that it is given;
  *        - no other thread writes what a call reads, or touches what it writes, before it returns.
  *   2. tezgumi_run, tezgumi_decision and the functions on them, static inline in this header, are tested and not proved.
  *      They look for null, misaligned and overlapping lists and for wrong lengths first, and answer TEZGUMI_BAD_INPUT,
- *      where an export would be undefined. A list without elements may be null.
+ *      where an export would be undefined. A list without elements may be null or misaligned: it is not passed on.
  *
  * Every call takes its memory by malloc and realloc and gives it back by free before it returns. It keeps nothing, so
- * any number of threads may call at once; 32 KiB of stack are enough. Do not call from a signal handler.
+ * any number of threads may call at once; 32 KiB of stack are enough. The three functions belong to one allocator, which
+ * aligns a block to each power of two up to 16 that divides its size, as the C library's do. Do not call from a signal
+ * handler, nor in the child of a process with threads between fork and exec.
  *
  * The same run and the same number of PEs have the same places, bottleneck and bytes, in every process and on every
  * machine. This is proved. So each rank of a parallel program may plan by itself, from the same lists.
@@ -54,6 +57,9 @@ enum {
     TEZGUMI_BAD_INPUT = -1, /* a length, a place that is not below procs, no PE, or a limit other than TEZGUMI_LOAD */
     TEZGUMI_BAD_LOAD = -3,  /* all else is in order, and a load is above TEZGUMI_LOAD */
     TEZGUMI_NO_MEMORY = -2, /* all is in order, and malloc or realloc refused */
+    TEZGUMI_NOT_A_NUMBER = -4, /* of loads to be scaled the first that is wrong is not a number */
+    TEZGUMI_NEGATIVE = -5,     /* or it is below 0 */
+    TEZGUMI_INFINITE = -6,     /* or it is infinite */
     /* Above 0 the claim is wrong, and this is the least flaw that it has. */
     TEZGUMI_CUT_COUNT = 1,    /* there are not pes + 1 cuts */
     TEZGUMI_CUT_START = 2,    /* the first cut is not 0 */
@@ -84,6 +90,9 @@ static inline const char *tezgumi_status_name(int32_t status)
     case TEZGUMI_BAD_INPUT: return "bad input";
     case TEZGUMI_BAD_LOAD: return "a load is too great";
     case TEZGUMI_NO_MEMORY: return "out of memory";
+    case TEZGUMI_NOT_A_NUMBER: return "a load is not a number";
+    case TEZGUMI_NEGATIVE: return "a load is negative";
+    case TEZGUMI_INFINITE: return "a load is infinite";
     case TEZGUMI_CUT_COUNT: return "wrong number of cuts";
     case TEZGUMI_CUT_START: return "the first cut is not 0";
     case TEZGUMI_CUT_ORDER: return "a cut is greater than the next";
@@ -130,7 +139,9 @@ int32_t tezgumi_plan(
  *
  * cuts and stops have pes + 1 entries, names, block_prices and pe_prices have pes. Block b is the elements
  * cuts[b] .. cuts[b + 1] - 1, and runs on PE names[b]. The first *stops_count stops are the fence that proves the
- * bottleneck least: pes + 1, or 0 where the bottleneck is 0. The prices of blocks and PEs prove the names cheapest. */
+ * bottleneck least: pes + 1, or 0 where the bottleneck is 0. The prices of blocks and PEs prove the names cheapest. With C
+ * for the greatest number of bytes that a block moves to some PE, which is 2^36 at most, each price of a block is 0 .. C
+ * and each price of a PE is -C .. 0. */
 int32_t tezgumi_decide(
     const uint64_t *loads, size_t loads_len, const uint32_t *bytes, size_t bytes_len,
     const uint32_t *places, size_t places_len, uint32_t procs, uint32_t pes,
@@ -144,8 +155,9 @@ int32_t tezgumi_decide(
  *
  * TEZGUMI_OK exactly where every part of the claim is right. Then no division into pes consecutive blocks has a lighter
  * heaviest block, no naming of these blocks moves fewer bytes, and new_places are the names of the elements' blocks.
- * Above 0: the least flaw of the claim. TEZGUMI_BAD_INPUT and TEZGUMI_BAD_LOAD, where tezgumi_plan would answer them, say
- * that the run, procs or pes is not in order; after these and TEZGUMI_NO_MEMORY nothing is known of the claim. */
+ * Above 0: the least flaw of the claim; that there is not one new place for each element is the flaw
+ * TEZGUMI_PLACES_WRONG. TEZGUMI_BAD_INPUT and TEZGUMI_BAD_LOAD say that the run, procs or pes is not in order; after these
+ * and TEZGUMI_NO_MEMORY nothing is known of the claim. */
 int32_t tezgumi_check(
     const uint64_t *loads, size_t loads_len, const uint32_t *bytes, size_t bytes_len,
     const uint32_t *places, size_t places_len, uint32_t procs, uint32_t pes,
@@ -153,6 +165,16 @@ int32_t tezgumi_check(
     const uint32_t *cuts, size_t cuts_len, const uint32_t *stops, size_t stops_len,
     const uint32_t *names, size_t names_len,
     const int64_t *block_prices, size_t block_prices_len, const int64_t *pe_prices, size_t pe_prices_len);
+
+/* Counts loads that were measured, in seconds say, in a unit that it chooses, so that they can be planned.
+ *
+ * scaled has as many entries as loads, of which there are TEZGUMI_ELEMENTS at most. TEZGUMI_OK: *unit is the least power of
+ * two in which no count is above TEZGUMI_LOAD, and not below 2^-1074; scaled[i] is loads[i] / *unit, rounded down. So a
+ * bottleneck times *unit is in seconds, and n elements have no division whose heaviest block is lighter, in seconds, by
+ * more than n units than that of the division that is least for the counts. This is proved.
+ * Otherwise TEZGUMI_BAD_INPUT, or what is wrong with the first load that is wrong: TEZGUMI_NOT_A_NUMBER, TEZGUMI_NEGATIVE
+ * (which minus infinity is, and -0 is not) or TEZGUMI_INFINITE; and nothing is written. It takes no memory. */
+int32_t tezgumi_scale(const double *loads, size_t loads_len, uint64_t *scaled, size_t scaled_len, double *unit);
 
 /* ---- 2. Runs and decisions ---- */
 
@@ -182,8 +204,10 @@ typedef struct {
     void *room;            /* what tezgumi_decision_free gives back */
 } tezgumi_decision;
 
-/* Gets room for a decision on n elements and pes PEs, whose lists are all 0. TEZGUMI_BAD_INPUT where d is null or a
- * number is past its limit, TEZGUMI_NO_MEMORY where calloc refused: *d may then be freed all the same. */
+/* Gets room for a decision on n elements and pes PEs, whose lists are all 0. What stands in *d is overwritten unread, as
+ * nothing need have been written there: free a decision that holds room first, or that room is lost. TEZGUMI_BAD_INPUT
+ * where d is null or a number is past its limit, TEZGUMI_NO_MEMORY where calloc refused: *d may then be freed all the
+ * same. */
 static inline int32_t tezgumi_decision_room(tezgumi_decision *d, uint32_t n, uint32_t pes)
 {
     const size_t prices = 2 * (size_t)pes * sizeof(int64_t);
@@ -280,10 +304,28 @@ static inline int tezgumi_fit(const tezgumi_run *r, const tezgumi_decision *d)
     return r && d && r->n == d->n && r->n <= TEZGUMI_ELEMENTS && d->pes >= 1 && d->pes <= TEZGUMI_PES;
 }
 
-/* What stands for a list without elements: an address that nothing is read from or written to. */
-static inline void *tezgumi_or(const void *list, void *none)
+/* The list or, where it has no entry and may be null or misaligned, an address that nothing is read from or written to. */
+static inline void *tezgumi_or(const void *list, size_t count, void *none)
 {
-    return list ? (void *)(uintptr_t)list : none;
+    return count ? (void *)(uintptr_t)list : none;
+}
+
+/* Counts n measured loads as tezgumi_scale does, into room for n counts. unit may be null. */
+static inline int32_t tezgumi_scale_loads(const double *loads, size_t n, uint64_t *scaled, double *unit)
+{
+    tezgumi_area areas[3];
+    uint64_t none = 0;
+    double found = 0;
+    int32_t status;
+    if (n > TEZGUMI_ELEMENTS) return TEZGUMI_BAD_INPUT;
+    areas[0] = tezgumi_area_of(loads, n, sizeof *loads);
+    areas[1] = tezgumi_area_of(scaled, n, sizeof *scaled);
+    areas[2] = tezgumi_area_of(unit, unit ? 1 : 0, sizeof *unit);
+    if (!tezgumi_are_usable(areas, 1, 3)) return TEZGUMI_BAD_INPUT;
+    status = tezgumi_scale(
+        (const double *)tezgumi_or(loads, n, &none), n, (uint64_t *)tezgumi_or(scaled, n, &none), n, &found);
+    if (status == TEZGUMI_OK && unit) *unit = found;
+    return status;
 }
 
 /* Plans a run for pes PEs. new_places has room for the run's elements. bottleneck and moved may be null. */
@@ -300,9 +342,9 @@ static inline int32_t tezgumi_plan_run(
     areas[5] = tezgumi_area_of(moved, moved ? 1 : 0, sizeof *moved);
     if (!tezgumi_are_usable(areas, 3, 6)) return TEZGUMI_BAD_INPUT;
     status = tezgumi_plan(
-        (const uint64_t *)tezgumi_or(r->loads, &none), r->n, (const uint32_t *)tezgumi_or(r->bytes, &none), r->n,
-        (const uint32_t *)tezgumi_or(r->places, &none), r->n, r->procs, pes,
-        (uint32_t *)tezgumi_or(new_places, &none), r->n, &found, &bytes_moved);
+        (const uint64_t *)tezgumi_or(r->loads, r->n, &none), r->n, (const uint32_t *)tezgumi_or(r->bytes, r->n, &none), r->n,
+        (const uint32_t *)tezgumi_or(r->places, r->n, &none), r->n, r->procs, pes,
+        (uint32_t *)tezgumi_or(new_places, r->n, &none), r->n, &found, &bytes_moved);
     if (status != TEZGUMI_OK) return status;
     if (bottleneck) *bottleneck = found;
     if (moved) *moved = bytes_moved;
@@ -324,9 +366,9 @@ static inline int32_t tezgumi_decide_run(const tezgumi_run *r, tezgumi_decision 
     areas[9] = tezgumi_area_of(d, sizeof *d, 1);
     if (!tezgumi_are_usable(areas, 3, 10)) return TEZGUMI_BAD_INPUT;
     return tezgumi_decide(
-        (const uint64_t *)tezgumi_or(r->loads, &none), r->n, (const uint32_t *)tezgumi_or(r->bytes, &none), r->n,
-        (const uint32_t *)tezgumi_or(r->places, &none), r->n, r->procs, d->pes,
-        (uint32_t *)tezgumi_or(d->new_places, &none), r->n, &d->bottleneck, &d->moved,
+        (const uint64_t *)tezgumi_or(r->loads, r->n, &none), r->n, (const uint32_t *)tezgumi_or(r->bytes, r->n, &none), r->n,
+        (const uint32_t *)tezgumi_or(r->places, r->n, &none), r->n, r->procs, d->pes,
+        (uint32_t *)tezgumi_or(d->new_places, r->n, &none), r->n, &d->bottleneck, &d->moved,
         d->cuts, ends, d->stops, ends, &d->stops_count, d->names, blocks, d->block_prices, blocks, d->pe_prices, blocks);
 }
 
@@ -342,10 +384,10 @@ static inline int32_t tezgumi_check_run(const tezgumi_run *r, const tezgumi_deci
     tezgumi_decision_areas(d, d->stops_count, areas + 3);
     if (!tezgumi_are_usable(areas, 9, 9)) return TEZGUMI_BAD_INPUT;
     return tezgumi_check(
-        (const uint64_t *)tezgumi_or(r->loads, &none), r->n, (const uint32_t *)tezgumi_or(r->bytes, &none), r->n,
-        (const uint32_t *)tezgumi_or(r->places, &none), r->n, r->procs, d->pes,
-        (const uint32_t *)tezgumi_or(d->new_places, &none), r->n, d->bottleneck, d->moved, d->cuts, blocks + 1,
-        (const uint32_t *)tezgumi_or(d->stops, &none), d->stops_count, d->names, blocks,
+        (const uint64_t *)tezgumi_or(r->loads, r->n, &none), r->n, (const uint32_t *)tezgumi_or(r->bytes, r->n, &none), r->n,
+        (const uint32_t *)tezgumi_or(r->places, r->n, &none), r->n, r->procs, d->pes,
+        (const uint32_t *)tezgumi_or(d->new_places, r->n, &none), r->n, d->bottleneck, d->moved, d->cuts, blocks + 1,
+        (const uint32_t *)tezgumi_or(d->stops, d->stops_count, &none), d->stops_count, d->names, blocks,
         d->block_prices, blocks, d->pe_prices, blocks);
 }
 

@@ -1,8 +1,70 @@
-/* The functions on runs and decisions: what they refuse before the library is asked, and lists without elements. */
+/* The functions on runs and decisions: what they refuse before the library is asked, and lists without elements. The
+ * exports look at what they are passed. Linked with -Wl,--wrap=tezgumi_plan,--wrap=tezgumi_decide,--wrap=tezgumi_check. */
 #include "harness.h"
 #include <tezgumi.h>
 
 enum { N = 3, P = 2 };
+
+/* Each pointer that was passed was aligned, and none was null. */
+static int passed_rightly = 1;
+
+static void look(const void *list, size_t size)
+{
+    passed_rightly = passed_rightly && list && (uintptr_t)list % size == 0;
+}
+
+static void look_at_run(const uint64_t *loads, const uint32_t *bytes, const uint32_t *places)
+{
+    look(loads, sizeof *loads);
+    look(bytes, sizeof *bytes);
+    look(places, sizeof *places);
+}
+
+extern __typeof__(tezgumi_plan) __real_tezgumi_plan, __wrap_tezgumi_plan;
+extern __typeof__(tezgumi_decide) __real_tezgumi_decide, __wrap_tezgumi_decide;
+extern __typeof__(tezgumi_check) __real_tezgumi_check, __wrap_tezgumi_check;
+
+int32_t __wrap_tezgumi_plan(const uint64_t *l, size_t l_len, const uint32_t *b, size_t b_len, const uint32_t *p, size_t p_len,
+    uint32_t procs, uint32_t pes, uint32_t *to, size_t to_len, uint64_t *bottleneck, uint64_t *moved)
+{
+    look_at_run(l, b, p);
+    look(to, sizeof *to);
+    look(bottleneck, sizeof *bottleneck);
+    look(moved, sizeof *moved);
+    return __real_tezgumi_plan(l, l_len, b, b_len, p, p_len, procs, pes, to, to_len, bottleneck, moved);
+}
+
+int32_t __wrap_tezgumi_decide(const uint64_t *l, size_t l_len, const uint32_t *b, size_t b_len, const uint32_t *p,
+    size_t p_len, uint32_t procs, uint32_t pes, uint32_t *to, size_t to_len, uint64_t *bottleneck, uint64_t *moved,
+    uint32_t *cuts, size_t cuts_len, uint32_t *stops, size_t stops_len, size_t *stops_count, uint32_t *names,
+    size_t names_len, int64_t *u, size_t u_len, int64_t *v, size_t v_len)
+{
+    look_at_run(l, b, p);
+    look(to, sizeof *to);
+    look(cuts, sizeof *cuts);
+    look(stops, sizeof *stops);
+    look(names, sizeof *names);
+    look(u, sizeof *u);
+    look(v, sizeof *v);
+    return __real_tezgumi_decide(l, l_len, b, b_len, p, p_len, procs, pes, to, to_len, bottleneck, moved, cuts, cuts_len,
+        stops, stops_len, stops_count, names, names_len, u, u_len, v, v_len);
+}
+
+int32_t __wrap_tezgumi_check(const uint64_t *l, size_t l_len, const uint32_t *b, size_t b_len, const uint32_t *p,
+    size_t p_len, uint32_t procs, uint32_t pes, const uint32_t *to, size_t to_len, uint64_t bottleneck, uint64_t moved,
+    const uint32_t *cuts, size_t cuts_len, const uint32_t *stops, size_t stops_len, const uint32_t *names, size_t names_len,
+    const int64_t *u, size_t u_len, const int64_t *v, size_t v_len)
+{
+    look_at_run(l, b, p);
+    look(to, sizeof *to);
+    look(cuts, sizeof *cuts);
+    look(stops, sizeof *stops);
+    look(names, sizeof *names);
+    look(u, sizeof *u);
+    look(v, sizeof *v);
+    return __real_tezgumi_check(l, l_len, b, b_len, p, p_len, procs, pes, to, to_len, bottleneck, moved, cuts, cuts_len, stops,
+        stops_len, names, names_len, u, u_len, v, v_len);
+}
 
 static const uint64_t loads[N] = {1, 1, 2};
 static const uint32_t bytes[N] = {10, 9, 8}, places[N] = {0, 1, 0};
@@ -102,6 +164,30 @@ static void decisions(void)
     test("all is null after free", d.room == NULL && d.cuts == NULL && d.pes == 0);
 }
 
+/* A list without elements may be misaligned, and so may the stops where there are none. */
+static void misaligned_nothing(void)
+{
+    union {
+        uint64_t words[2];
+        unsigned char chars[16];
+    } room;
+    const void *odd = room.chars + 1;
+    tezgumi_run none = {0, P, NULL, NULL, NULL};
+    tezgumi_decision d;
+    memset(&room, 0x5a, sizeof room);
+    memcpy(&none.loads, &odd, sizeof odd);
+    memcpy(&none.bytes, &odd, sizeof odd);
+    memcpy(&none.places, &odd, sizeof odd);
+    tezgumi_decision_room(&d, 0, P);
+    memcpy(&d.new_places, &odd, sizeof odd);
+    same("no element at an odd address is planned", tezgumi_plan_run(&none, P, d.new_places, NULL, NULL), TEZGUMI_OK);
+    same("decided", tezgumi_decide_run(&none, &d), TEZGUMI_OK);
+    memcpy(&d.stops, &odd, sizeof odd);
+    same("and checked, with no stop at one", tezgumi_check_run(&none, &d), TEZGUMI_OK);
+    test("nothing was written there", room.words[0] == UINT64_C(0x5a5a5a5a5a5a5a5a) && room.words[1] == room.words[0]);
+    tezgumi_decision_free(&d);
+}
+
 /* Where the bottleneck is 0 there is no fence; and a list without elements may be null. */
 static void nothing(void)
 {
@@ -133,5 +219,7 @@ int main(void)
     overlaps();
     decisions();
     nothing();
+    misaligned_nothing();
+    test("the exports were passed no null pointer and none that is misaligned", passed_rightly);
     return failures != 0;
 }

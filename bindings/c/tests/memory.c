@@ -1,5 +1,6 @@
 /* Refuses each request for memory in turn: out of memory, nothing written, all given back, and the same call then
- * succeeds. And full runs in threads of 32 KiB of stack, side by side. Linked with
+ * succeeds. Claims with long lists, which take no more memory than others. And full runs in threads of 32 KiB of stack, side
+ * by side. Linked with
  * -Wl,--wrap=malloc,--wrap=calloc,--wrap=realloc,--wrap=free -pthread. */
 #include "harness.h"
 #include <pthread.h>
@@ -7,10 +8,12 @@
 
 enum { N = 3, P = 2, MANY = 65536, PES = 256, THREADS = 4, STACK = 32768 };
 
-/* While it counts: how many requests are still granted, how many there were, and how many blocks are held. The compiler
- * takes it that malloc and its kin touch nothing of this file, so all is volatile. */
+/* While it counts: how many requests are still granted, how many there were, how many blocks are held, and how many bytes
+ * the greatest request was for. The compiler takes it that malloc and its kin touch nothing of this file, so all is
+ * volatile. */
 static volatile int counting;
 static volatile long granted, requests, held;
+static volatile size_t greatest;
 
 void *__real_malloc(size_t);
 void *__real_calloc(size_t, size_t);
@@ -21,9 +24,10 @@ void *__wrap_calloc(size_t, size_t);
 void *__wrap_realloc(void *, size_t);
 void __wrap_free(void *);
 
-static int refuses(void)
+static int refuses(size_t size)
 {
     requests++;
+    if (size > greatest) greatest = size;
     return granted-- <= 0;
 }
 
@@ -31,7 +35,7 @@ void *__wrap_malloc(size_t size)
 {
     void *block;
     if (!counting) return __real_malloc(size);
-    block = refuses() ? NULL : __real_malloc(size);
+    block = refuses(size) ? NULL : __real_malloc(size);
     held += block != NULL;
     return block;
 }
@@ -40,7 +44,7 @@ void *__wrap_calloc(size_t count, size_t size)
 {
     void *block;
     if (!counting) return __real_calloc(count, size);
-    block = refuses() ? NULL : __real_calloc(count, size);
+    block = refuses(count * size) ? NULL : __real_calloc(count, size);
     held += block != NULL;
     return block;
 }
@@ -49,7 +53,7 @@ void *__wrap_realloc(void *old, size_t size)
 {
     void *block;
     if (!counting) return __real_realloc(old, size);
-    block = refuses() ? NULL : __real_realloc(old, size);
+    block = refuses(size) ? NULL : __real_realloc(old, size);
     held += block != NULL && old == NULL;
     return block;
 }
@@ -111,6 +115,37 @@ static void each_refused(const char *name, int32_t (*call)(output *), const outp
     same("with all it succeeds", status, TEZGUMI_OK);
 }
 
+/* A right claim but for one list that is too long has the flaw of that list, and no request is for the whole list. */
+static void long_lists(const output *o)
+{
+    static const uint32_t words[MANY];
+    static const int64_t prices[MANY];
+    static const struct {
+        const char *what;
+        int32_t flaw;
+        int list;
+    } rows[] = {
+        {"new places", TEZGUMI_PLACES_WRONG, 0}, {"cuts", TEZGUMI_CUT_COUNT, 1}, {"stops", TEZGUMI_FENCE_COUNT, 2},
+        {"names", TEZGUMI_NAME_COUNT, 3}, {"prices of blocks", TEZGUMI_PRICE_COUNT, 4}, {"prices of PEs", TEZGUMI_PRICE_COUNT, 5},
+    };
+    size_t i;
+    for (i = 0; i < sizeof rows / sizeof *rows; i++) {
+        const int at = rows[i].list;
+        int32_t status;
+        greatest = 0;
+        granted = 1000;
+        counting = 1;
+        status = tezgumi_check(loads, N, bytes, N, places, N, P, P, at == 0 ? words : o->new_places, at == 0 ? MANY : N,
+            o->bottleneck, o->moved, at == 1 ? words : o->cuts, at == 1 ? MANY : P + 1, at == 2 ? words : o->stops,
+            at == 2 ? MANY : o->stops_count, at == 3 ? words : o->names, at == 3 ? MANY : P, at == 4 ? prices : o->block_prices,
+            at == 4 ? MANY : P, at == 5 ? prices : o->pe_prices, at == 5 ? MANY : P);
+        counting = 0;
+        printf("65,536 %s:\n", rows[i].what);
+        same("the flaw", status, rows[i].flaw);
+        test("no request is for more than a page", greatest <= 4096);
+    }
+}
+
 static void *decide_much(void *arg)
 {
     static uint64_t many_loads[MANY];
@@ -148,6 +183,7 @@ int main(void)
     each_refused("plan", call_plan, &empty);
     each_refused("decide", call_decide, &empty);
     each_refused("check", call_check, &decided);
+    long_lists(&decided);
     {
         tezgumi_decision d;
         int32_t status;

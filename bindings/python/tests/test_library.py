@@ -10,7 +10,7 @@ import tezgumi
 from support import CHECKOUT, PACKAGES, THREE, TimedTest
 from tezgumi import library
 
-OTHER = "unsigned tezgumi_abi(void) { return 99; } int tezgumi_plan, tezgumi_decide, tezgumi_check;"
+OTHER = "unsigned tezgumi_abi(void) { return 99; } int tezgumi_plan, tezgumi_decide, tezgumi_check, tezgumi_scale;"
 
 
 class Found(TimedTest):
@@ -21,21 +21,27 @@ class Found(TimedTest):
     def named(self, path):
         return mock.patch.dict(os.environ, TEZGUMI_LIBRARY=path)
 
+    def there(self, *paths):
+        return mock.patch.object(os.path, "exists", lambda path: path in paths)
+
     def test_the_order(self):
+        packed = os.path.join(PACKAGES, "tezgumi", "libtezgumi.so")
+        built = os.path.join(os.path.dirname(PACKAGES), "out", "lib", "libtezgumi.so")
         with self.named("/no/such/library.so"):
-            self.assertEqual(library.candidates(), ["/no/such/library.so"])
+            with self.there(packed, built):
+                self.assertEqual(library.place(), packed)
+            with self.there(built):
+                self.assertEqual(library.place(), "/no/such/library.so")
         with mock.patch.dict(os.environ):
             os.environ.pop("TEZGUMI_LIBRARY", None)
-            built = os.path.join(os.path.dirname(PACKAGES), "out", "lib", "libtezgumi.so")
-            with mock.patch.object(os.path, "exists", lambda path: path == built):
-                self.assertEqual(library.candidates()[0], built)
-            nothing = mock.patch("ctypes.util.find_library", lambda name: None)
-            with mock.patch.object(os.path, "exists", lambda path: False), nothing:
-                self.assertEqual(library.candidates(), ["libtezgumi.so.1"])
+            with self.there(built):
+                self.assertEqual(library.place(), built)
+            with self.there():
+                self.assertEqual(library.place(), "libtezgumi.so.1")
 
     def test_one_that_is_not_there(self):
         with self.named("/no/such/library.so"):
-            text = "^no libtezgumi .*/no/such/library.so.*; bindings/build makes it, and TEZGUMI_LIBRARY may name it$"
+            text = "^no libtezgumi .*/no/such/library.so.*; the wheel has it, bindings/build makes it, and TEZGUMI_LIBRARY may name it$"
             self.assertRaisesRegex(tezgumi.LibraryError, text, tezgumi.plan, THREE)
 
     def test_another_library(self):

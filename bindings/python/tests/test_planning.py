@@ -39,17 +39,6 @@ class BesideLbSim(TimedTest):
         for name, line in (("three-elements.lbd2", "check: ok"), ("forged.lbd2", "check: MovedWrong")):
             self.assertEqual(str(tezgumi.check(*tezgumi.read_dump(example(name)))), line)
 
-    def test_lb_sim_itself(self):
-        program = os.environ.get("TEZGUMI_LB_SIM")
-        if not program:
-            self.skipTest("TEZGUMI_LB_SIM names no lb_sim")
-        for name in ("three-elements.lbd1", "three-elements.lbd2", "moving-front.lbd1"):
-            for pes in (1, 2, 5, 16, 256):
-                run = tezgumi.read_dump(example(name)).run
-                words = [program, "--procs", str(pes), example(name)]
-                text = subprocess.run(words, stdout=subprocess.PIPE, check=True, timeout=10).stdout.decode()
-                self.assertEqual(tezgumi.replay_text(run, tezgumi.decide(run, pes)), text)
-
 
 class BesideAPlainPlanner(TimedTest):
     limit = 60

@@ -10,7 +10,8 @@
 A `Run` is a chain of elements: the load, the packed size and the present PE of each. `plan` says where each runs from now
 on, `decide` says it with certificates, and `check` says whether every part of a decision is right, whoever made it. These
 three call libtezgumi.so, whose planner and checker are proved; all else is plain Python, and tested. The library is looked
-for where TEZGUMI_LIBRARY says, then where bindings/build puts it, then where the system's linker looks.
+for in this package, where the wheel has it; then where TEZGUMI_LIBRARY says; then by the system's loader. (In a clone, what
+bindings/build made comes before that.)
 
 - runs: Run, Plan, Decision, and the limits
 - planning: plan, decide, check; checking: Verdict, Flaw
@@ -19,7 +20,8 @@ for where TEZGUMI_LIBRARY says, then where bindings/build puts it, then where th
 - texts: replay_text, the text that lb_sim prints
 - errors: TezgumiError and its kinds
 
-`tezgumi_plot`, beside this package, draws. `python3 -m tezgumi FILE` prints the figures of a dump. numpy is needed.
+`tezgumi_plot`, beside this package, draws. `python3 -m tezgumi FILE`, or tezgumi-plan where the wheel is installed, prints
+the figures of a dump. numpy is needed, and matplotlib to draw.
 """
 import sys
 
@@ -35,9 +37,10 @@ from .figures import Figures, Sweep, figures, pe_loads, sweep, table
 from .planning import check, decide, plan
 from .runs import ELEMENTS, LOAD, MOVE, PES, STATE_BYTES, Decision, Plan, Run
 from .texts import replay_text
+from .version import __version__
 
 __all__ = [
     "ELEMENTS", "LOAD", "MOVE", "PES", "STATE_BYTES", "Decision", "Dump", "DumpError", "Figures", "Flaw", "InputError",
     "LibraryError", "LoadError", "OutOfMemory", "Plan", "Run", "Sweep", "TezgumiError", "Verdict", "check", "decide",
-    "decode", "encode", "figures", "pe_loads", "plan", "read_dump", "replay_text", "sweep", "table", "write_dump",
+    "__version__", "decode", "encode", "figures", "pe_loads", "plan", "read_dump", "replay_text", "sweep", "table", "write_dump",
 ]

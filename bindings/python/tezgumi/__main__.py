@@ -1,7 +1,10 @@
-"""python3 -m tezgumi FILE: the figures of a dump's plan, checked; for other numbers of PEs, and drawn, where asked."""
+"""python3 -m tezgumi FILE, or tezgumi-plan FILE: the figures of a dump's plan, checked; for other numbers of PEs, and drawn, where asked."""
+from __future__ import annotations
+
 import argparse
 import os
 import sys
+from typing import List, Sequence
 
 import tezgumi
 
@@ -9,7 +12,7 @@ import tezgumi
 RIGHT, DUMP_FAULT, FLAWED, FAILED = 0, 3, 4, 5
 
 
-def main(words=None):
+def main(words: Sequence[str] | None = None) -> int:
     asked = _parser().parse_args(words)
     try:
         return _answer(asked)
@@ -19,10 +22,11 @@ def main(words=None):
         return _fail(error, FAILED)
 
 
-def _parser():
+def _parser() -> argparse.ArgumentParser:
     parser = argparse.ArgumentParser(
-        prog="python3 -m tezgumi", description="Plans the run of a dump, checks the decision, and prints its figures.")
+        prog=_name(), description="Plans the run of a dump, checks the decision, and prints its figures.")
     parser.add_argument("file", metavar="FILE", help="a dump, LBD1 or LBD2")
+    parser.add_argument("--version", action="version", version=f"tezgumi {tezgumi.__version__}")
     parser.add_argument(
         "--procs", type=_counts, metavar="P[,P..]", help="numbers of PEs to plan for, 1 to 256; of several a row each")
     parser.add_argument(
@@ -30,7 +34,13 @@ def _parser():
     return parser
 
 
-def _counts(words):
+def _name() -> str:
+    """How this program was called: by the script of an installed package, or as a module."""
+    called = os.path.basename(sys.argv[0])
+    return called if called.startswith("tezgumi") else "python3 -m tezgumi"
+
+
+def _counts(words: str) -> List[int]:
     try:
         counts = [int(word) for word in words.split(",")]
     except ValueError:
@@ -41,13 +51,13 @@ def _counts(words):
     return counts
 
 
-def _picture(path):
+def _picture(path: str) -> str:
     if not path.lower().endswith((".png", ".pdf", ".svg")):
         raise argparse.ArgumentTypeError(f"{path!r} does not end with .png, .pdf or .svg")
     return path
 
 
-def _answer(asked):
+def _answer(asked: argparse.Namespace) -> int:
     run, recorded = _read(asked.file)
     counts = asked.procs or [run.procs]
     print(f"{asked.file}: {len(run):,} elements on {run.procs} PEs, step {run.step}")
@@ -64,14 +74,16 @@ def _answer(asked):
     return FLAWED if wrong else RIGHT
 
 
-def _read(path):
+def _read(path: str) -> tezgumi.Dump:
     try:
         return tezgumi.read_dump(path)
     except OSError as error:
         raise tezgumi.DumpError("read failed", error) from None
 
 
-def _draw(asked, run, decisions, swept, verdict):
+def _draw(
+        asked: argparse.Namespace, run: tezgumi.Run, decisions: Sequence[tezgumi.Decision], swept: Sequence[tezgumi.Figures],
+        verdict: tezgumi.Verdict) -> None:
     import tezgumi_plot
 
     look = {"title": os.path.basename(asked.file), "medium": "print" if asked.plot.lower().endswith(".pdf") else "screen"}
@@ -82,7 +94,7 @@ def _draw(asked, run, decisions, swept, verdict):
     tezgumi_plot.save(picture, asked.plot)
 
 
-def _fail(error, status):
+def _fail(error: Exception, status: int) -> int:
     print(error, file=sys.stderr)
     return status
 

@@ -1,15 +1,24 @@
 """What a check says of a decision."""
+from __future__ import annotations
+
 import enum
 from dataclasses import dataclass
-from typing import Optional, Tuple
+from typing import TYPE_CHECKING, Any, Tuple
 
 import numpy as np
+from numpy.typing import NDArray
+
+if TYPE_CHECKING:
+    from .runs import Decision, Run
 
 
 class Flaw(enum.IntEnum):
     """What is wrong with a decision. Of several flaws the least is told. `word` is the name that lb_sim prints."""
 
-    def __new__(cls, number, word, meaning):
+    word: str
+    meaning: str
+
+    def __new__(cls, number: int, word: str, meaning: str) -> Flaw:
         flaw = int.__new__(cls, number)
         flaw._value_ = number
         flaw.word = word
@@ -44,28 +53,28 @@ class Verdict:
     `numbers` are those of the block, of the stop (from 1), or of the block and the PE that the flaw is found at first.
     """
 
-    flaw: Optional[Flaw] = None
+    flaw: Flaw | None = None
     numbers: Tuple[int, ...] = ()
 
-    def __bool__(self):
+    def __bool__(self) -> bool:
         return self.flaw is None
 
-    def __str__(self):
+    def __str__(self) -> str:
         """The line that lb_sim prints."""
         if self.flaw is None:
             return "check: ok"
         return " ".join(["check:", self.flaw.word, *map(str, self.numbers)])
 
-    def __repr__(self):
-        return "Verdict(right)" if self else f"Verdict({self.flaw.name}: {self.meaning})"
+    def __repr__(self) -> str:
+        return "Verdict(right)" if self.flaw is None else f"Verdict({self.flaw.name}: {self.meaning})"
 
     @property
-    def meaning(self):
+    def meaning(self) -> str:
         """The verdict in words."""
         return "every part is right" if self.flaw is None else self.flaw.meaning.format(*self.numbers)
 
 
-def numbers_of(run, decision, flaw):
+def numbers_of(run: Run, decision: Decision, flaw: Flaw) -> Tuple[int, ...]:
     """Where a flaw that the library found is found at first."""
     if flaw is Flaw.HEAVY:
         return (_first(_between(run.loads, decision.cuts) > np.uint64(decision.bottleneck)),)
@@ -78,23 +87,24 @@ def numbers_of(run, decision, flaw):
     return ()
 
 
-def running_sums(numbers):
+def running_sums(numbers: NDArray[Any]) -> NDArray[np.uint64]:
     """The sum of the first k numbers, for each k: exact, as at most 65,536 numbers of 47 bits are 63 bits."""
     sums = np.zeros(len(numbers) + 1, np.uint64)
     np.cumsum(numbers, dtype=np.uint64, out=sums[1:])
     return sums
 
 
-def _between(numbers, cuts):
+def _between(numbers: NDArray[Any], cuts: NDArray[np.uint32]) -> NDArray[np.uint64]:
     sums = running_sums(numbers)
-    return sums[cuts[1:]] - sums[cuts[:-1]]
+    between: NDArray[np.uint64] = sums[cuts[1:]] - sums[cuts[:-1]]
+    return between
 
 
-def _first(found):
+def _first(found: NDArray[np.bool_]) -> int:
     return int(np.argmax(found))
 
 
-def _first_high_price(run, decision):
+def _first_high_price(run: Run, decision: Decision) -> Tuple[int, ...]:
     # Block by block, what it would move to each PE: its bytes less those that stand there. Sums of prices may pass 64 bits.
     sums = running_sums(run.bytes)
     pe_prices = decision.pe_prices.tolist()

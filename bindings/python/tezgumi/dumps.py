@@ -1,8 +1,12 @@
 """Dumps of a run, and of the decision on it, in the formats LBD1 and LBD2. docs/FORMATS.md has the tables of their bytes."""
+from __future__ import annotations
+
+import os
 import struct
-from typing import NamedTuple, Optional
+from typing import Any, Callable, NamedTuple, Tuple, Union
 
 import numpy as np
+from numpy.typing import NDArray
 
 from .errors import DumpError, InputError
 from .lists import whole_number
@@ -12,30 +16,35 @@ _ROW = {
     1: np.dtype([("load", ">u4"), ("bytes", ">u4"), ("place", ">u4")]),
     2: np.dtype([("load", ">u8"), ("bytes", ">u4"), ("place", ">u4")]),
 }
-_MOVE_ROW = np.dtype([(name, ">u4") for name in MOVE.names])
+_MOVE_ROW = np.dtype([(name, ">u4") for name in MOVE.names or ()])
+
+_Path = Union[str, "os.PathLike[str]"]
+_Rows = NDArray[np.void]
+# Of a field: its name, the rows that break its rule, the fault, and what to tell of it.
+_Faults = Tuple[Tuple[str, "NDArray[np.bool_]", str, str], ...]
 
 
 class Dump(NamedTuple):
     """What a dump holds: a run, and the decision that was recorded on it, if there is one."""
 
     run: Run
-    decision: Optional[Decision] = None
+    decision: Decision | None = None
 
 
-def read_dump(path):
+def read_dump(path: _Path) -> Dump:
     """The dump in a file, as `run, decision`. DumpError tells the first fault, as lb_sim does."""
     with open(path, "rb") as file:
         return decode(file.read())
 
 
-def write_dump(path, run, decision=None, version=2):
+def write_dump(path: _Path, run: Run, decision: Decision | None = None, version: int = 2) -> None:
     """Writes a dump into a file: LBD2, or with version=1 LBD1, which has loads below 2**32 and no decision."""
     data = encode(run, decision, version)
     with open(path, "wb") as file:
         file.write(data)
 
 
-def decode(data):
+def decode(data: Union[bytes, bytearray, memoryview]) -> Dump:
     """The dump that these bytes are. DumpError tells the first fault from left to right."""
     text = _Text(bytes(data))
     version = text.letters()
@@ -51,7 +60,7 @@ def decode(data):
     return Dump(run, decision)
 
 
-def encode(run, decision=None, version=2):
+def encode(run: Run, decision: Decision | None = None, version: int = 2) -> bytes:
     """The bytes of a dump."""
     if version not in _ROW:
         raise InputError(f"version is {version!r}, and the formats are 1 and 2")
@@ -67,7 +76,7 @@ def encode(run, decision=None, version=2):
     return data + struct.pack(">I", 1) + _decision_bytes(run, decision)
 
 
-def _element_faults(rows, procs):
+def _element_faults(rows: _Rows, procs: int) -> _Faults:
     # The fields of an element in order: which rows break each rule, the fault, and what to tell of it.
     return (
         ("load", rows["load"] > LOAD, "element {} has too great a load", f"at most {LOAD}"),
@@ -76,7 +85,7 @@ def _element_faults(rows, procs):
     )
 
 
-def _move_faults(rows, count):
+def _move_faults(rows: _Rows, count: int) -> _Faults:
     fault = "move {} is out of range"
     return (
         ("element", rows["element"] >= count, fault, f"an element of {count}"),
@@ -88,40 +97,40 @@ def _move_faults(rows, count):
 class _Text:
     """Bytes that are read from left to right. What reads a field tells its fault, or that the bytes end within it."""
 
-    def __init__(self, data):
+    def __init__(self, data: bytes) -> None:
         self.data = data
         self.at = 0
 
-    def letters(self):
+    def letters(self) -> int:
         """The number of the format."""
         for place, code in enumerate(self.data[:4]):
             if code not in (b"L", b"B", b"D", b"12")[place]:
                 raise DumpError("not LBD1 or LBD2", f"byte {place} is {bytes([code])!r}")
         return int(self._take(4)[3:])
 
-    def word(self):
+    def word(self) -> int:
         return int.from_bytes(self._take(4), "big")
 
-    def long(self):
+    def long(self) -> int:
         return int.from_bytes(self._take(8), "big")
 
-    def ruled_word(self, holds, fault):
+    def ruled_word(self, holds: Callable[[int], bool], fault: str) -> int:
         """A number for which the rule holds."""
         number = self.word()
         if not holds(number):
             raise DumpError(fault, f"byte {self.at - 4} begins {number}")
         return number
 
-    def numbers(self, kind, count):
+    def numbers(self, letters: str, count: int) -> NDArray[Any]:
         """So many numbers, of a type with the highest byte first."""
-        kind = np.dtype(kind)
+        kind: np.dtype[Any] = np.dtype(letters)
         return np.frombuffer(self._take(count * kind.itemsize), kind)
 
-    def rows(self, kind, count, faults):
+    def rows(self, kind: np.dtype[Any], count: int, faults: Callable[[_Rows], _Faults]) -> _Rows:
         """So many rows of fields with rules, all of whose whole fields are looked at before the end is told."""
         there = self.data[self.at:self.at + count * kind.itemsize]
         if len(there) == count * kind.itemsize:
-            rows = np.frombuffer(there, kind)
+            rows: _Rows = np.frombuffer(there, kind)
             self._refuse(rows, faults(rows), len(there))
         else:
             # The fields that are not whole are zeros here, and not looked at.
@@ -132,34 +141,36 @@ class _Text:
         self.at += len(there)
         return rows
 
-    def end(self):
+    def end(self) -> None:
         if self.at < len(self.data):
             raise DumpError("bytes after the last element", f"{len(self.data) - self.at} of them, from byte {self.at} on")
 
-    def _refuse(self, rows, faults, there):
+    def _refuse(self, rows: _Rows, faults: _Faults, there: int) -> None:
+        fields: Any = rows.dtype.fields
         found = []
         for order, (field, broken, fault, told) in enumerate(faults):
-            kind, offset = rows.dtype.fields[field]
+            kind, offset = fields[field]
             broken = broken & (np.arange(len(rows)) * rows.dtype.itemsize + offset + kind.itemsize <= there)
             if broken.any():
                 row = int(np.argmax(broken))
                 place = self.at + row * rows.dtype.itemsize + offset
                 found.append((row, order, fault.format(row), f"{int(rows[field][row])} at byte {place}; {told}"))
         if found:
-            raise DumpError(*min(found)[2:])
+            _, _, fault, told = min(found)
+            raise DumpError(fault, told)
 
-    def _take(self, count):
+    def _take(self, count: int) -> bytes:
         taken = self.data[self.at:self.at + count]
         if len(taken) < count:
             raise self._short()
         self.at += count
         return taken
 
-    def _short(self):
+    def _short(self) -> DumpError:
         return DumpError(f"ends at byte {len(self.data)}")
 
 
-def _decision(text, run):
+def _decision(text: _Text, run: Run) -> Decision:
     pes = text.ruled_word(lambda n: 1 <= n <= PES, f"target out of 1..{PES}")
     bottleneck = text.long()
     cuts = text.numbers(">u4", pes + 1)
@@ -174,13 +185,13 @@ def _decision(text, run):
     return Decision(pes, places, bottleneck, moved, cuts, stops, names, block_prices, pe_prices, moves)
 
 
-def _places_after(run, moves):
+def _places_after(run: Run, moves: _Rows) -> NDArray[np.uint32]:
     places = run.places.copy()
     places[moves["element"]] = moves["planned"]
     return places
 
 
-def _refuse_for_lbd1(run, decision):
+def _refuse_for_lbd1(run: Run, decision: Decision | None) -> None:
     if decision is not None:
         raise InputError("LBD1 holds no decision; version=2 does")
     wide = run.loads >= 2**32
@@ -190,7 +201,7 @@ def _refuse_for_lbd1(run, decision):
         raise InputError(f"element {element} has the load {load}, and LBD1 holds those below {2**32}; version=2 holds it")
 
 
-def _decision_bytes(run, decision):
+def _decision_bytes(run: Run, decision: Decision) -> bytes:
     d = decision
     _refuse_unspelled(run, d)
     parts = [struct.pack(">IQ", d.pes, d.bottleneck), d.cuts.astype(">u4").tobytes()]
@@ -201,7 +212,7 @@ def _decision_bytes(run, decision):
     return b"".join(parts)
 
 
-def _refuse_unspelled(run, decision):
+def _refuse_unspelled(run: Run, decision: Decision) -> None:
     # The format has no room for lists of other lengths, and its places are those that the moves lead to.
     d = decision
     pes = whole_number(d.pes, 1, PES, "pes")

@@ -28,6 +28,6 @@ class DumpError(TezgumiError, ValueError):
     there is more to tell, the number that was found and where.
     """
 
-    def __init__(self, fault, found=""):
+    def __init__(self, fault: str, found: object = "") -> None:
         self.line = f"dump: {fault}"
         super().__init__(f"{self.line} ({found})" if found else self.line)

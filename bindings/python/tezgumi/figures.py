@@ -1,10 +1,20 @@
 """Figures of a plan: the greatest load, the average and the imbalance before and after, and what moves."""
+from __future__ import annotations
+
 from dataclasses import dataclass
+from typing import Any, Iterable, List, Protocol, Sequence
 
 import numpy as np
+from numpy.typing import ArrayLike, NDArray
 
 from .planning import plan as plan_for
-from .runs import on_no_processor
+from .runs import Plan, Run, on_no_processor
+
+
+class _Printer(Protocol):
+    """What IPython hands to a value that is to be shown."""
+
+    def text(self, text: str) -> Any: ...
 
 
 @dataclass(frozen=True)
@@ -27,22 +37,22 @@ class Figures:
     total_bytes: int
 
     @property
-    def average_before(self):
+    def average_before(self) -> float:
         return self.total_load / self.procs
 
     @property
-    def average_after(self):
+    def average_after(self) -> float:
         return self.total_load / self.pes
 
     @property
-    def imbalance_before(self):
+    def imbalance_before(self) -> float:
         return _ratio(self.greatest_before * self.procs, self.total_load)
 
     @property
-    def imbalance_after(self):
+    def imbalance_after(self) -> float:
         return _ratio(self.greatest_after * self.pes, self.total_load)
 
-    def __str__(self):
+    def __str__(self) -> str:
         rows = (
             ("", "before", "after"),
             ("PEs", f"{self.procs:,}", f"{self.pes:,}"),
@@ -54,22 +64,22 @@ class Figures:
         )
         return _aligned(rows)
 
-    def _repr_pretty_(self, printer, _):
+    def _repr_pretty_(self, printer: _Printer, _: bool) -> None:
         # How IPython and notebooks show it.
         printer.text(str(self))
 
 
-class Sweep(list):
+class Sweep(List[Figures]):
     """The figures for several numbers of PEs. As a text it is a table, which a notebook shows."""
 
-    def __str__(self):
+    def __str__(self) -> str:
         return table(self)
 
-    def _repr_pretty_(self, printer, _):
+    def _repr_pretty_(self, printer: _Printer, _: bool) -> None:
         printer.text(str(self))
 
 
-def figures(run, plan):
+def figures(run: Run, plan: Plan) -> Figures:
     """The figures of a plan, or of a decision, on a run."""
     run.refuse_other_places(plan.places)
     before = pe_loads(run, run.places, run.procs)
@@ -89,26 +99,26 @@ def figures(run, plan):
     )
 
 
-def pe_loads(run, places, pes):
+def pe_loads(run: Run, places: ArrayLike, pes: int) -> NDArray[np.uint64]:
     """The load of each PE where the elements stand at these places. Exact."""
-    run.refuse_other_places(places)
-    places = np.asarray(places, dtype=np.int64)
-    if places.size and int(places.max()) >= pes:
-        element = int(np.argmax(places >= pes))
-        raise on_no_processor(element, int(places[element]), pes)
+    stands = np.asarray(places, dtype=np.int64)
+    run.refuse_other_places(stands)
+    if stands.size and int(stands.max()) >= pes:
+        element = int(np.argmax(stands >= pes))
+        raise on_no_processor(element, int(stands[element]), pes)
     # A double holds sums up to 53 bits: those of the lower 24 bits of 65,536 loads have 40, and those of the rest 39.
-    low, high = (np.bincount(places, weights=part, minlength=pes) for part in (run.loads & 0xFFFFFF, run.loads >> 24))
+    low, high = (np.bincount(stands, weights=part, minlength=pes) for part in (run.loads & 0xFFFFFF, run.loads >> 24))
     return low.astype(np.uint64) + (high.astype(np.uint64) << np.uint64(24))
 
 
-def sweep(run, counts=None):
+def sweep(run: Run, counts: Iterable[int] | None = None) -> Sweep:
     """The figures of the plan for each number of PEs, as a Sweep; for 1, 2, 4 .. 256 and the run's own, if none are named."""
     if counts is None:
         counts = sorted({2**k for k in range(9)} | {run.procs})
     return Sweep(figures(run, plan_for(run, pes)) for pes in counts)
 
 
-def table(swept):
+def table(swept: Iterable[Figures]) -> str:
     """A sweep as lines of text, a row for each number of PEs."""
     rows = [("PEs", "greatest load", "average load", "imbalance", "moved elements", "moved bytes")]
     for row in swept:
@@ -118,18 +128,18 @@ def table(swept):
     return _aligned(rows)
 
 
-def _ratio(one, other):
+def _ratio(one: int, other: int) -> float:
     # Of whole numbers, so that it is rounded once, and no imbalance comes out below 1.
     return one / other if other else 1.0
 
 
-def _hundredths(number, parts):
+def _hundredths(number: int, parts: int) -> str:
     # In whole numbers: a total of 63 bits is no double.
     hundredths = (200 * number + parts) // (2 * parts)
     return f"{hundredths // 100:,}.{hundredths % 100:02}"
 
 
-def _aligned(rows):
+def _aligned(rows: Sequence[Sequence[str]]) -> str:
     # The first column of a table of figures holds words, where its head is empty.
     words = rows[0][0] == ""
     widths = [max(len(row[column]) for row in rows) for column in range(len(rows[0]))]

@@ -1,8 +1,12 @@
 """The shared library: where it is found, and its calls. bindings/c/include/tezgumi.h says what each owes and answers."""
+from __future__ import annotations
+
 import ctypes
-import ctypes.util
 import functools
 import os
+from typing import Any, List
+
+from numpy.typing import NDArray
 
 from .errors import LibraryError
 
@@ -10,33 +14,37 @@ ABI = 1
 """The number of the interface that these calls are written for."""
 
 _WORD, _LONG, _COUNT, _POINTER, _STATUS = ctypes.c_uint32, ctypes.c_uint64, ctypes.c_size_t, ctypes.c_void_p, ctypes.c_int32
-_LIST = [_POINTER, _COUNT]
+_LIST: List[Any] = [_POINTER, _COUNT]
 _RUN = _LIST * 3 + [_WORD, _WORD]
 _PLAN = _RUN + _LIST + [_POINTER, _POINTER]
+_HELP = "the wheel has it, bindings/build makes it, and TEZGUMI_LIBRARY may name it"
 
 
-def candidates():
-    """Where the library is looked for, in this order; the first that is there is taken."""
+def place() -> str:
+    """The library's place: in this package, as a wheel has it; or where TEZGUMI_LIBRARY says; or where bindings/build puts it
+    beside a package that lies in a clone; or its name, for the system's loader to look for."""
+    here = os.path.dirname(os.path.abspath(__file__))
+    packed = os.path.join(here, "libtezgumi.so")
+    if os.path.exists(packed):
+        return packed
     named = os.environ.get("TEZGUMI_LIBRARY")
     if named:
-        return [named]
-    here = os.path.dirname(os.path.abspath(__file__))
+        return named
     built = os.path.join(os.path.dirname(os.path.dirname(here)), "out", "lib", "libtezgumi.so")
-    beside = [path for path in (built, os.path.join(here, "libtezgumi.so")) if os.path.exists(path)]
-    return beside + [ctypes.util.find_library("tezgumi") or "libtezgumi.so.1"]
+    return built if os.path.exists(built) else f"libtezgumi.so.{ABI}"
 
 
 @functools.lru_cache(maxsize=None)
-def library():
+def library() -> ctypes.CDLL:
     """The library, loaded at the first call."""
-    path = candidates()[0]
+    path = place()
     try:
         found = ctypes.CDLL(path)
         found.tezgumi_abi.restype = _WORD
         abi = found.tezgumi_abi()
-        calls = found.tezgumi_plan, found.tezgumi_decide, found.tezgumi_check
+        calls = found.tezgumi_plan, found.tezgumi_decide, found.tezgumi_check, found.tezgumi_scale
     except (OSError, AttributeError) as error:
-        raise LibraryError(f"no libtezgumi ({error}); bindings/build makes it, and TEZGUMI_LIBRARY may name it") from error
+        raise LibraryError(f"no libtezgumi ({error}); {_HELP}") from error
     if abi != ABI:
         raise LibraryError(f"{path} has the interface {abi}, and this package is written for {ABI}")
     for call in calls:
@@ -44,9 +52,10 @@ def library():
     found.tezgumi_plan.argtypes = _PLAN
     found.tezgumi_decide.argtypes = _PLAN + _LIST * 2 + [_POINTER] + _LIST * 3
     found.tezgumi_check.argtypes = _RUN + _LIST + [_LONG, _LONG] + _LIST * 5
+    found.tezgumi_scale.argtypes = _LIST * 2 + [_POINTER]
     return found
 
 
-def lists(*arrays):
+def lists(*arrays: NDArray[Any]) -> List[int]:
     """The pointer and the length of each. numpy has a pointer for an array without numbers too, and it is not null."""
     return [part for array in arrays for part in (array.__array_interface__["data"][0], array.size)]

@@ -1,19 +1,29 @@
-"""Lists of whole numbers: taken from numpy arrays or plain lists, tested, and kept as arrays that nobody writes to."""
+"""Lists of whole numbers: taken from numpy arrays, plain lists and what else numpy reads (a series of pandas, say), tested,
+and kept as arrays that nobody writes to."""
+from __future__ import annotations
+
 import operator
+from typing import Any, Callable, Iterable, Type, TypeVar
 
 import numpy as np
+from numpy.typing import ArrayLike, NDArray
 
 from .errors import InputError
 
+_Whole = TypeVar("_Whole", bound="np.integer[Any]")
+_Refuser = Callable[[int, Any], InputError]
 
-def frozen(values, kind, name, refuse=None, most=None, copy=True):
+
+def frozen(
+        values: ArrayLike, kind: Type[_Whole], name: str, refuse: _Refuser | None = None, most: int | None = None,
+        copy: bool = True) -> NDArray[_Whole]:
     """The numbers as an array of this type that cannot be written to, each from the least of the type to `most`.
 
     Nothing is rounded or wrapped. The first number that does not fit is handed to `refuse` with its index, which answers
     the exception. Without `copy` an array that has the type is not copied, and its owner can still write to it.
     """
     limits = np.iinfo(kind)
-    most = limits.max if most is None else most
+    most = int(limits.max) if most is None else most
     refuse = refuse or _refuser(name, limits.min, most)
     array = _array(values, name)
     if array.size and array.dtype.kind not in "iu":
@@ -23,7 +33,7 @@ def frozen(values, kind, name, refuse=None, most=None, copy=True):
     return _kept(array, kind, copy)
 
 
-def whole_number(value, least, most, name):
+def whole_number(value: Any, least: int, most: int, name: str) -> int:
     """The number as an int, from least to most."""
     try:
         number = operator.index(value)
@@ -34,7 +44,7 @@ def whole_number(value, least, most, name):
     return number
 
 
-def shown(array, ends=3):
+def shown(array: NDArray[Any], ends: int = 3) -> str:
     """The numbers in a line: all of a short list, the first and last ones of a long one."""
     if array.size <= 2 * ends + 2:
         return "[" + " ".join(map(str, array.tolist())) + "]"
@@ -42,12 +52,12 @@ def shown(array, ends=3):
     return f"[{first} .. {last}]"
 
 
-def same_fields(one, other, fields):
+def same_fields(one: object, other: object, fields: Iterable[str]) -> bool:
     """Whether these fields of two objects hold the same numbers."""
     return all(np.array_equal(getattr(one, name), getattr(other, name)) for name in fields)
 
 
-def _array(values, name):
+def _array(values: ArrayLike, name: str) -> NDArray[Any]:
     try:
         array = np.asarray(values)
     except (ValueError, OverflowError) as error:
@@ -57,12 +67,12 @@ def _array(values, name):
     return array
 
 
-def _refuser(name, least, most):
+def _refuser(name: str, least: int, most: int) -> _Refuser:
     return lambda index, value: InputError(
         f"{name}[{index}] is {value!r}; it has to be a whole number from {least} to {most}")
 
 
-def _one_by_one(values, least, most, refuse):
+def _one_by_one(values: Any, least: int, most: int, refuse: _Refuser) -> NDArray[Any]:
     # numpy has no type of whole numbers for them: there is a float among them, a number past 64 bits, or another thing.
     numbers = values.tolist() if isinstance(values, np.ndarray) else list(values)
     for index, number in enumerate(numbers):
@@ -73,7 +83,7 @@ def _one_by_one(values, least, most, refuse):
     return np.array(numbers, dtype=np.uint64 if least == 0 else np.int64)
 
 
-def _refuse_outside(array, least, most, refuse):
+def _refuse_outside(array: NDArray[Any], least: int, most: int, refuse: _Refuser) -> None:
     # Where some number is outside, the type of the array holds that number, and the limit beside it.
     if int(array.max()) > most:
         outside = array > most
@@ -85,7 +95,7 @@ def _refuse_outside(array, least, most, refuse):
     raise refuse(index, int(array[index]))
 
 
-def _kept(array, kind, copy):
+def _kept(array: NDArray[Any], kind: Type[_Whole], copy: bool) -> NDArray[_Whole]:
     fits = array.dtype == kind and array.flags.c_contiguous and array.flags.aligned
     if fits and array.flags.owndata and not array.flags.writeable:
         return array

@@ -1,10 +1,15 @@
 """Runs, plans and decisions: what a load balancer is given, and what it answers."""
+from __future__ import annotations
+
 from dataclasses import InitVar, dataclass, fields, replace
+from typing import TYPE_CHECKING, Any, Sized
 
 import numpy as np
+from numpy.typing import ArrayLike, NDArray
 
 from .errors import InputError, LoadError
 from .lists import frozen, same_fields, shown, whole_number
+from .scales import are_floats, in_units, scaled, unit_of
 
 ELEMENTS = 65_536
 """At most so many elements."""
@@ -24,13 +29,13 @@ MOVE = np.dtype([("element", np.uint32), ("present", np.uint32), ("planned", np.
 class _Record:
     """Frozen, compared by all fields, and not to be hashed: the fields hold arrays."""
 
-    __hash__ = None
+    __hash__ = None  # type: ignore[assignment]
 
-    def _keep(self, name, value):
+    def _keep(self, name: str, value: object) -> None:
         # How a frozen dataclass puts its own fields in order.
         object.__setattr__(self, name, value)
 
-    def __eq__(self, other):
+    def __eq__(self, other: object) -> bool:
         if type(self) is not type(other):
             return NotImplemented
         return same_fields(self, other, [field.name for field in fields(self)])
@@ -40,23 +45,37 @@ class _Record:
 class Run(_Record):
     """A chain of elements, in order, on `procs` PEs: the load, the packed size and the present PE of each.
 
-    The lists may be numpy arrays or plain lists of whole numbers. A float is refused: round it first. They are copied, and
-    cannot be written to; with copy=False an array that has the type already is taken as it is, and must not be written to
-    while the run is in use. `replace(run, procs=4)` of dataclasses makes another run.
+    The lists may be numpy arrays or plain lists of whole numbers. They are copied, and cannot be written to; with copy=False
+    an array that has the type already is taken as it is, and must not be written to while the run is in use.
+    `replace(run, procs=4)` of dataclasses makes another run.
+
+    A float is refused, but as a load where it is asked for. With scale=True the loads are measured, in seconds say, and are
+    counted in the finest unit of a power of two that the limit of a load allows, each rounded down; with unit=0.001 floats
+    are counted in that unit, each rounded to the nearest, and whole numbers are counts in it already. `unit` has the unit,
+    or None. A bottleneck times the unit is in seconds again; and for scaled loads it is proved that no division has a
+    heaviest block that is lighter, in seconds, than that of the plan by more than as many units as there are elements.
     """
 
     procs: int
-    loads: np.ndarray
-    bytes: np.ndarray
-    places: np.ndarray
+    loads: NDArray[np.uint64]
+    bytes: NDArray[np.uint32]
+    places: NDArray[np.uint32]
     step: int = 0
     copy: InitVar[bool] = True
+    unit: float | None = None
+    scale: InitVar[bool] = False
 
-    def __post_init__(self, copy):
+    if TYPE_CHECKING:
+        def __init__(
+                self, procs: int, loads: ArrayLike, bytes: ArrayLike, places: ArrayLike, step: int = 0,
+                copy: bool = True, unit: float | None = None, scale: bool = False) -> None: ...
+
+    def __post_init__(self, copy: bool, scale: bool) -> None:
         self._keep("procs", whole_number(self.procs, 1, PES, "procs"))
         self._keep("step", whole_number(self.step, 0, _WORD, "step"))
         self._keep("bytes", frozen(self.bytes, np.uint32, "bytes", _wrong_bytes, STATE_BYTES, copy))
         self._keep("places", frozen(self.places, np.uint32, "places", self._wrong_place, self.procs - 1, copy))
+        self._count(scale)
         self._keep("loads", frozen(self.loads, np.uint64, "loads", _wrong_load, LOAD, copy))
         counts = len(self.loads), len(self.bytes), len(self.places)
         if len(set(counts)) > 1:
@@ -64,22 +83,35 @@ class Run(_Record):
         if counts[0] > ELEMENTS:
             raise InputError(f"there are {counts[0]} elements, and at most {ELEMENTS} are taken")
 
-    def _wrong_place(self, index, value):
+    def _count(self, scale: bool) -> None:
+        if scale and self.unit is not None:
+            raise InputError("scale chooses a unit, and unit gives one: leave one out")
+        if scale:
+            counts, unit = scaled(self.loads, ELEMENTS)
+            self._keep("loads", counts)
+            self._keep("unit", unit)
+        elif self.unit is not None:
+            self._keep("unit", unit_of(self.unit))
+            if are_floats(self.loads):
+                self._keep("loads", in_units(self.loads, self.unit, LOAD))
+
+    def _wrong_place(self, index: int, value: Any) -> InputError:
         return on_no_processor(index, value, self.procs)
 
-    def __len__(self):
+    def __len__(self) -> int:
         return len(self.loads)
 
-    def __repr__(self):
+    def __repr__(self) -> str:
         lists = ", ".join(f"{name}={shown(getattr(self, name))}" for name in ("loads", "bytes", "places"))
-        return f"Run({len(self)} elements, procs={self.procs}, {lists}, step={self.step})"
+        unit = "" if self.unit is None else f", unit={self.unit!r}"
+        return f"Run({len(self)} elements, procs={self.procs}, {lists}, step={self.step}{unit})"
 
-    def after(self, plan, step=None):
+    def after(self, plan: Plan, step: int | None = None) -> Run:
         """The run as it stands once the elements of a plan or a decision have moved."""
         self.refuse_other_places(plan.places)
         return replace(self, procs=plan.pes, places=plan.places, step=self.step if step is None else step)
 
-    def moves_to(self, places):
+    def moves_to(self, places: NDArray[Any]) -> NDArray[np.void]:
         """The elements whose present and planned place differ, in order of index, as an array of MOVE."""
         self.refuse_other_places(places)
         moving = self.places != places
@@ -88,24 +120,24 @@ class Run(_Record):
         rows[:, 0], rows[:, 1], rows[:, 2] = elements, self.places[moving], np.asarray(places)[moving]
         return rows.view(MOVE).reshape(-1)
 
-    def refuse_other_places(self, places):
+    def refuse_other_places(self, places: Sized) -> None:
         """Raises InputError unless there is one place for each element."""
         if len(places) != len(self):
             raise InputError(f"the plan is for {len(places)} elements, and the run has {len(self)}")
 
 
-def on_no_processor(index, place, pes):
+def on_no_processor(index: int, place: Any, pes: int) -> InputError:
     """The refusal of an element's place."""
     return InputError(f"element {index} is on no processor: its place is {place!r}, and with {pes} PEs it is 0 to {pes - 1}")
 
 
-def _wrong_load(index, value):
+def _wrong_load(index: int, value: Any) -> InputError:
     if isinstance(value, int) and not isinstance(value, bool) and value > LOAD:
         return LoadError(f"element {index} has too great a load: {value}, and at most {LOAD} is taken")
     return InputError(f"element {index} has the load {value!r}, and not a whole number from 0 to {LOAD}")
 
 
-def _wrong_bytes(index, value):
+def _wrong_bytes(index: int, value: Any) -> InputError:
     if isinstance(value, int) and not isinstance(value, bool) and value > STATE_BYTES:
         return InputError(f"element {index} has more than {STATE_BYTES} bytes: {value}")
     return InputError(f"element {index} has the packed size {value!r}, and not a whole number from 0 to {STATE_BYTES}")
@@ -120,20 +152,23 @@ class Plan(_Record):
     """
 
     pes: int
-    places: np.ndarray
+    places: NDArray[np.uint32]
     bottleneck: int
     moved: int
 
-    def __post_init__(self):
+    if TYPE_CHECKING:
+        def __init__(self, pes: int, places: ArrayLike, bottleneck: int, moved: int) -> None: ...
+
+    def __post_init__(self) -> None:
         self._keep("pes", whole_number(self.pes, 1, PES, "pes"))
         self._keep("places", frozen(self.places, np.uint32, "places"))
         self._keep("bottleneck", whole_number(self.bottleneck, 0, _LONG, "bottleneck"))
         self._keep("moved", whole_number(self.moved, 0, _LONG, "moved"))
 
-    def __repr__(self):
+    def __repr__(self) -> str:
         return f"Plan({self._shown()})"
 
-    def _shown(self):
+    def _shown(self) -> str:
         return f"pes={self.pes}, bottleneck={self.bottleneck}, moved={self.moved}, places={shown(self.places)}"
 
 
@@ -148,14 +183,19 @@ class Decision(Plan):
     `dataclasses.replace` makes another decision.
     """
 
-    cuts: np.ndarray
-    stops: np.ndarray
-    names: np.ndarray
-    block_prices: np.ndarray
-    pe_prices: np.ndarray
-    moves: np.ndarray
+    cuts: NDArray[np.uint32]
+    stops: NDArray[np.uint32]
+    names: NDArray[np.uint32]
+    block_prices: NDArray[np.int64]
+    pe_prices: NDArray[np.int64]
+    moves: NDArray[np.void]
 
-    def __post_init__(self):
+    if TYPE_CHECKING:
+        def __init__(
+                self, pes: int, places: ArrayLike, bottleneck: int, moved: int, cuts: ArrayLike, stops: ArrayLike,
+                names: ArrayLike, block_prices: ArrayLike, pe_prices: ArrayLike, moves: Any) -> None: ...
+
+    def __post_init__(self) -> None:
         super().__post_init__()
         for name in ("cuts", "stops", "names"):
             self._keep(name, frozen(getattr(self, name), np.uint32, name))
@@ -163,20 +203,21 @@ class Decision(Plan):
             self._keep(name, frozen(getattr(self, name), np.int64, name))
         self._keep("moves", _moves(self.moves))
 
-    def __repr__(self):
+    def __repr__(self) -> str:
         lists = ", ".join(f"{name}={shown(getattr(self, name))}" for name in ("cuts", "names", "stops"))
         return f"Decision({self._shown()}, {lists}, {len(self.moves)} moves)"
 
 
-def _moves(values):
+def _moves(values: Any) -> NDArray[np.void]:
+    names = MOVE.names or ()
     if isinstance(values, np.ndarray) and values.dtype.names:
         if values.dtype == MOVE and not values.flags.writeable:
             return values
-        rows = np.column_stack([values[name] for name in MOVE.names])
+        rows = np.column_stack([values[name] for name in names])
     else:
         rows = np.asarray(values).reshape(-1, 3) if len(values) else np.empty((0, 3), np.uint32)
     moves = np.empty(len(rows), MOVE)
-    for column, name in enumerate(MOVE.names):
+    for column, name in enumerate(names):
         moves[name] = frozen(rows[:, column], np.uint32, f"moves.{name}")
     moves.setflags(write=False)
     return moves

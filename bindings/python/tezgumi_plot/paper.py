@@ -1,5 +1,9 @@
 """The sheet that pictures are drawn on, and what they all need: sizes of text, room for labels, numbers in few letters."""
+from __future__ import annotations
+
 import io
+import os
+from typing import Union
 
 import matplotlib
 from matplotlib.backends.backend_agg import FigureCanvasAgg
@@ -58,7 +62,7 @@ class Sheet(Figure):
         return data.getvalue()
 
 
-def save(picture, path):
+def save(picture: Figure, path: Union[str, "os.PathLike[str]"]) -> None:
     """Writes a picture into a file, by the end of its name: .png, .pdf or .svg."""
     if not str(path).lower().endswith((".png", ".pdf", ".svg")):
         raise InputError(f"{path}: a picture's name ends with .png, .pdf or .svg")

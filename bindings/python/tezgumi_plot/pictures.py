@@ -1,5 +1,10 @@
 """Whole pictures: a decision on a run, and a sweep over numbers of PEs."""
+from __future__ import annotations
+
+from typing import Iterable
+
 import numpy as np
+from matplotlib.figure import Figure
 from matplotlib.ticker import FixedLocator, FuncFormatter, NullLocator, ScalarFormatter
 
 import tezgumi
@@ -12,7 +17,9 @@ from .paper import Sheet, few_letters, points_wide, text_width
 LEFT, WIDTH, NOTES = 0.95, 10.75, 8.75
 
 
-def decision(run, made, title=None, checked=None, medium="screen"):
+def decision(
+        run: tezgumi.Run, made: tezgumi.Decision, title: str | None = None, checked: tezgumi.Verdict | bool | None = None,
+        medium: str = "screen") -> Figure:
     """A picture of a decision on a run: the chain with its cuts and its fence, and the load of each PE before and after.
 
     `checked` is what `tezgumi.check` said of the decision, or None where it was not asked. The medium is "screen" or
@@ -107,11 +114,11 @@ def _write_figures(sheet, figures, checked):
         sheet.write(NOTES, 5.8 + 0.29 * len(rows) + 0.06, text, weight="bold")
 
 
-def sweep(swept, title=None, medium="screen"):
+def sweep(swept: Iterable[tezgumi.Figures], title: str | None = None, medium: str = "screen") -> Figure:
     """A picture of the figures for several numbers of PEs: the greatest load, the imbalance, and the bytes that move."""
+    swept = sorted(swept, key=lambda row: row.pes)
     if not swept:
         raise tezgumi.InputError("the sweep has no figures")
-    swept = sorted(swept, key=lambda row: row.pes)
     sheet = Sheet(medium, 5.0)
     sheet.write(LEFT, 0.18, title or f"{swept[0].elements:,} elements", size=1.35, weight="bold")
     panels = [sheet.panel(LEFT + 3.85 * i, 1.0, 2.95, 3.2) for i in range(3)]

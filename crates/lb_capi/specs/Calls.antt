@@ -5,6 +5,8 @@ use Rattle.lb_lists.specs.Rooms.{Lists}
 use Rattle.lb_lists.specs.Runs.{Listed}
 use Rattle.lb_lists.specs.declared.error.RunError.{RunError}
 use Rattle.lb_lists.specs.declared.error.RunError.TheVariants.{BadInput, BadLoad, OutOfMemory}
+use Rattle.lb_lists.specs.declared.scaling.ScaleError.{ScaleError}
+use Rattle.lb_lists.specs.declared.scaling.ScaleError.TheVariants as Scale
 
 -- the run of these lists
 abbrev pub run_of : List ℕ → List ℕ → List ℕ → ℕ → Listed
@@ -41,3 +43,10 @@ abbrev pub refusal_status : RunError → ℤ
 refusal_status BadInput = negsuc 0
 refusal_status OutOfMemory = negsuc 1
 refusal_status BadLoad = negsuc 2
+
+-- the status that tells why loads were not scaled
+abbrev pub scale_status : ScaleError → ℤ
+scale_status Scale.BadInput = negsuc 0
+scale_status Scale.NotANumber = negsuc 3
+scale_status Scale.Negative = negsuc 4
+scale_status Scale.Infinite = negsuc 5

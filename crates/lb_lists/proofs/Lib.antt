@@ -2,6 +2,9 @@ pub mod Blocks
 pub mod Claims
 pub mod FirstFlaws
 pub mod Greatest
+pub mod NearLeast
 pub mod OnePlan
 pub mod Plans
+pub mod ShortClaims
+pub mod Ticks
 pub mod Zipped

@@ -1,5 +1,5 @@
 -- What somebody claims of a run, when the claim is right, and what is the first flaw of one that is not.
-use Rattle.std.specs.Prelude.{◌≡◌, ◌≢◌, ◌⊎◌, ℕ, List, [], ◌∷◌, length, ℤ}
+use Rattle.std.specs.Prelude.{◌≡◌, ◌≢◌, ◌⊎◌, ℕ, ◌+◌, List, [], ◌∷◌, length, take, ℤ}
 use Rattle.lb_certificates.specs.Certificate.{IsCertified}
 use Rattle.lb_certificates.specs.Chain.{IsLeastDivision}
 use Rattle.lb_certificates.specs.Flaws.{HasFlaw, HasNamingFlaw, IsFirst}
@@ -35,6 +35,21 @@ division_of bottleneck cuts stops = record { bottleneck = bottleneck; cuts = cut
 -- the division that is claimed
 abbrev pub claimed_division : Claimed → Division (Unit {0})
 claimed_division claim = division_of claim.bottleneck claim.cuts claim.stops
+
+-- The claim with each list of the certificates cut off one entry past the length that it is to have. A list that is too
+-- long still is, and one that is right is whole.
+abbrev pub shortened : ℕ → Claimed → Claimed
+shortened pes claim =
+    record {
+      bottleneck = claim.bottleneck;
+      moved = claim.moved;
+      new_places = claim.new_places;
+      cuts = take (pes + 2) claim.cuts;
+      stops = take (pes + 2) claim.stops;
+      names = take (pes + 1) claim.names;
+      block_prices = take (pes + 1) claim.block_prices;
+      pe_prices = take (pes + 1) claim.pe_prices;
+    }
 
 -- the names and prices that are claimed are right
 abbrev pub IsNamedRight : Listed → Claimed → Type 0

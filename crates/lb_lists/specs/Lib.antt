@@ -3,3 +3,4 @@ pub mod Places
 pub mod Plans
 pub mod Rooms
 pub mod Claims
+pub mod Scales

@@ -6,7 +6,7 @@ ghost use Rattle.lb_lists.specs.Claims.{division_of, floor_of, IsBest, IsFirstFl
 ghost use Rattle.lb_lists.specs.Places.{ArePlaces};
 ghost use Rattle.lb_lists.specs.Runs.{sizes_of, AreSmall, IsAsked, IsRefusal, Listed};
 
-use crate::claim::Claim;
+use crate::claim::{Claim, shorten};
 use crate::error::RunError;
 use crate::measured::{Measured, measure};
 use crate::places::are_places;
@@ -144,7 +144,7 @@ fn first_flaw<A: Allocator>(
 /// element the name of its block.
 ///
 /// Any claim may be passed. Its flaws are looked for in the order of [`Flaw`]; there
-/// [`MovesWrong`](Flaw::MovesWrong) means a wrong place.
+/// [`MovesWrong`](Flaw::MovesWrong) means a wrong place. Of a list that is too long no more is copied than shows that.
 ///
 /// # Errors
 ///
@@ -167,10 +167,11 @@ pub fn check_claim<A: Allocator + Copy>(
         Ok(measured) => measured,
         Err(refused) => return Err(refused),
     };
-    let Ok(parts) = parts_of(alloc, claim) else {
+    let short = shorten(claim, pes);
+    let Ok(parts) = parts_of(alloc, &short) else {
         return Err(RunError::OutOfMemory);
     };
-    let flaw = first_flaw(&measured, pes, claim, &parts);
+    let flaw = first_flaw(&measured, pes, &short, &parts);
     drop(parts);
     drop(measured);
     Ok(flaw)

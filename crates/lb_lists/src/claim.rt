@@ -1,3 +1,7 @@
+ghost use Rattle.std.specs.Prelude.{◌≡◌, ◌≤◌, take};
+ghost use Rattle.lb_lists.specs.Claims.{shortened};
+ghost use Rattle.chare_index.specs.declared.limits.TheConstants.Limits.{PES};
+
 use std::marker::Model;
 
 /// What somebody claims to be a decision for a run, as plain lists. Contracts see it as the record of them.
@@ -36,4 +40,30 @@ impl<'a> Model for Claim<'a> {
       block_prices = c.block_prices.now;
       pe_prices = c.pe_prices.now;
     } };
+}
+
+// The first entries of a list, at most so many.
+fn front<T>(list: &[T], most: usize) -> &[T]
+    ensures { result.now ≡ take most list.now }
+{
+    list.get(..most).unwrap_or(list)
+}
+
+/// A claim with each list of the certificates cut off one entry past the length that it is to have for `pes` PEs: where a
+/// list is too long it still is, so the claim has the same first flaw, however much memory its lists take.
+pub(crate) fn shorten<'a>(claim: &Claim<'a>, pes: u32) -> Claim<'a>
+    requires few_pes { pes ≤ PES }
+    ensures { result ≡ shortened pes claim.now }
+{
+    let blocks = pes as usize;
+    Claim {
+        bottleneck: claim.bottleneck,
+        moved: claim.moved,
+        new_places: claim.new_places,
+        cuts: front(claim.cuts, blocks + 2),
+        stops: front(claim.stops, blocks + 2),
+        names: front(claim.names, blocks + 1),
+        block_prices: front(claim.block_prices, blocks + 1),
+        pe_prices: front(claim.pe_prices, blocks + 1),
+    }
 }

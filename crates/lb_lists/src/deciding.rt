@@ -2,6 +2,7 @@ ghost use Rattle.std.specs.Prelude.{◌≡◌, ◌≤◌, ◌<◌, ◌+◌, ◌�
 ghost use Rattle.chain_partition.specs.Chosen.{IsChosen};
 ghost use Rattle.lb_certificates.specs.Chain.{IsDivision};
 ghost use Rattle.lb_certificates.specs.Naming.{blocks_between, IsLeastNaming};
+ghost use Rattle.lb_strategy.specs.Decisions.{ArePricesBounded};
 ghost use Rattle.lb_lists.specs.Claims.{claimed_division, IsRightClaim};
 ghost use Rattle.lb_lists.specs.Places.{ArePlaces};
 ghost use Rattle.lb_lists.specs.Plans.{stops_in, IsPlan};
@@ -111,7 +112,7 @@ fn write_decision<A: Allocator>(plan: &Plan<A>, room: &mut Room<'_>) -> Decided
 }
 
 /// Plans a run for `pes` PEs, and writes the decision with its certificates: each list of the room, but of the stops the
-/// first [`Decided::stops`] alone.
+/// first [`Decided::stops`] alone. Its prices are within the bounds that [`plan_run`](crate::plan_run) gives.
 ///
 /// # Errors
 ///
@@ -128,6 +129,7 @@ pub fn decide_into<A: Allocator + Copy>(
     ensures right { IfOk result (λ d. IsRightClaim run.now pes (claim_in d.bottleneck d.moved d.stops (lists_in room.new))) }
     ensures chosen { IfOk result (λ d. IsChosen run.now.loads pes (claimed_division (claim_in d.bottleneck d.moved d.stops (lists_in room.new)))) }
     ensures least_naming { IfOk result (λ d. IsLeastNaming (sizes_of run.now) room.new.cuts.now pes room.new.names.now) }
+    ensures bounded { IfOk result (λ _. ArePricesBounded (sizes_of run.now) room.new.cuts.now room.new.block_prices.now room.new.pe_prices.now) }
     ensures counted { IfOk result (λ d. d.stops ≤ pes + 1) }
     ensures behind { IfOk result (λ d. drop d.stops room.new.stops.now ≡ drop d.stops room.old.stops.now) }
     ensures asked { OnOk result (IsAsked run.now pes × HasRoom (length run.now.loads) pes (lists_in room.old)) }

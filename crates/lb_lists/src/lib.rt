@@ -5,8 +5,9 @@
 //! - [`plan_run`]: decides; [`plan_into`] writes the place of each element, and [`decide_into`] the whole decision, into
 //!   [`Room`] of the caller.
 //! - [`check_claim`]: whether a [`Claim`] is right, whoever made it, or its first flaw; [`number_of`] a flaw.
+//! - [`scale_loads`]: loads in seconds as whole numbers, or a [`ScaleError`].
 //! - [`RunError`]: why a run was not planned, or a claim not checked.
-//! - [`one_plan`]: the law that a run has one plan.
+//! - [`one_plan`]: the law that a run has one plan; [`near_least`]: that one of scaled loads is nearly least.
 #![tactic(auto)]
 
 mod checking;
@@ -19,11 +20,13 @@ mod places;
 mod plan;
 mod planning;
 mod run;
+mod scaling;
 
 pub use checking::{check_claim, number_of};
 pub use claim::Claim;
 pub use deciding::{Decided, Room, decide_into};
 pub use error::RunError;
-pub use laws::one_plan;
+pub use laws::{near_least, one_plan};
 pub use planning::{Planned, plan_into, plan_run};
 pub use run::Run;
+pub use scaling::{ScaleError, scale_loads};

@@ -4,6 +4,7 @@ ghost use Rattle.std.specs.Prelude.{◌≡◌, ◌<◌, ◌≤◌, length, IfOk,
 ghost use Rattle.chain_partition.specs.Chosen.{IsChosen};
 ghost use Rattle.lb_certificates.specs.Certificate.{IsCertified};
 ghost use Rattle.lb_certificates.specs.Naming.{blocks_between, bytes_moved, AreBlocks, IsLeastNaming, IsNamed};
+ghost use Rattle.lb_strategy.specs.Decisions.{ArePricesBounded};
 ghost use Rattle.lb_lists.specs.Runs.{sizes_of, AreSmall, IsAsked, IsRefusal};
 ghost use Rattle.lb_lists.specs.declared.error.RunError.TheVariants.{OutOfMemory};
 
@@ -36,6 +37,7 @@ fn named<A: Allocator + Copy>(
     ensures named { IfOk result (λ found. IsNamed sizes.now cuts.now found.0 found.1.u found.1.v) }
     ensures least_naming { IfOk result (λ found. IsLeastNaming sizes.now cuts.now (blocks_between cuts.now) found.0) }
     ensures moved { IfOk result (λ found. found.2 ≡ bytes_moved sizes.now cuts.now found.0) }
+    ensures bounded { IfOk result (λ found. ArePricesBounded sizes.now cuts.now found.1.u found.1.v) }
     ensures only_memory { IfErr result (λ error. error ≡ OutOfMemory) }
 {
     let table = CostTable::of(alloc, sizes, cuts)?;
@@ -60,6 +62,7 @@ fn decided<A: Allocator + Copy>(
     ensures named { IfOk result (λ plan. IsNamed sizes.now plan.division.cuts plan.naming plan.prices.u plan.prices.v) }
     ensures least_naming { IfOk result (λ plan. IsLeastNaming sizes.now plan.division.cuts pes plan.naming) }
     ensures moved { IfOk result (λ plan. plan.moved ≡ bytes_moved sizes.now plan.division.cuts plan.naming) }
+    ensures bounded { IfOk result (λ plan. ArePricesBounded sizes.now plan.division.cuts plan.prices.u plan.prices.v) }
     ensures only_memory { IfErr result (λ error. error ≡ OutOfMemory) }
 {
     let division = divide(alloc, loads, pes)?;
@@ -87,6 +90,7 @@ pub(crate) fn decide<A: Allocator + Copy>(
     ensures named { IfOk result (λ plan. IsNamed (sizes_of run.now) plan.division.cuts plan.naming plan.prices.u plan.prices.v) }
     ensures least_naming { IfOk result (λ plan. IsLeastNaming (sizes_of run.now) plan.division.cuts pes plan.naming) }
     ensures moved { IfOk result (λ plan. plan.moved ≡ bytes_moved (sizes_of run.now) plan.division.cuts plan.naming) }
+    ensures bounded { IfOk result (λ plan. ArePricesBounded (sizes_of run.now) plan.division.cuts plan.prices.u plan.prices.v) }
     ensures asked { OnOk result (IsAsked run.now pes) }
     ensures small { OnOk result (AreSmall run.now.loads) }
     ensures refused { IfErr result (IsRefusal (IsAsked run.now pes) (AreSmall run.now.loads)) }

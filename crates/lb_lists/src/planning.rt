@@ -2,7 +2,7 @@ ghost use Rattle.std.specs.Prelude.{◌≡◌, ◌<◌, ◌≤◌, length, IfOk,
 ghost use Rattle.chain_partition.specs.Chosen.{IsChosen};
 ghost use Rattle.lb_certificates.specs.Chain.{IsDivision, IsLeastDivision};
 ghost use Rattle.lb_certificates.specs.Naming.{blocks_between, IsCheapest, IsLeastNaming};
-ghost use Rattle.lb_strategy.specs.Decisions.{IsRight};
+ghost use Rattle.lb_strategy.specs.Decisions.{HasBoundedPrices, IsRight};
 ghost use Rattle.lb_lists.specs.Places.{ArePlaces};
 ghost use Rattle.lb_lists.specs.Plans.{IsPlan};
 ghost use Rattle.lb_lists.specs.Runs.{sizes_of, AreSmall, IsAsked, IsRefusal};
@@ -35,7 +35,8 @@ fn snapshot_of<A: Allocator + Copy>(
     }
 }
 
-/// Decides where each element of a run goes on, on `pes` PEs, as [`plan`] does.
+/// Decides where each element of a run goes on, on `pes` PEs, as [`plan`] does: so each price of a block is 0 to the
+/// greatest number of bytes that a block moves on some PE, and each price of a PE is 0 down to as much below 0.
 ///
 /// # Errors
 ///
@@ -52,6 +53,7 @@ pub fn plan_run<A: Allocator + Copy>(
     ensures least { IfOk result (λ d. IsLeastDivision run.now.loads pes d.division.bottleneck d.division.cuts) }
     ensures cheapest { IfOk result (λ d. IsCheapest (sizes_of run.now) d.division.cuts pes d.naming) }
     ensures least_naming { IfOk result (λ d. IsLeastNaming (sizes_of run.now) d.division.cuts pes d.naming) }
+    ensures bounded { IfOk result (HasBoundedPrices (sizes_of run.now)) }
     ensures asked { OnOk result (IsAsked run.now pes) }
     ensures small { OnOk result (AreSmall run.now.loads) }
     ensures refused { IfErr result (IsRefusal (IsAsked run.now pes) (AreSmall run.now.loads)) }

@@ -1,8 +1,13 @@
-use Rattle.std.proofs.Common.{◌≡◌, rules, refl, ◌∙◌}
-use Rattle.block_assignment.specs.Table.{cost_at}
+use Rattle.std.proofs.Common.{◌≡◌, rules, refl, ◌∙◌, subst}
+use Rattle.block_assignment.specs.Table.{IsTable, cost_at}
 use Rattle.lb_certificates.specs.Naming.{naming_cost}
 use Rattle.lb_strategy.proofs.RightDecisions.{least_by_table, moved_by_table, named_by_table}
+use Rattle.lb_strategy.proofs.PriceBounds.{bounded_by_table}
 use Rattle.lb_lists.proofs.plan.named.Goals as goal
+
+pub returns-clause-bounded : goal.returns-clause-bounded
+returns-clause-bounded g c =
+    bounded_by_table c.args.sizes.now c.args.cuts.now c.in_ok-naming.prices.u c.in_ok-naming.prices.v c.in_ok-table.table (subst IsTable c.table.view_is c.table.invariant) c.in_ok-table.ensures.table c.in_ok-naming.ensures.bounded
 
 pub returns-clause-named : goal.returns-clause-named
 returns-clause-named g c =

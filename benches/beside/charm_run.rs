@@ -1,0 +1,66 @@
+//! A yardstick for `charm_run`: runs a workload over a thread for each PE, in plain Rust without proofs, over crossbeam's
+//! queues. Each element keeps a journal of the letters that it has executed, with their bodies, as charm_run does.
+//!
+//!     charm_run FILE
+//!
+//! - `run`: what the threads share, and a whole run.
+//! - `pe`: a PE, its elements, and what it does in a turn.
+//! - `board`: where the PEs report, and each round is decided.
+mod board;
+#[expect(dead_code, reason = "a run prints neither the fence nor the loads of blocks")]
+mod decision;
+mod pe;
+mod run;
+
+use std::io::{self, Write};
+use std::process::ExitCode;
+
+/// What runs: on so many PEs, so many rounds of chares with so much padding, and of each round the amounts.
+pub struct Workload {
+    pub pes: usize,
+    pub pad: usize,
+    pub chares: usize,
+    pub rounds: Vec<Vec<u32>>,
+}
+
+impl Workload {
+    fn parse(text: &str) -> Option<Self> {
+        let mut lines = text.lines();
+        let mut number = |word: &str| -> Option<usize> { lines.next()?.strip_prefix(word)?.trim_start().parse().ok() };
+        let (pes, rounds) = (number("pes")?, number("rounds")?);
+        let (pad, chares) = (number("pad")?, number("chares")?);
+        let amounts = |line: &str| line.strip_prefix("amounts")?.split_whitespace().map(|word| word.parse().ok()).collect();
+        let found: Vec<Vec<u32>> = lines.map(amounts).collect::<Option<_>>()?;
+        let is_whole = found.len() == rounds && found.iter().all(|row| row.len() == chares) && (1..=256).contains(&pes);
+        is_whole.then_some(Workload { pes, pad, chares, rounds: found })
+    }
+}
+
+fn print(outcome: &run::Outcome, out: &mut impl Write) -> io::Result<()> {
+    for (at, round) in outcome.rounds.iter().enumerate() {
+        writeln!(out, "round {} bottleneck {} moved {}", at + 1, round.bottleneck, round.moved)?;
+    }
+    write!(out, "sums")?;
+    for sum in &outcome.sums {
+        write!(out, " {sum}")?;
+    }
+    writeln!(out, "\nposted {} executed {} held {}", outcome.posted, outcome.executed, outcome.posted - outcome.executed)
+}
+
+fn main() -> ExitCode {
+    let words: Vec<String> = std::env::args().skip(1).collect();
+    let [path] = words.as_slice() else {
+        eprintln!("usage: charm_run FILE");
+        return ExitCode::from(2);
+    };
+    let Some(workload) = std::fs::read_to_string(path).ok().and_then(|text| Workload::parse(&text)) else {
+        eprintln!("charm_run: {path}: no workload");
+        return ExitCode::from(3);
+    };
+    let outcome = run::run(&workload);
+    let mut out = io::BufWriter::with_capacity(65_536, io::stdout().lock());
+    match print(&outcome, &mut out).and_then(|()| out.flush()) {
+        Ok(()) => ExitCode::SUCCESS,
+        Err(_) => ExitCode::FAILURE,
+    }
+}

@@ -1,0 +1,64 @@
+"""Loads in floating point: the unit that is chosen, the unit that is given, and each refusal."""
+from dataclasses import replace
+from fractions import Fraction
+
+import numpy as np
+
+import tezgumi
+from support import TimedTest
+
+
+def run(loads, **words):
+    count = len(loads)
+    return tezgumi.Run(2, loads, [8] * count, [0] * count, **words)
+
+
+class Scaled(TimedTest):
+    def test_the_finest_unit(self):
+        found = run([1.5, 0.25], scale=True)
+        self.assertEqual((found.loads.tolist(), found.unit), ([3 * 2**45, 2**44], 2.0**-46))
+        self.assertEqual(run([0.0, -0.0], scale=True).unit, 5e-324)
+        self.assertEqual(run([], scale=True).loads.tolist(), [])
+        self.assertEqual(run(np.array([1, 2], np.int32), scale=True).loads.tolist(), [2**45, 2**46])
+
+    def test_exactly_by_fractions(self):
+        random = np.random.default_rng(1)
+        for _ in range(100):
+            loads = np.ldexp(random.random(20), random.integers(-300, 300, 20))
+            found = run(loads, scale=True)
+            counts = [int(Fraction(float(load)) / Fraction(found.unit)) for load in loads]
+            self.assertEqual(found.loads.tolist(), counts)
+            self.assertLessEqual(max(counts), tezgumi.LOAD)
+            self.assertGreater(2 * max(counts) + 1, tezgumi.LOAD)
+
+    def test_a_plan_in_seconds(self):
+        found = run([0.1, 0.2, 0.3], scale=True)
+        decision = tezgumi.decide(found)
+        self.assertAlmostEqual(decision.bottleneck * found.unit, 0.3, delta=3 * found.unit)
+        self.assertTrue(tezgumi.check(found, decision))
+        self.assertEqual(found.after(decision).unit, found.unit)
+
+    def test_a_unit_that_is_given(self):
+        found = run([0.0014, 0.25, 3.0], unit=0.001)
+        self.assertEqual((found.loads.tolist(), found.unit), ([1, 250, 3000], 0.001))
+        self.assertEqual(replace(found, procs=4).loads.tolist(), [1, 250, 3000])
+        self.assertEqual(run([7, 8], unit=0.001).loads.tolist(), [7, 8])
+        self.assertIn("unit=0.001", repr(found))
+        self.assertIsNone(run([7, 8]).unit)
+
+    def test_refusals(self):
+        for words in ({"scale": True}, {"unit": 0.5}):
+            for load, text in (
+                    (float("nan"), "element 1 has the load nan, which is not a number"),
+                    (-1.0, "element 1 has the load -1.0, which is negative"),
+                    (float("-inf"), "element 1 has the load -inf, which is negative"),
+                    (float("inf"), "element 1 has the load inf, which is infinite")):
+                self.assertRaisesRegex(tezgumi.InputError, text, run, [1.0, load], **words)
+            self.assertRaisesRegex(tezgumi.InputError, "one dimension", run, np.zeros((1, 2)), **words)
+        self.assertRaisesRegex(tezgumi.InputError, "a list of numbers", run, [1.0, "a"], scale=True)
+        self.assertRaisesRegex(tezgumi.InputError, "65536 are taken", run, np.zeros(65_537), scale=True)
+        self.assertRaisesRegex(tezgumi.LoadError, "element 0 has too great a load", run, [1e30, 1.0], unit=0.5)
+        self.assertRaisesRegex(tezgumi.InputError, "leave one out", run, [1.0], scale=True, unit=0.5)
+        for unit in (0, -1.0, float("nan"), float("inf"), "a"):
+            self.assertRaisesRegex(tezgumi.InputError, "^unit is ", run, [1.0], unit=unit)
+        self.assertRaisesRegex(tezgumi.InputError, "not a whole number", run, [1.0, 0.5])

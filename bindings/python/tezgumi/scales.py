@@ -1,0 +1,88 @@
+"""Loads that were measured, in seconds say, as whole numbers of a unit."""
+from __future__ import annotations
+
+import ctypes
+import math
+from typing import Any, Tuple
+
+import numpy as np
+from numpy.typing import ArrayLike, NDArray
+
+from .errors import InputError, LoadError, TezgumiError
+from .library import library, lists
+
+_WRONG = {-4: "which is not a number", -5: "which is negative", -6: "which is infinite"}
+
+
+def scaled(loads: ArrayLike, most: int) -> Tuple[NDArray[np.uint64], float]:
+    """The loads counted in a unit that the library chooses, and the unit.
+
+    It is the least power of two in which no count is above the greatest load. Each count is rounded down, which is proved;
+    and that no division's heaviest block is lighter, in seconds, than that of a least division of the counts by more than
+    as many units as there are elements. No more than `most` loads are taken.
+    """
+    values = measured(loads)
+    if values.size > most:
+        raise InputError(f"there are {values.size} elements, and at most {most} are taken")
+    counts, unit = np.empty(values.size, np.uint64), ctypes.c_double()
+    status = library().tezgumi_scale(*lists(values, counts), ctypes.addressof(unit))
+    if status in _WRONG:
+        raise _first_wrong(values, status)
+    if status != 0:
+        raise TezgumiError(f"the library answered {status}")
+    return counts, unit.value
+
+
+def in_units(loads: ArrayLike, unit: float, most: int) -> NDArray[np.uint64]:
+    """The loads counted in this unit, each rounded to the nearest count. None may count more than `most`."""
+    values = measured(loads)
+    for status in _WRONG:
+        if _is_wrong(values, status).any():
+            raise _first_wrong(values, status)
+    with np.errstate(over="ignore"):
+        counts: NDArray[np.float64] = np.rint(values / unit)
+    if counts.size and not counts.max() <= most:
+        index = int(np.argmax(~(counts <= most)))
+        raise LoadError(f"element {index} has too great a load: {values[index]!s} is more than {most} units of {unit!r}")
+    return np.asarray(counts, np.uint64)
+
+
+def unit_of(value: Any) -> float:
+    """The unit as a float, which has to be finite and above 0."""
+    try:
+        unit = float(value)
+    except (TypeError, ValueError):
+        raise InputError(f"unit is {value!r}, which is no number") from None
+    if not (unit > 0 and math.isfinite(unit)):
+        raise InputError(f"unit is {value!r}; it has to be finite and above 0")
+    return unit
+
+
+def are_floats(loads: Any) -> bool:
+    """Whether numpy reads these numbers as floats."""
+    try:
+        return np.asarray(loads).dtype.kind == "f"
+    except (ValueError, OverflowError):
+        return False
+
+
+def measured(loads: ArrayLike) -> NDArray[np.float64]:
+    """The numbers as doubles."""
+    try:
+        values = np.ascontiguousarray(loads, dtype=np.float64)
+    except (TypeError, ValueError, OverflowError) as error:
+        raise InputError(f"loads: a list of numbers is wanted ({error})") from None
+    if np.ndim(loads) != 1:
+        raise InputError(f"loads: a list of one dimension is wanted, and not of {np.ndim(loads)}")
+    return values
+
+
+def _is_wrong(values: NDArray[np.float64], status: int) -> NDArray[np.bool_]:
+    if status == -4:
+        return np.isnan(values)
+    return np.less(values, 0) if status == -5 else np.isposinf(values)
+
+
+def _first_wrong(values: NDArray[np.float64], status: int) -> InputError:
+    index = int(np.argmax(_is_wrong(values, status)))
+    return InputError(f"element {index} has the load {values[index]!s}, {_WRONG[status]}")

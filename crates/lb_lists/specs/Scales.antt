@@ -1,0 +1,64 @@
+-- Loads that were measured as binary64 numbers, counted in whole units.
+use Rattle.std.specs.Prelude.{◌≡◌, ◌⊎◌, ℕ, ◌*◌, ◌/◌, ◌^◌, ◌<◌, ◌≤◌, List, length, map, take, All, true, false, slice_index_or}
+use Rattle.std.specs.Float.{Float, nan, inf, fin, float_zero}
+use lib.Ieee.{up, down}
+use Rattle.chare_index.specs.declared.limits.TheConstants.Limits.{ELEMENTS, LOAD}
+use Rattle.lb_lists.specs.declared.scaling.ScaleError.{ScaleError}
+use Rattle.lb_lists.specs.declared.scaling.ScaleError.TheVariants.{BadInput, NotANumber, Negative, Infinite}
+
+-- finite, and not below 0: of the two zeros either
+abbrev pub IsMeasured : Float → Type 0
+IsMeasured nan = ⊥
+IsMeasured (inf below) = ⊥
+IsMeasured (fin below m e) = (below ≡ false) ⊎ (m ≡ 0)
+
+-- such a number in units of the least number above 0 that there is, 2^-1074, of which each is a multiple
+abbrev pub ticks : Float → ℕ
+ticks nan = 0
+ticks (inf below) = 0
+ticks (fin below m e) = m * up e * 2 ^ 1074 / down e
+
+-- what is wrong with a load that is no such number
+abbrev pub IsLoadFault : Float → ScaleError → Type 0
+IsLoadFault nan error = error ≡ NotANumber
+IsLoadFault (inf true) error = error ≡ Negative
+IsLoadFault (inf false) error = error ≡ Infinite
+IsLoadFault (fin below m e) error = (error ≡ Negative) × (below ≡ true) × (0 < m)
+
+-- what is wrong with the first such load
+pub record IsFirstScaleFault (loads : List Float) (error : ScaleError) : Type 0 where
+  pub at : ℕ
+  pub inside : at < length loads
+  pub before : All IsMeasured (take at loads)
+  pub wrong : IsLoadFault (slice_index_or loads at float_zero) error
+
+-- there is one scaled load for each, and there are not too many
+abbrev pub IsRoomFor : ℕ → List Float → Type 0
+IsRoomFor room loads = (room ≡ length loads) × (length loads ≤ ELEMENTS)
+
+-- why loads were refused: that is not so; or it is, and some load was not measured
+abbrev pub IsScaleRefusal : List Float → ℕ → ScaleError → Type 0
+IsScaleRefusal loads room BadInput = ¬ (IsRoomFor room loads)
+IsScaleRefusal loads room error = IsRoomFor room loads × IsFirstScaleFault loads error
+
+-- the ticks of all loads
+abbrev pub in_ticks : List Float → List ℕ
+in_ticks loads = map ticks loads
+
+-- how many units of 2^power ticks each load is, rounded down
+abbrev pub counts : ℕ → List Float → List ℕ
+counts power loads = map (λ load. ticks load / 2 ^ power) loads
+
+-- none of them is above the limit of a load
+abbrev pub AreSmallIn : ℕ → List Float → Type 0
+AreSmallIn power loads = All (λ load. ticks load / 2 ^ power ≤ LOAD) loads
+
+-- The unit is a power of two, and the loads are counted in it, rounded down: none of these counts is above the limit, and
+-- in no finer unit would that be so.
+pub record IsScaled (loads : List Float) (unit : Float) (scaled : List ℕ) : Type 0 where
+  pub power : ℕ
+  pub measured : IsMeasured unit
+  pub unit_is : ticks unit ≡ 2 ^ power
+  pub counted : scaled ≡ counts power loads
+  pub small : AreSmallIn power loads
+  pub finest : (other : ℕ) → other < power → ¬ (AreSmallIn other loads)
