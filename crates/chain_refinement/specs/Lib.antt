@@ -1,0 +1,4 @@
+pub mod Flaws
+pub mod Orders
+pub mod Refinement
+pub mod Tolerances
