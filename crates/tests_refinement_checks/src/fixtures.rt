@@ -1,0 +1,94 @@
+//! What the tests are made of. What can't be made ends the test.
+
+ghost use Rattle.std.specs.Prelude.{◌≡◌, true};
+
+use chain_refinement::{Heights, Refinement, RefinementFlaw, Steps, Tolerance};
+use chare_index::Pe;
+use lb_certificates::{Cuts, Division, Floor, Loads, Naming, Sizes, Snapshot, Stops, Units};
+use std::process::Abort;
+
+/// A refinement as plain lists. An empty fence is the floor zero.
+#[derive(Clone, Copy)]
+pub(crate) struct Parts<'a> {
+    pub(crate) bottleneck: u64,
+    pub(crate) least: &'a [u32],
+    pub(crate) fence: &'a [u32],
+    pub(crate) tolerance: u32,
+    pub(crate) order: &'a [u32],
+    pub(crate) present: &'a [u32],
+    pub(crate) cuts: &'a [u32],
+    pub(crate) heights: &'a [&'a [(u32, u64)]],
+}
+
+/// Ends the test where this does not hold, with what it was to hold for.
+pub(crate) fn assert_for(rt: &impl Abort, holds: bool, name: &str)
+    ensures held { holds ≡ true }
+{
+    assert!(rt; holds, "{name}");
+}
+
+pub(crate) fn list<T: Copy>(rt: &(impl Abort + AllocGlobal), items: &[T]) -> Vec<T> {
+    Vec::from_slice(rt.alloc(), items).expect(rt, "out of memory")
+}
+
+/// Adds an item to a list.
+pub(crate) fn push<T: Copy>(rt: &impl Abort, items: &mut Vec<T>, item: T) {
+    items.push(item).expect(rt, "out of memory");
+}
+
+/// The bytes and the PE of each element.
+fn pairs(rt: &(impl Abort + AllocGlobal), elements: &[(u32, u32)]) -> Vec<(u32, Pe)> {
+    let mut pairs = Vec::new(rt.alloc());
+    for &(bytes, place) in elements {
+        let pair = (bytes, Pe::new(place).expect(rt, "no such PE"));
+        push(rt, &mut pairs, pair);
+    }
+    pairs
+}
+
+/// The snapshot of a run on 256 PEs with these loads and elements.
+pub(crate) fn snapshot(
+    rt: &(impl Abort + AllocGlobal),
+    loads: &[Units],
+    elements: &[(u32, u32)],
+) -> Snapshot {
+    let loads = Loads::new(list(rt, loads)).expect(rt, "past a limit");
+    let sizes = Sizes::new(pairs(rt, elements)).expect(rt, "past a limit");
+    Snapshot::new(1, 256, loads, sizes).expect(rt, "no snapshot")
+}
+
+/// These step functions.
+fn heights(rt: &(impl Abort + AllocGlobal), rows: &[&[(u32, u64)]]) -> Heights {
+    let mut heights = Vec::new(rt.alloc());
+    for &row in rows {
+        let steps = Steps::new(list(rt, row));
+        heights.push(steps).expect(rt, "out of memory");
+    }
+    Heights::new(heights)
+}
+
+/// The division with this bottleneck, these cuts and this fence.
+fn division(rt: &(impl Abort + AllocGlobal), parts: &Parts<'_>) -> Division {
+    let floor = if parts.fence.is_empty() {
+        Floor::Zero
+    } else {
+        Floor::Fence(Stops::new(list(rt, parts.fence)))
+    };
+    Division {
+        bottleneck: parts.bottleneck,
+        cuts: Cuts::new(list(rt, parts.least)),
+        floor,
+    }
+}
+
+/// The refinement of these parts.
+pub(crate) fn refinement(rt: &(impl Abort + AllocGlobal), parts: &Parts<'_>) -> Refinement {
+    Refinement {
+        least: division(rt, parts),
+        tolerance: Tolerance::new(parts.tolerance).expect(rt, "past a limit"),
+        order: Naming::new(list(rt, parts.order)),
+        present: Cuts::new(list(rt, parts.present)),
+        cuts: Cuts::new(list(rt, parts.cuts)),
+        heights: heights(rt, parts.heights),
+    }
+}

@@ -1,0 +1,11 @@
+//! Tests of the check of refinements: certificates and verdicts from a program outside, which looks at all divisions, all
+//! blocks and all places; each flaw; elements that stand in the order of the PEs and elements that do not; and a full array.
+//! They use public calls only.
+#![tactic(auto)]
+
+#[cfg(test)]
+mod checks;
+#[cfg(test)]
+mod fixtures;
+#[cfg(test)]
+mod rows;
