@@ -1,0 +1,5 @@
+pub mod Counts
+pub mod Idle
+pub mod OneOrder
+pub mod Orders
+pub mod Walked

@@ -1,0 +1,2 @@
+pub mod NoOrders
+pub mod Runs
