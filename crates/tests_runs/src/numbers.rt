@@ -1,9 +1,9 @@
-//! The numbers and the texts of refusals and faults, and the limits of a run.
+//! The numbers and the texts of refusals, and the limits of a run.
 
 use crate::errand::Errand;
 use crate::fixtures::{assert_for, patient};
 use chare_index::NoGate;
-use rts_run::{Config, Fault, RunError, run};
+use rts_run::{Config, RunError, run};
 use std::process::Abort;
 use std::sync::Wait;
 use std::thread::Threads;
@@ -20,14 +20,6 @@ fn refused_runs_have_their_numbers_and_texts(rt: HostRuntime) {
     assert!(rt; config as u8 == 1 && is_shown(&rt, &config, "a number is out of its limits"));
     let memory = RunError::OutOfMemory;
     assert!(rt; memory as u8 == 2 && is_shown(&rt, &memory, "out of memory"));
-}
-
-#[test]
-fn faults_have_their_numbers(rt: HostRuntime) {
-    assert!(rt; Fault::OutOfMemory as u8 == 1 && Fault::Idle as u8 == 2);
-    assert!(rt; Fault::Unpack as u8 == 3 && Fault::Stranger as u8 == 4);
-    assert!(rt; Fault::TooLong as u8 == 5 && Fault::Worn as u8 == 6);
-    assert!(rt; Fault::Mismatch as u8 == 8);
 }
 
 // So many chares that finish as they start.
