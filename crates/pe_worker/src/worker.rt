@@ -115,7 +115,10 @@ impl<C: Chare<A>, H: Openings<C>, J: RunBeginning<C>, A: Allocator> Ended for Wo
     /// The fault is that no thread could be started for it. The stop flag was set before it began, so its PE is as it opened.
     fn without_thread(self) -> Self {
         let mut worker = self;
-        worker.fault = worker.fault.or(Some(Fault::OutOfMemory));
+        let Some(_met) = worker.fault else {
+            worker.fault = Some(Fault::OutOfMemory);
+            return worker;
+        };
         worker
     }
 }
