@@ -3,8 +3,7 @@
 ghost use Rattle.std.specs.Prelude.{IfOk};
 ghost use Rattle.hot_spot_strip.specs.Openings.{opening_strips};
 ghost use Rattle.hot_spot_strip.specs.Strips.{strip_step};
-ghost use Rattle.rts_core.specs.Histories.{AreHistories};
-ghost use Rattle.run_account.specs.RunAccounts.{IsRunAccount, left_world};
+ghost use Rattle.rts_run.specs.Outcomes.{IsOutcome};
 
 use chare_index::NoGate;
 use hot_spot_strip::{Chain, ChainError, Strip};
@@ -14,7 +13,7 @@ use std::alloc::Allocator;
 use std::sync::Wait;
 use std::thread::Threads;
 
-/// Runs a chain of strips on PEs.
+/// Runs a chain of strips on PEs. What it left is said in the clause `outcome`: all that [`run`] says, of these strips.
 ///
 /// # Errors
 ///
@@ -26,14 +25,13 @@ pub fn run_chain<R: Threads + Wait + Sync, A: Allocator + Copy + Send + Sync>(
     config: &Config,
     chain: &Chain<'_>,
 ) -> Result<Outcome<Strip<A>, A>, ChainError>
-    ensures account { IfOk result (λ o. IsRunAccount strip_step (opening_strips chain.now.mode chain.now.rounds chain.now.work 0 chain.now.cells.now) (left_world o.ends o.left)) }
-    ensures histories { IfOk result (λ o. AreHistories strip_step ⟦<Strip<A> as Pup<A>>⟧.fits ⟦<Strip<A> as Pup<A>>⟧.pack
-        (opening_strips chain.now.mode chain.now.rounds chain.now.work 0 chain.now.cells.now) (left_world o.ends o.left)) }
+    ensures outcome { IfOk result (IsOutcome strip_step ⟦<Strip<A> as Pup<A>>⟧.fits ⟦<Strip<A> as Pup<A>>⟧.pack
+        (opening_strips chain.now.mode chain.now.rounds chain.now.work 0 chain.now.cells.now) config.now.pes) }
 {
     let strips = chain.strips(alloc)?;
     match run(rt, alloc, config, &NoGate, strips) {
         Ok(outcome) => Ok(outcome),
-        Err(RunError::Config) => Err(ChainError::Limit),
+        Err(RunError::Config(_)) => Err(ChainError::Limit),
         Err(RunError::OutOfMemory) => Err(ChainError::OutOfMemory),
     }
 }

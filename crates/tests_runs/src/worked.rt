@@ -123,3 +123,15 @@ fn each_round_has_its_loads_and_places(rt: HostRuntime) {
     expect_round(&rt, &second.0, 2, &[2, 2, 2, 2], &[0, 1, 1, 1]);
     drop(outcome);
 }
+
+#[test]
+fn the_parts_of_an_outcome(rt: HostRuntime) {
+    let outcome = run_tallies(&rt, &patient(2, 1_024), &EXAMPLE);
+    let (ends, left, board, fault) = outcome.into_parts();
+    let rounds = board.into_rounds();
+    let found = (ends.len(), left.len(), rounds.len(), fault);
+    assert_for(&rt, found == (2, 2, 2, None), found);
+    drop(ends);
+    drop(left);
+    drop(rounds);
+}
