@@ -3,7 +3,8 @@
 ghost use Rattle.std.specs.Prelude.{IfOk};
 ghost use Rattle.hot_spot_strip.specs.Openings.{opening_strips};
 ghost use Rattle.hot_spot_strip.specs.Strips.{strip_step};
-ghost use Rattle.rts_run.specs.Outcomes.{IsOutcome};
+ghost use Rattle.rts_core.specs.Histories.{AreHistories};
+ghost use Rattle.run_account.specs.RunAccounts.{IsRunAccount, left_world};
 
 use chare_index::NoGate;
 use hot_spot_strip::{Chain, ChainError, Strip};
@@ -13,7 +14,7 @@ use std::alloc::Allocator;
 use std::sync::Wait;
 use std::thread::Threads;
 
-/// Runs a chain of strips on PEs. What it left is said in the clause `outcome`: all that [`run`] says, of these strips.
+/// Runs a chain of strips on PEs.
 ///
 /// # Errors
 ///
@@ -25,8 +26,9 @@ pub fn run_chain<R: Threads + Wait + Sync, A: Allocator + Copy + Send + Sync>(
     config: &Config,
     chain: &Chain<'_>,
 ) -> Result<Outcome<Strip<A>, A>, ChainError>
-    ensures outcome { IfOk result (IsOutcome strip_step ⟦<Strip<A> as Pup<A>>⟧.fits ⟦<Strip<A> as Pup<A>>⟧.pack
-        (opening_strips chain.now.mode chain.now.rounds chain.now.work 0 chain.now.cells.now) config.now.pes) }
+    ensures account { IfOk result (λ o. IsRunAccount strip_step (opening_strips chain.now.mode chain.now.rounds chain.now.work 0 chain.now.cells.now) (left_world o.ends o.left)) }
+    ensures histories { IfOk result (λ o. AreHistories strip_step ⟦<Strip<A> as Pup<A>>⟧.fits ⟦<Strip<A> as Pup<A>>⟧.pack
+        (opening_strips chain.now.mode chain.now.rounds chain.now.work 0 chain.now.cells.now) (left_world o.ends o.left)) }
 {
     let strips = chain.strips(alloc)?;
     match run(rt, alloc, config, &NoGate, strips) {
