@@ -33,7 +33,7 @@ pub fn run_chain<R: Threads + Wait + Sync, A: Allocator + Copy + Send + Sync>(
     let strips = chain.strips(alloc)?;
     match run(rt, alloc, config, &NoGate, strips) {
         Ok(outcome) => Ok(outcome),
-        Err(RunError::Config) => Err(ChainError::Limit),
+        Err(RunError::Config(_)) => Err(ChainError::Limit),
         Err(RunError::OutOfMemory) => Err(ChainError::OutOfMemory),
     }
 }

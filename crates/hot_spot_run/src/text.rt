@@ -99,5 +99,6 @@ fn fault_word(fault: Fault) -> &'static str {
         Fault::TooLong => "toolong",
         Fault::Worn => "worn",
         Fault::Mismatch => "mismatch",
+        Fault::Stopped => "stopped",
     }
 }

@@ -1,6 +1,7 @@
 //! What a worker has to see to: the elements that have to go on, and those that wait.
 
-ghost use Rattle.std.specs.Prelude.{◌≡◌};
+ghost use Rattle.std.specs.Prelude.{◌≡◌, ◌+◌, ◌<◌, ◌≤◌, OnErr, OnOk};
+ghost use Rattle.std.specs.VecDeque.{deque_capacity, deque_len};
 
 use barrier::{BoardSize, RoundPlaces, RunBoard};
 use chare_index::{Index, Round};
@@ -56,14 +57,28 @@ impl<J: BoardSize, A: Allocator + Copy> Agenda<J, A> {
         Ok(())
     }
 
-    /// The board is to have these notes next: of each element that waits, it is noted here.
-    pub(crate) fn expect(&mut self, notes: &VecDeque<Note, A>) -> Result<(), AllocError> {
-        for note in notes {
-            if let Note::Sync(element, _, _, _, _) = note {
-                self.waiting.push_back(*element)?;
-            }
+    /// Takes room for so many elements whose reports the board is to have. Where there is as much already, it takes no
+    /// more: so notes that the board refuses cost nothing when they are handed in again.
+    pub(crate) fn reserve(&mut self, notes: usize) -> Result<(), AllocError>
+        ensures ok { OnOk result (deque_len self.new.waiting + notes ≤ deque_capacity self.new.waiting) }
+        ensures err { OnErr result (deque_capacity self.old.waiting < deque_len self.old.waiting + notes) }
+        ensures enough { deque_len self.old.waiting + notes ≤ deque_capacity self.old.waiting → self.new ≡ self.old }
+    {
+        if notes <= self.waiting.capacity() - self.waiting.len() {
+            return Ok(());
         }
-        Ok(())
+        self.waiting.reserve(notes)
+    }
+
+    /// The board has this note: the element, if it waits, is noted here. There is room for it.
+    pub(crate) fn reported(&mut self, note: &Note)
+        requires room { deque_len self.old.waiting < deque_capacity self.old.waiting }
+        ensures len { deque_len self.new.waiting ≤ deque_len self.old.waiting + 1 }
+        ensures capacity { deque_capacity self.new.waiting ≡ deque_capacity self.old.waiting }
+    {
+        if let Note::Sync(element, _, _, _, _) = note {
+            self.waiting.push_back_reserved(*element);
+        }
     }
 
     /// Copies the places of a round, if it is decided. Then those that waited for it are due.

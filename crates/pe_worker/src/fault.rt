@@ -2,32 +2,44 @@ ghost use Rattle.std.specs.Prelude.{◌≡◌, ◌≢◌};
 ghost use Rattle.pe_state.specs.declared.error.StepError.TheVariants.{Unpack};
 
 use pe_state::StepError;
+use thiserror::Error;
 
 /// Why a run ended before every element had finished, or what is wrong with its outcome. The numbers are stable; 7 is not
 /// used.
-#[derive(Clone, Copy, Debug, PartialEq, Eq)]
+#[derive(Clone, Copy, Debug, PartialEq, Eq, Error)]
 pub enum Fault {
     /// No memory was left, or a thread could not be started.
+    #[error("out of memory, or no thread could be started")]
     OutOfMemory = 1,
     /// A worker found nothing to do for as many turns in a row as it may.
+    #[error("a worker found nothing to do for as many turns as it may")]
     Idle = 2,
     /// The bytes of an element are no state. This never comes, since a state that was packed is unpacked again.
+    #[error("the bytes of an element are no state")]
     Unpack = 3,
     /// A handler was refused a letter to an element that is not there, and passed the refusal on.
+    #[error("a letter to an element that is not there")]
     Stranger = 4,
     /// A handler was refused a letter with too long a body, and passed the refusal on.
+    #[error("a letter with too long a body")]
     TooLong = 5,
     /// A handler was refused a letter since its PE has posted as many as it may, and passed the refusal on; or the last
     /// round was to be decided.
+    #[error("a PE has posted as many letters as it may, or the last round was to be decided")]
     Worn = 6,
     /// The marks of the elements do not agree with the rounds that were decided.
+    #[error("the marks of the elements do not agree with the rounds")]
     Mismatch = 8,
+    /// The run was stopped before every element had finished: its [`Watch`](crate::Watch) asked it to, or no worker says why.
+    #[error("the run was stopped before every element had finished")]
+    Stopped = 9,
 }
 
 /// What a refused step of a PE comes to. The bytes of an element always are a state.
 pub(crate) fn fault_of(error: StepError) -> Fault
     requires unpacks { error ≢ Unpack }
     ensures unpacks { result ≢ Fault.Unpack }
+    ensures no_mismatch { result ≢ Fault.Mismatch }
 {
     match error {
         StepError::OutOfMemory => Fault::OutOfMemory,

@@ -1,7 +1,8 @@
 //! The turns of a worker.
 
-ghost use Rattle.std.specs.Prelude.{◌≡◌, ◌≢◌, ◌<◌, ◌≤◌, length, IfErr, IfSome, None};
-ghost use Rattle.pe_worker.specs.declared.fault.Fault.TheVariants.{Unpack};
+ghost use Rattle.std.specs.Prelude.{◌≡◌, ◌≢◌, ◌+◌, ◌<◌, ◌≤◌, length, IfErr, IfSome, None};
+ghost use Rattle.std.specs.VecDeque.{deque_capacity, deque_len};
+ghost use Rattle.pe_worker.specs.declared.fault.Fault.TheVariants.{Mismatch, Unpack};
 
 use crate::agenda::Agenda;
 use crate::fault::{Fault, fault_of};
@@ -45,13 +46,13 @@ pub struct Worker<C: Chare<A>, H: Openings<C>, J: RunBeginning<C>, A: Allocator 
 impl<C: Chare<A>, H: Openings<C>, J: RunBeginning<C>, A: Allocator> Model for Worker<C, H, J, A> {
     ghost use Rattle.std.specs.Prelude.{IfSome, ◌≢◌};
     ghost use Rattle.pe_worker.specs.Workers.{WorkerView};
-    ghost use Rattle.pe_worker.specs.declared.fault.Fault.TheVariants.{Unpack};
+    ghost use Rattle.pe_worker.specs.declared.fault.Fault.TheVariants.{Mismatch, Unpack};
 
     ghost Value = { WorkerView C };
 
     ghost view = { λ w. record { seated = w.seated; fault = w.fault } };
 
-    ghost invariant = { λ w. IfSome w.fault (λ fault. fault ≢ Unpack) };
+    ghost invariant = { λ w. IfSome w.fault (λ fault. (fault ≢ Unpack) × (fault ≢ Mismatch)) };
 }
 
 impl<C: Chare<A>, H: Openings<C>, J: RunBeginning<C>, A: Allocator> Worker<C, H, J, A> {
@@ -76,11 +77,13 @@ impl<C: Chare<A>, H: Openings<C>, J: RunBeginning<C>, A: Allocator> Worker<C, H,
         self.seated.me()
     }
 
-    /// Its PE with the seat, and the fault that it met. What an element is packed to always unpacks, so `Unpack` is none.
+    /// Its PE with the seat, and the fault that it met. What an element is packed to always unpacks, so `Unpack` is none; nor is
+    /// `Mismatch`, since marks and rounds are compared only once all workers have ended.
     pub fn into_parts(self) -> (SeatedPe<C, H, J, A>, Option<Fault>)
         ensures seated { result.0 ≡ self.seated }
         ensures fault { result.1 ≡ self.fault }
         ensures unpacks { IfSome result.1 (λ fault. fault ≢ Unpack) }
+        ensures no_mismatch { IfSome result.1 (λ fault. fault ≢ Mismatch) }
     {
         let Worker {
             seated,
@@ -103,10 +106,19 @@ impl<C: Chare<A>, H: Openings<C>, J: RunBeginning<C>, A: Allocator> Work for Wor
 }
 
 impl<C: Chare<A>, H: Openings<C>, J: RunBeginning<C>, A: Allocator> Ended for Worker<C, H, J, A> {
+    ghost use Rattle.std.specs.Prelude.{Some};
+    ghost use Rattle.std.specs.Option.{option_or};
+    ghost use Rattle.pe_worker.specs.declared.fault.Fault.TheVariants.{OutOfMemory};
+
+    ghost refused = { λ w. record { seated = w.seated; fault = option_or w.fault (Some OutOfMemory) } };
+
     /// The fault is that no thread could be started for it. The stop flag was set before it began, so its PE is as it opened.
     fn without_thread(self) -> Self {
         let mut worker = self;
-        worker.fault = worker.fault.or(Some(Fault::OutOfMemory));
+        let Some(_met) = worker.fault else {
+            worker.fault = Some(Fault::OutOfMemory);
+            return worker;
+        };
         worker
     }
 }
@@ -114,7 +126,7 @@ impl<C: Chare<A>, H: Openings<C>, J: RunBeginning<C>, A: Allocator> Ended for Wo
 impl<C: Chare<A>, H: Openings<C>, J: RunBeginning<C>, A: Allocator + Copy> Worker<C, H, J, A> {
     /// Starts the elements of its PE, and then takes turns until every element has finished, this worker meets a fault, or
     /// another one has. A fault sets the stop flag for all. Whatever happens, it keeps what its PE holds. Who looks on is told of
-    /// each round that it decides.
+    /// each round that it decides, and asked before each start and each turn whether the run is to stop.
     pub fn work<G: Gate + Sync, V: Watch + Sync, R: Threads + Wait + Sync>(
         self,
         rt: &R,
@@ -125,7 +137,7 @@ impl<C: Chare<A>, H: Openings<C>, J: RunBeginning<C>, A: Allocator + Copy> Worke
         ensures same_me { result.seated.pe.me ≡ self.seated.pe.me }
     {
         let mut worker = self;
-        let worked = worker.start_all(gate, field);
+        let worked = worker.start_all(gate, watch, field);
         let worked = match worked {
             Ok(()) => worker.take_turns(rt, gate, watch, field),
             Err(fault) => Err(fault),
@@ -138,13 +150,22 @@ impl<C: Chare<A>, H: Openings<C>, J: RunBeginning<C>, A: Allocator + Copy> Worke
     }
 
     // Starts the elements of the PE, one after another.
-    fn start_all<G: Gate>(&mut self, gate: &G, field: &Field<C, H, J, A>) -> Result<(), Fault>
+    fn start_all<G: Gate, V: Watch>(
+        &mut self,
+        gate: &G,
+        watch: &V,
+        field: &Field<C, H, J, A>,
+    ) -> Result<(), Fault>
         ensures same_me { self.new.seated.pe.me ≡ self.old.seated.pe.me }
         ensures unpacks { IfErr result (λ fault. fault ≢ Unpack) }
+        ensures no_mismatch { IfErr result (λ fault. fault ≢ Mismatch) }
     {
         for _element in 0..self.agenda.dues() {
             if field.is_stopped() {
                 return Ok(());
+            }
+            if watch.wants_stop() {
+                return Err(Fault::Stopped);
             }
             self.start_next(gate)?;
         }
@@ -155,6 +176,7 @@ impl<C: Chare<A>, H: Openings<C>, J: RunBeginning<C>, A: Allocator + Copy> Worke
     fn start_next<G: Gate>(&mut self, gate: &G) -> Result<(), Fault>
         ensures same_me { self.new.seated.pe.me ≡ self.old.seated.pe.me }
         ensures unpacks { IfErr result (λ fault. fault ≢ Unpack) }
+        ensures no_mismatch { IfErr result (λ fault. fault ≢ Mismatch) }
     {
         let Some(element) = self.agenda.next_due() else {
             return Ok(());
@@ -175,11 +197,15 @@ impl<C: Chare<A>, H: Openings<C>, J: RunBeginning<C>, A: Allocator + Copy> Worke
     ) -> Result<(), Fault>
         ensures same_me { self.new.seated.pe.me ≡ self.old.seated.pe.me }
         ensures unpacks { IfErr result (λ fault. fault ≢ Unpack) }
+        ensures no_mismatch { IfErr result (λ fault. fault ≢ Mismatch) }
     {
         let mut idle = 0u64;
         for _ in rt.forever() {
             if field.is_stopped() || field.all_finished(rt) {
                 return Ok(());
+            }
+            if watch.wants_stop() {
+                return Err(Fault::Stopped);
             }
             idle = match self.turn(rt, gate, watch, field)? {
                 true => 0,
@@ -204,6 +230,7 @@ impl<C: Chare<A>, H: Openings<C>, J: RunBeginning<C>, A: Allocator + Copy> Worke
     ) -> Result<bool, Fault>
         ensures same_me { self.new.seated.pe.me ≡ self.old.seated.pe.me }
         ensures unpacks { IfErr result (λ fault. fault ≢ Unpack) }
+        ensures no_mismatch { IfErr result (λ fault. fault ≢ Mismatch) }
     {
         let delivered = self.seated.deliver(rt, &field.post);
         let looked = self.seated.look(&field.words);
@@ -222,6 +249,7 @@ impl<C: Chare<A>, H: Openings<C>, J: RunBeginning<C>, A: Allocator + Copy> Worke
     fn act<G: Gate>(&mut self, gate: &G) -> Result<bool, Fault>
         ensures same_me { self.new.seated.pe.me ≡ self.old.seated.pe.me }
         ensures unpacks { IfErr result (λ fault. fault ≢ Unpack) }
+        ensures no_mismatch { IfErr result (λ fault. fault ≢ Mismatch) }
     {
         if let Some(element) = arriving(self.seated.pe()) {
             if self.agenda.arrives(element).is_err() {
@@ -248,6 +276,7 @@ impl<C: Chare<A>, H: Openings<C>, J: RunBeginning<C>, A: Allocator + Copy> Worke
     ) -> Result<bool, Fault>
         ensures same_me { self.new.seated.pe.me ≡ self.old.seated.pe.me }
         ensures unpacks { IfErr result (λ fault. fault ≢ Unpack) }
+        ensures no_mismatch { IfErr result (λ fault. fault ≢ Mismatch) }
     {
         if self.see_round(rt, field).is_err() {
             return Err(Fault::OutOfMemory);
@@ -288,6 +317,7 @@ impl<C: Chare<A>, H: Openings<C>, J: RunBeginning<C>, A: Allocator + Copy> Worke
     ) -> Result<bool, Fault>
         ensures same_me { self.new.seated.pe.me ≡ self.old.seated.pe.me }
         ensures unpacks { IfErr result (λ fault. fault ≢ Unpack) }
+        ensures no_mismatch { IfErr result (λ fault. fault ≢ Mismatch) }
     {
         let notes = self.seated.pe().notes().len();
         if notes == 0 {
@@ -300,12 +330,12 @@ impl<C: Chare<A>, H: Openings<C>, J: RunBeginning<C>, A: Allocator + Copy> Worke
         self.owed = 0;
         field.tell_executed(self.executed);
         self.executed = 0;
-        if self.agenda.expect(self.seated.pe().notes()).is_err() {
+        if self.agenda.reserve(notes).is_err() {
             return Err(Fault::OutOfMemory);
         }
         let mut guard = field.barrier.lock(rt);
         let board = &mut *guard;
-        let handed = report_all(&mut self.seated, board, notes);
+        let handed = report_all(&mut self.seated, &mut self.agenda, board, notes);
         self.completes = board.is_complete();
         if board.all_finished() {
             field.tell_finished();
@@ -324,6 +354,7 @@ impl<C: Chare<A>, H: Openings<C>, J: RunBeginning<C>, A: Allocator + Copy> Worke
     ) -> Result<bool, Fault>
         ensures same_me { self.new.seated.pe.me ≡ self.old.seated.pe.me }
         ensures unpacks { IfErr result (λ fault. fault ≢ Unpack) }
+        ensures no_mismatch { IfErr result (λ fault. fault ≢ Mismatch) }
     {
         if !self.completes {
             return Ok(false);
@@ -351,17 +382,24 @@ fn arriving<C: Chare<A>, H: Openings<C>, A: Allocator>(pe: &PeState<C, H, A>) ->
     Some(element.index())
 }
 
-// Reports so many notes, or as many as the board takes, and returns whether it took one.
+// Reports so many notes, or as many as the board takes, and returns whether it took one. The agenda has room for them.
 fn report_all<C: Chare<A>, H: Openings<C>, J: RunBeginning<C>, A: Allocator + Copy>(
     seated: &mut SeatedPe<C, H, J, A>,
+    agenda: &mut Agenda<OfRun<C, H>, A>,
     board: &mut RunBoard<OfRun<C, H>, A>,
     notes: usize,
 ) -> bool
+    requires room { deque_len agenda.old.waiting + notes ≤ deque_capacity agenda.old.waiting }
     ensures same_me { seated.new.pe.me ≡ seated.old.pe.me }
+    ensures no_growth { deque_capacity agenda.new.waiting ≡ deque_capacity agenda.old.waiting }
 {
     let mut taken = false;
     for _note in 0..notes {
-        taken = seated.report(board).is_some() || taken;
+        let Some(note) = seated.report(board) else {
+            return taken;
+        };
+        agenda.reported(&note);
+        taken = true;
     }
     taken
 }

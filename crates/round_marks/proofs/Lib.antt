@@ -1,3 +1,4 @@
 pub mod Counts
 pub mod Reached
 pub mod Walks
+pub mod Rising

@@ -3,6 +3,7 @@
 -- keeps a mark of each, and that every snapshot and every decision is kept, is this project's choice.
 use Rattle.std.specs.Prelude.{◌≡◌, ℕ, ◌+◌, ◌-◌, ◌<◌, ◌≤◌, ◌==◌, List, length, All, count_by, slice_get, Option, None, Some, IfSome, MatchOption}
 use Rattle.std.specs.List.{filter_map, range_with_len}
+use Rattle.std.specs.List.Sorted.{IsStrictlyIncreasing}
 use Rattle.at_sync.specs.Boards.{BoardState, kept_of, place_in}
 use Rattle.chares.specs.declared.note.Mark.{Mark}
 use Rattle.chares.specs.declared.note.Mark.TheVariants.{Synced, Resumed}
@@ -24,6 +25,15 @@ rounds_reached marks = filter_map round_reached marks
 -- how often it reached AtSync for this round
 abbrev pub times_reached : ℕ → List Mark → ℕ
 times_reached round marks = count_by (λ q. q == round) (rounds_reached marks)
+
+-- the round after which an element was resumed, where the mark is of that; its start is the resumption after round 0
+abbrev pub round_resumed : Mark → Option ℕ
+round_resumed (Synced note) = None
+round_resumed (Resumed round pe) = Some round
+
+-- the rounds after which an element was resumed, in the order of its marks
+abbrev pub rounds_resumed : List Mark → List ℕ
+rounds_resumed marks = filter_map round_resumed marks
 
 -- a snapshot has this load of element e, this packed size, and this PE
 pub record IsMeasuredAs (taken : Taken) (e units bytes pe : ℕ) : Type 0 where
@@ -70,9 +80,11 @@ pub record AreSynced {A : Type 0} (b : BoardState A) (e : ℕ) (marks : List Mar
 
 -- The marks of element e agree with what a board decided. The element opens on the PE `home`, and stands in the room of
 -- the PE `place`, or is packed where there is none. It is one of the board's; it reached AtSync for each round as the
--- round's snapshot says; each resumption is where it may be; and after a last mark of a resumption it stands there.
+-- round's snapshot says; each resumption is where it may be, and after a later round than the one before, so that none comes
+-- twice; and after a last mark of a resumption it stands there.
 pub record AreMarked {A : Type 0} (b : BoardState A) (e home : ℕ) (place : Option ℕ) (marks : List Mark) : Type 0 where
   pub member : e < elements b.database
   pub synced : AreSynced b e marks
   pub resumed : All (IsResumptionMark b e home) marks
+  pub resumed_in_order : IsStrictlyIncreasing (rounds_resumed marks)
   pub stands : IfSome (slice_get marks (length marks - 1)) (StandsAsMarked place)

@@ -1,8 +1,9 @@
 //! The marks of one element.
 
 ghost use Rattle.std.specs.Prelude.{◌≡◌, ◌+◌, ◌<◌, ◌≤◌, ◌-◌, ◌↔◌, All, IsTrue, IfSome, Some, length, slice_get};
+ghost use Rattle.std.specs.List.Sorted.{IsStrictlyIncreasing};
 ghost use Rattle.lb_database.specs.Measuring.{elements};
-ghost use Rattle.round_marks.specs.Marked.{AreMarked, AreSynced, IsMeasuredAs, IsResumption, IsResumptionMark, IsSyncOf, StandsAsMarked, round_reached};
+ghost use Rattle.round_marks.specs.Marked.{AreMarked, AreSynced, IsMeasuredAs, IsResumption, IsResumptionMark, IsSyncOf, StandsAsMarked, round_reached, rounds_resumed};
 
 use at_sync::Board;
 use chare_index::{Index, Limits, Pe, Round};
@@ -16,8 +17,9 @@ use std::alloc::Allocator;
 ///
 /// It returns `true` where the element is one of the board's; where it reached AtSync once for each round that is
 /// decided, with the load, the size and the PE that the round's snapshot has of it, and perhaps once more for the round
-/// under way, in the order of the rounds; where it started at home and was resumed after decided rounds alone, each time
-/// at its place in the decision; and where it stands on the PE of its last mark, if that is of a resumption.
+/// under way, in the order of the rounds; where a start of it was at home, and it was resumed after decided rounds alone, in
+/// the order of the rounds, and after none of them twice, each time at its place in the decision; and where it stands on the
+/// PE of its last mark, if that is of a resumption.
 pub fn marks_agree<A: Allocator>(
     board: &Board<A>,
     e: Index,
@@ -30,6 +32,7 @@ pub fn marks_agree<A: Allocator>(
     (e.get() as usize) < board.len()
         && are_synced(board, e, marks)
         && are_resumed(board, e, home, marks)
+        && resumed_in_order(marks)
         && stands_as_marked(place, marks)
 }
 
@@ -118,6 +121,23 @@ fn is_resumption<A: Allocator>(board: &Board<A>, e: Index, home: Pe, round: Roun
         return pe == home;
     }
     board.place_for(round, e) == Some(pe)
+}
+
+// Whether each resumption is after a later round than the one before.
+fn resumed_in_order(marks: &[Mark]) -> bool
+    ensures { IsTrue result ↔ IsStrictlyIncreasing (rounds_resumed marks.now) }
+{
+    let mut least = 0;
+    for mark in marks {
+        let Mark::Resumed(round, _) = mark else {
+            continue;
+        };
+        if round.get() < least {
+            return false;
+        }
+        least = round.get() + 1;
+    }
+    true
 }
 
 // Whether an element stands where its last mark says, if that is of a resumption.

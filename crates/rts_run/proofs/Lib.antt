@@ -1,3 +1,4 @@
 pub mod Counts
 pub mod Faults
 pub mod Opened
+pub mod Rounds

@@ -2,7 +2,7 @@
 use Rattle.std.specs.Prelude.{◌≡◌, ◌≢◌, ℕ, List, [], ◌∷◌, length, map, Option, None, Some}
 use Rattle.std.specs.List.{range_with_len}
 use Rattle.std.specs.Option.{option_or}
-use Rattle.at_sync.specs.Boards.{BoardState, IsBoard}
+use Rattle.at_sync.specs.Boards.{AreDecided, BoardState, IsBoard, HaveFinished}
 use Rattle.chares.specs.Elements.{ElementView}
 use Rattle.chares.specs.Steps.{Step}
 use Rattle.lb_database.specs.Measuring.{elements}
@@ -32,9 +32,10 @@ abbrev pub first_fault : List (Option Fault) → Option Fault
 first_fault [] = None
 first_fault (fault ∷ faults) = option_or fault (first_fault faults)
 
--- The outcome of a run of these chares on so many PEs. There is an end and a queue of each PE. The account holds; every
--- element is what its journal says; each round was decided for a snapshot of all elements, and its decision is the best;
--- unless the fault says otherwise, the marks of the elements agree with the rounds; and what was packed was unpacked.
+-- The outcome of a run of these chares on so many PEs. There is an end and a queue of each PE. The account holds, and every
+-- element is what its journal says. The board is one of these chares on these PEs: each round was decided for a snapshot of
+-- all of them, and its decision is the best. The marks of the elements agree with the rounds exactly where the fault does
+-- not say otherwise; what was packed was unpacked; and without a fault the board has of every element that it has finished.
 pub record IsOutcome {C A : Type 0} (step : Step C) (fits : C → Type 0) (pack : C → List ℕ) (chares : List C) (pes : ℕ) (o : OutcomeView C A) : Type 0 where
   pub ends : map (λ pe. pe.me) o.ends ≡ range_with_len 0 pes
   pub queues : length o.left ≡ pes
@@ -43,5 +44,8 @@ pub record IsOutcome {C A : Type 0} (step : Step C) (fits : C → Type 0) (pack 
   pub board : IsBoard o.board
   pub elements : elements o.board.database ≡ length chares
   pub on_pes : o.board.pes ≡ pes
+  pub rounds : AreDecided (length chares) pes o.board.rounds
   pub marks : o.fault ≢ Some Mismatch → AreAllMarked o.board o.ends o.left
+  pub mismatch : o.fault ≡ Some Mismatch → ¬ (AreAllMarked o.board o.ends o.left)
   pub unpacks : o.fault ≢ Some Unpack
+  pub finished : o.fault ≡ None → HaveFinished o.board

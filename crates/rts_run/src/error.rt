@@ -1,17 +1,58 @@
 ghost use Rattle.std.specs.Prelude.{◌≡◌};
+ghost use Rattle.rts_run.specs.Configs.{error_number};
 
 use std::alloc::AllocError;
+use std::fmt::{self, Display, Formatter, Write};
 use thiserror::Error;
 
-/// Why a run did not begin. No worker was started then, and the chares are given up. The numbers are stable.
+/// A number of a run that has limits, in the order in which they are judged.
+#[derive(Clone, Copy, Debug, PartialEq, Eq)]
+pub enum Setting {
+    /// [`Config::pes`](crate::Config::pes).
+    Pes,
+    /// [`Config::capacity`](crate::Config::capacity).
+    Capacity,
+    /// [`Config::turns`](crate::Config::turns).
+    Turns,
+    /// [`Config::probe_workers`](crate::Config::probe_workers).
+    ProbeWorkers,
+    /// How many chares there are.
+    Elements,
+}
+
+impl Display for Setting {
+    fn fmt<W: Write>(&self, f: &mut Formatter<W>) -> fmt::Result {
+        f.write_str(match self {
+            Setting::Pes => "the number of PEs",
+            Setting::Capacity => "the capacity of a queue",
+            Setting::Turns => "the number of idle turns",
+            Setting::ProbeWorkers => "the number of probe workers",
+            Setting::Elements => "the number of chares",
+        })
+    }
+}
+
+/// Why a run did not begin. No worker was started then, and the chares are given up.
 #[derive(Clone, Copy, Debug, PartialEq, Eq, Error)]
 pub enum RunError {
-    /// A number is out of its limits, or there are more chares than an array may have.
-    #[error("a number is out of its limits")]
-    Config = 1,
+    /// This number is out of its limits: of several such, the first in the order of [`Setting`].
+    #[error("{0} is out of its limits")]
+    Config(Setting),
     /// No memory was left.
     #[error("out of memory")]
-    OutOfMemory = 2,
+    OutOfMemory,
+}
+
+impl RunError {
+    /// The number of this kind of error: 1 for a number out of its limits, 2 for no memory. It stays the same in later versions.
+    pub fn number(self) -> u8
+        ensures value { result ≡ error_number self }
+    {
+        match self {
+            RunError::Config(_) => 1,
+            RunError::OutOfMemory => 2,
+        }
+    }
 }
 
 impl From<AllocError> for RunError {

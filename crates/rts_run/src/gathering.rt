@@ -2,7 +2,7 @@
 
 ghost use Rattle.std.specs.Prelude.{◌≡◌, ◌+◌, ◌∷◌, ◌≢◌, ◌≤◌, [], IfSome, length, map, vec_capacity};
 ghost use Rattle.std.specs.List.{range_with_len};
-ghost use Rattle.pe_worker.specs.declared.fault.Fault.TheVariants.{Unpack};
+ghost use Rattle.pe_worker.specs.declared.fault.Fault.TheVariants.{Mismatch, Unpack};
 ghost use Rattle.rts_run.specs.Outcomes.{first_fault};
 
 use chares::{Chare, Openings};
@@ -30,6 +30,7 @@ pub(crate) fn gather<C: Chare<A>, H: Openings<C>, J: RunBeginning<C>, A: Allocat
     ensures in_order { map (λ pe. pe.me) result.0.ends ≡ range_with_len 0 (length result.0.ends) }
     ensures fault { result.1 ≡ first_fault (first.fault ∷ map (λ w. w.fault) others.items) }
     ensures unpacks { IfSome result.1 (λ fault. fault ≢ Unpack) }
+    ensures no_mismatch { IfSome result.1 (λ fault. fault ≢ Mismatch) }
 {
     let (seated, mut fault) = first.into_parts();
     let mut gathered = Gathered::first(seated, room);

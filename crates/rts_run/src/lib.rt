@@ -4,7 +4,7 @@
 //! - [`run_watched`]: the same, while somebody looks on: a [`Watch`].
 //! - [`Config`]: on how many PEs, and with which limits.
 //! - [`Outcome`]: what a run left, of which nothing is lost, whatever the schedule was and whatever went wrong.
-//! - [`RunError`]: why a run did not begin. [`Fault`]: why one ended early.
+//! - [`RunError`]: why a run did not begin, with the [`Setting`] that is out of its limits. [`Fault`]: why one ended early.
 //!
 //! docs/RUNS.md has the protocol.
 #![tactic(auto)]
@@ -18,7 +18,7 @@ mod outcome;
 mod running;
 
 pub use config::Config;
-pub use error::RunError;
+pub use error::{RunError, Setting};
 pub use outcome::Outcome;
 pub use pe_worker::{Fault, NoWatch, Watch};
 pub use running::{run, run_watched};

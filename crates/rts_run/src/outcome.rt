@@ -77,8 +77,8 @@ impl<C: Chare<A>, A: Allocator> Outcome<C, A> {
         &self.ends
     }
 
-    /// The element with this index, on the PE where it stands; `None` where there is none, or it was on its way as a fault
-    /// ended the run. It is looked for on one PE after another.
+    /// The element with this index, on the PE where it stands; `None` where there is none, or it is on its way, packed: as a
+    /// fault ended the run, or as the last element finished. It is looked for on one PE after another.
     pub fn element(&self, index: Index) -> Option<&Element<C, A>>
         ensures value { option_copied result ≡ element_on index self.now.ends }
     {
@@ -107,11 +107,36 @@ impl<C: Chare<A>, A: Allocator> Outcome<C, A> {
         self.board.rounds()
     }
 
-    /// Why the run ended early, or what is wrong with it; `None` where every element has finished.
+    /// Why the run ended early, or what is wrong with it. Of what [`run`](crate::run) returns it is `None` only where every
+    /// element has finished.
     pub fn fault(&self) -> Option<Fault>
         ensures value { result ≡ self.now.fault }
     {
         self.fault
+    }
+
+    /// Its PEs, what is left in their queues, the board, and the fault, each by value. The elements are in the rooms of the
+    /// PEs, and [`Board::into_rounds`] gives the snapshot and the decision of each round.
+    pub fn into_parts(
+        self,
+    ) -> (
+        Vec<PeEnd<C, A>, A>,
+        Vec<Vec<HeldParcel<A>, A>, A>,
+        Board<A>,
+        Option<Fault>,
+    )
+        ensures ends { result.0.items ≡ self.ends }
+        ensures left { map (λ q. q.items) result.1.items ≡ self.left }
+        ensures board { result.2 ≡ self.board }
+        ensures fault { result.3 ≡ self.fault }
+    {
+        let Outcome {
+            ends,
+            left,
+            board,
+            fault,
+        } = self;
+        (ends, left, board, fault)
     }
 
     /// How many letters were posted, how many of them were executed, and how many are held. This takes no memory. It looks at

@@ -1,13 +1,13 @@
 //! The run, from chares to its outcome.
 
-ghost use Rattle.std.specs.Prelude.{◌≡◌, ◌≢◌, ◌≤◌, ◌<◌, All, IfOk, IfSome, MatchResult, Some, length, map, sum_by};
+ghost use Rattle.std.specs.Prelude.{◌≡◌, ◌≢◌, ◌≤◌, ◌<◌, All, IfOk, IfSome, MatchResult, None, Some, length, map, sum_by};
 ghost use Rattle.std.specs.List.{range_with_len};
 ghost use Rattle.std.specs.VecDeque.{deque_len};
 ghost use Rattle.chare_index.specs.declared.limits.TheConstants.Limits.{SEATS};
-ghost use Rattle.at_sync.specs.Boards.{AreDecided};
+ghost use Rattle.at_sync.specs.Boards.{AreDecided, HaveFinished, IsBoard};
 ghost use Rattle.lb_database.specs.Measuring.{elements};
 ghost use Rattle.pe_queues.specs.Seats.{new_seat, pes};
-ghost use Rattle.pe_worker.specs.declared.fault.Fault.TheVariants.{Mismatch, Unpack};
+ghost use Rattle.pe_worker.specs.declared.fault.Fault.TheVariants.{Mismatch, Stopped, Unpack};
 ghost use Rattle.round_marks.specs.Runs.{AreAllMarked};
 ghost use Rattle.rts_core.specs.Accounts.{IsCounted};
 ghost use Rattle.rts_core.specs.Histories.{AreHistories};
@@ -39,18 +39,21 @@ use worker_threads::Crew;
 
 /// Runs chares on PEs until every one has finished, or a fault is met, and gives what is left. Element `i` is the `i`-th
 /// chare, and opens on PE `i * pes / n`, rounded down, of `n` elements. Each PE has a worker in a thread of its own; the
-/// handlers pass the gate, and so do the workers that decide a round, with their numbers. With no chare it ends at once.
+/// handlers are handed the gate, and pass it with what numbers they like. The probe workers that decide a round pass it too,
+/// each with its number below `probe_workers`, while one of them waits for the others under the lock of the board: so a gate
+/// that waits there holds up every worker that reports. With no chare the run ends at once.
 ///
 /// Whatever the schedule was and whatever went wrong, the outcome loses nothing: the clause `account` says where each
-/// letter is, `histories` what each element is, `rounds` what was decided, and `marks` that the elements were measured and
-/// placed as the rounds say, unless its fault is [`Mismatch`](Fault::Mismatch). The fault is that of the lowest PE whose
-/// worker met one.
+/// letter is, `histories` what each element is, `rounds` what was decided, on a board of these chares and PEs (`elements`,
+/// `on_pes`), and `marks` that the elements were measured and placed as the rounds say, unless its fault is
+/// [`Mismatch`](Fault::Mismatch). That comes only where they were not (`mismatch`), and in place of any other. Else the fault is
+/// that of the lowest PE whose worker met one, and without one every element has finished (`finished`).
 ///
 /// # Errors
 ///
 /// The first that applies: [`Config`](RunError::Config) where a number is out of its limits, or there are more than
-/// [`Limits::ELEMENTS`] chares; [`OutOfMemory`](RunError::OutOfMemory). No worker was started then, and the chares are given
-/// up.
+/// [`Limits::ELEMENTS`] chares, with the first such number; [`OutOfMemory`](RunError::OutOfMemory). No worker was started
+/// then, and the chares are given up.
 pub fn run<
     C: Chare<A> + Send,
     G: Gate + Sync,
@@ -62,9 +65,14 @@ pub fn run<
     ensures queues { IfOk result (λ o. length o.left ≡ config.now.pes) }
     ensures account { IfOk result (λ o. IsRunAccount C.step chares.items (left_world o.ends o.left)) }
     ensures histories { IfOk result (λ o. AreHistories C.step C.fits C.pack chares.items (left_world o.ends o.left)) }
+    ensures board { IfOk result (λ o. IsBoard o.board) }
+    ensures elements { IfOk result (λ o. elements o.board.database ≡ length chares.items) }
+    ensures on_pes { IfOk result (λ o. o.board.pes ≡ config.now.pes) }
     ensures rounds { IfOk result (λ o. AreDecided (length chares.items) config.now.pes o.board.rounds) }
     ensures marks { IfOk result (λ o. o.fault ≢ Some Mismatch → AreAllMarked o.board o.ends o.left) }
+    ensures mismatch { IfOk result (λ o. o.fault ≡ Some Mismatch → ¬ (AreAllMarked o.board o.ends o.left)) }
     ensures unpacks { IfOk result (λ o. o.fault ≢ Some Unpack) }
+    ensures finished { IfOk result (λ o. o.fault ≡ None → HaveFinished o.board) }
 {
     run_watched(rt, alloc, config, gate, &NoWatch, chares)
 }
@@ -93,12 +101,17 @@ pub fn run_watched<
     ensures queues { IfOk result (λ o. length o.left ≡ config.now.pes) }
     ensures account { IfOk result (λ o. IsRunAccount C.step chares.items (left_world o.ends o.left)) }
     ensures histories { IfOk result (λ o. AreHistories C.step C.fits C.pack chares.items (left_world o.ends o.left)) }
+    ensures board { IfOk result (λ o. IsBoard o.board) }
+    ensures elements { IfOk result (λ o. elements o.board.database ≡ length chares.items) }
+    ensures on_pes { IfOk result (λ o. o.board.pes ≡ config.now.pes) }
     ensures rounds { IfOk result (λ o. AreDecided (length chares.items) config.now.pes o.board.rounds) }
     ensures marks { IfOk result (λ o. o.fault ≢ Some Mismatch → AreAllMarked o.board o.ends o.left) }
+    ensures mismatch { IfOk result (λ o. o.fault ≡ Some Mismatch → ¬ (AreAllMarked o.board o.ends o.left)) }
     ensures unpacks { IfOk result (λ o. o.fault ≢ Some Unpack) }
+    ensures finished { IfOk result (λ o. o.fault ≡ None → HaveFinished o.board) }
 {
-    if !config.is_within() || chares.len() > Limits::ELEMENTS as usize {
-        return Err(RunError::Config);
+    if let Some(setting) = config.first_outside(chares.len()) {
+        return Err(RunError::Config(setting));
     }
     match run_as::<C, Brand, G, V, R, A>(rt, alloc, config, gate, watch, chares) {
         Ok(outcome) => Ok(outcome),
@@ -293,19 +306,44 @@ fn ended<C: Chare<A>, A: Allocator>(
     ends: Vec<PeEnd<C, A>, A>,
     left: Vec<Vec<HeldParcel<A>, A>, A>,
     board: Board<A>,
-    fault: Option<Fault>,
+    met: Option<Fault>,
 ) -> Outcome<C, A>
     requires few_pes { length ends.items ≤ Limits.PES }
     requires counted { IsCounted (left_world ends.items (map (λ q. q.items) left.items)) }
-    requires unpacks { IfSome fault (λ met. met ≢ Unpack) }
+    requires unpacks { IfSome met (λ fault. fault ≢ Unpack) }
+    requires no_mismatch { IfSome met (λ fault. fault ≢ Mismatch) }
     ensures ends { result.ends ≡ ends.items }
     ensures left { result.left ≡ map (λ q. q.items) left.items }
     ensures board { result.board ≡ board }
     ensures marks { result.fault ≢ Some Mismatch → AreAllMarked result.board result.ends result.left }
+    ensures mismatch { result.fault ≡ Some Mismatch → ¬ (AreAllMarked result.board result.ends result.left) }
     ensures unpacks { result.fault ≢ Some Unpack }
+    ensures finished { result.fault ≡ None → HaveFinished result.board }
 {
     if run_agrees(&board, &ends, &left) {
+        let fault = fault_at_end(&board, met);
         return Outcome::new(ends, left, board, fault);
     }
     Outcome::new(ends, left, board, Some(Fault::Mismatch))
+}
+
+// The fault of a run whose first worker that met a fault met this one. Where none met one, and yet an element has not
+// finished, the workers were stopped: they end in no other way, but no lock can show that.
+fn fault_at_end<A: Allocator>(board: &Board<A>, met: Option<Fault>) -> Option<Fault>
+    requires unpacks { IfSome met (λ fault. fault ≢ Unpack) }
+    requires no_mismatch { IfSome met (λ fault. fault ≢ Mismatch) }
+    ensures met { IfSome met (λ fault. result ≡ Some fault) }
+    ensures well { met ≡ None → HaveFinished board.now → result ≡ None }
+    ensures stopped { met ≡ None → ¬ (HaveFinished board.now) → result ≡ Some Stopped }
+    ensures finished { result ≡ None → HaveFinished board.now }
+    ensures unpacks { result ≢ Some Unpack }
+    ensures no_mismatch { result ≢ Some Mismatch }
+{
+    if met.is_some() {
+        return met;
+    }
+    if board.all_finished() {
+        return None;
+    }
+    Some(Fault::Stopped)
 }

@@ -22,7 +22,8 @@ use tally::Tally;
 ///
 /// First a line `round r bottleneck B moved M` for each round that was decided, from round 1 on. Then `sums`, with the sum of
 /// each element in the order of their indices, wherever it is; or, where a fault ended the run early, `fault` and one of
-/// `memory`, `idle`, `unpack`, `stranger`, `toolong`, `worn` and `mismatch`. Last the account, `posted X executed Y held Z`.
+/// `memory`, `idle`, `unpack`, `stranger`, `toolong`, `worn`, `mismatch` and `stopped`. Last the account,
+/// `posted X executed Y held Z`.
 ///
 /// The time is linear in what the run left, but for what it left in journals, which are not read.
 ///
@@ -134,6 +135,7 @@ fn word_of(fault: Fault) -> &'static str
         Fault::TooLong => "toolong",
         Fault::Worn => "worn",
         Fault::Mismatch => "mismatch",
+        Fault::Stopped => "stopped",
     }
 }
 

@@ -218,6 +218,45 @@ fn resumptions_elsewhere_are_refused(rt: HostRuntime) {
     }
 }
 
+#[test]
+fn a_second_resumption_after_a_round_is_refused(rt: HostRuntime) {
+    const ROWS: [Row; 4] = [
+        (
+            "it starts twice",
+            0,
+            Some(0),
+            &[Resumed(0, 0), Resumed(0, 0), Synced(0, 1, 3, 5, 0)],
+        ),
+        (
+            "it goes on twice",
+            0,
+            Some(0),
+            &[Synced(0, 1, 3, 5, 0), Resumed(1, 0), Resumed(1, 0)],
+        ),
+        (
+            "it goes on twice, and is waiting then",
+            0,
+            None,
+            &[
+                Synced(0, 1, 3, 5, 0),
+                Resumed(1, 0),
+                Synced(0, 2, 3, 5, 0),
+                Resumed(1, 0),
+            ],
+        ),
+        (
+            "it starts after the round",
+            0,
+            Some(0),
+            &[Synced(0, 1, 3, 5, 0), Resumed(1, 0), Resumed(0, 0)],
+        ),
+    ];
+    let board = decided_board(&rt);
+    for row in &ROWS {
+        assert_for(&rt, !agrees(&rt, &board, row), row.0);
+    }
+}
+
 // Each element reported from the home of the other, so each stays there.
 #[test]
 fn a_place_is_that_of_the_decision_and_not_home(rt: HostRuntime) {

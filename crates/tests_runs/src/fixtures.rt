@@ -19,6 +19,11 @@ pub(crate) fn assert_for<R: Debug + Copy>(rt: &impl Abort, holds: bool, row: R)
     assert!(rt; holds, "{row:?}");
 }
 
+/// Ends the test where these are not the same texts, with both.
+pub(crate) fn expect_text(rt: &impl Abort, found: &str, want: &str) {
+    assert_for(rt, found == want, (found, want));
+}
+
 pub(crate) fn pe(rt: &impl Abort, number: u32) -> Pe
     ensures value { result ≡ number }
 {

@@ -1,5 +1,5 @@
-//! Tests of runs over threads: worked examples whose results come from outside, runs that end early, queues with little
-//! room, loads at their limit, refused memory, full sizes, and random runs after which each letter is found by hand.
+//! Tests of runs over threads: worked examples whose results come from outside, runs that end early or are stopped, queues with
+//! little room, gates, loads at their limit, refused memory, full sizes, and random runs after which each letter is found by hand.
 #![tactic(auto)]
 
 #[cfg(test)]
@@ -7,9 +7,13 @@ mod ends_early;
 #[cfg(test)]
 mod errand;
 #[cfg(test)]
+mod faults;
+#[cfg(test)]
 mod fixtures;
 #[cfg(test)]
 mod found;
+#[cfg(test)]
+mod gated;
 #[cfg(test)]
 mod heavy;
 #[cfg(test)]
@@ -24,6 +28,8 @@ mod refused_memory;
 mod repeats;
 #[cfg(test)]
 mod sizes;
+#[cfg(test)]
+mod stopped;
 #[cfg(test)]
 mod tallies;
 #[cfg(test)]

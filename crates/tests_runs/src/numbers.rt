@@ -1,33 +1,53 @@
-//! The numbers and the texts of refusals and faults, and the limits of a run.
+//! The numbers and the texts of refusals, and the limits of a run.
 
 use crate::errand::Errand;
 use crate::fixtures::{assert_for, patient};
 use chare_index::NoGate;
-use rts_run::{Config, Fault, RunError, run};
+use rts_run::{Config, RunError, Setting, run};
 use std::process::Abort;
 use std::sync::Wait;
 use std::thread::Threads;
 
-// Whether a refusal is shown by this text.
-fn is_shown(rt: &(impl Abort + AllocGlobal), error: &RunError, text: &str) -> bool {
+// Whether a refusal is shown by this text, and has this number.
+fn is_shown(rt: &(impl Abort + AllocGlobal), row: &(RunError, u8, &str)) -> bool {
+    let (error, number, text) = row;
     let shown = format!(in rt.alloc(); "{error}").expect(rt, "out of memory");
-    shown.as_str() == text
+    error.number() == *number && shown.as_str() == *text
 }
 
 #[test]
 fn refused_runs_have_their_numbers_and_texts(rt: HostRuntime) {
-    let config = RunError::Config;
-    assert!(rt; config as u8 == 1 && is_shown(&rt, &config, "a number is out of its limits"));
-    let memory = RunError::OutOfMemory;
-    assert!(rt; memory as u8 == 2 && is_shown(&rt, &memory, "out of memory"));
-}
-
-#[test]
-fn faults_have_their_numbers(rt: HostRuntime) {
-    assert!(rt; Fault::OutOfMemory as u8 == 1 && Fault::Idle as u8 == 2);
-    assert!(rt; Fault::Unpack as u8 == 3 && Fault::Stranger as u8 == 4);
-    assert!(rt; Fault::TooLong as u8 == 5 && Fault::Worn as u8 == 6);
-    assert!(rt; Fault::Mismatch as u8 == 8);
+    const ROWS: [(RunError, u8, &str); 6] = [
+        (
+            RunError::Config(Setting::Pes),
+            1,
+            "the number of PEs is out of its limits",
+        ),
+        (
+            RunError::Config(Setting::Capacity),
+            1,
+            "the capacity of a queue is out of its limits",
+        ),
+        (
+            RunError::Config(Setting::Turns),
+            1,
+            "the number of idle turns is out of its limits",
+        ),
+        (
+            RunError::Config(Setting::ProbeWorkers),
+            1,
+            "the number of probe workers is out of its limits",
+        ),
+        (
+            RunError::Config(Setting::Elements),
+            1,
+            "the number of chares is out of its limits",
+        ),
+        (RunError::OutOfMemory, 2, "out of memory"),
+    ];
+    for row in &ROWS {
+        assert_for(&rt, is_shown(&rt, row), row.2);
+    }
 }
 
 // So many chares that finish as they start.
@@ -81,11 +101,17 @@ fn changed(number: u32, to: u64) -> Config {
 
 #[test]
 fn a_number_past_its_limits_is_refused(rt: HostRuntime) {
-    const MOST: [u64; 4] = [256, 4_096, 1_099_511_627_776, 64];
-    for (number, most) in (0u32..4).zip(&MOST) {
+    const MOST: [(u64, Setting); 4] = [
+        (256, Setting::Pes),
+        (4_096, Setting::Capacity),
+        (1_099_511_627_776, Setting::Turns),
+        (64, Setting::ProbeWorkers),
+    ];
+    for (number, (most, setting)) in (0u32..4).zip(&MOST) {
         for wrong in [0, most.saturating_add(1)] {
             let found = refusal(&rt, &changed(number, wrong), 1);
-            assert_for(&rt, found == Some(RunError::Config), (number, wrong));
+            let which = Some(RunError::Config(*setting));
+            assert_for(&rt, found == which, (number, wrong));
         }
         for right in [1, *most] {
             let found = refusal(&rt, &changed(number, right), 1);
@@ -97,5 +123,5 @@ fn a_number_past_its_limits_is_refused(rt: HostRuntime) {
 #[test]
 fn more_chares_than_an_array_may_have_are_refused(rt: HostRuntime) {
     let found = refusal(&rt, &patient(1, 1), 65_537);
-    assert!(rt; found == Some(RunError::Config));
+    assert!(rt; found == Some(RunError::Config(Setting::Elements)));
 }

@@ -1,6 +1,7 @@
 //! The worked example, with each of its requests for memory refused in turn.
 
 use crate::fixtures::{assert_for, patient};
+use crate::found::compare;
 use crate::tallies::{EXAMPLE, EXAMPLE_TEXT, tallies, text_of};
 use chare_index::NoGate;
 use rts_run::{Fault, Outcome, RunError, run};
@@ -25,7 +26,8 @@ struct Counts {
     well: u64,
 }
 
-// What is left is whole, whether or not a request was refused, and it is the worked example where there is no fault.
+// Each letter and each of the four elements is found in what is left, whether or not a request was refused, and it is the
+// worked example where there is no fault.
 fn expect_whole<'a>(
     rt: &(impl Abort + AllocGlobal),
     outcome: &Outcome<Tally<Lent<'a>>, Lent<'a>>,
@@ -33,9 +35,7 @@ fn expect_whole<'a>(
 ) {
     assert_for(rt, outcome.ends().len() == 2, turn);
     assert_for(rt, outcome.left().len() == 2, turn);
-    let account = outcome.account();
-    let whole = account.executed.checked_add(account.held);
-    assert_for(rt, whole == Some(account.posted), (turn, account));
+    compare(rt, outcome, 4);
     let fault = outcome.fault();
     if fault == None {
         let text = text_of(rt, outcome);

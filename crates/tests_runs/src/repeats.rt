@@ -1,6 +1,6 @@
 //! The same workload, run again and again.
 
-use crate::fixtures::{assert_for, patient};
+use crate::fixtures::{assert_for, expect_text, patient};
 use crate::tallies::{Amounts, run_tallies, text_of};
 
 // Eight tallies of 40 bytes, with three amounts each.
@@ -32,6 +32,7 @@ fn a_hundred_runs_on_four_pes_tell_the_same(rt: HostRuntime) {
         let text = text_of(&rt, &outcome);
         let fault = outcome.fault();
         drop(outcome);
-        assert_for(&rt, text.as_str() == TEXT, (turn, fault));
+        assert_for(&rt, fault == None, (turn, fault));
+        expect_text(&rt, text.as_str(), TEXT);
     }
 }

@@ -1,6 +1,6 @@
 //! A watch of a run is called for each round that is decided, with the letters that were executed by then.
 
-use crate::fixtures::{assert_for, patient};
+use crate::fixtures::{assert_for, expect_text, patient};
 use crate::tallies::{EXAMPLE, EXAMPLE_TEXT, tallies, text_of};
 use chare_index::{NoGate, Round};
 use rts_run::{Watch, run_watched};
@@ -45,6 +45,6 @@ fn each_round_is_told_with_its_letters(rt: HostRuntime) {
         watch.calls.load(Ordering::SeqCst),
     );
     assert_for(&rt, seen == (4, 8, 2), seen);
-    assert!(rt; text.as_str() == EXAMPLE_TEXT);
+    expect_text(&rt, text.as_str(), EXAMPLE_TEXT);
     drop(watch);
 }

@@ -1,6 +1,6 @@
 //! Worked examples: what is printed of runs of tallies, and where an element of the first of them was in each round.
 
-use crate::fixtures::{assert_for, index, patient, pe, round, state_bytes};
+use crate::fixtures::{assert_for, expect_text, index, patient, pe, round, state_bytes};
 use crate::tallies::{Amounts, EXAMPLE, EXAMPLE_TEXT, run_tallies, text_of};
 use chare_index::Pe;
 use chares::{Mark, Note};
@@ -12,32 +12,32 @@ use std::thread::Threads;
 // So many PEs, so much room before each, what the tallies post, and what is printed.
 type Row<'a> = (u32, u32, Amounts<'a>, &'a str);
 
-// Whether just this is printed of the run of a row, which meets no fault.
-fn is_told<R: Threads + Wait + Sync + Abort + AllocGlobal>(rt: &R, row: &Row<'_>) -> bool {
+// Just this is printed of the run of a row, which meets no fault.
+fn expect_told<R: Threads + Wait + Sync + Abort + AllocGlobal>(rt: &R, row: &Row<'_>) {
     let (pes, capacity, amounts, want) = row;
     let outcome = run_tallies(rt, &patient(*pes, *capacity), amounts);
     let text = text_of(rt, &outcome);
-    let all = outcome.ends().len() == *pes as usize && outcome.left().len() == *pes as usize;
-    let fault = outcome.fault();
+    let found = (outcome.fault(), outcome.ends().len(), outcome.left().len());
     drop(outcome);
-    assert_for(rt, fault == None, fault);
-    all && text.as_str() == *want
+    let all = *pes as usize;
+    assert_for(rt, found == (None, all, all), found);
+    expect_text(rt, text.as_str(), *want);
 }
 
 #[test]
 fn four_tallies_on_two_pes(rt: HostRuntime) {
-    assert!(rt; is_told(&rt, &(2, 1_024, EXAMPLE, EXAMPLE_TEXT)));
+    expect_told(&rt, &(2, 1_024, EXAMPLE, EXAMPLE_TEXT));
 }
 
 #[test]
 fn four_tallies_whose_queues_have_room_for_one(rt: HostRuntime) {
-    assert!(rt; is_told(&rt, &(2, 1, EXAMPLE, EXAMPLE_TEXT)));
+    expect_told(&rt, &(2, 1, EXAMPLE, EXAMPLE_TEXT));
 }
 
 #[test]
 fn three_tallies_on_the_most_pes(rt: HostRuntime) {
     const TEXT: &str = "round 1 bottleneck 6 moved 0\nsums 6 4 5\nposted 3 executed 3 held 0\n";
-    assert!(rt; is_told(&rt, &(256, 1_024, (&[&[4], &[5], &[6]], 0), TEXT)));
+    expect_told(&rt, &(256, 1_024, (&[&[4], &[5], &[6]], 0), TEXT));
 }
 
 #[test]
@@ -46,13 +46,13 @@ fn one_tally_on_two_pes(rt: HostRuntime) {
         round 2 bottleneck 0 moved 0\n\
         sums 3\n\
         posted 2 executed 2 held 0\n";
-    assert!(rt; is_told(&rt, &(2, 1_024, (&[&[3, 0]], 0), TEXT)));
+    expect_told(&rt, &(2, 1_024, (&[&[3, 0]], 0), TEXT));
 }
 
 #[test]
 fn no_tally_on_three_pes(rt: HostRuntime) {
     const TEXT: &str = "sums\nposted 0 executed 0 held 0\n";
-    assert!(rt; is_told(&rt, &(3, 1_024, (&[], 0), TEXT)));
+    expect_told(&rt, &(3, 1_024, (&[], 0), TEXT));
 }
 
 // A round that waits, and after which one goes on.
@@ -88,7 +88,8 @@ fn an_element_moves_and_comes_back(rt: HostRuntime) {
     let outcome = run_tallies(&rt, &patient(2, 1_024), &EXAMPLE);
     let end = outcome.ends().first().expect(&rt, "no PE 0");
     let element = end.room().element(index(&rt, 1)).expect(&rt, "not there");
-    assert!(rt; are_its_marks(&rt, element.marks()));
+    let marks = element.marks();
+    assert_for(&rt, are_its_marks(&rt, marks), marks);
     drop(outcome);
 }
 
@@ -101,12 +102,14 @@ fn are_from(sizes: &[(u32, Pe)], from: &[u32]) -> bool {
     all
 }
 
-// Whether a round has this number, these loads, and elements from these PEs.
-fn is_round(snapshot: &Snapshot, step: u32, loads: &[Units], from: &[u32]) -> bool {
-    snapshot.step() == step
-        && snapshot.procs() == 2
-        && snapshot.loads().as_slice() == loads
-        && are_from(snapshot.sizes().as_slice(), from)
+// A round has this number, these loads, and elements from these PEs.
+fn expect_round(rt: &impl Abort, snapshot: &Snapshot, step: u32, loads: &[Units], from: &[u32]) {
+    let found = (snapshot.step(), snapshot.procs());
+    assert_for(rt, found == (step, 2), found);
+    let found = snapshot.loads().as_slice();
+    assert_for(rt, found == loads, (step, found));
+    let found = snapshot.sizes().as_slice();
+    assert_for(rt, are_from(found, from), (step, found));
 }
 
 #[test]
@@ -116,7 +119,19 @@ fn each_round_has_its_loads_and_places(rt: HostRuntime) {
         assert!(rt; false, "two rounds");
         return;
     };
-    assert!(rt; is_round(&first.0, 1, &[6, 1, 1, 2], &[0, 0, 1, 1]));
-    assert!(rt; is_round(&second.0, 2, &[2, 2, 2, 2], &[0, 1, 1, 1]));
+    expect_round(&rt, &first.0, 1, &[6, 1, 1, 2], &[0, 0, 1, 1]);
+    expect_round(&rt, &second.0, 2, &[2, 2, 2, 2], &[0, 1, 1, 1]);
     drop(outcome);
+}
+
+#[test]
+fn the_parts_of_an_outcome(rt: HostRuntime) {
+    let outcome = run_tallies(&rt, &patient(2, 1_024), &EXAMPLE);
+    let (ends, left, board, fault) = outcome.into_parts();
+    let rounds = board.into_rounds();
+    let found = (ends.len(), left.len(), rounds.len(), fault);
+    assert_for(&rt, found == (2, 2, 2, None), found);
+    drop(ends);
+    drop(left);
+    drop(rounds);
 }

@@ -37,3 +37,13 @@ pub(crate) fn two<J: BoardSize, A: Allocator + Copy>(alloc: A) -> Result<Barrier
 {
     Ok(Barrier::new(Board::new(alloc, 2, 2)?))
 }
+
+/// A barrier of three elements on two PEs.
+pub(crate) fn three<J: BoardSize, A: Allocator + Copy>(
+    alloc: A,
+) -> Result<Barrier<J, A>, AllocError>
+    requires elements { J.elements ≡ 3 }
+    requires pes { J.pes ≡ 2 }
+{
+    Ok(Barrier::new(Board::new(alloc, 3, 2)?))
+}

@@ -31,6 +31,8 @@ impl<J: BoardSize> Work for Waiting<J> {
 }
 
 impl<J: BoardSize> Ended for Waiting<J> {
+    ghost refused = { λ worker. worker };
+
     fn without_thread(self) -> Self {
         self
     }

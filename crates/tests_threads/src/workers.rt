@@ -1,4 +1,4 @@
-//! Five workers, each in a thread of its own, that add their numbers to one sum.
+//! Workers, each in a thread of its own, that add their numbers to one sum; and one that gets no thread.
 
 ghost use Rattle.std.specs.Prelude.{◌≡◌, ◌≤◌, length, IfOk};
 ghost use Rattle.std.specs.VecDeque.{deque_len};
@@ -11,7 +11,7 @@ use std::sync::atomic::Ordering::SeqCst;
 use std::sync::atomic::{AtomicBool, AtomicU64};
 use std::test::Fail;
 use std::thread::Threads;
-use worker_threads::{Crew, Ended, Work};
+use worker_threads::{Crew, Ended, Starts, Work};
 
 // A worker that is to add its number to a sum.
 #[derive(Drop)]
@@ -42,6 +42,8 @@ impl Work for Added {
 }
 
 impl Ended for Added {
+    ghost refused = { λ added. added };
+
     fn without_thread(self) -> Self {
         self
     }
@@ -100,5 +102,91 @@ fn five_workers_come_back_in_order(rt: HostRuntime) -> Result<(), Fail> {
     let numbers = numbers_of(rt.alloc(), &done)?;
     assert!(rt; sum == 14);
     assert!(rt; same(&numbers, &[3, 1, 4, 1, 5]));
+    Ok(())
+}
+
+// What an adder ends as that also says how it began.
+#[derive(Drop)]
+struct Began {
+    number: u32,
+    // Whether the stop flag was set.
+    stopped: bool,
+    // Whether no thread could be started for it.
+    alone: bool,
+}
+
+impl Work for Began {
+    ghost number = { λ began. began.number };
+
+    fn number(&self) -> u32 {
+        self.number
+    }
+}
+
+impl Ended for Began {
+    ghost use Rattle.std.specs.Prelude.{true};
+
+    ghost refused = { λ began. record began { alone = true } };
+
+    fn without_thread(self) -> Self {
+        let mut began = self;
+        began.alone = true;
+        began
+    }
+}
+
+// No thread may be started for the worker with this number.
+#[derive(Drop)]
+struct NotFor(u32);
+
+impl Starts for NotFor {
+    fn may_start(&self, number: u32) -> bool {
+        number != self.0
+    }
+}
+
+// Lets workers say how they begin, of which one gets no thread.
+fn begin_all<R: Threads + Wait>(
+    rt: &R,
+    crew: Crew<Began>,
+    adders: VecDeque<Adder>,
+    refused: u32,
+) -> VecDeque<Began>
+    requires { deque_len adders ≤ crew }
+{
+    let stop = AtomicBool::new(false);
+    let begin = |adder: Adder| -> Began
+        ensures { result.number ≡ adder.number }
+    {
+        let Adder { number } = adder;
+        Began {
+            number,
+            stopped: stop.load(SeqCst),
+            alone: false,
+        }
+    };
+    crew.run_where(rt, &begin, &stop, &NotFor(refused), adders)
+}
+
+// Whether each began as it should: the one that got no thread once all were to stop, and it alone knows that it got none.
+fn began_so(done: &VecDeque<Began>, refused: u32) -> bool {
+    let mut all = true;
+    for began in done {
+        all &= match began.number == refused {
+            true => began.alone && began.stopped,
+            false => !began.alone,
+        };
+    }
+    all && done.len() == 3
+}
+
+#[test]
+fn a_worker_without_a_thread_ends_at_once(rt: HostRuntime) -> Result<(), Fail> {
+    for refused in 1..4 {
+        let crew = Crew::with_capacity(rt.alloc(), 3)?;
+        let done = begin_all(&rt, crew, adders(rt.alloc(), &[1, 2, 3])?, refused);
+        assert!(rt; began_so(&done, refused), "{refused}");
+        drop(done);
+    }
     Ok(())
 }

@@ -52,32 +52,29 @@ fn expect_waiting<H: Openings<Relay>>(
     assert_for(rt, count(seen.as_slice(), one) == 1, body);
 }
 
-// Whether the hand of a PE holds a letter that says this, or an element that is packed so.
-fn holds<H: Openings<Relay>>(world: &World<Relay, H>, p: Pe, bytes: &[u8]) -> bool {
-    let Some(pe) = world.pe(p) else {
-        return false;
-    };
-    let Some(item) = pe.hand() else {
-        return false;
-    };
-    match &item.parcel {
-        Carried::Letter(letter) => letter.body() == bytes,
-        Carried::Element(element) => element.bytes() == bytes,
+// What the letter in the hand of a PE says, or what the element there is packed to.
+fn in_hand<'w, H: Openings<Relay>>(world: &'w World<Relay, H>, p: Pe) -> Option<&'w [u8]> {
+    match &world.pe(p)?.hand()?.parcel {
+        Carried::Letter(letter) => Some(letter.body()),
+        Carried::Element(element) => Some(element.bytes()),
     }
 }
 
-// Whether what an element on this PE did last was to execute a letter that says this.
-fn has_executed<H: Openings<Relay>>(world: &World<Relay, H>, p: Pe, e: Index, body: &[u8]) -> bool {
-    let Some(pe) = world.pe(p) else {
-        return false;
-    };
-    let Some(element) = pe.room().element(e) else {
-        return false;
-    };
-    match element.journal().last() {
-        Some(Entry::Letter(letter)) => letter.body() == body,
-        _ => false,
+// What the letter says that an element on this PE executed last, if that was what it did last.
+fn executed_last<'w, H: Openings<Relay>>(
+    world: &'w World<Relay, H>,
+    p: Pe,
+    e: Index,
+) -> Option<&'w [u8]> {
+    match world.pe(p)?.room().element(e)?.journal().last()? {
+        Entry::Letter(letter) => Some(letter.body()),
+        _ => None,
     }
+}
+
+// What is found are these bytes.
+fn expect_bytes(rt: &impl Abort, found: Option<&[u8]>, want: &[u8]) {
+    assert_for(rt, found == Some(want), (found, want));
 }
 
 // A relay starts on this PE, posts its letter, and waits for the end of the first round.
@@ -122,13 +119,13 @@ fn execute<H: Openings<Relay>>(rt: &(impl Abort + AllocGlobal), world: &mut Worl
     );
     expect_waiting(rt, world, Place::Queue(p0), (p2, 0), e0, 0, THIRD);
     run(rt, world, &[(Event::Deliver(p0), &[])]);
-    assert!(rt; holds(world, p0, THIRD));
+    expect_bytes(rt, in_hand(world, p0), THIRD);
     let executed = [
         TraceEntry::Executed((p2, 0), e0),
         TraceEntry::Posted((p0, 1), e1),
     ];
     run(rt, world, &[(Event::Act(p0), &executed)]);
-    assert!(rt; has_executed(world, p0, e0, THIRD));
+    expect_bytes(rt, executed_last(world, p0, e0), THIRD);
     expect_waiting(rt, world, Place::Outbox(p0, None), (p0, 1), e1, 0, &[30]);
 }
 
@@ -158,7 +155,7 @@ fn install<H: Openings<Relay>>(rt: &(impl Abort + AllocGlobal), world: &mut Worl
         world,
         &[(Event::Flush(p2), &[]), (Event::Deliver(p0), &[])],
     );
-    assert!(rt; holds(world, p0, THIRD_PACKED));
+    expect_bytes(rt, in_hand(world, p0), THIRD_PACKED);
     run(rt, world, &[(Event::Act(p0), &[TraceEntry::Installed(e2)])]);
     expect_waiting(
         rt,

@@ -4,7 +4,7 @@ ghost use Rattle.std.specs.Prelude.{◌≡◌};
 
 use crate::fixtures::{assert_for, index, pe, round};
 use crate::seen::{Seen, count, is_as_before, look_around};
-use crate::steps::{has_account, opened, run};
+use crate::steps::{expect_account, opened, run};
 use chare_index::Pe;
 use chares::{Openings, TraceEntry};
 use lb_certificates::Floor;
@@ -38,7 +38,6 @@ fn is_bare<H: Openings<Courier>>(
         && silent(seen.as_slice()) == pes as usize
         && count(seen.as_slice(), Seen::Rounds(rounds as usize)) == 1
         && seen.len().checked_sub(1) == Some(pes as usize)
-        && has_account(world, 0, 0, 0)
 }
 
 // Whether these are the cuts of no elements: 0, and the same for each PE.
@@ -115,6 +114,7 @@ fn decide_one<H: Openings<Courier>>(
     run(rt, world, &[(Event::Decide, &decided)]);
     assert_for(rt, has_decided(rt, world, pes, number), (pes, number));
     assert_for(rt, is_bare(rt, world, pes, number), (pes, number));
+    expect_account(rt, world, 0, 0, 0);
     nothing_else(rt, world, pes);
 }
 
@@ -129,6 +129,7 @@ fn only_decides<H: Openings<Courier>>(
     let world = opened::<Courier, H, Global>(rt, rt.alloc(), pes, chares);
     let mut world = world.expect(rt, "out of memory");
     assert_for(rt, is_bare(rt, &world, pes, 0), pes);
+    expect_account(rt, &world, 0, 0, 0);
     nothing_else(rt, &mut world, pes);
     for number in 1..4 {
         decide_one(rt, &mut world, pes, number);

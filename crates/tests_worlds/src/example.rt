@@ -2,8 +2,8 @@
 
 ghost use Rattle.std.specs.Prelude.{◌≡◌};
 
-use crate::fixtures::{index, pe};
-use crate::steps::{has_account, opened};
+use crate::fixtures::{assert_for, index, pe};
+use crate::steps::{expect_account, opened};
 use chares::Openings;
 use rts_core::Event;
 use std::alloc::Global;
@@ -26,13 +26,18 @@ fn one_letter_travels<H: Openings<Courier>>(rt: &(impl Abort + AllocGlobal), cha
         rt,
         "out of memory",
     );
-    assert!(rt; world.step(Event::Start(p0, e0)).is_ok());
-    assert!(rt; world.step(Event::Start(p1, e1)).is_ok());
-    assert!(rt; world.step(Event::Look(p0)).is_ok());
-    assert!(rt; world.step(Event::Flush(p0)).is_ok());
-    assert!(rt; world.step(Event::Deliver(p1)).is_ok());
-    assert!(rt; world.step(Event::Act(p1)).is_ok());
-    assert!(rt; has_account(&world, 2, 1, 1));
+    let events = [
+        Event::Start(p0, e0),
+        Event::Start(p1, e1),
+        Event::Look(p0),
+        Event::Flush(p0),
+        Event::Deliver(p1),
+        Event::Act(p1),
+    ];
+    for event in &events {
+        assert_for(rt, world.step(*event).is_ok(), event);
+    }
+    expect_account(rt, &world, 2, 1, 1);
     drop(world);
 }
 

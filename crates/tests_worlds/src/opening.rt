@@ -3,7 +3,7 @@
 ghost use Rattle.std.specs.Prelude.{◌≡◌};
 
 use crate::fixtures::{assert_for, index};
-use crate::steps::{has_account, opened};
+use crate::steps::{expect_account, opened};
 use chare_index::{Index, Pe};
 use chares::{Openings, Progress};
 use rts_core::{PeState, World};
@@ -90,9 +90,8 @@ fn opens<H: Openings<Courier>>(
 {
     let world = opened::<Courier, H, Global>(rt, rt.alloc(), pes, chares);
     let world = world.expect(rt, "out of memory");
-    let holds = has_size(&world, pes, n)
-        && are_at_home(rt, &world, pes, n)
-        && has_account(&world, 0, 0, 0);
+    let holds = has_size(&world, pes, n) && are_at_home(rt, &world, pes, n);
+    expect_account(rt, &world, 0, 0, 0);
     drop(world);
     holds
 }

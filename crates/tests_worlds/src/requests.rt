@@ -46,20 +46,21 @@ fn take_one<H: Openings<Relay<A>>, A: Allocator + Copy>(
     rt: &(impl Abort + AllocGlobal),
     meter: &Meter<'_>,
     world: &mut World<Relay<A>, H, A>,
+    at: usize,
     step: &Counted<'_>,
 ) {
     let (event, want, requests) = step;
     let (start, before) = (meter.alloc.requests(), look_around(rt, world));
     match world.step(*event) {
         Ok(reports) => {
-            expect_reports(rt, event, &reports, *want);
+            expect_reports(rt, at, event, &reports, *want);
             meter.made(rt, start, *requests, "an event");
         }
         Err(error) => {
             meter.refused(rt, start, "an event");
             assert_for(rt, error == StepError::OutOfMemory, (*event, error));
             assert_for(rt, is_as_before(rt, world, before.as_slice()), *event);
-            take_again(rt, world, event, *want);
+            take_again(rt, world, at, event, *want);
         }
     }
 }
@@ -68,11 +69,12 @@ fn take_one<H: Openings<Relay<A>>, A: Allocator + Copy>(
 fn take_again<H: Openings<Relay<A>>, A: Allocator + Copy>(
     rt: &impl Abort,
     world: &mut World<Relay<A>, H, A>,
+    at: usize,
     event: &Event,
     want: &[TraceEntry],
 ) {
     let reports = world.step(*event).expect(rt, "refused again");
-    expect_reports(rt, event, &reports, want);
+    expect_reports(rt, at, event, &reports, want);
 }
 
 fn take<H: Openings<Relay<A>>, A: Allocator + Copy>(
@@ -81,8 +83,8 @@ fn take<H: Openings<Relay<A>>, A: Allocator + Copy>(
     world: &mut World<Relay<A>, H, A>,
     steps: &[Counted<'_>],
 ) {
-    for step in steps {
-        take_one(rt, meter, world, step);
+    for (at, step) in steps.iter().enumerate() {
+        take_one(rt, meter, world, at, step);
     }
 }
 
@@ -291,9 +293,11 @@ fn turn(rt: &(impl Abort + AllocGlobal), number: u64) -> u64 {
 
 #[test]
 fn each_request_of_each_event(rt: HostRuntime) {
-    assert!(rt;
-        turn(&rt, 0) == 70,
-        "4 of the chares and those of each call"
+    let made = turn(&rt, 0);
+    assert_for(
+        &rt,
+        made == 70,
+        (made, "4 of the chares and those of each call"),
     );
     for number in 1..71 {
         let _made = turn(&rt, number);

@@ -3,7 +3,7 @@
 ghost use Rattle.std.specs.Prelude.{◌≡◌};
 
 use crate::fixtures::{assert_for, elements, index, pe, pes, round};
-use crate::steps::{has_account, opened, take};
+use crate::steps::{expect_account, opened, take};
 use chare_index::{Index, Pe};
 use chares::{Openings, TraceEntry};
 use lb_certificates::{Floor, Snapshot};
@@ -100,7 +100,7 @@ fn execute<H: Openings<Tally<A>>, A: Allocator + Copy>(
     let mut refused = execute_one(rt, world, p0, e0, p2);
     refused |= execute_one(rt, world, p1, e1, p0);
     refused |= execute_one(rt, world, p2, e2, p1);
-    assert!(rt; has_account(world, 3, 3, 0));
+    expect_account(rt, world, 3, 3, 0);
     refused
 }
 
@@ -165,15 +165,17 @@ fn is_first_snapshot<A: Allocator>(snapshot: &Snapshot<A>) -> bool {
         && (p0.get(), p1.get(), p2.get()) == (0, 1, 2)
 }
 
-// Whether the first round is decided, on that snapshot and so.
-fn is_decided<H: Openings<Tally<A>>, A: Allocator + Copy>(
+// The first round is decided, on that snapshot and so.
+fn expect_decided<H: Openings<Tally<A>>, A: Allocator + Copy>(
     rt: &impl Abort,
     world: &World<Tally<A>, H, A>,
-) -> bool {
-    match world.board().kept_for(round(rt, 1)) {
+) {
+    let kept = world.board().kept_for(round(rt, 1));
+    let decided = match kept {
         Some((snapshot, decision)) => is_first_snapshot(snapshot) && is_first_decision(decision),
         None => false,
-    }
+    };
+    assert_for(rt, decided, kept);
 }
 
 // The opening of both scripts. Returns whether a step was refused.
@@ -181,12 +183,12 @@ fn open<H: Openings<Tally<A>>, A: Allocator + Copy>(
     rt: &impl Abort,
     world: &mut World<Tally<A>, H, A>,
 ) -> bool {
-    assert!(rt; has_account(world, 0, 0, 0));
+    expect_account(rt, world, 0, 0, 0);
     let mut refused = start(rt, world);
     refused |= execute(rt, world);
     refused |= decide(rt, world);
     refused |= go_on(rt, world);
-    assert!(rt; is_decided(rt, world));
+    expect_decided(rt, world);
     refused
 }
 
@@ -236,7 +238,7 @@ fn come_before<H: Openings<Tally<A>>, A: Allocator + Copy>(
 ) -> bool {
     let mut refused = overtake(rt, world);
     refused |= arrive_second(rt, world);
-    assert!(rt; has_account(world, 4, 4, 0));
+    expect_account(rt, world, 4, 4, 0);
     refused
 }
 
@@ -286,7 +288,7 @@ fn follow<H: Openings<Tally<A>>, A: Allocator + Copy>(
 ) -> bool {
     let mut refused = miss(rt, world);
     refused |= arrive_first(rt, world);
-    assert!(rt; has_account(world, 4, 4, 0));
+    expect_account(rt, world, 4, 4, 0);
     refused
 }
 

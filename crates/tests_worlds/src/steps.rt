@@ -14,38 +14,41 @@ use std::process::Abort;
 /// An event, and its reports in order.
 pub(crate) type Step<'a> = (Event, &'a [TraceEntry]);
 
-/// An event had just these reports.
+/// The event that is step `at` of a script had just these reports.
 pub(crate) fn expect_reports<A: Allocator>(
     rt: &impl Abort,
+    at: usize,
     event: &Event,
     found: &Reports<A>,
     want: &[TraceEntry],
 ) {
     let reports = found.as_slice();
     let counted = found.len() == want.len() && found.is_empty() == want.is_empty();
-    assert_for(rt, reports == want && counted, (event, reports));
+    assert_for(rt, reports == want && counted, (at, event, reports, want));
 }
 
-// Takes one step, which has just these reports, and returns whether it was refused once for memory. Then the account is
-// as before, and the same event has its reports.
+// Takes step `at` of a script, which has just these reports, and returns whether it was refused once for memory. Then the
+// account is as before, and the same event has its reports.
 fn take_one<C: Chare<A>, H: Openings<C>, A: Allocator + Copy>(
     rt: &impl Abort,
     world: &mut World<C, H, A>,
+    at: usize,
     event: &Event,
     want: &[TraceEntry],
 ) -> bool {
     let before = account(world);
     let refused = match world.step(*event) {
         Ok(reports) => {
-            expect_reports(rt, event, &reports, want);
+            expect_reports(rt, at, event, &reports, want);
             return false;
         }
         Err(error) => error,
     };
-    assert_for(rt, refused == StepError::OutOfMemory, (*event, refused));
-    assert_for(rt, account(world) == before, *event);
+    assert_for(rt, refused == StepError::OutOfMemory, (at, *event, refused));
+    let after = account(world);
+    assert_for(rt, after == before, (at, *event, after, before));
     let reports = world.step(*event).expect(rt, "refused again");
-    expect_reports(rt, event, &reports, want);
+    expect_reports(rt, at, event, &reports, want);
     true
 }
 
@@ -56,8 +59,8 @@ pub(crate) fn take<C: Chare<A>, H: Openings<C>, A: Allocator + Copy>(
     steps: &[Step<'_>],
 ) -> bool {
     let mut refused = false;
-    for (event, want) in steps {
-        refused |= take_one(rt, world, event, *want);
+    for (at, (event, want)) in steps.iter().enumerate() {
+        refused |= take_one(rt, world, at, event, *want);
     }
     refused
 }
@@ -88,19 +91,22 @@ fn account<C: Chare<A>, H: Openings<C>, A: Allocator + Copy>(
     (count.posted, count.executed, count.held)
 }
 
-/// Whether so many letters were posted, executed, and are held, both counted one by one and as the world counts.
-pub(crate) fn has_account<C: Chare<A>, H: Openings<C>, A: Allocator + Copy>(
+/// So many letters were posted, executed, and are held, both counted one by one and as the world counts.
+pub(crate) fn expect_account<C: Chare<A>, H: Openings<C>, A: Allocator + Copy>(
+    rt: &impl Abort,
     world: &World<C, H, A>,
     posted: u64,
     executed: u64,
     held: u64,
-) -> bool {
-    let told = Account {
+) {
+    let want = Account {
         posted,
         executed,
         held,
     };
-    account(world) == (posted, executed, held) && world.account() == told
+    let (found, told) = (account(world), world.account());
+    let same = found == (posted, executed, held) && told == want;
+    assert_for(rt, same, (found, told, want));
 }
 
 /// A world that opens with these chares.

@@ -2,9 +2,9 @@
 
 ghost use Rattle.std.specs.Prelude.{◌≡◌};
 
-use crate::fixtures::{elements, index, pe, pes, round};
+use crate::fixtures::{assert_for, elements, index, pe, pes, round};
 use crate::seen::{is_as_before, look_around};
-use crate::steps::{has_account, opened, run};
+use crate::steps::{expect_account, opened, run};
 use chare_index::{Index, Pe};
 use chares::{Openings, TraceEntry};
 use rts_core::{Event, StepError, World};
@@ -36,10 +36,10 @@ fn refused<H: Openings<Courier>>(
 {
     let mut world = self::world::<H>(rt, 1, chares);
     let before = look_around(rt, &world);
-    let answer = world.step(Event::Start(pe(rt, 0), index(rt, 0)));
-    assert!(rt; answer.err() == Some(want));
+    let answer = world.step(Event::Start(pe(rt, 0), index(rt, 0))).err();
+    assert_for(rt, answer == Some(want), (answer, want));
     assert!(rt; is_as_before(rt, &world, before.as_slice()));
-    assert!(rt; has_account(&world, 0, 0, 0));
+    expect_account(rt, &world, 0, 0, 0);
     drop(world);
 }
 
@@ -91,7 +91,7 @@ fn starts<H: Openings<Courier>>(rt: &(impl Abort + AllocGlobal), chares: Vec<Cou
 {
     let mut world = self::world::<H>(rt, 1, chares);
     start_and_sync(rt, &mut world);
-    assert!(rt; has_account(&world, 0, 0, 0));
+    expect_account(rt, &world, 0, 0, 0);
     drop(world);
 }
 
@@ -178,7 +178,7 @@ fn nothing_happens<H: Openings<Courier>>(rt: &(impl Abort + AllocGlobal), chares
     strange_events(rt, &mut world);
     early_events(rt, &mut world);
     assert!(rt; is_as_before(rt, &world, before.as_slice()));
-    assert!(rt; has_account(&world, 0, 0, 0));
+    expect_account(rt, &world, 0, 0, 0);
     assert!(rt; has_no_fourth(rt, &world));
     drop(world);
 }
@@ -208,7 +208,7 @@ fn reach_the_hand<H: Openings<Courier>>(rt: &impl Abort, world: &mut World<Couri
             (Event::Act(p1), &[]),
         ],
     );
-    assert!(rt; has_account(world, 1, 0, 1));
+    expect_account(rt, world, 1, 0, 1);
 }
 
 // The element starts, and gets its letter.
@@ -226,7 +226,7 @@ fn leave_the_hand<H: Openings<Courier>>(rt: &impl Abort, world: &mut World<Couri
             (Event::Act(p1), &[TraceEntry::Executed((p0, 0), e1)]),
         ],
     );
-    assert!(rt; has_account(world, 2, 1, 1));
+    expect_account(rt, world, 2, 1, 1);
 }
 
 fn waits_in_the_hand<H: Openings<Courier>>(rt: &(impl Abort + AllocGlobal), chares: Vec<Courier>)
@@ -264,7 +264,8 @@ fn start_and_wait<H: Openings<Courier>>(
         TraceEntry::Posted((p, 0), to),
     ];
     run(rt, world, &[(Event::Start(p, e), &started)]);
-    assert!(rt; owes_finish(world, p) == Some(false));
+    let owed = owes_finish(world, p);
+    assert_for(rt, owed == Some(false), (p, owed));
     let synced = [TraceEntry::Synced(e, round(rt, 1))];
     run(rt, world, &[(Event::Report(p), &synced)]);
 }
@@ -351,7 +352,7 @@ fn wait_on_the_shelf<H: Openings<Courier>>(rt: &(impl Abort + AllocGlobal), char
     leave_the_shelf(rt, &mut world, p1);
     leave_the_shelf(rt, &mut world, p0);
     leave_the_shelf(rt, &mut world, p2);
-    assert!(rt; has_account(&world, 3, 3, 0));
+    expect_account(rt, &world, 3, 3, 0);
     drop(world);
 }
 
@@ -374,7 +375,8 @@ fn finish_while_it_waits<H: Openings<Courier>>(rt: &impl Abort, world: &mut Worl
             (Event::Act(p1), &[TraceEntry::Executed((p1, 0), e1)]),
         ],
     );
-    assert!(rt; owes_finish(world, p1) == Some(true));
+    let owed = owes_finish(world, p1);
+    assert_for(rt, owed == Some(true), (p1, owed));
     run(rt, world, &[(Event::Report(p1), &[])]);
 }
 
@@ -397,7 +399,8 @@ fn depart_and_go_on<H: Openings<Courier>>(rt: &impl Abort, world: &mut World<Cou
             (Event::Report(p0), &[]),
         ],
     );
-    assert!(rt; world.word(e1) == Some(p0));
+    let word = world.word(e1);
+    assert_for(rt, word == Some(p0), word);
 }
 
 fn goes_on_after_it_has_finished<H: Openings<Courier>>(
@@ -411,7 +414,8 @@ fn goes_on_after_it_has_finished<H: Openings<Courier>>(
     all_wait(rt, &mut world, 1);
     finish_while_it_waits(rt, &mut world);
     depart_and_go_on(rt, &mut world);
-    assert!(rt; world.board().has_finished(1) == Some(true));
+    let finished = world.board().has_finished(1);
+    assert_for(rt, finished == Some(true), finished);
     drop(world);
 }
 

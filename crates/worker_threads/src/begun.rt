@@ -1,7 +1,7 @@
-ghost use Rattle.std.specs.Prelude.{◌≡◌};
+ghost use Rattle.std.specs.Prelude.{◌≡◌, IfErr, IfOk};
 ghost use Rattle.worker_threads.specs.Workers.{KeepsNumber};
 
-use crate::work::{Ended, Work};
+use crate::work::{Ended, Starts, Work};
 use std::marker::Model;
 use std::sync::atomic::AtomicBool;
 use std::sync::atomic::Ordering::SeqCst;
@@ -43,12 +43,13 @@ impl<D: Ended> Model for Begun<D> {
 }
 
 impl<D: Ended> Begun<D> {
-    // Starts a worker in a thread. Where none can be started, the stop flag is set for all, and this one works here, so that it
-    // ends at once.
-    pub(crate) fn begin<'s, E, W: Work + Send + 's, F: Fn(W) -> D + Sync>(
+    // Starts a worker in a thread. Where none may be started, or none can, the stop flag is set for all, and this one works
+    // here, so that it ends at once.
+    pub(crate) fn begin<'s, E, S: Starts, W: Work + Send + 's, F: Fn(W) -> D + Sync>(
         scope: &Scope<'s, E>,
         work: &'s F,
         stop: &AtomicBool,
+        starts: &S,
         worker: W,
     ) -> Self
     where
@@ -62,11 +63,11 @@ impl<D: Ended> Begun<D> {
             requires { F.IsAlwaysCallable work.now × KeepsNumber W.number D.number (F.post work.now) }
             ensures { D.number result ≡ W.number worker }
         { work(worker) };
-        let place = match scope.spawn_with(Numbered(number), working) {
+        let place = match start(scope, starts, number, working) {
             Ok(handle) => Place::Thread(handle),
-            Err(refused) => {
+            Err(working) => {
                 stop.store(true, SeqCst);
-                Place::Here((refused.value)())
+                Place::Here(working())
             }
         };
         Begun { number, place }
@@ -81,5 +82,26 @@ impl<D: Ended> Begun<D> {
             Place::Thread(handle) => handle.join(rt),
             Place::Here(done) => done.without_thread(),
         }
+    }
+}
+
+// Starts a thread for the worker with this number, if one may be started; where there is none, the work comes back.
+fn start<'s, E, S: Starts, D: Ended + Send + 's, F: FnOnce() -> D + Send + 's>(
+    scope: &Scope<'s, E>,
+    starts: &S,
+    number: u32,
+    working: F,
+) -> Result<PromisedHandle<D, Numbered>, F>
+    requires runs { F.pre working }
+    requires keeps { (done : D) → F.post working done → D.number done ≡ number }
+    ensures ok { IfOk result (λ handle. handle.promise.0 ≡ number) }
+    ensures err { IfErr result (λ back. back ≡ working) }
+{
+    if !starts.may_start(number) {
+        return Err(working);
+    }
+    match scope.spawn_with(Numbered(number), working) {
+        Ok(handle) => Ok(handle),
+        Err(refused) => Err(refused.value),
     }
 }

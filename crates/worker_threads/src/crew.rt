@@ -3,7 +3,7 @@ ghost use Rattle.std.specs.VecDeque.{deque_len, deque_capacity};
 ghost use Rattle.worker_threads.specs.Workers.{KeepsNumber};
 
 use crate::begun::Begun;
-use crate::work::{Ended, Work};
+use crate::work::{EachStarts, Ended, Starts, Work};
 use std::alloc::{AllocError, Allocator, Global};
 use std::collections::VecDeque;
 use std::marker::Model;
@@ -77,6 +77,26 @@ impl<D: Ended, A: Allocator> Crew<D, A> {
         requires keeps_number { KeepsNumber W.number D.number (F.post work.now) }
         ensures in_order { map D.number result.items ≡ map W.number workers.items }
     {
+        self.run_where(rt, work, stop, &EachStarts, workers)
+    }
+
+    /// Lets each worker do this work as [`run`](Crew::run) does, but starts a thread only for those for which one may be
+    /// started. Any other is treated as one for which no thread could be started.
+    pub fn run_where<W: Work + Send, S: Starts, F: Fn(W) -> D + Sync, R: Threads + Wait>(
+        self,
+        rt: &R,
+        work: &F,
+        stop: &AtomicBool,
+        starts: &S,
+        workers: VecDeque<W, A>,
+    ) -> VecDeque<D, A>
+    where
+        D: Send,
+        requires room { deque_len workers ≤ self }
+        requires callable { F.IsAlwaysCallable work.now }
+        requires keeps_number { KeepsNumber W.number D.number (F.post work.now) }
+        ensures in_order { map D.number result.items ≡ map W.number workers.items }
+    {
         let crew = self;
         thread::scope(
             thread::scope_env(),
@@ -84,17 +104,18 @@ impl<D: Ended, A: Allocator> Crew<D, A> {
             move |scope| -> VecDeque<D, A>
                 requires { F.IsAlwaysCallable work.now × KeepsNumber W.number D.number (F.post work.now) × (deque_len workers ≤ crew) }
                 ensures { map D.number result.items ≡ map W.number workers.items }
-            { crew.run_within(scope, rt, work, stop, workers) },
+            { crew.run_within(scope, rt, work, stop, starts, workers) },
         )
     }
 
     // The same, in the threads of a scope.
-    fn run_within<'s, E, W: Work + Send + 's, F: Fn(W) -> D + Sync, R: Threads>(
+    fn run_within<'s, E, W: Work + Send + 's, S: Starts, F: Fn(W) -> D + Sync, R: Threads>(
         self,
         scope: &Scope<'s, E>,
         rt: &R,
         work: &'s F,
         stop: &AtomicBool,
+        starts: &S,
         workers: VecDeque<W, A>,
     ) -> VecDeque<D, A>
     where
@@ -109,16 +130,25 @@ impl<D: Ended, A: Allocator> Crew<D, A> {
             begun,
             done,
         } = self;
-        let begun = begin_all(scope, work, stop, workers, begun);
+        let begun = begin_all(scope, work, stop, starts, workers, begun);
         end_all(rt, begun, done)
     }
 }
 
 // Begins each worker, in order.
-fn begin_all<'s, E, W: Work + Send + 's, D: Ended + Send + 's, F: Fn(W) -> D + Sync, A: Allocator>(
+fn begin_all<
+    's,
+    E,
+    W: Work + Send + 's,
+    D: Ended + Send + 's,
+    S: Starts,
+    F: Fn(W) -> D + Sync,
+    A: Allocator,
+>(
     scope: &Scope<'s, E>,
     work: &'s F,
     stop: &AtomicBool,
+    starts: &S,
     mut workers: VecDeque<W, A>,
     mut begun: VecDeque<Begun<D>, A>,
 ) -> VecDeque<Begun<D>, A>
@@ -129,7 +159,7 @@ fn begin_all<'s, E, W: Work + Send + 's, D: Ended + Send + 's, F: Fn(W) -> D + S
     ensures value { result.items ≡ map W.number workers.items }
 {
     while let Some(worker) = workers.pop_front() {
-        begun.push_back_reserved(Begun::begin(scope, work, stop, worker));
+        begun.push_back_reserved(Begun::begin(scope, work, stop, starts, worker));
     }
     begun
 }

@@ -2,6 +2,7 @@
 //! started and waited for, and what each worker ends as comes back, in the order of the workers.
 //!
 //! - [`Work`]: what may be a worker. [`Ended`]: what one ends as.
+//! - [`Starts`]: for which workers a thread may be started. [`EachStarts`]: for each.
 //! - [`Crew`]: the room that so many workers need, taken before the first of them begins, and their run.
 #![tactic(auto)]
 
@@ -10,4 +11,4 @@ mod crew;
 mod work;
 
 pub use crew::Crew;
-pub use work::{Ended, Work};
+pub use work::{EachStarts, Ended, Starts, Work};

@@ -1,14 +1,8 @@
 -- How the run of a workload ends, and what its writer holds then.
-use Rattle.std.specs.Prelude.{◌≡◌, ◌≢◌, ◌⊎◌, ℕ, List, length, map, Option, None, Some, IfSome}
+use Rattle.std.specs.Prelude.{◌≡◌, ◌⊎◌, ℕ, List, Option, None, Some, IfSome}
 use Rattle.std.specs.Io.KnownBytes.{Appends, Consumes}
-use Rattle.std.specs.List.{range_with_len}
-use Rattle.at_sync.specs.Boards.{AreDecided}
 use Rattle.pe_worker.specs.declared.fault.Fault.{Fault}
-use Rattle.pe_worker.specs.declared.fault.Fault.TheVariants.{Mismatch, Unpack}
-use Rattle.round_marks.specs.Runs.{AreAllMarked}
-use Rattle.rts_core.specs.Histories.{AreHistories}
-use Rattle.rts_run.specs.Outcomes.{OutcomeView}
-use Rattle.run_account.specs.RunAccounts.{IsRunAccount, left_world}
+use Rattle.rts_run.specs.Outcomes.{IsOutcome, OutcomeView}
 use Rattle.run_text.specs.Text.{outcome_text}
 use Rattle.streams.specs.Writing.{WritesPrefix}
 use Rattle.tally.specs.Tallies.{TallyView, tally_pack, tally_step}
@@ -21,17 +15,9 @@ use Rattle.workload_run.specs.Tallies.{tallies_of}
 use Rattle.workload_run.specs.declared.ended.Ended.{Ended}
 use Rattle.workload_run.specs.declared.ended.Ended.TheVariants.{Ran, Refused, OutOfMemory, WriteFailed}
 
--- What a run left that opened with these tallies on so many PEs. There is an end and a queue of each PE. The account holds;
--- every element is what its journal says; each decision is the best for the snapshot of its round; unless the fault says
--- otherwise, the marks of the elements agree with the rounds; and what was packed was unpacked.
-pub record IsLeftBy {A : Type 0} (fits : TallyView → Type 0) (chares : List TallyView) (pes : ℕ) (o : OutcomeView TallyView A) : Type 0 where
-  pub ends : map (λ pe. pe.me) o.ends ≡ range_with_len 0 pes
-  pub queues : length o.left ≡ pes
-  pub account : IsRunAccount tally_step chares (left_world o.ends o.left)
-  pub histories : AreHistories tally_step fits tally_pack chares (left_world o.ends o.left)
-  pub rounds : AreDecided (length chares) pes o.board.rounds
-  pub marks : o.fault ≢ Some Mismatch → AreAllMarked o.board o.ends o.left
-  pub unpacks : o.fault ≢ Some Unpack
+-- what a run left that opened with these tallies on so many PEs: every clause of `run` holds of it
+abbrev pub IsLeftBy : {A : Type 0} → (TallyView → Type 0) → List TallyView → ℕ → OutcomeView TallyView A → Type 0
+IsLeftBy fits chares pes o = IsOutcome tally_step fits tally_pack chares pes o
 
 -- This is what the run left of the workload that the bytes are the text of, and the text of that. Where the reader
 -- does not report its bytes, the workload is any.

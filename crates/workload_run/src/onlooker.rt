@@ -2,7 +2,7 @@ use progress_line::Progress;
 use rts_run::{NoWatch, Watch};
 use std::time::Clock;
 
-/// Who looks on at the run of a workload. Its calls return nothing, so nothing that is written depends on them.
+/// Who looks on at the run of a workload. Nothing that is written depends on it, but where it asks the run to stop.
 pub trait Onlooker: Watch {
     /// The workload was read, and has so many rounds.
     fn expects(&self, rounds: u32);

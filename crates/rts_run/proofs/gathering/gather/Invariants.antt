@@ -2,7 +2,7 @@ use Rattle.std.proofs.Common.{◌≡◌, ◌≢◌, ◌+◌, ◌∷◌, ◌≤�
 use Rattle.std.specs.Prelude.{IfSome}
 use Rattle.std.specs.List.{range_with_len}
 use Rattle.std.specs.Option.{option_or}
-use Rattle.pe_worker.specs.declared.fault.Fault.TheVariants.{Unpack}
+use Rattle.pe_worker.specs.declared.fault.Fault.TheVariants.{Mismatch, Unpack}
 use Rattle.rts_run.specs.Outcomes.{first_fault}
 use Rattle.rts_run.proofs.gathering.gather.Given as goal
 
@@ -14,6 +14,7 @@ invariant-loop-next g l = record {
   wide : length l.fn.others.items + 1 ≤ l.gathered.room;
   first : option_or l.fault (first_fault (map (λ w. w.fault) l.others.items)) ≡ first_fault (l.fn.first.fault ∷ map (λ w. w.fault) l.fn.others.items);
   unpacks : IfSome l.fault (λ fault. fault ≢ Unpack);
+  no_mismatch : IfSome l.fault (λ fault. fault ≢ Mismatch);
 }
 
 abbrev pub decreases-loop-next : goal.decreases-loop-next

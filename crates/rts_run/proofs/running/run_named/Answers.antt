@@ -6,6 +6,7 @@ use Rattle.rts_core.proofs.LocalAccount.{opening_local}
 use Rattle.rts_core.proofs.Weights.{sum_by-map}
 use Rattle.run_account.proofs.Passing.{next_is, rest_is, counted_by}
 use Rattle.rts_run.proofs.Opened.{opens_in_order}
+use Rattle.rts_run.proofs.Rounds.{decided_on}
 use Rattle.rts_run.proofs.running.run_named.Goals as goal
 
 pub open_workers-requires-clause-shares : goal.open_workers-requires-clause-shares
@@ -124,7 +125,10 @@ returns g c =
         board = rw c.ended.ensures.board c.into_parts-post.ensures.board;
         elements = rw c.ended.ensures.board c.into_parts-post.ensures.counted;
         on_pes = rw c.ended.ensures.board c.into_parts-post.ensures.on_pes;
+        rounds = rw c.ended.ensures.board (decided_on c.into_parts-post.result.1 (length g.H.Openings.opened) g.H.Openings.pes c.into_parts-post.ensures.counted c.into_parts-post.ensures.on_pes c.into_parts-post.ensures.board);
         marks = c.ended.ensures.marks;
+        mismatch = c.ended.ensures.mismatch;
         unpacks = c.ended.ensures.unpacks;
+        finished = c.ended.ensures.finished;
       };
     }

@@ -6,4 +6,19 @@ pub returns-in-Ok : goal.returns-in-Ok
 returns-in-Ok g c =
     let pes : c.workload.inside.pes ≡ c.args.workload.pes = ap (λ w. w.pes) c.workload.view_is in
     let run = c.in-Ok.ensures in
-    record { left = left_by _ _ _ _ _ c.in-Ok.outcome c.in_ok-chares.ensures.value pes run.ends run.queues run.account run.histories run.rounds run.marks run.unpacks }
+    record {
+      left = left_by _ _ _ _ _ c.in-Ok.outcome c.in_ok-chares.ensures.value pes (record {
+        ends = run.ends;
+        queues = run.queues;
+        account = run.account;
+        histories = run.histories;
+        board = run.board;
+        elements = run.elements;
+        on_pes = run.on_pes;
+        rounds = run.rounds;
+        marks = run.marks;
+        mismatch = run.mismatch;
+        unpacks = run.unpacks;
+        finished = run.finished;
+      });
+    }

@@ -1,0 +1,4 @@
+use Rattle.tests_threads.proofs.rounds.two_rounds_of_three_elements.Given as goal
+
+abbrev pub ghosts-passes : goal.ghosts-passes
+ghosts-passes g a = record { elements = 3; pes = 2 }
