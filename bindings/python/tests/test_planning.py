@@ -166,13 +166,27 @@ class FiguresOfPlans(TimedTest):
         figures = tezgumi.figures(THREE, tezgumi.plan(THREE))
         self.assertEqual(figures, tezgumi.Figures(
             elements=3, procs=2, pes=2, total_load=4, heaviest_element=2, greatest_before=3, greatest_after=2,
-            moved_elements=1, moved_bytes=10, total_bytes=27))
+            least_before=1, least_after=2, deviation_before=0.5, deviation_after=0.0, idle_before=0, idle_after=0,
+            empty_before=0, empty_after=0, moved_elements=1, moved_bytes=10, total_bytes=27, leaving_bytes=10,
+            entering_bytes=10))
         self.assertEqual((figures.average_before, figures.average_after), (2.0, 2.0))
         self.assertEqual((figures.imbalance_before, figures.imbalance_after), (1.5, 1.0))
+        self.assertEqual((figures.excess_before, figures.excess_after), (50.0, 0.0))
+        self.assertEqual((figures.bound_before, figures.bound_after), (2, 2))
         self.assertEqual(str(figures), "\n".join((
             "                before   after", "PEs                  2       2", "greatest load        3       2",
             "average load      2.00    2.00", "imbalance       1.5000  1.0000", "moved elements       1    of 3",
             "moved bytes         10   of 27")))
+
+    def test_uneven_loads(self):
+        run = tezgumi.Run(3, [1, 2, 4], [1, 1, 1], [0, 1, 2])
+        figures = tezgumi.figures(run, tezgumi.plan(run))
+        self.assertEqual((figures.greatest_after, figures.least_before, figures.least_after), (4, 1, 0))
+        self.assertEqual((figures.bound_before, figures.bound_after), (4, 4))
+        self.assertEqual((figures.idle_before, figures.idle_after, figures.empty_before, figures.empty_after), (0, 1, 0, 1))
+        deviations = f"{figures.deviation_before:.3f} {figures.deviation_after:.3f} {figures.excess_after:.3f}"
+        self.assertEqual(deviations, "0.535 0.728 71.429")
+        self.assertEqual((figures.leaving_bytes, figures.entering_bytes), (1, 1))
 
     def test_no_load(self):
         idle = replace(THREE, loads=[0, 0, 0])

@@ -1,6 +1,7 @@
-"""Figures of a plan: the greatest load, the average and the imbalance before and after, and what moves."""
+"""Figures of a plan: how loads are spread before and after, and what moves."""
 from __future__ import annotations
 
+import math
 from dataclasses import dataclass
 from typing import Any, Iterable, List, Protocol, Sequence
 
@@ -22,7 +23,10 @@ class Figures:
     """What a plan does to a run. They are counted from its places, and not taken from what it states.
 
     An average is all load over the number of PEs. The imbalance is the greatest load of a PE over the average, and 1 where
-    there is no load. No greatest load can be below the average, nor below the load of the heaviest element.
+    there is no load; the excess is how far it is above 1, in per cent. No greatest load can be below the average, nor below
+    the load of the heaviest element: the bound is the greater of the two, the average rounded up. A deviation is the
+    standard deviation of the loads of the PEs over their average. An idle PE has no load, and an empty one no element.
+    Leaving and entering bytes are those of the PE with the most.
     """
 
     elements: int
@@ -32,9 +36,19 @@ class Figures:
     heaviest_element: int
     greatest_before: int
     greatest_after: int
+    least_before: int
+    least_after: int
+    deviation_before: float
+    deviation_after: float
+    idle_before: int
+    idle_after: int
+    empty_before: int
+    empty_after: int
     moved_elements: int
     moved_bytes: int
     total_bytes: int
+    leaving_bytes: int
+    entering_bytes: int
 
     @property
     def average_before(self) -> float:
@@ -51,6 +65,22 @@ class Figures:
     @property
     def imbalance_after(self) -> float:
         return _ratio(self.greatest_after * self.pes, self.total_load)
+
+    @property
+    def excess_before(self) -> float:
+        return _excess(self.greatest_before * self.procs, self.total_load)
+
+    @property
+    def excess_after(self) -> float:
+        return _excess(self.greatest_after * self.pes, self.total_load)
+
+    @property
+    def bound_before(self) -> int:
+        return max(self.heaviest_element, -(-self.total_load // self.procs))
+
+    @property
+    def bound_after(self) -> int:
+        return max(self.heaviest_element, -(-self.total_load // self.pes))
 
     def __str__(self) -> str:
         rows = (
@@ -85,17 +115,28 @@ def figures(run: Run, plan: Plan) -> Figures:
     before = pe_loads(run, run.places, run.procs)
     after = pe_loads(run, plan.places, plan.pes)
     moves = run.places != plan.places
+    total = int(run.loads.sum(dtype=np.uint64))
     return Figures(
         elements=len(run),
         procs=run.procs,
         pes=plan.pes,
-        total_load=int(run.loads.sum(dtype=np.uint64)),
+        total_load=total,
         heaviest_element=int(run.loads.max(initial=0)),
         greatest_before=int(before.max()),
         greatest_after=int(after.max()),
+        least_before=int(before.min()),
+        least_after=int(after.min()),
+        deviation_before=_deviation(before, total),
+        deviation_after=_deviation(after, total),
+        idle_before=int(np.count_nonzero(before == 0)),
+        idle_after=int(np.count_nonzero(after == 0)),
+        empty_before=_empty(run.places, run.procs),
+        empty_after=_empty(plan.places, plan.pes),
         moved_elements=int(np.count_nonzero(moves)),
         moved_bytes=int(run.bytes.sum(dtype=np.uint64, where=moves)),
         total_bytes=int(run.bytes.sum(dtype=np.uint64)),
+        leaving_bytes=_most_bytes(run.bytes[moves], run.places[moves]),
+        entering_bytes=_most_bytes(run.bytes[moves], plan.places[moves]),
     )
 
 
@@ -131,6 +172,26 @@ def table(swept: Iterable[Figures]) -> str:
 def _ratio(one: int, other: int) -> float:
     # Of whole numbers, so that it is rounded once, and no imbalance comes out below 1.
     return one / other if other else 1.0
+
+
+def _excess(one: int, other: int) -> float:
+    # As _ratio, which is rounded once; the difference is one of whole numbers.
+    return 100 * (one - other) / other if other else 0.0
+
+
+def _deviation(loads: NDArray[Any], total: int) -> float:
+    # Of whole numbers up to the root: squares of loads of 63 bits are no doubles.
+    squares = sum(int(load) ** 2 for load in loads)
+    return math.sqrt(len(loads) * squares - total**2) / total if total else 0.0
+
+
+def _empty(places: NDArray[Any], pes: int) -> int:
+    return pes - len(np.unique(places))
+
+
+def _most_bytes(sizes: NDArray[Any], places: NDArray[Any]) -> int:
+    # Sums of at most 65,536 sizes of 21 bits are doubles.
+    return int(np.bincount(np.asarray(places, dtype=np.int64), weights=sizes).max(initial=0))
 
 
 def _hundredths(number: int, parts: int) -> str:

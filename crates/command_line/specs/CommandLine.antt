@@ -1,5 +1,5 @@
 -- What the words of a command line ask for, as clap reads them: `lb_sim [--procs P] [--check] FILE`.
-use Rattle.std.specs.Prelude.{ℕ, ◌≡◌, ◌≤◌, List, Option, None, Some, codes, pos, true}
+use Rattle.std.specs.Prelude.{ℕ, ◌≡◌, ◌≤◌, List, [], ◌∷◌, ◌++◌, Option, None, Some, codes, pos, true}
 use Rattle.std.specs.Str.Parse.{IsNumeral, digits_value, without_leading_plus}
 use Rattle.clap.specs.Words.{App, Rule, Text, first_of, matches_of, new_app, new_rule, one_of, with_rule}
 use Rattle.clap.specs.declared.builder.ArgAction.TheVariants.{Set, SetTrue}
@@ -51,3 +51,7 @@ Spells (Some word) n = IsNumeral 10 (without_leading_plus word) × (n ≡ digits
 -- the words have the flag, which clap reads as the text `true`, and a flag that is not there as `false`
 abbrev pub AsksCheck : List Text → Type 0
 AsksCheck words = one_of (codes "check") (matches_of program words) ≡ Some (codes "true")
+
+-- the line where a check and a number of PEs are asked for
+abbrev pub both_line : List ℕ
+both_line = codes "lb_sim: --procs and --check" ++ 10 ∷ []

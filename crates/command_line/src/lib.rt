@@ -16,4 +16,4 @@
 mod help;
 mod words;
 
-pub use words::{NO_WORDS, asked, words_status};
+pub use words::{NO_WORDS, asked, refuse_both, words_status};

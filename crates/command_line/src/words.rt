@@ -4,7 +4,8 @@ ghost use Rattle.clap.specs.Built.{FitsChain, TakesValue};
 ghost use Rattle.clap.specs.Values.{kind_of};
 ghost use Rattle.clap.specs.Walk.{texts};
 ghost use Rattle.clap.specs.Words.{FailsBy, app_of, fault_of, first_value, found_of, one_text, rule_of};
-ghost use Rattle.command_line.specs.CommandLine.{AsksCheck, Spells, check_rule, file_in, file_rule, procs_in, procs_rule, program};
+ghost use Rattle.streams.specs.Writing.{WritesPrefix};
+ghost use Rattle.command_line.specs.CommandLine.{AsksCheck, Spells, both_line, check_rule, file_in, file_rule, procs_in, procs_rule, program};
 ghost use Rattle.command_line.specs.Internal.{NamesFile};
 ghost use Rattle.clap.specs.declared.builder.value_parser.ValueParser.TheVariants.{Signed};
 ghost use Rattle.clap.specs.declared.error.kind.ErrorKind.TheVariants.{DisplayHelp, DisplayVersion};
@@ -15,9 +16,14 @@ use clap::builder::ValueParser;
 use clap::{Arg, ArgAction, ArgMatches, Command, Error, value_parser};
 use lb_replay::Asked;
 use std::alloc::{AllocError, Global};
+use std::io::Write;
+use streams::write_out;
 
 /// The status where the words of the command line cannot be read, or are refused.
 pub const NO_WORDS: u8 = 2;
+
+/// What is told where a check and a number of PEs are asked for.
+const BOTH: &str = "lb_sim: --procs and --check\n";
 
 /// The status where the words ask for nothing to be done: 0 for help or the version, and else [`NO_WORDS`].
 pub fn words_status(error: &Error) -> u8
@@ -25,6 +31,15 @@ pub fn words_status(error: &Error) -> u8
     ensures refused { (kind_of error.now ≢ DisplayHelp) → (kind_of error.now ≢ DisplayVersion) → result ≡ NO_WORDS }
 {
     if error.use_stderr() { NO_WORDS } else { 0 }
+}
+
+/// Tells that a check and a number of PEs do not go together, and returns the status for that, [`NO_WORDS`].
+pub fn refuse_both<W: Write>(writer: &mut W) -> u8
+    ensures told { WritesPrefix (W.contents writer.old) (W.contents writer.new) both_line }
+    ensures status { result ≡ NO_WORDS }
+{
+    let _told = write_out(writer, BOTH.as_bytes());
+    NO_WORDS
 }
 
 /// Reads the words of a command line, the program's name first.

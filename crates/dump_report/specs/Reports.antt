@@ -1,10 +1,11 @@
 -- How a report on a dump ends, and what its writer holds then.
-use Rattle.std.specs.Prelude.{◌≡◌, ℕ, ◌≤◌, ◌==◌, if◌then◌else◌, length, List, [], ◌∷◌, ◌++◌, Option, IfSome}
-use Rattle.std.specs.Io.KnownBytes.{Appends}
+use Rattle.std.specs.Prelude.{◌≡◌, ℕ, ◌≤◌, ◌==◌, if◌then◌else◌, length, List, [], ◌∷◌, ◌++◌, Option, Some, None, IfSome}
+use Rattle.std.specs.Io.KnownBytes.{Appends, IsAtEnd}
 use Rattle.chain_partition.specs.Chosen.{IsChosen}
 use Rattle.chare_index.specs.declared.limits.TheConstants.Limits.{PES}
 use Rattle.dump_format.specs.Dumps.{Dumped}
 use Rattle.dump_format.specs.Text.{IsText}
+use Rattle.dump_format.specs.declared.recorded.Recorded.{Recorded}
 use Rattle.lb_certificates.specs.Naming.{IsLeastNaming}
 use Rattle.lb_replay.specs.Simulation.{IsReadFault}
 use Rattle.lb_replay.specs.declared.ended.Ended.{Ended}
@@ -12,7 +13,8 @@ use Rattle.lb_replay.specs.declared.ended.Ended.TheVariants.{Printed, WriteFaile
 use Rattle.lb_snapshot.specs.Measured.{Taken}
 use Rattle.lb_strategy.specs.Decisions.{IsRight}
 use Rattle.lb_strategy.specs.declared.decision.Decision.{Decision}
-use Rattle.load_report.specs.Text.{planned_text, present_text}
+use Rattle.lb_strategy.specs.declared.error.PlanError.{PlanError}
+use Rattle.load_report.specs.Text.{IsRecordedText, planned_text, present_text}
 use Rattle.load_report.specs.declared.style.Style.{Style}
 use Rattle.streams.specs.Writing.{WritesPrefix}
 
@@ -38,23 +40,32 @@ ArePlans A style name s [] text = text ≡ []
 ArePlans A style name s (p ∷ procs) text =
     (first : List ℕ) × (rest : List ℕ) × IsPlan A style name s p first × ArePlans A style name s procs rest × (text ≡ first ++ rest)
 
--- this is what is said of a snapshot: of its present placement, and then of a decision for each number of PEs
-pub record IsSaid (A : Type 0) (style : Style) (name : List ℕ) (procs : List ℕ) (s : Taken) (text : List ℕ) : Type 0 where
+-- this is what is said of the decision that a dump records, if it records one
+abbrev pub IsPast : {A : Type 0} → Style → List ℕ → Taken → Option (Recorded A) → List ℕ → Type 0
+IsPast style name s None text = text ≡ []
+IsPast style name s (Some r) text = IsRecordedText style name s r.target r.decision text
+
+-- This is what is said of a dump: of its present placement, of the decision that it records, if there is one, and then of a
+-- decision for each number of PEs.
+pub record IsSaid {A : Type 0} (style : Style) (name : List ℕ) (procs : List ℕ) (d : Dumped A) (text : List ℕ) : Type 0 where
+  pub past : List ℕ
+  pub recorded : IsPast style name d.snapshot d.recorded past
   pub plans : List ℕ
-  pub planned : ArePlans A style name s (numbers_of procs s.procs) plans
-  pub printed : text ≡ present_text style name s ++ plans
+  pub planned : ArePlans A style name d.snapshot (numbers_of procs d.snapshot.procs) plans
+  pub printed : text ≡ present_text style name d.snapshot ++ (past ++ plans)
 
 -- This is the report on the dump that the bytes are a text of. Where the reader does not report its bytes, the dump is any.
 pub record IsReport (A : Type 0) (bytes : Option (List ℕ)) (style : Style) (name : List ℕ) (procs : List ℕ) (text : List ℕ) : Type 0 where
   pub dump : Dumped A
   pub read : IfSome bytes (IsText dump)
-  pub said : IsSaid A style name procs dump.snapshot text
+  pub said : IsSaid style name procs dump text
 
--- The fault in place of a report: one of the dump; or one of the plan, which can only be that it is out of memory.
-abbrev pub IsFoundFault : Option (List ℕ) → Option (List ℕ) → Ended → Type 0
-IsFoundFault bytes rest (Ended.Dump e) = IsReadFault bytes rest e
-IsFoundFault bytes rest (Ended.Plan e) = Unit {0}
-IsFoundFault bytes rest _ = ⊥
+-- the fault in place of a report: one of the dump; and once the bytes were read, and are a dump, only out of memory
+abbrev pub IsFoundFault : (A : Type 0) → Option (List ℕ) → Option (List ℕ) → Ended → Type 0
+IsFoundFault A bytes rest (Ended.Dump e) = IsReadFault bytes rest e
+IsFoundFault A bytes rest (Ended.Plan e) =
+    (e ≡ PlanError.OutOfMemory) × IsAtEnd rest × ((d : Dumped A) × IfSome bytes (IsText d))
+IsFoundFault A bytes rest _ = ⊥
 
 -- What the writer holds after each end: the whole report, or nothing of it where there is a fault, or a prefix where the
 -- writer failed. The reader had these bytes, and has the rest.
@@ -62,8 +73,9 @@ abbrev pub EndsReport : (A : Type 0) → Option (List ℕ) → Option (List ℕ)
 EndsReport A bytes rest style name procs old new Printed =
     (text : List ℕ) × IsReport A bytes style name procs text × Appends old new text
 EndsReport A bytes rest style name procs old new (Ended.Dump e) =
-    IsReadFault bytes rest e × (new ≡ old)
-EndsReport A bytes rest style name procs old new (Ended.Plan e) = new ≡ old
+    IsFoundFault A bytes rest (Ended.Dump e) × (new ≡ old)
+EndsReport A bytes rest style name procs old new (Ended.Plan e) =
+    IsFoundFault A bytes rest (Ended.Plan e) × (new ≡ old)
 EndsReport A bytes rest style name procs old new WriteFailed =
     (text : List ℕ) × IsReport A bytes style name procs text × WritesPrefix old new text
 EndsReport A bytes rest style name procs old new _ = ⊥

@@ -3,7 +3,7 @@ ghost use Rattle.dump_report.specs.Reports.{EndsReport, IsFoundFault, IsNumber, 
 ghost use Rattle.dump_format.specs.declared.error.DumpError.TheVariants.{Read};
 ghost use Rattle.lb_replay.specs.declared.ended.Ended.TheVariants.{Dump};
 
-use crate::snapshot_text::snapshot_text;
+use crate::dump_text::dump_text;
 use lb_dump::{DumpError, read_from};
 use lb_replay::Ended;
 use load_report::Style;
@@ -13,7 +13,7 @@ use streams::{Noted, write_out};
 
 /// Reports on a dump: reads it, plans its balancing step for each of these numbers of PEs (each 1 to 256), or for as many
 /// as the dump has where none is given, and writes the report, with this name in it. Nothing is written where there is a
-/// fault: it is returned. A decision that the dump has is read, and ignored.
+/// fault: it is returned. A decision that the dump records is reported too, where it is right, or as flawed.
 ///
 /// What is written is one function of the bytes read, the name, the numbers and the style: the clause `one_text`.
 pub fn report_dump<A: Allocator + Copy, R: Read, W: Write>(
@@ -72,11 +72,11 @@ fn report_text<A: Allocator + Copy, R: Read>(
 ) -> Result<Vec<u8, A>, Ended>
     requires { All IsNumber procs.now }
     ensures text { IfOk result (λ text. IsReport A (R.remaining reader.old) style name.now procs.now text.items) }
-    ensures fault { IfErr result (IsFoundFault (R.remaining reader.old) (R.remaining reader.new)) }
+    ensures fault { IfErr result (IsFoundFault A (R.remaining reader.old) (R.remaining reader.new)) }
 {
     match read_from(alloc, reader) {
         Ok(dump) => {
-            let text = snapshot_text(alloc, dump.snapshot(), name, procs, style);
+            let text = dump_text(alloc, &dump, name, procs, style);
             drop(dump);
             text
         }

@@ -4,8 +4,8 @@
 //!
 //! - `command_line::asked`: what the words of the command line ask for, and the status where they ask for nothing to be
 //!   done.
-//! - `lb_replay::Asked::task`: which task that is, if it is one.
-//! - `lb_replay::run`: the task, and the status for its end.
+//! - `lb_replay::Asked::task`: which task that is, if it is one; `command_line::refuse_both`: what is told if it is none.
+//! - `lb_replay::run`: the task, and the status for its end; `file_faults::Advice`: what is told of a file with a fault.
 #![tactic(auto)]
 
 ghost use Rattle.lb_replay.specs.Requests.{MayRun};
@@ -13,7 +13,8 @@ ghost use Rattle.std.specs.Prelude.{◌≤◌};
 ghost use Rattle.std.specs.Option.{ForSome};
 
 use chare_index::Limits;
-use command_line::{NO_WORDS, asked, words_status};
+use command_line::{NO_WORDS, asked, refuse_both, words_status};
+use file_faults::Advice;
 use lb_replay::{Asked, Task, run};
 use std::fs::File;
 use std::process::ExitCode;
@@ -22,13 +23,12 @@ use std::{env, io};
 /// The status where the file cannot be read, or its dump has a fault.
 const FAULT: u8 = 3;
 
-/// What to do about a file that cannot be read.
-const READABLE: &str =
-    "give a file with a dump that you may read, or /dev/stdin for the standard input";
-
-/// What to do about a file without a whole dump.
-const WHOLE: &str =
-    "give a whole dump, which begins with LBD1 or LBD2: charm_run --dump writes them";
+/// What to do about a file with a fault.
+const ADVICE: Advice<'static> = Advice {
+    program: "lb_sim",
+    unread: "give a file with a dump that you may read, or /dev/stdin for the standard input",
+    wrong: "give a whole dump, which begins with LBD1 or LBD2: charm_run --dump writes them",
+};
 
 fn main(rt: HostRuntime) -> ExitCode {
     let Ok(args) = env::args(&rt) else {
@@ -59,8 +59,7 @@ fn done(rt: &HostRuntime, asked: Asked<'_>) -> u8
     requires few_pes { ForSome asked.procs (λ p. p ≤ Limits.PES) }
 {
     let Some(task) = asked.task() else {
-        let _ = eprintln!(rt; "lb_sim: --procs and --check");
-        return NO_WORDS;
+        return refuse_both(&mut rt.stderr());
     };
     ran(rt, asked.file, task)
 }
@@ -72,10 +71,6 @@ fn ran(rt: &HostRuntime, name: &str, task: Task) -> u8
 {
     let file = File::open(rt, name);
     let (status, reason) = run(rt.alloc(), task, file, &mut io::writer(rt));
-    let _ = match reason {
-        Some(reason) => eprintln!(rt; "lb_sim: {name}: {reason}; {READABLE}"),
-        None if status == FAULT => eprintln!(rt; "lb_sim: {name}: {WHOLE}"),
-        None => Ok(()),
-    };
+    let _told = ADVICE.tell(rt.alloc(), &mut rt.stderr(), name, reason, status == FAULT);
     status
 }

@@ -1,5 +1,5 @@
 -- The loads of the PEs, element by element.
-use Rattle.std.proofs.Common.{◌≡◌, ◌≢◌, ℕ, zero, suc, ◌+◌, ◌*◌, ◌^◌, ◌<◌, ◌≤◌, inl, inr, max, List, length, set, slice_index, arith, ap, refl, subst, sym, ◌∙◌, add-one}
+use Rattle.std.proofs.Common.{◌≡◌, ◌≢◌, ℕ, zero, suc, ◌+◌, ◌*◌, ◌^◌, ◌<◌, ◌≤◌, inl, inr, max, min, List, length, set, slice_index, arith, ap, refl, subst, sym, ◌∙◌, add-one}
 use Rattle.std.specs.List.{All}
 use Rattle.std.proofs.lemmas.Bool.{cases_eq}
 use Rattle.std.proofs.lemmas.Bool.Decides.{nat_tests}
@@ -8,7 +8,7 @@ use Rattle.std.proofs.Math.Nat.{mul-le-mul_right}
 use Rattle.chare_index.specs.declared.limits.TheConstants.Limits.{LOAD}
 use Rattle.lb_certificates.specs.Naming.{total}
 use Rattle.lb_snapshot.specs.Measured.{IsLoads}
-use Rattle.load_report.specs.Figures.{greatest, load_at}
+use Rattle.load_report.specs.Figures.{greatest, least, load_at}
 
 pub total_more : (n : ℕ) (f : ℕ → ℕ) → total (n + 1) f ≡ total n f + f n
 total_more n f = rw (add-one n) refl
@@ -16,17 +16,25 @@ total_more n f = rw (add-one n) refl
 pub greatest_more : (n : ℕ) (f : ℕ → ℕ) → greatest (n + 1) f ≡ max (greatest n f) (f n)
 greatest_more n f = rw (add-one n) refl
 
--- functions that agree below n have one greatest value there
+pub least_more : (m n : ℕ) (f : ℕ → ℕ) → least m (n + 1) f ≡ min (least m n f) (f n)
+least_more m n f = rw (add-one n) refl
+
+-- functions that agree below n have one greatest and one least value there
 pub greatest_same : (n : ℕ) (f g : ℕ → ℕ) → ((i : ℕ) → i < n → f i ≡ g i) → greatest n f ≡ greatest n g
 greatest_same zero f g same = refl
 greatest_same (suc n) f g same =
     ap (λ m. max m (f n)) (greatest_same n f g (λ i inside. same i (omega arith))) ∙ ap (λ m. max (greatest n g) m) (same n (omega arith))
 
+pub least_same : (m n : ℕ) (f g : ℕ → ℕ) → ((i : ℕ) → i < n → f i ≡ g i) → least m n f ≡ least m n g
+least_same m zero f g same = refl
+least_same m (suc n) f g same =
+    ap (λ k. min k (f n)) (least_same m n f g (λ i inside. same i (omega arith))) ∙ ap (λ k. min (least m n g) k) (same n (omega arith))
+
 -- an element has a load where it is placed, and nowhere else
-load_here : (loads places : List ℕ) (p i : ℕ) → slice_index places i ≡ p → load_at loads places p i ≡ slice_index loads i
+pub load_here : (loads places : List ℕ) (p i : ℕ) → slice_index places i ≡ p → load_at loads places p i ≡ slice_index loads i
 load_here loads places p i here = grind (arith, nat_tests)
 
-load_elsewhere : (loads places : List ℕ) (p i : ℕ) → slice_index places i ≢ p → load_at loads places p i ≡ 0
+pub load_elsewhere : (loads places : List ℕ) (p i : ℕ) → slice_index places i ≢ p → load_at loads places p i ≡ 0
 load_elsewhere loads places p i elsewhere = grind (arith, nat_tests)
 
 load_small : (loads places : List ℕ) (p i : ℕ) → All (λ units. units ≤ LOAD) loads → i < length loads → load_at loads places p i ≤ LOAD

@@ -1,15 +1,16 @@
 -- How elements that are placed on PEs spread their load, and what a decision changes. A list of places has the PE of each
 -- element, in order of index.
-use Rattle.std.specs.Prelude.{ℕ, suc, zero, ◌<◌, ◌≤◌, ◌≡◌, ◌==◌, if◌then◌else◌, All, count_by, List, length, map, max, slice_index, sum, sum_by}
+use Rattle.std.specs.Prelude.{ℕ, suc, zero, ◌+◌, ◌-◌, ◌*◌, ◌/◌, ◌<◌, ◌≤◌, ◌≡◌, ◌==◌, nat_le, if◌then◌else◌, All, count_by, List, length, map, max, min, slice_index, slice_index_or, sum, sum_by}
 use Rattle.std.specs.List.{range_with_len}
 use Rattle.chare_index.specs.declared.limits.TheConstants.Limits.{PES}
-use Rattle.lb_certificates.specs.Naming.{total}
+use Rattle.lb_certificates.specs.Naming.{moved_bytes, total}
 use Rattle.lb_snapshot.specs.Measured.{Taken}
 use Rattle.lb_strategy.specs.Decisions.{right_moved, right_moves}
 use Rattle.lb_strategy.specs.Moves.{planned_pe}
 use Rattle.lb_strategy.specs.declared.decision.Decision.{Decision}
 use Rattle.load_report.specs.declared.figures.Spread.{Spread}
 use Rattle.load_report.specs.declared.figures.Change.{Change}
+use Rattle.load_report.specs.declared.traffic.Traffic.{Traffic}
 
 -- the PE on which each element stands
 abbrev pub present_places : List (ℕ × ℕ) → List ℕ
@@ -40,14 +41,69 @@ greatest (suc n) f = max (greatest n f) (f n)
 abbrev pub empty_of : List ℕ → ℕ → ℕ
 empty_of places pes = total pes (λ p. if elements_of places p == 0 then 1 else 0)
 
+-- the least of the values at the numbers below n, or this one where it is less
+abbrev pub least : ℕ → ℕ → (ℕ → ℕ) → ℕ
+least most zero f = most
+least most (suc n) f = min (least most n f) (f n)
+
+-- how many of the first PEs have no work, with elements or without
+abbrev pub idle_of : ℕ → (ℕ → ℕ) → ℕ
+idle_of pes loads = total pes (λ p. if loads p == 0 then 1 else 0)
+
+abbrev pub billion : ℕ
+billion = 1000000000
+
+-- a quotient, rounded to the nearest number, and up from the middle
+abbrev pub nearest : ℕ → ℕ → ℕ
+nearest above below = (2 * above + below) / (2 * below)
+
+-- the billionths that a load is of the average of all, which is their sum over the number of PEs
+abbrev pub billionths : ℕ → ℕ → ℕ → ℕ
+billionths pes sum load = if sum == 0 then billion else nearest (billion * (load * pes)) sum
+
+-- the square of how far two numbers are apart
+abbrev pub square_apart : ℕ → ℕ → ℕ
+square_apart a b = ((a - b) + (b - a)) * ((a - b) + (b - a))
+
+-- The sum of the squares of how far the loads of the PEs are from the average, each in billionths of the average. Over the
+-- number of PEs it is the square of the standard deviation.
+abbrev pub squares_of : ℕ → ℕ → (ℕ → ℕ) → ℕ
+squares_of pes sum loads = total pes (λ p. square_apart (billionths pes sum (loads p)) billion)
+
+-- the square root, rounded down: how many of the squares 1, 4, 9 and so on are at most n
+unfoldable pub root : ℕ → ℕ
+root n = total n (λ k. if nat_le ((k + 1) * (k + 1)) n then 1 else 0)
+
+-- The standard deviation of the loads of so many PEs over their average, in thousandths, rounded to the nearest: half the
+-- root of four times its square, and rounded up.
+unfoldable pub deviation_of : ℕ → ℕ → (ℕ → ℕ) → ℕ
+deviation_of pes sum loads =
+    if pes == 0 then 0 else (root (4 * squares_of pes sum loads / (pes * (billion * 1000))) + 1) / 2
+
 -- how elements with these loads, placed so on so many PEs, spread their load
 abbrev pub spread_of : List ℕ → List ℕ → ℕ → Spread
 spread_of loads places pes = record {
   pes = pes;
   elements = length loads;
   greatest = greatest pes (load_of loads places);
+  least = least (sum loads) pes (load_of loads places);
   total = sum loads;
+  deviation = deviation_of pes (sum loads) (load_of loads places);
+  heaviest = greatest (length loads) (slice_index loads);
   empty = empty_of places pes;
+  idle = idle_of pes (load_of loads places);
+}
+
+-- the bytes of each element that moves to its place, and 0 for one that stays
+abbrev pub moving : List (ℕ × ℕ) → List ℕ → List ℕ
+moving sizes places = map (λ i. moved_bytes (slice_index_or sizes i (0, 0)) (slice_index places i)) (range_with_len 0 (length sizes))
+
+-- the most bytes that leave a PE where the elements of a snapshot move to these places on so many PEs, and the most that
+-- enter one
+abbrev pub traffic_of : Taken → List ℕ → ℕ → Traffic
+traffic_of s places pes = record {
+  leave = greatest s.procs (load_of (moving s.sizes places) (present_places s.sizes));
+  enter = greatest pes (load_of (moving s.sizes places) places);
 }
 
 -- what a right decision changes, with what there is to be moved

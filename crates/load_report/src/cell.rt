@@ -14,8 +14,12 @@ pub(crate) enum Cell {
     Nothing,
     /// The line is about the present placement.
     Present,
-    /// The line is about the placement of a decision.
+    /// The line is about the placement of a planned decision.
     Planned,
+    /// The line is about the placement of the decision that the dump records.
+    Recorded,
+    /// The line is about a recorded decision that is not right.
+    Flawed,
     /// A number.
     Number(u64),
     /// A number with three decimals, as so many thousandths.
@@ -45,6 +49,8 @@ pub(crate) fn cell_text<A: Allocator>(alloc: A, cell: Cell) -> Result<String<A>,
         Cell::Nothing => String::from_str(alloc, "-"),
         Cell::Present => String::from_str(alloc, "present"),
         Cell::Planned => String::from_str(alloc, "planned"),
+        Cell::Recorded => String::from_str(alloc, "recorded"),
+        Cell::Flawed => String::from_str(alloc, "flawed"),
         Cell::Number(n) => format!(in alloc; "{n}"),
         Cell::Thousandths(n) => thousandths_text(alloc, n),
     }

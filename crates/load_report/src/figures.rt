@@ -4,8 +4,9 @@ ghost use Rattle.std.specs.Prelude.{◌≡◌, ◌<◌, ◌≤◌, ◌==◌, if�
 ghost use Rattle.lb_certificates.specs.Naming.{total};
 ghost use Rattle.lb_snapshot.specs.Measured.{IsLoads, IsSizes};
 ghost use Rattle.lb_strategy.specs.Decisions.{IsRight};
-ghost use Rattle.load_report.specs.Figures.{IsPlacement, change_of, elements_of, empty_of, greatest, load_of, spread_of};
+ghost use Rattle.load_report.specs.Figures.{IsPlacement, change_of, elements_of, empty_of, greatest, idle_of, least, load_of, spread_of};
 
+use crate::deviation::deviation_of;
 use chare_index::{Limits, Pe};
 use lb_certificates::{Loads, Snapshot, Units};
 use lb_strategy::Decision;
@@ -20,10 +21,18 @@ pub struct Spread {
     pub elements: u64,
     /// The load of the PE with the greatest load, in work units.
     pub greatest: u64,
+    /// The load of the PE with the least load.
+    pub least: u64,
     /// The load of all PEs together.
     pub total: u64,
+    /// The standard deviation of the loads of the PEs over their average, in thousandths, to the nearest.
+    pub deviation: u64,
+    /// The load of the heaviest element.
+    pub heaviest: u64,
     /// The PEs that have no element.
     pub empty: u32,
+    /// The PEs that have no load, with elements or without.
+    pub idle: u32,
 }
 
 /// What a decision changes.
@@ -45,19 +54,26 @@ impl Spread {
         requires { IsPlacement loads.now places.now pes }
         ensures value { result ≡ spread_of loads.now places.now pes }
     {
+        let mut sums = [0; Limits::PES as usize];
+        add_loads(&mut sums, loads.as_slice(), places, pes);
+        let total = loads.load(0, loads.len());
         Spread {
             pes,
             elements: loads.len() as u64,
-            greatest: greatest_load(loads.as_slice(), places, pes),
-            total: loads.load(0, loads.len()),
+            greatest: greatest_of(&sums, pes),
+            least: least_of(&sums, pes, total),
+            total,
+            deviation: deviation_of(&sums, pes, total),
+            heaviest: greatest_of(loads.as_slice(), loads.len() as u32),
             empty: empty_pes(places, pes),
+            idle: idle_pes(&sums, pes),
         }
     }
 }
 
-// The load of the PE with the greatest load.
+/// The load of the PE with the greatest load.
 #[tactic(auto, using(crate::proofs::PlacedLoads::greatest_same))]
-fn greatest_load(loads: &[Units], places: &[u32], pes: u32) -> u64
+pub(crate) fn greatest_load(loads: &[Units], places: &[u32], pes: u32) -> u64
     requires loads { IsLoads loads.now }
     requires placed { IsPlacement loads.now places.now pes }
     ensures { result ≡ greatest pes (load_of loads.now places.now) }
@@ -92,6 +108,34 @@ fn greatest_of(sums: &[u64], pes: u32) -> u64
         most = most.max(sums[p]);
     }
     most
+}
+
+// The least of the first of these loads, none of which is above their total.
+#[tactic(auto, using(crate::proofs::PlacedLoads::least_more))]
+fn least_of(sums: &[u64], pes: u32, total: u64) -> u64
+    requires { pes ≤ length sums.now }
+    ensures { result ≡ least total pes (slice_index sums.now) }
+{
+    let mut least = total;
+    for p in 0..pes as usize {
+        least = least.min(sums[p]);
+    }
+    least
+}
+
+// How many of the first of these loads are 0.
+#[tactic(auto, using(crate::proofs::PlacedLoads::total_more))]
+fn idle_pes(sums: &[u64], pes: u32) -> u32
+    requires { pes ≤ length sums.now }
+    ensures { result ≡ idle_of pes (slice_index sums.now) }
+{
+    let mut idle = 0;
+    for p in 0..pes as usize {
+        if sums[p] == 0 {
+            idle += 1;
+        }
+    }
+    idle
 }
 
 // How many PEs have no element.

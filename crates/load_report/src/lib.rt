@@ -3,13 +3,21 @@
 #![tactic(auto)]
 
 mod cell;
+mod changes;
+mod columns;
+mod deviation;
 mod figures;
+mod laws;
 mod line;
 mod places;
 mod style;
 mod text;
+mod traffic;
 
 pub use figures::{Change, Spread};
+#[doc(hidden)]
+pub use laws::report_laws;
 pub use places::{planned_places, present_places};
 pub use style::Style;
-pub use text::{push_planned, push_present};
+pub use text::{push_planned, push_present, push_recorded};
+pub use traffic::Traffic;

@@ -18,12 +18,13 @@ impl Style {
         match (self.csv, self.moves) {
             (false, false) => {
                 "placement procs elements           max               avg imbalance         least  moved  \
-                 moved%       bytes  bytes% empty file\n"
+                 moved%       bytes  bytes% empty  idle           min      heaviest         bound deviation   \
+                 excess%       leave       enter       step file\n"
             }
             (false, true) => "procs element  from    to    bytes file\n",
             (true, false) => {
                 "file,placement,procs,elements,max,avg,imbalance,least,moved,moved_percent,bytes,\
-                 bytes_percent,empty\n"
+                 bytes_percent,empty,idle,min,heaviest,bound,deviation,excess_percent,leave,enter,step\n"
             }
             (true, true) => "file,procs,element,from,to,bytes\n",
         }

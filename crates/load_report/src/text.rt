@@ -1,18 +1,22 @@
 //! What a report says of a file.
 
-ghost use Rattle.std.specs.Prelude.{◌≡◌, ◌++◌, ◌*◌, IfOk, OnOk, slice_index_or};
+ghost use Rattle.std.specs.Prelude.{◌≡◌, ◌++◌, ℕ, List, IfOk, OnOk, slice_index_or};
 ghost use Rattle.lb_strategy.specs.Decisions.{IsRight};
-ghost use Rattle.load_report.specs.Figures.{present_places, spread_of};
-ghost use Rattle.load_report.specs.Text.{move_columns, move_lines, planned_columns, planned_line, planned_text, present_columns, present_line, present_text, ratio};
+ghost use Rattle.load_report.specs.Figures.{IsPlacement, present_places, spread_of};
+ghost use Rattle.load_report.specs.Text.{IsRecordedText, changed_line, decision_line, flawed_line, move_columns, move_lines};
+ghost use Rattle.load_report.specs.Text.{planned_text, present_line, present_text};
 
-use crate::cell::{Cell, ratio};
+use crate::cell::Cell;
+use crate::changes::Changes;
+use crate::columns::{flawed_columns, placement_columns};
 use crate::figures::{Change, Spread};
 use crate::line::{Column, push_line};
 use crate::places::{planned_places, present_places};
 use crate::style::Style;
+use crate::traffic::Traffic;
 use chare_index::{Index, Pe};
 use lb_certificates::Snapshot;
-use lb_strategy::Decision;
+use lb_strategy::{Decision, check};
 use std::alloc::{AllocError, Allocator};
 
 /// Adds the line of the present placement, where no moves are asked for.
@@ -44,7 +48,8 @@ fn push_present_line<A: Allocator + Copy, B: Allocator>(
     ensures { OnOk result (text.new.items ≡ text.old.items ++ present_line csv name.now snapshot.now) }
 {
     let spread = present_spread(*text.allocator(), snapshot)?;
-    push_line(text, csv, name, &present_columns(spread))
+    let columns = placement_columns(Cell::Present, snapshot.step(), spread, Changes::none());
+    push_line(text, csv, name, &columns)
 }
 
 // How the elements are spread at present.
@@ -59,71 +64,7 @@ fn present_spread<A: Allocator, B: Allocator>(
     Ok(Spread::of(snapshot.loads(), &places, snapshot.procs()))
 }
 
-// The columns of the present placement.
-fn present_columns(spread: Spread) -> [Column; 12]
-    ensures { result ≡ present_columns spread }
-{
-    [
-        (9, Cell::Present),
-        (5, Cell::Number(u64::from(spread.pes))),
-        (8, Cell::Number(spread.elements)),
-        (13, Cell::Number(spread.greatest)),
-        (17, average(spread)),
-        (9, imbalance(spread)),
-        (13, Cell::Nothing),
-        (6, Cell::Nothing),
-        (7, Cell::Nothing),
-        (11, Cell::Nothing),
-        (7, Cell::Nothing),
-        (5, Cell::Number(u64::from(spread.empty))),
-    ]
-}
-
-// The average load of a PE.
-fn average(spread: Spread) -> Cell
-    ensures { result ≡ ratio spread.total spread.pes }
-{
-    ratio(u128::from(spread.total), u64::from(spread.pes))
-}
-
-// The greatest load of a PE over the average.
-fn imbalance(spread: Spread) -> Cell
-    ensures { result ≡ ratio (spread.greatest * spread.pes) spread.total }
-{
-    ratio(
-        u128::from(spread.greatest) * u128::from(spread.pes),
-        spread.total,
-    )
-}
-
-// A part of a whole in per cent.
-fn share(part: u64, whole: u64) -> Cell
-    ensures { result ≡ ratio (100 * part) whole }
-{
-    ratio(100 * u128::from(part), whole)
-}
-
-// The columns of a planned placement, with what it changes.
-fn planned_columns(spread: Spread, change: Change) -> [Column; 12]
-    ensures { result ≡ planned_columns spread change }
-{
-    [
-        (9, Cell::Planned),
-        (5, Cell::Number(u64::from(spread.pes))),
-        (8, Cell::Number(spread.elements)),
-        (13, Cell::Number(spread.greatest)),
-        (17, average(spread)),
-        (9, imbalance(spread)),
-        (13, Cell::Number(change.least)),
-        (6, Cell::Number(change.moved)),
-        (7, share(change.moved, spread.elements)),
-        (11, Cell::Number(change.bytes)),
-        (7, share(change.bytes, change.all_bytes)),
-        (5, Cell::Number(u64::from(spread.empty))),
-    ]
-}
-
-/// Adds what is said of a decision for so many PEs: its line, or those of the elements that it moves.
+/// Adds what is said of a planned decision for so many PEs: its line, or those of the elements that it moves.
 ///
 /// # Errors
 ///
@@ -143,12 +84,68 @@ pub fn push_planned<A: Allocator + Copy, B: Allocator, C: Allocator>(
         let sizes = snapshot.sizes().as_slice();
         return push_moves(text, style.csv, name, sizes, pes, decision.moves.as_slice());
     }
-    push_decision(text, style.csv, name, snapshot, pes, decision)
+    push_decision(
+        text,
+        Cell::Planned,
+        style.csv,
+        name,
+        snapshot,
+        pes,
+        decision,
+    )
 }
 
-// The line of a decision.
+/// Adds the line of a decision that was recorded for so many PEs, where no moves are asked for: its figures if it is right,
+/// and that it is flawed if it is not.
+///
+/// # Errors
+///
+/// Out of memory.
+pub fn push_recorded<A: Allocator + Copy, B: Allocator, C: Allocator>(
+    text: &mut Vec<u8, A>,
+    style: Style,
+    name: &str,
+    snapshot: &Snapshot<B>,
+    pes: u32,
+    decision: &Decision<C>,
+) -> Result<(), AllocError>
+    ensures text { OnOk result ((made : List ℕ) × IsRecordedText style name.now snapshot.now pes decision.now made × (text.new.items ≡ text.old.items ++ made)) }
+{
+    if style.moves {
+        return Ok(());
+    }
+    match check(snapshot, pes, decision) {
+        Ok(()) => push_decision(
+            text,
+            Cell::Recorded,
+            style.csv,
+            name,
+            snapshot,
+            pes,
+            decision,
+        ),
+        Err(_) => push_flawed(text, style.csv, name, snapshot, pes),
+    }
+}
+
+// The line of a decision with a flaw.
+fn push_flawed<A: Allocator + Copy, B: Allocator>(
+    text: &mut Vec<u8, A>,
+    csv: bool,
+    name: &str,
+    snapshot: &Snapshot<B>,
+    pes: u32,
+) -> Result<(), AllocError>
+    ensures { OnOk result (text.new.items ≡ text.old.items ++ flawed_line csv name.now snapshot.now pes) }
+{
+    let columns = flawed_columns(snapshot.step(), pes, snapshot.loads().len());
+    push_line(text, csv, name, &columns)
+}
+
+// The line of a right decision, which goes by this word.
 fn push_decision<A: Allocator + Copy, B: Allocator, C: Allocator>(
     text: &mut Vec<u8, A>,
+    word: Cell,
     csv: bool,
     name: &str,
     snapshot: &Snapshot<B>,
@@ -156,12 +153,36 @@ fn push_decision<A: Allocator + Copy, B: Allocator, C: Allocator>(
     decision: &Decision<C>,
 ) -> Result<(), AllocError>
     requires { IsRight snapshot.now.loads snapshot.now.sizes pes decision.now }
-    ensures { OnOk result (text.new.items ≡ text.old.items ++ planned_line csv name.now snapshot.now pes decision.now) }
+    ensures { OnOk result (text.new.items ≡ text.old.items ++ decision_line word csv name.now snapshot.now pes decision.now) }
 {
     let places = planned_places(*text.allocator(), snapshot, decision, pes)?;
-    let spread = Spread::of(snapshot.loads(), &places, pes);
-    let change = Change::of(snapshot, decision, pes);
-    push_line(text, csv, name, &planned_columns(spread, change))
+    push_changed(text, word, csv, name, snapshot, pes, &places, decision)
+}
+
+// The line of a placement on so many PEs, with what a right decision for it changes.
+fn push_changed<A: Allocator + Copy, B: Allocator, C: Allocator>(
+    text: &mut Vec<u8, A>,
+    word: Cell,
+    csv: bool,
+    name: &str,
+    snapshot: &Snapshot<B>,
+    pes: u32,
+    places: &[u32],
+    decision: &Decision<C>,
+) -> Result<(), AllocError>
+    requires right { IsRight snapshot.now.loads snapshot.now.sizes pes decision.now }
+    requires placed { IsPlacement snapshot.now.loads places.now pes }
+    ensures { OnOk result (text.new.items ≡ text.old.items ++ changed_line word csv name.now snapshot.now pes places.now decision.now) }
+{
+    let traffic = Traffic::of(*text.allocator(), snapshot, places, pes)?;
+    let spread = Spread::of(snapshot.loads(), places, pes);
+    let changes = Changes::of(spread, Change::of(snapshot, decision, pes), traffic);
+    push_line(
+        text,
+        csv,
+        name,
+        &placement_columns(word, snapshot.step(), spread, changes),
+    )
 }
 
 // A line for each move.

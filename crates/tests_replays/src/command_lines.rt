@@ -1,7 +1,7 @@
 //! Command lines: what their words ask for, what is to be done, and the status where they ask for nothing.
 
 use crate::fixtures::assert_for;
-use command_line::{asked, words_status};
+use command_line::{asked, refuse_both, words_status};
 use lb_replay::Task;
 use std::alloc::Global;
 
@@ -180,4 +180,13 @@ fn words_that_are_refused(rt: HostRuntime) {
     for row in &REFUSED {
         assert_for(&rt, is_refused(rt.alloc(), row), row.words);
     }
+}
+
+#[test]
+fn a_check_with_a_number_is_refused(rt: HostRuntime) {
+    let mut told = Vec::new(rt.alloc());
+    let status = refuse_both(&mut told);
+    let right = status == 2 && told.as_slice() == b"lb_sim: --procs and --check\n".as_slice();
+    drop(told);
+    assert_for(&rt, right, status);
 }

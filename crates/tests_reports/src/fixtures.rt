@@ -23,8 +23,9 @@ pub(crate) const VALUES: Style = Style {
 };
 
 /// The values of the worked dump, under the name `three`.
-pub(crate) const THREE: &str = "\"three\",present,2,3,3,2.000,1.500,,,,,,0\n\
-    \"three\",planned,2,3,2,2.000,1.000,2,1,33.333,10,37.037,0\n";
+pub(crate) const THREE: &str =
+    "\"three\",present,2,3,3,2.000,1.500,,,,,,0,0,1,2,2,0.500,50.000,,,5\n\
+    \"three\",planned,2,3,2,2.000,1.000,2,1,33.333,10,37.037,0,0,2,2,2,0.000,0.000,10,10,5\n";
 
 /// Whether a report on these bytes, under the name `three`, is this text and ends so.
 pub(crate) fn reports(

@@ -11,7 +11,7 @@ use std::alloc::{AllocError, Allocator, Global};
 use std::io::ErrorKind;
 use std::process::Abort;
 use tests_fixtures::{Outcome, Refusing, each_refusal, pe};
-use workload_run::{DumpFormat, NotWritten, write_dumps};
+use workload_run::{Driven, DumpFormat, NotWritten, write_asked, write_dumps};
 
 // What came of the dumps of some rounds: the first that was not written, how many files were asked for, how many calls
 // there were, and what the files hold that were made.
@@ -91,6 +91,51 @@ fn a_file_that_is_refused_is_the_last(rt: HostRuntime) {
         assert_for(&rt, first && second, *format);
     }
     drop(driven);
+}
+
+// The status where the dumps of a run are asked for, or not, and the first file is refused, or not; with what was written.
+fn finished(
+    rt: &(impl Abort + AllocGlobal),
+    driven: &Driven<Global>,
+    prefix: Option<&str>,
+    faults: Faults,
+) -> (u8, Vec<u8>) {
+    let store = Store::new(rt.alloc());
+    let mut files = KeptFiles::new(rt.alloc(), &store, faults);
+    let mut text = Vec::new(rt.alloc());
+    let (status, failed) = write_asked(
+        rt.alloc(),
+        driven,
+        DumpFormat::Lbd2,
+        prefix,
+        &mut files,
+        &mut text,
+    );
+    drop(failed);
+    drop(files);
+    drop(store);
+    (status, text)
+}
+
+#[test]
+fn the_status_with_dumps(rt: HostRuntime) {
+    let (driven, text) = driven(&rt, WORKED);
+    drop(text);
+    let refused = Faults {
+        file: 0,
+        ..NO_FAULTS
+    };
+    let (none, nothing) = finished(&rt, &driven, None, refused);
+    let (all, silent) = finished(&rt, &driven, Some("run"), NO_FAULTS);
+    let (failed, line) = finished(&rt, &driven, Some("run"), refused);
+    let quiet = nothing.is_empty() && silent.is_empty();
+    let told = line.as_slice() == b"dump: write failed\n".as_slice();
+    drop(nothing);
+    drop(silent);
+    drop(line);
+    drop(driven);
+    assert_for(&rt, quiet && told, (none, all, failed));
+    assert_for(&rt, (none, all, failed) == (0, 0, 5), (none, all, failed));
 }
 
 // How the dumps of the rounds of the worked workload are written by calls of at most seven bytes: the files, and how many

@@ -43,20 +43,26 @@ fn a_reader_that_fails_once_at_any_byte(rt: HostRuntime) {
     }
 }
 
-#[test]
-fn a_reader_that_fails_behind_a_fault(rt: HostRuntime) {
-    let mut reader = Source::new(b"pes 2\nround", 1, Some((12, ErrorKind::Other)));
+// How a workload of 14 bytes ends whose first line has a fault, where its reader fails at this call, and how often it was called.
+fn behind_a_fault<R: Threads + Wait + Sync + Abort + AllocGlobal>(
+    rt: &R,
+    at: usize,
+) -> (Ended, usize) {
+    let mut reader = Source::new(b"pes 257\nrounds", 1, Some((at, ErrorKind::Other)));
     let mut text = Vec::new(rt.alloc());
-    let driven = drive(&rt, rt.alloc(), &mut reader, &mut text, TURNS);
-    let read = driven.ended == Ended::Refused(WorkError::Form(2));
+    let driven = drive(rt, rt.alloc(), &mut reader, &mut text, TURNS);
+    let ended = driven.ended;
     drop(driven);
-    let mut reader = Source::new(b"pes 257\nrounds", 1, Some((9, ErrorKind::Other)));
-    let driven = drive(&rt, rt.alloc(), &mut reader, &mut text, TURNS);
-    let earlier = driven.ended == Ended::Refused(WorkError::Limit(1));
-    let calls = reader.calls;
-    drop(driven);
-    assert_for(&rt, read && earlier && calls == 8, calls);
     drop(text);
+    (ended, reader.calls)
+}
+
+#[test]
+fn a_reader_is_read_on_behind_a_fault(rt: HostRuntime) {
+    let failed = behind_a_fault(&rt, 9) == (Ended::Refused(WorkError::Read), 10);
+    let at_the_end = behind_a_fault(&rt, 14) == (Ended::Refused(WorkError::Read), 15);
+    let read = behind_a_fault(&rt, 15) == (Ended::Refused(WorkError::Limit(1)), 15);
+    assert!(rt; failed && at_the_end && read);
 }
 
 // Whether the writer fails at this call, having taken a prefix of the text.

@@ -2,6 +2,7 @@
 
 use crate::fixtures::{TURNS, WORKED, WORKED_TEXT, assert_for};
 use chare_index::Round;
+use file_faults::Advice;
 use rts_run::Watch;
 use std::io::{self, Error, ErrorKind};
 use std::process::Abort;
@@ -72,4 +73,39 @@ fn files_and_their_reasons(rt: HostRuntime) {
     let file = Ok(Source::new(WORKED, 9, Some((2, ErrorKind::Other))));
     let failed = ends(&rt, file, read, Some(ErrorKind::Other), (line, 0));
     assert_for(&rt, failed, "its read fails");
+}
+
+// What is told of a file `f` with this reason.
+fn told(rt: &impl AllocGlobal, reason: Option<Error>, faulty: bool) -> (bool, Vec<u8>) {
+    let advice = Advice {
+        program: "run",
+        unread: "name another",
+        wrong: "mend it",
+    };
+    let mut line = Vec::new(rt.alloc());
+    let all = advice.tell(rt.alloc(), &mut line, "f", reason, faulty);
+    (all, line)
+}
+
+// Whether all was told, and is this line.
+fn is_told(found: &(bool, Vec<u8>), line: &str) -> bool {
+    found.0 && found.1.as_slice() == line.as_bytes()
+}
+
+#[test]
+fn what_is_told_of_files(rt: HostRuntime) {
+    let reason = Some(Error::from(ErrorKind::NotFound));
+    let unread = told(&rt, reason, true);
+    assert_for(
+        &rt,
+        is_told(&unread, "run: f: entity not found; name another\n"),
+        "unread",
+    );
+    let faulty = told(&rt, None, true);
+    assert_for(&rt, is_told(&faulty, "run: f: mend it\n"), "faulty");
+    let good = told(&rt, None, false);
+    assert_for(&rt, is_told(&good, ""), "good");
+    drop(unread);
+    drop(faulty);
+    drop(good);
 }

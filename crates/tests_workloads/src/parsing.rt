@@ -223,6 +223,17 @@ fn a_text_near_the_limit_is_read(rt: HostRuntime) {
     assert!(rt; short && read);
 }
 
+// More than a megabyte, with a call for each byte: the bound on calls leaves room for that.
+#[test]
+fn a_megabyte_is_read_byte_by_byte(rt: HostRuntime) {
+    const HEAD: &[u8] = b"pes 1\nrounds 2\npad 0\nchares 65536\n";
+    let text = long_text(&rt, 2, HEAD, b" 123456789");
+    let long = text.len() > 1_048_576;
+    let read = fault_in_pieces(&rt, &text, 1) == None;
+    drop(text);
+    assert!(rt; long && read);
+}
+
 #[test]
 fn a_text_past_the_limit_is_too_long(rt: HostRuntime) {
     const HEAD: &[u8] = b"pes 1\nrounds 103\npad 0\nchares 65536\n";
@@ -241,7 +252,7 @@ fn a_long_text_with_a_fault_is_too_long(rt: HostRuntime) {
     let mut text = Vec::new(rt.alloc());
     text.resize(67_108_865, b'x').expect(&rt, "out of memory");
     let whole = fault_of(&rt, &text) == Some(WorkError::Long);
-    let pieces = fault_in_pieces(&rt, &text, 65_536) == Some(WorkError::Form(1));
+    let pieces = fault_in_pieces(&rt, &text, 65_536) == Some(WorkError::Long);
     text.truncate(67_108_864);
     let cut = fault_of(&rt, &text) == Some(WorkError::Form(1));
     drop(text);

@@ -1,22 +1,24 @@
 -- What is told of bytes, whole or piece by piece.
-use Rattle.std.proofs.Common.{◌≡◌, ℕ, ◌+◌, ◌-◌, ◌<◌, ◌≤◌, ◌⊎◌, inl, inr, true, false, List, [], ◌++◌, length, take}
-use Rattle.std.proofs.Common.{drop, Option, Some, None, Result, Ok, Err, refl, sym, ap, subst, ◌∙◌, arith, append_assoc, length-append, length-drop}
+use Rattle.std.proofs.Common.{◌≡◌, ℕ, ◌+◌, ◌<◌, ◌≤◌, ◌⊎◌, inl, inr, true, false, List, [], ◌++◌, length, take}
+use Rattle.std.proofs.Common.{◌∷◌, Option, Some, None, Result, Ok, Err, refl, sym, ap, subst, ◌∙◌, arith, append_assoc, length-append}
 use Rattle.std.specs.Prelude.{IfErr, IfSome, MatchResult, OnOk, ⊤}
 use Rattle.std.specs.Result.{IsErr, IsErrAnd}
 use Rattle.std.specs.Io.KnownBytes.{Consumes, IsAtEnd}
-use Rattle.std.proofs.lemmas.List.{append-nil, length-take-le, take_at, take-append-drop, take-take}
+use Rattle.std.proofs.lemmas.Bool.{cases_Bool, cases_lt}
+use Rattle.std.proofs.lemmas.List.{append-nil}
 use Rattle.std.proofs.KnownBytes.{Consumes-nil, Consumes-trans}
 use Rattle.workload.specs.declared.error.WorkError.{WorkError}
 use Rattle.workload.specs.declared.error.WorkError.TheVariants.{Form, Limit, Long, Read, OutOfMemory}
 use Rattle.workload.specs.declared.form.TheConstants.{TEXT_BYTES}
-use Rattle.workload.specs.Text.{WorkloadView}
-use Rattle.workload.specs.Faults.{is_whole, lines_text, IsLineFault, IsFault, IsBroken, IsOpen}
-use Rattle.workload.specs.Machine.{State, Grows, start, run, then_run, lines_of_view}
-use Rattle.workload.specs.Reading.{NeedsMemory, IsAnswer, IsReadFault, IsReadAnswer, IsReadError, IsReading}
+use Rattle.workload.specs.Text.{WorkloadView, IsText}
+use Rattle.workload.specs.Faults.{is_whole, AreLines, lines_text, IsLineFault, IsFault}
+use Rattle.workload.specs.declared.judge.Judge.{Judge}
+use Rattle.workload.specs.Machine.{State, Grows, IsHeld, IsJudged, start, run, state_of, then_run, lines_of_view}
+use Rattle.workload.specs.Reading.{NeedsMemory, IsAnswer, IsReadAnswer, IsReadError, IsReading, EndsAt, ReadsToItsEnd}
 use Rattle.workload.proofs.Runs.{run-append}
 use Rattle.workload.proofs.Kept.{Holds}
 use Rattle.workload.proofs.Stops.{After}
-use Rattle.workload.proofs.Told.{after_start, broken, end_fault, open_from_run}
+use Rattle.workload.proofs.Told.{after_start, broken, end_fault, end_whole}
 use Rattle.workload.proofs.Texts.{text_from_run}
 
 -- the fault of a line in bytes that are not too many
@@ -64,162 +66,112 @@ pub end_answer : (bytes : List ℕ) (s : State) (result : Result WorkloadView Wo
 end_answer bytes s (Ok w) came short ends = text_from_run w bytes s came ends.0 ends.1 short
 end_answer bytes s (Err e) came short ends = inr (short_fault bytes e short (end_line_fault bytes s e came ends))
 
--- the fault of all bytes, where their front has it whatever follows
-read_fault : (bytes front more : List ℕ) (e : WorkError) → bytes ≡ front ++ more → length front ≤ TEXT_BYTES → run front (start []) ≡ Err e → IsReadFault bytes e
-read_fault bytes front more e split short stopped = by e (broken front e stopped)
-  where
-    kept : take TEXT_BYTES bytes ≡ front ++ drop (length front) (take TEXT_BYTES bytes)
-    kept =
-        let first : take (length front) (take TEXT_BYTES bytes) ≡ front = take-take (length front) TEXT_BYTES bytes short ∙ ap (take (length front)) split
-        ∙ take_at front more (length front) refl in
-        sym (take-append-drop (length front) (take TEXT_BYTES bytes)) ∙ ap (λ t. t ++ drop (length front) (take TEXT_BYTES bytes)) first
+-- the fault that a reader stopped at, in bytes that are not too many
+faulty : (bytes : List ℕ) (e : WorkError) → length bytes ≤ TEXT_BYTES → run bytes (start []) ≡ Err e → IsFault bytes e
+faulty bytes e short stopped = short_fault bytes e short (line_fault bytes e stopped)
 
-    all : (f : WorkError) → IsBroken front f → IsLineFault bytes f
-    all f stands = subst (λ t. IsLineFault t f) (sym split) (stands more)
+-- a piece more
+module _ {A : Type 0} where
+  pub still_stopped : (text piece : List ℕ) (old new : Judge A) (e : WorkError) → IsJudged text old (Err e) → IsJudged (text ++ piece) new (Err e)
+  still_stopped text piece old new e (inl none) = inl none
+  still_stopped text piece old new e (inr stopped) = inr (run-append text piece (start []) ∙ ap (then_run (run piece)) stopped)
 
-    first_bytes : (f : WorkError) → IsBroken front f → TEXT_BYTES < length bytes → IsBroken (take TEXT_BYTES bytes) f
-    first_bytes f stands _ =
-        λ later. subst (λ t. IsLineFault t f) (sym (ap (λ t. t ++ later) kept ∙ append_assoc front (drop (length front) (take TEXT_BYTES bytes)) later))
-        (stands (drop (length front) (take TEXT_BYTES bytes) ++ later))
+  -- what feeding a piece says
+  abbrev pub Fed : List ℕ → Judge A → Judge A → Result ⊤ WorkError → Type 0
+  Fed piece old new result =
+      MatchResult result
+      (λ _. (run piece (state_of old) ≡ Ok (state_of new)) × IsHeld new)
+      (λ e. ((e ≡ OutOfMemory) × Grows (state_of old) piece) ⊎ (run piece (state_of old) ≡ Err e))
 
-    by : (f : WorkError) → IsBroken front f → IsReadFault bytes f
-    by (Form n) stands = (all (Form n) stands, first_bytes (Form n) stands)
-    by (Limit n) stands = (all (Limit n) stands, first_bytes (Limit n) stands)
-    by Long stands = absurd (stands [])
-    by Read stands = absurd (stands [])
-    by OutOfMemory stands = absurd (stands [])
+  pub judged_on : (text piece : List ℕ) (old new : Judge A) (x : ⊤) (result : Result ⊤ WorkError) → Fed piece old new result → IsJudged text old (Ok x) → IsJudged (text ++ piece) new result
+  judged_on text piece old new x (Ok y) fed before = (run-append text piece (start []) ∙ ap (then_run (run piece)) before.0 ∙ fed.0, fed.1)
+  judged_on text piece old new x (Err e) (inl none) before = inl none.0
+  judged_on text piece old new x (Err e) (inr stopped) before = inr (run-append text piece (start []) ∙ ap (then_run (run piece)) before.0 ∙ stopped)
 
--- too many bytes, of which the first have no fault that stands
-long_fault : (bytes front more : List ℕ) (s : State) → bytes ≡ front ++ more → length front ≡ TEXT_BYTES → 0 < length more → run front (start []) ≡ Ok s → IsReadFault bytes Long
-long_fault bytes front more s split full some came = (
-  omega (arith, ap length split, length-append front more),
-  subst IsOpen (sym (ap (take TEXT_BYTES) split ∙ take_at front more TEXT_BYTES full)) (open_from_run front s came),
-)
-
--- bytes that are read, of which the first are judged
-pub record Piece (old new : Option (List ℕ)) (text buf : List ℕ) (len judged : ℕ) : Type 0 where
-  pub before : Option (List ℕ)
-  pub gone : Consumes old before text
-  pub came : Consumes before new (take len buf)
-  pub fits : len ≤ length buf
-  pub part : judged ≤ len
-
--- all bytes, by the judged ones among them
-split_at : (bytes rest text piece : List ℕ) (judged : ℕ) → bytes ≡ (text ++ piece) ++ rest → bytes ≡ (text ++ take judged piece) ++ (drop judged piece ++ rest)
-split_at bytes rest text piece judged split =
-    split
-    ∙ ap (λ p. (text ++ p) ++ rest) (sym (take-append-drop judged piece))
-    ∙ ap (λ t. t ++ rest) (sym (append_assoc text (take judged piece) (drop judged piece)))
-    ∙ append_assoc (text ++ take judged piece) (drop judged piece) rest
-
-halves : (text piece : List ℕ) (judged : ℕ) → text ++ piece ≡ (text ++ take judged piece) ++ drop judged piece
-halves text piece judged = ap (λ p. text ++ p) (sym (take-append-drop judged piece)) ∙ sym (append_assoc text (take judged piece) (drop judged piece))
-
-judged_run : (text buf : List ℕ) (len judged : ℕ) (s : State) (r : Result State WorkError) → judged ≤ len → run text (start []) ≡ Ok s → run (take judged buf) s ≡ r
-    → run (text ++ take judged (take len buf)) (start []) ≡ r
-judged_run text buf len judged s r part before judged_is =
-    run-append text (take judged (take len buf)) (start [])
-    ∙ ap (then_run (run (take judged (take len buf)))) before
-    ∙ ap (λ t. run t s) (take-take judged len buf part)
-    ∙ judged_is
-
-judged_length : (text buf : List ℕ) (len judged : ℕ) → judged ≤ len → len ≤ length buf → length (text ++ take judged (take len buf)) ≡ length text + judged
-judged_length text buf len judged part fits =
-    length-append text (take judged (take len buf)) ∙ ap (λ n. length text + n) (ap length (take-take judged len buf part) ∙ length-take-le judged buf (omega arith))
-
--- out of memory, or a fault
-pub stopped_by : (bytes : List ℕ) (s : State) (e : WorkError) → ((e ≡ OutOfMemory) × Grows s bytes) ⊎ (run bytes s ≡ Err e) → (e ≡ OutOfMemory) ⊎ (run bytes s ≡ Err e)
-stopped_by bytes s e (inl (none, grows)) = inl none
-stopped_by bytes s e (inr stopped) = inr stopped
-
--- what a piece with a fault says of all that the reader has
-pub piece_fault : (old new : Option (List ℕ)) (text buf : List ℕ) (len judged : ℕ) (s : State) (e : WorkError) → Piece old new text buf len judged → run text (start []) ≡ Ok s
-    → length text + judged ≤ TEXT_BYTES
-    → (e ≡ OutOfMemory) ⊎ (run (take judged buf) s ≡ Err e) → IfSome old (λ bytes. (e ≡ Read) ⊎ ((e ≡ OutOfMemory) ⊎ IsReadFault bytes e))
-piece_fault None new text buf len judged s e piece before short told = tt
-piece_fault (Some bytes) new text buf len judged s e piece before short (inl none) = inr (inl none)
-piece_fault (Some bytes) None text buf len judged s e piece before short (inr stopped) = absurd
-    (Consumes-trans (Some bytes) piece.before None text (take len buf) piece.gone piece.came)
-piece_fault (Some bytes) (Some rest) text buf len judged s e piece before short (inr stopped) =
-    let all : bytes ≡ (text ++ take len buf) ++ rest = Consumes-trans (Some bytes) piece.before (Some rest) text (take len buf) piece.gone piece.came in
-    inr (inr (read_fault bytes (text ++ take judged (take len buf)) (drop judged (take len buf) ++ rest) e (split_at bytes rest text (take len buf) judged all)
-    (omega (arith, judged_length text buf len judged piece.part piece.fits))
-    (judged_run text buf len judged s (Err e) piece.part before stopped)))
-
--- what a piece that is too long says
-pub piece_long : (old new : Option (List ℕ)) (text buf : List ℕ) (len judged : ℕ) (s t : State) → Piece old new text buf len judged → run text (start []) ≡ Ok s
-    → run (take judged buf) s ≡ Ok t → length text + judged ≡ TEXT_BYTES → judged < len
-    → IfSome old (λ bytes. (Long ≡ Read) ⊎ ((Long ≡ OutOfMemory) ⊎ IsReadFault bytes Long))
-piece_long None new text buf len judged s t piece before came full more = tt
-piece_long (Some bytes) None text buf len judged s t piece before came full more = absurd (Consumes-trans (Some bytes) piece.before None text (take len buf) piece.gone piece.came)
-piece_long (Some bytes) (Some rest) text buf len judged s t piece before came full more =
-    let all : bytes ≡ (text ++ take len buf) ++ rest = Consumes-trans (Some bytes) piece.before (Some rest) text (take len buf) piece.gone piece.came in
-    let left : length (drop judged (take len buf)) ≡ len - judged = length-drop judged (take len buf) ∙ ap (λ n. n - judged) (length-take-le len buf piece.fits) in
-    inr (inr (long_fault bytes (text ++ take judged (take len buf)) (drop judged (take len buf) ++ rest) t (split_at bytes rest text (take len buf) judged all)
-    (judged_length text buf len judged piece.part piece.fits ∙ full)
-    (omega (arith, left, length-append (drop judged (take len buf)) rest))
-    (judged_run text buf len judged s (Ok t) piece.part before came)))
-
--- the bytes so far, with a piece that is judged whole
-pub piece_joins : (old new : Option (List ℕ)) (text buf : List ℕ) (len : ℕ) (s t : State) → Piece old new text buf len len → run text (start []) ≡ Ok s
-    → run (take len buf) s ≡ Ok t
-    → Consumes old new (text ++ take len buf) × (run (text ++ take len buf) (start []) ≡ Ok t) × (length (text ++ take len buf) ≡ length text + len)
-piece_joins old new text buf len s t piece before came = (
-  Consumes-trans old piece.before new text (take len buf) piece.gone piece.came,
-  run-append text (take len buf) (start []) ∙ ap (then_run (run (take len buf))) before ∙ came,
-  length-append text (take len buf) ∙ ap (λ n. length text + n) (length-take-le len buf piece.fits),
-)
-
--- the fault at the end of bytes that are not too many
-ends_read_fault : (bytes : List ℕ) (e : WorkError) (n : ℕ) → length bytes ≤ TEXT_BYTES → e ≡ Form n → IsLineFault bytes e → IsReadFault bytes e
-ends_read_fault bytes e n short is fault =
-    subst (IsReadFault bytes) (sym is) (subst (IsLineFault bytes) is fault, λ long. absurd (omega arith))
+  pub held_if : (text : List ℕ) (judge : Judge A) (judged : Result ⊤ WorkError) → IsJudged text judge judged → OnOk judged (IsHeld judge)
+  held_if text judge (Ok x) is = is.1
+  held_if text judge (Err e) is = tt
 
 -- bytes that were read, and what they show of an error
 abbrev pub Shows : Option (List ℕ) → Option (List ℕ) → WorkError → Type 0
-Shows old new e = (bytes : List ℕ) × Consumes old new bytes × (length bytes ≤ TEXT_BYTES + 1) × IsReadError bytes e
+Shows old new e = (bytes : List ℕ) × Consumes old new bytes × (length bytes ≤ TEXT_BYTES + 1) × IsReadError bytes e × EndsAt new e
 
-read_error : (bytes : List ℕ) (e : WorkError) → IsReadFault bytes e → IsReadError bytes e
-read_error bytes (Form n) fault = fault
-read_error bytes (Limit n) fault = fault
-read_error bytes Long fault = fault
-read_error bytes Read fault = absurd fault.0
-read_error bytes OutOfMemory fault = tt
+-- what the fault of bytes shows
+shown_fault : (old new : Option (List ℕ)) (bytes : List ℕ) (e : WorkError) → Consumes old new bytes → IsAtEnd new → length bytes ≤ TEXT_BYTES
+    → (e ≡ OutOfMemory) ⊎ IsFault bytes e → Shows old new e
+shown_fault old new bytes e gone end_ short (inl none) = subst (Shows old new) (sym none) (bytes, gone, omega arith, tt, tt)
+shown_fault old new bytes (Form n) gone end_ short (inr fault) = (bytes, gone, omega arith, fault, end_)
+shown_fault old new bytes (Limit n) gone end_ short (inr fault) = (bytes, gone, omega arith, fault, end_)
+shown_fault old new bytes Long gone end_ short (inr fault) = (bytes, gone, omega arith, fault, tt)
+shown_fault old new bytes Read gone end_ short (inr fault) = absurd fault.1
+shown_fault old new bytes OutOfMemory gone end_ short (inr fault) = absurd fault.1
 
--- all bytes so far, where a piece has a fault or memory is refused
-pub piece_stops : (old new : Option (List ℕ)) (text buf : List ℕ) (len judged : ℕ) (s : State) (e : WorkError) → Piece old new text buf len judged → run text (start []) ≡ Ok s
-    → length text + judged ≤ TEXT_BYTES → length text + len ≤ TEXT_BYTES + 1
-    → (e ≡ OutOfMemory) ⊎ (run (take judged buf) s ≡ Err e) → Shows old new e
-piece_stops old new text buf len judged s e piece before short long told = (
-  text ++ take len buf,
-  Consumes-trans old piece.before new text (take len buf) piece.gone piece.came,
-  omega (arith, length-append text (take len buf), length-take-le len buf piece.fits),
-  elim told [
-    | inl none ↦ subst (IsReadError (text ++ take len buf)) (sym none) tt
-    | inr stopped ↦ read_error (text ++ take len buf) e
-        (read_fault (text ++ take len buf) (text ++ take judged (take len buf)) (drop judged (take len buf)) e (halves text (take len buf) judged)
-        (omega (arith, judged_length text buf len judged piece.part piece.fits)) (judged_run text buf len judged s (Err e) piece.part before stopped))
-  ],
-)
+-- and of all that the reader had
+known_fault : (old new : Option (List ℕ)) (bytes : List ℕ) (e : WorkError) → Consumes old new bytes → IsAtEnd new → (e ≡ OutOfMemory) ⊎ IsFault bytes e
+    → IfSome old (λ all. (e ≡ Read) ⊎ ((e ≡ OutOfMemory) ⊎ IsFault all e))
+known_fault None new bytes e gone end_ fault = tt
+known_fault (Some all) None bytes e gone end_ fault = absurd gone
+known_fault (Some all) (Some rest) bytes e gone end_ fault =
+    let same : all ≡ bytes = gone ∙ ap (λ r. bytes ++ r) end_ ∙ append-nil bytes in
+    inr (subst (λ t. (e ≡ OutOfMemory) ⊎ IsFault t e) (sym same) fault)
 
--- all bytes so far, where a piece is too long
-pub piece_shows_long : (old new : Option (List ℕ)) (text buf : List ℕ) (len judged : ℕ) (s t : State) → Piece old new text buf len judged → run text (start []) ≡ Ok s
-    → run (take judged buf) s ≡ Ok t → length text + judged ≡ TEXT_BYTES → judged < len → length text + len ≤ TEXT_BYTES + 1
-    → Shows old new Long
-piece_shows_long old new text buf len judged s t piece before came full more long = (
-  text ++ take len buf,
-  Consumes-trans old piece.before new text (take len buf) piece.gone piece.came,
-  omega (arith, length-append text (take len buf), length-take-le len buf piece.fits),
-  long_fault (text ++ take len buf) (text ++ take judged (take len buf)) (drop judged (take len buf)) t (halves text (take len buf) judged)
-      (judged_length text buf len judged piece.part piece.fits ∙ full)
-      (omega (arith, length-drop judged (take len buf), length-take-le len buf piece.fits))
-      (judged_run text buf len judged s (Ok t) piece.part before came),
+-- at the end of the reader
+pub record AtEnd (old new : Option (List ℕ)) (text : List ℕ) : Type 0 where
+  pub gone : Consumes old new text
+  pub end_ : IsAtEnd new
+  pub short : length text ≤ TEXT_BYTES
+
+-- a call that brought no byte
+pub nothing_more : (old before new : Option (List ℕ)) (text buf : List ℕ) (len : ℕ) → Consumes old before text → Consumes before new (take len buf) → len ≡ 0 → IsAtEnd new
+    → length text ≤ TEXT_BYTES → AtEnd old new text
+nothing_more old before new text buf len gone came none end_ short =
+    record {
+      gone = subst (Consumes old new) (append-nil text) (Consumes-trans old before new text [] gone (subst (λ n. Consumes before new (take n buf)) none came));
+      end_ = end_;
+      short = short;
+    }
+
+module _ {A : Type 0} (old new : Option (List ℕ)) (text : List ℕ) (judge : Judge A) (is : AtEnd old new text) where
+  pub end_held : (judged : Result ⊤ WorkError) → IsJudged text judge judged
+      → OnOk judged ((read : List ℕ) × (run read (start []) ≡ Ok (state_of judge)) × IsHeld judge × Consumes old new read × IsAtEnd new × (length read ≤ TEXT_BYTES))
+  end_held (Ok x) judges = (text, judges.0, judges.1, is.gone, is.end_, is.short)
+  end_held (Err e) judges = tt
+
+  end_stopped : (e : WorkError) → IsJudged text judge (Err e) → (e ≡ OutOfMemory) ⊎ IsFault text e
+  end_stopped e (inl none) = inl none
+  end_stopped e (inr stopped) = inr (faulty text e is.short stopped)
+
+  pub end_known : (judged : Result ⊤ WorkError) → IsJudged text judge judged → IfErr judged (λ e. IfSome old (λ all. (e ≡ Read) ⊎ ((e ≡ OutOfMemory) ⊎ IsFault all e)))
+  end_known (Ok x) judges = tt
+  end_known (Err e) judges = known_fault old new text e is.gone is.end_ (end_stopped e judges)
+
+  pub end_shown : (judged : Result ⊤ WorkError) → IsJudged text judge judged → IfErr judged (λ e. Shows old new e)
+  end_shown (Ok x) judges = tt
+  end_shown (Err e) judges = shown_fault old new text e is.gone is.end_ is.short (end_stopped e judges)
+
+-- a piece with which the bytes are too many
+pub too_many : (old before new : Option (List ℕ)) (text piece : List ℕ) → Consumes old before text → Consumes before new piece → TEXT_BYTES < length text + length piece
+    → IfSome old (λ all. (Long ≡ Read) ⊎ ((Long ≡ OutOfMemory) ⊎ IsFault all Long))
+too_many None before new text piece gone came many = tt
+too_many (Some all) before None text piece gone came many = absurd (Consumes-trans (Some all) before None text piece gone came)
+too_many (Some all) before (Some rest) text piece gone came many =
+    let whole : all ≡ (text ++ piece) ++ rest = Consumes-trans (Some all) before (Some rest) text piece gone came in
+    inr (inr (omega (arith, ap length whole, length-append (text ++ piece) rest, length-append text piece)))
+
+pub shows_long : (old before new : Option (List ℕ)) (text piece : List ℕ) → Consumes old before text → Consumes before new piece → TEXT_BYTES < length text + length piece
+    → length text + length piece ≤ TEXT_BYTES + 1 → Shows old new Long
+shows_long old before new text piece gone came many few = (
+  text ++ piece,
+  Consumes-trans old before new text piece gone came,
+  omega (arith, length-append text piece),
+  omega (arith, length-append text piece),
+  tt,
 )
 
 -- where no memory is left for a piece, nothing was read
 pub no_piece : (old : Option (List ℕ)) (result : Result ⊤ WorkError) → IsErrAnd result (λ e. e ≡ OutOfMemory) → IfErr result (λ e. Shows old old e)
 no_piece old (Ok x) is = tt
-no_piece old (Err e) is = ([], Consumes-nil old, omega arith, subst (IsReadError []) (sym is) tt)
+no_piece old (Err e) is = subst (Shows old old) (sym is) ([], Consumes-nil old, omega arith, tt, tt)
 
 -- the text that was read to its end
 pub end_shows : (old new : Option (List ℕ)) (text : List ℕ) (s : State) (result : Result WorkloadView WorkError) → Consumes old new text → run text (start []) ≡ Ok s
@@ -227,13 +179,15 @@ pub end_shows : (old new : Option (List ℕ)) (text : List ℕ) (s : State) (res
     → (bytes : List ℕ) × Consumes old new bytes × (length bytes ≤ TEXT_BYTES + 1) × IsReading bytes result
 end_shows old new text s (Ok w) gone came short ends = (text, gone, omega arith, text_from_run w text s came ends.0 ends.1 short)
 end_shows old new text s (Err e) gone came short ends =
-    (text, gone, omega arith, read_error text e (ends_read_fault text e (length s.lines + 1) short ends.1 (end_line_fault text s e came ends)))
+    (text, gone, omega arith, reading_fault text e (length s.lines + 1) ends.1 (short_fault text e short (end_line_fault text s e came ends)))
+  where
+    reading_fault : (bytes : List ℕ) (f : WorkError) (n : ℕ) → f ≡ Form n → IsFault bytes f → IsReadError bytes f
+    reading_fault bytes f n is fault = subst (IsReadError bytes) (sym is) (subst (IsFault bytes) is fault)
 
--- the fault of all bytes, or out of memory, or that the reader failed
-pub faulted : (old : Option (List ℕ)) (result : Result ⊤ WorkError) (e : WorkError) → result ≡ Err e
-    → IfSome old (λ bytes. (e ≡ Read) ⊎ ((e ≡ OutOfMemory) ⊎ IsReadFault bytes e))
-    → IfErr result (λ f. IfSome old (λ bytes. (f ≡ Read) ⊎ ((f ≡ OutOfMemory) ⊎ IsReadFault bytes f)))
-faulted old result e is fault = subst (λ (r : Result ⊤ WorkError). IfErr r (λ f. IfSome old (λ bytes. (f ≡ Read) ⊎ ((f ≡ OutOfMemory) ⊎ IsReadFault bytes f)))) (sym is) fault
+-- where no line is missing, or one is, the reader is at its end
+pub end_ends : (new : Option (List ℕ)) (s : State) (result : Result WorkloadView WorkError) → IsAtEnd new → Ends s result → ReadsToItsEnd new result
+end_ends new s (Ok w) end_ ends = end_
+end_ends new s (Err e) end_ ends = subst (EndsAt new) (sym ends.1) end_
 
 -- nothing is owed for an answer that does not come, and what holds anyway holds then too
 module _ {T E : Type 0} where
@@ -246,12 +200,12 @@ module _ {T E : Type 0} where
   whatever (Err e) P h = tt
 
 -- the reader failed, whatever bytes it had
-pub read_failed : (old : Option (List ℕ)) → IfSome old (λ bytes. (Read ≡ Read) ⊎ ((Read ≡ OutOfMemory) ⊎ IsReadFault bytes Read))
+pub read_failed : (old : Option (List ℕ)) → IfSome old (λ bytes. (Read ≡ Read) ⊎ ((Read ≡ OutOfMemory) ⊎ IsFault bytes Read))
 read_failed None = tt
 read_failed (Some bytes) = inl refl
 
 -- the fault of all bytes is an answer to them, unless the reader failed
-pub fault_answers : (old : Option (List ℕ)) (e : WorkError) → IfSome old (λ bytes. (e ≡ Read) ⊎ ((e ≡ OutOfMemory) ⊎ IsReadFault bytes e))
+pub fault_answers : (old : Option (List ℕ)) (e : WorkError) → IfSome old (λ bytes. (e ≡ Read) ⊎ ((e ≡ OutOfMemory) ⊎ IsFault bytes e))
     → IfSome old (λ bytes. (◌≡◌ {A = Result WorkloadView WorkError} (Err e) (Err Read)) ⊎ IsReadAnswer bytes (Err e))
 fault_answers None e fault = tt
 fault_answers (Some bytes) e (inl failed) = inl (ap Err failed)
@@ -269,4 +223,48 @@ all_answered (Some bytes) (Some rest) text s result gone at_end came short ends 
   where
     by : (r : Result WorkloadView WorkError) → Ends s r → IsReadAnswer text r
     by (Ok w) told = text_from_run w text s came told.0 told.1 short
-    by (Err e) told = inr (ends_read_fault text e (length s.lines + 1) short told.1 (end_line_fault text s e came told))
+    by (Err e) told = inr (short_fault text e short (end_line_fault text s e came told))
+
+one_number : (numbers : List ℕ) → length numbers ≡ 1 → (n : ℕ) × (numbers ≡ n ∷ [])
+one_number [] one = absurd (omega arith)
+one_number (n ∷ []) one = (n, refl)
+one_number (n ∷ m ∷ numbers) one = absurd (omega arith)
+
+four_lines : (a b c d w x y z : List ℕ) (rest : List (List ℕ)) → a ≡ w → b ≡ x → c ≡ y → d ≡ z → ◌≡◌ {A = List (List ℕ)} (a ∷ b ∷ c ∷ d ∷ rest) (w ∷ x ∷ y ∷ z ∷ rest)
+four_lines a b c d w x y z rest one two three four = rw (one, two, three, four) refl
+
+-- all lines are those of a workload
+workload_of : (lines : List (List ℕ)) → AreLines [] lines → is_whole lines ≡ true → (w : WorkloadView) × (lines ≡ lines_of_view w)
+workload_of [] good whole = cc
+workload_of (pes ∷ []) good whole = cc
+workload_of (pes ∷ rounds ∷ []) good whole = cc
+workload_of (pes ∷ rounds ∷ pad ∷ []) good whole = cc
+workload_of (pes ∷ rounds ∷ pad ∷ chares ∷ amounts) (_, p, (_, r, (_, d, (_, n, _)))) whole =
+    let some_pes = one_number pes p.formed.counted in
+    let some_rounds = one_number rounds r.formed.counted in
+    let some_pad = one_number pad d.formed.counted in
+    let some_chares = one_number chares n.formed.counted in (
+      record { pes = some_pes.0; rounds = some_rounds.0; pad = some_pad.0; chares = some_chares.0; amounts = amounts },
+      four_lines pes rounds pad chares (some_pes.0 ∷ []) (some_rounds.0 ∷ []) (some_pad.0 ∷ []) (some_chares.0 ∷ []) amounts some_pes.1 some_rounds.1 some_pad.1 some_chares.1,
+    )
+
+-- bytes are a text, or have a fault
+pub text_or_fault : (bytes : List ℕ) → ((w : WorkloadView) × IsText w bytes) ⊎ ((e : WorkError) × IsFault bytes e)
+text_or_fault bytes =
+    elim (cases_lt TEXT_BYTES (length bytes)) [
+      | inl long ↦ inr (Long, long)
+      | inr short ↦ by short (run bytes (start [])) refl
+    ]
+  where
+    by : length bytes ≤ TEXT_BYTES → (r : Result State WorkError) → run bytes (start []) ≡ r → ((w : WorkloadView) × IsText w bytes) ⊎ ((e : WorkError) × IsFault bytes e)
+    by short (Err e) stopped = inr (e, faulty bytes e short stopped)
+    by short (Ok s) came =
+        elim (cases_Bool (is_whole s.lines)) [
+          | inl whole ↦
+              let ends = end_whole s bytes (subst (After [] bytes) came (after_start [] bytes)) whole in
+              let w = workload_of s.lines ends.0 whole in
+              inl (w.0, text_from_run w.0 bytes s came whole w.1 short)
+          | inr open_ ↦
+              let e : WorkError = Form (length s.lines + 1) in
+              inr (e, short_fault bytes e short (end_line_fault bytes s e came (open_, refl)))
+        ]

@@ -1,10 +1,10 @@
 -- What one byte does to a reader of a workload. No public clause has these words.
-use Rattle.std.specs.Prelude.{◌≡◌, ℕ, ◌+◌, ◌*◌, ◌-◌, ◌^◌, ◌<◌, ◌≤◌, Bool, false, ◌==◌, ◌&&◌, ◌||◌, nat_lt}
-use Rattle.std.specs.Prelude.{if◌then◌else◌, List, [], ◌∷◌, ◌++◌, length, map, slice_index, Option, Some, None, Result, Ok, Err}
+use Rattle.std.specs.Prelude.{◌≡◌, ℕ, ◌+◌, ◌*◌, ◌-◌, ◌^◌, ◌<◌, ◌≤◌, ◌⊎◌, Bool, false, ◌==◌, ◌&&◌, ◌||◌, nat_lt}
+use Rattle.std.specs.Prelude.{if◌then◌else◌, List, [], ◌∷◌, ◌++◌, length, map, slice_index, Option, Some, None, Result, Ok, Err, ⊤}
 use Rattle.std.specs.Char.{is_ascii_digit}
 use Rattle.tally.specs.declared.tally_limits.TheConstants.TallyLimits.{AMOUNTS}
 use Rattle.workload.specs.declared.error.WorkError.{WorkError}
-use Rattle.workload.specs.declared.error.WorkError.TheVariants.{Form, Limit}
+use Rattle.workload.specs.declared.error.WorkError.TheVariants.{Form, Limit, OutOfMemory}
 use Rattle.workload.specs.declared.form.Line.{Line}
 use Rattle.workload.specs.declared.form.Line.TheVariants.{Pes, Rounds, Pad, Chares, Amounts}
 use Rattle.workload.specs.declared.form.TheConstants.{DIGITS, BLANK, NEWLINE}
@@ -136,3 +136,8 @@ pub record IsHeld {A : Type 0} (judge : Judge A) : Type 0 where
   pub spot : IsSpot judge.spot
   pub rounds : judge.rounds ≤ AMOUNTS
   pub line : HoldsLine judge.line judge
+
+-- what a reader made of these bytes: it holds them, or it stopped at their fault, or out of memory
+abbrev pub IsJudged : {A : Type 0} → List ℕ → Judge A → Result ⊤ WorkError → Type 0
+IsJudged text judge (Ok x) = (run text (start []) ≡ Ok (state_of judge)) × IsHeld judge
+IsJudged text judge (Err e) = (e ≡ OutOfMemory) ⊎ (run text (start []) ≡ Err e)

@@ -1,10 +1,11 @@
 -- What the calls that read a workload return.
-use Rattle.std.specs.Prelude.{◌≡◌, ℕ, ◌<◌, ◌≤◌, ◌⊎◌, false, List, [], ◌++◌, length, take, Result, Ok, Err}
+use Rattle.std.specs.Prelude.{◌≡◌, ℕ, ◌≤◌, ◌⊎◌, false, List, [], ◌++◌, length, Option, Result, Ok, Err}
+use Rattle.std.specs.Io.KnownBytes.{IsAtEnd}
 use Rattle.workload.specs.declared.error.WorkError.{WorkError}
-use Rattle.workload.specs.declared.error.WorkError.TheVariants.{Long, Read, OutOfMemory}
+use Rattle.workload.specs.declared.error.WorkError.TheVariants.{Form, Limit, Read, OutOfMemory}
 use Rattle.workload.specs.declared.form.TheConstants.{TEXT_BYTES}
 use Rattle.workload.specs.Text.{WorkloadView, IsText}
-use Rattle.workload.specs.Faults.{is_whole, AreLines, lines_text, IsFault, IsLineFault, IsBroken, IsOpen}
+use Rattle.workload.specs.Faults.{is_whole, AreLines, lines_text, IsFault}
 
 -- Behind four good lines, and maybe more, the line of a round is wanted. Only such bytes need memory.
 pub record NeedsMemory (bytes : List ℕ) : Type 0 where
@@ -20,24 +21,29 @@ abbrev pub IsAnswer : List ℕ → Result WorkloadView WorkError → Type 0
 IsAnswer bytes (Ok w) = IsText w bytes
 IsAnswer bytes (Err e) = ((e ≡ OutOfMemory) × NeedsMemory bytes) ⊎ IsFault bytes e
 
--- The fault of bytes that come from a reader, of which no more are read than the longest text has, and one. A fault
--- of a line is reported where the bytes up to that limit have it, whatever follows them, and else that they are too many.
-abbrev pub IsReadFault : List ℕ → WorkError → Type 0
-IsReadFault bytes Long = (TEXT_BYTES < length bytes) × IsOpen (take TEXT_BYTES bytes)
-IsReadFault bytes e = IsLineFault bytes e × (TEXT_BYTES < length bytes → IsBroken (take TEXT_BYTES bytes) e)
-
 -- what the bytes of a reader that did not fail are read as
 abbrev pub IsReadAnswer : List ℕ → Result WorkloadView WorkError → Type 0
 IsReadAnswer bytes (Ok w) = IsText w bytes
-IsReadAnswer bytes (Err e) = (e ≡ OutOfMemory) ⊎ IsReadFault bytes e
+IsReadAnswer bytes (Err e) = (e ≡ OutOfMemory) ⊎ IsFault bytes e
 
--- what the bytes that were read from a reader show of an error: where the reader failed, no fault stands in them
+-- what the bytes that were read from a reader show of an error: they have it, or the reader failed before they were too many
 abbrev pub IsReadError : List ℕ → WorkError → Type 0
-IsReadError bytes Read = IsOpen bytes
+IsReadError bytes Read = length bytes ≤ TEXT_BYTES
 IsReadError bytes OutOfMemory = Unit {0}
-IsReadError bytes e = IsReadFault bytes e
+IsReadError bytes e = IsFault bytes e
 
 -- and what they show of a result
 abbrev pub IsReading : List ℕ → Result WorkloadView WorkError → Type 0
 IsReading bytes (Ok w) = IsText w bytes
 IsReading bytes (Err e) = IsReadError bytes e
+
+-- for the fault of a line a reader was read to its end
+abbrev pub EndsAt : Option (List ℕ) → WorkError → Type 0
+EndsAt rest (Form n) = IsAtEnd rest
+EndsAt rest (Limit n) = IsAtEnd rest
+EndsAt rest e = Unit {0}
+
+-- and so it was for a workload
+abbrev pub ReadsToItsEnd : Option (List ℕ) → Result WorkloadView WorkError → Type 0
+ReadsToItsEnd rest (Ok w) = IsAtEnd rest
+ReadsToItsEnd rest (Err e) = EndsAt rest e

@@ -1,11 +1,11 @@
-ghost use Rattle.std.specs.Prelude.{◌≡◌, ◌++◌, ◌<◌, ℕ, List, length};
+ghost use Rattle.std.specs.Prelude.{◌≡◌, ◌⊎◌, ◌++◌, ◌<◌, ℕ, List, length};
 ghost use Rattle.workload.specs.declared.error.WorkError.{WorkError};
 ghost use Rattle.workload.specs.Faults.{IsFault, IsLineFault, IsOpen};
 ghost use Rattle.workload.specs.Text.{IsText, WorkloadView};
 
 /// Laws of the text. The function does nothing: its clauses are the laws. Bytes are the text of at most one workload, a
-/// workload has at most one text, bytes have at most one fault, and a text has none. No fault stands in the beginning of a
-/// text, and if it is not all of it, it is not of its form as it is.
+/// workload has at most one text, bytes have at most one fault, and they are a text or have a fault, and never both. No fault
+/// stands in the beginning of a text, and if it is not all of it, it is not of its form as it is.
 #[tactic(auto, using(crate::proofs::Texts::text_laws))]
 pub fn workload_laws()
     ensures one_workload { (v w : WorkloadView) (bytes : List ℕ) → IsText v bytes → IsText w bytes → v ≡ w }
@@ -13,6 +13,7 @@ pub fn workload_laws()
     ensures one_fault { (bytes : List ℕ) (e f : WorkError) → IsFault bytes e → IsFault bytes f → e ≡ f }
     ensures one_line { (bytes : List ℕ) (e f : WorkError) → IsLineFault bytes e → IsLineFault bytes f → e ≡ f }
     ensures no_fault { (w : WorkloadView) (bytes : List ℕ) (e : WorkError) → IsText w bytes → IsFault bytes e → ⊥ }
+    ensures text_or_fault { (bytes : List ℕ) → ((w : WorkloadView) × IsText w bytes) ⊎ ((e : WorkError) × IsFault bytes e) }
     ensures open_front { (w : WorkloadView) (front rest : List ℕ) → IsText w (front ++ rest) → IsOpen front }
     ensures beginning { (w : WorkloadView) (front rest : List ℕ) → IsText w (front ++ rest) → 0 < length rest → (k : ℕ) × IsFault front (WorkError.Form k) }
 {}

@@ -1,11 +1,11 @@
 //! The bytes of a reader, piece by piece.
 
-ghost use Rattle.std.specs.Prelude.{◌≡◌, ◌⊎◌, ◌+◌, ◌<◌, ◌≤◌, List, ℕ, [], length, take, IfErr, IfOk, IfSome, MatchResult, OnOk, Ok};
+ghost use Rattle.std.specs.Prelude.{◌≡◌, ◌⊎◌, ◌+◌, ◌++◌, ◌<◌, ◌≤◌, List, ℕ, [], length, take, IfErr, IfOk, IfSome, MatchResult, OnOk, Ok};
 ghost use Rattle.std.specs.Io.KnownBytes.{Consumes, IsAtEnd, Keeps};
 ghost use Rattle.workload.specs.declared.form.TheConstants.{TEXT_BYTES};
-ghost use Rattle.workload.specs.Faults.{IsOpen};
-ghost use Rattle.workload.specs.Machine.{IsHeld, run, start, state_of};
-ghost use Rattle.workload.specs.Reading.{IsReadError, IsReadFault};
+ghost use Rattle.workload.specs.Faults.{IsFault};
+ghost use Rattle.workload.specs.Machine.{IsHeld, IsJudged, run, start, state_of};
+ghost use Rattle.workload.specs.Reading.{EndsAt, IsReadError};
 
 use crate::error::WorkError;
 use crate::form::TEXT_BYTES;
@@ -19,7 +19,7 @@ const PIECE_LEN: usize = 65_536;
 /// How often a reader is called at most: more often than the longest text has bytes, so that the call ends.
 const CALLS: u32 = 134_217_728;
 
-/// Feeds `judge`, which has no bytes yet, all that `reader` gives to its end.
+/// Feeds `judge`, which has no bytes yet, all that `reader` gives to its end. Past a fault the bytes are only counted.
 ///
 /// # Errors
 ///
@@ -33,9 +33,9 @@ pub(crate) fn feed_all<R: Read, A: Allocator + Copy>(
     requires fresh { state_of judge.old ≡ start [] }
     ensures ended { OnOk result ((text : List ℕ) × (run text (start []) ≡ Ok (state_of judge.new)) × IsHeld judge.new
         × Consumes (R.remaining reader.old) (R.remaining reader.new) text × IsAtEnd (R.remaining reader.new) × (length text ≤ TEXT_BYTES)) }
-    ensures fault { IfErr result (λ e. IfSome (R.remaining reader.old) (λ bytes. (e ≡ WorkError.Read) ⊎ ((e ≡ WorkError.OutOfMemory) ⊎ IsReadFault bytes e))) }
+    ensures fault { IfErr result (λ e. IfSome (R.remaining reader.old) (λ bytes. (e ≡ WorkError.Read) ⊎ ((e ≡ WorkError.OutOfMemory) ⊎ IsFault bytes e))) }
     ensures stopped { IfErr result (λ e. (text : List ℕ) × Consumes (R.remaining reader.old) (R.remaining reader.new) text
-        × (length text ≤ TEXT_BYTES + 1) × IsReadError text e) }
+        × (length text ≤ TEXT_BYTES + 1) × IsReadError text e × EndsAt (R.remaining reader.new) e) }
 {
     let mut piece = Vec::new(alloc);
     piece.resize(PIECE_LEN, 0)?;
@@ -54,25 +54,38 @@ fn feed_from<R: Read, A: Allocator + Copy>(
     requires room { length piece.old ≡ PIECE_LEN }
     ensures ended { OnOk result ((text : List ℕ) × (run text (start []) ≡ Ok (state_of judge.new)) × IsHeld judge.new
         × Consumes (R.remaining reader.old) (R.remaining reader.new) text × IsAtEnd (R.remaining reader.new) × (length text ≤ TEXT_BYTES)) }
-    ensures fault { IfErr result (λ e. IfSome (R.remaining reader.old) (λ bytes. (e ≡ WorkError.Read) ⊎ ((e ≡ WorkError.OutOfMemory) ⊎ IsReadFault bytes e))) }
+    ensures fault { IfErr result (λ e. IfSome (R.remaining reader.old) (λ bytes. (e ≡ WorkError.Read) ⊎ ((e ≡ WorkError.OutOfMemory) ⊎ IsFault bytes e))) }
     ensures stopped { IfErr result (λ e. (text : List ℕ) × Consumes (R.remaining reader.old) (R.remaining reader.new) text
-        × (length text ≤ TEXT_BYTES + 1) × IsReadError text e) }
+        × (length text ≤ TEXT_BYTES + 1) × IsReadError text e × EndsAt (R.remaining reader.new) e) }
 {
     let mut taken = 0;
+    let mut judged = Ok(());
     for _ in 0..CALLS {
         let room = &mut piece[..PIECE_LEN.min(TEXT_BYTES + 1 - taken)];
         let len = read_piece(reader, room)?;
         if len == 0 {
-            return Ok(());
+            return judged;
         }
-        let judged = len.min(TEXT_BYTES - taken);
-        judge.feed(&room[..judged])?;
-        if judged < len {
+        if len > TEXT_BYTES - taken {
             return Err(WorkError::Long);
         }
+        judged = judge_piece(judged, judge, &room[..len]);
         taken += len;
     }
     Err(WorkError::Read)
+}
+
+// Judges a piece, unless a fault was met before it.
+fn judge_piece<A: Allocator + Copy>(
+    judged: Result<(), WorkError>,
+    judge: &mut Judge<A>,
+    piece: &[u8],
+) -> Result<(), WorkError>
+    requires held { OnOk judged (IsHeld judge.old) }
+    ensures judged { (text : List ℕ) → IsJudged text judge.old judged → IsJudged (text ++ piece.now) judge.new result }
+{
+    judged?;
+    judge.feed(piece)
 }
 
 // One call of the reader. Any error is a failure: the call is not made again.

@@ -1,9 +1,9 @@
-ghost use Rattle.std.specs.Prelude.{◌≡◌, ◌⊎◌, ◌+◌, ◌≤◌, List, ℕ, length, IfSome, IsErrOf, MatchResult, OnOk, Err};
-ghost use Rattle.std.specs.Io.KnownBytes.{Consumes, IsAtEnd};
+ghost use Rattle.std.specs.Prelude.{◌≡◌, ◌⊎◌, ◌+◌, ◌≤◌, List, ℕ, length, IfSome, MatchResult, Err};
+ghost use Rattle.std.specs.Io.KnownBytes.{Consumes};
 ghost use Rattle.workload.specs.declared.error.WorkError.{WorkError};
 ghost use Rattle.workload.specs.declared.form.TheConstants.{TEXT_BYTES};
-ghost use Rattle.workload.specs.Faults.{IsFault, IsOpen};
-ghost use Rattle.workload.specs.Reading.{IsAnswer, IsReadAnswer, IsReading};
+ghost use Rattle.workload.specs.Faults.{IsFault};
+ghost use Rattle.workload.specs.Reading.{IsAnswer, IsReadAnswer, IsReading, ReadsToItsEnd};
 ghost use Rattle.workload.specs.Text.{IsText, WorkloadView};
 
 use crate::error::WorkError;
@@ -61,19 +61,18 @@ impl<A: Allocator + Copy> Workload<A> {
         judge.end()
     }
 
-    /// The workload of the text that a reader gives, to its end. Reads to the end, to the first fault that stands whatever
-    /// follows, or to the byte past the longest text.
+    /// The workload of the text that a reader gives, to its end. Reads to the end, or to the byte past the longest text;
+    /// past a fault it keeps nothing of what it reads.
     ///
     /// # Errors
     ///
-    /// The fault of the first faulty line, where it stands in the first 67,108,864 bytes whatever follows them, or else
-    /// [`Long`](WorkError::Long) where more bytes come; [`Read`](WorkError::Read) where the reader fails, with any
-    /// error, or has been called 134,217,728 times; and [`OutOfMemory`](WorkError::OutOfMemory) where a request
-    /// for memory is refused. What was read before the reader failed has no fault that stands whatever follows.
+    /// Those of [`parse`](Workload::parse), and [`Read`](WorkError::Read) where the reader fails before the byte past the
+    /// longest text, with any error, or has been called 134,217,728 times. [`OutOfMemory`](WorkError::OutOfMemory) may be
+    /// returned of any text, since the bytes that are asked for at once need room.
     pub fn read_from<R: Read>(alloc: A, reader: &mut R) -> Result<Self, WorkError>
         ensures read { (bytes : List ℕ) × Consumes (R.remaining reader.old) (R.remaining reader.new) bytes × (length bytes ≤ TEXT_BYTES + 1) × IsReading bytes result }
         ensures known { IfSome (R.remaining reader.old) (λ bytes. (result ≡ Err WorkError.Read) ⊎ IsReadAnswer bytes result) }
-        ensures at_end { OnOk result (IsAtEnd (R.remaining reader.new)) }
+        ensures at_end { ReadsToItsEnd (R.remaining reader.new) result }
     {
         let mut judge = Judge::new(alloc);
         feed_all(alloc, &mut judge, reader)?;

@@ -5,7 +5,8 @@ use Rattle.std.specs.Io.KnownBytes.{Consumes}
 use Rattle.rts_run.specs.Outcomes.{OutcomeView}
 use Rattle.run_text.specs.Text.{outcome_text}
 use Rattle.tally.specs.Tallies.{TallyView}
-use Rattle.workload.specs.Reading.{IsReadAnswer, IsReadError, IsReadFault}
+use Rattle.workload.specs.Faults.{IsFault}
+use Rattle.workload.specs.Reading.{EndsAt, IsReadAnswer, IsReadError}
 use Rattle.workload.specs.Text.{WorkloadView, IsText}
 use Rattle.workload.specs.declared.error.WorkError.{WorkError}
 use Rattle.workload.specs.declared.error.WorkError.TheVariants as Why
@@ -27,7 +28,7 @@ abbrev failed : WorkError → Result WorkloadView WorkError
 failed e = Err e
 
 -- a fault that is told of the workload
-known_fault : (all : Option (List ℕ)) (e : WorkError) → e ≢ Why.OutOfMemory → IfSome all (λ xs. (failed e ≡ failed Why.Read) ⊎ IsReadAnswer xs (failed e)) → IfSome all (λ xs. (e ≡ Why.Read) ⊎ IsReadFault xs e)
+known_fault : (all : Option (List ℕ)) (e : WorkError) → e ≢ Why.OutOfMemory → IfSome all (λ xs. (failed e ≡ failed Why.Read) ⊎ IsReadAnswer xs (failed e)) → IfSome all (λ xs. (e ≡ Why.Read) ⊎ IsFault xs e)
 known_fault None e other known = tt
 known_fault (Some xs) e other (inl is) = inl (cc)
 known_fault (Some xs) e other (inr (inl is)) = absurd (other is)
@@ -56,11 +57,11 @@ module _ {A : Type 0} (fits : TallyView → Type 0) (bytes rest old new : Option
 
 module _ (A : Type 0) (fits : TallyView → Type 0) (bytes rest old new : Option (List ℕ)) where
   -- a workload was refused
-  pub ends_refused : (text : List ℕ) (fault : WorkError) (ended : Ended) → Consumes bytes rest text → IsReadError text fault → IfSome bytes (λ xs. (failed fault ≡ failed Why.Read) ⊎ IsReadAnswer xs (failed fault)) → ReportsFault fault old new ended → EndsDrive {A = A} fits bytes rest old new None ended
-  ends_refused text fault ended consumed told known (inr memory) = ends_memory {A = A} fits bytes rest old new None ended memory
-  ends_refused text fault ended consumed told known (inl (other, inl (is, gone))) =
-      let refusal : IsRefusal bytes rest fault = record { text = text; consumed = consumed; told = told; known = known_fault bytes fault other known } in
+  pub ends_refused : (text : List ℕ) (fault : WorkError) (ended : Ended) → Consumes bytes rest text → IsReadError text fault → EndsAt rest fault → IfSome bytes (λ xs. (failed fault ≡ failed Why.Read) ⊎ IsReadAnswer xs (failed fault)) → ReportsFault fault old new ended → EndsDrive {A = A} fits bytes rest old new None ended
+  ends_refused text fault ended consumed told at known (inr memory) = ends_memory {A = A} fits bytes rest old new None ended memory
+  ends_refused text fault ended consumed told at known (inl (other, inl (is, gone))) =
+      let refusal : IsRefusal bytes rest fault = record { text = text; consumed = consumed; told = told; end_ = at; known = known_fault bytes fault other known } in
       subst (λ e. EndsDrive {A = A} fits bytes rest old new None e) (sym is) (refl, refusal, gone)
-  ends_refused text fault ended consumed told known (inl (other, inr (is, part))) =
-      let refusal : IsRefusal bytes rest fault = record { text = text; consumed = consumed; told = told; known = known_fault bytes fault other known } in
+  ends_refused text fault ended consumed told at known (inl (other, inr (is, part))) =
+      let refusal : IsRefusal bytes rest fault = record { text = text; consumed = consumed; told = told; end_ = at; known = known_fault bytes fault other known } in
       subst (λ e. EndsDrive {A = A} fits bytes rest old new None e) (sym is) (fault_line fault, inl (fault, refusal, refl), part)

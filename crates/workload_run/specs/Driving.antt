@@ -6,7 +6,8 @@ use Rattle.rts_run.specs.Outcomes.{IsOutcome, OutcomeView}
 use Rattle.run_text.specs.Text.{outcome_text}
 use Rattle.streams.specs.Writing.{WritesPrefix}
 use Rattle.tally.specs.Tallies.{TallyView, tally_pack, tally_step}
-use Rattle.workload.specs.Reading.{IsReadError, IsReadFault}
+use Rattle.workload.specs.Faults.{IsFault}
+use Rattle.workload.specs.Reading.{EndsAt, IsReadError}
 use Rattle.workload.specs.Text.{WorkloadView, IsText}
 use Rattle.workload.specs.declared.error.WorkError.{WorkError}
 use Rattle.workload.specs.declared.error.WorkError.TheVariants.{Read}
@@ -28,13 +29,14 @@ pub record IsRunOf {A : Type 0} (fits : TallyView → Type 0) (bytes : Option (L
   pub told : text ≡ outcome_text workload.chares o
 
 -- The fault of the workload that is reported: that of the bytes that were read, before which the reader had the bytes and has
--- the rest now, or that the reader failed while no fault stood in them; and where the bytes of the reader are known, it
--- failed, or that is the fault of these.
+-- the rest now, or that the reader failed before they were too many. For the fault of a line it was read to its end. Where the
+-- bytes of the reader are known, it failed, or that is the fault of these.
 pub record IsRefusal (bytes rest : Option (List ℕ)) (e : WorkError) : Type 0 where
   pub text : List ℕ
   pub consumed : Consumes bytes rest text
   pub told : IsReadError text e
-  pub known : IfSome bytes (λ all. (e ≡ Read) ⊎ IsReadFault all e)
+  pub end_ : EndsAt rest e
+  pub known : IfSome bytes (λ all. (e ≡ Read) ⊎ IsFault all e)
 
 module _ {A : Type 0} (fits : TallyView → Type 0) (bytes rest old new : Option (List ℕ)) where
   -- what there is to write: what the run left, or without a run the fault of the workload

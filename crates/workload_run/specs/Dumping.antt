@@ -8,6 +8,7 @@ use Rattle.dump_format.specs.Text.{IsLbd1, IsLbd2}
 use Rattle.dump_format.specs.declared.error.DumpError.{DumpError}
 use Rattle.dump_format.specs.declared.error.DumpError.TheVariants.{OutOfMemory, Wide, Write}
 use Rattle.dump_writing.specs.Narrow.{IsFirstWide}
+use Rattle.dump_writing.specs.Writing.{Puts}
 use Rattle.workload_run.specs.declared.round_dump.DumpFormat.{DumpFormat}
 use Rattle.workload_run.specs.declared.round_dump.DumpFormat.TheVariants.{Lbd1, Lbd2}
 use Rattle.workload_run.specs.declared.dumps.NotWritten.{NotWritten}
@@ -25,6 +26,16 @@ IsRoundText Lbd2 s d text = IsLbd2 (recorded s d) text
 abbrev pub MayFail : DumpError → DumpFormat → Taken → Type 0
 MayFail (Wide i) Lbd1 s = IsFirstWide s.loads i
 MayFail e format s = (e ≡ Write) ⊎ (e ≡ OutOfMemory)
+
+-- What a writer holds after a round was written to it, and why it was not. It took the whole text or, where it failed, a
+-- prefix of it, and nothing where no dump can hold the decision. Nothing was written either where a load is too great, which is
+-- reported in the format LBD1 alone, or where memory was refused, which only LBD2 asks for.
+abbrev pub PutsRound : {A : Type 0} → DumpFormat → Taken → Decision A → Option (List ℕ) → Option (List ℕ) → Result ⊤ DumpError → Type 0
+PutsRound format s d old new (Err (Wide i)) = (format ≡ Lbd1) × IsFirstWide s.loads i × (new ≡ old)
+PutsRound format s d old new (Err OutOfMemory) = (format ≡ Lbd2) × (new ≡ old)
+PutsRound format s d old new (Err Write) =
+    ((text : List ℕ) × IsRoundText format s d text × Puts old new text (Err Write)) ⊎ (new ≡ old)
+PutsRound format s d old new result = (text : List ℕ) × IsRoundText format s d text × Puts old new text result
 
 -- the name of the file of round r
 abbrev pub file_name : List ℕ → ℕ → List ℕ

@@ -1,5 +1,6 @@
 pub mod Driving
 pub mod Dumping
+pub mod Finishing
 pub mod Internal
 pub mod Lines
 pub mod Statuses

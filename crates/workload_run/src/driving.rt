@@ -34,7 +34,8 @@ const PROBE_WORKERS: u32 = 4;
 /// Reads a workload, runs its tallies on its PEs, and writes the text of what that left, or the one line of a fault, and
 /// nothing else. A worker gives up after so many idle turns in a row, of 1 to [`Limits::IDLE_TURNS`].
 ///
-/// The workload is judged as it is read, so nothing is read on past a fault. What was read is given up before the run.
+/// The workload is judged as it is read. Past a fault of a line it is read on, to its end or the byte past the longest text,
+/// since a text that is too long is reported as that. What was read is given up before the run.
 pub fn drive<T: Threads + Wait + Sync, R: Read, W: Write, A: Allocator + Copy + Send + Sync>(
     rt: &T,
     alloc: A,
@@ -73,7 +74,10 @@ pub fn drive_file<
     ensures opened { IfOk file
         (λ file. (rest : Option (List ℕ))
         × EndsDrive ⟦<Tally<A> as Pup<A>>⟧.fits (R.remaining file) rest (W.contents writer.old) (W.contents writer.new) result.0.outcome result.0.ended) }
+    ensures outcome { IfOk file (λ file. (rest : Option (List ℕ))
+        × IsOfWorkload ⟦<Tally<A> as Pup<A>>⟧.fits (R.remaining file) rest (W.contents writer.old) (W.contents writer.new) result.0.outcome) }
     ensures unopened { IfErr file (λ _. ReportsUnread (W.contents writer.old) (W.contents writer.new) result.0.ended) }
+    ensures no_outcome { IfErr file (λ _. result.0.outcome ≡ None) }
     ensures reason { IfErr file (λ reason. result.1 ≡ Some reason) }
 {
     match file {

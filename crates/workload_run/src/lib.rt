@@ -4,7 +4,7 @@
 //!   looks on: an [`Onlooker`].
 //! - [`Driven`]: what came of it: how it [`Ended`], the status for that, and the rounds.
 //! - [`write_round`]: the dump of a round, in a [`DumpFormat`]; [`write_dumps`]: that of each round, to a file of its own of
-//!   some [`DumpFiles`].
+//!   some [`DumpFiles`]; [`write_asked`]: the same where it is asked for, with the status of it all.
 //!
 //! ```
 //! use workload_run::{Ended, drive};
@@ -22,6 +22,7 @@ mod driven;
 mod driving;
 mod dumps;
 mod ended;
+mod finishing;
 mod line;
 mod onlooker;
 mod round_dump;
@@ -31,5 +32,6 @@ pub use driven::Driven;
 pub use driving::{drive, drive_file};
 pub use dumps::{DumpFiles, NotWritten, write_dumps};
 pub use ended::Ended;
+pub use finishing::write_asked;
 pub use onlooker::Onlooker;
 pub use round_dump::{DumpFormat, write_round};

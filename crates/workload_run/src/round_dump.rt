@@ -1,7 +1,6 @@
-ghost use Rattle.std.specs.Prelude.{◌≡◌, ◌⊎◌, ℕ, List, IfOk, IfErr, IsFalse, IsTrue, OnOk};
+ghost use Rattle.std.specs.Prelude.{◌≡◌, ◌⊎◌, IfOk, IfErr, IsFalse, IsTrue};
 ghost use Rattle.workload_run.specs.declared.round_dump.DumpFormat.TheVariants.{Lbd1, Lbd2};
-ghost use Rattle.std.specs.Io.KnownBytes.{Appends};
-ghost use Rattle.workload_run.specs.Dumping.{IsRoundText, MayFail, recorded};
+ghost use Rattle.workload_run.specs.Dumping.{MayFail, PutsRound, recorded};
 
 use dump_format::{Dump, DumpError, Recorded};
 use dump_writing::{write_dump, write_to};
@@ -37,17 +36,19 @@ impl DumpFormat {
 ///
 /// # Errors
 ///
-/// - [`Wide`](DumpError::Wide) with the first element whose load is too great for LBD1.
-/// - [`OutOfMemory`](DumpError::OutOfMemory), which only LBD2 asks for: it is written from a copy of the round.
+/// - [`Wide`](DumpError::Wide) with the first element whose load is too great, in the format LBD1.
+/// - [`OutOfMemory`](DumpError::OutOfMemory), in the format LBD2: it is written from a copy of the round.
 /// - [`Write`](DumpError::Write) where the writer fails, with any error, or takes nothing; a prefix has then been written. Also
 ///   where no [`Dump`] can hold the decision, which is never one of a run.
+///
+/// The first two come before the first byte.
 pub fn write_round<W: Write, A: Allocator + Copy>(
     writer: &mut W,
     snapshot: &Snapshot<A>,
     decision: &Decision<A>,
     format: DumpFormat,
 ) -> Result<(), DumpError>
-    ensures written { OnOk result ((text : List ℕ) × IsRoundText format snapshot.now decision.now text × Appends (W.contents writer.old) (W.contents writer.new) text) }
+    ensures written { PutsRound format snapshot.now decision.now (W.contents writer.old) (W.contents writer.new) result }
     ensures fault { IfErr result (λ e. MayFail e format snapshot.now) }
 {
     match format {

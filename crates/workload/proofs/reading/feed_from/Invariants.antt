@@ -1,11 +1,11 @@
-use Rattle.std.proofs.Common.{◌≡◌, ℕ, ◌≤◌, List, [], length, Ok}
+use Rattle.std.proofs.Common.{◌≡◌, ℕ, ◌≤◌, List, length}
 use Rattle.std.specs.Io.KnownBytes.{Consumes}
 use Rattle.workload.specs.declared.form.TheConstants.{TEXT_BYTES}
 use Rattle.workload.specs.declared.reading.TheConstants.{PIECE_LEN}
-use Rattle.workload.specs.Machine.{IsHeld, run, start, state_of}
+use Rattle.workload.specs.Machine.{IsJudged}
 use Rattle.workload.proofs.reading.feed_from.Given as goal
 
 abbrev pub invariant-loop : goal.invariant-loop
 invariant-loop g l =
-    (text : List ℕ) × Consumes (g.R.Read.remaining l.fn.reader) (g.R.Read.remaining l.reader) text × (run text (start []) ≡ Ok (state_of l.judge)) × IsHeld l.judge ×
+    (text : List ℕ) × Consumes (g.R.Read.remaining l.fn.reader) (g.R.Read.remaining l.reader) text × IsJudged text l.judge l.judged ×
     (length text ≡ l.taken) × (l.taken ≤ TEXT_BYTES) × (length l.piece ≡ PIECE_LEN)

@@ -1,12 +1,18 @@
 use Rattle.std.proofs.lemmas.Result.{err_from_is_err_and}
 use Rattle.workload.specs.Machine.{state_of}
-use Rattle.workload.proofs.Pieces.{all_answered, end_shows}
+use Rattle.workload.proofs.Pieces.{all_answered, end_ends, end_shows}
 use Rattle.workload.proofs.workload.Workload.read_from.Goals as goal
 
 pub returns-in_err-feed_all-clause-read : goal.returns-in_err-feed_all-clause-read
 returns-in_err-feed_all-clause-read g c =
     let told = err_from_is_err_and c.from_residual.result c.from_residual.ensures.1 in
-    rw (told.1, told.2) c.in_err-feed_all.ensures.stopped
+    let stopped = c.in_err-feed_all.ensures.stopped in
+    rw (told.1, told.2) (stopped.0, stopped.1, stopped.2, stopped.3)
+
+pub returns-in_err-feed_all-clause-at_end : goal.returns-in_err-feed_all-clause-at_end
+returns-in_err-feed_all-clause-at_end g c =
+    let told = err_from_is_err_and c.from_residual.result c.from_residual.ensures.1 in
+    rw (told.1, told.2) c.in_err-feed_all.ensures.stopped.4
 
 pub returns-clause-read : goal.returns-clause-read
 returns-clause-read g c =
@@ -19,3 +25,7 @@ returns-clause-known g c =
     let ended = c.in_ok-feed_all.ensures.ended in
     all_answered (g.R.Read.remaining c.args.reader.now) (g.R.Read.remaining c.feed_all.new.reader) ended.0 (state_of c.feed_all.new.judge) c.end.result
     ended.3 ended.4 ended.1 ended.5 c.end.ensures.ends
+
+pub returns-clause-at_end : goal.returns-clause-at_end
+returns-clause-at_end g c =
+    end_ends (g.R.Read.remaining c.feed_all.new.reader) (state_of c.feed_all.new.judge) c.end.result c.in_ok-feed_all.ensures.ended.4 c.end.ensures.ends

@@ -2,7 +2,7 @@ use Rattle.std.proofs.Common.{◌++◌, take, slice_index, ap, subst, sym, ◌�
 use Rattle.std.proofs.lemmas.List.{take_more}
 use Rattle.dump_report.specs.Reports.{ArePlans}
 use Rattle.dump_report.proofs.Plans.{plans_more}
-use Rattle.dump_report.proofs.snapshot_text.push_plans.Goals as goal
+use Rattle.dump_report.proofs.dump_text.push_plans.Goals as goal
 
 pub loop-pes-preserved : goal.loop-pes-preserved
 loop-pes-preserved g c =
@@ -13,7 +13,7 @@ loop-pes-preserved g c =
     let procs = c.args.procs.now in
     let i = c.loop-pes.pes-index in
     let so_far = c.loop-pes.invariant in
-    let said = c.in_ok-push_plan.ensures in
+    let said = c.in_ok-push_plan.ensures.plan in
     let are = plans_more A style name s (take i procs) (slice_index procs i) so_far.0 said.0 so_far.1 said.1 in (
       so_far.0 ++ said.0,
       subst (λ numbers. ArePlans A style name s numbers (so_far.0 ++ said.0)) (sym (take_more procs i 0 c.loop-pes-test.true)) are,

@@ -1,6 +1,6 @@
 use Rattle.std.proofs.Common.{◌≡◌, ℕ, List, ◌++◌, take}
 use Rattle.dump_report.specs.Reports.{ArePlans}
-use Rattle.dump_report.proofs.snapshot_text.push_plans.Given as goal
+use Rattle.dump_report.proofs.dump_text.push_plans.Given as goal
 
 abbrev pub invariant-loop-pes : goal.invariant-loop-pes
 invariant-loop-pes g l =
