@@ -1,8 +1,8 @@
 -- Prices that the table of the blocks bounds are bounded by the costs of the blocks.
-use Rattle.std.proofs.Common.{◌≡◌, ◌∙◌, ℕ, zero, suc, ◌+◌, ◌*◌, ◌/◌, ◌%◌, ◌<◌, ◌≤◌, inl, inr, max, List, [], ◌∷◌, length, slice_index, ℤ, arith, ap, sym, subst}
+use Rattle.std.proofs.Common.{◌≡◌, ◌∙◌, ℕ, suc, ◌*◌, ◌/◌, ◌%◌, ◌<◌, ◌≤◌, inl, inr, List, [], ◌∷◌, length, slice_index, ℤ, arith, ap, sym, subst}
 use Rattle.std.proofs.lemmas.Bool.{cases_lt}
 use Rattle.std.proofs.Math.Nat.{mod-add-div, mod-lt, mul-pos, div-lt_iff_lt-mul}
-use Rattle.lb_certificates.specs.Naming.{block_cost, blocks_between}
+use Rattle.lb_certificates.specs.Naming.{block_cost}
 use Rattle.block_assignment.specs.Table.{Table, AreWithin, IsTable, IsTableOf, cost_at, greatest}
 use Rattle.block_assignment.proofs.Prices.{cost_bounded}
 use Rattle.lb_strategy.specs.Decisions.{IsGreatestCost, ArePricesBounded}

@@ -46,17 +46,22 @@ block_inside n blocks cuts i division inside =
       ]
     ]
 
-pub place_from_right : {A : Type 0} (loads : List ℕ) (sizes : List (ℕ × ℕ)) (p : ℕ) (d : Decision A) → IsRight loads sizes p d → (i : ℕ) → i < length sizes → HasPlace d.division.cuts d.naming i
-place_from_right loads sizes p d right i inside =
-    let division : IsDivision 0 (length sizes) (blocks_between d.division.cuts) d.division.cuts = right.named.blocks.divides in
-    let block : block_of d.division.cuts i < blocks_between d.division.cuts = block_inside (length sizes) (blocks_between d.division.cuts) d.division.cuts i division inside in
+-- an element of named blocks has a place
+pub place_from_named : (sizes : List (ℕ × ℕ)) (cuts names : List ℕ) (u v : List ℤ) → IsNamed sizes cuts names u v → (i : ℕ) → i < length sizes → HasPlace cuts names i
+place_from_named sizes cuts names u v named i inside =
+    let division : IsDivision 0 (length sizes) (blocks_between cuts) cuts = named.blocks.divides in
+    let block : block_of cuts i < blocks_between cuts = block_inside (length sizes) (blocks_between cuts) cuts i division inside in
     record {
       starts = division.starts;
       ordered = division.ordered;
       inside = omega (arith, inside, division.ends);
-      named = omega (arith, block, right.named.naming.counted);
-      pe = omega (arith, right.named.naming.below (block_of d.division.cuts i) block, right.named.blocks.few_blocks);
+      named = omega (arith, block, named.naming.counted);
+      pe = omega (arith, named.naming.below (block_of cuts i) block, named.blocks.few_blocks);
     }
+
+pub place_from_right : {A : Type 0} (loads : List ℕ) (sizes : List (ℕ × ℕ)) (p : ℕ) (d : Decision A) → IsRight loads sizes p d → (i : ℕ) → i < length sizes → HasPlace d.division.cuts d.naming i
+place_from_right loads sizes p d right i inside =
+    place_from_named sizes d.division.cuts d.naming d.prices.u d.prices.v right.named i inside
 
 -- a certified division of the loads divides the elements
 pub blocks_from_certified : {A : Type 0} (loads : List ℕ) (sizes : List (ℕ × ℕ)) (p : ℕ) (d : Division A) → IsCertified loads p d → length loads ≡ length sizes → 1 ≤ p → p ≤ PES → AreBlocks sizes d.cuts

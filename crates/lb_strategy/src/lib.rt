@@ -4,6 +4,7 @@
 //! - [`Decision`], with its [`Moves`]: what a step decides.
 //! - [`check`]: accepts a decision exactly where every part of it is right.
 //! - [`plan`]: decides, or returns a [`PlanError`]; [`plan_with`] does so with several threads.
+//! - [`name_cuts`] and [`moves_of`]: the names of any blocks, and the moves that they ask for.
 //!
 //! ```
 //! use chare_index::{Index, Pe};
@@ -33,5 +34,5 @@ mod planning;
 pub use checking::check;
 pub use decision::Decision;
 pub use error::PlanError;
-pub use moves::Moves;
-pub use planning::{plan, plan_with};
+pub use moves::{Moves, moves_of};
+pub use planning::{name_cuts, plan, plan_with};

@@ -158,13 +158,13 @@ fn count_moves(sizes: &[(u32, Pe)], cuts: &[u32], names: &[u32]) -> usize
     count
 }
 
-/// The moves that a naming asks for: of each element whose present PE is not the name of its block.
+/// The moves that a naming asks for: of each element whose present PE is not the name of its block, in order of index.
 ///
 /// # Errors
 ///
 /// Out of memory, where the list was refused.
 #[tactic(auto, using(crate::proofs::MoveLists::moves_more))]
-pub(crate) fn moves_of<A: Allocator>(
+pub fn moves_of<A: Allocator>(
     alloc: A,
     sizes: &[(u32, Pe)],
     cuts: &[u32],
@@ -173,7 +173,7 @@ pub(crate) fn moves_of<A: Allocator>(
     requires blocks { AreBlocks sizes.now cuts.now }
     requires naming { IsNaming (blocks_between cuts.now) names.now }
     requires sizes { IsSizes sizes.now }
-    ensures { IfOk result (λ moves. moves ≡ moves_below sizes.now cuts.now names.now (length sizes.now)) }
+    ensures moves { IfOk result (λ moves. moves ≡ moves_below sizes.now cuts.now names.now (length sizes.now)) }
 {
     let mut moves = Vec::with_capacity(alloc, count_moves(sizes, cuts, names))?;
     for b in 0..names.len() {

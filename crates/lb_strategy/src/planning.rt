@@ -99,7 +99,7 @@ fn complete<A: Allocator + Copy, B: Allocator>(
     ensures only_memory { IfErr result (λ error. error ≡ OutOfMemory) }
 {
     let sizes = snapshot.sizes();
-    let (naming, prices, moved) = named(alloc, sizes, &division.cuts)?;
+    let (naming, prices, moved) = name_cuts(alloc, sizes, &division.cuts)?;
     let pairs = sizes.as_slice();
     let moves = moves_of(alloc, pairs, division.cuts.as_slice(), naming.as_slice())?;
     Ok(Decision {
@@ -111,9 +111,14 @@ fn complete<A: Allocator + Copy, B: Allocator>(
     })
 }
 
-// The least naming of these blocks, with its prices, and the bytes that it moves. The table is dropped on return, so its
-// memory is free for the longest list of a decision, that of the moves.
-fn named<A: Allocator + Copy, B: Allocator>(
+/// The names of the blocks between these cuts, with their prices, and the bytes that they move: of the namings that move the
+/// fewest bytes the first in dictionary order. The cuts may be those of any division into 1 to 256 blocks.
+///
+/// # Errors
+///
+/// [`OutOfMemory`](PlanError::OutOfMemory) where a list was refused.
+// The table of costs is dropped on return, so its memory is free for the longest list of a decision, that of the moves.
+pub fn name_cuts<A: Allocator + Copy, B: Allocator>(
     alloc: A,
     sizes: &Sizes<B>,
     cuts: &Cuts<A>,

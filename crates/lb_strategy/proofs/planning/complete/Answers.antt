@@ -15,7 +15,7 @@ pub returns-clause-right : goal.returns-clause-right
 returns-clause-right g c =
     let named : IsNamed c.args.snapshot.now.sizes c.args.division.cuts c.in_ok-naming.naming c.in_ok-naming.prices.u c.in_ok-naming.prices.v = rw (← c.sizes-sizes.ensures.value) c.in_ok-naming.ensures.named in
     let moved : c.in_ok-naming.moved ≡ bytes_moved c.args.snapshot.now.sizes c.args.division.cuts c.in_ok-naming.naming = search (rules, c.in_ok-naming.ensures) in
-    let moves : c.in_ok-moves.moves ≡ moves_below c.args.snapshot.now.sizes c.args.division.cuts c.in_ok-naming.naming (length c.args.snapshot.now.sizes) = first_of (cc (c.in_ok-moves.ensures), search (rules, c.in_ok-moves.ensures)) in
+    let moves : c.in_ok-moves.moves ≡ moves_below c.args.snapshot.now.sizes c.args.division.cuts c.in_ok-naming.naming (length c.args.snapshot.now.sizes) = first_of (cc (c.in_ok-moves.ensures.moves), search (rules, c.in_ok-moves.ensures.moves)) in
     record {
       division = c.requires.certified;
       named = named;
