@@ -6,7 +6,7 @@ pub mod FirstFlaws
 pub mod FlawNumbers
 pub mod HeldBytes
 pub mod Limits
-mod Nearest
+pub mod Nearest
 pub mod Orders
 pub mod Steeps
 pub mod Verdicts

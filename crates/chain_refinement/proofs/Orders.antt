@@ -111,7 +111,7 @@ cost_behind sizes names present b x cut apart same behind within =
     )
 
 -- the block that contains an element
-block_around : (cuts : List ℕ) (blocks i : ℕ) → slice_index cuts 0 ≤ i → i < slice_index cuts blocks → (b : ℕ) × (b < blocks) × (slice_index cuts b ≤ i) × (i < slice_index cuts (b + 1))
+pub block_around : (cuts : List ℕ) (blocks i : ℕ) → slice_index cuts 0 ≤ i → i < slice_index cuts blocks → (b : ℕ) × (b < blocks) × (slice_index cuts b ≤ i) × (i < slice_index cuts (b + 1))
 block_around cuts zero i from to = absurd (omega arith)
 block_around cuts (suc blocks) i from to =
     elim (cases_lt i (slice_index cuts blocks)) [

@@ -20,7 +20,12 @@ pub record IsPresentOrder (sizes : List (ℕ × ℕ)) (pes : ℕ) (names present
   pub idle_last : (b : ℕ) → b + 1 < pes → slice_index present b ≡ slice_index present (b + 1) → slice_index present (b + 1) ≡ slice_index present (b + 1 + 1)
   pub idle_rise : (b : ℕ) → b + 1 < pes → slice_index present b ≡ slice_index present (b + 1) → slice_index names b < slice_index names (b + 1)
 
--- no element before the cut between block b and the next stands on the next block's PE, and none from it on on block b's
-pub record AreApartAt (sizes : List (ℕ × ℕ)) (names present : List ℕ) (b : ℕ) : Type 0 where
-  pub before : (i : ℕ) → i < slice_index present (b + 1) → i < length sizes → place_of sizes i ≢ slice_index names (b + 1)
-  pub behind : (i : ℕ) → slice_index present (b + 1) ≤ i → i < length sizes → place_of sizes i ≢ slice_index names b
+-- before a cut no element stands on the PE behind it, and from it on none on the PE before it
+pub record ArePartsApart (sizes : List (ℕ × ℕ)) (from to cut : ℕ) : Type 0 where
+  pub before : (i : ℕ) → i < cut → i < length sizes → place_of sizes i ≢ to
+  pub behind : (i : ℕ) → cut ≤ i → i < length sizes → place_of sizes i ≢ from
+
+-- the same at the present cut between block b and the next
+abbrev pub AreApartAt : List (ℕ × ℕ) → List ℕ → List ℕ → ℕ → Type 0
+AreApartAt sizes names present b =
+    ArePartsApart sizes (slice_index names b) (slice_index names (b + 1)) (slice_index present (b + 1))

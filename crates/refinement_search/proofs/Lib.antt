@@ -1,0 +1,11 @@
+mod CostsBack
+mod Found
+mod LeastStarts
+mod Levels
+mod Nearest
+mod Piles
+mod Readings
+mod RowPlaces
+mod Tables
+mod Within
+mod WrittenRows
