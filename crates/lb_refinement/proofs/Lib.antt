@@ -1,0 +1,3 @@
+mod KeptWhole
+mod OneRefined
+mod RefinedCases

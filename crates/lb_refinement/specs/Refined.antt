@@ -1,0 +1,80 @@
+-- Decisions within a tolerance.
+use Rattle.std.specs.Prelude.{◌≡◌, ◌⊎◌, ℕ, ◌<◌, ◌≤◌, List, length}
+use Rattle.chain_partition.specs.Chosen.{IsChosen}
+use Rattle.lb_certificates.specs.Naming.{blocks_between, bytes_moved, IsLeastNaming, IsNamed}
+use Rattle.lb_strategy.specs.Decisions.{IsRight}
+use Rattle.lb_strategy.specs.Moves.{moves_below}
+use Rattle.lb_strategy.specs.declared.decision.Decision.{Decision}
+use Rattle.chain_refinement.specs.Orders.{IsPresentOrder}
+use Rattle.chain_refinement.specs.Refinement.{AreNearest, IsRefinement, refined_limit}
+use Rattle.present_order.specs.NoOrders.{HasNoOrder}
+use Rattle.lb_refinement.specs.declared.refined.Kept.{Kept}
+use Rattle.lb_refinement.specs.declared.refined.Refined.{Refined}
+use Rattle.lb_refinement.specs.declared.refined.Refined.TheVariants.{Near, Planned}
+
+-- Cuts near the present ones: in the order in which the PEs stand, of all cuts within the tolerance those that move the
+-- fewest bytes and of these the nearest; then the least naming of the blocks between them.
+pub record IsKept {A : Type 0} (loads : List ℕ) (sizes : List (ℕ × ℕ)) (pes tolerance : ℕ) (k : Kept A) : Type 0 where
+  pub order : IsPresentOrder sizes pes k.refinement.order k.refinement.present
+  pub chosen : IsChosen loads pes k.refinement.least
+  pub tolerance_is : k.refinement.tolerance ≡ tolerance
+  pub right : IsRefinement loads sizes pes k.refinement
+  pub nearest : AreNearest loads sizes k.refinement.order k.refinement.present (refined_limit k.refinement) k.refinement.cuts
+  pub named : IsNamed sizes k.refinement.cuts k.naming k.prices.u k.prices.v
+  pub least_naming : IsLeastNaming sizes k.refinement.cuts pes k.naming
+  pub moved_is : k.moved ≡ bytes_moved sizes k.refinement.cuts k.naming
+  pub moves_are : k.moves ≡ moves_below sizes k.refinement.cuts k.naming (length sizes)
+
+-- the names of the blocks of a refinement are the least naming, and the bytes and the moves are theirs
+pub record HasNames {A : Type 0} (sizes : List (ℕ × ℕ)) (k : Kept A) : Type 0 where
+  pub named : IsNamed sizes k.refinement.cuts k.naming k.prices.u k.prices.v
+  pub least_naming : IsLeastNaming sizes k.refinement.cuts (blocks_between k.refinement.cuts) k.naming
+  pub moved_is : k.moved ≡ bytes_moved sizes k.refinement.cuts k.naming
+  pub moves_are : k.moves ≡ moves_below sizes k.refinement.cuts k.naming (length sizes)
+
+-- the decision of a plan, which the loads, the sizes and the number of PEs determine but for its prices
+pub record IsPlanned {A : Type 0} (loads : List ℕ) (sizes : List (ℕ × ℕ)) (pes : ℕ) (d : Decision A) : Type 0 where
+  pub right : IsRight loads sizes pes d
+  pub chosen : IsChosen loads pes d.division
+  pub least_naming : IsLeastNaming sizes d.division.cuts pes d.naming
+
+-- The refined decision: where the PEs stand in an order and the cuts near the present ones move fewer bytes than the plan,
+-- these, and otherwise the plan.
+abbrev pub IsRefined : {A : Type 0} → List ℕ → List (ℕ × ℕ) → ℕ → ℕ → Refined A → Type 0
+IsRefined {A} loads sizes pes tolerance (Planned d) =
+    IsPlanned loads sizes pes d × (HasNoOrder sizes pes ⊎ ((k : Kept A) × IsKept loads sizes pes tolerance k × (d.moved ≤ k.moved)))
+IsRefined {A} loads sizes pes tolerance (Near k) =
+    IsKept loads sizes pes tolerance k × ((d : Decision A) × IsPlanned loads sizes pes d × (k.moved < d.moved))
+
+-- the plan where the kept cuts do not move fewer bytes, and else these
+abbrev pub IsCheaper : {A : Type 0} → Decision A → Kept A → Refined A → Type 0
+IsCheaper planned kept (Planned d) = (d ≡ planned) × (planned.moved ≤ kept.moved)
+IsCheaper planned kept (Near k) = (k ≡ kept) × (kept.moved < planned.moved)
+
+-- the cuts, the names and the bytes that move
+abbrev pub refined_cuts : {A : Type 0} → Refined A → List ℕ
+refined_cuts (Planned d) = d.division.cuts
+refined_cuts (Near k) = k.refinement.cuts
+
+abbrev pub refined_names : {A : Type 0} → Refined A → List ℕ
+refined_names (Planned d) = d.naming
+refined_names (Near k) = k.naming
+
+abbrev pub refined_moved : {A : Type 0} → Refined A → ℕ
+refined_moved (Planned d) = d.moved
+refined_moved (Near k) = k.moved
+
+abbrev pub refined_moves : {A : Type 0} → Refined A → List (ℕ × ℕ × ℕ)
+refined_moves (Planned d) = d.moves
+refined_moves (Near k) = k.moves
+
+abbrev pub least_load : {A : Type 0} → Refined A → ℕ
+least_load (Planned d) = d.division.bottleneck
+least_load (Near k) = k.refinement.least.bottleneck
+
+-- what two refined decisions have in common that are all that is said of one
+pub record AreSame {A : Type 0} (one other : Refined A) : Type 0 where
+  pub cuts : refined_cuts one ≡ refined_cuts other
+  pub names : refined_names one ≡ refined_names other
+  pub moved : refined_moved one ≡ refined_moved other
+  pub moves : refined_moves one ≡ refined_moves other

@@ -1,0 +1,77 @@
+ghost use Rattle.std.specs.Prelude.{◌≡◌};
+ghost use Rattle.lb_strategy.specs.Moves.{planned_pe, HasPlace};
+ghost use Rattle.lb_refinement.specs.Refined.{refined_cuts, refined_moved, refined_moves, refined_names};
+
+use chain_refinement::Refinement;
+use lb_certificates::{Naming, Prices};
+use lb_strategy::{Decision, Moves};
+use std::alloc::{Allocator, Global};
+
+/// Cuts near the present ones, with the names of the blocks between them.
+#[derive(Drop)]
+#[derive_where(Debug)]
+pub struct Kept<A: Allocator = Global> {
+    /// The cuts, and the proof that in the order in which the PEs stand none within the tolerance move fewer bytes.
+    pub refinement: Refinement<A>,
+    /// On which PE each block runs.
+    pub naming: Naming<A>,
+    /// The proof that no naming of these blocks moves fewer bytes.
+    pub prices: Prices<A>,
+    /// The packed bytes of all elements that move.
+    pub moved: u64,
+    /// The elements that move.
+    pub moves: Moves<A>,
+}
+
+/// What a balancing step decides within a tolerance.
+#[derive(Drop)]
+#[derive_where(Debug)]
+pub enum Refined<A: Allocator = Global> {
+    /// The decision of [`plan`](lb_strategy::plan): the elements of some PE do not stand together, or nothing within the
+    /// tolerance that keeps the order of the PEs moves fewer bytes.
+    Planned(Decision<A>),
+    /// Cuts near the present ones.
+    Near(Kept<A>),
+}
+
+impl<A: Allocator> Refined<A> {
+    /// Where the blocks begin and end.
+    pub fn cuts(&self) -> &[u32]
+        ensures value { result.now ≡ refined_cuts self.now }
+    {
+        match self {
+            Refined::Planned(decision) => decision.division.cuts.as_slice(),
+            Refined::Near(kept) => kept.refinement.cuts.as_slice(),
+        }
+    }
+
+    /// The PE of each block.
+    pub fn names(&self) -> &[u32]
+        ensures value { result.now ≡ refined_names self.now }
+    {
+        match self {
+            Refined::Planned(decision) => decision.naming.as_slice(),
+            Refined::Near(kept) => kept.naming.as_slice(),
+        }
+    }
+
+    /// The packed bytes of all elements that move.
+    pub fn moved(&self) -> u64
+        ensures value { result ≡ refined_moved self.now }
+    {
+        match self {
+            Refined::Planned(decision) => decision.moved,
+            Refined::Near(kept) => kept.moved,
+        }
+    }
+
+    /// The elements that move, in order of index.
+    pub fn moves(&self) -> &Moves<A>
+        ensures value { result.now ≡ refined_moves self.now }
+    {
+        match self {
+            Refined::Planned(decision) => &decision.moves,
+            Refined::Near(kept) => &kept.moves,
+        }
+    }
+}

@@ -1,0 +1,129 @@
+ghost use Rattle.std.specs.Prelude.{◌≡◌, ◌<◌, ◌≤◌, ℕ, List, length, IfOk};
+ghost use Rattle.chain_partition.specs.Chosen.{IsChosen};
+ghost use Rattle.lb_certificates.specs.Certificate.{IsCertified};
+ghost use Rattle.lb_certificates.specs.Naming.{AreBlocks};
+ghost use Rattle.lb_certificates.specs.Chain.{peak};
+ghost use Rattle.lb_strategy.specs.Moves.{HasPlace};
+ghost use Rattle.lb_strategy.specs.declared.decision.Decision.{Decision};
+ghost use Rattle.chain_refinement.specs.Orders.{IsPresentOrder};
+ghost use Rattle.chain_refinement.specs.Refinement.{AreWithin};
+ghost use Rattle.chain_refinement.specs.Tolerances.{limit_of};
+ghost use Rattle.lb_refinement.specs.Refined.{HasNames, IsCheaper, IsKept, IsPlanned, IsRefined, least_load, refined_cuts, refined_moved, refined_names};
+
+use crate::refined::{Kept, Refined};
+use chain_refinement::{Refinement, Tolerance};
+use chare_index::Limits;
+use lb_certificates::{Division, Sizes, Snapshot};
+use lb_strategy::{Decision, PlanError, moves_of, name_cuts, plan};
+use present_order::{PresentOrder, present_order};
+use refinement_search::refine_in_order;
+use std::alloc::{AllocError, Allocator};
+
+/// Decides where each element of this snapshot runs next, on `pes` PEs, 1 to 256, so that the greatest load of a PE lies
+/// within a tolerance above the least possible one.
+///
+/// Where the elements of each PE stand together, all below `pes`, the PEs keep the order in which they stand, and those
+/// without elements come behind, in ascending order. Of all cuts within the tolerance it takes those that move the fewest
+/// bytes, and of these the nearest to the present ones, chosen from the end of the chain; then the cheapest names for these
+/// blocks, as [`plan`] does. Where the decision of [`plan`] moves no more bytes, and where the elements of some PE do not
+/// stand together, it is that decision. So snapshot, `pes` and tolerance determine all but heights and prices, and where the
+/// present places keep to the tolerance nothing moves.
+///
+/// # Errors
+///
+/// Out of memory, where a list was refused.
+pub fn refine<A: Allocator + Copy, B: Allocator>(
+    alloc: A,
+    snapshot: &Snapshot<B>,
+    pes: u32,
+    tolerance: Tolerance,
+) -> Result<Refined<A>, AllocError>
+    requires some_pe { 1 ≤ pes }
+    requires few_pes { pes ≤ Limits.PES }
+    ensures refined { IfOk result (IsRefined snapshot.now.loads snapshot.now.sizes pes tolerance) }
+    ensures within { IfOk result (λ r. peak snapshot.now.loads (refined_cuts r) ≤ limit_of (least_load r) tolerance) }
+    ensures no_more { IfOk result (λ r. (d : Decision A) → IsPlanned snapshot.now.loads snapshot.now.sizes pes d → refined_moved r ≤ d.moved) }
+    ensures kept_whole { IfOk result (λ r. (names present : List ℕ) → IsPresentOrder snapshot.now.sizes pes names present
+        → AreWithin snapshot.now.loads names (limit_of (least_load r) tolerance) present → refined_moved r ≡ 0) }
+    ensures places { IfOk result (λ r. (i : ℕ) → i < length snapshot.now.sizes → HasPlace (refined_cuts r) (refined_names r) i) }
+{
+    let planned = planned(alloc, snapshot, pes)?;
+    let Some(order) = present_order(alloc, snapshot.sizes(), pes)? else {
+        return Ok(Refined::Planned(planned));
+    };
+    let least = planned.division.clone()?;
+    let kept = keep(alloc, snapshot, pes, least, tolerance, order)?;
+    Ok(cheaper(planned, kept))
+}
+
+// The decision of the plan.
+fn planned<A: Allocator + Copy, B: Allocator>(
+    alloc: A,
+    snapshot: &Snapshot<B>,
+    pes: u32,
+) -> Result<Decision<A>, AllocError>
+    requires some_pe { 1 ≤ pes }
+    requires few_pes { pes ≤ Limits.PES }
+    ensures planned { IfOk result (IsPlanned snapshot.now.loads snapshot.now.sizes pes) }
+{
+    match plan(alloc, snapshot, pes) {
+        Ok(decision) => Ok(decision),
+        Err(PlanError::OutOfMemory) => Err(AllocError),
+    }
+}
+
+// Which of the two moves fewer bytes; the plan, where neither does.
+fn cheaper<A: Allocator>(planned: Decision<A>, kept: Kept<A>) -> Refined<A>
+    ensures { IsCheaper planned kept result }
+{
+    if planned.moved <= kept.moved {
+        return Refined::Planned(planned);
+    }
+    Refined::Near(kept)
+}
+
+// The cuts nearest the present ones, with their names.
+fn keep<A: Allocator + Copy, B: Allocator>(
+    alloc: A,
+    snapshot: &Snapshot<B>,
+    pes: u32,
+    least: Division<A>,
+    tolerance: Tolerance,
+    order: PresentOrder<A>,
+) -> Result<Kept<A>, AllocError>
+    requires some_pe { 1 ≤ pes }
+    requires few_pes { pes ≤ Limits.PES }
+    requires chosen { IsChosen snapshot.now.loads pes least }
+    requires certified { IsCertified snapshot.now.loads pes least }
+    requires order { IsPresentOrder snapshot.now.sizes pes order.names order.present }
+    ensures kept { IfOk result (IsKept snapshot.now.loads snapshot.now.sizes pes tolerance) }
+{
+    let sizes = snapshot.sizes();
+    let PresentOrder { names, present } = order;
+    let refinement = refine_in_order(alloc, snapshot, least, tolerance, names, present)?;
+    with_names(alloc, sizes, refinement)
+}
+
+// The same with the names of its blocks.
+fn with_names<A: Allocator + Copy, B: Allocator>(
+    alloc: A,
+    sizes: &Sizes<B>,
+    refinement: Refinement<A>,
+) -> Result<Kept<A>, AllocError>
+    requires blocks { AreBlocks sizes.now refinement.cuts }
+    ensures named { IfOk result (HasNames sizes.now) }
+    ensures refinement { IfOk result (λ k. k.refinement ≡ refinement) }
+{
+    let Ok((naming, prices, moved)) = name_cuts(alloc, sizes, &refinement.cuts) else {
+        return Err(AllocError);
+    };
+    let cuts = refinement.cuts.as_slice();
+    let moves = moves_of(alloc, sizes.as_slice(), cuts, naming.as_slice())?;
+    Ok(Kept {
+        refinement,
+        naming,
+        prices,
+        moved,
+        moves,
+    })
+}
