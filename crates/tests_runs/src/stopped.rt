@@ -5,8 +5,10 @@ use crate::fixtures::{account, assert_for, patient};
 use crate::found::compare;
 use crate::tallies::{EXAMPLE, tallies};
 use chare_index::{NoGate, Round};
+use pe_state::PeEnd;
 use rts_core::Account;
 use rts_run::{Fault, Watch, run_watched};
+use std::alloc::Allocator;
 use std::process::Abort;
 use std::sync::Wait;
 use std::sync::atomic::{AtomicU64, Ordering};
@@ -44,16 +46,23 @@ fn stopped_after<R: Threads + Wait + Sync + Abort + AllocGlobal>(
     compare(rt, &outcome, n);
     let mut started: usize = 0;
     for end in outcome.ends() {
-        let begun = end
-            .room()
-            .iter()
-            .filter(|(_, element)| element.progress().started);
-        started = started.saturating_add(begun.count());
+        started = started.saturating_add(started_on(end));
     }
     let found = (outcome.fault(), outcome.account(), started);
     drop(outcome);
     drop(watch);
     found
+}
+
+// How many elements in the room of this PE have started.
+fn started_on<A: Allocator + Copy>(end: &PeEnd<Errand, A>) -> usize {
+    let mut started: usize = 0;
+    for (_, element) in end.room().iter() {
+        if element.progress().started {
+            started = started.saturating_add(1);
+        }
+    }
+    started
 }
 
 // Two elements, each of which sends the first one two letters as it starts, and that wait for more.
