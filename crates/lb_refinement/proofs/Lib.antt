@@ -1,3 +1,5 @@
+mod Blocks
+mod GreatestLoads
 mod KeptWhole
 mod OneRefined
 mod RefinedCases

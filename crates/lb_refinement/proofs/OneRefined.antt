@@ -1,6 +1,7 @@
 -- The snapshot, the number of PEs and the tolerance determine the refined decision, but for heights and prices.
 use Rattle.std.proofs.Common.{◌≡◌, ℕ, List, length, arith, ap, sym, ◌∙◌, subst, inl, inr}
 use Rattle.chain_partition.proofs.ChosenOnce.{only_from_chosen}
+use Rattle.lb_certificates.specs.Chain.{peak}
 use Rattle.lb_certificates.specs.Naming.{bytes_moved, IsLeastNaming}
 use Rattle.lb_certificates.specs.declared.division.Division.{Division}
 use Rattle.lb_certificates.proofs.LeastNamings.{one_least}
@@ -19,6 +20,7 @@ use Rattle.lb_refinement.specs.declared.refined.Refined.TheVariants.{Near, Plann
 -- what two kept decisions have in common
 pub record AreKeptSame {A : Type 0} (k e : Kept A) : Type 0 where
   pub cuts : k.refinement.cuts ≡ e.refinement.cuts
+  pub bottleneck : k.bottleneck ≡ e.bottleneck
   pub naming : k.naming ≡ e.naming
   pub moved : k.moved ≡ e.moved
   pub moves : k.moves ≡ e.moves
@@ -27,6 +29,7 @@ pub one_kept : {A : Type 0} (loads : List ℕ) (sizes : List (ℕ × ℕ)) (pes 
 one_kept {A = A} loads sizes pes tolerance k e one other =
     record {
       cuts = cuts;
+      bottleneck = one.bottleneck_is ∙ ap (peak loads) cuts ∙ sym other.bottleneck_is;
       naming = naming;
       moved = one.moved_is ∙ ap (λ xs. bytes_moved sizes xs k.naming) cuts ∙ ap (λ xs. bytes_moved sizes e.refinement.cuts xs) naming ∙ sym other.moved_is;
       moves = one.moves_are ∙ ap (λ xs. moves_below sizes xs k.naming (length sizes)) cuts ∙ ap (λ xs. moves_below sizes e.refinement.cuts xs (length sizes)) naming ∙ sym other.moves_are;
@@ -66,10 +69,10 @@ not_both loads sizes pes tolerance d k (planned, inr (f, found, no_more)) (kept,
 pub one_refined : {A : Type 0} (loads : List ℕ) (sizes : List (ℕ × ℕ)) (pes tolerance : ℕ) (one other : Refined A) → IsRefined loads sizes pes tolerance one → IsRefined loads sizes pes tolerance other → AreSame one other
 one_refined loads sizes pes tolerance (Planned d) (Planned e) one other =
     let same = one_planned loads sizes pes d e one.0 other.0 in
-    record { cuts = same.cuts; names = same.naming; moved = same.moved; moves = same.moves }
+    record { cuts = same.cuts; names = same.naming; bottleneck = same.bottleneck; moved = same.moved; moves = same.moves }
 one_refined loads sizes pes tolerance (Near k) (Near e) one other =
     let same = one_kept loads sizes pes tolerance k e one.0 other.0 in
-    record { cuts = same.cuts; names = same.naming; moved = same.moved; moves = same.moves }
+    record { cuts = same.cuts; names = same.naming; bottleneck = same.bottleneck; moved = same.moved; moves = same.moves }
 one_refined loads sizes pes tolerance (Planned d) (Near k) one other =
     absurd (not_both loads sizes pes tolerance d k one other)
 one_refined loads sizes pes tolerance (Near k) (Planned d) one other =

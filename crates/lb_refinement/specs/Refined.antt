@@ -1,8 +1,11 @@
 -- Decisions within a tolerance.
 use Rattle.std.specs.Prelude.{◌≡◌, ◌⊎◌, ℕ, ◌<◌, ◌≤◌, List, length}
 use Rattle.chain_partition.specs.Chosen.{IsChosen}
+use Rattle.lb_certificates.specs.Chain.{peak}
 use Rattle.lb_certificates.specs.Naming.{blocks_between, bytes_moved, IsLeastNaming, IsNamed}
-use Rattle.lb_strategy.specs.Decisions.{IsRight}
+use Rattle.lb_certificates.specs.declared.division.Division.{Division}
+use Rattle.lb_certificates.specs.declared.prices.Prices.{Prices}
+use Rattle.lb_strategy.specs.Decisions.{ArePricesBounded, IsRight}
 use Rattle.lb_strategy.specs.Moves.{moves_below}
 use Rattle.lb_strategy.specs.declared.decision.Decision.{Decision}
 use Rattle.chain_refinement.specs.Orders.{IsPresentOrder}
@@ -20,8 +23,10 @@ pub record IsKept {A : Type 0} (loads : List ℕ) (sizes : List (ℕ × ℕ)) (p
   pub tolerance_is : k.refinement.tolerance ≡ tolerance
   pub right : IsRefinement loads sizes pes k.refinement
   pub nearest : AreNearest loads sizes k.refinement.order k.refinement.present (refined_limit k.refinement) k.refinement.cuts
+  pub bottleneck_is : k.bottleneck ≡ peak loads k.refinement.cuts
   pub named : IsNamed sizes k.refinement.cuts k.naming k.prices.u k.prices.v
   pub least_naming : IsLeastNaming sizes k.refinement.cuts pes k.naming
+  pub bounded : ArePricesBounded sizes k.refinement.cuts k.prices.u k.prices.v
   pub moved_is : k.moved ≡ bytes_moved sizes k.refinement.cuts k.naming
   pub moves_are : k.moves ≡ moves_below sizes k.refinement.cuts k.naming (length sizes)
 
@@ -29,6 +34,7 @@ pub record IsKept {A : Type 0} (loads : List ℕ) (sizes : List (ℕ × ℕ)) (p
 pub record HasNames {A : Type 0} (sizes : List (ℕ × ℕ)) (k : Kept A) : Type 0 where
   pub named : IsNamed sizes k.refinement.cuts k.naming k.prices.u k.prices.v
   pub least_naming : IsLeastNaming sizes k.refinement.cuts (blocks_between k.refinement.cuts) k.naming
+  pub bounded : ArePricesBounded sizes k.refinement.cuts k.prices.u k.prices.v
   pub moved_is : k.moved ≡ bytes_moved sizes k.refinement.cuts k.naming
   pub moves_are : k.moves ≡ moves_below sizes k.refinement.cuts k.naming (length sizes)
 
@@ -68,13 +74,31 @@ abbrev pub refined_moves : {A : Type 0} → Refined A → List (ℕ × ℕ × �
 refined_moves (Planned d) = d.moves
 refined_moves (Near k) = k.moves
 
+-- the greatest load of a block
+abbrev pub refined_bottleneck : {A : Type 0} → Refined A → ℕ
+refined_bottleneck (Planned d) = d.division.bottleneck
+refined_bottleneck (Near k) = k.bottleneck
+
+-- the least division, and its greatest load
+abbrev pub refined_least : {A : Type 0} → Refined A → Division A
+refined_least (Planned d) = d.division
+refined_least (Near k) = k.refinement.least
+
 abbrev pub least_load : {A : Type 0} → Refined A → ℕ
-least_load (Planned d) = d.division.bottleneck
-least_load (Near k) = k.refinement.least.bottleneck
+least_load r = (refined_least r).bottleneck
+
+-- the prices, which lie in the range of those of a plan
+abbrev pub refined_prices : {A : Type 0} → Refined A → Prices A
+refined_prices (Planned d) = d.prices
+refined_prices (Near k) = k.prices
+
+abbrev pub ArePricesSmall : {A : Type 0} → List (ℕ × ℕ) → Refined A → Type 0
+ArePricesSmall sizes r = ArePricesBounded sizes (refined_cuts r) (refined_prices r).u (refined_prices r).v
 
 -- what two refined decisions have in common that are all that is said of one
 pub record AreSame {A : Type 0} (one other : Refined A) : Type 0 where
   pub cuts : refined_cuts one ≡ refined_cuts other
   pub names : refined_names one ≡ refined_names other
+  pub bottleneck : refined_bottleneck one ≡ refined_bottleneck other
   pub moved : refined_moved one ≡ refined_moved other
   pub moves : refined_moves one ≡ refined_moves other

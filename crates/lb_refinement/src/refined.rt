@@ -1,9 +1,11 @@
 ghost use Rattle.std.specs.Prelude.{◌≡◌};
 ghost use Rattle.lb_strategy.specs.Moves.{planned_pe, HasPlace};
-ghost use Rattle.lb_refinement.specs.Refined.{refined_cuts, refined_moved, refined_moves, refined_names};
+ghost use Rattle.lb_refinement.specs.Refined.{refined_bottleneck, refined_cuts, refined_least, refined_moved, refined_moves, refined_names, refined_prices};
 
+use crate::places::block_around;
 use chain_refinement::Refinement;
-use lb_certificates::{Naming, Prices};
+use chare_index::{Index, Pe};
+use lb_certificates::{Division, Naming, Prices};
 use lb_strategy::{Decision, Moves};
 use std::alloc::{Allocator, Global};
 
@@ -13,6 +15,8 @@ use std::alloc::{Allocator, Global};
 pub struct Kept<A: Allocator = Global> {
     /// The cuts, and the proof that in the order in which the PEs stand none within the tolerance move fewer bytes.
     pub refinement: Refinement<A>,
+    /// The greatest load of a block between these cuts.
+    pub bottleneck: u64,
     /// On which PE each block runs.
     pub naming: Naming<A>,
     /// The proof that no naming of these blocks moves fewer bytes.
@@ -35,6 +39,26 @@ pub enum Refined<A: Allocator = Global> {
 }
 
 impl<A: Allocator> Refined<A> {
+    /// The division whose greatest load is the least possible one, with the proof of that. The tolerance is measured from it.
+    pub fn least(&self) -> &Division<A>
+        ensures value { result.now ≡ refined_least self.now }
+    {
+        match self {
+            Refined::Planned(decision) => &decision.division,
+            Refined::Near(kept) => &kept.refinement.least,
+        }
+    }
+
+    /// The greatest load of a block.
+    pub fn bottleneck(&self) -> u64
+        ensures value { result ≡ refined_bottleneck self.now }
+    {
+        match self {
+            Refined::Planned(decision) => decision.division.bottleneck,
+            Refined::Near(kept) => kept.bottleneck,
+        }
+    }
+
     /// Where the blocks begin and end.
     pub fn cuts(&self) -> &[u32]
         ensures value { result.now ≡ refined_cuts self.now }
@@ -52,6 +76,16 @@ impl<A: Allocator> Refined<A> {
         match self {
             Refined::Planned(decision) => decision.naming.as_slice(),
             Refined::Near(kept) => kept.naming.as_slice(),
+        }
+    }
+
+    /// The proof that no naming of these blocks moves fewer bytes.
+    pub fn prices(&self) -> &Prices<A>
+        ensures value { result.now ≡ refined_prices self.now }
+    {
+        match self {
+            Refined::Planned(decision) => &decision.prices,
+            Refined::Near(kept) => &kept.prices,
         }
     }
 
@@ -73,5 +107,15 @@ impl<A: Allocator> Refined<A> {
             Refined::Planned(decision) => &decision.moves,
             Refined::Near(kept) => &kept.moves,
         }
+    }
+
+    /// The PE on which an element is to run, in time that grows with the logarithm of the number of blocks. It may be asked of
+    /// each element of a snapshot that was decided on.
+    pub fn place_of(&self, index: Index) -> Pe
+        requires placed { HasPlace (refined_cuts self.now) (refined_names self.now) index }
+        ensures value { result ≡ planned_pe (refined_cuts self.now) (refined_names self.now) index }
+    {
+        let block = block_around(self.cuts(), index.get());
+        Pe::new(self.names()[block]).unwrap()
     }
 }

@@ -1,23 +1,26 @@
 ghost use Rattle.std.specs.Prelude.{◌≡◌, ◌<◌, ◌≤◌, ℕ, List, length, IfOk};
 ghost use Rattle.chain_partition.specs.Chosen.{IsChosen};
 ghost use Rattle.lb_certificates.specs.Certificate.{IsCertified};
-ghost use Rattle.lb_certificates.specs.Naming.{AreBlocks};
-ghost use Rattle.lb_certificates.specs.Chain.{peak};
+ghost use Rattle.lb_certificates.specs.Naming.{AreBlocks, IsNaming};
+ghost use Rattle.lb_certificates.specs.Chain.{IsDivision, peak};
+ghost use Rattle.lb_strategy.specs.Decisions.{HasBoundedPrices};
 ghost use Rattle.lb_strategy.specs.Moves.{HasPlace};
 ghost use Rattle.lb_strategy.specs.declared.decision.Decision.{Decision};
 ghost use Rattle.chain_refinement.specs.Orders.{IsPresentOrder};
 ghost use Rattle.chain_refinement.specs.Refinement.{AreWithin};
 ghost use Rattle.chain_refinement.specs.Tolerances.{limit_of};
-ghost use Rattle.lb_refinement.specs.Refined.{HasNames, IsCheaper, IsKept, IsPlanned, IsRefined, least_load, refined_cuts, refined_moved, refined_names};
+ghost use Rattle.lb_refinement.specs.Refined.{ArePricesSmall, HasNames, IsCheaper, IsKept, IsPlanned, IsRefined, least_load, refined_bottleneck, refined_cuts, refined_moved, refined_names};
 
+use crate::heaviest::greatest_load;
 use crate::refined::{Kept, Refined};
 use chain_refinement::{Refinement, Tolerance};
-use chare_index::Limits;
+use chare_index::{Gate, Limits};
 use lb_certificates::{Division, Sizes, Snapshot};
-use lb_strategy::{Decision, PlanError, moves_of, name_cuts, plan};
+use lb_strategy::{Decision, PlanError, moves_of, name_cuts, plan, plan_with};
 use present_order::{PresentOrder, present_order};
 use refinement_search::refine_in_order;
 use std::alloc::{AllocError, Allocator};
+use std::thread::Threads;
 
 /// Decides where each element of this snapshot runs next, on `pes` PEs, 1 to 256, so that the greatest load of a PE lies
 /// within a tolerance above the least possible one.
@@ -27,7 +30,7 @@ use std::alloc::{AllocError, Allocator};
 /// bytes, and of these the nearest to the present ones, chosen from the end of the chain; then the cheapest names for these
 /// blocks, as [`plan`] does. Where the decision of [`plan`] moves no more bytes, and where the elements of some PE do not
 /// stand together, it is that decision. So snapshot, `pes` and tolerance determine all but heights and prices, and where the
-/// present places keep to the tolerance nothing moves.
+/// present places keep to the tolerance nothing moves. Prices lie in the range of those of [`plan`].
 ///
 /// # Errors
 ///
@@ -41,19 +44,53 @@ pub fn refine<A: Allocator + Copy, B: Allocator>(
     requires some_pe { 1 ≤ pes }
     requires few_pes { pes ≤ Limits.PES }
     ensures refined { IfOk result (IsRefined snapshot.now.loads snapshot.now.sizes pes tolerance) }
-    ensures within { IfOk result (λ r. peak snapshot.now.loads (refined_cuts r) ≤ limit_of (least_load r) tolerance) }
+    ensures blocks { IfOk result (λ r. IsDivision 0 (length snapshot.now.loads) pes (refined_cuts r)) }
+    ensures naming { IfOk result (λ r. IsNaming pes (refined_names r)) }
+    ensures peak { IfOk result (λ r. refined_bottleneck r ≡ peak snapshot.now.loads (refined_cuts r)) }
+    ensures within { IfOk result (λ r. refined_bottleneck r ≤ limit_of (least_load r) tolerance) }
     ensures no_more { IfOk result (λ r. (d : Decision A) → IsPlanned snapshot.now.loads snapshot.now.sizes pes d → refined_moved r ≤ d.moved) }
     ensures kept_whole { IfOk result (λ r. (names present : List ℕ) → IsPresentOrder snapshot.now.sizes pes names present
         → AreWithin snapshot.now.loads names (limit_of (least_load r) tolerance) present → refined_moved r ≡ 0) }
     ensures places { IfOk result (λ r. (i : ℕ) → i < length snapshot.now.sizes → HasPlace (refined_cuts r) (refined_names r) i) }
+    ensures bounded { IfOk result (ArePricesSmall snapshot.now.sizes) }
 {
     let planned = planned(alloc, snapshot, pes)?;
-    let Some(order) = present_order(alloc, snapshot.sizes(), pes)? else {
-        return Ok(Refined::Planned(planned));
-    };
-    let least = planned.division.clone()?;
-    let kept = keep(alloc, snapshot, pes, least, tolerance, order)?;
-    Ok(cheaper(planned, kept))
+    nearer(alloc, snapshot, pes, tolerance, planned)
+}
+
+/// Decides as [`refine`] does. The least division, which is the same, is found by 1 to 64 workers, as
+/// [`divide_with`](chain_partition::divide_with) does: in each of its probes a worker calls the gate with its number, and if a
+/// thread cannot be started, the others do its work.
+///
+/// # Errors
+///
+/// Out of memory, where a list was refused.
+pub fn refine_with<R: Threads + Sync, G: Gate + Sync, A: Allocator + Copy, B: Allocator>(
+    rt: &R,
+    alloc: A,
+    snapshot: &Snapshot<B>,
+    pes: u32,
+    tolerance: Tolerance,
+    workers: u32,
+    gate: &G,
+) -> Result<Refined<A>, AllocError>
+    requires some_pe { 1 ≤ pes }
+    requires few_pes { pes ≤ Limits.PES }
+    requires some_worker { 1 ≤ workers }
+    requires few_workers { workers ≤ Limits.PROBE_WORKERS }
+    ensures refined { IfOk result (IsRefined snapshot.now.loads snapshot.now.sizes pes tolerance) }
+    ensures blocks { IfOk result (λ r. IsDivision 0 (length snapshot.now.loads) pes (refined_cuts r)) }
+    ensures naming { IfOk result (λ r. IsNaming pes (refined_names r)) }
+    ensures peak { IfOk result (λ r. refined_bottleneck r ≡ peak snapshot.now.loads (refined_cuts r)) }
+    ensures within { IfOk result (λ r. refined_bottleneck r ≤ limit_of (least_load r) tolerance) }
+    ensures no_more { IfOk result (λ r. (d : Decision A) → IsPlanned snapshot.now.loads snapshot.now.sizes pes d → refined_moved r ≤ d.moved) }
+    ensures kept_whole { IfOk result (λ r. (names present : List ℕ) → IsPresentOrder snapshot.now.sizes pes names present
+        → AreWithin snapshot.now.loads names (limit_of (least_load r) tolerance) present → refined_moved r ≡ 0) }
+    ensures places { IfOk result (λ r. (i : ℕ) → i < length snapshot.now.sizes → HasPlace (refined_cuts r) (refined_names r) i) }
+    ensures bounded { IfOk result (ArePricesSmall snapshot.now.sizes) }
+{
+    let planned = planned_with(rt, alloc, snapshot, pes, workers, gate)?;
+    nearer(alloc, snapshot, pes, tolerance, planned)
 }
 
 // The decision of the plan.
@@ -65,11 +102,72 @@ fn planned<A: Allocator + Copy, B: Allocator>(
     requires some_pe { 1 ≤ pes }
     requires few_pes { pes ≤ Limits.PES }
     ensures planned { IfOk result (IsPlanned snapshot.now.loads snapshot.now.sizes pes) }
+    ensures bounded { IfOk result (HasBoundedPrices snapshot.now.sizes) }
 {
     match plan(alloc, snapshot, pes) {
         Ok(decision) => Ok(decision),
         Err(PlanError::OutOfMemory) => Err(AllocError),
     }
+}
+
+// The same, with the division found by several workers.
+fn planned_with<R: Threads + Sync, G: Gate + Sync, A: Allocator + Copy, B: Allocator>(
+    rt: &R,
+    alloc: A,
+    snapshot: &Snapshot<B>,
+    pes: u32,
+    workers: u32,
+    gate: &G,
+) -> Result<Decision<A>, AllocError>
+    requires some_pe { 1 ≤ pes }
+    requires few_pes { pes ≤ Limits.PES }
+    requires some_worker { 1 ≤ workers }
+    requires few_workers { workers ≤ Limits.PROBE_WORKERS }
+    ensures planned { IfOk result (IsPlanned snapshot.now.loads snapshot.now.sizes pes) }
+    ensures bounded { IfOk result (HasBoundedPrices snapshot.now.sizes) }
+{
+    match plan_with(rt, alloc, snapshot, pes, workers, gate) {
+        Ok(decision) => Ok(decision),
+        Err(PlanError::OutOfMemory) => Err(AllocError),
+    }
+}
+
+// The cuts nearest the present ones, where there is a present order and they move fewer bytes than the plan.
+fn nearer<A: Allocator + Copy, B: Allocator>(
+    alloc: A,
+    snapshot: &Snapshot<B>,
+    pes: u32,
+    tolerance: Tolerance,
+    planned: Decision<A>,
+) -> Result<Refined<A>, AllocError>
+    requires some_pe { 1 ≤ pes }
+    requires few_pes { pes ≤ Limits.PES }
+    requires planned { IsPlanned snapshot.now.loads snapshot.now.sizes pes planned }
+    requires bounded { HasBoundedPrices snapshot.now.sizes planned }
+    ensures refined { IfOk result (IsRefined snapshot.now.loads snapshot.now.sizes pes tolerance) }
+    ensures blocks { IfOk result (λ r. IsDivision 0 (length snapshot.now.loads) pes (refined_cuts r)) }
+    ensures naming { IfOk result (λ r. IsNaming pes (refined_names r)) }
+    ensures peak { IfOk result (λ r. refined_bottleneck r ≡ peak snapshot.now.loads (refined_cuts r)) }
+    ensures within { IfOk result (λ r. refined_bottleneck r ≤ limit_of (least_load r) tolerance) }
+    ensures no_more { IfOk result (λ r. (d : Decision A) → IsPlanned snapshot.now.loads snapshot.now.sizes pes d → refined_moved r ≤ d.moved) }
+    ensures kept_whole { IfOk result (λ r. (names present : List ℕ) → IsPresentOrder snapshot.now.sizes pes names present
+        → AreWithin snapshot.now.loads names (limit_of (least_load r) tolerance) present → refined_moved r ≡ 0) }
+    ensures places { IfOk result (λ r. (i : ℕ) → i < length snapshot.now.sizes → HasPlace (refined_cuts r) (refined_names r) i) }
+    ensures bounded { IfOk result (ArePricesSmall snapshot.now.sizes) }
+{
+    let Some(order) = present_order(alloc, snapshot.sizes(), pes)? else {
+        return Ok(Refined::Planned(planned));
+    };
+    let least = least_of(&planned)?;
+    let kept = keep(alloc, snapshot, pes, least, tolerance, order)?;
+    Ok(cheaper(planned, kept))
+}
+
+// A copy of the plan's division.
+fn least_of<A: Allocator + Copy>(planned: &Decision<A>) -> Result<Division<A>, AllocError>
+    ensures copied { IfOk result (λ d. d ≡ planned.now.division) }
+{
+    planned.division.clone()
 }
 
 // Which of the two moves fewer bytes; the plan, where neither does.
@@ -101,7 +199,8 @@ fn keep<A: Allocator + Copy, B: Allocator>(
     let sizes = snapshot.sizes();
     let PresentOrder { names, present } = order;
     let refinement = refine_in_order(alloc, snapshot, least, tolerance, names, present)?;
-    with_names(alloc, sizes, refinement)
+    let bottleneck = greatest_load(snapshot.loads(), pes, refinement.cuts.as_slice());
+    with_names(alloc, sizes, refinement, bottleneck)
 }
 
 // The same with the names of its blocks.
@@ -109,10 +208,12 @@ fn with_names<A: Allocator + Copy, B: Allocator>(
     alloc: A,
     sizes: &Sizes<B>,
     refinement: Refinement<A>,
+    bottleneck: u64,
 ) -> Result<Kept<A>, AllocError>
     requires blocks { AreBlocks sizes.now refinement.cuts }
     ensures named { IfOk result (HasNames sizes.now) }
     ensures refinement { IfOk result (λ k. k.refinement ≡ refinement) }
+    ensures bottleneck { IfOk result (λ k. k.bottleneck ≡ bottleneck) }
 {
     let Ok((naming, prices, moved)) = name_cuts(alloc, sizes, &refinement.cuts) else {
         return Err(AllocError);
@@ -121,6 +222,7 @@ fn with_names<A: Allocator + Copy, B: Allocator>(
     let moves = moves_of(alloc, sizes.as_slice(), cuts, naming.as_slice())?;
     Ok(Kept {
         refinement,
+        bottleneck,
         naming,
         prices,
         moved,
