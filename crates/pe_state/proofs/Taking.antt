@@ -1,5 +1,5 @@
 -- A room from which an element is taken that does not stand there is the same room.
-use Rattle.std.proofs.Common.{◌≡◌, ℕ, ◌≤◌, List, [], ◌∷◌, length, Option, Some, None, Bool, true, false, refl, sym, ap, ◌∙◌}
+use Rattle.std.proofs.Common.{◌≡◌, ℕ, ◌≤◌, List, [], ◌∷◌, length, Some, None, Bool, true, false, refl, ap}
 use Rattle.std.specs.Prelude.{cond}
 use Rattle.std.specs.Ordering.{nat_cmp, is_eq}
 use Rattle.chares.specs.Elements.{ElementView}

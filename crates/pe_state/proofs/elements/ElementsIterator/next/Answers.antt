@@ -1,4 +1,4 @@
-use Rattle.std.proofs.Common.{◌≡◌, length, ap, sym, ◌∙◌, arith, rules}
+use Rattle.std.proofs.Common.{length, ap, sym, ◌∙◌, arith}
 use Rattle.pe_state.proofs.InOrder.{gave, passed}
 use Rattle.pe_state.proofs.elements.ElementsIterator.next.Goals as goal
 
