@@ -75,6 +75,13 @@ impl<C: Chare<A>, A: Allocator> Element<C, A> {
         &self.chare
     }
 
+    /// Its chare, by value. The rest of it is given up.
+    pub fn into_chare(self) -> C
+        ensures value { result ≡ self.chare }
+    {
+        self.chare
+    }
+
     /// The letters and resumptions that it has handled, in order.
     pub fn journal(&self) -> &[Entry<Letter<A>>]
         ensures value { result.now ≡ self.now.journal }

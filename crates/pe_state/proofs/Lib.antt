@@ -4,6 +4,7 @@ pub mod Edits
 pub mod Fronts
 pub mod Handling
 pub mod Histories
+pub mod InOrder
 pub mod Installing
 pub mod Keeping
 pub mod Joined
@@ -12,4 +13,5 @@ pub mod Leaving
 pub mod Lending
 pub mod Places
 pub mod Reasons
+pub mod Taking
 pub mod Traces

@@ -1,19 +1,20 @@
 //! A PE as a run left it.
 
-ghost use Rattle.std.specs.Prelude.{◌≡◌, ◌≤◌};
+ghost use Rattle.std.specs.Prelude.{◌≡◌, ◌≤◌, IfSome};
 ghost use Rattle.std.specs.Option.{option_copied};
-ghost use Rattle.pe_state.specs.Rooms.{IsKeyed};
+ghost use Rattle.pe_state.specs.Rooms.{IsKeyed, found};
+ghost use Rattle.pe_state.specs.Taking.{taken};
 
 use crate::parcel::Item;
 use crate::room::Room;
-use chare_index::{Limits, Pe};
-use chares::{Chare, Letter, Note};
+use chare_index::{Index, Limits, Pe};
+use chares::{Chare, Element, Letter, Note};
 use std::alloc::{Allocator, Global};
 use std::collections::VecDeque;
 use std::marker::Model;
 
-/// A PE as a run left it, to be read. [`into_end`](crate::PeState::into_end) makes it, and says what holds of it; its
-/// type does not name the array of the run. Contracts see it as the record `PeView`.
+/// A PE as a run left it, to be read, and to take its elements from. [`into_end`](crate::PeState::into_end) makes it, and
+/// says what holds of it; its type does not name the array of the run. Contracts see it as the record `PeView`.
 #[derive(Drop)]
 pub struct PeEnd<C: Chare<A>, A: Allocator = Global> {
     pub(crate) me: Pe,
@@ -71,6 +72,16 @@ impl<C: Chare<A>, A: Allocator> PeEnd<C, A> {
     {
         self.room.known();
         &self.room
+    }
+
+    /// Takes the element with this index out of its room, or returns `None` where none stands there. Nothing else of it
+    /// changes.
+    pub fn take(&mut self, index: Index) -> Option<Element<C, A>>
+        ensures value { result ≡ found index self.old.room }
+        ensures index { IfSome result (λ element. element.index ≡ index) }
+        ensures left { self.new ≡ taken index self.old }
+    {
+        self.room.take(index)
     }
 
     /// The parcel in its hand, with the PE that a look gave.

@@ -2,7 +2,7 @@
 //! for nobody; docs/EVENTS.md tells the protocol.
 //!
 //! - [`PeState`]: a PE, with a call for its part of each event.
-//! - [`PeEnd`]: a PE as a run left it.
+//! - [`PeEnd`]: a PE as a run left it, and [`Elements`], the elements of such PEs by value.
 //! - [`Parcel`], with [`HeldParcel`], [`Item`] and [`into_held`]: what is carried from PE to PE, and what a PE holds of
 //!   that.
 //! - [`Room`]: the elements that stand on a PE, and [`Entries`], a walk over them.
@@ -11,6 +11,7 @@
 #![tactic(auto)]
 
 mod acted;
+mod elements;
 mod end;
 mod entries;
 mod error;
@@ -22,6 +23,7 @@ mod row;
 mod shelf;
 
 pub use acted::Acted;
+pub use elements::Elements;
 pub use end::PeEnd;
 pub use entries::Entries;
 pub use error::StepError;

@@ -106,6 +106,19 @@ impl<C: Chare<A>, A: Allocator> Room<C, A> {
         self.rows[row].element(index)
     }
 
+    /// Takes the element with this index out, or returns `None` where it stands elsewhere.
+    pub(crate) fn take(&mut self, index: Index) -> Option<Element<C, A>>
+        ensures value { result ≡ found index self.old }
+        ensures index { IfSome result (λ element. element.index ≡ index) }
+        ensures left { self.new ≡ without index self.old }
+    {
+        let row = row_number(index);
+        if self.rows.len() <= row {
+            return None;
+        }
+        self.rows[row].take(index)
+    }
+
     /// The elements beside their indices, in the order of these.
     pub fn iter(&self) -> Entries<'_, C, A>
         ensures value { result ≡ self.now }

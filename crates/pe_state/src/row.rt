@@ -61,6 +61,18 @@ impl<C: Chare<A>, A: Allocator> Row<C, A> {
         Some(&self.items[place].1)
     }
 
+    /// Takes the element with this index out, or returns `None` where it is not of this row.
+    pub(crate) fn take(&mut self, index: Index) -> Option<Element<C, A>>
+        ensures value { result ≡ found index self.old }
+        ensures left { self.new ≡ without index self.old }
+    {
+        let Ok(place) = self.seek(index) else {
+            return None;
+        };
+        let (_, element) = self.items.remove(place);
+        Some(element)
+    }
+
     // The place of an index in the row, or where it belongs.
     fn seek(&self, index: Index) -> Result<usize, usize>
         ensures hit { IfOk result (λ i. StandsAt index self.now i) }

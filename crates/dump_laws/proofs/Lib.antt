@@ -1,0 +1,3 @@
+pub mod Decoding
+pub mod Decisions
+pub mod Texts
