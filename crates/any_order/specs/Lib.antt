@@ -1,0 +1,3 @@
+pub mod AnyOrder
+pub mod Flaws
+pub mod Internal
