@@ -8,10 +8,11 @@ ghost use Rattle.at_sync.specs.Boards.{AreDecided, Decides, IsDecided, HaveFinis
 ghost use Rattle.at_sync.specs.Refusals.{RefusesDecision, RefusesFinish, database_error_of};
 
 use crate::error::BoardError;
+use crate::strategy::Strategy;
 use chare_index::{Gate, Index, Limits, Pe, Round};
 use lb_certificates::{Snapshot, Units};
 use lb_database::LoadDb;
-use lb_strategy::{Decision, plan, plan_with};
+use lb_refinement::Refined;
 use std::alloc::{AllocError, Allocator, Global};
 use std::marker::Model;
 use std::thread::Threads;
@@ -21,16 +22,18 @@ use std::thread::Threads;
 /// where a round is decided, and nowhere else. A call that is refused leaves it unchanged.
 ///
 /// Contracts see it as the record `BoardState`. Whoever holds a board holds only right decisions: of each round that
-/// was decided, the snapshot is one of all elements, and the decision is the best for it.
+/// was decided, the snapshot is one of all elements, and the decision is what the board's [`Strategy`] decides for it.
 #[derive(Drop)]
 #[derive_where(Debug)]
 pub struct Board<A: Allocator = Global> {
     // On how many PEs the elements run.
     pes: u32,
+    // How rounds are decided.
+    strategy: Strategy,
     // The reports of the present round, all of them of places below `pes`.
     database: LoadDb<A>,
     // The snapshot and the decision of each round before the present one.
-    rounds: Vec<(Snapshot<A>, Decision<A>), A>,
+    rounds: Vec<(Snapshot<A>, Refined<A>), A>,
     // Whether each element has finished.
     finished: Vec<bool, A>,
     // How many elements have not finished, kept so that nobody has to look for one.
@@ -43,23 +46,23 @@ impl<A: Allocator> Model for Board<A> {
 
     ghost Value = { BoardState A };
 
-    ghost view = { λ b. record { pes = b.pes; database = b.database; rounds = b.rounds.items; finished = b.finished.items } };
+    ghost view = { λ b. record { pes = b.pes; strategy = b.strategy; database = b.database; rounds = b.rounds.items; finished = b.finished.items } };
 
     ghost invariant = { λ b.
-        IsBoard (record { pes = b.pes; database = b.database; rounds = b.rounds.items; finished = b.finished.items })
+        IsBoard (record { pes = b.pes; strategy = b.strategy; database = b.database; rounds = b.rounds.items; finished = b.finished.items })
         × (b.running ≡ count_by not b.finished.items) };
 }
 
 impl<A: Allocator> Board<A> {
-    /// A board for `n` elements on `pes` PEs, in round 1: nothing is reported or decided, and nobody has finished.
-    /// It runs out of memory only where there is an element.
-    pub fn new(alloc: A, n: u32, pes: u32) -> Result<Self, AllocError>
+    /// A board for `n` elements on `pes` PEs that decides its rounds by `strategy`, in round 1: nothing is reported or
+    /// decided, and nobody has finished. It runs out of memory only where there is an element.
+    pub fn new(alloc: A, n: u32, pes: u32, strategy: Strategy) -> Result<Self, AllocError>
     where
         A: Copy,
         requires few { n ≤ Limits.ELEMENTS }
         requires some_pe { 1 ≤ pes }
         requires few_pes { pes ≤ Limits.PES }
-        ensures made { IfOk result (λ board. board ≡ new_board n pes) }
+        ensures made { IfOk result (λ board. board ≡ new_board n pes strategy) }
         ensures refused { OnErr result (0 < n) }
     {
         let Ok(database) = LoadDb::new(alloc, n) else {
@@ -68,6 +71,7 @@ impl<A: Allocator> Board<A> {
         let n = n as usize;
         Ok(Board {
             pes,
+            strategy,
             database,
             rounds: Vec::new(alloc),
             finished: all_running(alloc, n)?,
@@ -111,7 +115,7 @@ impl<A: Allocator> Board<A> {
     }
 
     /// Decides the present round, in which every element has to have reported: keeps the snapshot of what was
-    /// reported and the decision planned for it, begins the next round, and returns the round decided.
+    /// reported and what the board's strategy decides for it, begins the next round, and returns the round decided.
     ///
     /// # Errors
     ///
@@ -126,14 +130,14 @@ impl<A: Allocator> Board<A> {
         ensures ok { OnOk result (Decides self.old self.new) }
         ensures err { OnErr result (self.new ≡ self.old) }
     {
-        let kept = planned(*self.rounds.allocator(), &self.database, self.pes)?;
+        let kept = decided(*self.rounds.allocator(), &self.database, self.pes, self.strategy)?;
         let round = self.database.round();
         keep(&mut self.database, &mut self.rounds, kept)?;
         Ok(round)
     }
 
-    /// Decides the present round as [`decide`](Board::decide) does, by [`plan_with`](lb_strategy::plan_with) with 1 to 64
-    /// workers, each of which calls the gate with its number. A thread that cannot be started is done without.
+    /// Decides the present round as [`decide`](Board::decide) does. The least division is found by 1 to 64 workers, each of
+    /// which calls the gate with its number. If a thread cannot be started, the others do its work.
     ///
     /// # Errors
     ///
@@ -154,14 +158,15 @@ impl<A: Allocator> Board<A> {
         ensures err { OnErr result (self.new ≡ self.old) }
     {
         let alloc = *self.rounds.allocator();
-        let best = planned_with(rt, alloc, &self.database, self.pes, workers, gate)?;
+        let strategy = self.strategy;
+        let kept = decided_with(rt, alloc, &self.database, self.pes, strategy, workers, gate)?;
         let round = self.database.round();
-        keep(&mut self.database, &mut self.rounds, best)?;
+        keep(&mut self.database, &mut self.rounds, kept)?;
         Ok(round)
     }
 
     /// The decision of a round, in constant time, or `None` where the round is not decided.
-    pub fn decision_for(&self, round: Round) -> Option<&Decision<A>>
+    pub fn decision_for(&self, round: Round) -> Option<&Refined<A>>
         ensures value { option_copied result ≡ decision_of self.now round }
         ensures decided { IfSome result (λ decision. IsKeptIn self.now round decision.now) }
     {
@@ -170,7 +175,7 @@ impl<A: Allocator> Board<A> {
     }
 
     /// The snapshot and the decision of a round, in constant time, or `None` where the round is not decided.
-    pub fn kept_for(&self, round: Round) -> Option<&(Snapshot<A>, Decision<A>)>
+    pub fn kept_for(&self, round: Round) -> Option<&(Snapshot<A>, Refined<A>)>
         ensures value { option_copied result ≡ kept_of self.now.rounds round }
     {
         kept_for(&self.rounds, round.get())
@@ -178,7 +183,6 @@ impl<A: Allocator> Board<A> {
 
     /// The place of element `i` in the decision of a round, which is one of the board's PEs, or `None` where the round is
     /// not decided or there is no such element.
-    #[tactic(auto, using(crate::proofs::Places::has_place, crate::proofs::Places::place_below, crate::proofs::Places::decided_before))]
     pub fn place_for(&self, round: Round, i: Index) -> Option<Pe>
         ensures value { i < elements self.now.database → result ≡ place_in self.now round i }
         ensures stranger { elements self.now.database ≤ i → result ≡ None }
@@ -228,6 +232,13 @@ impl<A: Allocator> Board<A> {
         self.finished.get(i as usize).copied()
     }
 
+    /// How rounds are decided.
+    pub fn strategy(&self) -> Strategy
+        ensures value { result ≡ self.now.strategy }
+    {
+        self.strategy
+    }
+
     /// On how many PEs the elements run.
     pub fn pes(&self) -> u32
         ensures value { result ≡ self.now.pes }
@@ -259,7 +270,7 @@ impl<A: Allocator> Board<A> {
 
     /// The snapshot and the decision of each round that was decided, from round 1 on. The clause `consistent` says
     /// what holds of every board, for a caller that knows nothing else of this one.
-    pub fn rounds(&self) -> &[(Snapshot<A>, Decision<A>)]
+    pub fn rounds(&self) -> &[(Snapshot<A>, Refined<A>)]
         ensures value { result.now ≡ self.now.rounds }
         ensures consistent { IsBoard self.now }
     {
@@ -267,12 +278,13 @@ impl<A: Allocator> Board<A> {
     }
 
     /// The snapshot and the decision of each round that was decided, from round 1 on.
-    pub fn into_rounds(self) -> Vec<(Snapshot<A>, Decision<A>), A>
+    pub fn into_rounds(self) -> Vec<(Snapshot<A>, Refined<A>), A>
         ensures value { result.items ≡ self.rounds }
-        ensures decided { AreDecided (elements self.database) self.pes self.rounds }
+        ensures decided { AreDecided (elements self.database) self.pes self.strategy self.rounds }
     {
         let Board {
             pes: _,
+            strategy: _,
             database: _,
             rounds,
             finished: _,
@@ -293,32 +305,36 @@ fn all_running<A: Allocator>(alloc: A, n: usize) -> Result<Vec<bool, A>, AllocEr
 }
 
 // What is to be kept of the round that was measured.
-fn planned<A: Allocator + Copy>(
+#[tactic(auto, using(crate::proofs::Rounds::decided_by))]
+fn decided<A: Allocator + Copy>(
     alloc: A,
     database: &LoadDb<A>,
     pes: u32,
-) -> Result<(Snapshot<A>, Decision<A>), BoardError>
+    strategy: Strategy,
+) -> Result<(Snapshot<A>, Refined<A>), BoardError>
     requires some_pe { 0 < pes }
     requires few_pes { pes ≤ Limits.PES }
     requires placed { StandBelow pes database.now }
     ensures answer { MatchResult result (λ _. HasNextRound database.now) (RefusesDecision database.now) }
     ensures reported { IfOk result (λ kept. IsSnapshotOf database.now database.now.round pes kept.0) }
-    ensures decided { IfOk result (IsDecided (elements database.now) pes database.now.round) }
+    ensures decided { IfOk result (IsDecided (elements database.now) pes strategy database.now.round) }
 {
     let snapshot = measured(database, pes)?;
-    let decision = plan(alloc, &snapshot, pes)?;
+    let decision = strategy.decide(alloc, &snapshot, pes)?;
     Ok((snapshot, decision))
 }
 
-// The same, planned by several workers.
-fn planned_with<R: Threads + Sync, G: Gate + Sync, A: Allocator + Copy>(
+// The same, decided by several workers.
+#[tactic(auto, using(crate::proofs::Rounds::decided_by))]
+fn decided_with<R: Threads + Sync, G: Gate + Sync, A: Allocator + Copy>(
     rt: &R,
     alloc: A,
     database: &LoadDb<A>,
     pes: u32,
+    strategy: Strategy,
     workers: u32,
     gate: &G,
-) -> Result<(Snapshot<A>, Decision<A>), BoardError>
+) -> Result<(Snapshot<A>, Refined<A>), BoardError>
     requires some_pe { 0 < pes }
     requires few_pes { pes ≤ Limits.PES }
     requires some_worker { 1 ≤ workers }
@@ -326,10 +342,10 @@ fn planned_with<R: Threads + Sync, G: Gate + Sync, A: Allocator + Copy>(
     requires placed { StandBelow pes database.now }
     ensures answer { MatchResult result (λ _. HasNextRound database.now) (RefusesDecision database.now) }
     ensures reported { IfOk result (λ kept. IsSnapshotOf database.now database.now.round pes kept.0) }
-    ensures decided { IfOk result (IsDecided (elements database.now) pes database.now.round) }
+    ensures decided { IfOk result (IsDecided (elements database.now) pes strategy database.now.round) }
 {
     let snapshot = measured(database, pes)?;
-    let decision = plan_with(rt, alloc, &snapshot, pes, workers, gate)?;
+    let decision = strategy.decide_with(rt, alloc, &snapshot, pes, workers, gate)?;
     Ok((snapshot, decision))
 }
 
@@ -355,8 +371,8 @@ fn measured<A: Allocator + Copy>(database: &LoadDb<A>, pes: u32) -> Result<Snaps
 #[tactic(auto, using(crate::proofs::Unrefused::begun))]
 fn keep<A: Allocator>(
     database: &mut LoadDb<A>,
-    rounds: &mut Vec<(Snapshot<A>, Decision<A>), A>,
-    kept: (Snapshot<A>, Decision<A>),
+    rounds: &mut Vec<(Snapshot<A>, Refined<A>), A>,
+    kept: (Snapshot<A>, Refined<A>),
 ) -> Result<(), AllocError>
     requires { HasNextRound database.old }
     ensures added { OnOk result (rounds.new.items ≡ rounds.old.items ++ kept ∷ []) }
@@ -371,9 +387,9 @@ fn keep<A: Allocator>(
 
 // What is kept of a round.
 fn kept_for<A: Allocator>(
-    rounds: &[(Snapshot<A>, Decision<A>)],
+    rounds: &[(Snapshot<A>, Refined<A>)],
     round: u32,
-) -> Option<&(Snapshot<A>, Decision<A>)>
+) -> Option<&(Snapshot<A>, Refined<A>)>
     ensures { option_copied result ≡ kept_of rounds.now round }
 {
     if round == 0 {

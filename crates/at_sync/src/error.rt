@@ -3,7 +3,6 @@ ghost use Rattle.at_sync.specs.Refusals.{database_error_of};
 ghost use Rattle.at_sync.specs.declared.error.BoardError.TheVariants.{OutOfMemory};
 
 use lb_database::DbError;
-use lb_strategy::PlanError;
 use std::alloc::AllocError;
 use thiserror::Error;
 
@@ -38,15 +37,6 @@ impl From<AllocError> for BoardError {
     ghost from_gives = { λ _ e. e ≡ OutOfMemory };
 
     fn from(_: AllocError) -> BoardError {
-        BoardError::OutOfMemory
-    }
-}
-
-/// Planning fails only where memory runs out.
-impl From<PlanError> for BoardError {
-    ghost from_gives = { λ _ e. e ≡ OutOfMemory };
-
-    fn from(_: PlanError) -> BoardError {
         BoardError::OutOfMemory
     }
 }

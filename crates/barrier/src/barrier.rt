@@ -25,6 +25,7 @@ impl<J: BoardSize, A: Allocator> Barrier<J, A> {
     pub fn new(board: Board<A>) -> Self
         requires counted { elements board.database ≡ J.elements }
         requires on_pes { board.pes ≡ J.pes }
+        requires by_strategy { board.strategy ≡ J.strategy }
     {
         Barrier {
             board: Mutex::new(RunBoard::new(board)),
@@ -105,6 +106,7 @@ impl<J: BoardSize, A: Allocator> Barrier<J, A> {
     pub fn into_board(self) -> Board<A>
         ensures counted { elements result.database ≡ J.elements }
         ensures on_pes { result.pes ≡ J.pes }
+        ensures by_strategy { result.strategy ≡ J.strategy }
         ensures board { IsBoard result }
     {
         let Barrier { board } = self;

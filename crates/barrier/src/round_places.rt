@@ -1,10 +1,9 @@
 ghost use Rattle.std.specs.Prelude.{◌≡◌, ◌+◌, ◌<◌, ◌≤◌, length, vec_capacity, IfOk, IfSome};
-ghost use Rattle.std.specs.List.Sorted.{IsNonDecreasing};
-ghost use Rattle.lb_certificates.specs.Naming.{block_of};
 ghost use Rattle.barrier.specs.Places.{ArePlaces, no_places, place_among};
 
 use crate::board_size::BoardSize;
 use chare_index::{Index, Limits, Pe, Round};
+use lb_refinement::block_around;
 use std::alloc::{AllocError, Allocator, Global};
 use std::marker::{Model, PhantomData};
 
@@ -72,7 +71,7 @@ impl<J: BoardSize, A: Allocator> RoundPlaces<J, A> {
         if *self.cuts.last()? <= i {
             return None;
         }
-        Pe::new(self.names[block_at(&self.cuts, i)])
+        Pe::new(self.names[block_around(&self.cuts, i)])
     }
 
     // Becomes a copy of these places, which are those of a round before the last.
@@ -97,12 +96,4 @@ fn copy_list<A: Allocator>(list: &mut Vec<u32, A>, from: &[u32])
     for item in from {
         list.push_reserved(*item);
     }
-}
-
-// The block of an element: the one before the first cut above it.
-fn block_at(cuts: &[u32], i: u32) -> usize
-    requires ordered { IsNonDecreasing cuts.now }
-    ensures value { result ≡ block_of cuts.now i }
-{
-    cuts.partition_point(|&cut| cut <= i).saturating_sub(1)
 }

@@ -31,7 +31,7 @@ impl<J: BoardSize, A: Allocator> Model for RunBoard<J, A> {
 
     ghost view = { λ b. b.board };
 
-    ghost invariant = { λ b. (elements b.board.database ≡ J.elements) × (b.board.pes ≡ J.pes) };
+    ghost invariant = { λ b. (elements b.board.database ≡ J.elements) × (b.board.pes ≡ J.pes) × (b.board.strategy ≡ J.strategy) };
 }
 
 impl<J: BoardSize, A: Allocator> RunBoard<J, A> {
@@ -39,6 +39,7 @@ impl<J: BoardSize, A: Allocator> RunBoard<J, A> {
     pub(crate) fn new(board: Board<A>) -> Self
         requires counted { elements board.database ≡ J.elements }
         requires on_pes { board.pes ≡ J.pes }
+        requires by_strategy { board.strategy ≡ J.strategy }
         ensures value { result ≡ board }
     {
         RunBoard {
@@ -140,8 +141,7 @@ impl<J: BoardSize, A: Allocator> RunBoard<J, A> {
         let Some(decision) = self.board.decision_for(round) else {
             return false;
         };
-        let cuts = decision.division.cuts.as_slice();
-        into.copy(round, cuts, decision.naming.as_slice());
+        into.copy(round, decision.cuts(), decision.names());
         true
     }
 
@@ -168,6 +168,7 @@ impl<J: BoardSize, A: Allocator> RunBoard<J, A> {
         ensures value { result ≡ self }
         ensures counted { elements result.database ≡ J.elements }
         ensures on_pes { result.pes ≡ J.pes }
+        ensures by_strategy { result.strategy ≡ J.strategy }
         ensures board { IsBoard result }
     {
         let RunBoard { board, size: _ } = self;

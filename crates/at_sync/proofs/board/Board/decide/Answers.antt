@@ -18,6 +18,7 @@ invariant_of-self-2 g c =
       board_after
           (record {
             pes = c.self.inside.pes;
+            strategy = c.self.inside.strategy;
             database = c.self.inside.database;
             rounds = c.self.inside.rounds.items;
             finished = c.self.inside.finished.items;
@@ -32,6 +33,7 @@ returns-clause-ok g c =
     (decides_from
     (record {
       pes = c.self.inside.pes;
+      strategy = c.self.inside.strategy;
       database = c.self.inside.database;
       rounds = c.self.inside.rounds.items;
       finished = c.self.inside.finished.items;

@@ -2,15 +2,15 @@ use Rattle.std.proofs.lemmas.Result.{err_from_is_err_and}
 use Rattle.at_sync.proofs.Rounds.{board_after, decides_from}
 use Rattle.at_sync.proofs.board.Board.decide_with.Goals as goal
 
-pub returns-in_err-best-clause-answer : goal.returns-in_err-best-clause-answer
-returns-in_err-best-clause-answer g c =
+pub returns-in_err-kept-clause-answer : goal.returns-in_err-kept-clause-answer
+returns-in_err-kept-clause-answer g c =
     let p = err_from_is_err_and c.from_residual.result c.from_residual.ensures.1 in
-    rw (p.1, p.2, ← c.self.view_is) c.in_err-best.ensures.answer
+    rw (p.1, p.2, ← c.self.view_is) c.in_err-kept.ensures.answer
 
 pub returns-in_err-keep-clause-answer : goal.returns-in_err-keep-clause-answer
 returns-in_err-keep-clause-answer g c =
     let p = err_from_is_err_and c.from_residual-in_err-keep.result c.from_residual-in_err-keep.ensures.1 in
-    rw (p.1, p.2, ← c.self.view_is) c.in_ok-best.ensures.answer
+    rw (p.1, p.2, ← c.self.view_is) c.in_ok-kept.ensures.answer
 
 pub invariant_of-self-2 : goal.invariant_of-self-2
 invariant_of-self-2 g c =
@@ -18,11 +18,12 @@ invariant_of-self-2 g c =
       board_after
           (record {
             pes = c.self.inside.pes;
+            strategy = c.self.inside.strategy;
             database = c.self.inside.database;
             rounds = c.self.inside.rounds.items;
             finished = c.self.inside.finished.items;
           })
-          c.in_ok-best.best c.self.invariant.0 c.in_ok-best.ensures.decided,
+          c.in_ok-kept.kept c.self.invariant.0 c.in_ok-kept.ensures.decided,
       c.self.invariant.1,
     )
 
@@ -32,8 +33,9 @@ returns-clause-ok g c =
     (decides_from
     (record {
       pes = c.self.inside.pes;
+      strategy = c.self.inside.strategy;
       database = c.self.inside.database;
       rounds = c.self.inside.rounds.items;
       finished = c.self.inside.finished.items;
     })
-    c.in_ok-best.best c.in_ok-best.ensures.answer c.in_ok-best.ensures.reported c.in_ok-best.ensures.decided)
+    c.in_ok-kept.kept c.in_ok-kept.ensures.answer c.in_ok-kept.ensures.reported c.in_ok-kept.ensures.decided)

@@ -1,0 +1,44 @@
+-- What a strategy decides for the snapshot of a round. Sources: A. Pinar and C. Aykanat, "Fast optimal load balancing
+-- algorithms for 1D partitioning", Journal of Parallel and Distributed Computing 64(8), 2004, for the least division; the
+-- Charm++ manual's RefineLB, for a balance that moves little. That each is exact is this project's choice.
+use Rattle.std.specs.Prelude.{ℕ, ◌+◌, ◌<◌, List, length}
+use Rattle.chain_partition.specs.Chosen.{IsChosen}
+use Rattle.lb_certificates.specs.Chain.{IsDivision, IsLeastDivision}
+use Rattle.lb_certificates.specs.Naming.{IsCheapest, IsLeastNaming, IsNaming}
+use Rattle.lb_strategy.specs.Decisions.{IsRight}
+use Rattle.lb_strategy.specs.Moves.{HasPlace}
+use Rattle.lb_strategy.specs.declared.decision.Decision.{Decision}
+use Rattle.lb_refinement.specs.Refined.{ArePricesSmall, IsRefined, refined_cuts, refined_names}
+use Rattle.lb_refinement.specs.declared.refined.Refined.{Refined}
+use Rattle.lb_refinement.specs.declared.refined.Refined.TheVariants.{Near, Planned}
+use Rattle.at_sync.specs.declared.strategy.Strategy.{Strategy}
+use Rattle.at_sync.specs.declared.strategy.Strategy.TheVariants.{Least, Refine}
+
+-- a number for each strategy, to compare them by
+abbrev pub strategy_number : Strategy → ℕ
+strategy_number Least = 0
+strategy_number (Refine tolerance) = tolerance + 1
+
+-- A decision is best for these loads and sizes: every part of it is right, its division is the chosen one, and its naming
+-- the first of the cheapest. So no division has a lighter heaviest block, no naming of the blocks moves fewer bytes, and
+-- the loads and the sizes determine all of it but its prices.
+pub record IsBest {A : Type 0} (loads : List ℕ) (sizes : List (ℕ × ℕ)) (pes : ℕ) (d : Decision A) : Type 0 where
+  pub right : IsRight loads sizes pes d
+  pub chosen : IsChosen loads pes d.division
+  pub least : IsLeastDivision loads pes d.division.bottleneck d.division.cuts
+  pub cheapest : IsCheapest sizes d.division.cuts pes d.naming
+  pub least_naming : IsLeastNaming sizes d.division.cuts pes d.naming
+
+-- what a strategy decides: `Least` the best decision, and `Refine` the refined one within its tolerance
+abbrev pub IsDecidedBy : {A : Type 0} → Strategy → List ℕ → List (ℕ × ℕ) → ℕ → Refined A → Type 0
+IsDecidedBy Least loads sizes pes (Planned d) = IsBest loads sizes pes d
+IsDecidedBy Least loads sizes pes (Near k) = ⊥
+IsDecidedBy (Refine tolerance) loads sizes pes r = IsRefined loads sizes pes tolerance r
+
+-- What decisions have in common, whatever the strategy: the cuts divide all elements into as many blocks as there are PEs,
+-- each block runs on a PE of its own, so each element has a place, and prices lie in their range.
+pub record PlacesAll {A : Type 0} (loads : List ℕ) (sizes : List (ℕ × ℕ)) (pes : ℕ) (r : Refined A) : Type 0 where
+  pub blocks : IsDivision 0 (length loads) pes (refined_cuts r)
+  pub naming : IsNaming pes (refined_names r)
+  pub places : (i : ℕ) → i < length loads → HasPlace (refined_cuts r) (refined_names r) i
+  pub bounded : ArePricesSmall sizes r

@@ -1,0 +1,143 @@
+//! How the round of a board is decided.
+
+ghost use Rattle.std.specs.Prelude.{◌≡◌, ◌==◌, ◌≤◌, IfOk};
+ghost use Rattle.std.specs.Cmp.{nat_eq_equiv, on_per, partial_equiv_from_equiv};
+ghost use Rattle.std.specs.Option.{option_map_or};
+ghost use Rattle.lb_refinement.specs.declared.refined.Refined.TheVariants.{Planned};
+ghost use Rattle.at_sync.specs.declared.strategy.Strategy.TheVariants.{Least, Refine};
+ghost use Rattle.at_sync.specs.Strategies.{IsBest, IsDecidedBy, PlacesAll, strategy_number};
+
+use chain_refinement::Tolerance;
+use chare_index::{Gate, Limits};
+use lb_certificates::Snapshot;
+use lb_refinement::{Refined, refine, refine_with};
+use lb_strategy::{Decision, PlanError, plan, plan_with};
+use std::alloc::{AllocError, Allocator};
+use std::thread::Threads;
+
+/// How each round of a board is decided.
+#[derive(Clone, Copy, Debug)]
+pub enum Strategy {
+    /// As [`plan`](lb_strategy::plan) decides: the greatest load of a PE is the least possible one, and of the namings of
+    /// these blocks one that moves the fewest bytes is taken.
+    Least,
+    /// As [`refine`](lb_refinement::refine) decides: the greatest load of a PE lies within this tolerance above the least
+    /// possible one, and of the cuts that keep the order of the PEs those that move the fewest bytes are taken.
+    Refine(Tolerance),
+}
+
+impl PartialEq for Strategy {
+    ghost eq = { λ a b. strategy_number a == strategy_number b };
+
+    ghost laws = { on_per strategy_number (partial_equiv_from_equiv nat_eq_equiv) };
+
+    fn eq(&self, other: &Self) -> bool {
+        number_of(*self) == number_of(*other)
+    }
+}
+
+// A number for each strategy, to compare them by.
+fn number_of(strategy: Strategy) -> u32
+    ensures { result ≡ strategy_number strategy }
+{
+    match strategy {
+        Strategy::Least => 0,
+        Strategy::Refine(tolerance) => tolerance.get() + 1,
+    }
+}
+
+impl Strategy {
+    /// [`Strategy::Refine`] with this tolerance, and [`Strategy::Least`] where there is none.
+    pub fn within(tolerance: Option<Tolerance>) -> Strategy
+        ensures value { result ≡ option_map_or Refine tolerance Least }
+    {
+        match tolerance {
+            Some(tolerance) => Strategy::Refine(tolerance),
+            None => Strategy::Least,
+        }
+    }
+
+    // Decides a round by its snapshot.
+    pub(crate) fn decide<A: Allocator + Copy, B: Allocator>(
+        self,
+        alloc: A,
+        snapshot: &Snapshot<B>,
+        pes: u32,
+    ) -> Result<Refined<A>, AllocError>
+        requires some_pe { 1 ≤ pes }
+        requires few_pes { pes ≤ Limits.PES }
+        ensures by_strategy { IfOk result (IsDecidedBy self snapshot.now.loads snapshot.now.sizes pes) }
+        ensures placed { IfOk result (PlacesAll snapshot.now.loads snapshot.now.sizes pes) }
+    {
+        let Strategy::Refine(tolerance) = self else {
+            let best = best(alloc, snapshot, pes)?;
+            return Ok(Refined::Planned(best));
+        };
+        refine(alloc, snapshot, pes, tolerance)
+    }
+
+    // The same, with the least division found by several workers.
+    pub(crate) fn decide_with<R: Threads + Sync, G: Gate + Sync, A: Allocator + Copy, B: Allocator>(
+        self,
+        rt: &R,
+        alloc: A,
+        snapshot: &Snapshot<B>,
+        pes: u32,
+        workers: u32,
+        gate: &G,
+    ) -> Result<Refined<A>, AllocError>
+        requires some_pe { 1 ≤ pes }
+        requires few_pes { pes ≤ Limits.PES }
+        requires some_worker { 1 ≤ workers }
+        requires few_workers { workers ≤ Limits.PROBE_WORKERS }
+        ensures by_strategy { IfOk result (IsDecidedBy self snapshot.now.loads snapshot.now.sizes pes) }
+        ensures placed { IfOk result (PlacesAll snapshot.now.loads snapshot.now.sizes pes) }
+    {
+        let Strategy::Refine(tolerance) = self else {
+            let best = best_with(rt, alloc, snapshot, pes, workers, gate)?;
+            return Ok(Refined::Planned(best));
+        };
+        refine_with(rt, alloc, snapshot, pes, tolerance, workers, gate)
+    }
+}
+
+// The plan.
+#[tactic(auto, using(crate::proofs::Placed::best_places))]
+fn best<A: Allocator + Copy, B: Allocator>(
+    alloc: A,
+    snapshot: &Snapshot<B>,
+    pes: u32,
+) -> Result<Decision<A>, AllocError>
+    requires some_pe { 1 ≤ pes }
+    requires few_pes { pes ≤ Limits.PES }
+    ensures best { IfOk result (IsBest snapshot.now.loads snapshot.now.sizes pes) }
+    ensures placed { IfOk result (λ d. PlacesAll snapshot.now.loads snapshot.now.sizes pes (Planned d)) }
+{
+    match plan(alloc, snapshot, pes) {
+        Ok(decision) => Ok(decision),
+        Err(PlanError::OutOfMemory) => Err(AllocError),
+    }
+}
+
+// The same, with the division found by several workers.
+#[tactic(auto, using(crate::proofs::Placed::best_places))]
+fn best_with<R: Threads + Sync, G: Gate + Sync, A: Allocator + Copy, B: Allocator>(
+    rt: &R,
+    alloc: A,
+    snapshot: &Snapshot<B>,
+    pes: u32,
+    workers: u32,
+    gate: &G,
+) -> Result<Decision<A>, AllocError>
+    requires some_pe { 1 ≤ pes }
+    requires few_pes { pes ≤ Limits.PES }
+    requires some_worker { 1 ≤ workers }
+    requires few_workers { workers ≤ Limits.PROBE_WORKERS }
+    ensures best { IfOk result (IsBest snapshot.now.loads snapshot.now.sizes pes) }
+    ensures placed { IfOk result (λ d. PlacesAll snapshot.now.loads snapshot.now.sizes pes (Planned d)) }
+{
+    match plan_with(rt, alloc, snapshot, pes, workers, gate) {
+        Ok(decision) => Ok(decision),
+        Err(PlanError::OutOfMemory) => Err(AllocError),
+    }
+}
