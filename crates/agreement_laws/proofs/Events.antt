@@ -26,6 +26,7 @@ use Rattle.agreement_laws.proofs.Parcels.{look_event_agrees, flush_event_agrees,
 use Rattle.agreement_laws.proofs.ReportEvent.{OnePlace, got_of_all, report_event_agrees}
 use Rattle.agreement_laws.proofs.Deciding.{may_decide_agrees}
 use Rattle.agreement_laws.proofs.Openings.{opening_agrees}
+use Rattle.at_sync.specs.declared.strategy.Strategy.{Strategy}
 
 -- what follows where something is there
 pub then_so : {X Y : Type 0} (G : Y → Type 0) (o : Option X) (f : X → Y) (a : Y) → option_and_then (λ x. Some (f x)) o ≡ Some a → ((x : X) → o ≡ Some x → G (f x)) → G a
@@ -124,17 +125,17 @@ module _ {C A : Type 0} (step : Step C) (pack : C → List ℕ) (unpack : List �
       subst (λ (v : After C A). Sound n v.0) (sym is)
       (run_sound n first.0 events rest (event_sound n w event first s happens) leads)
 
-  module _ (pes : ℕ) (chares : List C) (some : 1 ≤ pes) where
-    pub opening_sound : Sound (length chares) (opening_world {A = A} pes chares)
+  module _ (pes : ℕ) (chares : List C) (strategy : Strategy) (some : 1 ≤ pes) where
+    pub opening_sound : Sound (length chares) (opening_world {A = A} pes chares strategy)
     opening_sound =
         record {
-          agrees = opening_agrees A pes chares some;
+          agrees = opening_agrees A pes chares strategy some;
           one = λ e lt.
-              let b = opening_weighs A pes chares some no_letter (by_index (one_at e)) in
+              let b = opening_weighs A pes chares strategy some no_letter (by_index (one_at e)) in
               let c : sum_by (λ (x : Life). one_at e x.0) (opened_lives 0 chares) ≡ 1 = opened_once e 0 chares (omega arith) (omega (arith, lt)) in
               omega (arith, b, c);
-          same_array = opening_of A pes chares some;
+          same_array = opening_of A pes chares strategy some;
         }
 
-    pub run_agrees : (events : List Event) (last : After C A) → Reaches step pack unpack (opening_world pes chares) events last → Agrees (length chares) last.0
-    run_agrees events last run = (run_sound (length chares) (opening_world pes chares) events last opening_sound run).agrees
+    pub run_agrees : (events : List Event) (last : After C A) → Reaches step pack unpack (opening_world pes chares strategy) events last → Agrees (length chares) last.0
+    run_agrees events last run = (run_sound (length chares) (opening_world pes chares strategy) events last opening_sound run).agrees

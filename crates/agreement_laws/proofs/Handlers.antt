@@ -24,6 +24,7 @@ use Rattle.rts_core.proofs.EventSteps.{where_some}
 use Rattle.agreement_laws.specs.Agreement.{IsAtWork, Owes, WaitsForPlace, IsInSomeState, AgreesWith, AgreesOn, AgreesAt}
 use Rattle.agreement_laws.proofs.Rooms.{of_found}
 use Rattle.agreement_laws.proofs.Turns.{some_is, Turn, RoomAgrees, turned, no_sync, true_not_false, turn_at_work, turn_waiting}
+use Rattle.lb_refinement.specs.Refined.{refined_cuts, refined_names}
 
 -- a parcel in a hand or in an outbox
 abbrev pub ItemAgrees : Measured → Item → Type 0
@@ -84,7 +85,7 @@ module _ {A : Type 0} (b : BoardState A) (numbered : b.database.round ≡ length
   placed_before : (r e q : ℕ) → place_in b r e ≡ Some q → r < b.database.round
   placed_before r e q h = by (kept_of b.rounds r) refl h
     where
-      by : (o : Option (Kept A)) → kept_of b.rounds r ≡ o → option_map (λ d. planned_pe d.division.cuts d.naming e) (option_map (λ (kept : Kept A). kept.1) o) ≡ Some q → r < b.database.round
+      by : (o : Option (Kept A)) → kept_of b.rounds r ≡ o → option_map (λ d. planned_pe (refined_cuts d) (refined_names d) e) (option_map (λ (kept : Kept A). kept.1) o) ≡ Some q → r < b.database.round
       by None s k = cc
       by (Some kept) s k = omega (arith, numbered, kept_below b.rounds r kept s)
 

@@ -19,6 +19,7 @@ use Rattle.agreement_laws.specs.Agreement.{AgreesWith, AgreesOn, IsOwed, AgreesA
 use Rattle.agreement_laws.proofs.Rooms.{AreKeyed, Key, places_joined}
 use Rattle.agreement_laws.proofs.Handlers.{ItemAgrees}
 use Rattle.agreement_laws.proofs.Deciding.{nobody, opens_for}
+use Rattle.at_sync.specs.declared.strategy.Strategy.{Strategy}
 
 -- a PE as elements are placed on it: each is at work, and it owes and holds nothing
 pub record OpensAt {C : Type 0} (m : Measured) (pe : PeView C) : Type 0 where
@@ -91,15 +92,15 @@ placed_length {C} n pes e (chare ∷ chares) =
     by (Some pe) = length-set {A = PeView C} pes (home e n (length pes)) (placed pe e chare)
 
 -- the opening world
-pub opening_agrees : {C : Type 0} (A : Type 0) (pes : ℕ) (chares : List C) → 1 ≤ pes → Agrees (length chares) (opening_world {A = A} pes chares)
-opening_agrees {C} A pes chares some =
+pub opening_agrees : {C : Type 0} (A : Type 0) (pes : ℕ) (chares : List C) (strategy : Strategy) → 1 ≤ pes → Agrees (length chares) (opening_world {A = A} pes chares strategy)
+opening_agrees {C} A pes chares strategy some =
     let n : ℕ = length chares in
     record {
       measured = opens_for n 1;
       numbered = refl;
       counted = placed_length n (map (λ q. new_pe {C = C} q n) (range_with_len 0 pes)) 0 chares ∙ length-map-range_with_len (λ (q : ℕ). new_pe {C = C} q n) 0 pes;
-      places = opening_numbered A pes chares some;
-      pes = all_agree n (opening_world {A = A} pes chares).pes
+      places = opening_numbered A pes chares strategy some;
+      pes = all_agree n (opening_world {A = A} pes chares strategy).pes
           (settled_opens n (map (λ q. new_pe q n) (range_with_len 0 pes)) 0 chares (omega arith)
           (All-map (OpensAt {C = C} (opening 1 n)) (λ (q : ℕ). new_pe {C = C} q n) (range_with_len 0 pes) (λ k d lt. new_opens n _)));
       queues = All-replicate (All (AgreesOn (opening 1 n))) pes [] (All-nil (AgreesOn (opening 1 n)));

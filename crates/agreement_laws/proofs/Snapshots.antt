@@ -34,6 +34,7 @@ use Rattle.agreement_laws.proofs.ReportEvent.{OnePlace, got_of_all}
 use Rattle.agreement_laws.proofs.Deciding.{not_silent, each_reported}
 use Rattle.agreement_laws.proofs.Events.{Sound, run_sound, opening_sound}
 use Rattle.agreement_laws.proofs.OnlyDecide.{Others, none_among, enabled_others}
+use Rattle.at_sync.specs.declared.strategy.Strategy.{Strategy}
 
 -- ---- lists
 
@@ -186,10 +187,10 @@ module _ {C A : Type 0} (step : Step C) (pack : C → List ℕ) (unpack : List �
       by None d = may_snap next.0.board next.1 r here d.0
       by (Some p) e = absurd (none_among next.1 r (subst (λ (v : After C A). Others v.1) (sym e) (enabled_others step pack unpack w event p)) here)
 
-module _ {C A : Type 0} (step : Step C) (pack : C → List ℕ) (unpack : List ℕ → Result (C × ℕ) PupError) (pes : ℕ) (chares : List C) (some : 1 ≤ pes) where
+module _ {C A : Type 0} (step : Step C) (pack : C → List ℕ) (unpack : List ℕ → Result (C × ℕ) PupError) (pes : ℕ) (chares : List C) (strategy : Strategy) (some : 1 ≤ pes) where
   -- after every list of events
-  pub run_snaps : (events : List Event) (w : WorldView C A) (trace : List TraceEntry) (event : Event) (next : After C A) (r : ℕ) → Reaches step pack unpack (opening_world pes chares) events (w, trace) → Happens step pack unpack w event next → Contains next.1 (Decided r) → Snapped (length chares) w next.0.board r
+  pub run_snaps : (events : List Event) (w : WorldView C A) (trace : List TraceEntry) (event : Event) (next : After C A) (r : ℕ) → Reaches step pack unpack (opening_world pes chares strategy) events (w, trace) → Happens step pack unpack w event next → Contains next.1 (Decided r) → Snapped (length chares) w next.0.board r
   run_snaps events w trace event next r run happens here =
       event_snaps step pack unpack (length chares) w
-      (run_sound step pack unpack (length chares) (opening_world pes chares) events (w, trace) (opening_sound step pack unpack pes chares some) run)
+      (run_sound step pack unpack (length chares) (opening_world pes chares strategy) events (w, trace) (opening_sound step pack unpack pes chares strategy some) run)
       event next r happens here

@@ -23,6 +23,7 @@ use Rattle.element_laws.specs.Orders.{IsElementInOrder}
 use Rattle.barrier_laws.specs.Orders.{HasOrder, AreInOrder}
 use Rattle.rts_core.proofs.Rooms.{at_place, in_room}
 use Rattle.barrier_laws.proofs.Runs.{in_order}
+use Rattle.at_sync.specs.declared.strategy.Strategy.{Strategy}
 
 module _ {C A : Type 0} (step : Step C) (fits : C → Type 0) (pack : C → List ℕ) (opened : List C) (w : WorldView C A) (snapshot : Taken) (e r : ℕ) where
   pub measures : IsTakenOf w snapshot e r → AreHistories step fits pack opened w → AreInOrder w → Measures step pack opened w snapshot e r
@@ -42,13 +43,13 @@ module _ {C A : Type 0} (step : Step C) (fits : C → Type 0) (pack : C → List
             did = subst (λ (i : ℕ). IsPhase step pack (length opened) i chare taken.el.journal r taken.load taken.bytes) (sym same) did;
           }
 
-module _ {C A : Type 0} (step : Step C) (fits : C → Type 0) (pack : C → List ℕ) (unpack : List ℕ → Result (C × ℕ) PupError) (pes : ℕ) (chares : List C) (some : 1 ≤ pes) where
+module _ {C A : Type 0} (step : Step C) (fits : C → Type 0) (pack : C → List ℕ) (unpack : List ℕ → Result (C × ℕ) PupError) (pes : ℕ) (chares : List C) (strategy : Strategy) (some : 1 ≤ pes) where
   -- where a round is decided
   pub measured : (events : List Event) (w : WorldView C A) (trace : List TraceEntry) (event : Event) (next : After C A) (r : ℕ)
-      → Reaches step pack unpack (opening_world pes chares) events (w, trace) → AreHistories step fits pack chares w → Happens step pack unpack w event next → Contains next.1 (Decided r)
+      → Reaches step pack unpack (opening_world pes chares strategy) events (w, trace) → AreHistories step fits pack chares w → Happens step pack unpack w event next → Contains next.1 (Decided r)
       → (kept : Kept A) × (kept_of next.0.board.rounds r ≡ Some kept) × ((e : ℕ) → e < length chares → Measures step pack chares w kept.0 e r)
-  measured events w trace event next r run are happens there = by (run_snaps step pack unpack pes chares some events w trace event next r run happens there)
+  measured events w trace event next r run are happens there = by (run_snaps step pack unpack pes chares strategy some events w trace event next r run happens there)
     where
       by : (kept : Kept A) × (kept_of next.0.board.rounds r ≡ Some kept) × ((e : ℕ) → e < length chares → IsTakenOf w kept.0 e r)
           → (kept : Kept A) × (kept_of next.0.board.rounds r ≡ Some kept) × ((e : ℕ) → e < length chares → Measures step pack chares w kept.0 e r)
-      by (kept, is, all) = (kept, is, λ e inside. measures step fits pack chares w kept.0 e r (all e inside) are (in_order step pack unpack pes chares events (w, trace) run))
+      by (kept, is, all) = (kept, is, λ e inside. measures step fits pack chares w kept.0 e r (all e inside) are (in_order step pack unpack pes chares strategy events (w, trace) run))

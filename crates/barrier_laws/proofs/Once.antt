@@ -31,6 +31,7 @@ use Rattle.barrier_laws.proofs.Ordered.{Fits, PackedFits, AllOrdered, kept, are_
 use Rattle.barrier_laws.proofs.RunOrders.{run_gains}
 use Rattle.rts_core.proofs.EachElement.{run_kept, opening_kept}
 use Rattle.barrier_laws.proofs.Tallies.{one, times-cons}
+use Rattle.at_sync.specs.declared.strategy.Strategy.{Strategy}
 
 -- each number stands once among numbers one after another
 pub range_past : (a n r : ℕ) → r < a → times (λ s. s == r) (range_with_len a n) ≡ 0
@@ -126,16 +127,16 @@ module _ (e r : ℕ) where
       by true = refl
       by false = refl
 
-  module _ {C A : Type 0} (step : Step C) (pack : C → List ℕ) (unpack : List ℕ → Result (C × ℕ) PupError) (pes : ℕ) (chares : List C) (some : 1 ≤ pes) where
-    pub resumed_once : (events : List Event) (last : After C A) → Reaches step pack unpack (opening_world pes chares) events last → times (is_resumed e r) last.1 ≤ 1
+  module _ {C A : Type 0} (step : Step C) (pack : C → List ℕ) (unpack : List ℕ → Result (C × ℕ) PupError) (pes : ℕ) (chares : List C) (strategy : Strategy) (some : 1 ≤ pes) where
+    pub resumed_once : (events : List Event) (last : After C A) → Reaches step pack unpack (opening_world pes chares strategy) events last → times (is_resumed e r) last.1 ≤ 1
     resumed_once events last run =
-        let opens : AllOrdered (opening_world pes chares) = opening_kept step pack Fits PackedFits (kept step pack) A pes chares in
-        let ordered : AllOrdered last.0 = run_kept step pack Fits PackedFits (kept step pack) unpack (opening_world pes chares) events last opens run in
-        let a = run_gains step pack unpack (opening_world pes chares) events last opens run e r in
-        let b = opening_weighs A pes chares some no_letter (resumed_in e r) in
+        let opens : AllOrdered (opening_world pes chares strategy) = opening_kept step pack Fits PackedFits (kept step pack) A pes chares strategy in
+        let ordered : AllOrdered last.0 = run_kept step pack Fits PackedFits (kept step pack) unpack (opening_world pes chares strategy) events last opens run in
+        let a = run_gains step pack unpack (opening_world pes chares strategy) events last opens run e r in
+        let b = opening_weighs A pes chares strategy some no_letter (resumed_in e r) in
         let c = unlived (resumed_in e r) resumed_none 0 chares in
         let d = world_le last.0 (are_in_order last.0 ordered) in
-        let f : of_world no_letter known last.0 ≡ of_world no_letter known (opening_world {A = A} pes chares) = (run_keeps step pack unpack (length chares) (opening_world pes chares) events last (opening_of A pes chares some) run).stands (one_at e) in
-        let g = opening_weighs A pes chares some no_letter known in
+        let f : of_world no_letter known last.0 ≡ of_world no_letter known (opening_world {A = A} pes chares strategy) = (run_keeps step pack unpack (length chares) (opening_world pes chares strategy) events last (opening_of A pes chares strategy some) run).stands (one_at e) in
+        let g = opening_weighs A pes chares strategy some no_letter known in
         let h : sum_by known (opened_lives 0 chares) ≤ 1 = opened_once_each e 0 chares in
         omega (arith, a, b, c, d, f, g, h)

@@ -23,6 +23,7 @@ use Rattle.rts_core.proofs.EachElement.{run_kept, opening_kept}
 use Rattle.barrier_laws.proofs.Stands.{Turned, Takes, each_turned, stands_at}
 use Rattle.barrier_laws.proofs.Tallies.{only_member, no_member}
 use Rattle.rts_core.proofs.Turns.{each_map, happens_so}
+use Rattle.at_sync.specs.declared.strategy.Strategy.{Strategy}
 
 module _ {C A : Type 0} (step : Step C) (pack : C → List ℕ) (unpack : List ℕ → Result (C × ℕ) PupError) where
   -- an event
@@ -53,8 +54,8 @@ module _ {C A : Type 0} (step : Step C) (pack : C → List ℕ) (unpack : List �
       (subst (λ (v : List TraceEntry). Tells n rest.0.board v) (append_assoc trace first.1 rest.1) b)
 
   -- a new board
-  pub opening_tells : (n pes : ℕ) → Tells {A = A} n (new_board n pes) []
-  opening_tells n pes =
+  pub opening_tells : (n pes : ℕ) (strategy : Strategy) → Tells {A = A} n (new_board n pes strategy) []
+  opening_tells n pes strategy =
       record {
         counted = length-replicate n 0;
         reports_counted = length-replicate n None;
@@ -77,24 +78,24 @@ module _ {C A : Type 0} (step : Step C) (pack : C → List ℕ) (unpack : List �
       no_split (y ∷ before) after x h = cc
 
   -- the barrier holds of every list of events
-  pub barrier : (pes : ℕ) (chares : List C) (events : List Event) (last : After C A) → 1 ≤ pes → Reaches step pack unpack (opening_world pes chares) events last → IsBarrier (length chares) last.1
-  barrier pes chares events last some run =
-      let t : Tells (length chares) last.0.board last.1 = run_tells (length chares) (opening_world pes chares) [] events last (opening_tells (length chares) pes) run in
+  pub barrier : (pes : ℕ) (chares : List C) (strategy : Strategy) (events : List Event) (last : After C A) → 1 ≤ pes → Reaches step pack unpack (opening_world pes chares strategy) events last → IsBarrier (length chares) last.1
+  barrier pes chares strategy events last some run =
+      let t : Tells (length chares) last.0.board last.1 = run_tells (length chares) (opening_world pes chares strategy) [] events last (opening_tells (length chares) pes strategy) run in
       record {
         all_synced = λ before after e r h first. (t.barred before after e r h first).synced;
         decided_once = λ before after e r h first. (t.barred before after e r h first).decided;
         once_decided = decided_at_most_once (length chares) last.0.board last.1 t;
-        resumed_once = λ e r. resumed_once e r step pack unpack pes chares some events last run;
+        resumed_once = λ e r. resumed_once e r step pack unpack pes chares strategy some events last run;
       }
 
   -- the rounds of all elements come in order
-  pub in_order : (pes : ℕ) (chares : List C) (events : List Event) (last : After C A) → Reaches step pack unpack (opening_world pes chares) events last → AreInOrder last.0
-  in_order pes chares events last run = are_in_order last.0 (run_kept step pack Fits PackedFits (kept step pack) unpack (opening_world pes chares) events last (opening_kept step pack Fits PackedFits (kept step pack) A pes chares) run)
+  pub in_order : (pes : ℕ) (chares : List C) (strategy : Strategy) (events : List Event) (last : After C A) → Reaches step pack unpack (opening_world pes chares strategy) events last → AreInOrder last.0
+  in_order pes chares strategy events last run = are_in_order last.0 (run_kept step pack Fits PackedFits (kept step pack) unpack (opening_world pes chares strategy) events last (opening_kept step pack Fits PackedFits (kept step pack) A pes chares strategy) run)
 
   -- and what an event resumes for a round stands in its place
-  pub stands : (pes : ℕ) (chares : List C) (events : List Event) (w : WorldView C A) (trace : List TraceEntry) (event : Event) (next : After C A) (e r : ℕ)
-      → 1 ≤ pes → Reaches step pack unpack (opening_world pes chares) events (w, trace) → Happens step pack unpack w event next → Contains next.1 (Resumed e r) → 1 ≤ r → StandsInItsPlace w e r × StandsInItsPlace next.0 e r
-  stands pes chares events w trace event next e r some run happens there first =
+  pub stands : (pes : ℕ) (chares : List C) (strategy : Strategy) (events : List Event) (w : WorldView C A) (trace : List TraceEntry) (event : Event) (next : After C A) (e r : ℕ)
+      → 1 ≤ pes → Reaches step pack unpack (opening_world pes chares strategy) events (w, trace) → Happens step pack unpack w event next → Contains next.1 (Resumed e r) → 1 ≤ r → StandsInItsPlace w e r × StandsInItsPlace next.0 e r
+  stands pes chares strategy events w trace event next e r some run happens there first =
       happens_so step pack unpack w
       (λ (v : After C A). Agrees (length chares) v.0 → Contains v.1 (Resumed e r) → StandsInItsPlace w e r × StandsInItsPlace v.0 e r)
       (record {
@@ -107,4 +108,4 @@ module _ {C A : Type 0} (step : Step C) (pack : C → List ℕ) (unpack : List �
       event next happens (event_sound step pack unpack (length chares) w event next before happens).agrees there
     where
       before : Sound (length chares) w
-      before = run_sound step pack unpack (length chares) (opening_world pes chares) events (w, trace) (opening_sound step pack unpack pes chares some) run
+      before = run_sound step pack unpack (length chares) (opening_world pes chares strategy) events (w, trace) (opening_sound step pack unpack pes chares strategy some) run

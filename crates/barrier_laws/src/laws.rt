@@ -11,6 +11,7 @@ ghost use Rattle.rts_core.specs.declared.event.Event.{Event};
 ghost use Rattle.rts_core.specs.Events.{After, Happens};
 ghost use Rattle.rts_core.specs.Histories.{AreHistories};
 ghost use Rattle.rts_core.specs.Runs.{RunsTo, ForEachRun, ForEachStep, ForEachEvent};
+ghost use Rattle.at_sync.specs.declared.strategy.Strategy.{Strategy};
 ghost use Rattle.rts_core.specs.Worlds.{WorldView, opening_world};
 
 use chares::Chare;
@@ -29,6 +30,6 @@ pub fn barrier_law<C: Chare<A>, A: Allocator>()
     ensures barrier { ForEachRun C.step C.pack C.unpack (λ (chares : List C) (last : After C A). IsBarrier (length chares) last.1) }
     ensures stands { ForEachStep C.step C.pack C.unpack (λ (chares : List C) (w : WorldView C A) (next : After C A). ResumesInPlace w next) }
     ensures kept { ForEachEvent C.step C.pack C.unpack (λ (w : WorldView C A) (next : After C A). KeepsRounds w next) }
-    ensures in_order { (pes : ℕ) (chares : List C) (events : List Event) (last : After C A) → RunsTo C.step C.pack C.unpack pes chares events last → AreInOrder last.0 }
+    ensures in_order { (pes : ℕ) (chares : List C) (strategy : Strategy) (events : List Event) (last : After C A) → RunsTo C.step C.pack C.unpack pes chares strategy events last → AreInOrder last.0 }
     ensures measured { ForEachStep C.step C.pack C.unpack (λ (chares : List C) (w : WorldView C A) (next : After C A). Forecasts C.step C.fits C.pack chares w next) }
 {}

@@ -1,4 +1,4 @@
-//! `charm_run [--dump PREFIX] [--lbd1] [--progress] FILE` runs the chares of a workload over threads: it prints what each
+//! `charm_run [--dump PREFIX] [--lbd1] [--progress] [--tolerance T] FILE` runs the chares of a workload over threads: it prints what each
 //! round decided, what each chare added up, and where every letter is.
 //!
 //! - `run_command_line::asked`: what the words of the command line ask for, and the status where they ask for no run.
@@ -12,6 +12,7 @@ ghost use Rattle.std.specs.Prelude.{None};
 
 use file_faults::Advice;
 use progress_line::Progress;
+use rts_run::{Strategy, Tolerance};
 use run_command_line::{Asked, NO_WORDS, asked, words_status};
 use std::env;
 use std::fs::{File, Files};
@@ -70,9 +71,18 @@ fn ran<R: Threads + Wait + Sync + Files + Clock + Print + Eprint + AllocGlobal, 
     errors: &mut E,
 ) -> u8 {
     let progress = Progress::new(rt, progress).unwrap_or(Progress::Off);
+    let strategy = Strategy::within(asked.tolerance.and_then(Tolerance::new));
     let file = File::open(rt, asked.file);
     let mut writer = io::writer(rt);
-    let (driven, reason) = drive_file(rt, rt.alloc(), file, &mut writer, TURNS, &progress);
+    let (driven, reason) = drive_file(
+        rt,
+        rt.alloc(),
+        file,
+        &mut writer,
+        TURNS,
+        strategy,
+        &progress,
+    );
     progress.finish();
     let _told = ADVICE.tell(
         rt.alloc(),

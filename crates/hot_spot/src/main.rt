@@ -1,5 +1,5 @@
-//! `hot_spot [--elements N] [--pes P] [--rounds R] [--work W] [--static]` runs a chain of strips whose work wanders. It prints
-//! the loads of each round and the checksum of all cells, and on the standard error how long the run took.
+//! `hot_spot [--elements N] [--pes P] [--rounds R] [--work W] [--static] [--tolerance T]` runs a chain of strips whose work
+//! wanders. It prints the loads of each round and the checksum of all cells, and on the standard error how long the run took.
 //!
 //! - `hot_spot_run::run_chain`: the run. `hot_spot_run::text_of`: what is printed.
 #![tactic(auto)]
@@ -10,7 +10,7 @@ mod words;
 use crate::words::{RunOptions, read_options};
 use hot_spot_run::{Chain, ChainError, run_chain, text_of};
 use hot_spot_strip::Mode;
-use rts_run::Config;
+use rts_run::{Config, Strategy, Tolerance};
 use std::alloc::AllocError;
 use std::process::ExitCode;
 use std::sync::Wait;
@@ -72,7 +72,7 @@ fn ran<R: Threads + Wait + Sync + Clock + Print + Eprint + AllocGlobal>(
         work: options.work,
         cells: &cells,
     };
-    match told(rt, &chain, options.pes) {
+    match told(rt, &chain, options.pes, options.tolerance) {
         Ok(status) => status,
         Err(error) => {
             let _ = eprintln!(rt; "hot_spot: {error}");
@@ -93,8 +93,12 @@ fn told<R: Threads + Wait + Sync + Clock + Print + Eprint + AllocGlobal>(
     rt: &R,
     chain: &Chain<'_>,
     pes: u32,
+    tolerance: Option<u32>,
 ) -> Result<u8, ChainError> {
-    let config = Config::usual(pes);
+    let config = Config {
+        strategy: Strategy::within(tolerance.and_then(Tolerance::new)),
+        ..Config::usual(pes)
+    };
     let start = Instant::now(rt);
     let outcome = run_chain(rt, rt.alloc(), &config, chain)?;
     if let Ok(start) = start {

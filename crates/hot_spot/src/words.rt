@@ -6,7 +6,18 @@ use clap::{Arg, ArgAction, ArgMatches, Command, Error, value_parser};
 use hot_spot_strip::StripLimits;
 use std::alloc::{AllocError, Global};
 
-/// What the words ask for.
+/fn tolerance<'a>(alloc: Global) -> Arg<'a> {
+    Arg::new(alloc, "tolerance")
+        .long("tolerance")
+        .value_name("T")
+        .help(
+            "Lets the greatest load of a PE lie up to T thousandths above the least{n}possible one, so that fewer bytes move; 0 to 1000",
+        )
+        .action(ArgAction::Set)
+        .value_parser(value_parser!(u32).range(0..=1_000))
+}
+
+// What the words ask for.
 #[derive(Clone, Copy, Debug, PartialEq, Eq)]
 pub(crate) struct RunOptions {
     pub(crate) elements: u32,
@@ -14,6 +25,7 @@ pub(crate) struct RunOptions {
     pub(crate) rounds: u32,
     pub(crate) work: u32,
     pub(crate) is_static: bool,
+    pub(crate) tolerance: Option<u32>,
 }
 
 /// Reads the words of a command line, the program's name first. The error has the text to print.
@@ -33,7 +45,8 @@ fn command<'a>(alloc: Global) -> Result<Command<'a>, AllocError> {
     let command = command.arg(pes(alloc))?;
     let command = command.arg(rounds(alloc))?;
     let command = command.arg(work(alloc))?;
-    command.arg(is_static(alloc))
+    let command = command.arg(is_static(alloc))?;
+    command.arg(tolerance(alloc))
 }
 
 fn elements<'a>(alloc: Global) -> Arg<'a> {
@@ -81,6 +94,17 @@ fn is_static<'a>(alloc: Global) -> Arg<'a> {
         .action(ArgAction::SetTrue)
 }
 
+fn tolerance<'a>(alloc: Global) -> Arg<'a> {
+    Arg::new(alloc, "tolerance")
+        .long("tolerance")
+        .value_name("T")
+        .help(
+            "Lets the greatest load of a PE lie up to T thousandths above the least{n}possible one, so that fewer bytes move; 0 to 1000",
+        )
+        .action(ArgAction::Set)
+        .value_parser(value_parser!(u32).range(0..=1_000))
+}
+
 // What the words ask for.
 fn found<'a>(matches: &ArgMatches<'a>) -> RunOptions {
     RunOptions {
@@ -89,5 +113,6 @@ fn found<'a>(matches: &ArgMatches<'a>) -> RunOptions {
         rounds: matches.get_one::<u32>("rounds").unwrap_or(64),
         work: matches.get_one::<u32>("work").unwrap_or(1_000),
         is_static: matches.get_one("static") == Some(true),
+        tolerance: matches.get_one::<u32>("tolerance"),
     }
 }

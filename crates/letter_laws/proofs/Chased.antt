@@ -29,6 +29,7 @@ use Rattle.letter_laws.proofs.Hops.{chasing_next}
 use Rattle.letter_laws.proofs.Lags.{strays}
 use Rattle.letter_laws.proofs.Shelved.{shelved_bound}
 use Rattle.letter_laws.proofs.Traces.{forwards, departures, was_posted, departed_since, posted_join, since_join, since_none, number_posted, posted_here, since_here}
+use Rattle.at_sync.specs.declared.strategy.Strategy.{Strategy}
 
 -- no letter is there as a world opens
 opened_none : {C : Type 0} (n m e : ℕ) (chares : List C) → opened_sites no_elements n m e chares ≡ 0
@@ -38,15 +39,15 @@ opened_none n m e (chare ∷ chares) =
     let b = opened_none n m (e + 1) chares in
     omega (arith, a, b)
 
-no_letter : {C : Type 0} (A : Type 0) (pes : ℕ) (chares : List C) → 1 ≤ pes → (g : LetterWeight) → world_at g no_elements (opening_world {A = A} pes chares) ≡ 0
-no_letter A pes chares some g =
-    let a = opening_sites g no_elements A pes chares some in
+no_letter : {C : Type 0} (A : Type 0) (pes : ℕ) (chares : List C) (strategy : Strategy) → 1 ≤ pes → (g : LetterWeight) → world_at g no_elements (opening_world {A = A} pes chares strategy) ≡ 0
+no_letter A pes chares strategy some g =
+    let a = opening_sites g no_elements A pes chares strategy some in
     let b = opened_none (length chares) pes 0 chares in
     omega (arith, a, b)
 
-module _ {C A : Type 0} (step : Step C) (pack : C → List ℕ) (unpack : List ℕ → Result (C × ℕ) PupError) (pes : ℕ) (chares : List C) (some : 1 ≤ pes) where
+module _ {C A : Type 0} (step : Step C) (pack : C → List ℕ) (unpack : List ℕ → Result (C × ℕ) PupError) (pes : ℕ) (chares : List C) (strategy : Strategy) (some : 1 ≤ pes) where
   abbrev pub first : WorldView C A
-  first = opening_world pes chares
+  first = opening_world pes chares strategy
 
   -- what holds of each world of a run, with its trace
   pub record IsRun (w : WorldView C A) (trace : List TraceEntry) : Type 0 where
@@ -57,8 +58,8 @@ module _ {C A : Type 0} (step : Step C) (pack : C → List ℕ) (unpack : List �
   opening_chasing : AreChasing first []
   opening_chasing =
       record {
-        lag = no_letter A pes chares some (strays first.words []);
-        away = λ p e le. let a = no_letter A pes chares some (waits_at p e) in absurd (omega (arith, a, le));
+        lag = no_letter A pes chares strategy some (strays first.words []);
+        away = λ p e le. let a = no_letter A pes chares strategy some (waits_at p e) in absurd (omega (arith, a, le));
         hops = λ id e h. omega arith;
         unposted = λ id h. refl;
       }
@@ -75,8 +76,8 @@ module _ {C A : Type 0} (step : Step C) (pack : C → List ℕ) (unpack : List �
   run_step : (w : WorldView C A) (trace : List TraceEntry) (event : Event) (next : After C A) → IsRun w trace → Happens step pack unpack w event next → IsRun next.0 (trace ++ next.1)
   run_step w trace event next h happens =
       let kept : Kept (length chares) first next.0 (trace ++ next.1) = kept_join (length chares) first w next.0 trace next.1 h.kept (step_keeps step (length chares) w next.0 next.1 (happens_good step pack unpack (length chares) w h.placed.of event next happens)) in
-      let before : Accounted (length chares) w trace = kept_accounted step pack unpack pes chares some w trace h.kept in
-      let after : Accounted (length chares) next.0 (trace ++ next.1) = kept_accounted step pack unpack pes chares some next.0 (trace ++ next.1) kept in
+      let before : Accounted (length chares) w trace = kept_accounted step pack unpack pes chares strategy some w trace h.kept in
+      let after : Accounted (length chares) next.0 (trace ++ next.1) = kept_accounted step pack unpack pes chares strategy some next.0 (trace ++ next.1) kept in
       record {
         placed = placed_step step pack unpack (length chares) w event next h.placed happens;
         kept = kept;
@@ -91,7 +92,7 @@ module _ {C A : Type 0} (step : Step C) (pack : C → List ℕ) (unpack : List �
       subst (λ (v : After C A). IsRun v.0 (trace ++ v.1)) (sym is) (subst (λ (v : List TraceEntry). IsRun rest.0 v) (append_assoc trace first.1 rest.1) b)
 
   pub reached : (events : List Event) (last : After C A) → Reaches step pack unpack first events last → IsRun last.0 last.1
-  reached events last run = run_on first [] events last (record { placed = opening_placed A pes chares some; kept = kept_same (length chares) first (opening_of A pes chares some); chasing = opening_chasing }) run
+  reached events last run = run_on first [] events last (record { placed = opening_placed A pes chares strategy some; kept = kept_same (length chares) first (opening_of A pes chares strategy some); chasing = opening_chasing }) run
 
 -- what was posted at most once was not posted before
 posted_late : (before after : List TraceEntry) (id : ℕ × ℕ) (e : ℕ) → times (says_number id) (posts (before ++ Trace.Posted id e ∷ after)) ≤ 1 → (b : Bool) → was_posted id e before ≡ b → b ≡ false
@@ -117,11 +118,11 @@ hops_from before after id e one hops =
     let f = since_here id e after in
     omega (arith, a, b, c, d, f)
 
-module _ {C A : Type 0} (step : Step C) (pack : C → List ℕ) (unpack : List ℕ → Result (C × ℕ) PupError) (pes : ℕ) (chares : List C) (some : 1 ≤ pes) where
-  pub chased : (events : List Event) (last : After C A) → Reaches step pack unpack (opening_world pes chares) events last → IsChase last.0 last.1
+module _ {C A : Type 0} (step : Step C) (pack : C → List ℕ) (unpack : List ℕ → Result (C × ℕ) PupError) (pes : ℕ) (chares : List C) (strategy : Strategy) (some : 1 ≤ pes) where
+  pub chased : (events : List Event) (last : After C A) → Reaches step pack unpack (opening_world pes chares strategy) events last → IsChase last.0 last.1
   chased events last run =
-      let r : IsRun step pack unpack pes chares some last.0 last.1 = reached step pack unpack pes chares some events last run in
-      let acc : Accounted (length chares) last.0 last.1 = kept_accounted step pack unpack pes chares some last.0 last.1 r.kept in
+      let r : IsRun step pack unpack pes chares strategy some last.0 last.1 = reached step pack unpack pes chares strategy some events last run in
+      let acc : Accounted (length chares) last.0 last.1 = kept_accounted step pack unpack pes chares strategy some last.0 last.1 r.kept in
       record {
         hops = λ before after id e is.
             subst (λ (v : List TraceEntry). times (is_forwarded id) v ≤ times (is_departed e) after) (sym is)

@@ -21,6 +21,7 @@ use Rattle.rts_core.specs.Worlds.{WorldView, opening_world}
 use Rattle.rts_core.proofs.EachElement.{IsKept, ParcelKept, ItemKept, PeKept, WorldKept, run_kept, opening_kept}
 use Rattle.rts_core.proofs.Rooms.{each_value}
 use Rattle.letter_laws.proofs.Journals.{all_flat, IsOwnEntry, own_more}
+use Rattle.at_sync.specs.declared.strategy.Strategy.{Strategy}
 
 -- an element stands beside its index, and every letter in its journal is to this index; so for one that is packed
 abbrev pub Fits : {C : Type 0} → ℕ → ElementView C → Type 0
@@ -76,6 +77,6 @@ world_owned {C} w h =
     (λ queue k. all_flat IsOwn lives_in queue (All-weaker (ParcelKept PackedFits) (λ (x : Parcel). All IsOwn (lives_in x)) parcel_owned queue k)) w.queues h.queues in
     All-append IsOwn (flat_map lives_at w.pes) (flat_map (flat_map lives_in) w.queues) (all_flat IsOwn lives_at w.pes pes) (all_flat IsOwn (flat_map lives_in) w.queues queues)
 
-pub own : {C A : Type 0} (step : Step C) (pack : C → List ℕ) (unpack : List ℕ → Result (C × ℕ) PupError) (pes : ℕ) (chares : List C) (events : List Event) (last : After C A) → Reaches step pack unpack (opening_world pes chares) events last → AreOwn last.0
-own {C} {A} step pack unpack pes chares events last run =
-    world_owned last.0 (run_kept step pack Fits PackedFits (kept step pack) unpack (opening_world pes chares) events last (opening_kept step pack Fits PackedFits (kept step pack) A pes chares) run)
+pub own : {C A : Type 0} (step : Step C) (pack : C → List ℕ) (unpack : List ℕ → Result (C × ℕ) PupError) (pes : ℕ) (chares : List C) (strategy : Strategy) (events : List Event) (last : After C A) → Reaches step pack unpack (opening_world pes chares strategy) events last → AreOwn last.0
+own {C} {A} step pack unpack pes chares strategy events last run =
+    world_owned last.0 (run_kept step pack Fits PackedFits (kept step pack) unpack (opening_world pes chares strategy) events last (opening_kept step pack Fits PackedFits (kept step pack) A pes chares strategy) run)

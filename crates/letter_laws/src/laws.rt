@@ -5,6 +5,7 @@ ghost use Rattle.rts_core.specs.declared.event.Event.{Event};
 ghost use Rattle.rts_core.specs.Events.{After};
 ghost use Rattle.rts_core.specs.Own.{AreOwn};
 ghost use Rattle.rts_core.specs.Runs.{RunsTo, ForEachRun};
+ghost use Rattle.at_sync.specs.declared.strategy.Strategy.{Strategy};
 ghost use Rattle.rts_core.specs.Worlds.{opening_world};
 ghost use Rattle.letter_laws.specs.Chase.{IsChase};
 
@@ -24,5 +25,5 @@ pub fn chase_law<C: Chare<A>, A: Allocator>()
 /// them. Every letter in the journal of an element was posted to that element, in a room, in a hand, in an outbox or in a
 /// queue: no element executed the letter of another.
 pub fn journal_law<C: Chare<A>, A: Allocator>()
-    ensures own { (pes : ℕ) (chares : List C) (events : List Event) (last : After C A) → RunsTo C.step C.pack C.unpack pes chares events last → AreOwn last.0 }
+    ensures own { (pes : ℕ) (chares : List C) (strategy : Strategy) (events : List Event) (last : After C A) → RunsTo C.step C.pack C.unpack pes chares strategy events last → AreOwn last.0 }
 {}

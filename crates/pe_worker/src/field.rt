@@ -6,7 +6,7 @@ ghost use Rattle.lb_database.specs.Measuring.{elements};
 
 use crate::seated::{OfRun, RunBeginning};
 use at_sync::Board;
-use barrier::Barrier;
+use barrier::{Barrier, RunStrategy};
 use chare_index::{Limits, Round};
 use chares::{Chare, Openings};
 use pe_queues::{Locations, Post};
@@ -25,7 +25,7 @@ const PES_WORTH_THREADS: u32 = 128;
 /// to stop; and how many executed letters they have counted, for who looks on. No clause rests on a hint or on that
 /// number. Contracts see the queues.
 #[derive(Drop)]
-pub struct Field<C: Chare<A>, H: Openings<C>, J: RunBeginning<C>, A: Allocator = Global> {
+pub struct Field<C: Chare<A>, H: Openings<C> + RunStrategy, J: RunBeginning<C>, A: Allocator = Global> {
     pub(crate) post: Post<Parcel<C, H, A>, A>,
     pub(crate) words: Locations<OfRun<C, H>, A>,
     pub(crate) barrier: Barrier<OfRun<C, H>, A>,
@@ -39,7 +39,7 @@ pub struct Field<C: Chare<A>, H: Openings<C>, J: RunBeginning<C>, A: Allocator =
     of: PhantomData<J>,
 }
 
-impl<C: Chare<A>, H: Openings<C>, J: RunBeginning<C>, A: Allocator> Model for Field<C, H, J, A> {
+impl<C: Chare<A>, H: Openings<C> + RunStrategy, J: RunBeginning<C>, A: Allocator> Model for Field<C, H, J, A> {
     ghost use Rattle.std.specs.Prelude.{◌≡◌, ◌≤◌, length};
     ghost use Rattle.chare_index.specs.declared.limits.TheConstants.Limits.{PROBE_WORKERS};
     ghost use Rattle.pe_queues.specs.Seats.{PostView};
@@ -53,7 +53,7 @@ impl<C: Chare<A>, H: Openings<C>, J: RunBeginning<C>, A: Allocator> Model for Fi
         × (1 ≤ f.probe_workers) × (f.probe_workers ≤ PROBE_WORKERS) };
 }
 
-impl<C: Chare<A>, H: Openings<C>, J: RunBeginning<C>, A: Allocator> Field<C, H, J, A> {
+impl<C: Chare<A>, H: Openings<C> + RunStrategy, J: RunBeginning<C>, A: Allocator> Field<C, H, J, A> {
     /// The queues, words and board of a run as it opens. Its workers give up after so many idle turns, and a round is
     /// decided by at most so many probe workers, 1 to 64, and by one where its PEs are few.
     pub fn new(
@@ -68,6 +68,7 @@ impl<C: Chare<A>, H: Openings<C>, J: RunBeginning<C>, A: Allocator> Field<C, H, 
         requires run_elements { words.elements ≡ length H.opened }
         requires counted { elements board.database ≡ length H.opened }
         requires on_pes { board.pes ≡ H.pes }
+        requires by_strategy { board.strategy ≡ H.strategy }
         requires some_worker { 1 ≤ probe_workers }
         requires few_workers { probe_workers ≤ Limits.PROBE_WORKERS }
         ensures post { result ≡ post }
@@ -158,6 +159,7 @@ impl<C: Chare<A>, H: Openings<C>, J: RunBeginning<C>, A: Allocator> Field<C, H, 
         ensures own { result.0 ≡ J.beginning.post }
         ensures counted { elements result.1.database ≡ length H.opened }
         ensures on_pes { result.1.pes ≡ H.pes }
+        ensures by_strategy { result.1.strategy ≡ H.strategy }
         ensures board { IsBoard result.1 }
     {
         let Field {

@@ -5,7 +5,7 @@ ghost use Rattle.pe_queues.specs.Seats.{new_seat, pes};
 ghost use Rattle.rts_core.specs.Ledgers.{no_ledger, IsLocalAccount};
 ghost use Rattle.pe_worker.specs.Seated.{Beginning, IsSeated};
 
-use barrier::BoardSize;
+use barrier::{BoardSize, RunStrategy};
 use chare_index::Pe;
 use chares::{Chare, Openings};
 use pe_queues::{PeCount, Seat};
@@ -26,19 +26,22 @@ impl<C> RunBeginning<C> for Brand {
     ghost beginning = { record { post = record { queues = []; capacity = 1 }; starts = []; shares = [] } };
 }
 
-/// The numbers of a run that opens with the chares and PEs that `H` names, for its words and its board.
+/// The numbers of a run that opens with the chares and PEs that `H` names, for its words and its board, and the strategy by
+/// which its rounds are decided.
 pub struct OfRun<C, H>(PhantomData<(C, H)>);
 
 impl<C, H: Openings<C>> PeCount for OfRun<C, H> {
     ghost pes = { H.pes };
 }
 
-impl<C, H: Openings<C>> BoardSize for OfRun<C, H> {
+impl<C, H: Openings<C> + RunStrategy> BoardSize for OfRun<C, H> {
     ghost use Rattle.std.specs.Prelude.{length};
 
     ghost elements = { length H.opened };
 
     ghost pes = { H.pes };
+
+    ghost strategy = { H.strategy };
 }
 
 /// A PE and its seat. Contracts see it as the record `SeatedView`. What the PE has received was taken through the seat and

@@ -11,6 +11,7 @@ use Rattle.rts_core.proofs.OpeningWeights.{AllOpen, Opens, new_open, placed_open
 use Rattle.place_laws.proofs.Entries.{room_joined}
 use Rattle.place_laws.proofs.Sites.{LetterWeight, ElementWeight, entry_at, pe_at, queue_at, world_at, sum_from, sum_from-set}
 use Rattle.place_laws.proofs.Sites.Site.{Room}
+use Rattle.at_sync.specs.declared.strategy.Strategy.{Strategy}
 
 -- the elements of these chares, from number e on, each on its home
 abbrev pub opened_sites : {C : Type 0} → ElementWeight → ℕ → ℕ → ℕ → List C → ℕ
@@ -62,8 +63,8 @@ module _ {C : Type 0} (g : LetterWeight) (k : ElementWeight) where
       omega (arith, a, b, c)
 
   -- what an opening world weighs
-  pub opening_sites : (A : Type 0) (pes : ℕ) (chares : List C) → 1 ≤ pes → world_at g k (opening_world {A = A} pes chares) ≡ opened_sites k (length chares) pes 0 chares
-  opening_sites A pes chares some =
+  pub opening_sites : (A : Type 0) (pes : ℕ) (chares : List C) (strategy : Strategy) → 1 ≤ pes → world_at g k (opening_world {A = A} pes chares strategy) ≡ opened_sites k (length chares) pes 0 chares
+  opening_sites A pes chares strategy some =
       let n : ℕ = length chares in
       let new : List (PeView C) = map (λ q. new_pe q n) (range_with_len 0 pes) in
       let a = settled_sites n pes new 0 chares (length-map-range_with_len (λ q. new_pe {C = C} q n) 0 pes)

@@ -22,6 +22,7 @@ use Rattle.place_laws.proofs.Named.{misnamed, at_index, named_after, index_kept,
 use Rattle.place_laws.proofs.OpeningSites.{opened_sites, opening_sites, word_at}
 use Rattle.place_laws.proofs.Sites.{Site, ElementWeight, no_letters, no_elements, world_at, world_zeros}
 use Rattle.place_laws.proofs.Sites.Site.{Fresh, Bound, Chasing, Waiting, Room}
+use Rattle.at_sync.specs.declared.strategy.Strategy.{Strategy}
 
 -- What holds of the elements of each world of a run: each word is right, there is one for each of n elements, and each
 -- element is there once; PEs have the numbers of their places.
@@ -94,23 +95,23 @@ module _ {C : Type 0} where
       let c = opened_index i n m (e + 1) chares in
       omega (arith, a, b, c)
 
-  pub opening_placed : (A : Type 0) (pes : ℕ) (chares : List C) → 1 ≤ pes → IsPlaced (length chares) (opening_world {A = A} pes chares)
-  opening_placed A pes chares some =
+  pub opening_placed : (A : Type 0) (pes : ℕ) (chares : List C) (strategy : Strategy) → 1 ≤ pes → IsPlaced (length chares) (opening_world {A = A} pes chares strategy)
+  opening_placed A pes chares strategy some =
       let n : ℕ = length chares in
-      let w : WorldView C A = opening_world pes chares in
+      let w : WorldView C A = opening_world pes chares strategy in
       record {
         named =
-            let a = opening_sites no_letters (misnamed w.words) A pes chares some in
+            let a = opening_sites no_letters (misnamed w.words) A pes chares strategy some in
             let b = opened_zero (misnamed w.words) n pes 0 chares (λ i lt. room_by_word w.words (home i n pes) i (word_at (λ e. home e n pes) n i lt)) (omega arith) in
             omega (arith, a, b);
         counted = length-map-range_with_len (λ e. home e n pes) 0 n;
         once = λ i lt.
-            let a = opening_sites no_letters (at_index i) A pes chares some in
+            let a = opening_sites no_letters (at_index i) A pes chares strategy some in
             let b = opened_index i n pes 0 chares in
             let c : sum_by (λ (x : Life). one_at i x.0) (opened_lives 0 chares) ≡ 1 = opened_once i 0 chares (omega arith) (omega (arith, lt)) in
             omega (arith, a, b, c);
-        numbered = opening_numbered A pes chares some;
-        of = opening_of A pes chares some;
+        numbered = opening_numbered A pes chares strategy some;
+        of = opening_of A pes chares strategy some;
       }
 
 -- ---- runs

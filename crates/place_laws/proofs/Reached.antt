@@ -15,6 +15,7 @@ use Rattle.place_laws.proofs.Named.{misnamed, at_index, room_named, bound_named}
 use Rattle.place_laws.proofs.Placed.{IsPlaced, at_most_once, opening_placed, run_placed}
 use Rattle.place_laws.proofs.Sites.{Site, ElementWeight, no_letters, world_at}
 use Rattle.place_laws.proofs.Sites.Site.{Fresh, Bound, Chasing, Waiting, Room}
+use Rattle.at_sync.specs.declared.strategy.Strategy.{Strategy}
 
 -- 1 at an element that stands in a room, and at one that is in a parcel
 abbrev pub in_rooms : ℕ → ElementWeight
@@ -81,13 +82,13 @@ module _ {C A : Type 0} (n : ℕ) (w : WorldView C A) (h : IsPlaced n w) where
   pub named : AreNamed w
   named = record { standing = λ e p on. (own_place e p on).1; bound = bound_place }
 
-module _ {C A : Type 0} (step : Step C) (pack : C → List ℕ) (unpack : List ℕ → Result (C × ℕ) PupError) (pes : ℕ) (chares : List C) (some : 1 ≤ pes) where
+module _ {C A : Type 0} (step : Step C) (pack : C → List ℕ) (unpack : List ℕ → Result (C × ℕ) PupError) (pes : ℕ) (chares : List C) (strategy : Strategy) (some : 1 ≤ pes) where
   -- after every list of events
-  pub reached : (events : List Event) (last : After C A) → Reaches step pack unpack (opening_world pes chares) events last → IsPlaced (length chares) last.0
-  reached events last run = run_placed step pack unpack (length chares) (opening_world pes chares) events last (opening_placed A pes chares some) run
+  pub reached : (events : List Event) (last : After C A) → Reaches step pack unpack (opening_world pes chares strategy) events last → IsPlaced (length chares) last.0
+  reached events last run = run_placed step pack unpack (length chares) (opening_world pes chares strategy) events last (opening_placed A pes chares strategy some) run
 
-  pub reached_alone : (events : List Event) (last : After C A) → Reaches step pack unpack (opening_world pes chares) events last → StandAlone last.0
+  pub reached_alone : (events : List Event) (last : After C A) → Reaches step pack unpack (opening_world pes chares strategy) events last → StandAlone last.0
   reached_alone events last run = alone (length chares) last.0 (reached events last run)
 
-  pub reached_named : (events : List Event) (last : After C A) → Reaches step pack unpack (opening_world pes chares) events last → AreNamed last.0
+  pub reached_named : (events : List Event) (last : After C A) → Reaches step pack unpack (opening_world pes chares strategy) events last → AreNamed last.0
   reached_named events last run = named (length chares) last.0 (reached events last run)

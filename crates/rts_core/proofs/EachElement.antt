@@ -21,6 +21,7 @@ use Rattle.rts_core.specs.Runs.{Reaches}
 use Rattle.rts_core.specs.Worlds.{WorldView, home, placed_on, all_placed, opening_world}
 use Rattle.rts_core.proofs.Rooms.{EachAt, each_found, each_changed, each_joined, each_without, at_place}
 use Rattle.rts_core.proofs.Turns.{EachTurn, each_map, happens_so}
+use Rattle.at_sync.specs.declared.strategy.Strategy.{Strategy}
 
 -- what is to be kept: of the element that stands at an index, and of one that is packed
 module _ {C : Type 0} (step : Step C) (pack : C → List ℕ) (F : ℕ → ElementView C → Type 0) (K : PackedView → Type 0) where
@@ -185,8 +186,8 @@ module _ {C : Type 0} (step : Step C) (pack : C → List ℕ) (F : ℕ → Eleme
       let next : List (PeView C) = placed_on pes q e chare (slice_get pes q) in
       all_placed_kept n next (e + 1) chares (one_placed pes q e chare (slice_get pes q) refl h)
 
-  pub opening_kept : (A : Type 0) (pes : ℕ) (chares : List C) → WorldKept F K (opening_world {A = A} pes chares)
-  opening_kept A pes chares =
+  pub opening_kept : (A : Type 0) (pes : ℕ) (chares : List C) (strategy : Strategy) → WorldKept F K (opening_world {A = A} pes chares strategy)
+  opening_kept A pes chares strategy =
       record {
         pes = all_placed_kept (length chares) (map (λ q. new_pe q (length chares)) (range_with_len 0 pes)) 0 chares
             (All-map (PeKept F K) (λ (q : ℕ). new_pe {C = C} q (length chares)) (range_with_len 0 pes) (λ k d inside. record { room = tt; hand = tt; outbox = All-nil (ItemKept K) }));

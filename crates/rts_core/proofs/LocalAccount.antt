@@ -31,6 +31,7 @@ use Rattle.rts_core.proofs.LocalCalls.{step_posts}
 use Rattle.rts_core.proofs.OpeningWeights.{opened_lives, opening_weighs, opening_open, empty_weigh}
 use Rattle.rts_core.proofs.RunAccount.{unlived}
 use Rattle.rts_core.proofs.Sent.{sends_weight}
+use Rattle.at_sync.specs.declared.strategy.Strategy.TheVariants.{Least}
 
 pub lives_joined : (k : Life → ℕ) (xs ys : List Parcel) → sum_by k (flat_map lives_in (xs ++ ys)) ≡ sum_by k (flat_map lives_in xs) + sum_by k (flat_map lives_in ys)
 lives_joined k xs ys = ap (sum_by k) (flat_map-append lives_in xs ys) ∙ sum_by-append k (flat_map lives_in xs) (flat_map lives_in ys)
@@ -118,7 +119,7 @@ module _ {C : Type 0} (step : Step C) (pes : ℕ) (chares : List C) (some : 1 �
 
   pub states_weigh : (g : Weight) (k : Life → ℕ) → sum_by (λ (pe : PeView C). of_pe g k pe) states ≡ sum_by k (opened_lives 0 chares)
   states_weigh g k =
-      let a = opening_weighs (Unit {0}) pes chares some g k in
+      let a = opening_weighs (Unit {0}) pes chares Least some g k in
       let b = empty_weigh g k pes in
       omega (arith, a, b)
 
@@ -139,7 +140,7 @@ module _ {C : Type 0} (step : Step C) (pes : ℕ) (chares : List C) (some : 1 �
           let c = zero_each (λ (x : PeView C). of_pe g no_life x) states (states_weigh g no_life ∙ unlived no_life (λ e. refl) 0 chares) i pe at in
           let d = pe_all g pe in
           omega (arith, b, c, d);
-      numbered = let n : pe.count ≡ 0 = (opening_open (Unit {0}) pes chares some i pe at).posted_none in rw n refl;
+      numbered = let n : pe.count ≡ 0 = (opening_open (Unit {0}) pes chares Least some i pe at).posted_none in rw n refl;
     };
     lives = λ w steady. refl;
     sent = λ w.

@@ -17,6 +17,7 @@ use Rattle.rts_core.specs.Places.{Life}
 use Rattle.rts_core.specs.Worlds.{WorldView, home, placed_on, all_placed, opening_world}
 use Rattle.rts_core.proofs.Weights.{Weight, of_pe, of_queue, of_room, of_element, of_world, sum_joined}
 use Rattle.rts_core.proofs.WorldSteps.{AreOf, Numbered, known, sum_at, each_set}
+use Rattle.at_sync.specs.declared.strategy.Strategy.{Strategy}
 
 -- no element of a room with lower indices is there
 pub absent_step : (e i : ℕ) → i < e → is_eq (nat_cmp e i) ≡ false
@@ -134,12 +135,12 @@ new_open {C} n a (suc pes) (suc q) pe h =
     let e : (a + 1) + q ≡ a + suc q = omega arith in
     subst (λ (v : ℕ). Opens n 0 v pe) e (new_open n (a + 1) pes q pe h)
 
-module _ {C : Type 0} (A : Type 0) (pes : ℕ) (chares : List C) (some : 1 ≤ pes) where
+module _ {C : Type 0} (A : Type 0) (pes : ℕ) (chares : List C) (strategy : Strategy) (some : 1 ≤ pes) where
   abbrev pub n : ℕ
   n = length chares
 
   abbrev pub opening : WorldView C A
-  opening = opening_world pes chares
+  opening = opening_world pes chares strategy
 
   pub opening_open : AllOpen n (0 + n) opening.pes
   opening_open = settled_open n (map (λ q. new_pe q n) (range_with_len 0 pes)) 0 chares

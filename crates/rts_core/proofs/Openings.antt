@@ -23,6 +23,7 @@ use Rattle.pe_state.specs.Histories.{HasHistories, IsParcelHistory}
 use Rattle.pe_state.proofs.Histories.{new_holds, placed_holds}
 use Rattle.rts_core.specs.Histories.{AreHistories}
 use Rattle.rts_core.specs.Worlds.{IsWorld, home, placed_on, all_placed}
+use Rattle.at_sync.specs.declared.strategy.Strategy.{Strategy}
 
 -- on one of the PEs
 pub home_below : (e n pes : ℕ) → e < n → 1 ≤ pes → home e n pes < pes
@@ -105,8 +106,8 @@ opening_histories {C} step fits pack opened n pes same =
     (λ k d inside. new_holds step fits pack opened (get_or (range_with_len 0 pes) k d) n same)
 
 -- the opening is a world, and of the run that it opens
-pub opening_is_world : {C A : Type 0} (n pes : ℕ) (states : List (PeView C)) (words : List ℕ) → 1 ≤ pes → pes ≤ PES → n ≤ ELEMENTS → length states ≡ pes → words ≡ map (λ e. home e n pes) (range_with_len 0 n) → All (λ q. q < pes) words → IsWorld {C = C} {A = A} n pes (record { pes = states; queues = replicate pes []; words = words; board = new_board n pes })
-opening_is_world n pes states words some few_pes few counted made named =
+pub opening_is_world : {C A : Type 0} (n pes : ℕ) (strategy : Strategy) (states : List (PeView C)) (words : List ℕ) → 1 ≤ pes → pes ≤ PES → n ≤ ELEMENTS → length states ≡ pes → words ≡ map (λ e. home e n pes) (range_with_len 0 n) → All (λ q. q < pes) words → IsWorld {C = C} {A = A} n pes (record { pes = states; queues = replicate pes []; words = words; board = new_board n pes strategy })
+opening_is_world n pes strategy states words some few_pes few counted made named =
     record {
       some_pe = some;
       few_pes = few_pes;

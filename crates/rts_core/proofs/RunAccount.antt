@@ -22,6 +22,7 @@ use Rattle.rts_core.proofs.Listings.{no_life, no_letter, sum_zero, world_letters
 use Rattle.rts_core.proofs.OpeningWeights.{opened_lives, opening_of, opening_numbered, opening_knows, opening_weighs, opening_counts, one_at, opened_once}
 use Rattle.rts_core.proofs.RunLaws.{by_said, by_index, by_journal, number_said, Kept, step_keeps, kept_join, run_keeps}
 use Rattle.rts_core.proofs.Sent.{by_message, each_one, length_sum, histories_of, sends_weight, sent_step, counted_step}
+use Rattle.at_sync.specs.declared.strategy.Strategy.{Strategy}
 
 pub below_le : (j count : ℕ) → below j count ≤ 1
 below_le j count = grind (arith, nat_tests)
@@ -37,9 +38,9 @@ unlived k none e (chare ∷ chares) =
     let a : sum_by k ((e, []) ∷ opened_lives (e + 1) chares) ≡ k (e, []) + sum_by k (opened_lives (e + 1) chares) = sum_by-cons k (e, []) (opened_lives (e + 1) chares) in
     omega (arith, a, none e, unlived k none (e + 1) chares)
 
-module _ {C : Type 0} (A : Type 0) (step : Step C) (pes : ℕ) (chares : List C) (some : 1 ≤ pes) where
+module _ {C : Type 0} (A : Type 0) (step : Step C) (pes : ℕ) (chares : List C) (strategy : Strategy) (some : 1 ≤ pes) where
   abbrev pub first : WorldView C A
-  first = opening_world pes chares
+  first = opening_world pes chares strategy
 
   pub sends_none : (h : ℕ × List ℕ → ℕ) (i : ℕ) → sum_by h (sends_of step chares (i, [])) ≡ 0
   sends_none h i = by (slice_get chares i)
@@ -51,14 +52,14 @@ module _ {C : Type 0} (A : Type 0) (step : Step C) (pes : ℕ) (chares : List C)
   pub first_letters : (g : Weight) → sum_by (weigh g) (letters first) ≡ 0
   first_letters g =
       let a = world_letters g first in
-      let b = opening_weighs A pes chares some g no_life in
+      let b = opening_weighs A pes chares strategy some g no_life in
       let c : sum_by no_life (opened_lives 0 chares) ≡ 0 = sum_zero (opened_lives 0 chares) in
       omega (arith, a, b, c)
 
   pub first_journals : (g : Weight) → sum_by (weigh g) (journaled first) ≡ 0
   first_journals g =
       let a = world_journals g first in
-      let b = opening_weighs A pes chares some no_letter (λ x. sum_by (weigh g) (letters_of_life x)) in
+      let b = opening_weighs A pes chares strategy some no_letter (λ x. sum_by (weigh g) (letters_of_life x)) in
       let c = unlived (λ x. sum_by (weigh g) (letters_of_life x)) (λ i. refl) 0 chares in
       omega (arith, a, b, c)
 
@@ -73,7 +74,7 @@ module _ {C : Type 0} (A : Type 0) (step : Step C) (pes : ℕ) (chares : List C)
   pub opening_sent : AreSent step chares first
   opening_sent weight =
       let a : sum_by weight (sends step chares first) ≡ of_world no_letter (sends_weight step chares weight) first = sum_by-flat_map weight (sends_of step chares) (lives first) ∙ world_lives (sends_weight step chares weight) first in
-      let b = opening_weighs A pes chares some no_letter (sends_weight step chares weight) in
+      let b = opening_weighs A pes chares strategy some no_letter (sends_weight step chares weight) in
       let c = unlived (sends_weight step chares weight) (sends_none weight) 0 chares in
       let d : sum_by (λ l. weight (message l)) (letters first) ≡ 0 = first_letters (by_message weight) in
       let e : sum_by (λ l. weight (message l)) (journaled first) ≡ 0 = first_journals (by_message weight) in
@@ -84,7 +85,7 @@ module _ {C : Type 0} (A : Type 0) (step : Step C) (pes : ℕ) (chares : List C)
   opening_counted =
       let a : length (letters first) ≡ 0 = sym (length_sum (letters first)) ∙ first_letters each_one in
       let b : length (journaled first) ≡ 0 = sym (length_sum (journaled first)) ∙ first_journals each_one in
-      let c = opening_counts A pes chares some in
+      let c = opening_counts A pes chares strategy some in
       omega (arith, a, b, c)
 
 -- an event keeps what is so of the sends, and of the numbers of letters
@@ -99,71 +100,71 @@ module _ {C A : Type 0} (step : Step C) (fits : C → Type 0) (pack : C → List
       counted_step step (length opened) w next.0 next.1
       (happens_good step pack unpack (length opened) w (histories_of step fits pack opened w are) event next happens) count
 
-module _ {C A : Type 0} (step : Step C) (pack : C → List ℕ) (unpack : List ℕ → Result (C × ℕ) PupError) (pes : ℕ) (chares : List C) (some : 1 ≤ pes) where
+module _ {C A : Type 0} (step : Step C) (pack : C → List ℕ) (unpack : List ℕ → Result (C × ℕ) PupError) (pes : ℕ) (chares : List C) (strategy : Strategy) (some : 1 ≤ pes) where
   -- what was kept from the opening on is the account
-  pub kept_accounted : (w : WorldView C A) (trace : List TraceEntry) → Kept (length chares) (opening_world pes chares) w trace → Accounted (length chares) w trace
+  pub kept_accounted : (w : WorldView C A) (trace : List TraceEntry) → Kept (length chares) (opening_world pes chares strategy) w trace → Accounted (length chares) w trace
   kept_accounted w trace kept =
       record {
         once = λ id.
             let a = kept.once (number_said id.0 id.1) in
-            let b = opening_weighs A pes chares some (by_said (number_said id.0 id.1)) no_life in
+            let b = opening_weighs A pes chares strategy some (by_said (number_said id.0 id.1)) no_life in
             let c : sum_by no_life (opened_lives 0 chares) ≡ 0 = sum_zero (opened_lives 0 chares) in
             let d : times (λ l. is_number id l.id) (letters w) ≡ of_world (by_said (number_said id.0 id.1)) no_life w = world_letters (by_said (number_said id.0 id.1)) w in
             omega (arith, a, b, c, d);
         at_most_once = λ id.
-            let a = kept.numbers (opening_numbered A pes chares some) id.0 id.1 in
-            let b = opening_knows A pes chares some id.0 id.1 (slice_get (opening_world {A = A} pes chares).pes id.0) refl in
+            let a = kept.numbers (opening_numbered A pes chares strategy some) id.0 id.1 in
+            let b = opening_knows A pes chares strategy some id.0 id.1 (slice_get (opening_world {A = A} pes chares strategy).pes id.0) refl in
             let c = known_le id.1 (slice_get w.pes id.0) in
             omega (arith, a, b, c);
         own = λ id e.
             let a = kept.once (λ x. if says_both id e x then 1 else 0) in
-            let b = opening_weighs A pes chares some (by_said (λ x. if says_both id e x then 1 else 0)) no_life in
+            let b = opening_weighs A pes chares strategy some (by_said (λ x. if says_both id e x then 1 else 0)) no_life in
             let c : sum_by no_life (opened_lives 0 chares) ≡ 0 = sum_zero (opened_lives 0 chares) in
             omega (arith, a, b, c);
         stands = λ e lt.
             let a = kept.stands (one_at e) in
-            let b = opening_weighs A pes chares some no_letter (by_index (one_at e)) in
+            let b = opening_weighs A pes chares strategy some no_letter (by_index (one_at e)) in
             let c : sum_by (λ (x : Life). one_at e x.0) (opened_lives 0 chares) ≡ 1 = opened_once e 0 chares (omega arith) (omega (arith, lt)) in
             let d : times (λ x. x.0 == e) (lives w) ≡ of_world no_letter (by_index (one_at e)) w = world_lives (by_index (one_at e)) w in
             omega (arith, a, b, c, d);
       }
 
   -- the account holds after every list of events
-  pub accounted : (events : List Event) (last : After C A) → Reaches step pack unpack (opening_world pes chares) events last → Accounted (length chares) last.0 last.1
+  pub accounted : (events : List Event) (last : After C A) → Reaches step pack unpack (opening_world pes chares strategy) events last → Accounted (length chares) last.0 last.1
   accounted events last run =
-      kept_accounted last.0 last.1 (run_keeps step pack unpack (length chares) (opening_world pes chares) events last (opening_of A pes chares some) run)
+      kept_accounted last.0 last.1 (run_keeps step pack unpack (length chares) (opening_world pes chares strategy) events last (opening_of A pes chares strategy some) run)
 
   -- and after one more event
-  pub accounted_next : (events : List Event) (w : WorldView C A) (trace : List TraceEntry) (event : Event) (next : After C A) → Reaches step pack unpack (opening_world pes chares) events (w, trace) → Happens step pack unpack w event next → Accounted (length chares) next.0 (trace ++ next.1)
+  pub accounted_next : (events : List Event) (w : WorldView C A) (trace : List TraceEntry) (event : Event) (next : After C A) → Reaches step pack unpack (opening_world pes chares strategy) events (w, trace) → Happens step pack unpack w event next → Accounted (length chares) next.0 (trace ++ next.1)
   accounted_next events w trace event next run happens =
-      let a : Kept (length chares) (opening_world pes chares) w trace = run_keeps step pack unpack (length chares) (opening_world pes chares) events (w, trace) (opening_of A pes chares some) run in
+      let a : Kept (length chares) (opening_world pes chares strategy) w trace = run_keeps step pack unpack (length chares) (opening_world pes chares strategy) events (w, trace) (opening_of A pes chares strategy some) run in
       let b : Kept (length chares) w next.0 next.1 = step_keeps step (length chares) w next.0 next.1 (happens_good step pack unpack (length chares) w a.same_array event next happens) in
-      kept_accounted next.0 (trace ++ next.1) (kept_join (length chares) (opening_world pes chares) w next.0 trace next.1 a b)
+      kept_accounted next.0 (trace ++ next.1) (kept_join (length chares) (opening_world pes chares strategy) w next.0 trace next.1 a b)
 
   -- and every letter is counted
-  pub counted : (events : List Event) (last : After C A) → Reaches step pack unpack (opening_world pes chares) events last → IsCounted last.0
+  pub counted : (events : List Event) (last : After C A) → Reaches step pack unpack (opening_world pes chares strategy) events last → IsCounted last.0
   counted events last run =
-      (run_keeps step pack unpack (length chares) (opening_world pes chares) events last (opening_of A pes chares some) run).counted (opening_counted A step pes chares some)
+      (run_keeps step pack unpack (length chares) (opening_world pes chares strategy) events last (opening_of A pes chares strategy some) run).counted (opening_counted A step pes chares strategy some)
 
   -- the trace tells how many letters were posted, and which were executed
-  pub kept_told : (w : WorldView C A) (trace : List TraceEntry) → Kept (length chares) (opening_world pes chares) w trace → IsTraced w trace
+  pub kept_told : (w : WorldView C A) (trace : List TraceEntry) → Kept (length chares) (opening_world pes chares strategy) w trace → IsTraced w trace
   kept_told w trace kept =
       record {
-        posted = let a = opening_counts A pes chares some in omega (arith, a, kept.posted);
+        posted = let a = opening_counts A pes chares strategy some in omega (arith, a, kept.posted);
         executed =
             let a = kept.journals (λ x. 1) in
-            let b = first_executed A step pes chares some (λ x. 1) in
+            let b = first_executed A step pes chares strategy some (λ x. 1) in
             let c : length (journaled w) ≡ of_world no_letter (by_journal (λ x. 1)) w = sym (length_sum (journaled w)) ∙ world_journals each_one w in
             let d : sum_by (λ (x : Said). 1) (executions trace) ≡ length (executions trace) = length_sum (executions trace) in
             omega (arith, a, b, c, d);
         journals = λ id.
             let a = kept.journals (number_said id.0 id.1) in
-            let b = first_executed A step pes chares some (number_said id.0 id.1) in
+            let b = first_executed A step pes chares strategy some (number_said id.0 id.1) in
             let c : times (λ l. is_number id l.id) (journaled w) ≡ of_world no_letter (by_journal (number_said id.0 id.1)) w = world_journals (by_said (number_said id.0 id.1)) w in
             omega (arith, a, b, c);
       }
 
   -- so it does after every list of events
-  pub told : (events : List Event) (last : After C A) → Reaches step pack unpack (opening_world pes chares) events last → IsTraced last.0 last.1
+  pub told : (events : List Event) (last : After C A) → Reaches step pack unpack (opening_world pes chares strategy) events last → IsTraced last.0 last.1
   told events last run =
-      kept_told last.0 last.1 (run_keeps step pack unpack (length chares) (opening_world pes chares) events last (opening_of A pes chares some) run)
+      kept_told last.0 last.1 (run_keeps step pack unpack (length chares) (opening_world pes chares strategy) events last (opening_of A pes chares strategy some) run)

@@ -7,6 +7,7 @@ use Rattle.chare_index.specs.declared.limits.TheConstants.Limits.{ELEMENTS, PES}
 use Rattle.at_sync.specs.Boards.{BoardState, new_board}
 use Rattle.lb_database.specs.Measuring.{elements}
 use Rattle.pe_state.specs.Pes.{PeView, Parcel, new_pe, placed}
+use Rattle.at_sync.specs.declared.strategy.Strategy.{Strategy}
 
 -- the PEs, the parcels in the queue of each, front first, the PE on which each element is looked for, and the board
 pub record WorldView (C A : Type 0) : Type 0 where
@@ -39,14 +40,15 @@ opening_pes pes chares = all_placed (length chares) (map (λ q. new_pe q (length
 abbrev pub opening_words : ℕ → ℕ → List ℕ
 opening_words n pes = map (λ e. home e n pes) (range_with_len 0 n)
 
--- the opening world: each element stands on its home, which is its word, and all else is empty
-abbrev pub opening_world : {C A : Type 0} → ℕ → List C → WorldView C A
-opening_world pes chares =
+-- the opening world: each element stands on its home, which is its word, all else is empty, and rounds are decided by this
+-- strategy
+abbrev pub opening_world : {C A : Type 0} → ℕ → List C → Strategy → WorldView C A
+opening_world pes chares strategy =
     record {
       pes = opening_pes pes chares;
       queues = replicate pes [];
       words = opening_words (length chares) pes;
-      board = new_board (length chares) pes;
+      board = new_board (length chares) pes strategy;
     }
 
 -- What holds of every world of a run that opened with n elements on so many PEs: there are as many PEs, queues and words

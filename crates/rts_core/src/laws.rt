@@ -11,6 +11,7 @@ ghost use Rattle.pe_state.specs.Histories.{HasHistories};
 ghost use Rattle.rts_core.specs.Histories.{KeepsSent};
 ghost use Rattle.rts_core.specs.Ledgers.{Ledger, no_ledger, AddsUp, IsLocalAccount};
 ghost use Rattle.rts_core.specs.Runs.{ForEachRun, ForEachEvent};
+ghost use Rattle.at_sync.specs.declared.strategy.Strategy.{Strategy};
 ghost use Rattle.rts_core.specs.Worlds.{WorldView, opening_pes, opening_world};
 
 use chares::Chare;
@@ -26,7 +27,7 @@ pub fn account_laws<C: Chare<A>, A: Allocator>()
     ensures account { ForEachRun C.step C.pack C.unpack (λ (chares : List C) (last : After C A). Accounted (length chares) last.0 last.1) }
     ensures counted { ForEachRun C.step C.pack C.unpack (λ (chares : List C) (last : After C A). IsCounted last.0) }
     ensures traced { ForEachRun C.step C.pack C.unpack (λ (chares : List C) (last : After C A). IsTraced last.0 last.1) }
-    ensures opening_sent { (pes : ℕ) (chares : List C) → 1 ≤ pes → AreSent {A = A} C.step chares (opening_world pes chares) }
+    ensures opening_sent { (pes : ℕ) (chares : List C) (strategy : Strategy) → 1 ≤ pes → AreSent {A = A} C.step chares (opening_world pes chares strategy) }
     ensures still_sent { ForEachEvent C.step C.pack C.unpack (λ (w : WorldView C A) (next : After C A). KeepsSent C.step C.fits C.pack w next) }
 {}
 

@@ -20,7 +20,7 @@ use crate::queue::Queue;
 use crate::reports::Reports;
 use crate::stepping::step_in;
 use crate::sync::decide;
-use at_sync::Board;
+use at_sync::{Board, Strategy};
 use chare_index::{Index, Limits, Pe};
 use chares::{Chare, Openings};
 use pe_state::{PeState, StepError};
@@ -36,7 +36,7 @@ use std::marker::Model;
 /// the queue of the other PE, taken from it and executed; the other letter waits in its outbox.
 ///
 /// ```text
-/// let mut world = World::new(rt.alloc(), 2, chares)?;
+/// let mut world = World::new(rt.alloc(), 2, chares, Strategy::Least)?;
 /// world.step(Event::Start(p0, e0))?;
 /// world.step(Event::Start(p1, e1))?;
 /// world.step(Event::Look(p0))?;
@@ -74,22 +74,27 @@ impl<C: Chare<A>, H: Openings<C>, A: Allocator> Model for World<C, H, A> {
 
 impl<C: Chare<A>, H: Openings<C>, A: Allocator + Copy> World<C, H, A> {
     /// The opening of a run: element `i` of `n` stands, not started, on PE `i * pes / n`, rounded down, which is its
-    /// word, and all else is empty. There are 1 to 256 PEs and at most 65,536 chares, which are those that the run opens
-    /// with. Where no memory is left the chares are given up.
-    pub fn new(alloc: A, pes: u32, chares: Vec<C, A>) -> Result<Self, AllocError>
+    /// word, and all else is empty; rounds are decided by `strategy`. There are 1 to 256 PEs and at most 65,536 chares, which
+    /// are those that the run opens with. Where no memory is left the chares are given up.
+    pub fn new(
+        alloc: A,
+        pes: u32,
+        chares: Vec<C, A>,
+        strategy: Strategy,
+    ) -> Result<Self, AllocError>
         requires some_pe { 1 ≤ pes }
         requires few_pes { pes ≤ Limits.PES }
         requires few { length chares.items ≤ Limits.ELEMENTS }
         requires run { pes ≡ H.pes }
         requires opened { chares.items ≡ H.opened }
-        ensures made { IfOk result (λ world. world ≡ opening_world pes chares.items) }
+        ensures made { IfOk result (λ world. world ≡ opening_world pes chares.items strategy) }
         ensures history { IfOk result (λ world. AreHistories C.step C.fits C.pack H.opened world) }
     {
         let n = chares.len() as u32;
         let states = opening_pes(alloc, pes, chares)?;
         let queues = opening_queues(alloc, pes)?;
         let words = opening_words(alloc, n, pes)?;
-        let board = Board::new(alloc, n, pes)?;
+        let board = Board::new(alloc, n, pes, strategy)?;
         Ok(World {
             pes: states,
             queues,
@@ -121,7 +126,7 @@ impl<C: Chare<A>, H: Openings<C>, A: Allocator + Copy> World<C, H, A> {
         ensures sent { AreSent C.step H.opened self.new }
         ensures counted { IsCounted self.new }
         ensures account { IfOk result
-            (λ reports. (events : List Event) (trace : List TraceEntry) → Reaches C.step C.pack C.unpack (opening_world H.pes H.opened) events (self.old, trace)
+            (λ reports. (events : List Event) (trace : List TraceEntry) → Reaches C.step C.pack C.unpack (opening_world H.pes H.opened self.old.board.strategy) events (self.old, trace)
             → Accounted (length H.opened) self.new (trace ++ reports)) }
     {
         let Some(p) = event.pe() else {

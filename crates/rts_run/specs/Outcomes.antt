@@ -3,6 +3,7 @@ use Rattle.std.specs.Prelude.{◌≡◌, ◌≢◌, ℕ, List, [], ◌∷◌, le
 use Rattle.std.specs.List.{range_with_len}
 use Rattle.std.specs.Option.{option_or}
 use Rattle.at_sync.specs.Boards.{AreDecided, BoardState, IsBoard, HaveFinished}
+use Rattle.at_sync.specs.declared.strategy.Strategy.{Strategy}
 use Rattle.chares.specs.Elements.{ElementView}
 use Rattle.chares.specs.Steps.{Step}
 use Rattle.lb_database.specs.Measuring.{elements}
@@ -34,9 +35,9 @@ first_fault (fault ∷ faults) = option_or fault (first_fault faults)
 
 -- The outcome of a run of these chares on so many PEs. There is an end and a queue of each PE. The account holds, and every
 -- element is what its journal says. The board is one of these chares on these PEs: each round was decided for a snapshot of
--- all of them, and its decision is the best. The marks of the elements agree with the rounds exactly where the fault does
+-- all of them, by the strategy. The marks of the elements agree with the rounds exactly where the fault does
 -- not say otherwise; what was packed was unpacked; and without a fault the board has of every element that it has finished.
-pub record IsOutcome {C A : Type 0} (step : Step C) (fits : C → Type 0) (pack : C → List ℕ) (chares : List C) (pes : ℕ) (o : OutcomeView C A) : Type 0 where
+pub record IsOutcome {C A : Type 0} (step : Step C) (fits : C → Type 0) (pack : C → List ℕ) (chares : List C) (pes : ℕ) (strategy : Strategy) (o : OutcomeView C A) : Type 0 where
   pub ends : map (λ pe. pe.me) o.ends ≡ range_with_len 0 pes
   pub queues : length o.left ≡ pes
   pub account : IsRunAccount step chares (left_world o.ends o.left)
@@ -44,7 +45,8 @@ pub record IsOutcome {C A : Type 0} (step : Step C) (fits : C → Type 0) (pack 
   pub board : IsBoard o.board
   pub elements : elements o.board.database ≡ length chares
   pub on_pes : o.board.pes ≡ pes
-  pub rounds : AreDecided (length chares) pes o.board.rounds
+  pub by_strategy : o.board.strategy ≡ strategy
+  pub rounds : AreDecided (length chares) pes strategy o.board.rounds
   pub marks : o.fault ≢ Some Mismatch → AreAllMarked o.board o.ends o.left
   pub mismatch : o.fault ≡ Some Mismatch → ¬ (AreAllMarked o.board o.ends o.left)
   pub unpacks : o.fault ≢ Some Unpack

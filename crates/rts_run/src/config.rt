@@ -1,11 +1,13 @@
 ghost use Rattle.std.specs.Prelude.{◌≡◌, ◌≤◌, IsTrue, ◌↔◌, MatchOption};
+ghost use Rattle.at_sync.specs.declared.strategy.Strategy.TheVariants.{Least};
 ghost use Rattle.rts_run.specs.Configs.{IsFirstOutside, IsWithin, MayBegin};
 
 use crate::error::Setting;
+use at_sync::Strategy;
 use chare_index::Limits;
 
-/// The numbers of a run.
-#[derive(Clone, Copy, Debug, PartialEq, Eq)]
+/// The numbers of a run, and how its rounds are decided.
+#[derive(Clone, Copy, Debug, PartialEq)]
 pub struct Config {
     /// On how many PEs it runs, 1 to [`Limits::PES`]. Each has a thread of its own.
     pub pes: u32,
@@ -22,14 +24,16 @@ pub struct Config {
     /// By how many workers a round is decided at most, 1 to [`Limits::PROBE_WORKERS`]. With few PEs one is faster, and is
     /// taken.
     pub probe_workers: u32,
+    /// How each round is decided.
+    pub strategy: Strategy,
 }
 
 impl Config {
     /// The usual numbers of a run on so many PEs, 1 to [`Limits::PES`]: queues with room for 1,024 parcels, up to 4 workers that
-    /// decide a round, and workers that give up after 1,000,000,000 idle turns in a row, so after some five minutes: a program
-    /// whose handlers take as long sets [`turns`](Config::turns) higher.
+    /// decide a round, by [`Strategy::Least`], and workers that give up after 1,000,000,000 idle turns in a row, so after some
+    /// five minutes: a program whose handlers take as long sets [`turns`](Config::turns) higher.
     pub fn usual(pes: u32) -> Self
-        ensures value { result ≡ record { pes = pes; capacity = 1024; turns = 1000000000; probe_workers = 4 } }
+        ensures value { result ≡ record { pes = pes; capacity = 1024; turns = 1000000000; probe_workers = 4; strategy = Least } }
         ensures within { 1 ≤ pes → pes ≤ Limits.PES → IsWithin result }
     {
         Config {
@@ -37,6 +41,7 @@ impl Config {
             capacity: 1_024,
             turns: 1_000_000_000,
             probe_workers: 4,
+            strategy: Strategy::Least,
         }
     }
 

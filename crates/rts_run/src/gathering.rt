@@ -5,6 +5,7 @@ ghost use Rattle.std.specs.List.{range_with_len};
 ghost use Rattle.pe_worker.specs.declared.fault.Fault.TheVariants.{Mismatch, Unpack};
 ghost use Rattle.rts_run.specs.Outcomes.{first_fault};
 
+use barrier::RunStrategy;
 use chares::{Chare, Openings};
 use pe_queues::Post;
 use pe_state::{Parcel, PeEnd};
@@ -15,7 +16,7 @@ use std::collections::VecDeque;
 
 /// The PEs of these workers, in their order, with their seats as one, and the fault of the first that met one. There is room
 /// for them, so this takes no memory.
-pub(crate) fn gather<C: Chare<A>, H: Openings<C>, J: RunBeginning<C>, A: Allocator>(
+pub(crate) fn gather<C: Chare<A>, H: Openings<C> + RunStrategy, J: RunBeginning<C>, A: Allocator>(
     post: &Post<Parcel<C, H, A>, A>,
     first: Worker<C, H, J, A>,
     mut others: VecDeque<Worker<C, H, J, A>, A>,

@@ -2,7 +2,7 @@
 //!
 //! - [`run`]: runs chares until every one has finished, or a fault is met.
 //! - [`run_watched`]: the same, while somebody looks on: a [`Watch`].
-//! - [`Config`]: on how many PEs, and with which limits.
+//! - [`Config`]: on how many PEs, with which limits, and how rounds are decided: a [`Strategy`], within a [`Tolerance`].
 //! - [`Outcome`]: what a run left, of which nothing is lost, whatever the schedule was and whatever went wrong.
 //! - [`RunError`]: why a run did not begin, with the [`Setting`] that is out of its limits. [`Fault`]: why one ended early.
 //!
@@ -17,6 +17,8 @@ mod opening;
 mod outcome;
 mod running;
 
+pub use at_sync::Strategy;
+pub use chain_refinement::Tolerance;
 pub use config::Config;
 pub use error::{RunError, Setting};
 pub use outcome::Outcome;

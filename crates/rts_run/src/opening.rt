@@ -6,6 +6,7 @@ ghost use Rattle.std.specs.VecDeque.{deque_len};
 ghost use Rattle.pe_queues.specs.Seats.{new_seat, pes};
 ghost use Rattle.rts_core.specs.Ledgers.{no_ledger, IsLocalAccount};
 
+use barrier::RunStrategy;
 use chares::{Chare, Openings};
 use pe_queues::Seat;
 use pe_state::{Parcel, PeState};
@@ -15,7 +16,7 @@ use std::alloc::{AllocError, Allocator};
 use std::collections::VecDeque;
 
 /// A worker for each PE, in order, with its seat and its agenda. The only error is that memory was refused.
-pub(crate) fn open_workers<C: Chare<A>, H: Openings<C>, J: RunBeginning<C>, A: Allocator + Copy>(
+pub(crate) fn open_workers<C: Chare<A>, H: Openings<C> + RunStrategy, J: RunBeginning<C>, A: Allocator + Copy>(
     alloc: A,
     count: u32,
     mut states: VecDeque<PeState<C, H, A>, A>,

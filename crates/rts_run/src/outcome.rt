@@ -13,7 +13,7 @@ use at_sync::Board;
 use chare_index::Index;
 use chares::{Chare, Element};
 use lb_certificates::Snapshot;
-use lb_strategy::Decision;
+use lb_refinement::Refined;
 use pe_state::{HeldParcel, PeEnd};
 use pe_worker::Fault;
 use rts_core::Account;
@@ -100,7 +100,7 @@ impl<C: Chare<A>, A: Allocator> Outcome<C, A> {
     }
 
     /// The snapshot and the decision of each round that was decided, from round 1 on.
-    pub fn rounds(&self) -> &[(Snapshot<A>, Decision<A>)]
+    pub fn rounds(&self) -> &[(Snapshot<A>, Refined<A>)]
         ensures value { result.now ≡ self.now.board.rounds }
         ensures consistent { IsBoard self.now.board }
     {

@@ -22,6 +22,7 @@ use crate::gathering::gather;
 use crate::opening::open_workers;
 use crate::outcome::Outcome;
 use at_sync::Board;
+use barrier::RunStrategy;
 use chare_index::{Gate, Limits};
 use chares::{Chare, Openings};
 use pe_queues::{Locations, Post, Seat};
@@ -45,7 +46,7 @@ use worker_threads::Crew;
 ///
 /// Whatever the schedule was and whatever went wrong, the outcome loses nothing: the clause `account` says where each
 /// letter is, `histories` what each element is, `rounds` what was decided, on a board of these chares and PEs (`elements`,
-/// `on_pes`), and `marks` that the elements were measured and placed as the rounds say, unless its fault is
+/// `on_pes`) that decides as the config says (`by_strategy`), and `marks` that the elements were measured and placed as the rounds say, unless its fault is
 /// [`Mismatch`](Fault::Mismatch). That comes only where they were not (`mismatch`), and in place of any other. Else the fault is
 /// that of the lowest PE whose worker met one, and without one every element has finished (`finished`).
 ///
@@ -68,7 +69,8 @@ pub fn run<
     ensures board { IfOk result (λ o. IsBoard o.board) }
     ensures elements { IfOk result (λ o. elements o.board.database ≡ length chares.items) }
     ensures on_pes { IfOk result (λ o. o.board.pes ≡ config.now.pes) }
-    ensures rounds { IfOk result (λ o. AreDecided (length chares.items) config.now.pes o.board.rounds) }
+    ensures by_strategy { IfOk result (λ o. o.board.strategy ≡ config.now.strategy) }
+    ensures rounds { IfOk result (λ o. AreDecided (length chares.items) config.now.pes config.now.strategy o.board.rounds) }
     ensures marks { IfOk result (λ o. o.fault ≢ Some Mismatch → AreAllMarked o.board o.ends o.left) }
     ensures mismatch { IfOk result (λ o. o.fault ≡ Some Mismatch → ¬ (AreAllMarked o.board o.ends o.left)) }
     ensures unpacks { IfOk result (λ o. o.fault ≢ Some Unpack) }
@@ -104,7 +106,8 @@ pub fn run_watched<
     ensures board { IfOk result (λ o. IsBoard o.board) }
     ensures elements { IfOk result (λ o. elements o.board.database ≡ length chares.items) }
     ensures on_pes { IfOk result (λ o. o.board.pes ≡ config.now.pes) }
-    ensures rounds { IfOk result (λ o. AreDecided (length chares.items) config.now.pes o.board.rounds) }
+    ensures by_strategy { IfOk result (λ o. o.board.strategy ≡ config.now.strategy) }
+    ensures rounds { IfOk result (λ o. AreDecided (length chares.items) config.now.pes config.now.strategy o.board.rounds) }
     ensures marks { IfOk result (λ o. o.fault ≢ Some Mismatch → AreAllMarked o.board o.ends o.left) }
     ensures mismatch { IfOk result (λ o. o.fault ≡ Some Mismatch → ¬ (AreAllMarked o.board o.ends o.left)) }
     ensures unpacks { IfOk result (λ o. o.fault ≢ Some Unpack) }
@@ -122,7 +125,7 @@ pub fn run_watched<
 // The run of the chares that `H` names; the types of all that it is made of name them too.
 fn run_as<
     C: Chare<A> + Send,
-    H: Openings<C> + Send + Sync,
+    H: Openings<C> + RunStrategy + Send + Sync,
     G: Gate + Sync,
     V: Watch + Sync,
     R: Threads + Wait + Sync,
@@ -139,12 +142,13 @@ fn run_as<
     requires few { length chares.items ≤ Limits.ELEMENTS }
     requires run { config.now.pes ≡ H.pes }
     requires opened { chares.items ≡ H.opened }
-    ensures outcome { IfOk result (IsOutcome C.step C.fits C.pack H.opened H.pes) }
+    requires by_strategy { config.now.strategy ≡ H.strategy }
+    ensures outcome { IfOk result (IsOutcome C.step C.fits C.pack H.opened H.pes H.strategy) }
 {
     let n = element_count(&chares);
     let homes = opening_words(alloc, n, config.pes)?;
     let words = Locations::<OfRun<C, H>, A>::new(alloc, &homes, config.pes)?;
-    let board = Board::new(alloc, n, config.pes)?;
+    let board = Board::new(alloc, n, config.pes, config.strategy)?;
     let (post, seats) = open_post::<C, H, A>(alloc, config)?;
     let states = opening_pes(alloc, config.pes, chares)?;
     run_opened(
@@ -161,7 +165,7 @@ fn element_count<C>(chares: &[C]) -> u32
 }
 
 // The queues of a run, with a seat for each PE.
-fn open_post<C: Chare<A>, H: Openings<C>, A: Allocator + Copy>(
+fn open_post<C: Chare<A>, H: Openings<C> + RunStrategy, A: Allocator + Copy>(
     alloc: A,
     config: &Config,
 ) -> Result<(Post<Parcel<C, H, A>, A>, Vec<Seat<Parcel<C, H, A>, A>, A>), AllocError>
@@ -181,7 +185,7 @@ fn open_post<C: Chare<A>, H: Openings<C>, A: Allocator + Copy>(
 // The run of PEs that have opened. It picks the names of its queues and of its opening.
 fn run_opened<
     C: Chare<A> + Send,
-    H: Openings<C> + Send + Sync,
+    H: Openings<C> + RunStrategy + Send + Sync,
     G: Gate + Sync,
     V: Watch + Sync,
     R: Threads + Wait + Sync,
@@ -211,7 +215,8 @@ fn run_opened<
     requires word_elements { words.elements ≡ length H.opened }
     requires elements { elements board.database ≡ length H.opened }
     requires on_pes { board.pes ≡ H.pes }
-    ensures outcome { IfOk result (IsOutcome C.step C.fits C.pack H.opened H.pes) }
+    requires by_strategy { board.strategy ≡ H.strategy }
+    ensures outcome { IfOk result (IsOutcome C.step C.fits C.pack H.opened H.pes H.strategy) }
 {
     run_named::<C, H, Brand, G, V, R, A>(
         rt, alloc, config, gate, watch, post, seats, states, words, board,
@@ -221,7 +226,7 @@ fn run_opened<
 // The same, under these names.
 fn run_named<
     C: Chare<A> + Send,
-    H: Openings<C> + Send + Sync,
+    H: Openings<C> + RunStrategy + Send + Sync,
     J: RunBeginning<C> + Send + Sync,
     G: Gate + Sync,
     V: Watch + Sync,
@@ -255,7 +260,8 @@ fn run_named<
     requires word_elements { words.elements ≡ length H.opened }
     requires elements { elements board.database ≡ length H.opened }
     requires on_pes { board.pes ≡ H.pes }
-    ensures outcome { IfOk result (IsOutcome C.step C.fits C.pack H.opened H.pes) }
+    requires by_strategy { board.strategy ≡ H.strategy }
+    ensures outcome { IfOk result (IsOutcome C.step C.fits C.pack H.opened H.pes H.strategy) }
 {
     let count = config.pes as usize;
     let room = Vec::with_capacity(alloc, count)?;
@@ -277,7 +283,7 @@ fn run_named<
 // Lets each worker work in a thread of its own.
 fn work_all<
     C: Chare<A> + Send,
-    H: Openings<C> + Send + Sync,
+    H: Openings<C> + RunStrategy + Send + Sync,
     J: RunBeginning<C> + Send + Sync,
     G: Gate + Sync,
     V: Watch + Sync,

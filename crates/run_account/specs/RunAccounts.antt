@@ -10,10 +10,11 @@ use Rattle.rts_core.specs.Accounts.{times, is_number, AreSent, IsCounted}
 use Rattle.rts_core.specs.Own.{AreOwn}
 use Rattle.rts_core.specs.Places.{letters, journaled, lives}
 use Rattle.rts_core.specs.Worlds.{WorldView}
+use Rattle.at_sync.specs.declared.strategy.Strategy.TheVariants.{Least}
 
 -- what a run left, as a world whose words and board do not matter: its PEs, and what is left in the queue of each
 abbrev pub left_world : {C : Type 0} → List (PeView C) → List (List Parcel) → WorldView C (Unit {0})
-left_world ends left = record { pes = ends; queues = left; words = []; board = new_board 0 0 }
+left_world ends left = record { pes = ends; queues = left; words = []; board = new_board 0 0 Least }
 
 -- how often a letter number was posted: once where it is below the count of its PE, and else never
 abbrev pub posted_times : {C : Type 0} → ℕ × ℕ → List (PeView C) → ℕ

@@ -9,4 +9,6 @@ pub struct Asked<'a> {
     pub lbd1: bool,
     /// Whether the progress of the run is written also where the standard error is no terminal.
     pub progress: bool,
+    /// The tolerance within which rounds are decided, in thousandths, 0 to 1,000.
+    pub tolerance: Option<u32>,
 }

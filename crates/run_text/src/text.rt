@@ -10,7 +10,7 @@ ghost use Rattle.run_text.specs.Text.{account_line, blank_number, decision_end, 
 
 use crate::sums::sums_of;
 use lb_certificates::Snapshot;
-use lb_strategy::Decision;
+use lb_refinement::Refined;
 use rts_core::Account;
 use rts_run::{Fault, Outcome};
 use std::alloc::{AllocError, Allocator};
@@ -61,12 +61,12 @@ fn push_outcome<A: Allocator + Copy>(
 
 fn push_rounds<A: Allocator>(
     text: &mut String<A>,
-    rounds: &[(Snapshot<A>, Decision<A>)],
+    rounds: &[(Snapshot<A>, Refined<A>)],
 ) -> Result<(), AllocError>
     ensures { OnOk result (string_bytes text.new ≡ string_bytes text.old ++ round_lines rounds.now) }
 {
     for (i, (_, decision)) in rounds.iter().enumerate() {
-        push_round(text, i + 1, decision.division.bottleneck, decision.moved)?;
+        push_round(text, i + 1, decision.bottleneck(), decision.moved())?;
     }
     Ok(())
 }

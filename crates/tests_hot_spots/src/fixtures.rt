@@ -4,7 +4,7 @@ ghost use Rattle.std.specs.Prelude.{◌≡◌, true};
 
 use hot_spot_run::Chain;
 use hot_spot_strip::Mode;
-use rts_run::Config;
+use rts_run::{Config, Strategy};
 use std::fmt::Debug;
 use std::process::Abort;
 
@@ -22,6 +22,7 @@ pub(crate) fn patient(pes: u32, capacity: u32) -> Config {
         capacity,
         turns: 1_000_000_000,
         probe_workers: 1,
+        strategy: Strategy::Least,
     }
 }
 

@@ -2,7 +2,7 @@
 
 ghost use Rattle.std.specs.Prelude.{◌≡◌, true};
 
-use at_sync::Board;
+use at_sync::{Board, Strategy};
 use chare_index::{Index, Pe, Round};
 use chares::StateBytes;
 use lb_snapshot::Units;
@@ -38,7 +38,7 @@ pub(crate) fn state_bytes(rt: &impl Abort, bytes: u32) -> StateBytes {
 
 /// A board of two elements on two PEs, in round 1.
 pub(crate) fn new_board(rt: &(impl Abort + AllocGlobal)) -> Board {
-    Board::new(rt.alloc(), 2, 2).expect(rt, "out of memory")
+    Board::new(rt.alloc(), 2, 2, Strategy::Least).expect(rt, "out of memory")
 }
 
 /// Reports for element `e` in a round, with this load, this size and this PE.

@@ -3,7 +3,7 @@
 ghost use Rattle.std.specs.Prelude.{◌≡◌, ◌∷◌, []};
 
 use crate::fixtures::{index, pe, round};
-use at_sync::Board;
+use at_sync::{Board, Strategy};
 use chare_index::NoGate;
 use chares::Openings;
 use pe_state::PeState;
@@ -40,7 +40,7 @@ fn quiet<H: Openings<Courier<A>>, A: Allocator + Copy>(
     requires pes { H.pes ≡ 1 }
     requires opening { H.opened ≡ chare ∷ [] }
 {
-    let board = Board::new(alloc, 1, 1).expect(rt, "out of memory");
+    let board = Board::new(alloc, 1, 1, Strategy::Least).expect(rt, "out of memory");
     let mut ends = Vec::new(alloc);
     assert!(rt;
         ends.push(started::<H, A>(rt, alloc, chare).into_end())

@@ -1,7 +1,7 @@
 //! The calls of a board.
 
 use crate::fixtures::{Lent, assert_for, assert_requests};
-use at_sync::{Board, BoardError};
+use at_sync::{Board, BoardError, Strategy};
 use chare_index::{NoGate, Round};
 use std::alloc::{AllocError, Allocator};
 use std::process::Abort;
@@ -24,7 +24,7 @@ fn opens<A: Allocator>(answer: Result<Board<A>, AllocError>) -> Outcome {
 
 // The same of a new board.
 fn opens_new(alloc: Lent<'_>) -> Outcome {
-    opens(Board::new(alloc, 3, 2))
+    opens(Board::new(alloc, 3, 2, Strategy::Least))
 }
 
 #[test]
@@ -36,7 +36,7 @@ fn new_boards(rt: HostRuntime) {
 // Two elements on two PEs, both of which have reported, or `None` where there is no memory for them. A report that is
 // refused shows in what is decided.
 fn two_reported<A: Allocator + Copy>(alloc: A) -> Option<Board<A>> {
-    let mut board = Board::new(alloc, 2, 2).ok()?;
+    let mut board = Board::new(alloc, 2, 2, Strategy::Least).ok()?;
     let _taken = board.report(0, round(1), 3, 5, pe(0)).is_ok();
     let _taken = board.report(1, round(1), 3, 5, pe(1)).is_ok();
     Some(board)
@@ -69,7 +69,7 @@ fn comes_to<A: Allocator>(board: &Board<A>, answer: Result<Round, BoardError>) -
 // Whether both elements stay by the decision of the first round.
 fn all_stay<A: Allocator>(board: &Board<A>) -> bool {
     match board.decision_for(round(1)) {
-        Some(decision) => decision.moved == 0,
+        Some(decision) => decision.moved() == 0,
         None => false,
     }
 }

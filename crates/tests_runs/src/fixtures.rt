@@ -6,7 +6,7 @@ use crate::errand::Errand;
 use chare_index::{Gate, Index, NoGate, Pe, Round};
 use chares::StateBytes;
 use rts_core::Account;
-use rts_run::{Config, Outcome, run};
+use rts_run::{Config, Outcome, Strategy, run};
 use std::fmt::Debug;
 use std::process::Abort;
 use std::sync::Wait;
@@ -51,6 +51,7 @@ pub(crate) fn patient(pes: u32, capacity: u32) -> Config {
         capacity,
         turns: 1_000_000_000,
         probe_workers: 1,
+        strategy: Strategy::Least,
     }
 }
 

@@ -26,7 +26,7 @@ fn is_decided_so(outcome: &Outcome<Errand>, load: Units, bottleneck: u64) -> boo
         return false;
     };
     snapshot.loads().as_slice() == [load, load].as_slice()
-        && decision.division.bottleneck == bottleneck
+        && decision.bottleneck() == bottleneck
 }
 
 fn runs_so<R: Threads + Wait + Sync + Abort + AllocGlobal>(rt: &R, row: &Row) -> bool {

@@ -4,7 +4,7 @@ use crate::fixtures::assert_for;
 use crate::found::compare;
 use chare_index::NoGate;
 use chares::Chare;
-use rts_run::{Config, Fault, Outcome, run};
+use rts_run::{Config, Fault, Outcome, Strategy, run};
 use std::alloc::Global;
 use std::process::Abort;
 use std::sync::Wait;
@@ -58,6 +58,7 @@ impl Draw {
             capacity: self.up_to(4),
             turns,
             probe_workers: self.up_to(2),
+            strategy: Strategy::Least,
         }
     }
 

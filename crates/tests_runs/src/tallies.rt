@@ -52,8 +52,8 @@ fn push_rounds<A: Allocator + Copy>(
     outcome: &Outcome<Tally<A>, A>,
 ) -> Result<(), AllocError> {
     for (snapshot, decision) in outcome.rounds() {
-        let (round, bottleneck) = (snapshot.step(), decision.division.bottleneck);
-        let moved = decision.moved;
+        let (round, bottleneck) = (snapshot.step(), decision.bottleneck());
+        let moved = decision.moved();
         writeln!(text, "round {round} bottleneck {bottleneck} moved {moved}")?;
     }
     Ok(())

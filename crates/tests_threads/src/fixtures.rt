@@ -3,7 +3,7 @@
 ghost use Rattle.std.specs.Prelude.{◌≡◌, ◌<◌, true, IfOk};
 ghost use Rattle.lb_database.specs.Measuring.{elements};
 
-use at_sync::Board;
+use at_sync::{Board, Strategy};
 use barrier::{Barrier, BoardSize};
 use chare_index::Index;
 use std::alloc::{AllocError, Allocator};
@@ -35,7 +35,7 @@ pub(crate) fn two<J: BoardSize, A: Allocator + Copy>(alloc: A) -> Result<Barrier
     requires elements { J.elements ≡ 2 }
     requires pes { J.pes ≡ 2 }
 {
-    Ok(Barrier::new(Board::new(alloc, 2, 2)?))
+    Ok(Barrier::new(Board::new(alloc, 2, 2, Strategy::Least)?))
 }
 
 /// A barrier of three elements on two PEs.
@@ -45,5 +45,5 @@ pub(crate) fn three<J: BoardSize, A: Allocator + Copy>(
     requires elements { J.elements ≡ 3 }
     requires pes { J.pes ≡ 2 }
 {
-    Ok(Barrier::new(Board::new(alloc, 3, 2)?))
+    Ok(Barrier::new(Board::new(alloc, 3, 2, Strategy::Least)?))
 }

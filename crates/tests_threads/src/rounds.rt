@@ -9,7 +9,8 @@ use at_sync::{Board, BoardError};
 use barrier::{Barrier, BoardSize};
 use chare_index::{Index, Pe, Round};
 use lb_certificates::{Floor, Snapshot, Units};
-use lb_strategy::{Decision, check};
+use lb_refinement::Refined;
+use lb_strategy::check;
 use std::alloc::{AllocError, Allocator};
 use std::marker::Brand;
 use std::sync::Wait;
@@ -236,7 +237,10 @@ fn is_fence<A: Allocator>(floor: &Floor<A>) -> bool {
 }
 
 // Whether a decision is that of a case, and right for this snapshot, its prices too.
-fn is_right<A: Allocator>(snapshot: &Snapshot<A>, decision: &Decision<A>, case: &Case<'_>) -> bool {
+fn is_right<A: Allocator>(snapshot: &Snapshot<A>, decision: &Refined<A>, case: &Case<'_>) -> bool {
+    let Refined::Planned(decision) = decision else {
+        return false;
+    };
     let division = &decision.division;
     division.bottleneck == case.bottleneck
         && same(division.cuts.as_slice(), &case.cuts)

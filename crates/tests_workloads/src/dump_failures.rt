@@ -6,7 +6,8 @@ use crate::fixtures::{WORKED, assert_for, driven};
 use crate::kept::{Faults, KeptFiles, NO_FAULTS, Store};
 use lb_certificates::{Loads, Sizes, Snapshot};
 use lb_dump::DumpError;
-use lb_strategy::{Decision, plan};
+use lb_refinement::Refined;
+use lb_strategy::plan;
 use std::alloc::{AllocError, Allocator, Global};
 use std::io::ErrorKind;
 use std::process::Abort;
@@ -261,7 +262,7 @@ fn round<A: Allocator + Copy>(
     alloc: A,
     step: u32,
     loads: &[u64],
-) -> Result<Option<(Snapshot<A>, Decision<A>)>, AllocError> {
+) -> Result<Option<(Snapshot<A>, Refined<A>)>, AllocError> {
     let loads = Loads::new(Vec::from_slice(alloc, loads)?);
     let sizes = Sizes::new(Vec::from_slice(alloc, &[(8, pe(0)), (8, pe(0))])?);
     let (Some(loads), Some(sizes)) = (loads, sizes) else {
@@ -271,7 +272,7 @@ fn round<A: Allocator + Copy>(
         return Ok(None);
     };
     match plan(alloc, &snapshot, 2) {
-        Ok(decision) => Ok(Some((snapshot, decision))),
+        Ok(decision) => Ok(Some((snapshot, Refined::Planned(decision)))),
         Err(_) => Err(AllocError),
     }
 }
@@ -316,7 +317,7 @@ fn a_load_that_is_too_great_for_the_format(rt: HostRuntime) {
 fn comes_of<A: Allocator + Copy>(
     global: Global,
     alloc: A,
-    round: (Snapshot<A>, Decision<A>),
+    round: (Snapshot<A>, Refined<A>),
     format: DumpFormat,
 ) -> Outcome {
     let mut rounds = Vec::new(global);

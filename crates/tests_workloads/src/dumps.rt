@@ -5,7 +5,8 @@ use crate::kept::{KeptFiles, NO_FAULTS, Store};
 use lb_certificates::Snapshot;
 use lb_dump::{Dump, Recorded, decode};
 use lb_replay::{Ended, simulate, verify};
-use lb_strategy::{Decision, check};
+use lb_refinement::Refined;
+use lb_strategy::check;
 use std::alloc::Global;
 use std::process::Abort;
 use std::slice;
@@ -14,7 +15,7 @@ use std::thread::Threads;
 use workload_run::{DumpFormat, write_dumps, write_round};
 
 /// A round that was decided.
-pub(crate) type Round = (Snapshot<Global>, Decision<Global>);
+pub(crate) type Round = (Snapshot<Global>, Refined<Global>);
 
 /// The formats.
 pub(crate) const FORMATS: [DumpFormat; 2] = [DumpFormat::Lbd1, DumpFormat::Lbd2];

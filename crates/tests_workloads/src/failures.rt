@@ -1,6 +1,7 @@
 //! Readers and writers that fail, once or for good.
 
 use crate::fixtures::{TURNS, WORKED, WORKED_TEXT, assert_for};
+use rts_run::Strategy;
 use std::alloc::Global;
 use std::io::ErrorKind;
 use std::process::Abort;
@@ -18,7 +19,7 @@ fn cut_off<R: Threads + Wait + Sync + Abort + AllocGlobal>(
 ) -> (Driven<Global>, Vec<u8>) {
     let mut reader = Source::new(WORKED, 1, Some((at, kind)));
     let mut text = Vec::new(rt.alloc());
-    let driven = drive(rt, rt.alloc(), &mut reader, &mut text, TURNS);
+    let driven = drive(rt, rt.alloc(), &mut reader, &mut text, TURNS, Strategy::Least);
     (driven, text)
 }
 
@@ -50,7 +51,7 @@ fn behind_a_fault<R: Threads + Wait + Sync + Abort + AllocGlobal>(
 ) -> (Ended, usize) {
     let mut reader = Source::new(b"pes 257\nrounds", 1, Some((at, ErrorKind::Other)));
     let mut text = Vec::new(rt.alloc());
-    let driven = drive(rt, rt.alloc(), &mut reader, &mut text, TURNS);
+    let driven = drive(rt, rt.alloc(), &mut reader, &mut text, TURNS, Strategy::Least);
     let ended = driven.ended;
     drop(driven);
     drop(text);
@@ -73,7 +74,7 @@ fn is_cut<R: Threads + Wait + Sync + Abort + AllocGlobal>(
 ) -> bool {
     let mut reader = WORKED;
     let mut writer = Sink::new(rt, 7, at, error);
-    let driven = drive(rt, rt.alloc(), &mut reader, &mut writer, TURNS);
+    let driven = drive(rt, rt.alloc(), &mut reader, &mut writer, TURNS, Strategy::Least);
     let right = driven.ended == Ended::WriteFailed && driven.status() == 5;
     let rounds = driven.rounds().len() == 2;
     drop(driven);
@@ -96,7 +97,7 @@ fn a_writer_that_fails_at_any_call(rt: HostRuntime) {
 fn a_writer_that_takes_a_byte_at_a_time(rt: HostRuntime) {
     let mut reader = WORKED;
     let mut writer = Sink::new(&rt, 1, usize::MAX, None);
-    let driven = drive(&rt, rt.alloc(), &mut reader, &mut writer, TURNS);
+    let driven = drive(&rt, rt.alloc(), &mut reader, &mut writer, TURNS, Strategy::Least);
     let right = driven.ended == Ended::Ran(None);
     drop(driven);
     assert!(rt; right && writer.taken.as_slice() == WORKED_TEXT.as_bytes());

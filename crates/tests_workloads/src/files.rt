@@ -3,7 +3,7 @@
 use crate::fixtures::{TURNS, WORKED, WORKED_TEXT, assert_for};
 use chare_index::Round;
 use file_faults::Advice;
-use rts_run::Watch;
+use rts_run::{Strategy, Watch};
 use std::io::{self, Error, ErrorKind};
 use std::process::Abort;
 use std::sync::Wait;
@@ -51,7 +51,7 @@ fn ends<R: Threads + Wait + Sync + Abort + AllocGlobal>(
 ) -> bool {
     let seen = Seen::new();
     let mut text = Vec::new(rt.alloc());
-    let (driven, found) = drive_file(rt, rt.alloc(), file, &mut text, TURNS, &seen);
+    let (driven, found) = drive_file(rt, rt.alloc(), file, &mut text, TURNS, Strategy::Least, &seen);
     let right = driven.ended == ended && found.map(|error| error.kind()) == reason;
     drop(driven);
     let (want, rounds) = told;

@@ -2,6 +2,7 @@
 
 ghost use Rattle.std.specs.Prelude.{◌≡◌, true};
 
+use rts_run::Strategy;
 use std::alloc::Global;
 use std::fmt::Debug;
 use std::process::Abort;
@@ -36,7 +37,7 @@ pub(crate) fn driven<R: Threads + Wait + Sync + Abort + AllocGlobal>(
 ) -> (Driven<Global>, Vec<u8>) {
     let mut reader = workload;
     let mut text = Vec::new(rt.alloc());
-    let driven = drive(rt, rt.alloc(), &mut reader, &mut text, TURNS);
+    let driven = drive(rt, rt.alloc(), &mut reader, &mut text, TURNS, Strategy::Least);
     (driven, text)
 }
 

@@ -25,4 +25,6 @@ mod refused_memory;
 #[cfg(test)]
 mod words;
 #[cfg(test)]
+mod tolerances;
+#[cfg(test)]
 mod worked;

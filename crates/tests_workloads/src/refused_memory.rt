@@ -1,7 +1,7 @@
 //! The worked workload, with each of its requests for memory refused in turn.
 
 use crate::fixtures::{TURNS, WORKED, WORKED_TEXT, assert_for};
-use rts_run::Fault;
+use rts_run::{Fault, Strategy};
 use std::process::Abort;
 use std::sync::Wait;
 use std::thread::Threads;
@@ -58,7 +58,7 @@ fn refuses<R: Threads + Wait + Sync + Abort + AllocGlobal>(
     let alloc = Refusing::new(rt.alloc(), turn);
     let mut reader = WORKED;
     let mut text = Vec::new(rt.alloc());
-    let driven = drive(rt, &alloc, &mut reader, &mut text, TURNS);
+    let driven = drive(rt, &alloc, &mut reader, &mut text, TURNS, Strategy::Least);
     let refused = alloc.has_refused();
     count(rt, counts, refused, driven.ended, &text);
     let status = driven.status();

@@ -13,6 +13,7 @@ const PLAIN: Asked<'static> = Asked {
     dump: None,
     lbd1: false,
     progress: false,
+    tolerance: None,
 };
 
 // The status for words that ask for no run, and what the others ask for.
@@ -25,7 +26,7 @@ fn answer<'a>(alloc: Global, words: &'a [&'a str]) -> Result<Asked<'a>, u8> {
 
 #[test]
 fn words_and_what_they_ask_for(rt: HostRuntime) {
-    let rows: [Row<'static>; 11] = [
+    let rows: [Row<'static>; 15] = [
         (&["charm_run", "f"], Some(PLAIN)),
         (
             &["charm_run", "--dump", "p", "f"],
@@ -56,6 +57,22 @@ fn words_and_what_they_ask_for(rt: HostRuntime) {
                 ..PLAIN
             }),
         ),
+        (
+            &["charm_run", "--tolerance", "0", "f"],
+            Some(Asked {
+                tolerance: Some(0),
+                ..PLAIN
+            }),
+        ),
+        (
+            &["charm_run", "f", "--tolerance", "1000"],
+            Some(Asked {
+                tolerance: Some(1_000),
+                ..PLAIN
+            }),
+        ),
+        (&["charm_run", "f", "--tolerance", "1001"], None),
+        (&["charm_run", "f", "--tolerance"], None),
         (&["charm_run"], None),
         (&["charm_run", "f", "g"], None),
         (&["charm_run", "--dump", "f"], None),

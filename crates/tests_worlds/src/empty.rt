@@ -8,7 +8,7 @@ use crate::steps::{expect_account, opened, run};
 use chare_index::Pe;
 use chares::{Openings, TraceEntry};
 use lb_certificates::Floor;
-use lb_strategy::Decision;
+use lb_refinement::Refined;
 use rts_core::{Event, World};
 use std::alloc::Global;
 use std::marker::Brand;
@@ -50,12 +50,12 @@ fn are_zeros(cuts: &[u32], pes: u32) -> bool {
 }
 
 // Whether a decision moves nothing and loads no PE.
-fn is_of_nothing(decision: &Decision, pes: u32) -> bool {
-    decision.division.bottleneck == 0
-        && matches!(decision.division.floor, Floor::Zero)
-        && are_zeros(decision.division.cuts.as_slice(), pes)
-        && decision.moved == 0
-        && decision.moves.as_slice().is_empty()
+fn is_of_nothing(decision: &Refined, pes: u32) -> bool {
+    decision.bottleneck() == 0
+        && matches!(decision.least().floor, Floor::Zero)
+        && are_zeros(decision.cuts(), pes)
+        && decision.moved() == 0
+        && decision.moves().as_slice().is_empty()
 }
 
 // Whether this round is decided, and so.

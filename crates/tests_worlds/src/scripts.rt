@@ -7,7 +7,7 @@ use crate::steps::{expect_account, opened, take};
 use chare_index::{Index, Pe};
 use chares::{Openings, TraceEntry};
 use lb_certificates::{Floor, Snapshot};
-use lb_strategy::Decision;
+use lb_refinement::Refined;
 use pup_pack::PupError;
 use rts_core::{Event, World};
 use std::alloc::{Allocator, Global};
@@ -145,13 +145,12 @@ fn is_fence<A: Allocator>(floor: &Floor<A>, want: &[u32]) -> bool {
 }
 
 // Whether a decision is what the loads ask for: tallies 0 and 1 belong on PE 1, and tally 2 stays on PE 2.
-fn is_first_decision<A: Allocator>(decision: &Decision<A>) -> bool {
-    let division = &decision.division;
-    division.bottleneck == 1
-        && decision.moved == 32
-        && division.cuts.as_slice() == [0, 2, 3, 3].as_slice()
-        && decision.naming.as_slice() == [1, 2, 0].as_slice()
-        && is_fence(&division.floor, &[0, 1, 1, 1])
+fn is_first_decision<A: Allocator>(decision: &Refined<A>) -> bool {
+    decision.bottleneck() == 1
+        && decision.moved() == 32
+        && decision.cuts() == [0, 2, 3, 3].as_slice()
+        && decision.names() == [1, 2, 0].as_slice()
+        && is_fence(&decision.least().floor, &[0, 1, 1, 1])
 }
 
 // Whether a snapshot has what the tallies have in the first round: what each got, its bytes, and the PE of its number.

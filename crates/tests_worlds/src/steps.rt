@@ -2,6 +2,7 @@
 
 ghost use Rattle.std.specs.Prelude.{◌≡◌};
 
+use at_sync::Strategy;
 use crate::fixtures::assert_for;
 use chare_index::Pe;
 use chares::{Carried, Chare, Entry, Letter, Openings, TraceEntry};
@@ -121,7 +122,7 @@ pub(crate) fn opened<C: Chare<A>, H: Openings<C>, A: Allocator + Copy>(
 {
     assert!(rt; 1 <= pes && pes <= 256, "no such number of PEs");
     assert!(rt; chares.len() <= 65_536, "too many elements");
-    World::new(alloc, pes, chares)
+    World::new(alloc, pes, chares, Strategy::Least)
 }
 
 // Letters counted one by one. So few are posted here that no count wraps.

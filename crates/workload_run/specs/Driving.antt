@@ -1,6 +1,7 @@
 -- How the run of a workload ends, and what its writer holds then.
 use Rattle.std.specs.Prelude.{◌≡◌, ◌⊎◌, ℕ, List, Option, None, Some, IfSome}
 use Rattle.std.specs.Io.KnownBytes.{Appends, Consumes}
+use Rattle.at_sync.specs.declared.strategy.Strategy.{Strategy}
 use Rattle.pe_worker.specs.declared.fault.Fault.{Fault}
 use Rattle.rts_run.specs.Outcomes.{IsOutcome, OutcomeView}
 use Rattle.run_text.specs.Text.{outcome_text}
@@ -16,16 +17,16 @@ use Rattle.workload_run.specs.Tallies.{tallies_of}
 use Rattle.workload_run.specs.declared.ended.Ended.{Ended}
 use Rattle.workload_run.specs.declared.ended.Ended.TheVariants.{Ran, Refused, OutOfMemory, WriteFailed}
 
--- what a run left that opened with these tallies on so many PEs: every clause of `run` holds of it
-abbrev pub IsLeftBy : {A : Type 0} → (TallyView → Type 0) → List TallyView → ℕ → OutcomeView TallyView A → Type 0
-IsLeftBy fits chares pes o = IsOutcome tally_step fits tally_pack chares pes o
+-- what a run left that opened with these tallies on so many PEs, with rounds by this strategy: every clause of `run` holds of it
+abbrev pub IsLeftBy : {A : Type 0} → (TallyView → Type 0) → List TallyView → ℕ → Strategy → OutcomeView TallyView A → Type 0
+IsLeftBy fits chares pes strategy o = IsOutcome tally_step fits tally_pack chares pes strategy o
 
 -- This is what the run left of the workload that the bytes are the text of, and the text of that. Where the reader
 -- does not report its bytes, the workload is any.
-pub record IsRunOf {A : Type 0} (fits : TallyView → Type 0) (bytes : Option (List ℕ)) (o : OutcomeView TallyView A) (text : List ℕ) : Type 0 where
+pub record IsRunOf {A : Type 0} (fits : TallyView → Type 0) (strategy : Strategy) (bytes : Option (List ℕ)) (o : OutcomeView TallyView A) (text : List ℕ) : Type 0 where
   pub workload : WorkloadView
   pub read : IfSome bytes (IsText workload)
-  pub left : IsLeftBy fits (tallies_of workload) workload.pes o
+  pub left : IsLeftBy fits (tallies_of workload) workload.pes strategy o
   pub told : text ≡ outcome_text workload.chares o
 
 -- The fault of the workload that is reported: that of the bytes that were read, before which the reader had the bytes and has
@@ -38,16 +39,16 @@ pub record IsRefusal (bytes rest : Option (List ℕ)) (e : WorkError) : Type 0 w
   pub end_ : EndsAt rest e
   pub known : IfSome bytes (λ all. (e ≡ Read) ⊎ IsFault all e)
 
-module _ {A : Type 0} (fits : TallyView → Type 0) (bytes rest old new : Option (List ℕ)) where
+module _ {A : Type 0} (fits : TallyView → Type 0) (strategy : Strategy) (bytes rest old new : Option (List ℕ)) where
   -- what there is to write: what the run left, or without a run the fault of the workload
   abbrev pub MayTell : Option (OutcomeView TallyView A) → List ℕ → Type 0
-  MayTell (Some o) text = IsRunOf fits bytes o text
+  MayTell (Some o) text = IsRunOf fits strategy bytes o text
   MayTell None text = (e : WorkError) × IsRefusal bytes rest e × (text ≡ fault_line e)
 
   -- the text of what the run left was written
   abbrev pub HasTold : Option (OutcomeView TallyView A) → Option Fault → Type 0
   HasTold None fault = ⊥
-  HasTold (Some o) fault = (fault ≡ o.fault) × ((text : List ℕ) × IsRunOf fits bytes o text × Appends old new text)
+  HasTold (Some o) fault = (fault ≡ o.fault) × ((text : List ℕ) × IsRunOf fits strategy bytes o text × Appends old new text)
 
   -- What the writer holds after each end: the whole text, the line of the fault, that for refused memory, or a prefix of one
   -- of these. The reader had these bytes, and has the rest.
@@ -60,7 +61,7 @@ module _ {A : Type 0} (fits : TallyView → Type 0) (bytes rest old new : Option
 
   -- an outcome is that of the workload
   abbrev pub IsOfWorkload : Option (OutcomeView TallyView A) → Type 0
-  IsOfWorkload outcome = IfSome outcome (λ o. (text : List ℕ) × IsRunOf fits bytes o text)
+  IsOfWorkload outcome = IfSome outcome (λ o. (text : List ℕ) × IsRunOf fits strategy bytes o text)
 
 -- the line for a workload that could not be opened was written, or a prefix of it, or that for refused memory
 abbrev pub ReportsUnread : Option (List ℕ) → Option (List ℕ) → Ended → Type 0

@@ -1,6 +1,7 @@
 -- What the contracts of inner functions say.
 use Rattle.std.specs.Prelude.{◌≡◌, ◌≢◌, ◌⊎◌, ℕ, List, Option, None, Some}
 use Rattle.std.specs.Io.KnownBytes.{Appends}
+use Rattle.at_sync.specs.declared.strategy.Strategy.{Strategy}
 use Rattle.pe_worker.specs.declared.fault.Fault.{Fault}
 use Rattle.rts_run.specs.Outcomes.{OutcomeView}
 use Rattle.run_text.specs.Text.{outcome_text}
@@ -31,7 +32,7 @@ ReportsFault fault old new result =
     ((fault ≢ Why.OutOfMemory) × WritesText (fault_line fault) (Refused fault) old new result) ⊎ WritesText memory_line OutOfMemory old new result
 
 -- what came of a workload that was read
-abbrev pub EndsRun : {A : Type 0} → (TallyView → Type 0) → WorkloadView → Option (List ℕ) → Option (List ℕ) → Option (OutcomeView TallyView A) → Ended → Type 0
-EndsRun fits w old new (Some o) ended =
-    IsLeftBy fits (tallies_of w) w.pes o × TellsOutcome (outcome_text w.chares o) old new o.fault ended
-EndsRun fits w old new None ended = WritesText memory_line OutOfMemory old new ended
+abbrev pub EndsRun : {A : Type 0} → (TallyView → Type 0) → Strategy → WorkloadView → Option (List ℕ) → Option (List ℕ) → Option (OutcomeView TallyView A) → Ended → Type 0
+EndsRun fits strategy w old new (Some o) ended =
+    IsLeftBy fits (tallies_of w) w.pes strategy o × TellsOutcome (outcome_text w.chares o) old new o.fault ended
+EndsRun fits strategy w old new None ended = WritesText memory_line OutOfMemory old new ended

@@ -4,7 +4,7 @@ ghost use Rattle.workload_run.specs.Statuses.{status_of};
 
 use crate::ended::Ended;
 use lb_certificates::Snapshot;
-use lb_strategy::Decision;
+use lb_refinement::Refined;
 use rts_run::Outcome;
 use std::alloc::{Allocator, Global};
 use tally::Tally;
@@ -27,7 +27,7 @@ impl<A: Allocator + Copy> Driven<A> {
     }
 
     /// The snapshot and the decision of each round that was decided, from round 1 on. There is none where there was no run.
-    pub fn rounds(&self) -> &[(Snapshot<A>, Decision<A>)]
+    pub fn rounds(&self) -> &[(Snapshot<A>, Refined<A>)]
         ensures value { result.now ≡ option_map_or (λ o. o.board.rounds) self.now.outcome [] }
     {
         match &self.outcome {

@@ -15,7 +15,7 @@ use crate::onlooker::Onlooker;
 use crate::tallies::tallies_of;
 use chare_index::{Limits, NoGate};
 use pup_pack::Pup;
-use rts_run::{Config, NoWatch, Outcome, run_watched};
+use rts_run::{Config, NoWatch, Outcome, Strategy, run_watched};
 use run_text::outcome_text;
 use std::alloc::{AllocError, Allocator};
 use std::io::{self, Read, Write};
@@ -32,7 +32,8 @@ const CAPACITY: u32 = 1_024;
 const PROBE_WORKERS: u32 = 4;
 
 /// Reads a workload, runs its tallies on its PEs, and writes the text of what that left, or the one line of a fault, and
-/// nothing else. A worker gives up after so many idle turns in a row, of 1 to [`Limits::IDLE_TURNS`].
+/// nothing else. A worker gives up after so many idle turns in a row, of 1 to [`Limits::IDLE_TURNS`], and rounds are decided by
+/// `strategy`.
 ///
 /// The workload is judged as it is read. Past a fault of a line it is read on, to its end or the byte past the longest text,
 /// since a text that is too long is reported as that. What was read is given up before the run.
@@ -42,15 +43,16 @@ pub fn drive<T: Threads + Wait + Sync, R: Read, W: Write, A: Allocator + Copy + 
     reader: &mut R,
     writer: &mut W,
     turns: u64,
+    strategy: Strategy,
 ) -> Driven<A>
     requires some_turn { 1 ≤ turns }
     requires few_turns { turns ≤ Limits.IDLE_TURNS }
-    ensures ends { EndsDrive ⟦<Tally<A> as Pup<A>>⟧.fits (R.remaining reader.old) (R.remaining reader.new)
+    ensures ends { EndsDrive ⟦<Tally<A> as Pup<A>>⟧.fits strategy (R.remaining reader.old) (R.remaining reader.new)
         (W.contents writer.old) (W.contents writer.new) result.outcome result.ended }
-    ensures outcome { IsOfWorkload ⟦<Tally<A> as Pup<A>>⟧.fits (R.remaining reader.old) (R.remaining reader.new)
+    ensures outcome { IsOfWorkload ⟦<Tally<A> as Pup<A>>⟧.fits strategy (R.remaining reader.old) (R.remaining reader.new)
         (W.contents writer.old) (W.contents writer.new) result.outcome }
 {
-    drive_watched(rt, alloc, reader, writer, turns, &NoWatch)
+    drive_watched(rt, alloc, reader, writer, turns, strategy, &NoWatch)
 }
 
 /// Runs the workload in a file as [`drive`] does, while somebody looks on, and returns also the system's reason where a read
@@ -67,15 +69,16 @@ pub fn drive_file<
     file: io::Result<R>,
     writer: &mut W,
     turns: u64,
+    strategy: Strategy,
     watch: &V,
 ) -> (Driven<A>, Option<io::Error>)
     requires some_turn { 1 ≤ turns }
     requires few_turns { turns ≤ Limits.IDLE_TURNS }
     ensures opened { IfOk file
         (λ file. (rest : Option (List ℕ))
-        × EndsDrive ⟦<Tally<A> as Pup<A>>⟧.fits (R.remaining file) rest (W.contents writer.old) (W.contents writer.new) result.0.outcome result.0.ended) }
+        × EndsDrive ⟦<Tally<A> as Pup<A>>⟧.fits strategy (R.remaining file) rest (W.contents writer.old) (W.contents writer.new) result.0.outcome result.0.ended) }
     ensures outcome { IfOk file (λ file. (rest : Option (List ℕ))
-        × IsOfWorkload ⟦<Tally<A> as Pup<A>>⟧.fits (R.remaining file) rest (W.contents writer.old) (W.contents writer.new) result.0.outcome) }
+        × IsOfWorkload ⟦<Tally<A> as Pup<A>>⟧.fits strategy (R.remaining file) rest (W.contents writer.old) (W.contents writer.new) result.0.outcome) }
     ensures unopened { IfErr file (λ _. ReportsUnread (W.contents writer.old) (W.contents writer.new) result.0.ended) }
     ensures no_outcome { IfErr file (λ _. result.0.outcome ≡ None) }
     ensures reason { IfErr file (λ reason. result.1 ≡ Some reason) }
@@ -83,7 +86,7 @@ pub fn drive_file<
     match file {
         Ok(reader) => {
             let mut noted = Noted::new(reader);
-            let driven = drive_watched(rt, alloc, &mut noted, writer, turns, watch);
+            let driven = drive_watched(rt, alloc, &mut noted, writer, turns, strategy, watch);
             (driven, noted.failure())
         }
         Err(reason) => {
@@ -100,18 +103,18 @@ fn drive_watched<
     W: Write,
     V: Onlooker + Sync,
     A: Allocator + Copy + Send + Sync,
->(rt: &T, alloc: A, reader: &mut R, writer: &mut W, turns: u64, watch: &V) -> Driven<A>
+>(rt: &T, alloc: A, reader: &mut R, writer: &mut W, turns: u64, strategy: Strategy, watch: &V) -> Driven<A>
     requires some_turn { 1 ≤ turns }
     requires few_turns { turns ≤ Limits.IDLE_TURNS }
-    ensures ends { EndsDrive ⟦<Tally<A> as Pup<A>>⟧.fits (R.remaining reader.old) (R.remaining reader.new)
+    ensures ends { EndsDrive ⟦<Tally<A> as Pup<A>>⟧.fits strategy (R.remaining reader.old) (R.remaining reader.new)
         (W.contents writer.old) (W.contents writer.new) result.outcome result.ended }
-    ensures outcome { IsOfWorkload ⟦<Tally<A> as Pup<A>>⟧.fits (R.remaining reader.old) (R.remaining reader.new)
+    ensures outcome { IsOfWorkload ⟦<Tally<A> as Pup<A>>⟧.fits strategy (R.remaining reader.old) (R.remaining reader.new)
         (W.contents writer.old) (W.contents writer.new) result.outcome }
 {
     match Workload::read_from(alloc, reader) {
         Ok(workload) => {
             watch.expects(workload.rounds);
-            run_workload(rt, alloc, workload, writer, turns, watch)
+            run_workload(rt, alloc, workload, writer, turns, strategy, watch)
         }
         Err(fault) => without_run(report(alloc, writer, fault)),
     }
@@ -134,14 +137,14 @@ fn run_workload<
     W: Write,
     V: Onlooker + Sync,
     A: Allocator + Copy + Send + Sync,
->(rt: &T, alloc: A, workload: Workload<A>, writer: &mut W, turns: u64, watch: &V) -> Driven<A>
+>(rt: &T, alloc: A, workload: Workload<A>, writer: &mut W, turns: u64, strategy: Strategy, watch: &V) -> Driven<A>
     requires some_turn { 1 ≤ turns }
     requires few_turns { turns ≤ Limits.IDLE_TURNS }
     requires within { IsWithin workload }
-    ensures ran { EndsRun ⟦<Tally<A> as Pup<A>>⟧.fits workload (W.contents writer.old) (W.contents writer.new) result.outcome result.ended }
+    ensures ran { EndsRun ⟦<Tally<A> as Pup<A>>⟧.fits strategy workload (W.contents writer.old) (W.contents writer.new) result.outcome result.ended }
 {
     let chares = workload.chares as usize;
-    match outcome_of(rt, alloc, workload, turns, watch) {
+    match outcome_of(rt, alloc, workload, turns, strategy, watch) {
         Ok(outcome) => {
             let ended = tell(alloc, chares, &outcome, writer);
             Driven {
@@ -159,18 +162,20 @@ fn outcome_of<T: Threads + Wait + Sync, V: Onlooker + Sync, A: Allocator + Copy 
     alloc: A,
     workload: Workload<A>,
     turns: u64,
+    strategy: Strategy,
     watch: &V,
 ) -> Result<Outcome<Tally<A>, A>, AllocError>
     requires some_turn { 1 ≤ turns }
     requires few_turns { turns ≤ Limits.IDLE_TURNS }
     requires within { IsWithin workload }
-    ensures left { IfOk result (IsLeftBy ⟦<Tally<A> as Pup<A>>⟧.fits (tallies_of workload) workload.pes) }
+    ensures left { IfOk result (IsLeftBy ⟦<Tally<A> as Pup<A>>⟧.fits (tallies_of workload) workload.pes strategy) }
 {
     let config = Config {
         pes: workload.pes,
         capacity: CAPACITY,
         turns,
         probe_workers: PROBE_WORKERS,
+        strategy,
     };
     let chares = tallies_of(alloc, &workload)?;
     drop(workload);

@@ -5,7 +5,7 @@ ghost use Rattle.workload_run.specs.Dumping.{AsksFor, AsksInTurn, AsksOnce, MayF
 use crate::round_dump::{DumpFormat, write_round};
 use dump_format::DumpError;
 use lb_certificates::Snapshot;
-use lb_strategy::Decision;
+use lb_refinement::Refined;
 use std::alloc::{AllocError, Allocator};
 use std::io::{self, Write};
 use streams::Noted;
@@ -43,7 +43,7 @@ pub struct NotWritten {
 /// file is made.
 pub fn write_dumps<F: DumpFiles, A: Allocator + Copy, B: Allocator + Copy>(
     alloc: A,
-    rounds: &[(Snapshot<B>, Decision<B>)],
+    rounds: &[(Snapshot<B>, Refined<B>)],
     format: DumpFormat,
     prefix: &str,
     files: &mut F,
@@ -67,7 +67,7 @@ pub fn write_dumps<F: DumpFiles, A: Allocator + Copy, B: Allocator + Copy>(
 fn write_file<F: DumpFiles, A: Allocator, B: Allocator + Copy>(
     alloc: A,
     snapshot: &Snapshot<B>,
-    decision: &Decision<B>,
+    decision: &Refined<B>,
     format: DumpFormat,
     prefix: &str,
     files: &mut F,

@@ -1,12 +1,12 @@
 ghost use Rattle.std.specs.Prelude.{◌≡◌, ◌⊎◌, IfOk, IfErr, IsFalse, IsTrue};
 ghost use Rattle.workload_run.specs.declared.round_dump.DumpFormat.TheVariants.{Lbd1, Lbd2};
-ghost use Rattle.workload_run.specs.Dumping.{MayFail, PutsRound, recorded};
+ghost use Rattle.workload_run.specs.Dumping.{MayFail, PutsRound, recorded, recorded_of};
 
 use dump_format::{Dump, DumpError, Recorded};
 use dump_writing::{write_dump, write_to};
 use lb_certificates::Snapshot;
-use lb_strategy::Decision;
-use std::alloc::Allocator;
+use lb_refinement::Refined;
+use std::alloc::{AllocError, Allocator};
 use std::io::Write;
 
 /// The format of a dump.
@@ -14,7 +14,7 @@ use std::io::Write;
 pub enum DumpFormat {
     /// The snapshot alone, whose loads have 32 bits.
     Lbd1,
-    /// The snapshot, and the decision with its certificates.
+    /// The snapshot, and the decision with its certificates, where that is a plan.
     Lbd2,
 }
 
@@ -32,7 +32,7 @@ impl DumpFormat {
 }
 
 /// Writes the dump of a round: its snapshot and, in the format LBD2, the decision with its certificates, on as many PEs as the
-/// snapshot has.
+/// snapshot has. Cuts within a tolerance have no place in a dump: of a round that was decided so the snapshot alone is written.
 ///
 /// # Errors
 ///
@@ -45,7 +45,7 @@ impl DumpFormat {
 pub fn write_round<W: Write, A: Allocator + Copy>(
     writer: &mut W,
     snapshot: &Snapshot<A>,
-    decision: &Decision<A>,
+    decision: &Refined<A>,
     format: DumpFormat,
 ) -> Result<(), DumpError>
     ensures written { PutsRound format snapshot.now decision.now (W.contents writer.old) (W.contents writer.new) result }
@@ -64,17 +64,30 @@ pub fn write_round<W: Write, A: Allocator + Copy>(
 // element twice, so a dump can hold it.
 fn recorded<A: Allocator + Copy>(
     snapshot: &Snapshot<A>,
-    decision: &Decision<A>,
+    decision: &Refined<A>,
 ) -> Result<Dump<A>, DumpError>
     ensures dump { IfOk result (λ dump. dump ≡ recorded snapshot.now decision.now) }
     ensures fault { IfErr result (λ e. (e ≡ DumpError.Write) ⊎ (e ≡ DumpError.OutOfMemory)) }
 {
-    let recorded = Recorded {
-        target: snapshot.procs(),
-        decision: decision.clone()?,
-    };
-    match Dump::new(snapshot.clone()?, Some(recorded)) {
+    let recorded = recorded_of(snapshot, decision)?;
+    match Dump::new(snapshot.clone()?, recorded) {
         Some(dump) => Ok(dump),
         None => Err(DumpError::Write),
     }
+}
+
+// What is recorded of the decision.
+fn recorded_of<A: Allocator + Copy>(
+    snapshot: &Snapshot<A>,
+    decision: &Refined<A>,
+) -> Result<Option<Recorded<A>>, AllocError>
+    ensures recorded { IfOk result (λ recorded. recorded ≡ recorded_of snapshot.now decision.now) }
+{
+    let Refined::Planned(plan) = decision else {
+        return Ok(None);
+    };
+    Ok(Some(Recorded {
+        target: snapshot.procs(),
+        decision: plan.clone()?,
+    }))
 }

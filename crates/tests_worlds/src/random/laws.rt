@@ -5,7 +5,7 @@ use crate::seen::{Place, Seen, count};
 use at_sync::Board;
 use chare_index::{Index, Pe, Round};
 use chares::TraceEntry;
-use lb_strategy::Decision;
+use lb_refinement::Refined;
 use std::alloc::Allocator;
 use std::process::Abort;
 
@@ -66,15 +66,15 @@ fn all_synced(rt: &impl Abort, seen: &[Seen], before: &[TraceEntry], round: Roun
 }
 
 // The place of an element in a decision: that of the last block that begins at it or before it.
-fn place_in<A: Allocator>(decision: &Decision<A>, e: Index) -> Option<Pe> {
+fn place_in<A: Allocator>(decision: &Refined<A>, e: Index) -> Option<Pe> {
     let mut begun: usize = 0;
-    for cut in decision.division.cuts.as_slice() {
+    for cut in decision.cuts() {
         if *cut <= e.get() {
             begun = begun.saturating_add(1);
         }
     }
     let block = begun.checked_sub(1)?;
-    let name = decision.naming.as_slice().get(block)?;
+    let name = decision.names().get(block)?;
     Pe::new(*name)
 }
 

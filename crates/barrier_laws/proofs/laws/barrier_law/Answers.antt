@@ -5,11 +5,11 @@ use Rattle.barrier_laws.proofs.laws.barrier_law.Goals as goal
 
 -- src/laws.rt:28:1
 pub returns-clause-barrier : goal.returns-clause-barrier
-returns-clause-barrier g c = λ pes chares events last some run. barrier g.C.Chare.step g.C.Pup.pack g.C.Pup.unpack pes chares events last some run
+returns-clause-barrier g c = λ pes chares strategy events last some run. barrier g.C.Chare.step g.C.Pup.pack g.C.Pup.unpack pes chares strategy events last some run
 
 -- src/laws.rt:28:1
 pub returns-clause-stands : goal.returns-clause-stands
-returns-clause-stands g c = λ pes chares events w trace event next some run happens e r there first. stands g.C.Chare.step g.C.Pup.pack g.C.Pup.unpack pes chares events w trace event next e r some run happens there first
+returns-clause-stands g c = λ pes chares strategy events w trace event next some run happens e r there first. stands g.C.Chare.step g.C.Pup.pack g.C.Pup.unpack pes chares strategy events w trace event next e r some run happens there first
 
 -- src/laws.rt:28:1
 pub returns-clause-kept : goal.returns-clause-kept
@@ -17,8 +17,8 @@ returns-clause-kept g c = λ w event next happens r kept is. event_keeps g.C.Cha
 
 -- src/laws.rt:28:1
 pub returns-clause-in_order : goal.returns-clause-in_order
-returns-clause-in_order g c = λ pes chares events last run. in_order g.C.Chare.step g.C.Pup.pack g.C.Pup.unpack pes chares events last run
+returns-clause-in_order g c = λ pes chares strategy events last run. in_order g.C.Chare.step g.C.Pup.pack g.C.Pup.unpack pes chares strategy events last run
 
 -- src/laws.rt:28:1
 pub returns-clause-measured : goal.returns-clause-measured
-returns-clause-measured g c = λ pes chares events w trace event next some run happens r are there. measured g.C.Chare.step g.C.Pup.fits g.C.Pup.pack g.C.Pup.unpack pes chares some events w trace event next r run are happens there
+returns-clause-measured g c = λ pes chares strategy events w trace event next some run happens r are there. measured g.C.Chare.step g.C.Pup.fits g.C.Pup.pack g.C.Pup.unpack pes chares strategy some events w trace event next r run are happens there

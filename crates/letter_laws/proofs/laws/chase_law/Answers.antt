@@ -5,5 +5,5 @@ use Rattle.letter_laws.proofs.laws.chase_law.Goals as goal
 pub returns : goal.returns
 returns g c =
     record {
-      chase = λ pes chares events last some run. chased g.C.Chare.step g.C.Pup.pack g.C.Pup.unpack pes chares some events last run;
+      chase = λ pes chares strategy events last some run. chased g.C.Chare.step g.C.Pup.pack g.C.Pup.unpack pes chares strategy some events last run;
     }

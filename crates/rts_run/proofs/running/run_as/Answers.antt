@@ -27,3 +27,6 @@ run_opened-requires-clause-elements g c κs within =
 
 pub run_opened-requires-clause-on_pes : goal.run_opened-requires-clause-on_pes
 run_opened-requires-clause-on_pes g c κs within = ap (λ b. b.pes) c.in_ok-board.ensures.made ∙ c.requires.run
+
+pub run_opened-requires-clause-by_strategy : goal.run_opened-requires-clause-by_strategy
+run_opened-requires-clause-by_strategy g c κs within = ap (λ b. b.strategy) c.in_ok-board.ensures.made ∙ c.requires.by_strategy

@@ -5,7 +5,7 @@ use Rattle.clap.specs.declared.error.Error.{Error}
 use Rattle.clap.specs.declared.parser.matches.ArgMatches.{ArgMatches}
 use Rattle.clap.proofs.OnLiterals.{clap_on_literals}
 use Rattle.clap.proofs.WalkLemmas.{first_value-rows, one_text-rows}
-use Rattle.run_command_line.specs.CommandLine.{program}
+use Rattle.run_command_line.specs.CommandLine.{SpellsTolerance, program}
 use Rattle.run_command_line.proofs.words.asked.Goals as goal
 
 simple : is_simple program ≡ true
@@ -49,6 +49,14 @@ returns-in-Ok-clause-progress c =
     let rows = found _ (texts c.args.words.now) m c.in_ok-command.ensures.program c.in-Ok.ensures.matches in
     let same = one_text-rows (found_of m) (codes "progress") ∙ ap (one_of (codes "progress")) rows in
     (λ told. sym same ∙ c.found.ensures.progress.0 told, λ is. c.found.ensures.progress.1 (same ∙ is))
+
+pub returns-in-Ok-clause-tolerance : goal.returns-in-Ok-clause-tolerance
+returns-in-Ok-clause-tolerance c n =
+    let m = c.in-Ok.matches in
+    let rows = found _ (texts c.args.words.now) m c.in_ok-command.ensures.program c.in-Ok.ensures.matches in
+    let same = one_text-rows (found_of m) (codes "tolerance") ∙ ap (one_of (codes "tolerance")) rows in
+    let spelled = c.found.ensures.tolerance n in
+    (λ e. subst (λ word. SpellsTolerance word n) same (spelled.0 e), λ h. spelled.1 (subst (λ word. SpellsTolerance word n) (sym same) h))
 
 pub returns-in-Ok-clause-faults : goal.returns-in-Ok-clause-faults
 returns-in-Ok-clause-faults c =

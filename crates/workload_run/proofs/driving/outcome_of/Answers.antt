@@ -7,7 +7,7 @@ returns-in-Ok g c =
     let pes : c.workload.inside.pes ≡ c.args.workload.pes = ap (λ w. w.pes) c.workload.view_is in
     let run = c.in-Ok.ensures in
     record {
-      left = left_by _ _ _ _ _ c.in-Ok.outcome c.in_ok-chares.ensures.value pes (record {
+      left = left_by _ _ _ _ _ _ c.in-Ok.outcome c.in_ok-chares.ensures.value pes (record {
         ends = run.ends;
         queues = run.queues;
         account = run.account;
@@ -15,6 +15,7 @@ returns-in-Ok g c =
         board = run.board;
         elements = run.elements;
         on_pes = run.on_pes;
+        by_strategy = run.by_strategy;
         rounds = run.rounds;
         marks = run.marks;
         mismatch = run.mismatch;

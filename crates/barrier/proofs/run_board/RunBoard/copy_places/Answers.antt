@@ -13,7 +13,7 @@ copy-requires-clause-not_last g c = decided_before c.self.inside.board c.args.ro
 pub copy-requires-clause-for_pes : goal.copy-requires-clause-for_pes
 copy-requires-clause-for_pes g c =
     let places : ArePlaces c.self.inside.board.pes (refined_cuts c.in-Some.decision.now) (refined_names c.in-Some.decision.now) = kept_places c.self.inside.board c.args.round c.in-Some.decision.now c.in-Some.ensures.decided in
-    let on_pes : c.self.inside.board.pes ≡ g.J.BoardSize.pes = c.self.invariant.1.0 in
+    let on_pes : c.self.inside.board.pes ≡ g.J.BoardSize.pes = c.self.invariant.1 in
     rw (c.cuts.ensures.value, c.names.ensures.value, ← on_pes) places
 
 pub returns-clause-places : goal.returns-clause-places
