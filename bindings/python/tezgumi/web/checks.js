@@ -1,0 +1,146 @@
+// What the check of a decision says, step by step, and of all rounds one after another.
+
+const STEPS = [
+  { title: "The cuts divide the chain", flaws: ["CutCount", "CutStart", "CutOrder", "CutEnd"] },
+  { title: "No block is above the bottleneck", flaws: ["Heavy"] },
+  { title: "The fence: no division is lighter",
+    flaws: ["FenceCount", "FenceStart", "FenceOrder", "FenceEnd", "FenceLight", "ZeroFloor"] },
+  { title: "Each block has a PE of its own", flaws: ["NameCount", "NameRange", "NameTwice"] },
+  { title: "The prices: no naming moves fewer bytes", flaws: ["PriceCount", "PriceHigh", "PriceGap"] },
+  { title: "The bytes are those that move", flaws: ["MovedWrong"] },
+  { title: "The moves are those of the names", flaws: ["MovesWrong"] },
+];
+
+// What is wrong, in words: with the decision, the run, and the numbers of the flaw.
+const FLAWS = {
+  CutCount: (d) => `there are ${told(d.cuts.length)} cuts, and for ${some(d.pes, "PE", "PEs")} there have to be ${told(d.pes + 1)}`,
+  CutStart: (d) => `the first cut is ${told(d.cuts[0])}, and not 0`,
+  CutOrder: (d) => `a cut is greater than the next: ${pairThatFalls(d.cuts)}`,
+  CutEnd: (d, run) => `the last cut is ${told(d.cuts[d.pes])}, and there are ${some(run.loads.length, "element", "elements")}`,
+  Heavy: (d, run, b) => `block ${b} weighs ${told(loadBetween(run, d.cuts[b], d.cuts[b + 1]))}, and the bottleneck is ${told(d.bottleneck)}`,
+  FenceCount: (d) => `there are ${told(d.stops.length)} stops, and for ${some(d.pes, "PE", "PEs")} there have to be ${told(d.pes + 1)}`,
+  FenceStart: (d) => `the first stop is ${told(d.stops[0])}, and not 0`,
+  FenceOrder: (d) => `a stop is greater than the next: ${pairThatFalls(d.stops)}`,
+  FenceEnd: (d, run) => `the last stop is ${told(d.stops[d.pes])}, and the last element ${told(run.loads.length - 1)}`,
+  FenceLight: (d, run, i) => `the elements ${told(d.stops[i - 1])} to ${told(d.stops[i])}, from stop ${i - 1} to stop ${i}, weigh ${
+    told(loadBetween(run, d.stops[i - 1], d.stops[i] + 1))}, which is less than the bottleneck of ${told(d.bottleneck)}`,
+  ZeroFloor: (d) => `there is no fence, and the bottleneck is ${told(d.bottleneck)}`,
+  NameCount: (d) => `there are ${some(d.names.length, "name", "names")} for ${some(d.pes, "block", "blocks")}`,
+  NameRange: (d) => `block ${d.names.findIndex((name) => name >= d.pes)} is to go to PE ${
+    told(d.names.find((name) => name >= d.pes))}, and there ${d.pes === 1 ? "is" : "are"} ${some(d.pes, "PE", "PEs")}`,
+  NameTwice: (d) => `two blocks are to go to PE ${told(d.names.find((name, b) => d.names.indexOf(name) < b))}`,
+  PriceCount: (d) => `there are ${some(d.blockPrices.length, "price", "prices")} of blocks and ${told(d.pePrices.length)} of PEs`,
+  PriceHigh: (d, run, b, p) => `the prices of block ${b} and PE ${p}, ${told(d.blockPrices[b])} and ${told(d.pePrices[p])}, are more than the ${
+    some(bytesElsewhere(run.sizes, run.places, d.cuts[b], d.cuts[b + 1], d.pes)[p], "byte", "bytes")} that the block moves there`,
+  PriceGap: (d, run) => `all prices together are ${told(sumOf(d.blockPrices) + sumOf(d.pePrices))}, and these names move ${
+    some(costOf(d, run), "byte", "bytes")}`,
+  MovedWrong: (d, run) => `it says that ${some(d.moved, "byte", "bytes")} move, and these names move ${told(costOf(d, run))}`,
+  MovesWrong: (d, run) => moveThatDiffers(d, run),
+};
+
+const loadBetween = (run, from, end) => sumOf(run.loads.slice(from, end));
+
+function pairThatFalls(numbers) {
+  const k = numbers.findIndex((number, i) => i > 0 && numbers[i - 1] > number);
+  return `${told(numbers[k - 1])} and ${told(numbers[k])}`;
+}
+
+function costOf(d, run) {
+  return Array.from(d.names, (pe, b) => BigInt(bytesElsewhere(run.sizes, run.places, d.cuts[b], d.cuts[b + 1], d.pes)[pe]))
+    .reduce((sum, bytes) => sum + bytes, 0n);
+}
+
+// The first move, in the list or by the names, that the other does not have.
+function moveThatDiffers(d, run) {
+  const planned = new Float64Array(run.loads.length);
+  d.names.forEach((pe, b) => planned.fill(pe, d.cuts[b], d.cuts[b + 1]));
+  const wanted = movesTo(run.places, planned);
+  const k = Array.from({ length: Math.max(wanted.length, d.moves.length) }, (_, at) => at)
+    .find((at) => String(wanted[at]) !== String(d.moves[at]));
+  if (k === undefined) return "the places of the elements are not those of the names";
+  const move = (one) => (one === undefined ? "no move" : `element ${told(one[0])} from PE ${one[1]} to PE ${one[2]}`);
+  return `move ${told(k)} is ${move(d.moves[k])}, and by the names ${move(wanted[k])}`;
+}
+
+// The line that lb_sim prints of it.
+const flawLine = (flaw) => (flaw === null ? "holds" : flaw.join(" "));
+
+// What a step claims of this decision, where it holds.
+const CLAIMS = [
+  (d) => `${told(d.cuts.length)} cuts, from 0 to ${told(d.cuts[d.pes])}, never decreasing`,
+  (d) => `the heaviest of ${some(d.pes, "block", "blocks")} weighs ${told(d.bottleneck)} at most`,
+  (d) => (d.stops.length ? `${told(d.stops.length)} stops; from each to the next the elements weigh ${told(d.bottleneck)} or more` :
+    "the bottleneck is 0, which needs no fence"),
+  (d) => `${some(d.names.length, "name", "names")}, each of another PE`,
+  (d) => `${told(d.pes * d.pes)} pairs have prices within the bytes that move, and all together are ${some(d.moved, "byte", "bytes")}`,
+  (d) => some(d.moved, "byte", "bytes"),
+  (d) => `${some(d.moves.length, "move", "moves")}, in order of element`,
+];
+
+// Checks a decision: what is shown of each step, and the flaw or null.
+function checked({ run, decision }) {
+  const flaw = firstFlaw(run, decision);
+  const wrong = flaw === null ? STEPS.length : STEPS.findIndex((step) => step.flaws.includes(flaw[0]));
+  const rows = STEPS.map((step, k) => {
+    if (k < wrong) return [step.title, "holds", CLAIMS[k](decision)];
+    if (k > wrong) return [step.title, "–", "not looked at"];
+    return [step.title, flawLine(flaw), FLAWS[flaw[0]](decision, run, ...flaw.slice(1))];
+  });
+  return { flaw, rows };
+}
+
+function showCheck(held) {
+  const verdict = document.getElementById("verdict");
+  const steps = document.getElementById("steps");
+  const say = (text, kind) => {
+    verdict.textContent = text;
+    verdict.className = `verdict ${kind}`;
+  };
+  if (held === null || held.decision === null) {
+    say(held === null ? "The elements of this round are left out, so nothing can be checked." : "There is no decision on this round.", "");
+    steps.replaceChildren();
+    return;
+  }
+  const { flaw, rows } = checked(held);
+  if (flaw === null) say("✓ The decision holds: every part of it is right.", "good");
+  else say(`✗ The decision does not hold. ${flawLine(flaw)}: ${rows.find((one) => one[1] === flawLine(flaw))[2]}.`, "bad");
+  const made = table(["step", "verdict", "what was seen"], rows);
+  for (const one of made.tBodies[0].rows) {
+    one.cells[1].classList.add(one.cells[1].textContent === "holds" ? "good" : "bad");
+    if (one.cells[1].textContent === "–") one.cells[1].classList.remove("bad");
+  }
+  steps.replaceChildren(made);
+}
+
+// Checks the decisions of all rounds, a few at a time so that the page stays quick, and tells after each how far it is.
+async function checkAll(tell) {
+  const verdicts = new Array(page.rounds.length).fill(null);
+  let last = performance.now();
+  for (let r = 0; r < verdicts.length; r++) {
+    verdicts[r] = await verdictOf(r);
+    if (performance.now() - last < 30 && r + 1 < verdicts.length) continue;
+    tell(verdicts, r + 1);
+    await new Promise((resume) => setTimeout(resume));
+    last = performance.now();
+  }
+  return verdicts;
+}
+
+async function verdictOf(r) {
+  if (!page.rounds[r].decision) return "no decision";
+  const held = await readRound(r);
+  return held === null ? "left out" : flawLine(firstFlaw(held.run, held.decision));
+}
+
+function toldVerdicts(verdicts, looked) {
+  const count = (word) => verdicts.filter((one) => one === word).length;
+  const decided = verdicts.length - count("no decision") - (looked < verdicts.length ? 0 : count("left out"));
+  const wrong = verdicts.map((one, r) => [one, r + 1]).filter(([one]) => one !== null && !["holds", "no decision", "left out"].includes(one));
+  if (looked < verdicts.length) return `checking the decisions: ${told(looked)} of ${told(verdicts.length)} rounds so far`;
+  if (decided === 0) return "there is no decision to check";
+  const all = verdicts.length === 1 ? "the decision holds" : `${decided === 1 ? "the one decision holds" : `all ${told(decided)} decisions hold`}`;
+  if (wrong.length === 0) return `${all}: this page has checked ${decided === 1 ? "it" : "each of them"}`;
+  const [line, number] = wrong[0];
+  if (verdicts.length === 1) return `the decision does not hold: the check says ${line}`;
+  return `${some(wrong.length, "decision does", "decisions do")} not hold: in round ${told(number)} the check says ${line}`;
+}
