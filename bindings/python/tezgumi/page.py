@@ -150,7 +150,7 @@ def _part(name: str) -> str:
 def _described(one: _Round) -> Dict[str, Any]:
     run, decision = one.run, one.decision
     described: Dict[str, Any] = {
-        "file": one.name, "step": run.step, "procs": run.procs, "elements": len(run),
+        "file": os.path.basename(one.name), "step": run.step, "procs": run.procs, "elements": len(run),
         "heaviest": str(int(run.loads.max(initial=0))), "bytes": str(int(run.bytes.sum(dtype=np.uint64))),
     }
     if decision is not None:
@@ -161,7 +161,7 @@ def _described(one: _Round) -> Dict[str, Any]:
 def _described_decision(run: Run, decision: Decision, is_new: bool) -> Dict[str, Any]:
     described: Dict[str, Any] = {
         "pes": decision.pes, "bottleneck": str(decision.bottleneck), "moved": str(decision.moved), "new": is_new,
-        "limit": None,
+        "least": str(getattr(decision, "least", decision.bottleneck)), "tolerance": getattr(decision, "tolerance", None),
     }
     if len(decision.places) == len(run):
         moving = run.places != decision.places
@@ -259,3 +259,7 @@ def _columns(run: Run, decision: Decision | None) -> Iterable[Tuple[str, Any]]:
     if len(decision.places) != len(run) or not np.array_equal(run.moves_to(decision.places), decision.moves):
         for name in decision.moves.dtype.names or ():
             yield f"move_{name}", decision.moves[name]
+    # Those of a decision within a tolerance.
+    for name in ("least_cuts", "order", "present", "step_starts", "step_places", "step_rises"):
+        if hasattr(decision, name):
+            yield name, getattr(decision, name)

@@ -223,7 +223,7 @@ function drawArrowHead(context, x, y, colors) {
 // The edges of the blocks, and those that are above the limit.
 function drawBlocks({ context, x, left, right, colors }, top) {
   const { cuts, bottleneck, pes } = chain.decision;
-  const limit = chain.decision.refinement?.limit ?? bottleneck;
+  const limit = chain.decision.limit ?? bottleneck;
   for (let b = 0; b < pes; b++) {
     const begin = x(chain.starts[cuts[b]]);
     const end = x(chain.starts[cuts[b + 1]]);
@@ -241,9 +241,13 @@ function frameBad(context, begin, end, top, height) {
   context.lineWidth = 1;
 }
 
+// The load that the fence proves to be least: of a decision within a tolerance it is below its own bottleneck.
+const leastOf = (decision) => (decision.near ? decision.least : decision.bottleneck);
+
 // The stops, each a triangle below its element, and between two of them a bracket with what lies there.
 function drawFence({ context, x, left, right, colors }, top) {
-  const { stops, bottleneck } = chain.decision;
+  const { stops } = chain.decision;
+  const bottleneck = leastOf(chain.decision);
   context.fillStyle = colors.quiet;
   context.textAlign = "right";
   context.fillText("fence", LEFT - 6, top + 6);
@@ -345,14 +349,15 @@ function blockTable({ decision, divided, sums, run }) {
 
 function stopTable({ decision, sums, count }) {
   if (!decision || decision.stops.length === 0) return table(["stop"], [], "There is no fence.");
-  const { stops, bottleneck } = decision;
+  const { stops } = decision;
+  const bottleneck = leastOf(decision);
   const rows = [];
   for (let k = 1; k < stops.length; k++) {
     const [from, to] = [stops[k - 1], stops[k]];
     const weight = from <= to && to < count ? sums[to + 1] - sums[from] : null;
     rows.push([k, from, to, weight, bottleneck, weight !== null && weight >= bottleneck ? "yes" : "no"]);
   }
-  return table(["stop", "from element", "to, included", "weigh", "bottleneck", "as much"], rows);
+  return table(["stop", "from element", "to, included", "weigh", "least load", "as much"], rows);
 }
 
 function moveTable({ decision, run }) {

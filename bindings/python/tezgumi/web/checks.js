@@ -1,15 +1,43 @@
 // What the check of a decision says, step by step, and of all rounds one after another.
 
-const STEPS = [
-  { title: "The cuts divide the chain", flaws: ["CutCount", "CutStart", "CutOrder", "CutEnd"] },
-  { title: "No block is above the bottleneck", flaws: ["Heavy"] },
+// A step: what it is about, the flaws that are found in it, and what is told of a decision where it holds.
+const DIVISION = [
+  { title: "The cuts divide the chain", flaws: ["CutCount", "CutStart", "CutOrder", "CutEnd"],
+    holds: (d) => `${told(d.cuts.length)} cuts, from 0 to ${told(d.cuts[d.pes])}, never decreasing` },
+  { title: "No block is above the bottleneck", flaws: ["Heavy"],
+    holds: (d) => `the heaviest of ${some(d.pes, "block", "blocks")} weighs ${told(d.bottleneck)} at most` },
   { title: "The fence: no division is lighter",
-    flaws: ["FenceCount", "FenceStart", "FenceOrder", "FenceEnd", "FenceLight", "ZeroFloor"] },
-  { title: "Each block has a PE of its own", flaws: ["NameCount", "NameRange", "NameTwice"] },
-  { title: "The prices: no naming moves fewer bytes", flaws: ["PriceCount", "PriceHigh", "PriceGap"] },
-  { title: "The bytes are those that move", flaws: ["MovedWrong"] },
-  { title: "The moves are those of the names", flaws: ["MovesWrong"] },
+    flaws: ["FenceCount", "FenceStart", "FenceOrder", "FenceEnd", "FenceLight", "ZeroFloor"],
+    holds: (d) => (d.stops.length === 0 ? "the bottleneck is 0, which needs no fence" :
+      `${told(d.stops.length)} stops; from each to the next the elements weigh ${told(d.bottleneck)} or more`) },
 ];
+const NAMING = [
+  { title: "Each block has a PE of its own", flaws: ["NameCount", "NameRange", "NameTwice"],
+    holds: (d) => `${some(d.names.length, "name", "names")}, each of another PE` },
+  { title: "The prices: no naming moves fewer bytes", flaws: ["PriceCount", "PriceHigh", "PriceGap"],
+    holds: (d) => `${some(d.pes * d.pes, "pair has", "pairs have")} prices within the bytes that move, and all together are ${
+      some(d.moved, "byte", "bytes")}` },
+  { title: "The bytes are those that move", flaws: ["MovedWrong"], holds: (d) => some(d.moved, "byte", "bytes") },
+  { title: "The moves are those of the names", flaws: ["MovesWrong"],
+    holds: (d) => `${some(d.moves.length, "move", "moves")}, in order of element` },
+];
+// Of a decision within a tolerance the division is the least one, from which the limit is measured.
+const leastDivision = (d) => ({ ...d, cuts: d.leastCuts, bottleneck: d.least });
+const NEAR = [
+  ...DIVISION.map((step) => ({ ...step, title: `Least division: ${step.title}`, of: leastDivision })),
+  { title: "The order has each PE once", flaws: ["OrderCount", "OrderRange", "OrderTwice"],
+    holds: (d) => some(d.order.length, "PE", "PEs") },
+  { title: "No block is above the limit", flaws: ["NearCount", "NoDivision", "PastLimit"],
+    holds: (d) => `each weighs ${told(d.limit)} at most, ${told(d.tolerance)} thousandths above ${told(d.least)}` },
+  { title: "The heights: no cuts within the limit move fewer bytes, in this order",
+    flaws: ["HeightCount", "HeightStart", "Steep", "HeightLow"],
+    holds: (d) => `${some(d.stepPlaces.length, "step", "steps")}; no height rises by more than a cut costs` },
+  ...NAMING,
+  { title: "The bottleneck is that of the heaviest block", flaws: ["BottleneckWrong"], holds: (d) => told(d.bottleneck) },
+];
+
+const stepsOf = (d) => (d.near ? NEAR : [...DIVISION, ...NAMING]);
+const flawOf = (run, d) => (d.near ? nearFlaw(run, d) : firstFlaw(run, d));
 
 // What is wrong, in words: with the decision, the run, and the numbers of the flaw.
 const FLAWS = {
@@ -36,6 +64,17 @@ const FLAWS = {
     some(costOf(d, run), "byte", "bytes")}`,
   MovedWrong: (d, run) => `it says that ${some(d.moved, "byte", "bytes")} move, and these names move ${told(costOf(d, run))}`,
   MovesWrong: (d, run) => moveThatDiffers(d, run),
+  OrderCount: (d) => `there are ${some(d.order.length, "PE", "PEs")} in the order, and there have to be ${told(d.pes)}`,
+  OrderRange: (d) => `the order has PE ${told(d.order.find((pe) => pe >= d.pes))}, and there are ${some(d.pes, "PE", "PEs")}`,
+  OrderTwice: (d) => `the order has PE ${told(d.order.find((pe, b) => d.order.indexOf(pe) < b))} twice`,
+  NearCount: (d) => `there are ${told(d.cuts.length)} cuts, and there have to be ${told(d.pes + 1)}`,
+  NoDivision: (d, run) => `the cuts do not go from 0 to ${told(run.loads.length)} without decreasing`,
+  PastLimit: (d, run, b) => `block ${b} weighs ${told(loadBetween(run, d.cuts[b], d.cuts[b + 1]))}, and the limit is ${told(d.limit)}`,
+  HeightCount: (d) => `there are not heights for ${some(d.pes, "block", "blocks")}`,
+  HeightStart: () => "the height of the first block at the beginning of the chain is not 0",
+  Steep: (d, run, b, x) => `from block ${b} to the next the height rises at place ${told(x)} by more than the cut costs there`,
+  HeightLow: () => "the height of the last block is below what the cuts cost",
+  BottleneckWrong: (d) => `it says that the heaviest block weighs ${told(d.bottleneck)}, and it does not`,
 };
 
 const loadBetween = (run, from, end) => sumOf(run.loads.slice(from, end));
@@ -65,26 +104,16 @@ function moveThatDiffers(d, run) {
 // The line that lb_sim prints of it.
 const flawLine = (flaw) => (flaw === null ? "holds" : flaw.join(" "));
 
-// What a step claims of this decision, where it holds.
-const CLAIMS = [
-  (d) => `${told(d.cuts.length)} cuts, from 0 to ${told(d.cuts[d.pes])}, never decreasing`,
-  (d) => `the heaviest of ${some(d.pes, "block", "blocks")} weighs ${told(d.bottleneck)} at most`,
-  (d) => (d.stops.length ? `${told(d.stops.length)} stops; from each to the next the elements weigh ${told(d.bottleneck)} or more` :
-    "the bottleneck is 0, which needs no fence"),
-  (d) => `${some(d.names.length, "name", "names")}, each of another PE`,
-  (d) => `${told(d.pes * d.pes)} pairs have prices within the bytes that move, and all together are ${some(d.moved, "byte", "bytes")}`,
-  (d) => some(d.moved, "byte", "bytes"),
-  (d) => `${some(d.moves.length, "move", "moves")}, in order of element`,
-];
-
 // Checks a decision: what is shown of each step, and the flaw or null.
 function checked({ run, decision }) {
-  const flaw = firstFlaw(run, decision);
-  const wrong = flaw === null ? STEPS.length : STEPS.findIndex((step) => step.flaws.includes(flaw[0]));
-  const rows = STEPS.map((step, k) => {
-    if (k < wrong) return [step.title, "holds", CLAIMS[k](decision)];
+  const flaw = flawOf(run, decision);
+  const steps = stepsOf(decision);
+  const wrong = flaw === null ? steps.length : steps.findIndex((step) => step.flaws.includes(flaw[0]));
+  const rows = steps.map((step, k) => {
+    const seen = step.of ? step.of(decision) : decision;
+    if (k < wrong) return [step.title, "holds", step.holds(seen)];
     if (k > wrong) return [step.title, "–", "not looked at"];
-    return [step.title, flawLine(flaw), FLAWS[flaw[0]](decision, run, ...flaw.slice(1))];
+    return [step.title, flawLine(flaw), FLAWS[flaw[0]](seen, run, ...flaw.slice(1))];
   });
   return { flaw, rows };
 }
@@ -129,7 +158,7 @@ async function checkAll(tell) {
 async function verdictOf(r) {
   if (!page.rounds[r].decision) return "no decision";
   const held = await readRound(r);
-  return held === null ? "left out" : flawLine(firstFlaw(held.run, held.decision));
+  return held === null ? "left out" : flawLine(flawOf(held.run, held.decision));
 }
 
 function toldVerdicts(verdicts, looked) {

@@ -51,7 +51,18 @@ function decisionOf(told, run, held) {
     cuts: plain(held.cuts), stops: plain(held.stops), names: plain(held.names),
     blockPrices: unfolded(held.block_prices), pePrices: unfolded(held.pe_prices), planned,
     moves: held.move_element ? movesOf(held) : movesTo(run.places, planned),
-    refinement: held.height_counts ? refinementOf(told, held) : null,
+    near: told.tolerance !== null,
+    ...(told.tolerance === null ? {} : nearOf(told, held)),
+  };
+}
+
+// What a decision within a tolerance has beside: the least possible load, and the heights as steps.
+function nearOf(told, held) {
+  const least = BigInt(told.least);
+  return {
+    tolerance: told.tolerance, least, limit: least + (least * BigInt(told.tolerance)) / 1000n,
+    leastCuts: plain(held.least_cuts), order: plain(held.order), present: plain(held.present),
+    stepStarts: plain(held.step_starts), stepPlaces: plain(held.step_places), stepRises: held.step_rises,
   };
 }
 

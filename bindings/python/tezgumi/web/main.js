@@ -150,6 +150,9 @@ function tellNotes() {
     "This file needs no network, and nothing leaves it.";
 }
 
+const HEIGHTS = [nearFlaw, orderFlaw, heightsFlaw, bottleneckFlaw, leastStarts, heightsOf, bytesBefore];
+const anyNear = () => page.rounds.some((one) => one.decision && one.decision.tolerance !== null);
+
 async function start() {
   const loads = await readLoads();
   facts = loads.map((one, r) => roundFacts(r, one));
@@ -159,7 +162,7 @@ async function start() {
     return greatestOf(both);
   }, 0n));
   document.querySelector("#check-source pre").textContent =
-    [firstFlaw, divisionFlaw, namingFlaw, bytesElsewhere, runningSums, falls].map(String).join("\n\n");
+    [firstFlaw, divisionFlaw, namingFlaw, bytesElsewhere, runningSums, falls, ...(anyNear() ? HEIGHTS : [])].map(String).join("\n\n");
   tellSummary(0);
   tellNotes();
   listen();

@@ -9,7 +9,7 @@ function roundFacts(r, { before, after }) {
   };
   facts.bound = boundOf(told, total, BigInt(told.decision?.pes ?? told.procs));
   if (told.decision) {
-    facts.least = BigInt(told.decision.bottleneck);
+    facts.least = BigInt(told.decision.least);
     if (after.length > 0) facts.after = spread(after, total);
     facts.moved = told.decision.moved_elements ?? null;
     facts.bytes = told.decision.moved_bytes === undefined ? null : BigInt(told.decision.moved_bytes);

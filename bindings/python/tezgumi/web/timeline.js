@@ -1,6 +1,6 @@
 // The timeline of a trace: rows of slices, instants, arrows between rows, and counters.
 
-const TIME = { margin: { left: 118, right: 10 }, ruler: 20, row: 26, counter: 34 };
+const TIME = { margin: { left: 118, right: 10 }, ruler: 20, row: 40, counter: 34 };
 const MOST_COUNTERS = 32;
 const MOST_ARROWS = 4000;
 let trace = null;
@@ -57,7 +57,7 @@ function drawTimeline() {
   const x = (at) => TIME.margin.left + ((at - tracePart.from) * inner) / (tracePart.to - tracePart.from);
   const view = { context, x, left: TIME.margin.left, right: TIME.margin.left + inner, inner, colors: pageColors() };
   drawTimes(view, canvas.clientHeight - 16);
-  trace.rows.forEach((name, r) => labelRow(view, name, rowTop(r) + TIME.row / 2));
+  trace.rows.forEach((name, r) => labelRow(view, name, rowTop(r) + 13));
   drawSlices(view);
   shownCounters().forEach((one, k) => drawCounter(view, one, rowTop(rows) + k * TIME.counter));
   drawFlows(view);
@@ -109,13 +109,13 @@ function drawSlices({ context, x, left, right }) {
     const wide = Math.max(Math.min(end, right) - from, 1);
     const rank = trace.kinds.get(trace.keys[k]);
     context.fillStyle = kindColor(rank);
-    context.fillRect(from, rowTop(r) + 3, wide > 3 ? wide - 0.7 : wide, TIME.row - 6);
+    context.fillRect(from, rowTop(r) + 3, wide > 3 ? wide - 0.7 : wide, 20);
     filled[r] = from + wide;
     const name = trace.names[trace.slice_name[k]];
     if (wide < 24 || !fits(context, name, wide - 6)) continue;
     context.fillStyle = luminance(hexParts(kindColor(rank))) < 0.18 ? "#ffffff" : "#000000";
     context.textAlign = "left";
-    context.fillText(name, from + 4, rowTop(r) + TIME.row / 2);
+    context.fillText(name, from + 4, rowTop(r) + 13);
   }
 }
 
@@ -126,7 +126,7 @@ function drawFlows({ context, x, left, right, colors }) {
     const moves = trace.arrow_moves[k] === 1;
     const [x1, x2] = [x(trace.arrow_from[k]), x(trace.arrow_to[k])];
     if (!shown(moves) || x2 < left || x1 > right) continue;
-    const [y1, y2] = [trace.arrow_from_row[k], trace.arrow_to_row[k]].map((r) => rowTop(r) + TIME.row / 2);
+    const [y1, y2] = [trace.arrow_from_row[k], trace.arrow_to_row[k]].map((r) => rowTop(r) + 26);
     drawn++;
     context.save();
     context.beginPath();
@@ -139,12 +139,13 @@ function drawFlows({ context, x, left, right, colors }) {
 
 function drawFlow(context, { x1, y1, x2, y2 }, moves, colors) {
   const bend = Math.max((x2 - x1) / 2, 8);
+  const sag = y1 === y2 ? 12 : 0; // within a row it hangs below the handlers
   for (const [color, width] of [[colors.paper, moves ? 5 : 2.6], [moves ? colors.measured : colors.ink, moves ? 2.6 : 1]]) {
     context.strokeStyle = color;
     context.lineWidth = width;
     context.beginPath();
     context.moveTo(x1, y1);
-    context.bezierCurveTo(x1 + bend, y1, x2 - bend, y2, x2, y2);
+    context.bezierCurveTo(x1 + bend, y1 + sag, x2 - bend, y2 + sag, x2, y2);
     context.stroke();
   }
   context.fillStyle = moves ? colors.measured : colors.ink;
@@ -167,7 +168,7 @@ function drawInstants({ context, x, left, right, colors }, bottom) {
       context.fillRect(at - 0.75, TIME.ruler - 3, 1.5, bottom - TIME.ruler + 3);
       drawMark(context, rank, at, TIME.ruler - 2, colors);
     } else {
-      drawMark(context, rank, at, rowTop(trace.instant_row[k]) + TIME.row - 4, colors);
+      drawMark(context, rank, at, rowTop(trace.instant_row[k]) + 13, colors);
     }
   }
 }
@@ -190,16 +191,27 @@ function drawMark(context, rank, x, y, colors) {
   context.lineWidth = 1;
 }
 
+// Counters of one name have one scale.
+function greatestValue(name) {
+  const values = trace.counters.filter((one) => one.name === name).flatMap((one) => one.values);
+  return values.reduce((a, b) => Math.max(a, b), 0) || 1;
+}
+
 // A counter as steps: its value stays until the next one.
 function drawCounter({ context, x, left, right, colors }, one, top) {
-  const most = one.values.reduce((a, b) => Math.max(a, b), 0) || 1;
+  const most = greatestValue(one.name);
   labelRow({ context, colors }, one.series === "value" ? one.name : `${one.name} ${one.series}`, top + TIME.counter / 2);
   const high = (value) => (Math.max(value, 0) / most) * (TIME.counter - 8);
-  context.fillStyle = colors.decided;
   one.at.forEach((at, k) => {
     const begin = Math.max(x(at), left);
     const end = Math.min(x(one.at[k + 1] ?? trace.whole), right);
-    if (end > begin) context.fillRect(begin, top + TIME.counter - 3 - high(one.values[k]), end - begin, high(one.values[k]));
+    if (end <= begin) return;
+    context.fillStyle = colors.decided;
+    context.fillRect(begin, top + TIME.counter - 3 - high(one.values[k]), end - begin, high(one.values[k]));
+    if (!fits(context, toldFew(one.values[k]), end - begin - 8)) return;
+    context.fillStyle = high(one.values[k]) > 16 ? colors.paper : colors.ink;
+    context.textAlign = "left";
+    context.fillText(toldFew(one.values[k]), begin + 4, top + TIME.counter - 10);
   });
   context.fillStyle = colors.faint;
   context.fillRect(left, top + TIME.counter - 3, right - left, 1);
