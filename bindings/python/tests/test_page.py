@@ -281,6 +281,7 @@ class Seen(InAFolder):
         found = [row[17] for row in page.rows("all-rounds")]
         self.assertEqual(found, ["holds", *(line for _, line in FORGED)])
         self.assertEqual({line.split()[0] for line in found[1:]}, {flaw.word for flaw in tezgumi.Flaw if flaw <= 19})
+        self.assertEqual([row[12] for row in page.rows("all-rounds")], ["2", *["–"] * len(FORGED)])
         for number, (_, line) in enumerate(FORGED, 1):
             page.value(f"choose({number})")
             self.assertIn(f"does not hold. {line}: ", page.text("#verdict"))

@@ -9,7 +9,7 @@ from __future__ import annotations
 import json
 import os
 from collections import defaultdict
-from typing import Any, Dict, List, Tuple, Union
+from typing import Any, Dict, List, Sequence, Tuple, Union
 
 from .columns import block
 from .errors import TraceError
@@ -166,8 +166,7 @@ def packed(events: List[_Event]) -> Tuple[Dict[str, Any], str]:
     order = sorted(range(len(events)), key=lambda k: (events[k].get("ts", 0) if events[k]["ph"] != "M" else -1, k))
     for k in order[:MOST_EVENTS]:
         timeline.take(events[k])
-    for row, opened in timeline.open.items():
-        timeline.others += len(opened)
+    timeline.others += sum(len(opened) for opened in timeline.open.values())
     start = min((nanoseconds(event["ts"]) for event in events if event["ph"] != "M"), default=0)
     described = {
         "rows": _row_names(timeline), "names": list(timeline.names.numbers), "events": len(events), "others": timeline.others,
@@ -191,7 +190,7 @@ def _row_names(timeline: _Timeline) -> List[str]:
 
 def _columns(timeline: _Timeline, start: int) -> List[Tuple[str, List[int]]]:
     # The rows of a table as columns, and times from the first one on.
-    tables = (
+    tables: Tuple[Tuple[Tuple[str, ...], Sequence[Tuple[int, ...]]], ...] = (
         (("slice_at", "slice_long", "slice_row", "slice_name", "slice_element"), timeline.slices),
         (("instant_at", "instant_row", "instant_name", "instant_whole"), timeline.instants),
         (("arrow_from", "arrow_from_row", "arrow_to", "arrow_to_row", "arrow_name", "arrow_moves"), timeline.arrows),

@@ -24,7 +24,7 @@ const NAMING = [
 // Of a decision within a tolerance the division is the least one, from which the limit is measured.
 const leastDivision = (d) => ({ ...d, cuts: d.leastCuts, bottleneck: d.least });
 const NEAR = [
-  ...DIVISION.map((step) => ({ ...step, title: `Least division: ${step.title}`, of: leastDivision })),
+  ...DIVISION.map((step) => ({ ...step, title: `Least division: ${step.title[0].toLowerCase()}${step.title.slice(1)}`, of: leastDivision })),
   { title: "The order has each PE once", flaws: ["OrderCount", "OrderRange", "OrderTwice"],
     holds: (d) => some(d.order.length, "PE", "PEs") },
   { title: "No block is above the limit", flaws: ["NearCount", "NoDivision", "PastLimit"],
@@ -131,6 +131,7 @@ function showCheck(held) {
     return;
   }
   const { flaw, rows } = checked(held);
+  document.getElementById("heights-told").hidden = !held.decision.near;
   if (flaw === null) say("✓ The decision holds: every part of it is right.", "good");
   else say(`✗ The decision does not hold. ${flawLine(flaw)}: ${rows.find((one) => one[1] === flawLine(flaw))[2]}.`, "bad");
   const made = table(["step", "verdict", "what was seen"], rows);

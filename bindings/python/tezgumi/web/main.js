@@ -121,7 +121,8 @@ function redrawOnChange() {
     width = document.body.clientWidth;
     drawAll();
   }).observe(document.body);
-  for (const query of ["(prefers-color-scheme: dark)", "print"]) window.matchMedia(query).addEventListener("change", drawAll);
+  window.matchMedia("(prefers-color-scheme: dark)").addEventListener("change", drawAll);
+  window.matchMedia("print").addEventListener("change", (event) => onPaper(event.matches));
   window.addEventListener("beforeprint", () => onPaper(true));
   window.addEventListener("afterprint", () => onPaper(false));
 }
@@ -150,6 +151,15 @@ function tellNotes() {
     "This file needs no network, and nothing leaves it.";
 }
 
+// What a decision that does not hold says is the least possible load is not shown as such.
+function believeNone() {
+  facts.forEach((one, r) => {
+    if (!["holds", "no decision", "left out"].includes(verdicts[r])) one.least = null;
+  });
+  drawRounds();
+  offerRounds();
+}
+
 const HEIGHTS = [nearFlaw, orderFlaw, heightsFlaw, bottleneckFlaw, leastStarts, heightsOf, bytesBefore];
 const anyNear = () => page.rounds.some((one) => one.decision && one.decision.tolerance !== null);
 
@@ -175,7 +185,7 @@ async function start() {
     verdicts = found;
     tellSummary(looked);
   });
-  offerRounds();
+  believeNone();
   document.documentElement.dataset.checked = Math.round(performance.now());
 }
 

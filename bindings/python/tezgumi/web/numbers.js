@@ -19,8 +19,14 @@ function toldQuotient(text) {
 }
 
 // A number in few letters, for axes: 12, 4,500, 1.2 M.
-const few = new Intl.NumberFormat(undefined, { notation: "compact", maximumSignificantDigits: 3 });
-const toldFew = (number) => (Math.abs(number) < 10000 ? grouping.format(number) : few.format(number));
+const few = new Intl.NumberFormat(undefined, { maximumSignificantDigits: 3 });
+const UNITS = [[1e18, "E"], [1e15, "P"], [1e12, "T"], [1e9, "G"], [1e6, "M"], [1e3, "k"]];
+
+function toldFew(number) {
+  if (number < 10000) return grouping.format(number);
+  const [unit, letter] = UNITS.find(([one]) => number >= one);
+  return `${few.format(number / unit)}\u00a0${letter}`;
+}
 
 const greatestOf = (numbers) => numbers.reduce((most, number) => (number > most ? number : most), 0n);
 const sumOf = (numbers) => numbers.reduce((sum, number) => sum + number, 0n);

@@ -209,9 +209,10 @@ function drawCounter({ context, x, left, right, colors }, one, top) {
     context.fillStyle = colors.decided;
     context.fillRect(begin, top + TIME.counter - 3 - high(one.values[k]), end - begin, high(one.values[k]));
     if (!fits(context, toldFew(one.values[k]), end - begin - 8)) return;
-    context.fillStyle = high(one.values[k]) > 16 ? colors.paper : colors.ink;
+    const inside = high(one.values[k]) > 16;
+    context.fillStyle = inside ? colors.paper : colors.ink;
     context.textAlign = "left";
-    context.fillText(toldFew(one.values[k]), begin + 4, top + TIME.counter - 10);
+    context.fillText(toldFew(one.values[k]), begin + 4, top + TIME.counter - (inside ? 10 : 10 + high(one.values[k])));
   });
   context.fillStyle = colors.faint;
   context.fillRect(left, top + TIME.counter - 3, right - left, 1);
