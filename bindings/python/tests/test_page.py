@@ -117,7 +117,8 @@ class Written(InAFolder):
             self.assertRaisesRegex(error, text, self.write, *words)
         for text, fault in (
                 ("{", "no JSON"), ("{}", "there is no list of events"), ('{"traceEvents": 5}', "there is no list of events"),
-                ("[5]", "event 0 has no phase"), ('[{"ph": "X"}]', "event 0 has no time"), ('[{"ph": "i", "ts": -1}]', "event 0 has no time"),
+                ("[5]", "event 0 has no phase"), ('[{"ph": "X"}]', "event 0 has no time"),
+                ('[{"ph": "i", "ts": -1}]', "event 0 has no time"),
                 ('[{"ph": "i", "ts": 0}, {"ph": "X", "ts": 1, "dur": "2"}]', "event 1 has a duration")):
             trace = os.path.join(self.folder, "trace.json")
             with open(trace, "w", encoding="utf-8") as file:
@@ -159,7 +160,8 @@ class Written(InAFolder):
     def test_no_script_makes_markup(self):
         for name in os.listdir(WEB):
             text = read_bytes(os.path.join(WEB, name)).decode()
-            for word in ("innerHTML", "outerHTML", "insertAdjacent", "document.write", "eval(", "fetch(", "http:", "https:", "XMLHttp"):
+            self.assertNotIn("</script", text if name.endswith(".js") else "")
+            for word in ("innerHTML", "outerHTML", "insertAdjacent", "document.write", "eval(", "fetch(", "://"):
                 self.assertNotIn(word, text)
 
 
@@ -200,14 +202,15 @@ class Seen(InAFolder):
                     (5, told.imbalance_before), (6, told.excess_before), (9, told.imbalance_after), (10, told.excess_after),
                     (11, told.average_before)):
                 self.assertLessEqual(abs(float(row[k]) - number), 0.001)
-            self.assertEqual(row[17:], ["holds", f"round {run.step}"])
+            self.assertEqual(row[17:], ["holds", f"round {run.step}", "recorded"])
 
     def test_the_numbers_of_lb_report(self):
         # docs/FORMATS.md, "What lb_report prints", for three-elements on two PEs and on one.
         one = tezgumi.Decision(1, [0, 0, 0], 4, 9, [0, 3], [0, 2], [0], [9], [0], [(1, 1, 0)])
         rows = self.open([example("three-elements.lbd2"), (THREE, one)]).rows("all-rounds")
-        self.assertEqual(rows[0][1:17], ["5", "3", "2", "3", "1.500", "50.000", "2", "2", "1.000", "0.000", "2.000", "2", "2", "1", "10", "27"])
-        self.assertEqual(rows[1][1:17], ["5", "3", "2", "3", "1.500", "50.000", "1", "4", "1.000", "0.000", "2.000", "4", "4", "1", "9", "27"])
+        before = ["5", "3", "2", "3", "1.500", "50.000"]
+        self.assertEqual(rows[0][1:17], [*before, "2", "2", "1.000", "0.000", "2.000", "2", "2", "1", "10", "27"])
+        self.assertEqual(rows[1][1:17], [*before, "1", "4", "1.000", "0.000", "2.000", "4", "4", "1", "9", "27"])
 
     def test_the_loads_of_the_pes(self):
         rounds = list(hot_spot())
@@ -233,7 +236,8 @@ class Seen(InAFolder):
 
     def test_going_from_round_to_round(self):
         page = self.open(list(hot_spot()))
-        at = lambda number: page.wait(f"document.documentElement.dataset.round === '{number}' && document.getElementById('round').value === '{number}'")
+        at = lambda number: page.wait(
+            f"document.documentElement.dataset.round === '{number}' && document.getElementById('round').value === '{number}'")
         at(1)
         page.press("ArrowRight")
         at(2)
@@ -291,8 +295,8 @@ class Seen(InAFolder):
 
     def test_where_a_forged_dump_is_wrong(self):
         page = self.open([example("forged.lbd2")])
-        self.assertEqual(
-            page.text("#verdict"), "✗ The decision does not hold. MovedWrong: it says that 9 bytes move, and these names move 10.")
+        text = "✗ The decision does not hold. MovedWrong: it says that 9 bytes move, and these names move 10."
+        self.assertEqual(page.text("#verdict"), text)
 
     def test_decisions_of_random_runs(self):
         runs = [random_run(seed, elements=12, pes=5) for seed in range(120)]
@@ -347,7 +351,8 @@ class Seen(InAFolder):
     def test_rounds_with_little_in_them(self):
         empty, idle = tezgumi.Run(3, [], [], []), tezgumi.Run(2, [0, 0], [1, 1], [0, 1])
         page = self.open([empty, (empty, decided(empty)), idle, (idle, decided(idle)), example("moving-front.lbd1")])
-        self.assertEqual([row[17] for row in page.rows("all-rounds")], ["no decision", "holds", "no decision", "holds", "no decision"])
+        found = [row[17] for row in page.rows("all-rounds")]
+        self.assertEqual(found, ["no decision", "holds", "no decision", "holds", "no decision"])
         for number in range(5):
             page.value(f"choose({number})")
         self.assertEqual(page.errors, [])
@@ -387,7 +392,8 @@ class Seen(InAFolder):
             ["PE 0", "3", "95500", "2", "2", "1", "1", "0"], ["PE 1", "3", "130000", "2", "1", "2", "0", "1"]])
         rows = page.rows("timeline-events")
         kinds = [row[2] for row in rows]
-        self.assertEqual({kind: kinds.count(kind) for kind in kinds}, {"handler": 6, "letter": 3, "element": 1, "instant": 5, "counter": 4})
+        counted = {"handler": 6, "letter": 3, "element": 1, "instant": 5, "counter": 4}
+        self.assertEqual({kind: kinds.count(kind) for kind in kinds}, counted)
         self.assertIn(["120000", "PE 1", "handler", "receive", "2", "50000"], rows)
         self.assertIn(["200000", "PE 0 to PE 1", "element", "element 0", "", "30000"], rows)
         self.assertIn(["190000", "all", "instant", "decision", "", "–"], rows)

@@ -1,4 +1,5 @@
-"""python3 -m tezgumi FILE, or tezgumi-plan FILE: the figures of a dump's plan, checked; for other numbers of PEs, and drawn, where asked.
+"""python3 -m tezgumi FILE, or tezgumi-plan FILE: the figures of a dump's plan, checked; for other numbers of PEs, and drawn, where
+asked.
 
 python3 -m tezgumi page FILE.. -o OUT: a page that shows the rounds of these dumps in a browser.
 """
@@ -30,7 +31,8 @@ def main(words: Sequence[str] | None = None) -> int:
 
 def _parser() -> argparse.ArgumentParser:
     parser = argparse.ArgumentParser(
-        prog=_name(), description="Plans the run of a dump, checks the decision, and prints its figures.")
+        prog=_name(), description="Plans the run of a dump, checks the decision, and prints its figures.",
+        epilog=f"{_name()} page FILE.. -o OUT writes a page that shows the rounds of a run in a browser; page --help tells more.")
     parser.add_argument("file", metavar="FILE", help="a dump, LBD1 or LBD2")
     parser.add_argument("--version", action="version", version=f"tezgumi {tezgumi.__version__}")
     parser.add_argument(

@@ -82,7 +82,9 @@ function seen(view) {
 
 function noteSeen(view) {
   const parts = [];
-  if (!view.single) parts.push("Elements narrower than a dot are drawn together, in the color of the one in the middle of the dot: go nearer to see each.");
+  if (!view.single) {
+    parts.push("Elements narrower than a dot are drawn together, in the color of the one in its middle: go nearer to see each.");
+  }
   if (chain.byCount && chain.sums[chain.count] === 0n) parts.push("No element has any load, so all are as wide.");
   if (chain.decision === null) parts.push("There is no decision on this round.");
   else if (!chain.divided) parts.push("The cuts of this decision do not divide the chain, so no blocks are drawn.");
@@ -169,7 +171,8 @@ function drawElementEdges({ context, x, first, last, left, right, colors }, top)
   context.globalAlpha = 1;
 }
 
-// What moves: of single elements a band each, and else in each dot the share that moves, in the colors of the element in its middle.
+// What moves: of single elements a band each, and else in each dot the share that moves, in the colors of the element in
+// its middle.
 function drawMoving(view, top, band) {
   const { context, left, right, inner, colors } = view;
   if (view.single) return drawBands(view, top, band);

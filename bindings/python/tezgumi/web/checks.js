@@ -21,10 +21,11 @@ const NAMING = [
   { title: "The moves are those of the names", flaws: ["MovesWrong"],
     holds: (d) => `${some(d.moves.length, "move", "moves")}, in order of element` },
 ];
+const lowered = (text) => text[0].toLowerCase() + text.slice(1);
 // Of a decision within a tolerance the division is the least one, from which the limit is measured.
 const leastDivision = (d) => ({ ...d, cuts: d.leastCuts, bottleneck: d.least });
 const NEAR = [
-  ...DIVISION.map((step) => ({ ...step, title: `Least division: ${step.title[0].toLowerCase()}${step.title.slice(1)}`, of: leastDivision })),
+  ...DIVISION.map((step) => ({ ...step, title: `Least division: ${lowered(step.title)}`, of: leastDivision })),
   { title: "The order has each PE once", flaws: ["OrderCount", "OrderRange", "OrderTwice"],
     holds: (d) => some(d.order.length, "PE", "PEs") },
   { title: "No block is above the limit", flaws: ["NearCount", "NoDivision", "PastLimit"],
@@ -41,12 +42,12 @@ const flawOf = (run, d) => (d.near ? nearFlaw(run, d) : firstFlaw(run, d));
 
 // What is wrong, in words: with the decision, the run, and the numbers of the flaw.
 const FLAWS = {
-  CutCount: (d) => `there are ${told(d.cuts.length)} cuts, and for ${some(d.pes, "PE", "PEs")} there have to be ${told(d.pes + 1)}`,
+  CutCount: (d) => `there are ${told(d.cuts.length)} cuts, and ${neededOf(d)}`,
   CutStart: (d) => `the first cut is ${told(d.cuts[0])}, and not 0`,
   CutOrder: (d) => `a cut is greater than the next: ${pairThatFalls(d.cuts)}`,
   CutEnd: (d, run) => `the last cut is ${told(d.cuts[d.pes])}, and there are ${some(run.loads.length, "element", "elements")}`,
-  Heavy: (d, run, b) => `block ${b} weighs ${told(loadBetween(run, d.cuts[b], d.cuts[b + 1]))}, and the bottleneck is ${told(d.bottleneck)}`,
-  FenceCount: (d) => `there are ${told(d.stops.length)} stops, and for ${some(d.pes, "PE", "PEs")} there have to be ${told(d.pes + 1)}`,
+  Heavy: (d, run, b) => `block ${b} weighs ${told(blockLoad(run, d, b))}, and the bottleneck is ${told(d.bottleneck)}`,
+  FenceCount: (d) => `there are ${told(d.stops.length)} stops, and ${neededOf(d)}`,
   FenceStart: (d) => `the first stop is ${told(d.stops[0])}, and not 0`,
   FenceOrder: (d) => `a stop is greater than the next: ${pairThatFalls(d.stops)}`,
   FenceEnd: (d, run) => `the last stop is ${told(d.stops[d.pes])}, and the last element ${told(run.loads.length - 1)}`,
@@ -58,8 +59,8 @@ const FLAWS = {
     told(d.names.find((name) => name >= d.pes))}, and there ${d.pes === 1 ? "is" : "are"} ${some(d.pes, "PE", "PEs")}`,
   NameTwice: (d) => `two blocks are to go to PE ${told(d.names.find((name, b) => d.names.indexOf(name) < b))}`,
   PriceCount: (d) => `there are ${some(d.blockPrices.length, "price", "prices")} of blocks and ${told(d.pePrices.length)} of PEs`,
-  PriceHigh: (d, run, b, p) => `the prices of block ${b} and PE ${p}, ${told(d.blockPrices[b])} and ${told(d.pePrices[p])}, are more than the ${
-    some(bytesElsewhere(run.sizes, run.places, d.cuts[b], d.cuts[b + 1], d.pes)[p], "byte", "bytes")} that the block moves there`,
+  PriceHigh: (d, run, b, p) => `the prices of block ${b} and PE ${p}, ${told(d.blockPrices[b])} and ${told(d.pePrices[p])}, are more ` +
+    `than the ${some(blockCosts(run, d, b)[p], "byte", "bytes")} that the block moves there`,
   PriceGap: (d, run) => `all prices together are ${told(sumOf(d.blockPrices) + sumOf(d.pePrices))}, and these names move ${
     some(costOf(d, run), "byte", "bytes")}`,
   MovedWrong: (d, run) => `it says that ${some(d.moved, "byte", "bytes")} move, and these names move ${told(costOf(d, run))}`,
@@ -69,7 +70,7 @@ const FLAWS = {
   OrderTwice: (d) => `the order has PE ${told(d.order.find((pe, b) => d.order.indexOf(pe) < b))} twice`,
   NearCount: (d) => `there are ${told(d.cuts.length)} cuts, and there have to be ${told(d.pes + 1)}`,
   NoDivision: (d, run) => `the cuts do not go from 0 to ${told(run.loads.length)} without decreasing`,
-  PastLimit: (d, run, b) => `block ${b} weighs ${told(loadBetween(run, d.cuts[b], d.cuts[b + 1]))}, and the limit is ${told(d.limit)}`,
+  PastLimit: (d, run, b) => `block ${b} weighs ${told(blockLoad(run, d, b))}, and the limit is ${told(d.limit)}`,
   HeightCount: (d) => `there are not heights for ${some(d.pes, "block", "blocks")}`,
   HeightStart: () => "the height of the first block at the beginning of the chain is not 0",
   Steep: (d, run, b, x) => `from block ${b} to the next the height rises at place ${told(x)} by more than the cut costs there`,
@@ -77,7 +78,11 @@ const FLAWS = {
   BottleneckWrong: (d) => `it says that the heaviest block weighs ${told(d.bottleneck)}, and it does not`,
 };
 
+const blockLoad = (run, d, b) => loadBetween(run, d.cuts[b], d.cuts[b + 1]);
 const loadBetween = (run, from, end) => sumOf(run.loads.slice(from, end));
+
+const blockCosts = (run, d, b) => bytesElsewhere(run.sizes, run.places, d.cuts[b], d.cuts[b + 1], d.pes);
+const neededOf = (d) => `for ${some(d.pes, "PE", "PEs")} there have to be ${told(d.pes + 1)}`;
 
 function pairThatFalls(numbers) {
   const k = numbers.findIndex((number, i) => i > 0 && numbers[i - 1] > number);
@@ -85,8 +90,7 @@ function pairThatFalls(numbers) {
 }
 
 function costOf(d, run) {
-  return Array.from(d.names, (pe, b) => BigInt(bytesElsewhere(run.sizes, run.places, d.cuts[b], d.cuts[b + 1], d.pes)[pe]))
-    .reduce((sum, bytes) => sum + bytes, 0n);
+  return Array.from(d.names, (pe, b) => BigInt(blockCosts(run, d, b)[pe])).reduce((sum, bytes) => sum + bytes, 0n);
 }
 
 // The first move, in the list or by the names, that the other does not have.
@@ -126,7 +130,8 @@ function showCheck(held) {
     verdict.className = `verdict ${kind}`;
   };
   if (held === null || held.decision === null) {
-    say(held === null ? "The elements of this round are left out, so nothing can be checked." : "There is no decision on this round.", "");
+    const leftOut = "The elements of this round are left out, so nothing can be checked.";
+    say(held === null ? leftOut : "There is no decision on this round.", "");
     steps.replaceChildren();
     return;
   }
@@ -165,11 +170,12 @@ async function verdictOf(r) {
 function toldVerdicts(verdicts, looked) {
   const count = (word) => verdicts.filter((one) => one === word).length;
   const decided = verdicts.length - count("no decision") - (looked < verdicts.length ? 0 : count("left out"));
-  const wrong = verdicts.map((one, r) => [one, r + 1]).filter(([one]) => one !== null && !["holds", "no decision", "left out"].includes(one));
+  const right = [null, "holds", "no decision", "left out"];
+  const wrong = verdicts.map((one, r) => [one, r + 1]).filter(([one]) => !right.includes(one));
   if (looked < verdicts.length) return `checking the decisions: ${told(looked)} of ${told(verdicts.length)} rounds so far`;
   if (decided === 0) return "there is no decision to check";
-  const all = verdicts.length === 1 ? "the decision holds" : `${decided === 1 ? "the one decision holds" : `all ${told(decided)} decisions hold`}`;
-  if (wrong.length === 0) return `${all}: this page has checked ${decided === 1 ? "it" : "each of them"}`;
+  if (wrong.length === 0 && decided === 1) return `the ${verdicts.length === 1 ? "" : "one "}decision holds: this page has checked it`;
+  if (wrong.length === 0) return `all ${told(decided)} decisions hold: this page has checked each of them`;
   const [line, number] = wrong[0];
   if (verdicts.length === 1) return `the decision does not hold: the check says ${line}`;
   return `${some(wrong.length, "decision does", "decisions do")} not hold: in round ${told(number)} the check says ${line}`;

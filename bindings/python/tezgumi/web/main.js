@@ -8,19 +8,31 @@ let scaleTop = 0; // the greatest load of a PE of all rounds
 const BY_ROUND = ["before", "after", "greatest", "imbalance", "bytes", "moved"];
 const picture = (id) => document.getElementById(id);
 
+// What lines and bars are drawn from: worked out once for all rounds.
+let drawn = null;
+
+function linesAndBars() {
+  drawn ??= {
+    greatest: greatestLines(facts), imbalance: imbalanceLines(facts), moved: facts.map((one) => one.moved),
+    bytes: facts.map((one) => (one.bytes === null ? null : Number(one.bytes))),
+  };
+  return drawn;
+}
+
 function drawRounds() {
+  const { greatest, imbalance, bytes, moved } = linesAndBars();
   drawMap(picture("before"), facts, "before", scaleTop, chosen);
   drawMap(picture("after"), facts, "after", scaleTop, chosen);
-  drawLines(picture("greatest"), facts, greatestLines(facts), "", chosen);
-  drawLines(picture("imbalance"), facts, imbalanceLines(facts), " %", chosen);
-  drawBars(picture("bytes"), facts, facts.map((one) => (one.bytes === null ? null : Number(one.bytes))), chosen);
-  drawBars(picture("moved"), facts, facts.map((one) => one.moved), chosen);
+  drawLines(picture("greatest"), facts, greatest, "", chosen);
+  drawLines(picture("imbalance"), facts, imbalance, " %", chosen);
+  drawBars(picture("bytes"), facts, bytes, chosen);
+  drawBars(picture("moved"), facts, moved, chosen);
 }
 
 function drawAll() {
   drawScale(BigInt(scaleTop));
-  drawLegend("greatest-legend", greatestLines(facts));
-  drawLegend("imbalance-legend", imbalanceLines(facts));
+  drawLegend("greatest-legend", linesAndBars().greatest);
+  drawLegend("imbalance-legend", linesAndBars().imbalance);
   drawRounds();
   if (chain !== null) drawPeLegend(chain);
   drawChain();
@@ -37,7 +49,7 @@ async function choose(r) {
   document.getElementById("next").disabled = chosen === facts.length - 1;
   for (const number of document.querySelectorAll(".number")) number.textContent = told(chosen + 1);
   drawRounds();
-  offerTable("pe-loads", () => table(["PE", "load, as measured", "load, as decided"], peRows(facts[chosen]), `Round ${told(chosen + 1)}.`));
+  offerTable("pe-loads", () => peTable(facts[chosen]));
   markRow();
   const wanted = chosen;
   const held = await roundWithElements(wanted);
@@ -46,7 +58,8 @@ async function choose(r) {
 
 function toldRound(one) {
   const after = one.after === null ? "" : ` → ${toldQuotient(one.after.imbalance)}`;
-  return `Round ${told(one.number)} of ${told(facts.length)}, step ${told(one.told.step)}: imbalance ${toldQuotient(one.before.imbalance)}${after}`;
+  const place = `Round ${told(one.number)} of ${told(facts.length)}, step ${told(one.told.step)}`;
+  return `${place}: imbalance ${toldQuotient(one.before.imbalance)}${after}`;
 }
 
 function showElements(held) {
@@ -100,7 +113,7 @@ function listen() {
     document.getElementById("chain-told").textContent = tellElement(event.offsetX, picture("chain-picture").clientWidth);
   });
   picture("timeline-picture").addEventListener("pointermove", (event) => {
-    if (trace) document.getElementById("timeline-told").textContent = tellSlice(event.offsetX, event.offsetY, picture("timeline-picture").clientWidth);
+    if (trace) document.getElementById("timeline-told").textContent = tellSlice(event, picture("timeline-picture").clientWidth);
   });
   redrawOnChange();
 }
@@ -145,10 +158,11 @@ function tellNotes() {
   const notes = document.getElementById("notes");
   notes.hidden = without.length === 0;
   const listed = without.length > 20 ? `${without.slice(0, 20).join(", ")} and others` : without.join(", ");
-  notes.textContent = `The page has the elements of ${told(page.rounds.length - without.length)} of ${told(page.rounds.length)} rounds, as it would be too large with all. ` +
-    `Of the rounds ${listed} it has the loads of the PEs alone, so their chains are not drawn and their decisions not checked.`;
-  document.getElementById("made").textContent = `Made by tezgumi ${page.version} of ${some(page.rounds.length, "round", "rounds")}. ` +
-    "This file needs no network, and nothing leaves it.";
+  const all = page.rounds.length;
+  notes.textContent = `The page has the elements of ${told(all - without.length)} of ${told(all)} rounds, as it would be too ` +
+    `large with all. Of the rounds ${listed} it has the loads of the PEs alone, so their chains are not drawn and their decisions not checked.`;
+  document.getElementById("made").textContent =
+    `Made by tezgumi ${page.version} of ${some(all, "round", "rounds")}. This file needs no network, and nothing leaves it.`;
 }
 
 // What a decision that does not hold says is the least possible load is not shown as such.
@@ -156,10 +170,13 @@ function believeNone() {
   facts.forEach((one, r) => {
     if (!["holds", "no decision", "left out"].includes(verdicts[r])) one.least = null;
   });
+  drawn = null;
   drawRounds();
   offerRounds();
 }
 
+// The lines that check, as the page shows them.
+const CHECK = [firstFlaw, divisionFlaw, namingFlaw, bytesElsewhere, runningSums, falls];
 const HEIGHTS = [nearFlaw, orderFlaw, heightsFlaw, bottleneckFlaw, leastStarts, heightsOf, bytesBefore];
 const anyNear = () => page.rounds.some((one) => one.decision && one.decision.tolerance !== null);
 
@@ -171,8 +188,7 @@ async function start() {
     const both = [most, one.before.greatest, one.after?.greatest ?? 0n];
     return greatestOf(both);
   }, 0n));
-  document.querySelector("#check-source pre").textContent =
-    [firstFlaw, divisionFlaw, namingFlaw, bytesElsewhere, runningSums, falls, ...(anyNear() ? HEIGHTS : [])].map(String).join("\n\n");
+  document.querySelector("#check-source pre").textContent = [...CHECK, ...(anyNear() ? HEIGHTS : [])].map(String).join("\n\n");
   tellSummary(0);
   tellNotes();
   listen();
@@ -190,6 +206,7 @@ async function start() {
 }
 
 start().catch((error) => {
-  document.getElementById("summary").textContent = `The page cannot be drawn: ${error.message}. It needs a browser of 2023 or later.`;
+  document.getElementById("summary").textContent =
+    `The page cannot be drawn: ${error.message}. It needs a browser of 2023 or later.`;
   throw error;
 });

@@ -12,7 +12,7 @@ function roundScale(width, count) {
 
 // A map: across rounds, down PEs. Where several rounds or PEs fall on one dot, the dot has the greatest of their loads.
 function drawMap(canvas, facts, side, greatest, chosen) {
-  const pes = Math.max(...facts.map((one) => one[side]?.pes ?? 0), 1);
+  const pes = facts.reduce((most, one) => Math.max(most, one[side]?.pes ?? 0), 1);
   const mapHeight = Math.round(Math.min(Math.max(pes * 14, 42), MAP_HIGHEST));
   const { context, width } = ready(canvas, mapHeight + 30);
   const colors = pageColors();
@@ -25,10 +25,21 @@ function drawMap(canvas, facts, side, greatest, chosen) {
   markRound(context, scale, chosen, 6, mapHeight, colors);
 }
 
+// The last image of each side: it stays as it is while rounds are chosen.
+const mapImages = new Map();
+
 function mapImage(facts, side, greatest, pes, scale, mapHeight) {
   const sharp = window.devicePixelRatio || 1;
   const across = Math.max(1, Math.min(Math.round((scale.right - scale.left) * sharp), facts.length));
   const down = Math.max(1, Math.min(Math.round(mapHeight * sharp), pes));
+  const known = mapImages.get(side);
+  if (known?.across === across && known.down === down) return known.image;
+  const image = newMapImage(facts, side, greatest, pes, across, down);
+  mapImages.set(side, { across, down, image });
+  return image;
+}
+
+function newMapImage(facts, side, greatest, pes, across, down) {
   const image = new ImageData(across, down);
   const most = new Float64Array(across * down).fill(-1);
   facts.forEach((one, r) => {
@@ -73,7 +84,10 @@ function labelRounds(context, count, scale, y, colors) {
   context.fillStyle = colors.quiet;
   context.textAlign = "center";
   const room = Math.max((scale.right - scale.left) / (10 * String(count).length + 10), 1);
-  for (const number of wholeTicks(1, count, room)) context.fillText(told(number), scale.middle(number - 1), y);
+  for (const number of wholeTicks(1, count, room)) {
+    const half = context.measureText(told(number)).width / 2;
+    context.fillText(told(number), Math.min(scale.middle(number - 1), scale.right + 9 - half), y);
+  }
   context.textAlign = "right";
   context.fillText("round", LEFT - 6, y);
 }
@@ -121,7 +135,7 @@ const SHAPES = {
 };
 
 function drawLines(canvas, facts, lines, unit, chosen) {
-  const top = Math.max(...lines.flatMap((line) => line.values.filter((value) => value !== null)), 0);
+  const top = lines.reduce((most, line) => greatestValueOf(line.values, most), 0);
   const { context, scale, y, colors, height } = drawFrame(canvas, facts, top, unit, chosen);
   for (const line of lines) {
     strokeLine(context, line, scale, y, colors);
@@ -129,6 +143,8 @@ function drawLines(canvas, facts, lines, unit, chosen) {
   }
   markRound(context, scale, chosen, 8, height, colors);
 }
+
+const greatestValueOf = (values, least) => values.reduce((most, value) => (value > most ? value : most), least);
 
 function strokeLine(context, line, scale, y, colors) {
   context.strokeStyle = colors[line.color];
@@ -161,7 +177,7 @@ function markPoints(context, line, scale, y, colors) {
 }
 
 function drawBars(canvas, facts, values, chosen) {
-  const top = Math.max(...values.filter((value) => value !== null), 0);
+  const top = greatestValueOf(values, 0);
   const { context, scale, y, colors, height } = drawFrame(canvas, facts, top, "", chosen, true);
   context.fillStyle = colors.decided;
   const wide = Math.max(scale.each * 0.7, 1);

@@ -68,18 +68,27 @@ function fillTable(id) {
 }
 
 const ROUND_HEAD = [
-  "round", "step", "elements", "PEs", "greatest, measured", "imbalance", "excess %", "PEs, decided", "greatest, decided", "imbalance",
-  "excess %", "average", "least possible", "bound", "moved elements", "moved bytes", "of bytes", "check", "file"];
+  "round", "step", "elements", "PEs", "greatest, measured", "imbalance", "excess %", "PEs, decided", "greatest, decided",
+  "imbalance", "excess %", "average", "least possible", "bound", "moved elements", "moved bytes", "of bytes", "check", "file",
+  "decision"];
 
 function roundRow(one, verdict) {
   const { told: round, before, after } = one;
   return [
-    one.number, round.step, round.elements, round.procs, before.greatest, quotientCell(before.imbalance), quotientCell(before.excess),
-    round.decision?.pes ?? null, after && after.greatest, after && quotientCell(after.imbalance), after && quotientCell(after.excess),
-    quotientCell(one.average), one.least, one.bound, one.moved, one.bytes, BigInt(round.bytes), verdict, round.file];
+    one.number, round.step, round.elements, round.procs, before.greatest, quotientCell(before.imbalance),
+    quotientCell(before.excess), round.decision?.pes ?? null, after && after.greatest, after && quotientCell(after.imbalance),
+    after && quotientCell(after.excess), quotientCell(one.average), one.least, one.bound, one.moved, one.bytes,
+    BigInt(round.bytes), verdict, round.file, decisionKind(round.decision)];
 }
 
-function peRows(one) {
+function decisionKind(decision) {
+  if (!decision) return "none";
+  const within = decision.tolerance === null ? "" : `, within ${told(decision.tolerance)} thousandths`;
+  return (decision.new ? "made for this page" : "recorded") + within;
+}
+
+function peTable(one) {
   const count = Math.max(one.before.pes, one.after?.pes ?? 0);
-  return Array.from({ length: count }, (_, pe) => [pe, one.before.loads[pe] ?? null, one.after?.loads[pe] ?? null]);
+  const rows = Array.from({ length: count }, (_, pe) => [pe, one.before.loads[pe] ?? null, one.after?.loads[pe] ?? null]);
+  return table(["PE", "load, as measured", "load, as decided"], rows, `Round ${told(one.number)}.`);
 }

@@ -2,7 +2,7 @@
 
 const TIME = { margin: { left: 118, right: 10 }, ruler: 20, row: 40, counter: 34 };
 const MOST_COUNTERS = 32;
-const MOST_ARROWS = 4000;
+const MOST_LETTERS = 400;
 let trace = null;
 let tracePart = new Part(1, 1, () => undefined);
 
@@ -14,7 +14,8 @@ async function readTrace() {
   const whole = Math.max(ends.reduce((most, list) => list.reduce((a, b) => Math.max(a, b), most), 0), 1);
   const used = [...new Set(read.slice_element)].filter((k) => page.trace.names[k] !== "");
   const keys = used.length > 0 ? read.slice_element : read.slice_name;
-  return { ...page.trace, ...read, whole, keys, byElement: used.length > 0, kinds: rankKinds(keys), marks: rankKinds(read.instant_name) };
+  const kinds = rankKinds(keys);
+  return { ...page.trace, ...read, whole, keys, kinds, byElement: used.length > 0, marks: rankKinds(read.instant_name) };
 }
 
 // Each text that stands for a color or a shape, with its place in the order in which they come first.
@@ -40,7 +41,6 @@ async function startTimeline() {
   offerTable("timeline-rows", timelineRowTable);
   offerTable("timeline-events", eventTable);
   drawTimelineLegend();
-  noteTrace();
   drawTimeline();
 }
 
@@ -120,21 +120,21 @@ function drawSlices({ context, x, left, right }) {
 }
 
 function drawFlows({ context, x, left, right, colors }) {
-  const shown = (moves) => document.getElementById(moves ? "timeline-moves" : "timeline-letters").checked;
-  let drawn = 0;
-  for (let k = 0; k < trace.arrow_from.length && drawn < MOST_ARROWS; k++) {
-    const moves = trace.arrow_moves[k] === 1;
-    const [x1, x2] = [x(trace.arrow_from[k]), x(trace.arrow_to[k])];
-    if (!shown(moves) || x2 < left || x1 > right) continue;
+  const all = Array.from(trace.arrow_from.keys()).filter((k) => x(trace.arrow_to[k]) >= left && x(trace.arrow_from[k]) <= right);
+  const letters = all.filter((k) => trace.arrow_moves[k] === 0);
+  const moves = all.filter((k) => trace.arrow_moves[k] === 1);
+  const isOn = (id) => document.getElementById(id).checked;
+  noteTrace(isOn("timeline-letters") && letters.length > MOST_LETTERS ? letters.length : 0);
+  context.save();
+  context.beginPath();
+  context.rect(left, 0, right - left, 1e5);
+  context.clip();
+  for (const k of [
+    ...(isOn("timeline-letters") && letters.length <= MOST_LETTERS ? letters : []), ...(isOn("timeline-moves") ? moves : [])]) {
     const [y1, y2] = [trace.arrow_from_row[k], trace.arrow_to_row[k]].map((r) => rowTop(r) + 26);
-    drawn++;
-    context.save();
-    context.beginPath();
-    context.rect(left, 0, right - left, 1e5);
-    context.clip();
-    drawFlow(context, { x1, y1, x2, y2 }, moves, colors);
-    context.restore();
+    drawFlow(context, { x1: x(trace.arrow_from[k]), y1, x2: x(trace.arrow_to[k]), y2 }, trace.arrow_moves[k] === 1, colors);
   }
+  context.restore();
 }
 
 function drawFlow(context, { x1, y1, x2, y2 }, moves, colors) {
@@ -175,7 +175,8 @@ function drawInstants({ context, x, left, right, colors }, bottom) {
 
 // A shape for each kind of instant: a disc, a square, a triangle, a diamond, a triangle that stands on its point.
 const MARKS = [
-  null, [[-4, -4], [4, -4], [4, 4], [-4, 4]], [[0, -5], [5, 4], [-5, 4]], [[0, -5], [5, 0], [0, 5], [-5, 0]], [[-5, -4], [5, -4], [0, 5]]];
+  null, [[-4, -4], [4, -4], [4, 4], [-4, 4]], [[0, -5], [5, 4], [-5, 4]], [[0, -5], [5, 0], [0, 5], [-5, 0]],
+  [[-5, -4], [5, -4], [0, 5]]];
 
 function drawMark(context, rank, x, y, colors) {
   const points = MARKS[rank % MARKS.length];
@@ -234,19 +235,23 @@ function drawTimelineLegend() {
   document.getElementById("timeline-legend").replaceChildren(...kinds, ...more, ...marks);
 }
 
-function noteTrace() {
+function noteTrace(tooMany) {
+  const { left_out: leftOut, others, events, counters } = trace;
   const parts = [];
-  if (trace.left_out > 0) parts.push(`The last ${told(trace.left_out)} of ${told(trace.events)} events are left out.`);
-  if (trace.others > 0) parts.push(`${some(trace.others, "event", "events")} of other kinds, or without a beginning, ${trace.others === 1 ? "is" : "are"} not shown.`);
-  if (trace.counters.length > MOST_COUNTERS) parts.push(`Of ${told(trace.counters.length)} counters the first ${MOST_COUNTERS} are shown.`);
-  if (trace.arrow_from.length > MOST_ARROWS) parts.push(`At most ${told(MOST_ARROWS)} arrows are drawn at once: go nearer to see all.`);
+  if (tooMany > 0) parts.push(`Here are ${told(tooMany)} letters, too many to be told apart: go nearer to see them.`);
+  if (leftOut > 0) parts.push(`The last ${told(leftOut)} of ${told(events)} events are left out.`);
+  if (others > 0) {
+    const are = others === 1 ? "is" : "are";
+    parts.push(`${some(others, "event", "events")} of other kinds, or without a beginning or an end, ${are} not shown.`);
+  }
+  if (counters.length > MOST_COUNTERS) parts.push(`Of ${told(counters.length)} counters the first ${MOST_COUNTERS} are shown.`);
   const note = document.getElementById("timeline-note");
   note.textContent = parts.join(" ");
   note.hidden = parts.length === 0;
 }
 
 // What is told of the slice at a point of the picture.
-function tellSlice(offsetX, offsetY, width) {
+function tellSlice({ offsetX, offsetY }, width) {
   const inner = width - TIME.margin.left - TIME.margin.right;
   const at = tracePart.from + ((offsetX - TIME.margin.left) / inner) * (tracePart.to - tracePart.from);
   const r = Math.floor((offsetY - TIME.ruler) / TIME.row);
@@ -282,7 +287,8 @@ function eventTable() {
   const rows = [];
   trace.slice_at.forEach((at, k) => {
     if (!inside(at, at + trace.slice_long[k])) return;
-    rows.push([at, trace.rows[trace.slice_row[k]], "handler", trace.names[trace.slice_name[k]], trace.names[trace.slice_element[k]], trace.slice_long[k]]);
+    const [name, element] = [trace.slice_name[k], trace.slice_element[k]].map((number) => trace.names[number]);
+    rows.push([at, trace.rows[trace.slice_row[k]], "handler", name, element, trace.slice_long[k]]);
   });
   trace.instant_at.forEach((at, k) => {
     const where = trace.instant_whole[k] ? "all" : trace.rows[trace.instant_row[k]];
@@ -294,7 +300,9 @@ function eventTable() {
     rows.push([at, way, trace.arrow_moves[k] ? "element" : "letter", trace.names[trace.arrow_name[k]], "", trace.arrow_to[k] - at]);
   });
   for (const one of trace.counters) {
-    one.at.forEach((at, k) => { if (inside(at, at)) rows.push([at, `${one.name} ${one.series}`, "counter", told(one.values[k]), "", null]); });
+    one.at.forEach((at, k) => {
+      if (inside(at, at)) rows.push([at, `${one.name} ${one.series}`, "counter", told(one.values[k]), "", null]);
+    });
   }
   rows.sort((a, b) => a[0] - b[0]);
   return table(["ns", "row", "kind", "name", "element", "lasts, ns"], rows);
