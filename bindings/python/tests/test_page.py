@@ -229,6 +229,8 @@ class Seen(InAFolder):
         self.assertEqual(page.rows("stops"), [
             ["1", "0", "4", "12", "12", "yes"], ["2", "4", "5", "15", "12", "yes"], ["3", "5", "6", "14", "12", "yes"]])
         self.assertEqual(page.rows("moves"), [["4", "7", "60", "0", "2"], ["6", "6", "70", "0", "1"]])
+        self.assertEqual(page.rows("prices"), [
+            ["0", "60", "2", "0", "60", "60"], ["1", "30", "0", "-30", "0", "0"], ["2", "70", "1", "0", "70", "70"]])
         self.assertEqual({row[1] for row in page.rows("steps")}, {"holds"})
         self.assertEqual(page.text("#summary"), (
             "In this round on 3 PEs the heaviest PE had 2.100 times the average load as measured, and 1.200 times as decided. "
@@ -297,6 +299,16 @@ class Seen(InAFolder):
         page = self.open([example("forged.lbd2")])
         text = "✗ The decision does not hold. MovedWrong: it says that 9 bytes move, and these names move 10."
         self.assertEqual(page.text("#verdict"), text)
+
+    def test_the_way_to_a_flaw(self):
+        run = large_run()
+        right = decided(run)
+        light = replace(right, stops=[*right.stops[:100], right.stops[99], *right.stops[101:]])
+        page = self.open([(run, light)])
+        self.assertIn("FenceLight 100: ", page.text("#verdict"))
+        page.click("#where")
+        first, last = page.value("[elementAt(chain.starts, chainPart.from), elementAt(chain.starts, chainPart.to)]")
+        self.assertTrue(right.stops[99] - 3 <= first <= right.stops[99] <= last <= right.stops[99] + 3)
 
     def test_decisions_of_random_runs(self):
         runs = [random_run(seed, elements=12, pes=5) for seed in range(120)]

@@ -39,10 +39,14 @@ function elementAt(starts, point) {
   return low;
 }
 
+// Shows a chain: the same part of it as of the one before, where that had as many elements.
 function showChain(held) {
+  const before = chain;
   chain = chainOf(held, document.getElementById("chain-even").checked);
   const whole = chain.starts[chain.count] || 1;
+  const [from, to] = before?.count === chain.count ? [chainPart.from, chainPart.to].map((at) => at / chainPart.whole) : [0, 1];
   chainPart = new Part(whole, whole / Math.max(chain.count, 1) / 20, drawChain);
+  Object.assign(chainPart, { from: from * whole, to: to * whole });
   drawPeLegend(chain);
   offerTable("blocks", () => blockTable(chain));
   offerTable("stops", () => stopTable(chain));
@@ -335,6 +339,14 @@ function tellBlock(i) {
   const b = elementAt(Float64Array.from(cuts), i);
   const load = chain.sums[cuts[b + 1]] - chain.sums[cuts[b]];
   return `block ${b}, elements ${told(cuts[b])} to ${told(cuts[b + 1] - 1)}, load ${told(load)}, on PE ${names[b]}`;
+}
+
+// Goes to some elements, with as many again to each side.
+function goToElements(from, end) {
+  const [begin, close] = [chain.starts[Math.min(from, chain.count)], chain.starts[Math.min(end, chain.count)]];
+  const wide = Math.max(close - begin, chainPart.least);
+  chainPart.show(begin - wide, close + wide);
+  document.getElementById("chain").scrollIntoView();
 }
 
 // Tables of the chain.

@@ -59,8 +59,8 @@ const FLAWS = {
     told(d.names.find((name) => name >= d.pes))}, and there ${d.pes === 1 ? "is" : "are"} ${some(d.pes, "PE", "PEs")}`,
   NameTwice: (d) => `two blocks are to go to PE ${told(d.names.find((name, b) => d.names.indexOf(name) < b))}`,
   PriceCount: (d) => `there are ${some(d.blockPrices.length, "price", "prices")} of blocks and ${told(d.pePrices.length)} of PEs`,
-  PriceHigh: (d, run, b, p) => `the prices of block ${b} and PE ${p}, ${told(d.blockPrices[b])} and ${told(d.pePrices[p])}, are more ` +
-    `than the ${some(blockCosts(run, d, b)[p], "byte", "bytes")} that the block moves there`,
+  PriceHigh: (d, run, b, p) => `the prices of block ${b} and PE ${p}, ${told(d.blockPrices[b])} and ${told(d.pePrices[p])}, ` +
+    `are more than the ${some(blockCosts(run, d, b)[p], "byte", "bytes")} that the block moves there`,
   PriceGap: (d, run) => `all prices together are ${told(sumOf(d.blockPrices) + sumOf(d.pePrices))}, and these names move ${
     some(costOf(d, run), "byte", "bytes")}`,
   MovedWrong: (d, run) => `it says that ${some(d.moved, "byte", "bytes")} move, and these names move ${told(costOf(d, run))}`,
@@ -95,14 +95,32 @@ function costOf(d, run) {
 
 // The first move, in the list or by the names, that the other does not have.
 function moveThatDiffers(d, run) {
-  const planned = new Float64Array(run.loads.length);
-  d.names.forEach((pe, b) => planned.fill(pe, d.cuts[b], d.cuts[b + 1]));
-  const wanted = movesTo(run.places, planned);
+  const wanted = movesTo(run.places, plannedByNames(d, run));
   const k = Array.from({ length: Math.max(wanted.length, d.moves.length) }, (_, at) => at)
     .find((at) => String(wanted[at]) !== String(d.moves[at]));
   if (k === undefined) return "the places of the elements are not those of the names";
   const move = (one) => (one === undefined ? "no move" : `element ${told(one[0])} from PE ${one[1]} to PE ${one[2]}`);
   return `move ${told(k)} is ${move(d.moves[k])}, and by the names ${move(wanted[k])}`;
+}
+
+// The elements that a flaw is about, from the first to behind the last, or null where it is not about some of them.
+function flawElements(flaw, d, run) {
+  const [word, at, place] = flaw;
+  if (word === "Heavy" || word === "PriceHigh" || word === "PastLimit") {
+    const cuts = word === "Heavy" && d.near ? d.leastCuts : d.cuts;
+    return [cuts[at], cuts[at + 1]];
+  }
+  if (word === "FenceLight") return [d.stops[at - 1], d.stops[at] + 1];
+  if (word === "Steep") return [Math.max(place - 1, 0), place + 1];
+  const byNames = word === "MovesWrong" ? plannedByNames(d, run) : [];
+  const i = byNames.findIndex((pe, k) => d.planned[k] !== pe);
+  return i < 0 ? null : [i, i + 1];
+}
+
+function plannedByNames(d, run) {
+  const planned = new Float64Array(run.loads.length);
+  d.names.forEach((pe, b) => planned.fill(pe, d.cuts[b], d.cuts[b + 1]));
+  return planned;
 }
 
 // The line that lb_sim prints of it.
@@ -125,6 +143,8 @@ function checked({ run, decision }) {
 function showCheck(held) {
   const verdict = document.getElementById("verdict");
   const steps = document.getElementById("steps");
+  offerWhere(null);
+  offerTable("prices", () => priceTable(held));
   const say = (text, kind) => {
     verdict.textContent = text;
     verdict.className = `verdict ${kind}`;
@@ -137,6 +157,7 @@ function showCheck(held) {
   }
   const { flaw, rows } = checked(held);
   document.getElementById("heights-told").hidden = !held.decision.near;
+  offerWhere(flaw === null ? null : flawElements(flaw, held.decision, held.run));
   if (flaw === null) say("✓ The decision holds: every part of it is right.", "good");
   else say(`✗ The decision does not hold. ${flawLine(flaw)}: ${rows.find((one) => one[1] === flawLine(flaw))[2]}.`, "bad");
   const made = table(["step", "verdict", "what was seen"], rows);
@@ -145,6 +166,28 @@ function showCheck(held) {
     if (one.cells[1].textContent === "–") one.cells[1].classList.remove("bad");
   }
   steps.replaceChildren(made);
+}
+
+// A button that goes to these elements, where there are some.
+function offerWhere(elements) {
+  const button = document.getElementById("where");
+  button.hidden = elements === null;
+  button.onclick = elements === null ? null : () => goToElements(...elements);
+}
+
+// The prices of each block and of its PE: where nothing is wrong they add up to the bytes that the block moves there.
+function priceTable(held) {
+  const d = held?.decision;
+  if (!d || d.names.length !== d.pes || d.blockPrices.length !== d.pes || d.pePrices.length !== d.pes) {
+    return table(["block"], [], "There are no prices for each block and PE.");
+  }
+  const divided = dividesChain(d, held.run.loads.length);
+  const rows = Array.from(d.names, (pe, b) => {
+    const price = d.pePrices[pe] ?? null;
+    const bytes = divided ? blockCosts(held.run, d, b)[pe] ?? null : null;
+    return [b, d.blockPrices[b], pe, price, price === null ? null : d.blockPrices[b] + price, bytes];
+  });
+  return table(["block", "its price", "goes to PE", "price of that PE", "together", "bytes that move"], rows);
 }
 
 // Checks the decisions of all rounds, a few at a time so that the page stays quick, and tells after each how far it is.
@@ -174,7 +217,8 @@ function toldVerdicts(verdicts, looked) {
   const wrong = verdicts.map((one, r) => [one, r + 1]).filter(([one]) => !right.includes(one));
   if (looked < verdicts.length) return `checking the decisions: ${told(looked)} of ${told(verdicts.length)} rounds so far`;
   if (decided === 0) return "there is no decision to check";
-  if (wrong.length === 0 && decided === 1) return `the ${verdicts.length === 1 ? "" : "one "}decision holds: this page has checked it`;
+  const one = verdicts.length === 1 ? "the decision holds" : "the one decision holds";
+  if (wrong.length === 0 && decided === 1) return `${one}: this page has checked it`;
   if (wrong.length === 0) return `all ${told(decided)} decisions hold: this page has checked each of them`;
   const [line, number] = wrong[0];
   if (verdicts.length === 1) return `the decision does not hold: the check says ${line}`;
