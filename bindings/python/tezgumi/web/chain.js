@@ -18,7 +18,8 @@ function chainOf(held, even) {
   }
   const pes = Math.max(run.procs, decision?.pes ?? 1);
   return {
-    run, decision, count, sums, starts, planned, moving, byCount, colors: new PeColors(pes), pes,
+    run, decision, count, sums, starts, planned, moving, byCount, pes,
+    scale: new PeColors(pes, true), named: new PeColors(pes, false), colors: null, legend: "",
     divided: decision !== null && dividesChain(decision, count),
   };
 }
@@ -47,7 +48,6 @@ function showChain(held) {
   const [from, to] = before?.count === chain.count ? [chainPart.from, chainPart.to].map((at) => at / chainPart.whole) : [0, 1];
   chainPart = new Part(whole, whole / Math.max(chain.count, 1) / 20, drawChain);
   Object.assign(chainPart, { from: from * whole, to: to * whole });
-  drawPeLegend(chain);
   offerTable("blocks", () => blockTable(chain));
   offerTable("stops", () => stopTable(chain));
   offerTable("moves", () => moveTable(chain));
@@ -65,6 +65,7 @@ function drawChain() {
   const view = { context, x, left: margin.left, right: margin.left + inner, inner, colors: pageColors() };
   if (chain.count === 0) return noteChain("There are no elements.");
   Object.assign(view, seen(view));
+  chooseColors(view);
   drawRuler(view);
   drawPlaces(view, chain.run.places, ruler, "stand on");
   if (chain.planned) {
@@ -82,6 +83,19 @@ function seen(view) {
   const first = elementAt(chain.starts, chainPart.from);
   const last = elementAt(chain.starts, chainPart.to * (1 - 1e-12));
   return { first, last, single: last - first < view.inner / 2 };
+}
+
+// The PEs that are seen have each a color and a pattern of its own, where they are few enough for that.
+function chooseColors({ first, last }) {
+  const pes = new Set();
+  for (let i = first; i <= last && pes.size <= MOST_NAMED; i++) {
+    pes.add(chain.run.places[i]);
+    if (chain.planned) pes.add(chain.planned[i]);
+  }
+  const isFew = chain.pes <= MOST_NAMED || pes.size <= MOST_NAMED;
+  chain.colors = isFew ? chain.named : chain.scale;
+  const all = Array.from({ length: chain.pes }, (_, pe) => pe);
+  drawPeLegend(chain, chain.pes <= MOST_NAMED ? all : [...pes].sort((a, b) => a - b));
 }
 
 function noteSeen(view) {
@@ -300,8 +314,11 @@ function drawBracket(context, begin, end, y, weight, isLight, { left, right, col
   context.fillText(text, (from + to) / 2, y + 4);
 }
 
-function drawPeLegend({ colors, pes }) {
+function drawPeLegend({ colors, pes, legend }, named) {
   const row = document.getElementById("pe-legend");
+  const wanted = colors.isScale ? "scale" : named.join();
+  if (legend === wanted) return;
+  chain.legend = wanted;
   if (colors.isScale) {
     const sample = document.createElement("canvas");
     const context = smallCanvas(sample, 160, 12);
@@ -314,7 +331,7 @@ function drawPeLegend({ colors, pes }) {
     row.replaceChildren(label);
     return;
   }
-  row.replaceChildren(...Array.from({ length: pes }, (_, pe) => {
+  row.replaceChildren(...named.map((pe) => {
     const sample = document.createElement("canvas");
     const context = smallCanvas(sample, 22, 12);
     context.fillStyle = colors.fill(context, pe);

@@ -2,13 +2,14 @@
 //
 // Loads go along cividis: J. Nuñez, C. Anderton and R. Renslow, "Optimizing colormaps with consideration for color vision
 // deficiency", PLoS ONE 13(7), 2018. PEs have the seven colors of M. Okabe and K. Ito, "Color Universal Design", 2008, without
-// black, with four patterns, and where they are more than 28 they go along cividis too.
+// black, with four patterns, which begin again after 28; where more than that are seen at once, they go along cividis too.
 
 const CIVIDIS = [
   [0, 34, 78], [8, 51, 112], [53, 69, 108], [79, 87, 108], [102, 105, 112], [125, 124, 120], [148, 142, 119], [174, 163, 113],
   [200, 184, 102], [229, 207, 82], [254, 232, 56]];
 const PE_COLORS = ["#0072b2", "#e69f00", "#009e73", "#cc79a7", "#56b4e9", "#d55e00", "#f0e442"];
 const PATTERNS = 4;
+const MOST_NAMED = PE_COLORS.length * PATTERNS;
 
 // The color of a share from 0 to 1, as red, green and blue.
 function loadColor(share) {
@@ -27,9 +28,10 @@ function pageColors() {
 }
 
 class PeColors {
-  constructor(pes) {
+  // Of so many PEs; along a scale, or each another color and pattern than its neighbors.
+  constructor(pes, isScale) {
     this.pes = pes;
-    this.isScale = pes > PE_COLORS.length * PATTERNS;
+    this.isScale = isScale;
     this.tiles = new Map();
   }
 

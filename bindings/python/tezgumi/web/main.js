@@ -34,7 +34,6 @@ function drawAll() {
   drawLegend("greatest-legend", linesAndBars().greatest);
   drawLegend("imbalance-legend", linesAndBars().imbalance);
   drawRounds();
-  if (chain !== null) drawPeLegend(chain);
   drawChain();
   if (trace !== null) drawTimelineLegend();
   drawTimeline();
@@ -69,6 +68,7 @@ function showElements(held) {
   if (held === null) {
     chain = null;
     ready(picture("chain-picture"), 8);
+    document.getElementById("pe-legend").replaceChildren();
     noteChain("The elements of this round are left out, since the page would be too large with those of all rounds.");
     for (const id of ["blocks", "stops", "moves"]) offerTable(id, () => table(["left out"], []));
   } else {
