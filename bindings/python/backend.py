@@ -19,6 +19,8 @@ from pathlib import Path
 
 HERE = Path(__file__).resolve().parent
 PACKAGES = ("tezgumi", "tezgumi_plot")
+# Beside the modules a package has py.typed, and in web/ the parts of a page.
+KINDS = {".py", ".js", ".css", ".html"}
 # A tag older than this one is of no use: pip knows none. What newer systems promise to have, beside the C library's parts.
 OLDEST = (2, 17)
 SYSTEM = {"libc.so.6", "libm.so.6", "libpthread.so.0", "ld-linux-x86-64.so.2"}
@@ -69,7 +71,7 @@ def own_version():
 def package_files(library):
     """The bytes of each file of the packages, by its name in the wheel."""
     paths = [path for package in PACKAGES for path in (HERE / package).rglob("*")]
-    files = {str(path.relative_to(HERE)): path.read_bytes() for path in paths if path.suffix == ".py" or path.name == "py.typed"}
+    files = {str(path.relative_to(HERE)): path.read_bytes() for path in paths if path.suffix in KINDS or path.name == "py.typed"}
     files["tezgumi/libtezgumi.so"] = library.read_bytes()
     return files
 

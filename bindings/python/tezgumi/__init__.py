@@ -18,6 +18,7 @@ bindings/build made comes before that.)
 - figures: figures, sweep, table, pe_loads
 - dumps: read_dump, write_dump, decode, encode, of the formats LBD1 and LBD2
 - texts: replay_text, the text that lb_sim prints
+- page: page, which shows the rounds of a run in a browser
 - errors: TezgumiError and its kinds
 
 `tezgumi_plot`, beside this package, draws. `python3 -m tezgumi FILE`, or tezgumi-plan where the wheel is installed, prints
@@ -32,8 +33,9 @@ except ImportError as error:
 
 from .checking import Flaw, Verdict
 from .dumps import Dump, decode, encode, read_dump, write_dump
-from .errors import DumpError, InputError, LibraryError, LoadError, OutOfMemory, TezgumiError
+from .errors import DumpError, InputError, LibraryError, LoadError, OutOfMemory, TezgumiError, TraceError
 from .figures import Figures, Sweep, figures, pe_loads, sweep, table
+from .page import page
 from .planning import check, decide, plan
 from .runs import ELEMENTS, LOAD, MOVE, PES, STATE_BYTES, Decision, Plan, Run
 from .texts import replay_text
@@ -41,6 +43,7 @@ from .version import __version__
 
 __all__ = [
     "ELEMENTS", "LOAD", "MOVE", "PES", "STATE_BYTES", "Decision", "Dump", "DumpError", "Figures", "Flaw", "InputError",
-    "LibraryError", "LoadError", "OutOfMemory", "Plan", "Run", "Sweep", "TezgumiError", "Verdict", "check", "decide",
-    "__version__", "decode", "encode", "figures", "pe_loads", "plan", "read_dump", "replay_text", "sweep", "table", "write_dump",
+    "LibraryError", "LoadError", "OutOfMemory", "Plan", "Run", "Sweep", "TezgumiError", "TraceError", "Verdict", "check", "decide",
+    "__version__", "decode", "encode", "figures", "page", "pe_loads", "plan", "read_dump", "replay_text", "sweep", "table",
+    "write_dump",
 ]

@@ -1,4 +1,8 @@
-"""python3 -m tezgumi FILE, or tezgumi-plan FILE: the figures of a dump's plan, checked; for other numbers of PEs, and drawn, where asked."""
+"""python3 -m tezgumi FILE, or tezgumi-plan FILE: the figures of a dump's plan, checked; for other numbers of PEs, and drawn, where
+asked.
+
+python3 -m tezgumi page FILE.. -o OUT: a page that shows the rounds of these dumps in a browser.
+"""
 from __future__ import annotations
 
 import argparse
@@ -13,10 +17,13 @@ RIGHT, DUMP_FAULT, FLAWED, FAILED = 0, 3, 4, 5
 
 
 def main(words: Sequence[str] | None = None) -> int:
-    asked = _parser().parse_args(words)
+    words = sys.argv[1:] if words is None else words
+    # The word alone is a file of that name.
+    is_page = len(words) > 1 and words[0] == "page"
+    asked = _page_parser().parse_args(words[1:]) if is_page else _parser().parse_args(words)
     try:
-        return _answer(asked)
-    except tezgumi.DumpError as error:
+        return _write_page(asked) if is_page else _answer(asked)
+    except (tezgumi.DumpError, tezgumi.TraceError) as error:
         return _fail(error, DUMP_FAULT)
     except (tezgumi.TezgumiError, OSError, ImportError) as error:
         return _fail(error, FAILED)
@@ -24,13 +31,27 @@ def main(words: Sequence[str] | None = None) -> int:
 
 def _parser() -> argparse.ArgumentParser:
     parser = argparse.ArgumentParser(
-        prog=_name(), description="Plans the run of a dump, checks the decision, and prints its figures.")
+        prog=_name(), description="Plans the run of a dump, checks the decision, and prints its figures.",
+        epilog=f"{_name()} page FILE.. -o OUT writes a page that shows the rounds of a run in a browser; page --help tells more.")
     parser.add_argument("file", metavar="FILE", help="a dump, LBD1 or LBD2")
     parser.add_argument("--version", action="version", version=f"tezgumi {tezgumi.__version__}")
     parser.add_argument(
         "--procs", type=_counts, metavar="P[,P..]", help="numbers of PEs to plan for, 1 to 256; of several a row each")
     parser.add_argument(
         "--plot", type=_picture, metavar="OUT", help="draw into this file, .png, .pdf or .svg; of several P the sweep")
+    return parser
+
+
+def _page_parser() -> argparse.ArgumentParser:
+    parser = argparse.ArgumentParser(
+        prog=_name() + " page", description="Writes a page that shows the rounds of a run, in order: loads, moves, and the "
+        "certificates of the decisions, which the reader's browser checks again. It is one file, and needs no network.")
+    parser.add_argument("files", metavar="FILE", nargs="+", help="the dump of a round, LBD1 or LBD2")
+    parser.add_argument("-o", "--output", metavar="OUT", required=True, help="the page, as run.html")
+    parser.add_argument("--trace", metavar="FILE", help="what happened in the run, in the Trace Event Format")
+    parser.add_argument("--title", metavar="TEXT", help="what stands above the page; the names of the files, if left out")
+    parser.add_argument(
+        "--procs", type=_count, metavar="P", help="decide anew for so many PEs, 1 to 256, and leave recorded decisions aside")
     return parser
 
 
@@ -49,6 +70,13 @@ def _counts(words: str) -> List[int]:
         if not 1 <= count <= tezgumi.PES:
             raise argparse.ArgumentTypeError(f"{count} is not 1 to {tezgumi.PES}")
     return counts
+
+
+def _count(word: str) -> int:
+    counts = _counts(word)
+    if len(counts) > 1:
+        raise argparse.ArgumentTypeError(f"{word!r} is more than one number")
+    return counts[0]
 
 
 def _picture(path: str) -> str:
@@ -72,6 +100,17 @@ def _answer(asked: argparse.Namespace) -> int:
     if asked.plot:
         _draw(asked, run, decisions, swept, verdicts[0])
     return FLAWED if wrong else RIGHT
+
+
+def _write_page(asked: argparse.Namespace) -> int:
+    written = tezgumi.page(
+        asked.files, asked.output, trace=asked.trace, title=asked.title, anew=asked.procs is not None,
+        decide=lambda run: tezgumi.decide(run, asked.procs))
+    count = len(asked.files)
+    print(f"{asked.output}: {count:,} round{'s' if count > 1 else ''}, {written.bytes:,} bytes")
+    if written.left_out:
+        print(f"without the elements of {len(written.left_out):,} rounds, for which there was no room")
+    return RIGHT
 
 
 def _read(path: str) -> tezgumi.Dump:

@@ -31,3 +31,10 @@ class DumpError(TezgumiError, ValueError):
     def __init__(self, fault: str, found: object = "") -> None:
         self.line = f"dump: {fault}"
         super().__init__(f"{self.line} ({found})" if found else self.line)
+
+
+class TraceError(TezgumiError, ValueError):
+    """A file that is no trace in the Trace Event Format."""
+
+    def __init__(self, fault: str) -> None:
+        super().__init__(f"trace: {fault}")

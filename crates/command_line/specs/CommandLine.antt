@@ -1,10 +1,13 @@
--- What the words of a command line ask for, as clap reads them: `lb_sim [--procs P] [--check] FILE`.
+-- What the words of a command line ask for, as clap reads them: `lb_sim [--procs P] [--tolerance T] [--check] FILE`.
 use Rattle.std.specs.Prelude.{ℕ, ◌≡◌, ◌≤◌, List, [], ◌∷◌, ◌++◌, Option, None, Some, codes, pos, true}
 use Rattle.std.specs.Str.Parse.{IsNumeral, digits_value, without_leading_plus}
 use Rattle.clap.specs.Words.{App, Rule, Text, first_of, matches_of, new_app, new_rule, one_of, with_rule}
 use Rattle.clap.specs.declared.builder.ArgAction.TheVariants.{Set, SetTrue}
 use Rattle.clap.specs.declared.builder.value_parser.ValueParser.TheVariants.{Signed}
+use Rattle.chain_refinement.specs.declared.tolerance.TheConstants.Tolerance.{MOST}
 use Rattle.chare_index.specs.declared.limits.TheConstants.Limits.{PES}
+use Rattle.lb_replay.specs.declared.request.Clash.{Clash}
+use Rattle.lb_replay.specs.declared.request.Clash.TheVariants.{ProcsAndCheck, ToleranceAndCheck}
 
 -- the dump, which has to be named
 abbrev pub file_rule : Rule
@@ -23,6 +26,15 @@ procs_rule = record (new_rule (codes "procs")) {
   parser = Some (Signed (pos 1) (pos PES));
 }
 
+-- a tolerance, in thousandths
+abbrev pub tolerance_rule : Rule
+tolerance_rule = record (new_rule (codes "tolerance")) {
+  long = Some (codes "tolerance");
+  action = Some Set;
+  value_names = 1;
+  parser = Some (Signed (pos 0) (pos MOST));
+}
+
 -- a flag, which takes no word: the decision that the dump has is to be checked
 abbrev pub check_rule : Rule
 check_rule = record (new_rule (codes "check")) { long = Some (codes "check"); action = Some SetTrue }
@@ -33,7 +45,8 @@ versioned = let plain = new_app (codes "lb_sim") in record plain { top = record 
 
 -- the program with its words, to which clap adds those that ask for help and for the version
 abbrev pub program : App
-program = with_rule (with_rule (with_rule versioned file_rule) procs_rule) check_rule
+program =
+    with_rule (with_rule (with_rule (with_rule versioned file_rule) procs_rule) tolerance_rule) check_rule
 
 -- the word that names the file
 abbrev pub file_in : List Text → Option Text
@@ -43,15 +56,25 @@ file_in words = first_of (codes "file") (matches_of program words)
 abbrev pub procs_in : List Text → Option Text
 procs_in words = one_of (codes "procs") (matches_of program words)
 
+-- the word that says what the tolerance is
+abbrev pub tolerance_in : List Text → Option Text
+tolerance_in words = one_of (codes "tolerance") (matches_of program words)
+
 -- the word spells a number of PEs that there may be
 abbrev pub Spells : Option Text → ℕ → Type 0
 Spells None n = ⊥
 Spells (Some word) n = IsNumeral 10 (without_leading_plus word) × (n ≡ digits_value 10 (without_leading_plus word)) × (1 ≤ n) × (n ≤ PES)
 
+-- the word spells a tolerance
+abbrev pub SpellsTolerance : Option Text → ℕ → Type 0
+SpellsTolerance None n = ⊥
+SpellsTolerance (Some word) n = IsNumeral 10 (without_leading_plus word) × (n ≡ digits_value 10 (without_leading_plus word)) × (n ≤ MOST)
+
 -- the words have the flag, which clap reads as the text `true`, and a flag that is not there as `false`
 abbrev pub AsksCheck : List Text → Type 0
 AsksCheck words = one_of (codes "check") (matches_of program words) ≡ Some (codes "true")
 
--- the line where a check and a number of PEs are asked for
-abbrev pub both_line : List ℕ
-both_line = codes "lb_sim: --procs and --check" ++ 10 ∷ []
+-- the line where a check is asked for, and a number of PEs or a tolerance too
+abbrev pub both_line : Clash → List ℕ
+both_line ProcsAndCheck = codes "lb_sim: --procs and --check" ++ 10 ∷ []
+both_line ToleranceAndCheck = codes "lb_sim: --tolerance and --check" ++ 10 ∷ []

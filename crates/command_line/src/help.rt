@@ -22,6 +22,8 @@ lb_sim --check three-elements.lbd2 prints
 bottleneck B              the greatest load of a block, the least there can be
 fence S0 S1 ..            proves that: from each stop to the next, both
                           included, the elements weigh B or more
+limit L                   with --tolerance T the most that a block may weigh:
+                          B and T thousandths of it
 block b I..J load L pe P  the elements I to J - 1 go to PE P; - for no element
 moved M                   the bytes that move
 

@@ -5,16 +5,18 @@ ghost use Rattle.clap.specs.Values.{kind_of};
 ghost use Rattle.clap.specs.Walk.{texts};
 ghost use Rattle.clap.specs.Words.{FailsBy, app_of, fault_of, first_value, found_of, one_text, rule_of};
 ghost use Rattle.streams.specs.Writing.{WritesPrefix};
-ghost use Rattle.command_line.specs.CommandLine.{AsksCheck, Spells, both_line, check_rule, file_in, file_rule, procs_in, procs_rule, program};
+ghost use Rattle.command_line.specs.CommandLine.{AsksCheck, Spells, SpellsTolerance, both_line, check_rule, file_in, file_rule, procs_in, procs_rule};
+ghost use Rattle.command_line.specs.CommandLine.{program, tolerance_in, tolerance_rule};
 ghost use Rattle.command_line.specs.Internal.{NamesFile};
 ghost use Rattle.clap.specs.declared.builder.value_parser.ValueParser.TheVariants.{Signed};
 ghost use Rattle.clap.specs.declared.error.kind.ErrorKind.TheVariants.{DisplayHelp, DisplayVersion};
 
 use crate::help::{ABOUT, HOW_TO};
+use chain_refinement::Tolerance;
 use chare_index::Limits;
 use clap::builder::ValueParser;
 use clap::{Arg, ArgAction, ArgMatches, Command, Error, value_parser};
-use lb_replay::Asked;
+use lb_replay::{Asked, Clash};
 use std::alloc::{AllocError, Global};
 use std::io::Write;
 use streams::write_out;
@@ -22,8 +24,11 @@ use streams::write_out;
 /// The status where the words of the command line cannot be read, or are refused.
 pub const NO_WORDS: u8 = 2;
 
-/// What is told where a check and a number of PEs are asked for.
-const BOTH: &str = "lb_sim: --procs and --check\n";
+/// What is told where a check is asked for, and a number of PEs too.
+const PROCS_AND_CHECK: &str = "lb_sim: --procs and --check\n";
+
+/// What is told where a check is asked for, and a tolerance too.
+const TOLERANCE_AND_CHECK: &str = "lb_sim: --tolerance and --check\n";
 
 /// The status where the words ask for nothing to be done: 0 for help or the version, and else [`NO_WORDS`].
 pub fn words_status(error: &Error) -> u8
@@ -33,29 +38,42 @@ pub fn words_status(error: &Error) -> u8
     if error.use_stderr() { NO_WORDS } else { 0 }
 }
 
-/// Tells that a check and a number of PEs do not go together, and returns the status for that, [`NO_WORDS`].
-pub fn refuse_both<W: Write>(writer: &mut W) -> u8
-    ensures told { WritesPrefix (W.contents writer.old) (W.contents writer.new) both_line }
+/// Tells which two options do not go together, and returns the status for that, [`NO_WORDS`].
+pub fn refuse_both<W: Write>(writer: &mut W, clash: Clash) -> u8
+    ensures told { WritesPrefix (W.contents writer.old) (W.contents writer.new) (both_line clash) }
     ensures status { result ≡ NO_WORDS }
 {
-    let _told = write_out(writer, BOTH.as_bytes());
+    let _told = write_out(writer, line_of(clash).as_bytes());
     NO_WORDS
+}
+
+// The line that tells of two such options.
+fn line_of(clash: Clash) -> &'static str
+    ensures { result.now ≡ both_line clash }
+{
+    match clash {
+        Clash::ProcsAndCheck => PROCS_AND_CHECK,
+        Clash::ToleranceAndCheck => TOLERANCE_AND_CHECK,
+    }
 }
 
 /// Reads the words of a command line, the program's name first.
 ///
 /// # Errors
 ///
-/// The words are not `[--procs P] [--check] FILE` with a P of 1 to 256 (`Limits::PES`), help or the version is asked for,
-/// or memory ran out. The error has the text to print; [`words_status`] is the status for it. Words that ask for a
-/// check and for a number of PEs too are no error here: [`Asked::task`] is `None` for them.
+/// The words are not `[--procs P] [--tolerance T] [--check] FILE` with a P of 1 to 256 (`Limits::PES`) and a T of 0 to 1,000
+/// (`Tolerance::MOST`), help or the version is asked for, or memory ran out. The error has the text to print; [`words_status`] is
+/// the status for it. Words that ask for a check and for a number of PEs or a tolerance too are no error here: [`Asked::task`]
+/// returns the [`Clash`].
 pub fn asked<'a>(alloc: Global, words: &'a [&'a str]) -> Result<Asked<'a>, Error>
     ensures faults { FailsBy (fault_of program (texts words.now)) result }
     ensures file { IfOk result (λ asked. file_in (texts words.now) ≡ Some asked.file.now) }
     ensures procs { IfOk result (λ asked. (n : ℕ) → (asked.procs ≡ Some n) ↔ Spells (procs_in (texts words.now)) n) }
+    ensures tolerance { IfOk result (λ asked. (n : ℕ) → (asked.tolerance ≡ Some n) ↔ SpellsTolerance (tolerance_in (texts words.now)) n) }
     ensures check { IfOk result (λ asked. IsTrue asked.check ↔ AsksCheck (texts words.now)) }
     ensures some_pe { IfOk result (λ asked. ForSome asked.procs (λ p. 1 ≤ p)) }
     ensures few_pes { IfOk result (λ asked. ForSome asked.procs (λ p. p ≤ Limits.PES)) }
+    ensures most { IfOk result (λ asked. ForSome asked.tolerance (λ t. t ≤ Tolerance.MOST)) }
 {
     match command(alloc)?.try_get_matches_from(words) {
         Ok(matches) => Ok(found(&matches)),
@@ -63,8 +81,8 @@ pub fn asked<'a>(alloc: Global, words: &'a [&'a str]) -> Result<Asked<'a>, Error
     }
 }
 
-// The words that are understood: `lb_sim [--procs P] [--check] FILE`, and those for help and for the version, which clap
-// adds.
+// The words that are understood: `lb_sim [--procs P] [--tolerance T] [--check] FILE`, and those for help and for the version,
+// which clap adds.
 fn command<'a>(alloc: Global) -> Result<Command<'a>, AllocError>
     ensures program { IfOk result (λ command. app_of command ≡ program) }
     ensures named { IfOk result NamesFile }
@@ -75,6 +93,7 @@ fn command<'a>(alloc: Global) -> Result<Command<'a>, AllocError>
         .after_help(HOW_TO);
     let command = command.arg(file(alloc))?;
     let command = command.arg(procs(alloc))?;
+    let command = command.arg(tolerance(alloc))?;
     command.arg(check(alloc))
 }
 
@@ -102,6 +121,21 @@ fn procs<'a>(alloc: Global) -> Arg<'a>
         .value_parser(number_of_pes())
 }
 
+fn tolerance<'a>(alloc: Global) -> Arg<'a>
+    ensures rule { rule_of result ≡ tolerance_rule }
+    ensures fits { FitsChain result }
+{
+    Arg::new(alloc, "tolerance")
+        .long("tolerance")
+        .value_name("T")
+        .help(
+            "Moves fewer bytes where no load is then above the least by{n}\
+             more than T thousandths. It does not go with --check",
+        )
+        .action(ArgAction::Set)
+        .value_parser(thousandths())
+}
+
 fn check<'a>(alloc: Global) -> Arg<'a>
     ensures rule { rule_of result ≡ check_rule }
     ensures fits { FitsChain result }
@@ -122,18 +156,28 @@ fn number_of_pes<'a>() -> ValueParser<'a>
     value_parser!(u32).range(1..=i64::from(Limits::PES))
 }
 
+// A tolerance.
+fn thousandths<'a>() -> ValueParser<'a>
+    ensures { result ≡ Signed (pos 0) (pos Tolerance.MOST) }
+{
+    value_parser!(u32).range(0..=i64::from(Tolerance::MOST))
+}
+
 // What the words ask for.
 fn found<'a>(matches: &ArgMatches<'a>) -> Asked<'a>
     requires named { is_some (first_value (found_of matches.now) (codes "file")) ≡ true }
     ensures file { first_value (found_of matches.now) (codes "file") ≡ Some result.file.now }
     ensures procs { (n : ℕ) → (result.procs ≡ Some n) ↔ Spells (one_text (found_of matches.now) (codes "procs")) n }
+    ensures tolerance { (n : ℕ) → (result.tolerance ≡ Some n) ↔ SpellsTolerance (one_text (found_of matches.now) (codes "tolerance")) n }
     ensures check { IsTrue result.check ↔ (one_text (found_of matches.now) (codes "check") ≡ Some (codes "true")) }
     ensures some_pe { ForSome result.procs (λ p. 1 ≤ p) }
     ensures few_pes { ForSome result.procs (λ p. p ≤ Limits.PES) }
+    ensures most { ForSome result.tolerance (λ t. t ≤ Tolerance.MOST) }
 {
     Asked {
         file: matches.get_str("file").unwrap(),
         procs: number_in(matches),
+        tolerance: thousandths_in(matches),
         check: matches.get_one("check") == Some(true),
     }
 }
@@ -146,4 +190,13 @@ fn number_in<'a>(matches: &ArgMatches<'a>) -> Option<u32>
 {
     let number = matches.get_one::<u32>("procs");
     number.filter(|&p| 1 <= p && p <= Limits::PES)
+}
+
+// The tolerance asked for. clap refuses one out of range; here it would count as none.
+fn thousandths_in<'a>(matches: &ArgMatches<'a>) -> Option<u32>
+    ensures tolerance { (n : ℕ) → (result ≡ Some n) ↔ SpellsTolerance (one_text (found_of matches.now) (codes "tolerance")) n }
+    ensures most { ForSome result (λ t. t ≤ Tolerance.MOST) }
+{
+    let number = matches.get_one::<u32>("tolerance");
+    number.filter(|&t| t <= Tolerance::MOST)
 }

@@ -1,2 +1,3 @@
 pub mod OneReports
 pub mod Plans
+pub mod ToldLines

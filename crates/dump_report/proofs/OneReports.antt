@@ -1,14 +1,23 @@
--- What is reported is one function of the bytes read, the name, the numbers of PEs and the style.
-use Rattle.std.proofs.Common.{◌≡◌, ℕ, List, [], ◌∷◌, ◌++◌, Option, None, Some, ap, sym, ◌∙◌, subst, inl, inr}
+-- What is reported is one function of the bytes read, the name, the numbers of PEs, the tolerance and the style.
+use Rattle.std.proofs.Common.{◌≡◌, ℕ, List, [], ◌∷◌, ◌++◌, length, Option, None, Some, ap, sym, ◌∙◌, subst, inl, inr}
+use Rattle.std.specs.Prelude.{if◌then◌else◌}
+use Rattle.chain_partition.proofs.ChosenOnce.{only_from_chosen}
 use Rattle.dump_format.specs.Dumps.{Dumped}
 use Rattle.dump_format.specs.declared.recorded.Recorded.{Recorded}
 use Rattle.dump_format.proofs.OneText.{one_dump}
+use Rattle.lb_certificates.specs.declared.division.Division.{Division}
+use Rattle.lb_refinement.specs.Refined.{AreSame, refined_cuts, refined_least, refined_moves, refined_names}
+use Rattle.lb_refinement.specs.declared.refined.Refined.{Refined}
+use Rattle.lb_refinement.proofs.OneRefined.{one_refined}
+use Rattle.lb_replay.proofs.RefinedTexts.{chosen_from_refined}
 use Rattle.lb_snapshot.specs.Measured.{Taken}
 use Rattle.lb_strategy.specs.declared.decision.Decision.{Decision}
 use Rattle.lb_strategy.proofs.OneDecisions.{IsSame, one_decision}
-use Rattle.load_report.specs.Text.{IsRecordedText, planned_text, present_text}
+use Rattle.load_report.specs.Figures.{change_by, planned_places}
+use Rattle.load_report.specs.Text.{IsRecordedText, changed_line, move_lines, planned_text, present_text, refined_text}
+use Rattle.load_report.specs.declared.cell.Cell.TheVariants.{Within}
 use Rattle.load_report.specs.declared.style.Style.{Style}
-use Rattle.dump_report.specs.Reports.{ArePlans, IsPast, IsPlan, IsReport, IsSaid, numbers_of}
+use Rattle.dump_report.specs.Reports.{ArePlans, IsBeside, IsDecided, IsPast, IsPlan, IsReport, IsSaid, IsWithin, numbers_of}
 
 module _ (A : Type 0) (style : Style) (name : List ℕ) (s : Taken) where
   -- a decision with other parts, but those that no text depends on
@@ -38,10 +47,42 @@ module _ (A : Type 0) (style : Style) (name : List ℕ) (s : Taken) where
       let same : IsSame this.decision that.decision = one_decision s.loads s.sizes pes this.decision that.decision this.chosen that.chosen this.least that.least this.right that.right in
       this.printed ∙ same_text pes this.decision that.decision same ∙ sym that.printed
 
-  one_list : (procs : List ℕ) (text other : List ℕ) → ArePlans A style name s procs text → ArePlans A style name s procs other → text ≡ other
-  one_list [] text other this that = this ∙ sym that
-  one_list (p ∷ procs) text other this that =
-      this.4 ∙ ap (λ t. t ++ this.1) (one_plan p this.0 that.0 this.2 that.2) ∙ ap (λ t. that.0 ++ t) (one_list procs this.1 that.1 this.3 that.3) ∙ sym that.4
+  -- what is told of the parts of a decision within a tolerance
+  abbrev told_within : ℕ → ℕ → List ℕ → List ℕ → List (ℕ × ℕ × ℕ) → List ℕ
+  told_within pes least cuts names moves =
+      if style.moves then move_lines style.csv name s.sizes pes moves else changed_line Within style.csv name s pes (planned_places cuts names (length s.sizes)) (change_by s least cuts names)
+
+  -- decisions that have these in common have one text
+  same_within : (pes : ℕ) (d e : Refined A) → refined_least d ≡ refined_least e → AreSame d e → refined_text style name s pes d ≡ refined_text style name s pes e
+  same_within pes d e least same =
+      ap (λ (division : Division A). told_within pes division.bottleneck (refined_cuts d) (refined_names d) (refined_moves d)) least
+      ∙ ap (λ cuts. told_within pes (refined_least e).bottleneck cuts (refined_names d) (refined_moves d)) same.cuts
+      ∙ ap (λ names. told_within pes (refined_least e).bottleneck (refined_cuts e) names (refined_moves d)) same.names
+      ∙ ap (λ moves. told_within pes (refined_least e).bottleneck (refined_cuts e) (refined_names e) moves) same.moves
+
+  one_within : (pes tolerance : ℕ) (text other : List ℕ) → IsWithin A style name s pes tolerance text → IsWithin A style name s pes tolerance other → text ≡ other
+  one_within pes tolerance text other this that =
+      let chosen = chosen_from_refined s.loads s.sizes pes tolerance that.decision that.refined in
+      let also = chosen_from_refined s.loads s.sizes pes tolerance this.decision this.refined in
+      let least : refined_least this.decision ≡ refined_least that.decision = only_from_chosen s.loads pes (refined_least that.decision) chosen (refined_least this.decision) also in
+      let same : AreSame this.decision that.decision = one_refined s.loads s.sizes pes tolerance this.decision that.decision this.refined that.refined in
+      this.printed ∙ same_within pes this.decision that.decision least same ∙ sym that.printed
+
+  one_beside : (pes : ℕ) (text other : List ℕ) → IsBeside A style name s pes text → IsBeside A style name s pes other → text ≡ other
+  one_beside pes text other (inl (moves, this)) (inl (also, that)) = this ∙ sym that
+  one_beside pes text other (inl (moves, this)) (inr (figures, that)) = cc
+  one_beside pes text other (inr (figures, this)) (inl (moves, that)) = cc
+  one_beside pes text other (inr (figures, this)) (inr (also, that)) = one_plan pes text other this that
+
+  one_decided : (tolerance : Option ℕ) (pes : ℕ) (text other : List ℕ) → IsDecided A style name s tolerance pes text → IsDecided A style name s tolerance pes other → text ≡ other
+  one_decided None pes text other this that = one_plan pes text other this that
+  one_decided (Some tolerance) pes text other this that =
+      this.4 ∙ ap (λ t. t ++ this.1) (one_beside pes this.0 that.0 this.2 that.2) ∙ ap (λ t. that.0 ++ t) (one_within pes tolerance this.1 that.1 this.3 that.3) ∙ sym that.4
+
+  one_list : (tolerance : Option ℕ) (procs : List ℕ) (text other : List ℕ) → ArePlans A style name s tolerance procs text → ArePlans A style name s tolerance procs other → text ≡ other
+  one_list tolerance [] text other this that = this ∙ sym that
+  one_list tolerance (p ∷ procs) text other this that =
+      this.4 ∙ ap (λ t. t ++ this.1) (one_decided tolerance p this.0 that.0 this.2 that.2) ∙ ap (λ t. that.0 ++ t) (one_list tolerance procs this.1 that.1 this.3 that.3) ∙ sym that.4
 
   -- a recorded decision has one text
   one_recorded : (pes : ℕ) (d : Decision A) (text other : List ℕ) → IsRecordedText style name s pes d text → IsRecordedText style name s pes d other → text ≡ other
@@ -57,16 +98,16 @@ module _ (A : Type 0) (style : Style) (name : List ℕ) (s : Taken) where
   one_past None text other this that = this ∙ sym that
   one_past (Some r) text other this that = one_recorded r.target r.decision text other this that
 
-one_said : {A : Type 0} (style : Style) (name procs : List ℕ) (d : Dumped A) (text other : List ℕ) → IsSaid style name procs d text → IsSaid style name procs d other → text ≡ other
-one_said {A} style name procs d text other this that =
+one_said : {A : Type 0} (style : Style) (name procs : List ℕ) (tolerance : Option ℕ) (d : Dumped A) (text other : List ℕ) → IsSaid style name procs tolerance d text → IsSaid style name procs tolerance d other → text ≡ other
+one_said {A} style name procs tolerance d text other this that =
     let past : this.past ≡ that.past = one_past A style name d.snapshot d.recorded this.past that.past this.recorded that.recorded in
-    let plans : this.plans ≡ that.plans = one_list A style name d.snapshot (numbers_of procs d.snapshot.procs) this.plans that.plans this.planned that.planned in
+    let plans : this.plans ≡ that.plans = one_list A style name d.snapshot tolerance (numbers_of procs d.snapshot.procs) this.plans that.plans this.planned that.planned in
     this.printed
     ∙ ap (λ t. present_text style name d.snapshot ++ (t ++ this.plans)) past
     ∙ ap (λ t. present_text style name d.snapshot ++ (that.past ++ t)) plans
     ∙ sym that.printed
 
-pub one_report : (A : Type 0) (style : Style) (name procs bytes text other : List ℕ) → IsReport A (Some bytes) style name procs text → IsReport A (Some bytes) style name procs other → text ≡ other
-one_report A style name procs bytes text other this that =
+pub one_report : (A : Type 0) (style : Style) (name procs : List ℕ) (tolerance : Option ℕ) (bytes text other : List ℕ) → IsReport A (Some bytes) style name procs tolerance text → IsReport A (Some bytes) style name procs tolerance other → text ≡ other
+one_report A style name procs tolerance bytes text other this that =
     let same : that.dump ≡ this.dump = one_dump that.dump this.dump bytes that.read this.read in
-    one_said style name procs this.dump text other this.said (subst (λ (d : Dumped A). IsSaid style name procs d other) same that.said)
+    one_said style name procs tolerance this.dump text other this.said (subst (λ (d : Dumped A). IsSaid style name procs tolerance d other) same that.said)

@@ -1,16 +1,18 @@
 //! What is said of a dump. It is made whole before any of it goes out.
 
 ghost use Rattle.std.specs.Prelude.{◌≡◌, ◌≤◌, ◌++◌, All, List, ℕ, OnOk, IfOk, IfErr};
-ghost use Rattle.dump_report.specs.Reports.{ArePlans, IsNumber, IsPast, IsPlan, IsSaid, numbers_of};
+ghost use Rattle.dump_report.specs.Reports.{ArePlans, IsBeside, IsDecided, IsNumber, IsPast, IsPlan, IsSaid, IsWithin, numbers_of};
 ghost use Rattle.lb_replay.specs.declared.ended.Ended.TheVariants.{Plan};
 ghost use Rattle.lb_strategy.specs.declared.error.PlanError.TheVariants.{OutOfMemory};
 
+use chain_refinement::Tolerance;
 use chare_index::Limits;
 use lb_certificates::Snapshot;
 use lb_dump::Dump;
+use lb_refinement::refine;
 use lb_replay::Ended;
 use lb_strategy::{PlanError, plan};
-use load_report::{Style, push_planned, push_present, push_recorded};
+use load_report::{Style, push_planned, push_present, push_recorded, push_refined};
 use std::alloc::{AllocError, Allocator};
 
 /// The report on a dump.
@@ -23,13 +25,14 @@ pub(crate) fn dump_text<A: Allocator + Copy>(
     dump: &Dump<A>,
     name: &str,
     procs: &[u32],
+    tolerance: Option<Tolerance>,
     style: Style,
 ) -> Result<Vec<u8, A>, Ended>
     requires procs { All IsNumber procs.now }
-    ensures text { IfOk result (λ text. IsSaid style name.now procs.now dump.now text.items) }
+    ensures text { IfOk result (λ text. IsSaid style name.now procs.now tolerance dump.now text.items) }
     ensures fault { IfErr result (λ fault. fault ≡ Plan OutOfMemory) }
 {
-    match said_of(alloc, dump, name, procs, style) {
+    match said_of(alloc, dump, name, procs, tolerance, style) {
         Ok(text) => Ok(text),
         Err(fault) => Err(Ended::Plan(fault)),
     }
@@ -41,17 +44,18 @@ fn said_of<A: Allocator + Copy>(
     dump: &Dump<A>,
     name: &str,
     procs: &[u32],
+    tolerance: Option<Tolerance>,
     style: Style,
 ) -> Result<Vec<u8, A>, PlanError>
     requires { All IsNumber procs.now }
-    ensures text { IfOk result (λ text. IsSaid style name.now procs.now dump.now text.items) }
+    ensures text { IfOk result (λ text. IsSaid style name.now procs.now tolerance dump.now text.items) }
     ensures fault { IfErr result (λ fault. fault ≡ OutOfMemory) }
 {
     let snapshot = dump.snapshot();
     let mut text = Vec::new(alloc);
     push_present(&mut text, style, name, snapshot)?;
     push_past(&mut text, dump, name, style)?;
-    push_numbers(&mut text, snapshot, name, procs, style)?;
+    push_numbers(&mut text, snapshot, name, procs, tolerance, style)?;
     Ok(text)
 }
 
@@ -77,44 +81,106 @@ fn push_past<A: Allocator + Copy, B: Allocator>(
     )
 }
 
-// What is said of the decisions for these numbers of PEs, or for that of the snapshot where none is given.
+// What is said for these numbers of PEs, or for that of the snapshot where none is given.
 fn push_numbers<A: Allocator + Copy, B: Allocator>(
     text: &mut Vec<u8, A>,
     snapshot: &Snapshot<B>,
     name: &str,
     procs: &[u32],
+    tolerance: Option<Tolerance>,
     style: Style,
 ) -> Result<(), PlanError>
     requires { All IsNumber procs.now }
-    ensures plans { OnOk result ((plans : List ℕ) × ArePlans A style name.now snapshot.now (numbers_of procs.now snapshot.now.procs) plans
+    ensures plans { OnOk result ((plans : List ℕ) × ArePlans A style name.now snapshot.now tolerance (numbers_of procs.now snapshot.now.procs) plans
         × (text.new.items ≡ text.old.items ++ plans)) }
     ensures fault { IfErr result (λ fault. fault ≡ OutOfMemory) }
 {
     if procs.is_empty() {
-        return push_plans(text, snapshot, name, &[snapshot.procs()], style);
+        let own = [snapshot.procs()];
+        return push_plans(text, snapshot, name, &own, tolerance, style);
     }
-    push_plans(text, snapshot, name, procs, style)
+    push_plans(text, snapshot, name, procs, tolerance, style)
 }
 
-// What is said of the decision for each of these numbers of PEs.
+// What is said for each of these numbers of PEs.
 fn push_plans<A: Allocator + Copy, B: Allocator>(
     text: &mut Vec<u8, A>,
     snapshot: &Snapshot<B>,
     name: &str,
     procs: &[u32],
+    tolerance: Option<Tolerance>,
     style: Style,
 ) -> Result<(), PlanError>
     requires { All IsNumber procs.now }
-    ensures plans { OnOk result ((plans : List ℕ) × ArePlans A style name.now snapshot.now procs.now plans × (text.new.items ≡ text.old.items ++ plans)) }
+    ensures plans { OnOk result ((plans : List ℕ) × ArePlans A style name.now snapshot.now tolerance procs.now plans × (text.new.items ≡ text.old.items ++ plans)) }
     ensures fault { IfErr result (λ fault. fault ≡ OutOfMemory) }
 {
     for &pes in procs {
-        push_plan(text, snapshot, name, pes, style)?;
+        push_decided(text, snapshot, name, pes, tolerance, style)?;
     }
     Ok(())
 }
 
-// What is said of the decision for so many PEs.
+// What is said for so many PEs.
+fn push_decided<A: Allocator + Copy, B: Allocator>(
+    text: &mut Vec<u8, A>,
+    snapshot: &Snapshot<B>,
+    name: &str,
+    pes: u32,
+    tolerance: Option<Tolerance>,
+    style: Style,
+) -> Result<(), PlanError>
+    requires some_pe { 1 ≤ pes }
+    requires few_pes { pes ≤ Limits.PES }
+    ensures decided { OnOk result ((said : List ℕ) × IsDecided A style name.now snapshot.now tolerance pes said × (text.new.items ≡ text.old.items ++ said)) }
+    ensures fault { IfErr result (λ fault. fault ≡ OutOfMemory) }
+{
+    let Some(tolerance) = tolerance else {
+        return push_plan(text, snapshot, name, pes, style);
+    };
+    push_beside(text, snapshot, name, pes, style)?;
+    push_within(text, snapshot, name, pes, tolerance, style)
+}
+
+// What is said of the plan beside a decision within a tolerance.
+fn push_beside<A: Allocator + Copy, B: Allocator>(
+    text: &mut Vec<u8, A>,
+    snapshot: &Snapshot<B>,
+    name: &str,
+    pes: u32,
+    style: Style,
+) -> Result<(), PlanError>
+    requires some_pe { 1 ≤ pes }
+    requires few_pes { pes ≤ Limits.PES }
+    ensures beside { OnOk result ((said : List ℕ) × IsBeside A style name.now snapshot.now pes said × (text.new.items ≡ text.old.items ++ said)) }
+    ensures fault { IfErr result (λ fault. fault ≡ OutOfMemory) }
+{
+    if style.moves {
+        return Ok(());
+    }
+    push_plan(text, snapshot, name, pes, style)
+}
+
+// What is said of the decision within a tolerance.
+fn push_within<A: Allocator + Copy, B: Allocator>(
+    text: &mut Vec<u8, A>,
+    snapshot: &Snapshot<B>,
+    name: &str,
+    pes: u32,
+    tolerance: Tolerance,
+    style: Style,
+) -> Result<(), PlanError>
+    requires some_pe { 1 ≤ pes }
+    requires few_pes { pes ≤ Limits.PES }
+    ensures within { OnOk result ((said : List ℕ) × IsWithin A style name.now snapshot.now pes tolerance said × (text.new.items ≡ text.old.items ++ said)) }
+    ensures fault { IfErr result (λ fault. fault ≡ OutOfMemory) }
+{
+    let decision = refine(*text.allocator(), snapshot, pes, tolerance)?;
+    push_refined(text, style, name, snapshot, pes, &decision)?;
+    Ok(())
+}
+
+// What is said of the plan for so many PEs.
 fn push_plan<A: Allocator + Copy, B: Allocator>(
     text: &mut Vec<u8, A>,
     snapshot: &Snapshot<B>,

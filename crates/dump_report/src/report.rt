@@ -4,6 +4,7 @@ ghost use Rattle.dump_format.specs.declared.error.DumpError.TheVariants.{Read};
 ghost use Rattle.lb_replay.specs.declared.ended.Ended.TheVariants.{Dump};
 
 use crate::dump_text::dump_text;
+use chain_refinement::Tolerance;
 use lb_dump::{DumpError, read_from};
 use lb_replay::Ended;
 use load_report::Style;
@@ -12,24 +13,26 @@ use std::io::{self, Read, Write};
 use streams::{Noted, write_out};
 
 /// Reports on a dump: reads it, plans its balancing step for each of these numbers of PEs (each 1 to 256), or for as many
-/// as the dump has where none is given, and writes the report, with this name in it. Nothing is written where there is a
+/// as the dump has where none is given, and writes the report, with this name in it. Where there is a tolerance, the decision
+/// within it is reported beside each plan, or its moves in place of those of the plan. Nothing is written where there is a
 /// fault: it is returned. A decision that the dump records is reported too, where it is right, or as flawed.
 ///
-/// What is written is one function of the bytes read, the name, the numbers and the style: the clause `one_text`.
+/// What is written is one function of the bytes read, the name, the numbers, the tolerance and the style: the clause `one_text`.
 pub fn report_dump<A: Allocator + Copy, R: Read, W: Write>(
     alloc: A,
     reader: &mut R,
     writer: &mut W,
     name: &str,
     procs: &[u32],
+    tolerance: Option<Tolerance>,
     style: Style,
 ) -> Ended
     requires procs { All IsNumber procs.now }
-    ensures ends { EndsReport A (R.remaining reader.old) (R.remaining reader.new) style name.now procs.now (W.contents writer.old) (W.contents writer.new) result }
-    ensures one_text { (bytes text other : List ℕ) → IsReport A (Some bytes) style name.now procs.now text
-        → IsReport A (Some bytes) style name.now procs.now other → text ≡ other }
+    ensures ends { EndsReport A (R.remaining reader.old) (R.remaining reader.new) style name.now procs.now tolerance (W.contents writer.old) (W.contents writer.new) result }
+    ensures one_text { (bytes text other : List ℕ) → IsReport A (Some bytes) style name.now procs.now tolerance text
+        → IsReport A (Some bytes) style name.now procs.now tolerance other → text ≡ other }
 {
-    match report_text(alloc, reader, name, procs, style) {
+    match report_text(alloc, reader, name, procs, tolerance, style) {
         Ok(text) if write_out(writer, &text) => Ended::Printed,
         Ok(_) => Ended::WriteFailed,
         Err(fault) => fault,
@@ -44,18 +47,19 @@ pub fn report_file<A: Allocator + Copy, R: Read + Drop, W: Write>(
     writer: &mut W,
     name: &str,
     procs: &[u32],
+    tolerance: Option<Tolerance>,
     style: Style,
 ) -> (Ended, Option<io::Error>)
     requires procs { All IsNumber procs.now }
     ensures opened { IfOk file (λ file. (rest : Option (List ℕ))
-        × EndsReport A (R.remaining file) rest style name.now procs.now (W.contents writer.old) (W.contents writer.new) result.0) }
+        × EndsReport A (R.remaining file) rest style name.now procs.now tolerance (W.contents writer.old) (W.contents writer.new) result.0) }
     ensures unopened { IfErr file (λ _. (result.0 ≡ Dump Read) × (W.contents writer.new ≡ W.contents writer.old)) }
     ensures reason { IfErr file (λ reason. result.1 ≡ Some reason) }
 {
     match file {
         Ok(reader) => {
             let mut noted = Noted::new(reader);
-            let ended = report_dump(alloc, &mut noted, writer, name, procs, style);
+            let ended = report_dump(alloc, &mut noted, writer, name, procs, tolerance, style);
             (ended, noted.failure())
         }
         Err(reason) => (Ended::Dump(DumpError::Read), Some(reason)),
@@ -68,15 +72,16 @@ fn report_text<A: Allocator + Copy, R: Read>(
     reader: &mut R,
     name: &str,
     procs: &[u32],
+    tolerance: Option<Tolerance>,
     style: Style,
 ) -> Result<Vec<u8, A>, Ended>
     requires { All IsNumber procs.now }
-    ensures text { IfOk result (λ text. IsReport A (R.remaining reader.old) style name.now procs.now text.items) }
+    ensures text { IfOk result (λ text. IsReport A (R.remaining reader.old) style name.now procs.now tolerance text.items) }
     ensures fault { IfErr result (IsFoundFault A (R.remaining reader.old) (R.remaining reader.new)) }
 {
     match read_from(alloc, reader) {
         Ok(dump) => {
-            let text = dump_text(alloc, &dump, name, procs, style);
+            let text = dump_text(alloc, &dump, name, procs, tolerance, style);
             drop(dump);
             text
         }

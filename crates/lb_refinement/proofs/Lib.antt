@@ -1,5 +1,5 @@
 mod Blocks
 mod GreatestLoads
 mod KeptWhole
-mod OneRefined
-mod RefinedCases
+pub mod OneRefined
+pub mod RefinedCases

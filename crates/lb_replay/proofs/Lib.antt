@@ -4,4 +4,5 @@ pub mod OneEnds
 pub mod OneFlaws
 pub mod OneTexts
 pub mod PeLines
+pub mod RefinedTexts
 pub mod RightTexts

@@ -8,8 +8,11 @@ use Rattle.dump_format.specs.declared.error.DumpError.TheVariants.{Magic, Short,
 use Rattle.lb_strategy.specs.declared.error.PlanError.{PlanError}
 use Rattle.lb_replay.specs.declared.fault.Fault.{Fault}
 use Rattle.lb_replay.specs.declared.fault.Fault.TheVariants.{Dump, Plan, Flawed, NoDecision}
+use Rattle.chain_refinement.specs.Tolerances.{limit_of}
 use Rattle.lb_certificates.specs.Chain.{block_load}
 use Rattle.lb_snapshot.specs.Measured.{Taken}
+use Rattle.lb_refinement.specs.Refined.{refined_cuts, refined_least, refined_moved, refined_names}
+use Rattle.lb_refinement.specs.declared.refined.Refined.{Refined}
 use Rattle.lb_strategy.specs.declared.decision.Decision.{Decision}
 use Rattle.lb_certificates.specs.declared.division.Floor.{Floor}
 use Rattle.lb_certificates.specs.declared.division.Floor.TheVariants.{Zero, Fence}
@@ -36,6 +39,10 @@ blank_number n = codes " " ++ decimal n
 abbrev pub floor_line : {A : Type 0} → Floor A → List ℕ
 floor_line Zero = codes "fence zero" ++ newline
 floor_line (Fence stops) = codes "fence" ++ flat_map blank_number stops ++ newline
+
+-- limit L
+abbrev pub limit_line : ℕ → List ℕ
+limit_line limit = codes "limit " ++ decimal limit ++ newline
 
 -- the PE of a block, or - where the block has no element
 abbrev pub pe_line : ℕ → ℕ → ℕ → List ℕ
@@ -67,6 +74,12 @@ moved_line moved = codes "moved " ++ decimal moved ++ newline
 abbrev pub decision_text : {A : Type 0} → Taken → ℕ → Decision A → List ℕ
 decision_text s pes d =
     head_line s.step pes (length s.loads) ++ bottleneck_line d.division.bottleneck ++ floor_line d.division.floor ++ block_lines s.loads d.division.cuts d.naming pes ++ moved_line d.moved
+
+-- The whole text of a decision within a tolerance on a snapshot, for so many PEs: the bottleneck and the floor are those of the
+-- least division, and the blocks and the bytes that move those of the decision.
+abbrev pub refined_text : {A : Type 0} → Taken → ℕ → ℕ → Refined A → List ℕ
+refined_text s pes tolerance r =
+    head_line s.step pes (length s.loads) ++ bottleneck_line (refined_least r).bottleneck ++ floor_line (refined_least r).floor ++ limit_line (limit_of (refined_least r).bottleneck tolerance) ++ block_lines s.loads (refined_cuts r) (refined_names r) pes ++ moved_line (refined_moved r)
 
 -- the one line for out of memory
 abbrev pub memory_line : List ℕ

@@ -1,10 +1,11 @@
 //! Replays a dump of the load database offline: from the bytes of a reader, the text of the least division of its
-//! elements into consecutive blocks, with the fence that proves it, the PE of each block and the bytes that move.
+//! elements into consecutive blocks, with the fence that proves it, the PE of each block and the bytes that move; or of the
+//! decision within a tolerance of that.
 //!
 //! - [`simulate`]: the replay, from the bytes of a reader to the bytes of a writer; [`replay_file`]: that of a file.
 //! - [`verify`]: the check of the decision that was recorded in a dump; [`verify_file`]: that of a file.
 //! - [`Ended`]: how a replay or a check ended, and the status for it.
-//! - [`run`]: what a program does, by the [`Task`] that it was [`Asked`] for.
+//! - [`run`]: what a program does, by the [`Task`] that it was [`Asked`] for, if that has no [`Clash`].
 //!
 //! ```
 //! use lb_replay::{Ended, simulate, verify};
@@ -12,7 +13,7 @@
 //! // No elements on three PEs, at step 7, replayed for one PE.
 //! let mut dump = b"LBD1\0\0\0\x07\0\0\0\x03\0\0\0\0".as_slice();
 //! let mut text = Vec::new(alloc);
-//! assert!(simulate(alloc, &mut dump, &mut text, Some(1)) == Ended::Printed);
+//! assert!(simulate(alloc, &mut dump, &mut text, Some(1), None) == Ended::Printed);
 //! assert!(text.starts_with(b"step 7 procs 1 elements 0\n"));
 //!
 //! let mut line = Vec::new(alloc);
@@ -30,6 +31,6 @@ mod text;
 mod verifying;
 
 pub use ended::Ended;
-pub use request::{Asked, Task, run};
+pub use request::{Asked, Clash, Task, run};
 pub use simulation::{replay_file, simulate};
 pub use verifying::{verify, verify_file};

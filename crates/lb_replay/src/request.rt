@@ -8,6 +8,7 @@ ghost use Rattle.lb_replay.specs.declared.ended.Ended.{Ended};
 use crate::ended::Ended;
 use crate::simulation::replay_file;
 use crate::verifying::verify_file;
+use chain_refinement::Tolerance;
 use chare_index::Limits;
 use std::alloc::Allocator;
 use std::io::{self, Read, Write};
@@ -19,6 +20,9 @@ pub struct Asked<'a> {
     pub file: &'a str,
     /// The number of blocks, 1 to 256 (`Limits::PES`), where one is asked for.
     pub procs: Option<u32>,
+    /// How far the greatest load may lie above the least possible one, in thousandths of it, 0 to 1,000 (`Tolerance::MOST`),
+    /// where that is said.
+    pub tolerance: Option<u32>,
     /// Whether the recorded decision is to be checked.
     pub check: bool,
 }
@@ -28,25 +32,43 @@ pub struct Asked<'a> {
 pub enum Task {
     /// It is replayed, for this number of PEs, 1 to 256 (`Limits::PES`), or as many as it has.
     Replay(Option<u32>),
+    /// The same, within this tolerance, in thousandths, 0 to 1,000 (`Tolerance::MOST`).
+    Refine(Option<u32>, u32),
     /// Its decision is checked.
     Check,
 }
 
+/// Two options that do not go together.
+#[derive(Clone, Copy, Debug, PartialEq, Eq)]
+pub enum Clash {
+    /// A number of PEs, and a check, which is for the decision's own.
+    ProcsAndCheck,
+    /// A tolerance, and a check, which decides nothing.
+    ToleranceAndCheck,
+}
+
 impl Asked<'_> {
-    /// What is to be done, or `None` where a check is asked for and a number of PEs too.
-    pub fn task(self) -> Option<Task>
-        ensures value { result ≡ task_of self.entry.procs self.entry.check }
-        ensures may_run { ForSome self.entry.procs (λ p. 1 ≤ p) → ForSome self.entry.procs (λ p. p ≤ Limits.PES) → IfSome result MayRun }
+    /// What is to be done.
+    ///
+    /// # Errors
+    ///
+    /// A check is asked for, and a number of PEs too; or a check and a tolerance.
+    pub fn task(self) -> Result<Task, Clash>
+        ensures value { result ≡ task_of self.entry.procs self.entry.tolerance self.entry.check }
+        ensures may_run { ForSome self.entry.procs (λ p. 1 ≤ p) → ForSome self.entry.procs (λ p. p ≤ Limits.PES)
+            → ForSome self.entry.tolerance (λ t. t ≤ Tolerance.MOST) → IfOk result MayRun }
     {
-        match (self.check, self.procs) {
-            (false, procs) => Some(Task::Replay(procs)),
-            (true, None) => Some(Task::Check),
-            (true, Some(_)) => None,
+        match (self.check, (self.procs, self.tolerance)) {
+            (false, (procs, None)) => Ok(Task::Replay(procs)),
+            (false, (procs, Some(thousandths))) => Ok(Task::Refine(procs, thousandths)),
+            (true, (None, None)) => Ok(Task::Check),
+            (true, (None, Some(_))) => Err(Clash::ToleranceAndCheck),
+            (true, (Some(_), _)) => Err(Clash::ProcsAndCheck),
         }
     }
 }
 
-/// Replays the dump in a file, or checks its decision, as [`replay_file`] and [`verify_file`] do, and returns the status
+/// Replays the dump in a file, within a tolerance or not, or checks its decision, as [`replay_file`] and [`verify_file`] do, and returns the status
 /// of the end, with the system's reason where a read failed.
 pub fn run<A: Allocator + Copy, R: Read + Drop, W: Write>(
     alloc: A,
@@ -77,7 +99,18 @@ fn done<A: Allocator + Copy, R: Read + Drop, W: Write>(
     ensures reason { IfErr file (λ reason. result.1 ≡ Some reason) }
 {
     match task {
-        Task::Replay(procs) => replay_file(alloc, file, writer, procs),
+        Task::Replay(procs) => replay_file(alloc, file, writer, procs, None),
+        Task::Refine(procs, thousandths) => {
+            replay_file(alloc, file, writer, procs, tolerance_of(thousandths))
+        }
         Task::Check => verify_file(alloc, file, writer),
     }
+}
+
+// The tolerance of so many thousandths.
+fn tolerance_of(thousandths: u32) -> Option<Tolerance>
+    requires { thousandths ≤ Tolerance.MOST }
+    ensures { result ≡ Some thousandths }
+{
+    Tolerance::new(thousandths)
 }

@@ -5,38 +5,43 @@ ghost use Rattle.lb_strategy.specs.declared.error.PlanError.TheVariants.{OutOfMe
 ghost use Rattle.lb_replay.specs.Text.{fault_line};
 ghost use Rattle.lb_replay.specs.declared.fault.Fault.TheVariants.{Plan};
 ghost use Rattle.lb_replay.specs.Internal.{without_memory};
-ghost use Rattle.lb_replay.specs.Simulation.{EndsReplay, IsPlanned, IsReplay, IsReplayFault, ReportsFault, ReportsUnread};
+ghost use Rattle.lb_replay.specs.Simulation.{EndsReplay, IsDecided, IsPlanned, IsReplay, IsReplayFault, IsWithin, ReportsFault, ReportsUnread};
 
 use crate::ended::Ended;
 use crate::fault::{Fault, NO_MEMORY, fault_line};
-use crate::text::decision_text;
+use crate::text::{decision_text, refined_text};
+use chain_refinement::Tolerance;
 use chare_index::Limits;
 use lb_certificates::Snapshot;
 use lb_dump::{DumpError, read_from};
-use lb_strategy::plan;
+use lb_refinement::refine;
+use lb_strategy::{PlanError, plan};
 use std::alloc::Allocator;
 use std::io::{self, Read, Write};
 use streams::{Noted, write_out};
 
-/// Replays a dump offline: reads it, plans its balancing step for `procs` PEs (1 to 256), or as many as the
-/// dump has, and writes the text of the decision, or the one line of a fault, and nothing else. A decision that the dump
-/// has is read, and ignored.
+/// Replays a dump offline: reads it, decides its balancing step for `procs` PEs (1 to 256), or as many as the
+/// dump has, and writes the text of the decision, or the one line of a fault, and nothing else. It is the least decision, that
+/// of [`plan`], or, where there is a tolerance, the one within it, that of [`refine`]. A decision that the dump has is read, and
+/// ignored.
 ///
 /// Out of memory is a fault of the dump while that is read, and then one of the plan. The line is the same.
 ///
-/// What is printed is one function of the bytes read and the number of PEs: the clause `one_text`.
+/// What is printed is one function of the bytes read, the number of PEs and the tolerance: the clause `one_text`.
 pub fn simulate<A: Allocator + Copy, R: Read, W: Write>(
     alloc: A,
     reader: &mut R,
     writer: &mut W,
     procs: Option<u32>,
+    tolerance: Option<Tolerance>,
 ) -> Ended
     requires some_pe { ForSome procs (λ p. 1 ≤ p) }
     requires few_pes { ForSome procs (λ p. p ≤ Limits.PES) }
-    ensures ends { EndsReplay A (R.remaining reader.old) (R.remaining reader.new) procs (W.contents writer.old) (W.contents writer.new) result }
-    ensures one_text { (bytes text other : List ℕ) → IsReplay A (Some bytes) procs text → IsReplay A (Some bytes) procs other → text ≡ other }
+    ensures ends { EndsReplay A (R.remaining reader.old) (R.remaining reader.new) procs tolerance (W.contents writer.old) (W.contents writer.new) result }
+    ensures one_text { (bytes text other : List ℕ) → IsReplay A (Some bytes) procs tolerance text
+        → IsReplay A (Some bytes) procs tolerance other → text ≡ other }
 {
-    match replay(alloc, reader, procs) {
+    match replay(alloc, reader, procs, tolerance) {
         Ok(text) if write_out(writer, text.as_bytes()) => Ended::Printed,
         Ok(_) => Ended::WriteFailed,
         Err(fault) => report(alloc, writer, fault),
@@ -50,17 +55,18 @@ pub fn replay_file<A: Allocator + Copy, R: Read + Drop, W: Write>(
     file: io::Result<R>,
     writer: &mut W,
     procs: Option<u32>,
+    tolerance: Option<Tolerance>,
 ) -> (Ended, Option<io::Error>)
     requires some_pe { ForSome procs (λ p. 1 ≤ p) }
     requires few_pes { ForSome procs (λ p. p ≤ Limits.PES) }
-    ensures opened { IfOk file (λ file. (rest : Option (List ℕ)) × EndsReplay A (R.remaining file) rest procs (W.contents writer.old) (W.contents writer.new) result.0) }
+    ensures opened { IfOk file (λ file. (rest : Option (List ℕ)) × EndsReplay A (R.remaining file) rest procs tolerance (W.contents writer.old) (W.contents writer.new) result.0) }
     ensures unopened { IfErr file (λ _. ReportsUnread (W.contents writer.old) (W.contents writer.new) result.0) }
     ensures reason { IfErr file (λ reason. result.1 ≡ Some reason) }
 {
     match file {
         Ok(reader) => {
             let mut noted = Noted::new(reader);
-            let ended = simulate(alloc, &mut noted, writer, procs);
+            let ended = simulate(alloc, &mut noted, writer, procs, tolerance);
             (ended, noted.failure())
         }
         Err(reason) => {
@@ -75,21 +81,58 @@ fn replay<A: Allocator + Copy, R: Read>(
     alloc: A,
     reader: &mut R,
     procs: Option<u32>,
+    tolerance: Option<Tolerance>,
 ) -> Result<String<A>, Fault>
     requires some_pe { ForSome procs (λ p. 1 ≤ p) }
     requires few_pes { ForSome procs (λ p. p ≤ Limits.PES) }
-    ensures text { IfOk result (λ text. IsReplay A (R.remaining reader.old) procs (string_bytes text)) }
+    ensures text { IfOk result (λ text. IsReplay A (R.remaining reader.old) procs tolerance (string_bytes text)) }
     ensures fault { IfErr result (IsReplayFault A (R.remaining reader.old) (R.remaining reader.new)) }
 {
     match read_from(alloc, reader) {
         Ok(dump) => {
             let snapshot = dump.snapshot();
             let pes = procs.unwrap_or(snapshot.procs());
-            let text = planned_text(alloc, snapshot, pes);
+            let text = decided_text(alloc, snapshot, pes, tolerance);
             drop(dump);
             text
         }
         Err(fault) => Err(Fault::Dump(fault)),
+    }
+}
+
+// The text of the decision for a snapshot, or out of memory.
+fn decided_text<A: Allocator + Copy, B: Allocator>(
+    alloc: A,
+    snapshot: &Snapshot<B>,
+    pes: u32,
+    tolerance: Option<Tolerance>,
+) -> Result<String<A>, Fault>
+    requires some_pe { 1 ≤ pes }
+    requires few_pes { pes ≤ Limits.PES }
+    ensures text { IfOk result (λ text. IsDecided A snapshot.now pes tolerance (string_bytes text)) }
+    ensures fault { IfErr result (λ fault. fault ≡ Plan OutOfMemory) }
+{
+    match tolerance {
+        None => planned_text(alloc, snapshot, pes),
+        Some(tolerance) => text_within(alloc, snapshot, pes, tolerance),
+    }
+}
+
+// The text of the decision within a tolerance, or out of memory.
+fn text_within<A: Allocator + Copy, B: Allocator>(
+    alloc: A,
+    snapshot: &Snapshot<B>,
+    pes: u32,
+    tolerance: Tolerance,
+) -> Result<String<A>, Fault>
+    requires some_pe { 1 ≤ pes }
+    requires few_pes { pes ≤ Limits.PES }
+    ensures text { IfOk result (λ text. IsWithin A snapshot.now pes tolerance (string_bytes text)) }
+    ensures fault { IfErr result (λ fault. fault ≡ Plan OutOfMemory) }
+{
+    match refine(alloc, snapshot, pes, tolerance) {
+        Ok(decision) => refined_text(alloc, snapshot, pes, tolerance, &decision),
+        Err(_) => Err(Fault::Plan(PlanError::OutOfMemory)),
     }
 }
 

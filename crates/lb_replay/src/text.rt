@@ -1,16 +1,20 @@
-//! The printed text of a decision. All of it is made before any of it is written.
+//! The printed text of a decision, of the plan or within a tolerance. All of it is made before any of it is written.
 
 ghost use Rattle.std.specs.Prelude.{◌≡◌, ◌++◌, [], OnOk, IfOk, IfErr, length};
 ghost use Rattle.std.specs.List.{flat_map};
 ghost use Rattle.std.specs.String.{string_bytes};
 ghost use Rattle.lb_certificates.specs.Chain.{IsDivision};
+ghost use Rattle.lb_refinement.specs.Refined.{IsRefined};
 ghost use Rattle.lb_strategy.specs.Decisions.{IsRight};
 ghost use Rattle.lb_strategy.specs.declared.error.PlanError.TheVariants.{OutOfMemory};
 ghost use Rattle.lb_replay.specs.declared.fault.Fault.TheVariants.{Plan};
 ghost use Rattle.lb_replay.specs.Text.{head_line, bottleneck_line, floor_line, blank_number, block_start, block_line, block_lines, pe_line, moved_line, decision_text};
+ghost use Rattle.lb_replay.specs.Text.{limit_line, refined_text};
 
 use crate::fault::Fault;
+use chain_refinement::Tolerance;
 use lb_certificates::{Floor, Loads, Snapshot};
+use lb_refinement::Refined;
 use lb_strategy::{Decision, PlanError};
 use std::alloc::{AllocError, Allocator};
 
@@ -58,6 +62,53 @@ fn push_decision<A: Allocator, B: Allocator, C: Allocator>(
     push_moved(text, decision.moved)
 }
 
+/// The text of a decision for `pes` PEs on the snapshot within the tolerance: the bottleneck and the floor of the least division,
+/// the limit, a line for each block, and the bytes that move.
+///
+/// # Errors
+///
+/// Out of memory, as a fault of the plan.
+pub(crate) fn refined_text<A: Allocator, B: Allocator, C: Allocator>(
+    alloc: A,
+    snapshot: &Snapshot<B>,
+    pes: u32,
+    tolerance: Tolerance,
+    decision: &Refined<C>,
+) -> Result<String<A>, Fault>
+    requires { IsRefined snapshot.now.loads snapshot.now.sizes pes tolerance decision.now }
+    ensures text { IfOk result (λ text. string_bytes text ≡ refined_text snapshot.now pes tolerance decision.now) }
+    ensures fault { IfErr result (λ fault. fault ≡ Plan OutOfMemory) }
+{
+    let mut text = String::new(alloc);
+    match push_refined(&mut text, snapshot, pes, tolerance, decision) {
+        Ok(()) => Ok(text),
+        Err(_) => Err(Fault::Plan(PlanError::OutOfMemory)),
+    }
+}
+
+// Writes the text of a decision within a tolerance to an empty string.
+#[tactic(auto, using(crate::proofs::RefinedTexts::divides_from_refined, crate::proofs::RefinedTexts::named_from_refined))]
+fn push_refined<A: Allocator, B: Allocator, C: Allocator>(
+    text: &mut String<A>,
+    snapshot: &Snapshot<B>,
+    pes: u32,
+    tolerance: Tolerance,
+    decision: &Refined<C>,
+) -> Result<(), AllocError>
+    requires empty { string_bytes text.old ≡ [] }
+    requires refined { IsRefined snapshot.now.loads snapshot.now.sizes pes tolerance decision.now }
+    ensures text { OnOk result (string_bytes text.new ≡ refined_text snapshot.now pes tolerance decision.now) }
+{
+    let loads = snapshot.loads();
+    let least = decision.least();
+    push_head(text, snapshot.step(), pes, loads.as_slice().len())?;
+    push_bottleneck(text, least.bottleneck)?;
+    push_floor(text, &least.floor)?;
+    push_limit(text, tolerance.limit(least.bottleneck))?;
+    push_blocks(text, loads, decision.cuts(), decision.names())?;
+    push_moved(text, decision.moved())
+}
+
 fn push_head<A: Allocator>(
     text: &mut String<A>,
     step: u32,
@@ -87,6 +138,12 @@ fn push_floor<A: Allocator, B: Allocator>(
     text.push_str("fence")?;
     push_numbers(text, stops.as_slice())?;
     text.push_str("\n")
+}
+
+fn push_limit<A: Allocator>(text: &mut String<A>, limit: u64) -> Result<(), AllocError>
+    ensures { OnOk result (string_bytes text.new ≡ string_bytes text.old ++ limit_line limit) }
+{
+    writeln!(text, "limit {limit}")
 }
 
 // A space and the number, for each number.

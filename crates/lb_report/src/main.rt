@@ -1,24 +1,27 @@
-//! `lb_report [--procs P[,P..]] [--csv] [--moves] FILE..` reports on dumps of load databases: how balanced the loads are at
-//! present, and after the least division into consecutive blocks, and what moves.
+//! `lb_report [--procs P[,P..]] [--tolerance T] [--csv] [--moves] FILE..` reports on dumps of load databases: how balanced the loads
+//! are at present, and after the least division into consecutive blocks, and what moves; and with `--tolerance` the same of the
+//! decision within a tolerance of that.
 //!
-//! - `report_command_line::asked`: what the words of the command line ask for, and `numbers` the numbers of PEs in them.
-//! - `dump_report::report_file`: the report on one dump, and how it ended; `Ended::status` is the status for it.
+//! - `report_command_line::asked`: what the words of the command line ask for, and `numbers` the numbers of PEs in them;
+//!   `refuse_numbers`: what is told where there are none.
+//! - `dump_report::report_file`: the report on one dump, and how it ended; `Ended::status` is the status for it, and
+//!   `dump_report::tell` says what was wrong.
 #![tactic(auto)]
 
 ghost use Rattle.std.specs.Prelude.{All};
 ghost use Rattle.report_command_line.specs.Numbers.{IsNumber};
 
-mod telling;
-
-use dump_report::{report_dump, report_file};
+use chain_refinement::Tolerance;
+use dump_report::{report_dump, report_file, tell};
 use lb_replay::Ended;
 use load_report::Style;
-use report_command_line::{Asked, NO_WORDS, NumbersError, asked, numbers, words_status};
+use report_command_line::{
+    Asked, NO_WORDS, NumbersError, asked, numbers, refuse_numbers, words_status,
+};
 use std::fs::File;
 use std::process::ExitCode;
 use std::{env, io};
 use streams::{Noted, write_out};
-use telling::tell;
 
 fn main(rt: HostRuntime) -> ExitCode {
     let Ok(args) = env::args(&rt) else {
@@ -50,12 +53,7 @@ fn done(rt: &HostRuntime, asked: &Asked<'_>) -> u8 {
     };
     match numbers(rt.alloc(), text) {
         Ok(procs) => headed(rt, asked, &procs),
-        Err(NumbersError::Spelling) => {
-            let _ = eprintln!(rt;
-                "lb_report: --procs {text}: give numbers of 1 to 256 with a comma between two, as in 4,8,16"
-            );
-            NO_WORDS
-        }
+        Err(NumbersError::Spelling) => refuse_numbers(rt.alloc(), &mut rt.stderr(), text),
         Err(NumbersError::OutOfMemory) => Ended::WriteFailed.status(),
     }
 }
@@ -68,22 +66,30 @@ fn headed(rt: &HostRuntime, asked: &Asked<'_>, procs: &[u32]) -> u8
         csv: asked.csv,
         moves: asked.moves,
     };
+    let tolerance = asked.tolerance.and_then(Tolerance::new);
     let mut output = Noted::new(io::writer(rt));
     if !write_out(&mut output, style.head().as_bytes()) {
-        tell(rt, "", Ended::WriteFailed, output.failure());
-        return Ended::WriteFailed.status();
+        let ended = Ended::WriteFailed;
+        let _told = tell(rt.alloc(), &mut rt.stderr(), "", ended, output.failure());
+        return ended.status();
     }
-    all(rt, asked.files.as_slice(), procs, style)
+    all(rt, asked.files.as_slice(), procs, tolerance, style)
 }
 
 // Prints the report on each file, and returns the status of the first that has a fault, or 0. Nothing is done after the
 // output has failed.
-fn all(rt: &HostRuntime, names: &[&str], procs: &[u32], style: Style) -> u8
+fn all(
+    rt: &HostRuntime,
+    names: &[&str],
+    procs: &[u32],
+    tolerance: Option<Tolerance>,
+    style: Style,
+) -> u8
     requires { All IsNumber procs.now }
 {
     let mut status = 0;
     for name in names {
-        let ended = one(rt, name, procs, style);
+        let ended = one(rt, name, procs, tolerance, style);
         if status == 0 {
             status = ended.status();
         }
@@ -95,18 +101,34 @@ fn all(rt: &HostRuntime, names: &[&str], procs: &[u32], style: Style) -> u8
 }
 
 // Prints the report on a file, or tells its fault on the standard error.
-fn one(rt: &HostRuntime, name: &str, procs: &[u32], style: Style) -> Ended
+fn one(
+    rt: &HostRuntime,
+    name: &str,
+    procs: &[u32],
+    tolerance: Option<Tolerance>,
+    style: Style,
+) -> Ended
     requires { All IsNumber procs.now }
 {
+    let alloc = rt.alloc();
     let mut output = Noted::new(io::writer(rt));
     let (ended, reason) = if name == "-" {
         let mut input = Noted::new(rt.stdin());
-        let ended = report_dump(rt.alloc(), &mut input, &mut output, name, procs, style);
+        let ended = report_dump(
+            alloc,
+            &mut input,
+            &mut output,
+            name,
+            procs,
+            tolerance,
+            style,
+        );
         (ended, input.failure())
     } else {
         let file = File::open(rt, name);
-        report_file(rt.alloc(), file, &mut output, name, procs, style)
+        report_file(alloc, file, &mut output, name, procs, tolerance, style)
     };
-    tell(rt, name, ended, reason.or(output.failure()));
+    let reason = reason.or(output.failure());
+    let _told = tell(alloc, &mut rt.stderr(), name, ended, reason);
     ended
 }

@@ -1,10 +1,12 @@
-//! `lb_sim [--procs P] [--check] FILE` replays a dump of the load database offline: it prints the least division of the
-//! elements into consecutive blocks, with the fence that proves it, the PE of each block and the bytes that move. With
-//! `--check` it prints instead whether the decision in the dump is right.
+//! `lb_sim [--procs P] [--tolerance T] [--check] FILE` replays a dump of the load database offline: it prints the least
+//! division of the elements into consecutive blocks, with the fence that proves it, the PE of each block and the bytes that
+//! move. With `--tolerance` the blocks may weigh up to a limit above the least load, and fewer bytes move. With `--check` it
+//! prints instead whether the decision in the dump is right.
 //!
 //! - `command_line::asked`: what the words of the command line ask for, and the status where they ask for nothing to be
 //!   done.
-//! - `lb_replay::Asked::task`: which task that is, if it is one; `command_line::refuse_both`: what is told if it is none.
+//! - `lb_replay::Asked::task`: which task that is, if the options go together; `command_line::refuse_both`: what is told if they
+//!   do not.
 //! - `lb_replay::run`: the task, and the status for its end; `file_faults::Advice`: what is told of a file with a fault.
 #![tactic(auto)]
 
@@ -12,6 +14,7 @@ ghost use Rattle.lb_replay.specs.Requests.{MayRun};
 ghost use Rattle.std.specs.Prelude.{◌≤◌};
 ghost use Rattle.std.specs.Option.{ForSome};
 
+use chain_refinement::Tolerance;
 use chare_index::Limits;
 use command_line::{NO_WORDS, asked, refuse_both, words_status};
 use file_faults::Advice;
@@ -57,11 +60,12 @@ fn main(rt: HostRuntime) -> ExitCode {
 fn done(rt: &HostRuntime, asked: Asked<'_>) -> u8
     requires some_pe { ForSome asked.procs (λ p. 1 ≤ p) }
     requires few_pes { ForSome asked.procs (λ p. p ≤ Limits.PES) }
+    requires most { ForSome asked.tolerance (λ t. t ≤ Tolerance.MOST) }
 {
-    let Some(task) = asked.task() else {
-        return refuse_both(&mut rt.stderr());
-    };
-    ran(rt, asked.file, task)
+    match asked.task() {
+        Ok(task) => ran(rt, asked.file, task),
+        Err(clash) => refuse_both(&mut rt.stderr(), clash),
+    }
 }
 
 // Opens the file, does the task to the standard output, and returns the status. Where a read failed or the file has no

@@ -3,6 +3,8 @@ pub mod PlacedCounts
 pub mod PlacedLoads
 pub mod Placements
 pub mod PlannedLoads
+pub mod RefinedLoads
+pub mod RefinedPlaces
 pub mod SameColumns
 pub mod Spreads
 pub mod Traffics

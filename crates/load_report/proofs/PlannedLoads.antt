@@ -3,10 +3,10 @@ use Rattle.std.proofs.Common.{◌≡◌, ◌≢◌, ℕ, zero, suc, ◌+◌, ◌
 use Rattle.std.specs.Prelude.{◌==◌, if◌then◌else◌}
 use Rattle.std.proofs.lemmas.Bool.{cases_eq, eq-eqb, ne_eqb}
 use Rattle.std.proofs.lemmas.List.FromFn.{get_or-map-range_with_len}
-use Rattle.lb_certificates.specs.Chain.{IsDivision, IsLeastDivision, block_load, peak}
+use Rattle.lb_certificates.specs.Chain.{IsDivision, block_load, peak}
 use Rattle.lb_certificates.specs.Naming.{IsNaming, block_of, blocks_between, total}
 use Rattle.lb_certificates.proofs.BlockSums.{block_of_is}
-use Rattle.lb_certificates.proofs.Chains.{load_after, peak-le}
+use Rattle.lb_certificates.proofs.Chains.{block_load-le-peak, load_after, peak-le}
 use Rattle.lb_certificates.proofs.Totals.{total_agree, total_none, total_same, total_take}
 use Rattle.lb_strategy.specs.Decisions.{IsRight}
 use Rattle.lb_strategy.specs.Moves.{planned_pe}
@@ -101,38 +101,17 @@ module _ (loads cuts names : List ℕ) (blocks n p : ℕ) (division : IsDivision
       ∙ ap (λ m. total m at_name) (sym whole ∙ sym division.ends)
       ∙ blocks_before blocks (omega arith)
 
-pub planned_greatest : {A : Type 0} (loads : List ℕ) (sizes : List (ℕ × ℕ)) (pes : ℕ) (d : Decision A) → length loads ≡ length sizes → IsRight loads sizes pes d
-    → greatest pes (load_of loads (planned_places d.division.cuts d.naming (length sizes))) ≡ d.division.bottleneck
-planned_greatest loads sizes pes d paired right = omega (arith, above, below, least.peak_is)
+-- where the blocks have the names of the PEs, the greatest load of a PE is that of a block
+pub placed_greatest : (loads cuts names : List ℕ) (pes n : ℕ) → n ≡ length loads → IsDivision 0 n pes cuts → IsNaming pes names → greatest pes (load_of loads (planned_places cuts names n)) ≡ peak loads cuts
+placed_greatest loads cuts names pes n whole division naming = omega (arith, above, below)
   where
-    cuts : List ℕ
-    cuts = d.division.cuts
-
-    names : List ℕ
-    names = d.naming
-
-    n : ℕ
-    n = length sizes
-
-    least : IsLeastDivision loads pes d.division.bottleneck cuts
-    least = least_from_right loads sizes pes d right
-
-    division : IsDivision 0 n pes cuts
-    division = subst (λ m. IsDivision 0 m pes cuts) paired right.division.divides
-
-    counted : blocks_between cuts ≡ pes
-    counted = omega (arith, right.division.divides.counted)
-
-    naming : IsNaming pes names
-    naming = subst (λ m. IsNaming m names) counted right.named.naming
-
     on : (p : ℕ) → load_of loads (planned_places cuts names n) p ≡ total pes (λ b. when (slice_index names b) p (block_load loads cuts b))
-    on p = planned_load loads cuts names pes n p division (sym paired)
+    on p = planned_load loads cuts names pes n p division whole
 
-    above : greatest pes (load_of loads (planned_places cuts names n)) ≤ d.division.bottleneck
+    above : greatest pes (load_of loads (planned_places cuts names n)) ≤ peak loads cuts
     above =
-        greatest_within pes d.division.bottleneck (load_of loads (planned_places cuts names n))
-        (λ p inside. omega (arith, on p, once pes p d.division.bottleneck (slice_index names) (block_load loads cuts) naming.apart right.division.within))
+        greatest_within pes (peak loads cuts) (load_of loads (planned_places cuts names n))
+        (λ p inside. omega (arith, on p, once pes p (peak loads cuts) (slice_index names) (block_load loads cuts) naming.apart (λ b low. block_load-le-peak loads cuts b (omega (arith, low, division.counted)))))
 
     below : peak loads cuts ≤ greatest pes (load_of loads (planned_places cuts names n))
     below =
@@ -142,3 +121,11 @@ planned_greatest loads sizes pes d paired right = omega (arith, above, below, le
         let p : ℕ = slice_index names b in
         let f : ℕ → ℕ = λ a. when (slice_index names a) p (block_load loads cuts a) in
         omega (arith, total_above pes b f low, when_same p p (block_load loads cuts b) refl, on p, greatest_above pes p (load_of loads (planned_places cuts names n)) (naming.below b low)))
+
+pub planned_greatest : {A : Type 0} (loads : List ℕ) (sizes : List (ℕ × ℕ)) (pes : ℕ) (d : Decision A) → length loads ≡ length sizes → IsRight loads sizes pes d
+    → greatest pes (load_of loads (planned_places d.division.cuts d.naming (length sizes))) ≡ d.division.bottleneck
+planned_greatest loads sizes pes d paired right =
+    let division : IsDivision 0 (length sizes) pes d.division.cuts = subst (λ m. IsDivision 0 m pes d.division.cuts) paired right.division.divides in
+    let counted : blocks_between d.division.cuts ≡ pes = omega (arith, right.division.divides.counted) in
+    let naming : IsNaming pes d.naming = subst (λ m. IsNaming m d.naming) counted right.named.naming in
+    placed_greatest loads d.division.cuts d.naming pes (length sizes) (sym paired) division naming ∙ (least_from_right loads sizes pes d right).peak_is

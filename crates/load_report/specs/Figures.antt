@@ -3,10 +3,11 @@
 use Rattle.std.specs.Prelude.{ℕ, suc, zero, ◌+◌, ◌-◌, ◌*◌, ◌/◌, ◌<◌, ◌≤◌, ◌≡◌, ◌==◌, nat_le, if◌then◌else◌, All, count_by, List, length, map, max, min, slice_index, slice_index_or, sum, sum_by}
 use Rattle.std.specs.List.{range_with_len}
 use Rattle.chare_index.specs.declared.limits.TheConstants.Limits.{PES}
-use Rattle.lb_certificates.specs.Naming.{moved_bytes, total}
+use Rattle.lb_certificates.specs.Naming.{bytes_moved, moved_bytes, total}
+use Rattle.lb_refinement.specs.Refined.{IsRefined, refined_cuts, refined_least, refined_names}
+use Rattle.lb_refinement.specs.declared.refined.Refined.{Refined}
 use Rattle.lb_snapshot.specs.Measured.{Taken}
-use Rattle.lb_strategy.specs.Decisions.{right_moved, right_moves}
-use Rattle.lb_strategy.specs.Moves.{planned_pe}
+use Rattle.lb_strategy.specs.Moves.{moves_below, planned_pe}
 use Rattle.lb_strategy.specs.declared.decision.Decision.{Decision}
 use Rattle.load_report.specs.declared.figures.Spread.{Spread}
 use Rattle.load_report.specs.declared.figures.Change.{Change}
@@ -106,14 +107,26 @@ traffic_of s places pes = record {
   enter = greatest pes (load_of (moving s.sizes places) places);
 }
 
--- what a right decision changes, with what there is to be moved
-abbrev pub change_of : {A : Type 0} → Taken → Decision A → Change
-change_of s d = record {
-  least = d.division.bottleneck;
-  moved = length (right_moves s.sizes d);
-  bytes = right_moved s.sizes d;
+-- what blocks with these names change, with the least load and what there is to be moved
+abbrev pub change_by : Taken → ℕ → List ℕ → List ℕ → Change
+change_by s least cuts names = record {
+  least = least;
+  moved = length (moves_below s.sizes cuts names (length s.sizes));
+  bytes = bytes_moved s.sizes cuts names;
   all_bytes = sum_by (λ size. size.0) s.sizes;
 }
+
+-- what a right decision changes
+abbrev pub change_of : {A : Type 0} → Taken → Decision A → Change
+change_of s d = change_by s d.division.bottleneck d.division.cuts d.naming
+
+-- this is the decision for so many PEs within some tolerance
+abbrev pub IsRefinedFor : {A : Type 0} → List ℕ → List (ℕ × ℕ) → ℕ → Refined A → Type 0
+IsRefinedFor loads sizes pes r = (tolerance : ℕ) × IsRefined loads sizes pes tolerance r
+
+-- what it changes
+abbrev pub refined_change : {A : Type 0} → Taken → Refined A → Change
+refined_change s r = change_by s (refined_least r).bottleneck (refined_cuts r) (refined_names r)
 
 -- each of the elements with these loads is placed on one of so many PEs
 pub record IsPlacement (loads places : List ℕ) (pes : ℕ) : Type 0 where

@@ -7,9 +7,11 @@ use Rattle.std.specs.List.{flat_map, repeat}
 use Rattle.lb_snapshot.specs.Measured.{Taken}
 use Rattle.lb_strategy.specs.Decisions.{IsRight}
 use Rattle.lb_strategy.specs.declared.decision.Decision.{Decision}
-use Rattle.load_report.specs.Figures.{change_of, nearest, planned_places, present_places, spread_of, traffic_of}
+use Rattle.lb_refinement.specs.Refined.{refined_cuts, refined_moves, refined_names}
+use Rattle.lb_refinement.specs.declared.refined.Refined.{Refined}
+use Rattle.load_report.specs.Figures.{change_of, nearest, planned_places, present_places, refined_change, spread_of, traffic_of}
 use Rattle.load_report.specs.declared.cell.Cell.{Cell}
-use Rattle.load_report.specs.declared.cell.Cell.TheVariants.{Flawed, Nothing, Number, Planned, Present, Recorded, Thousandths}
+use Rattle.load_report.specs.declared.cell.Cell.TheVariants.{Flawed, Nothing, Number, Planned, Present, Recorded, Thousandths, Within}
 use Rattle.load_report.specs.declared.changes.Changes.{Changes}
 use Rattle.load_report.specs.declared.figures.Change.{Change}
 use Rattle.load_report.specs.declared.figures.Spread.{Spread}
@@ -28,6 +30,7 @@ abbrev pub cell_text : Cell → List ℕ
 cell_text Nothing = codes "-"
 cell_text Present = codes "present"
 cell_text Planned = codes "planned"
+cell_text Within = codes "within"
 cell_text Recorded = codes "recorded"
 cell_text Flawed = codes "flawed"
 cell_text (Number n) = decimal n
@@ -121,19 +124,29 @@ move_lines csv name sizes pes moves =
     flat_map (λ move. line csv name (move_columns sizes pes move)) moves
 
 -- the line of a placement on so many PEs, with what a decision for it changes
-abbrev pub changed_line : {A : Type 0} → Cell → Bool → List ℕ → Taken → ℕ → List ℕ → Decision A → List ℕ
-changed_line word csv name s pes places d =
-    line csv name (placement_columns word s.step (spread_of s.loads places pes) (changes_of (spread_of s.loads places pes) (change_of s d) (traffic_of s places pes)))
+abbrev pub changed_line : Cell → Bool → List ℕ → Taken → ℕ → List ℕ → Change → List ℕ
+changed_line word csv name s pes places change =
+    line csv name (placement_columns word s.step (spread_of s.loads places pes) (changes_of (spread_of s.loads places pes) change (traffic_of s places pes)))
 
 -- the line of a decision for so many PEs
 abbrev pub decision_line : {A : Type 0} → Cell → Bool → List ℕ → Taken → ℕ → Decision A → List ℕ
 decision_line word csv name s pes d =
-    changed_line word csv name s pes (planned_places d.division.cuts d.naming (length s.sizes)) d
+    changed_line word csv name s pes (planned_places d.division.cuts d.naming (length s.sizes)) (change_of s d)
 
 -- what is said of a planned decision: its line, or those of its moves
 abbrev pub planned_text : {A : Type 0} → Style → List ℕ → Taken → ℕ → Decision A → List ℕ
 planned_text style name s pes d =
     if style.moves then move_lines style.csv name s.sizes pes d.moves else decision_line Planned style.csv name s pes d
+
+-- the line of a decision for so many PEs within a tolerance
+abbrev pub refined_line : {A : Type 0} → Bool → List ℕ → Taken → ℕ → Refined A → List ℕ
+refined_line csv name s pes r =
+    changed_line Within csv name s pes (planned_places (refined_cuts r) (refined_names r) (length s.sizes)) (refined_change s r)
+
+-- what is said of a decision within a tolerance: its line, or those of its moves
+abbrev pub refined_text : {A : Type 0} → Style → List ℕ → Taken → ℕ → Refined A → List ℕ
+refined_text style name s pes r =
+    if style.moves then move_lines style.csv name s.sizes pes (refined_moves r) else refined_line style.csv name s pes r
 
 -- the line of a decision with a flaw
 abbrev pub flawed_line : Bool → List ℕ → Taken → ℕ → List ℕ

@@ -16,6 +16,8 @@ pub(crate) enum Cell {
     Present,
     /// The line is about the placement of a planned decision.
     Planned,
+    /// The line is about the placement of a decision within a tolerance.
+    Within,
     /// The line is about the placement of the decision that the dump records.
     Recorded,
     /// The line is about a recorded decision that is not right.
@@ -49,6 +51,7 @@ pub(crate) fn cell_text<A: Allocator>(alloc: A, cell: Cell) -> Result<String<A>,
         Cell::Nothing => String::from_str(alloc, "-"),
         Cell::Present => String::from_str(alloc, "present"),
         Cell::Planned => String::from_str(alloc, "planned"),
+        Cell::Within => String::from_str(alloc, "within"),
         Cell::Recorded => String::from_str(alloc, "recorded"),
         Cell::Flawed => String::from_str(alloc, "flawed"),
         Cell::Number(n) => format!(in alloc; "{n}"),

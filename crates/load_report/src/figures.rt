@@ -4,11 +4,13 @@ ghost use Rattle.std.specs.Prelude.{◌≡◌, ◌<◌, ◌≤◌, ◌==◌, if�
 ghost use Rattle.lb_certificates.specs.Naming.{total};
 ghost use Rattle.lb_snapshot.specs.Measured.{IsLoads, IsSizes};
 ghost use Rattle.lb_strategy.specs.Decisions.{IsRight};
-ghost use Rattle.load_report.specs.Figures.{IsPlacement, change_of, elements_of, empty_of, greatest, idle_of, least, load_of, spread_of};
+ghost use Rattle.load_report.specs.Figures.{IsPlacement, IsRefinedFor, change_of, elements_of, empty_of, greatest, idle_of, least, load_of, refined_change};
+ghost use Rattle.load_report.specs.Figures.{spread_of};
 
 use crate::deviation::deviation_of;
 use chare_index::{Limits, Pe};
 use lb_certificates::{Loads, Snapshot, Units};
+use lb_refinement::Refined;
 use lb_strategy::Decision;
 use std::alloc::Allocator;
 
@@ -192,6 +194,24 @@ impl Change {
             least: decision.division.bottleneck,
             moved: decision.moves.as_slice().len() as u64,
             bytes: decision.moved,
+            all_bytes: bytes_of(snapshot.sizes().as_slice()),
+        }
+    }
+
+    /// What this decision changes, which is one for so many PEs within some tolerance.
+    #[tactic(auto, using(crate::proofs::RefinedPlaces::moves_are, crate::proofs::RefinedPlaces::moved_is))]
+    pub fn of_refined<A: Allocator, B: Allocator>(
+        snapshot: &Snapshot<A>,
+        decision: &Refined<B>,
+        pes: u32,
+    ) -> Change
+        requires { IsRefinedFor snapshot.now.loads snapshot.now.sizes pes decision.now }
+        ensures value { result ≡ refined_change snapshot.now decision.now }
+    {
+        Change {
+            least: decision.least().bottleneck,
+            moved: decision.moves().as_slice().len() as u64,
+            bytes: decision.moved(),
             all_bytes: bytes_of(snapshot.sizes().as_slice()),
         }
     }

@@ -17,7 +17,7 @@ mod traffic;
 pub use figures::{Change, Spread};
 #[doc(hidden)]
 pub use laws::report_laws;
-pub use places::{planned_places, present_places};
+pub use places::{planned_places, present_places, refined_places};
 pub use style::Style;
-pub use text::{push_planned, push_present, push_recorded};
+pub use text::{push_planned, push_present, push_recorded, push_refined};
 pub use traffic::Traffic;

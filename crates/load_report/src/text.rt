@@ -2,20 +2,21 @@
 
 ghost use Rattle.std.specs.Prelude.{◌≡◌, ◌++◌, ℕ, List, IfOk, OnOk, slice_index_or};
 ghost use Rattle.lb_strategy.specs.Decisions.{IsRight};
-ghost use Rattle.load_report.specs.Figures.{IsPlacement, present_places, spread_of};
+ghost use Rattle.load_report.specs.Figures.{IsPlacement, IsRefinedFor, present_places, spread_of};
 ghost use Rattle.load_report.specs.Text.{IsRecordedText, changed_line, decision_line, flawed_line, move_columns, move_lines};
-ghost use Rattle.load_report.specs.Text.{planned_text, present_line, present_text};
+ghost use Rattle.load_report.specs.Text.{planned_text, present_line, present_text, refined_line, refined_text};
 
 use crate::cell::Cell;
 use crate::changes::Changes;
 use crate::columns::{flawed_columns, placement_columns};
 use crate::figures::{Change, Spread};
 use crate::line::{Column, push_line};
-use crate::places::{planned_places, present_places};
+use crate::places::{planned_places, present_places, refined_places};
 use crate::style::Style;
 use crate::traffic::Traffic;
 use chare_index::{Index, Pe};
 use lb_certificates::Snapshot;
+use lb_refinement::Refined;
 use lb_strategy::{Decision, check};
 use std::alloc::{AllocError, Allocator};
 
@@ -95,6 +96,36 @@ pub fn push_planned<A: Allocator + Copy, B: Allocator, C: Allocator>(
     )
 }
 
+/// Adds what is said of a decision for so many PEs within some tolerance: its line, or those of the elements that it moves.
+///
+/// # Errors
+///
+/// Out of memory.
+pub fn push_refined<A: Allocator + Copy, B: Allocator, C: Allocator>(
+    text: &mut Vec<u8, A>,
+    style: Style,
+    name: &str,
+    snapshot: &Snapshot<B>,
+    pes: u32,
+    decision: &Refined<C>,
+) -> Result<(), AllocError>
+    requires { IsRefinedFor snapshot.now.loads snapshot.now.sizes pes decision.now }
+    ensures text { OnOk result (text.new.items ≡ text.old.items ++ refined_text style name.now snapshot.now pes decision.now) }
+{
+    if style.moves {
+        let sizes = snapshot.sizes().as_slice();
+        return push_moves(
+            text,
+            style.csv,
+            name,
+            sizes,
+            pes,
+            decision.moves().as_slice(),
+        );
+    }
+    push_refined_line(text, style.csv, name, snapshot, pes, decision)
+}
+
 /// Adds the line of a decision that was recorded for so many PEs, where no moves are asked for: its figures if it is right,
 /// and that it is flawed if it is not.
 ///
@@ -156,11 +187,38 @@ fn push_decision<A: Allocator + Copy, B: Allocator, C: Allocator>(
     ensures { OnOk result (text.new.items ≡ text.old.items ++ decision_line word csv name.now snapshot.now pes decision.now) }
 {
     let places = planned_places(*text.allocator(), snapshot, decision, pes)?;
-    push_changed(text, word, csv, name, snapshot, pes, &places, decision)
+    let change = Change::of(snapshot, decision, pes);
+    push_changed(text, word, csv, name, snapshot, pes, &places, change)
 }
 
-// The line of a placement on so many PEs, with what a right decision for it changes.
-fn push_changed<A: Allocator + Copy, B: Allocator, C: Allocator>(
+// The line of a decision within a tolerance.
+fn push_refined_line<A: Allocator + Copy, B: Allocator, C: Allocator>(
+    text: &mut Vec<u8, A>,
+    csv: bool,
+    name: &str,
+    snapshot: &Snapshot<B>,
+    pes: u32,
+    decision: &Refined<C>,
+) -> Result<(), AllocError>
+    requires { IsRefinedFor snapshot.now.loads snapshot.now.sizes pes decision.now }
+    ensures { OnOk result (text.new.items ≡ text.old.items ++ refined_line csv name.now snapshot.now pes decision.now) }
+{
+    let places = refined_places(*text.allocator(), snapshot, decision, pes)?;
+    let change = Change::of_refined(snapshot, decision, pes);
+    push_changed(
+        text,
+        Cell::Within,
+        csv,
+        name,
+        snapshot,
+        pes,
+        &places,
+        change,
+    )
+}
+
+// The line of a placement on so many PEs, with what a decision for it changes.
+fn push_changed<A: Allocator + Copy, B: Allocator>(
     text: &mut Vec<u8, A>,
     word: Cell,
     csv: bool,
@@ -168,15 +226,14 @@ fn push_changed<A: Allocator + Copy, B: Allocator, C: Allocator>(
     snapshot: &Snapshot<B>,
     pes: u32,
     places: &[u32],
-    decision: &Decision<C>,
+    change: Change,
 ) -> Result<(), AllocError>
-    requires right { IsRight snapshot.now.loads snapshot.now.sizes pes decision.now }
-    requires placed { IsPlacement snapshot.now.loads places.now pes }
-    ensures { OnOk result (text.new.items ≡ text.old.items ++ changed_line word csv name.now snapshot.now pes places.now decision.now) }
+    requires { IsPlacement snapshot.now.loads places.now pes }
+    ensures { OnOk result (text.new.items ≡ text.old.items ++ changed_line word csv name.now snapshot.now pes places.now change) }
 {
     let traffic = Traffic::of(*text.allocator(), snapshot, places, pes)?;
     let spread = Spread::of(snapshot.loads(), places, pes);
-    let changes = Changes::of(spread, Change::of(snapshot, decision, pes), traffic);
+    let changes = Changes::of(spread, change, traffic);
     push_line(
         text,
         csv,

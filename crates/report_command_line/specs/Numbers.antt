@@ -16,3 +16,8 @@ numerals_after numbers = flat_map (λ n. codes "," ++ decimal n) numbers
 abbrev pub numerals : List ℕ → List ℕ
 numerals [] = []
 numerals (n ∷ numbers) = decimal n ++ numerals_after numbers
+
+-- the line where a word spells no numbers of PEs
+abbrev pub no_numbers_line : List ℕ → List ℕ
+no_numbers_line text =
+    codes "lb_report: --procs " ++ text ++ codes ": give numbers of 1 to 256 with a comma between two, as in 4,8,16" ++ 10 ∷ []

@@ -23,8 +23,11 @@ moved, bytes      the elements that move, and their packed bytes; in per cent
 empty             the PEs without an element
 
 Quotients have three decimals, rounded down. - stands where nothing applies.
+With --tolerance a line within follows each line planned: on the decision that
+moves fewer bytes where max is above least by T thousandths at most.
 With --moves each line tells of an element that moves: its number, the PE that
-it leaves, the PE that it goes to, and its packed bytes.
+it leaves, the PE that it goes to, and its packed bytes; with --tolerance too,
+by the decision within the tolerance.
 
 Faults are told on standard error, and the other files are reported all the
 same. Status: 0 all well, 2 words; else that of the first file with a fault:

@@ -7,7 +7,7 @@
 //! let words = ["lb_report", "--procs", "4,8", "--csv", "one.lbd1", "two.lbd1"];
 //! let asked_for = asked(alloc, &words).unwrap();
 //! assert!(asked_for.files.as_slice() == ["one.lbd1", "two.lbd1"]);
-//! assert!(asked_for.csv && !asked_for.moves);
+//! assert!(asked_for.csv && !asked_for.moves && asked_for.tolerance.is_none());
 //! assert!(numbers(alloc, asked_for.procs.unwrap()).unwrap().as_slice() == [4, 8]);
 //!
 //! let error = asked(alloc, &["lb_report"]).unwrap_err();
@@ -21,5 +21,5 @@ mod spelled;
 mod words;
 
 pub use request::Asked;
-pub use spelled::{NumbersError, numbers};
+pub use spelled::{NumbersError, numbers, refuse_numbers};
 pub use words::{NO_WORDS, asked, words_status};

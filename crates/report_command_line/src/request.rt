@@ -7,6 +7,9 @@ pub struct Asked<'a> {
     pub files: Vec<&'a str, Global>,
     /// The numbers of PEs to plan for, as they were written: [`numbers`](crate::numbers) reads them.
     pub procs: Option<&'a str>,
+    /// How far the greatest load may lie above the least possible one, in thousandths of it, 0 to 1,000 (`Tolerance::MOST`), where
+    /// a decision within a tolerance is reported on too.
+    pub tolerance: Option<u32>,
     /// Whether comma-separated values are written.
     pub csv: bool,
     /// Whether the elements that move are listed.

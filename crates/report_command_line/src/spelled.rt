@@ -1,9 +1,13 @@
 ghost use Rattle.std.specs.Prelude.{◌≡◌, ◌++◌, All, IfOk, OnOk};
 ghost use Rattle.std.specs.String.{string_bytes};
-ghost use Rattle.report_command_line.specs.Numbers.{IsNumber, numerals, numerals_after};
+ghost use Rattle.report_command_line.specs.Numbers.{IsNumber, no_numbers_line, numerals, numerals_after};
+ghost use Rattle.streams.specs.Writing.{WritesPrefix};
 
+use crate::words::NO_WORDS;
 use chare_index::Limits;
 use std::alloc::{AllocError, AllocFailed, Allocator};
+use std::io::Write;
+use streams::write_out;
 
 /// Why no numbers were read.
 #[derive(Clone, Copy, Debug, PartialEq, Eq)]
@@ -41,6 +45,21 @@ pub fn numbers<A: Allocator + Copy>(alloc: A, text: &str) -> Result<Vec<u32, A>,
         return Ok(found);
     }
     Err(NumbersError::Spelling)
+}
+
+/// Tells that this text spells no numbers of PEs, and returns the status for that, [`NO_WORDS`]. Where memory is refused nothing
+/// is told.
+pub fn refuse_numbers<A: Allocator, W: Write>(alloc: A, writer: &mut W, text: &str) -> u8
+    ensures told { WritesPrefix (W.contents writer.old) (W.contents writer.new) (no_numbers_line text.now) }
+    ensures status { result ≡ NO_WORDS }
+{
+    let line = format!(in alloc;
+        "lb_report: --procs {text}: give numbers of 1 to 256 with a comma between two, as in 4,8,16\n"
+    );
+    if let Ok(line) = line {
+        let _told = write_out(writer, line.as_bytes());
+    }
+    NO_WORDS
 }
 
 // The numbers between the commas, also where they are not spelled as they have to be.

@@ -1,14 +1,19 @@
-ghost use Rattle.std.specs.Prelude.{◌≡◌, ◌≢◌, ◌⊎◌, ◌↔◌, [], IfOk, IsTrue, Some, codes, map, option_map, unwrap_or};
+ghost use Rattle.std.specs.Option.{ForSome};
+ghost use Rattle.std.specs.Prelude.{◌≡◌, ◌≢◌, ◌≤◌, ◌⊎◌, ◌↔◌, ℕ, [], IfOk, IsTrue, Some, codes, map, option_map, pos, unwrap_or};
 ghost use Rattle.clap.specs.Built.{FitsChain};
 ghost use Rattle.clap.specs.Values.{kind_of};
 ghost use Rattle.clap.specs.Walk.{texts};
 ghost use Rattle.clap.specs.Words.{FailsBy, app_of, fault_of, first_value, found_of, matched_of, one_text, raw_values, rule_of};
-ghost use Rattle.report_command_line.specs.CommandLine.{AsksCsv, AsksMoves, csv_rule, files_in, files_rule, moves_rule, procs_in, procs_rule, program};
+ghost use Rattle.clap.specs.declared.builder.value_parser.ValueParser.TheVariants.{Signed};
+ghost use Rattle.report_command_line.specs.CommandLine.{AsksCsv, AsksMoves, Spells, csv_rule, files_in, files_rule, moves_rule, procs_in};
+ghost use Rattle.report_command_line.specs.CommandLine.{procs_rule, program, tolerance_in, tolerance_rule};
 ghost use Rattle.clap.specs.declared.error.kind.ErrorKind.TheVariants.{DisplayHelp, DisplayVersion};
 
 use crate::help::{ABOUT, HOW_TO};
 use crate::request::Asked;
-use clap::{Arg, ArgAction, ArgMatches, Command, Error};
+use chain_refinement::Tolerance;
+use clap::builder::ValueParser;
+use clap::{Arg, ArgAction, ArgMatches, Command, Error, value_parser};
 use std::alloc::{AllocError, Global};
 
 /// The status where the words of the command line cannot be had, or are refused.
@@ -26,12 +31,14 @@ pub fn words_status(error: &Error) -> u8
 ///
 /// # Errors
 ///
-/// The words are not `[--procs P[,P..]] [--csv] [--moves] FILE..`, help or the version is asked for, or it is out of memory.
-/// The error has the text to print; [`words_status`] is the status for it.
+/// The words are not `[--procs P[,P..]] [--tolerance T] [--csv] [--moves] FILE..` with a T of 0 to 1,000 (`Tolerance::MOST`), help or
+/// the version is asked for, or it is out of memory. The error has the text to print; [`words_status`] is the status for it.
 pub fn asked<'a>(alloc: Global, words: &'a [&'a str]) -> Result<Asked<'a>, Error>
     ensures faults { FailsBy (fault_of program (texts words.now)) result }
     ensures files { IfOk result (λ asked. files_in (texts words.now) ≡ texts asked.files.items) }
     ensures procs { IfOk result (λ asked. procs_in (texts words.now) ≡ option_map (λ text. text.now) asked.procs) }
+    ensures tolerance { IfOk result (λ asked. (n : ℕ) → (asked.tolerance ≡ Some n) ↔ Spells (tolerance_in (texts words.now)) n) }
+    ensures most { IfOk result (λ asked. ForSome asked.tolerance (λ t. t ≤ Tolerance.MOST)) }
     ensures csv { IfOk result (λ asked. IsTrue asked.csv ↔ AsksCsv (texts words.now)) }
     ensures moves { IfOk result (λ asked. IsTrue asked.moves ↔ AsksMoves (texts words.now)) }
 {
@@ -41,8 +48,8 @@ pub fn asked<'a>(alloc: Global, words: &'a [&'a str]) -> Result<Asked<'a>, Error
     }
 }
 
-// The words that are understood: `lb_report [--procs P[,P..]] [--csv] [--moves] FILE..`, and those for help and for the
-// version, which clap adds.
+// The words that are understood: `lb_report [--procs P[,P..]] [--tolerance T] [--csv] [--moves] FILE..`, and those for help and
+// for the version, which clap adds.
 fn command<'a>(alloc: Global) -> Result<Command<'a>, AllocError>
     ensures program { IfOk result (λ command. app_of command ≡ program) }
 {
@@ -52,6 +59,7 @@ fn command<'a>(alloc: Global) -> Result<Command<'a>, AllocError>
         .after_help(HOW_TO);
     let command = command.arg(files(alloc))?;
     let command = command.arg(procs(alloc))?;
+    let command = command.arg(tolerance(alloc))?;
     let command = command.arg(csv(alloc))?;
     command.arg(moves(alloc))
 }
@@ -80,6 +88,21 @@ fn procs<'a>(alloc: Global) -> Arg<'a>
         .action(ArgAction::Set)
 }
 
+fn tolerance<'a>(alloc: Global) -> Arg<'a>
+    ensures rule { rule_of result ≡ tolerance_rule }
+    ensures fits { FitsChain result }
+{
+    Arg::new(alloc, "tolerance")
+        .long("tolerance")
+        .value_name("T")
+        .help(
+            "Reports also on the decision that moves fewer bytes where no{n}\
+             load is then above the least by more than T thousandths",
+        )
+        .action(ArgAction::Set)
+        .value_parser(thousandths())
+}
+
 fn csv<'a>(alloc: Global) -> Arg<'a>
     ensures rule { rule_of result ≡ csv_rule }
     ensures fits { FitsChain result }
@@ -100,10 +123,19 @@ fn moves<'a>(alloc: Global) -> Arg<'a>
         .action(ArgAction::SetTrue)
 }
 
+// A tolerance.
+fn thousandths<'a>() -> ValueParser<'a>
+    ensures { result ≡ Signed (pos 0) (pos Tolerance.MOST) }
+{
+    value_parser!(u32).range(0..=i64::from(Tolerance::MOST))
+}
+
 // What the words ask for.
 fn found<'a>(alloc: Global, matches: &ArgMatches<'a>) -> Result<Asked<'a>, AllocError>
     ensures files { IfOk result (λ asked. unwrap_or (option_map raw_values (matched_of (found_of matches.now) (codes "file"))) [] ≡ texts asked.files.items) }
     ensures procs { IfOk result (λ asked. first_value (found_of matches.now) (codes "procs") ≡ option_map (λ text. text.now) asked.procs) }
+    ensures tolerance { IfOk result (λ asked. (n : ℕ) → (asked.tolerance ≡ Some n) ↔ Spells (one_text (found_of matches.now) (codes "tolerance")) n) }
+    ensures most { IfOk result (λ asked. ForSome asked.tolerance (λ t. t ≤ Tolerance.MOST)) }
     ensures csv { IfOk result (λ asked. IsTrue asked.csv ↔ (one_text (found_of matches.now) (codes "csv") ≡ Some (codes "true"))) }
     ensures moves { IfOk result (λ asked. IsTrue asked.moves ↔ (one_text (found_of matches.now) (codes "moves") ≡ Some (codes "true"))) }
 {
@@ -111,6 +143,7 @@ fn found<'a>(alloc: Global, matches: &ArgMatches<'a>) -> Result<Asked<'a>, Alloc
     Ok(Asked {
         files,
         procs: matches.get_str("procs"),
+        tolerance: thousandths_in(matches),
         csv: matches.get_one("csv") == Some(true),
         moves: matches.get_one("moves") == Some(true),
     })
@@ -124,4 +157,13 @@ fn files_of<'a>(alloc: Global, matches: &ArgMatches<'a>) -> Result<Vec<&'a str>,
         Some(files) => Vec::from_slice(alloc, files),
         None => Ok(Vec::new(alloc)),
     }
+}
+
+// The tolerance asked for. clap refuses one out of range; here it would count as none.
+fn thousandths_in<'a>(matches: &ArgMatches<'a>) -> Option<u32>
+    ensures tolerance { (n : ℕ) → (result ≡ Some n) ↔ Spells (one_text (found_of matches.now) (codes "tolerance")) n }
+    ensures most { ForSome result (λ t. t ≤ Tolerance.MOST) }
+{
+    let number = matches.get_one::<u32>("tolerance");
+    number.filter(|&t| t <= Tolerance::MOST)
 }

@@ -1,8 +1,8 @@
 //! Command lines: what their words ask for, what is to be done, and the status where they ask for nothing.
 
-use crate::fixtures::assert_for;
+use crate::fixtures::{assert_for, same};
 use command_line::{asked, refuse_both, words_status};
-use lb_replay::Task;
+use lb_replay::{Clash, Task};
 use std::alloc::Global;
 
 // Words that ask for a replay.
@@ -17,7 +17,7 @@ fn is_asked(alloc: Global, row: &Asking) -> bool {
         return false;
     };
     let same = asked.file == row.file && asked.procs == row.procs && !asked.check;
-    same && asked.task() == Some(Task::Replay(row.procs))
+    same && asked.tolerance.is_none() && asked.task() == Ok(Task::Replay(row.procs))
 }
 
 static ASKING: [Asking; 8] = [
@@ -70,11 +70,56 @@ fn words_that_ask(rt: HostRuntime) {
     }
 }
 
-// Words that ask for a check of the dump `f`, and what is to be done, if that is a task.
+// Words that ask for a replay of the dump `f` within a tolerance.
+struct Refining {
+    words: &'static [&'static str],
+    procs: Option<u32>,
+    tolerance: u32,
+}
+
+fn is_within(alloc: Global, row: &Refining) -> bool {
+    let Ok(asked) = asked(alloc, row.words) else {
+        return false;
+    };
+    let same = asked.file == "f" && asked.tolerance == Some(row.tolerance) && !asked.check;
+    same && asked.task() == Ok(Task::Refine(row.procs, row.tolerance))
+}
+
+static REFINING: [Refining; 4] = [
+    Refining {
+        words: &["lb_sim", "--tolerance", "0", "f"],
+        procs: None,
+        tolerance: 0,
+    },
+    Refining {
+        words: &["lb_sim", "f", "--tolerance=1000"],
+        procs: None,
+        tolerance: 1000,
+    },
+    Refining {
+        words: &["lb_sim", "--tolerance", "167", "--procs", "3", "f"],
+        procs: Some(3),
+        tolerance: 167,
+    },
+    Refining {
+        words: &["lb_sim", "--procs", "256", "--tolerance", "20", "f"],
+        procs: Some(256),
+        tolerance: 20,
+    },
+];
+
+#[test]
+fn words_that_ask_for_a_tolerance(rt: HostRuntime) {
+    for row in &REFINING {
+        assert_for(&rt, is_within(rt.alloc(), row), row.words);
+    }
+}
+
+// Words that ask for a check of the dump `f`, and what is to be done, if the options go together.
 struct Checking {
     words: &'static [&'static str],
     procs: Option<u32>,
-    task: Option<Task>,
+    task: Result<Task, Clash>,
 }
 
 fn is_check(alloc: Global, row: &Checking) -> bool {
@@ -85,26 +130,44 @@ fn is_check(alloc: Global, row: &Checking) -> bool {
     same && asked.task() == row.task
 }
 
-static CHECKING: [Checking; 4] = [
+static CHECKING: [Checking; 6] = [
     Checking {
         words: &["lb_sim", "--check", "f"],
         procs: None,
-        task: Some(Task::Check),
+        task: Ok(Task::Check),
     },
     Checking {
         words: &["lb_sim", "f", "--check"],
         procs: None,
-        task: Some(Task::Check),
+        task: Ok(Task::Check),
     },
     Checking {
         words: &["lb_sim", "--check", "--procs", "2", "f"],
         procs: Some(2),
-        task: None,
+        task: Err(Clash::ProcsAndCheck),
     },
     Checking {
         words: &["lb_sim", "--procs", "2", "f", "--check"],
         procs: Some(2),
-        task: None,
+        task: Err(Clash::ProcsAndCheck),
+    },
+    Checking {
+        words: &["lb_sim", "--tolerance", "20", "--check", "f"],
+        procs: None,
+        task: Err(Clash::ToleranceAndCheck),
+    },
+    Checking {
+        words: &[
+            "lb_sim",
+            "--tolerance",
+            "20",
+            "--check",
+            "--procs",
+            "2",
+            "f",
+        ],
+        procs: Some(2),
+        task: Err(Clash::ProcsAndCheck),
     },
 ];
 
@@ -128,7 +191,7 @@ fn is_refused(alloc: Global, row: &Refused) -> bool {
     }
 }
 
-static REFUSED: [Refused; 11] = [
+static REFUSED: [Refused; 15] = [
     Refused {
         words: &["lb_sim"],
         status: 2,
@@ -166,6 +229,22 @@ static REFUSED: [Refused; 11] = [
         status: 2,
     },
     Refused {
+        words: &["lb_sim", "--tolerance", "1001", "f"],
+        status: 2,
+    },
+    Refused {
+        words: &["lb_sim", "--tolerance", "-1", "f"],
+        status: 2,
+    },
+    Refused {
+        words: &["lb_sim", "--tolerance", "2%", "f"],
+        status: 2,
+    },
+    Refused {
+        words: &["lb_sim", "f", "--tolerance"],
+        status: 2,
+    },
+    Refused {
         words: &["lb_sim", "--help"],
         status: 0,
     },
@@ -182,11 +261,20 @@ fn words_that_are_refused(rt: HostRuntime) {
     }
 }
 
+// Whether two options that do not go together are refused with this line.
+fn is_told(rt: &impl AllocGlobal, clash: Clash, line: &str) -> bool {
+    let mut told = Vec::new(rt.alloc());
+    let status = refuse_both(&mut told, clash);
+    let right = status == 2 && same(&told, line);
+    drop(told);
+    right
+}
+
 #[test]
 fn a_check_with_a_number_is_refused(rt: HostRuntime) {
-    let mut told = Vec::new(rt.alloc());
-    let status = refuse_both(&mut told);
-    let right = status == 2 && told.as_slice() == b"lb_sim: --procs and --check\n".as_slice();
-    drop(told);
-    assert_for(&rt, right, status);
+    let procs = "lb_sim: --procs and --check\n";
+    assert_for(&rt, is_told(&rt, Clash::ProcsAndCheck, procs), procs);
+    let tolerance = "lb_sim: --tolerance and --check\n";
+    let told = is_told(&rt, Clash::ToleranceAndCheck, tolerance);
+    assert_for(&rt, told, tolerance);
 }

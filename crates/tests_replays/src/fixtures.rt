@@ -3,6 +3,7 @@
 ghost use Rattle.lb_replay.specs.Requests.{MayRun};
 ghost use Rattle.std.specs.Prelude.{◌≡◌, true};
 
+use chain_refinement::Tolerance;
 use lb_replay::{Ended, Task, simulate, verify};
 use std::alloc::Global;
 use std::fmt::Debug;
@@ -69,7 +70,10 @@ pub(crate) fn ended<R: Read, W: Write>(
     requires { MayRun task }
 {
     match task {
-        Task::Replay(procs) => simulate(alloc, reader, writer, procs),
+        Task::Replay(procs) => simulate(alloc, reader, writer, procs, None),
+        Task::Refine(procs, thousandths) => {
+            simulate(alloc, reader, writer, procs, Tolerance::new(thousandths))
+        }
         Task::Check => verify(alloc, reader, writer),
     }
 }

@@ -16,3 +16,5 @@ mod refused_memory;
 mod replays;
 #[cfg(test)]
 mod runs;
+#[cfg(test)]
+mod tolerances;

@@ -1,6 +1,8 @@
 //! Each request of a replay, and of a check, for memory is refused in turn.
 
 use crate::fixtures::{DECIDED, RIGHT, TEXT, assert_for};
+use crate::tolerances::{TEN, WITHIN};
+use chain_refinement::Tolerance;
 use lb_certificates::Flaw;
 use lb_dump::{DumpError, read_from};
 use lb_replay::{Ended, simulate, verify};
@@ -19,26 +21,49 @@ const NAMING: u64 = 11;
 // the text.
 const IN_ALL: u64 = TO_READ + (3 + 2 + NAMING + 1) + 5;
 
-// What the end of a replay of the example comes to, over an allocator that may refuse, with what it wrote.
-fn outcome(ended: Ended, written: &[u8]) -> Outcome {
+// What the end of a replay comes to, over an allocator that may refuse, with what it wrote, where this is its text.
+fn outcome(ended: Ended, written: &[u8], text: &str) -> Outcome {
     match ended {
-        Ended::Printed if written == TEXT.as_bytes() => Outcome::Right,
+        Ended::Printed if written == text.as_bytes() => Outcome::Right,
         Ended::Dump(DumpError::OutOfMemory) | Ended::Plan(PlanError::OutOfMemory)
             if written == b"out of memory\n".as_slice() => { Outcome::Refused }
         _ => Outcome::Wrong,
     }
 }
 
+// What a replay of ten elements within a tolerance comes to, over such an allocator.
+fn attempted_within(rt: &impl AllocGlobal, alloc: &Refusing<Global>) -> Outcome {
+    let mut written = Vec::new(rt.alloc());
+    let tolerance = Tolerance::new(167);
+    let ended = simulate(alloc, &mut TEN.as_slice(), &mut written, None, tolerance);
+    let outcome = outcome(ended, &written, WITHIN);
+    drop(written);
+    outcome
+}
+
+// The requests of a replay of ten elements within a tolerance: to read, and for the plan, as above; for the order of the PEs and
+// its cuts; for the division of the plan once more; for the search; for the cost table, the names and the moves of its blocks; and
+// each growth of the text.
+const WITHIN_IN_ALL: u64 = TO_READ + (3 + 2 + NAMING + 1) + 2 + 2 + 9 + (2 + NAMING + 1) + 6;
+
+#[test]
+fn memory_refused_at_each_request_within_a_tolerance(rt: HostRuntime) -> Result<(), Fail> {
+    let attempt = |alloc: &Refusing<Global>| attempted_within(&rt, alloc);
+    let requests = each_refusal(rt.alloc(), 200, attempt)?;
+    assert_for(&rt, requests == WITHIN_IN_ALL, requests);
+    Ok(())
+}
+
 // How a replay of the example ends, over such an allocator.
 fn ended(alloc: &Refusing<Global>, written: &mut Vec<u8>) -> Ended {
-    simulate(alloc, &mut EXAMPLE_DUMP.as_slice(), written, None)
+    simulate(alloc, &mut EXAMPLE_DUMP.as_slice(), written, None, None)
 }
 
 // What such a replay comes to. Its text has memory of its own.
 fn attempted(rt: &impl AllocGlobal, alloc: &Refusing<Global>) -> Outcome {
     let mut written = Vec::new(rt.alloc());
     let ended = ended(alloc, &mut written);
-    let outcome = outcome(ended, &written);
+    let outcome = outcome(ended, &written, TEXT);
     drop(written);
     outcome
 }

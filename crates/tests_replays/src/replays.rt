@@ -224,7 +224,7 @@ fn ends_file<R: Read + Drop>(
     requires few_pes { ForSome procs (λ p. p ≤ Limits.PES) }
 {
     let mut written = Vec::new(rt.alloc());
-    let (ended, reason) = replay_file(rt.alloc(), file, &mut written, procs);
+    let (ended, reason) = replay_file(rt.alloc(), file, &mut written, procs, None);
     let ends = is_end(ended, &written, end.0, text);
     drop(written);
     let kind = kind(reason);

@@ -15,7 +15,15 @@ fn a_writer_that_fails_at_each_call(rt: HostRuntime) {
     for call in 0..12 {
         let mut writer = Sink::new(&rt, 8, call, Some(ErrorKind::Interrupted));
         let mut reader = EXAMPLE_DUMP.as_slice();
-        let ended = report_dump(rt.alloc(), &mut reader, &mut writer, "three", &[], VALUES);
+        let ended = report_dump(
+            rt.alloc(),
+            &mut reader,
+            &mut writer,
+            "three",
+            &[],
+            None,
+            VALUES,
+        );
         assert_for(&rt, ended == Ended::WriteFailed, call);
         let held = THREE.as_bytes().starts_with(writer.taken.as_slice());
         assert_for(&rt, held && writer.calls == call + 1, call);
@@ -26,7 +34,7 @@ fn a_writer_that_fails_at_each_call(rt: HostRuntime) {
 fn attempted(rt: &impl AllocGlobal, alloc: &Refusing<Global>) -> Outcome {
     let mut written = Vec::new(rt.alloc());
     let mut reader = EXAMPLE_DUMP.as_slice();
-    let ended = report_dump(alloc, &mut reader, &mut written, "three", &[], VALUES);
+    let ended = report_dump(alloc, &mut reader, &mut written, "three", &[], None, VALUES);
     let outcome = match ended {
         Ended::Printed if written.as_slice() == THREE.as_bytes() => Outcome::Right,
         Ended::Dump(DumpError::OutOfMemory) | Ended::Plan(PlanError::OutOfMemory)

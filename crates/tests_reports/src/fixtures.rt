@@ -3,6 +3,7 @@
 ghost use Rattle.std.specs.Prelude.{◌≡◌, All, true};
 ghost use Rattle.dump_report.specs.Reports.{IsNumber};
 
+use chain_refinement::Tolerance;
 use dump_report::report_dump;
 use lb_replay::Ended;
 use load_report::Style;
@@ -40,8 +41,43 @@ pub(crate) fn reports(
 {
     let mut written = Vec::new(rt.alloc());
     let mut reader = bytes;
-    let ended = report_dump(rt.alloc(), &mut reader, &mut written, "three", procs, style);
+    let ended = report_dump(
+        rt.alloc(),
+        &mut reader,
+        &mut written,
+        "three",
+        procs,
+        None,
+        style,
+    );
     let found = ended == end && written.as_slice() == text.as_bytes();
+    drop(written);
+    found
+}
+
+/// Whether a report on these bytes, under the name `three`, within this tolerance, is this text.
+pub(crate) fn reports_within(
+    rt: &impl AllocGlobal,
+    bytes: &[u8],
+    procs: &[u32],
+    tolerance: Option<Tolerance>,
+    style: Style,
+    text: &str,
+) -> bool
+    requires { All IsNumber procs.now }
+{
+    let mut written = Vec::new(rt.alloc());
+    let mut reader = bytes;
+    let ended = report_dump(
+        rt.alloc(),
+        &mut reader,
+        &mut written,
+        "three",
+        procs,
+        tolerance,
+        style,
+    );
+    let found = ended == Ended::Printed && written.as_slice() == text.as_bytes();
     drop(written);
     found
 }

@@ -1,5 +1,6 @@
-//! Tests of whole reports, from the bytes of dumps to the text on them: worked dumps, a fault among several files, a
-//! thousand files, a writer and allocators that fail; and of the words of a command line. The figures were worked out by
+//! Tests of whole reports, from the bytes of dumps to the text on them: worked dumps, decisions within a tolerance, a fault
+//! among several files, a thousand files, a writer and allocators that fail; of what is told of a fault; and of the words of a
+//! command line. The figures were worked out by
 //! hand and by a program that is none of this project's. They use public calls only.
 #![tactic(auto)]
 
@@ -9,5 +10,9 @@ mod failures;
 mod fixtures;
 #[cfg(test)]
 mod reports;
+#[cfg(test)]
+mod told;
+#[cfg(test)]
+mod tolerances;
 #[cfg(test)]
 mod words;

@@ -72,7 +72,15 @@ fn a_fault_between_two_files(rt: HostRuntime) -> Result<(), Fail> {
     let mut written = Vec::new(rt.alloc());
     for (i, len) in [52, 40, 52].iter().enumerate() {
         let mut reader = &EXAMPLE_DUMP[..*len];
-        let ended = report_dump(rt.alloc(), &mut reader, &mut written, "three", &[], VALUES);
+        let ended = report_dump(
+            rt.alloc(),
+            &mut reader,
+            &mut written,
+            "three",
+            &[],
+            None,
+            VALUES,
+        );
         let right = if *len == 52 {
             Ended::Printed
         } else {
@@ -90,7 +98,15 @@ fn a_thousand_files(rt: HostRuntime) -> Result<(), Fail> {
     let mut written = Vec::new(rt.alloc());
     for i in 0..1000 {
         let mut reader = EXAMPLE_DUMP.as_slice();
-        let ended = report_dump(rt.alloc(), &mut reader, &mut written, "three", &[], VALUES);
+        let ended = report_dump(
+            rt.alloc(),
+            &mut reader,
+            &mut written,
+            "three",
+            &[],
+            None,
+            VALUES,
+        );
         assert_for(&rt, ended == Ended::Printed, i);
     }
     let all = THREE.repeat(rt.alloc(), 1000)?;

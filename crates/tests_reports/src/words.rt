@@ -1,7 +1,7 @@
 //! The words of a command line.
 
 use crate::fixtures::assert_for;
-use report_command_line::{NumbersError, asked, numbers, words_status};
+use report_command_line::{NumbersError, asked, numbers, refuse_numbers, words_status};
 use std::alloc::Global;
 
 // Whether these are read as so many numbers, the last of them this one; or as none.
@@ -41,9 +41,49 @@ fn words_that_are_read(rt: HostRuntime) {
     let right = match asked(rt.alloc(), &words) {
         Ok(asked) => asked.files.len() == 2
             && asked.procs == Some("2,4")
+            && asked.tolerance.is_none()
             && asked.csv
             && !asked.moves,
         Err(_) => false,
     };
     assert_for(&rt, right, "two files");
+}
+
+// The tolerance that these words ask for, or the status where they are refused.
+fn tolerance_in(alloc: Global, words: &[&str]) -> Result<Option<u32>, u8> {
+    match asked(alloc, words) {
+        Ok(asked) => Ok(asked.tolerance),
+        Err(error) => Err(words_status(&error)),
+    }
+}
+
+#[test]
+fn a_tolerance_is_read(rt: HostRuntime) {
+    const ROWS: [(&str, Result<Option<u32>, u8>); 5] = [
+        ("0", Ok(Some(0))),
+        ("1000", Ok(Some(1_000))),
+        ("1001", Err(2)),
+        ("-1", Err(2)),
+        ("x", Err(2)),
+    ];
+    for row in &ROWS {
+        let words = ["lb_report", "--tolerance", row.0, "one"];
+        assert_for(&rt, tolerance_in(rt.alloc(), &words) == row.1, row);
+    }
+}
+
+// Whether this text is refused with this line.
+fn is_told(rt: &impl AllocGlobal, text: &str, line: &str) -> bool {
+    let mut told = Vec::new(rt.alloc());
+    let status = refuse_numbers(rt.alloc(), &mut told, text);
+    let right = status == 2 && told.as_slice() == line.as_bytes();
+    drop(told);
+    right
+}
+
+#[test]
+fn numbers_that_are_refused(rt: HostRuntime) {
+    let line =
+        "lb_report: --procs 2,257: give numbers of 1 to 256 with a comma between two, as in 4,8,16\n";
+    assert_for(&rt, is_told(&rt, "2,257", line), line);
 }

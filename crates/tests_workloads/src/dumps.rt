@@ -264,7 +264,7 @@ const REPLAYED: &str = "step 1 procs 2 elements 4\n\
 fn is_replayed(rt: &(impl Abort + AllocGlobal), dump: &[u8]) -> bool {
     let mut reader = dump;
     let mut told = Vec::new(rt.alloc());
-    let ended = simulate(rt.alloc(), &mut reader, &mut told, None);
+    let ended = simulate(rt.alloc(), &mut reader, &mut told, None, None);
     ended == Ended::Printed && told.as_slice() == REPLAYED.as_bytes()
 }
 

@@ -5,7 +5,7 @@ use Rattle.clap.specs.declared.error.Error.{Error}
 use Rattle.clap.specs.declared.parser.matches.ArgMatches.{ArgMatches}
 use Rattle.clap.proofs.OnLiterals.{clap_on_literals}
 use Rattle.clap.proofs.WalkLemmas.{first_value-rows, one_text-rows}
-use Rattle.command_line.specs.CommandLine.{Spells, program}
+use Rattle.command_line.specs.CommandLine.{Spells, SpellsTolerance, program}
 use Rattle.command_line.proofs.words.asked.Goals as goal
 
 simple : is_simple program ≡ true
@@ -37,6 +37,14 @@ returns-in-Ok-clause-procs c n =
     let same = one_text-rows (found_of m) (codes "procs") ∙ ap (one_of (codes "procs")) rows in
     let spelled = c.found.ensures.procs n in
     (λ e. subst (λ word. Spells word n) same (spelled.0 e), λ h. spelled.1 (subst (λ word. Spells word n) (sym same) h))
+
+pub returns-in-Ok-clause-tolerance : goal.returns-in-Ok-clause-tolerance
+returns-in-Ok-clause-tolerance c n =
+    let m = c.in-Ok.matches in
+    let rows = found _ (texts c.args.words.now) m c.in_ok-command.ensures.program c.in-Ok.ensures.matches in
+    let same = one_text-rows (found_of m) (codes "tolerance") ∙ ap (one_of (codes "tolerance")) rows in
+    let spelled = c.found.ensures.tolerance n in
+    (λ e. subst (λ word. SpellsTolerance word n) same (spelled.0 e), λ h. spelled.1 (subst (λ word. SpellsTolerance word n) (sym same) h))
 
 pub returns-in-Ok-clause-check : goal.returns-in-Ok-clause-check
 returns-in-Ok-clause-check c =

@@ -13,9 +13,10 @@ loop-pes-preserved g c =
     let procs = c.args.procs.now in
     let i = c.loop-pes.pes-index in
     let so_far = c.loop-pes.invariant in
-    let said = c.in_ok-push_plan.ensures.plan in
-    let are = plans_more A style name s (take i procs) (slice_index procs i) so_far.0 said.0 so_far.1 said.1 in (
+    let tolerance = c.args.tolerance in
+    let said = c.in_ok-push_decided.ensures.decided in
+    let are = plans_more A style name s tolerance (take i procs) (slice_index procs i) so_far.0 said.0 so_far.1 said.1 in (
       so_far.0 ++ said.0,
-      subst (λ numbers. ArePlans A style name s numbers (so_far.0 ++ said.0)) (sym (take_more procs i 0 c.loop-pes-test.true)) are,
+      subst (λ numbers. ArePlans A style name s tolerance numbers (so_far.0 ++ said.0)) (sym (take_more procs i 0 c.loop-pes-test.true)) are,
       said.2 ∙ ap (λ t. t ++ said.0) so_far.2 ∙ append_assoc c.args.text.now.items so_far.0 said.0,
     )

@@ -6,7 +6,7 @@ use Rattle.clap.specs.declared.error.Error.{Error}
 use Rattle.clap.specs.declared.parser.matches.ArgMatches.{ArgMatches}
 use Rattle.clap.proofs.OnLiterals.{clap_on_literals}
 use Rattle.clap.proofs.WalkLemmas.{first_value-rows, one_text-rows, raw_values-rows}
-use Rattle.report_command_line.specs.CommandLine.{program}
+use Rattle.report_command_line.specs.CommandLine.{Spells, program}
 use Rattle.report_command_line.proofs.words.asked.Goals as goal
 
 simple : is_simple program ≡ true
@@ -37,6 +37,14 @@ returns-in_ok-found-in-Ok-clause-procs c =
     let m = c.in-Ok.matches in
     let rows = found _ (texts c.args.words.now) m c.in_ok-command.ensures.program c.in-Ok.ensures.matches in
     sym (first_value-rows (found_of m) (codes "procs") ∙ ap (first_of (codes "procs")) rows) ∙ c.in_ok-found-in-Ok.ensures.procs
+
+pub returns-in_ok-found-in-Ok-clause-tolerance : goal.returns-in_ok-found-in-Ok-clause-tolerance
+returns-in_ok-found-in-Ok-clause-tolerance c n =
+    let m = c.in-Ok.matches in
+    let rows = found _ (texts c.args.words.now) m c.in_ok-command.ensures.program c.in-Ok.ensures.matches in
+    let same = one_text-rows (found_of m) (codes "tolerance") ∙ ap (one_of (codes "tolerance")) rows in
+    let spelled = c.in_ok-found-in-Ok.ensures.tolerance n in
+    (λ e. subst (λ word. Spells word n) same (spelled.0 e), λ h. spelled.1 (subst (λ word. Spells word n) (sym same) h))
 
 pub returns-in_ok-found-in-Ok-clause-csv : goal.returns-in_ok-found-in-Ok-clause-csv
 returns-in_ok-found-in-Ok-clause-csv c =

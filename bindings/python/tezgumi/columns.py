@@ -1,0 +1,40 @@
+"""Columns of whole numbers as a page holds them: compressed, in letters that a text may have.
+
+A column is written in as many bytes for each number as its greatest one needs: the lowest byte of each number, then the next
+of each, and so on, as equal bytes that stand together are compressed best. Columns follow one another in a block, which is
+compressed by zlib and written in base 64. What reads it is web/data.js.
+"""
+from __future__ import annotations
+
+import base64
+import zlib
+from typing import Any, Iterable, List, Tuple, Union
+
+import numpy as np
+from numpy.typing import ArrayLike, NDArray
+
+Head = List[Union[str, int]]
+"""Of a column: its name, how many numbers it has, and the bytes of each."""
+
+
+def block(columns: Iterable[Tuple[str, ArrayLike]]) -> Tuple[List[Head], str]:
+    """The heads of the columns, and their numbers in letters."""
+    heads: List[Head] = []
+    parts = []
+    for name, values in columns:
+        width, text = _planes(np.asarray(values).astype("<u8"))
+        heads.append([name, len(text) // width, width])
+        parts.append(text)
+    return heads, base64.b64encode(zlib.compress(b"".join(parts), 6)).decode()
+
+
+def folded(values: NDArray[np.int64]) -> NDArray[np.uint64]:
+    """Signed numbers as whole ones: 0, -1, 1, -2 .. are 0, 1, 2, 3 .."""
+    doubled: NDArray[np.uint64] = values.astype(np.uint64) << np.uint64(1)
+    return np.where(values < 0, ~doubled, doubled)
+
+
+def _planes(values: NDArray[Any]) -> Tuple[int, bytes]:
+    width = max(1, (int(values.max(initial=0)).bit_length() + 7) // 8)
+    rows = np.ascontiguousarray(values).view(np.uint8).reshape(-1, 8)
+    return width, rows[:, :width].T.tobytes()

@@ -1,0 +1,68 @@
+"use strict";
+
+// The argument of docs/CERTIFICATES.md, and nothing else: by the fence no division into so many blocks is lighter, and by the
+// prices no naming of these blocks moves fewer bytes. It returns the first flaw of a decision, as ["PriceHigh", block, PE], or
+// null where every part is right. Loads, prices and bytes are BigInt, so that no sum is rounded; places in the chain and PEs
+// are numbers.
+function firstFlaw(run, d) {
+  return divisionFlaw(run, d) ?? namingFlaw(run, d);
+}
+
+function divisionFlaw({ loads }, { pes, bottleneck, cuts, stops }) {
+  const sums = runningSums(loads);
+  if (cuts.length !== pes + 1) return ["CutCount"];
+  if (cuts[0] !== 0) return ["CutStart"];
+  if (falls(cuts)) return ["CutOrder"];
+  if (cuts[pes] !== loads.length) return ["CutEnd"];
+  for (let b = 0; b < pes; b++) if (sums[cuts[b + 1]] - sums[cuts[b]] > bottleneck) return ["Heavy", b];
+  if (stops.length === 0) return bottleneck === 0n ? null : ["ZeroFloor"];
+  if (stops.length !== pes + 1) return ["FenceCount"];
+  if (stops[0] !== 0) return ["FenceStart"];
+  if (falls(stops)) return ["FenceOrder"];
+  if (stops[pes] >= loads.length) return ["FenceEnd"];
+  for (let i = 1; i <= pes; i++) if (sums[stops[i] + 1] - sums[stops[i - 1]] < bottleneck) return ["FenceLight", i];
+  return null;
+}
+
+function namingFlaw({ sizes, places }, { pes, cuts, names, blockPrices, pePrices, moved, planned, moves }) {
+  if (names.length !== pes) return ["NameCount"];
+  if (names.some((name) => name >= pes)) return ["NameRange"];
+  if (new Set(names).size < pes) return ["NameTwice"];
+  if (blockPrices.length !== pes || pePrices.length !== pes) return ["PriceCount"];
+  let cost = 0n, prices = 0n;
+  const wanted = [];
+  for (let b = 0; b < pes; b++) {
+    const elsewhere = bytesElsewhere(sizes, places, cuts[b], cuts[b + 1], pes);
+    for (let p = 0; p < pes; p++) if (blockPrices[b] + pePrices[p] > elsewhere[p]) return ["PriceHigh", b, p];
+    cost += BigInt(elsewhere[names[b]]);
+    prices += blockPrices[b] + pePrices[b];
+    for (let i = cuts[b]; i < cuts[b + 1]; i++) if (places[i] !== names[b]) wanted.push([i, places[i], names[b]]);
+  }
+  if (prices !== cost) return ["PriceGap"];
+  if (moved !== cost) return ["MovedWrong"];
+  const goes = (i, b) => planned[i] === names[b];
+  for (let b = 0; b < pes; b++) for (let i = cuts[b]; i < cuts[b + 1]; i++) if (!goes(i, b)) return ["MovesWrong"];
+  const same = moves.length === wanted.length && planned.length === places.length;
+  return same && wanted.every((move, k) => move.every((x, j) => x === moves[k][j])) ? null : ["MovesWrong"];
+}
+
+// The bytes of a block whose elements stand on another PE, for each PE.
+function bytesElsewhere(sizes, places, first, end, pes) {
+  const there = new Float64Array(pes);
+  let all = 0;
+  for (let i = first; i < end; i++) {
+    all += sizes[i];
+    if (places[i] < pes) there[places[i]] += sizes[i];
+  }
+  return there.map((bytes) => all - bytes);
+}
+
+function runningSums(numbers) {
+  const sums = [0n];
+  for (const number of numbers) sums.push(sums[sums.length - 1] + number);
+  return sums;
+}
+
+function falls(numbers) {
+  return numbers.some((number, i) => i > 0 && numbers[i - 1] > number);
+}

@@ -1,0 +1,70 @@
+// A decision within a tolerance, by the argument of docs/CERTIFICATES.md about heights: the height is 0 where the first block
+// begins, and from the beginning of a block within the limit to its end, where the next one begins, it rises by no more than the
+// cut there costs. So no cuts within the limit cost less than the height of the last block. It returns the first flaw or null.
+function nearFlaw(run, d) {
+  const least = { pes: d.pes, bottleneck: d.least, cuts: d.leastCuts, stops: d.stops };
+  return divisionFlaw(run, least) ?? orderFlaw(run, d) ?? heightsFlaw(run, d) ?? namingFlaw(run, d) ?? bottleneckFlaw(run, d);
+}
+
+function orderFlaw({ loads }, { pes, order, cuts, limit }) {
+  if (order.length !== pes) return ["OrderCount"];
+  if (order.some((pe) => pe >= pes)) return ["OrderRange"];
+  if (new Set(order).size < pes) return ["OrderTwice"];
+  if (cuts.length !== pes + 1) return ["NearCount"];
+  if (cuts[0] !== 0 || falls(cuts) || cuts[pes] !== loads.length) return ["NoDivision"];
+  const sums = runningSums(loads);
+  for (let b = 0; b < pes; b++) if (sums[cuts[b + 1]] - sums[cuts[b]] > limit) return ["PastLimit", b];
+  return null;
+}
+
+function heightsFlaw({ loads, sizes, places }, { pes, order, cuts, limit, stepStarts, stepPlaces, stepRises }) {
+  const n = loads.length, starts = leastStarts(runningSums(loads), limit);
+  if (stepStarts.length !== pes + 1 || falls(stepStarts) || stepStarts[pes] > stepPlaces.length) return ["HeightCount"];
+  const heights = (b) => heightsOf(stepPlaces, stepRises, stepStarts[b], stepStarts[b + 1], n);
+  let here = heights(0), cost = 0, own = bytesBefore(sizes, places, order[0]);
+  if (here[0] !== 0) return ["HeightStart"];
+  for (let b = 0; b + 1 < pes; b++) {
+    const next = heights(b + 1), others = bytesBefore(sizes, places, order[b + 1]);
+    const cut = (x) => own[n] - own[x] + others[x]; // behind the cut on this block's PE, or before it on the next one's
+    for (let x = 0; x <= n; x++) if (next[x] > here[starts[x]] + cut(x)) return ["Steep", b, x];
+    cost += cut(cuts[b + 1]);
+    here = next;
+    own = others;
+  }
+  return here[starts[n]] < cost ? ["HeightLow"] : null;
+}
+
+function bottleneckFlaw({ loads }, { pes, cuts, bottleneck }) {
+  const sums = runningSums(loads);
+  let most = 0n;
+  for (let b = 0; b < pes; b++) if (sums[cuts[b + 1]] - sums[cuts[b]] > most) most = sums[cuts[b + 1]] - sums[cuts[b]];
+  return most === bottleneck ? null : ["BottleneckWrong"];
+}
+
+// For each place the first one at which a block may begin that ends there. Heights never fall, so the others ask for less.
+function leastStarts(sums, limit) {
+  let y = 0;
+  return sums.map((sum) => {
+    while (sum - sums[y] > limit) y++;
+    return y;
+  });
+}
+
+// The height at each place: it rises at each step, up to the first step that lies behind. All cuts together cost less than
+// 2^46 bytes, so a height above 2^52 stands for that: it proves as much.
+function heightsOf(stepPlaces, stepRises, first, end, n) {
+  const heights = new Float64Array(n + 1);
+  let height = 0, k = first;
+  for (let x = 0; x <= n; x++) {
+    for (; k < end && stepPlaces[k] <= x; k++) height = Math.min(height + Number(stepRises[k]), 2 ** 52);
+    heights[x] = height;
+  }
+  return heights;
+}
+
+// The bytes of the elements before each place that stand on a PE.
+function bytesBefore(sizes, places, pe) {
+  const sums = new Float64Array(sizes.length + 1);
+  for (let i = 0; i < sizes.length; i++) sums[i + 1] = sums[i] + (places[i] === pe ? sizes[i] : 0);
+  return sums;
+}

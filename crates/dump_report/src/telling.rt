@@ -1,0 +1,178 @@
+//! What is told on the standard error of a program.
+
+ghost use Rattle.std.specs.Prelude.{◌≡◌, ℕ, List, None, Some, codes, IfNone, IfSome};
+ghost use Rattle.dump_report.specs.Tellings.{IsTold, advice, fault_said, fault_words, line_about};
+ghost use Rattle.file_faults.specs.Telling.{Tells};
+
+use lb_dump::DumpError;
+use lb_replay::Ended;
+use std::alloc::Allocator;
+use std::fmt::{self, Display, Formatter};
+use std::io;
+use streams::write_out;
+
+/// What is told where the output failed.
+const PLACE: &str = "give it a place that takes all of the report";
+
+/// Tells of the end of a report on a file of this name, in one line: the file, what is wrong, the system's reason where there is
+/// one, and what to do about it. Where the output failed, it is told of that. Where a report was written, nothing is told.
+///
+/// Returns whether all was told: not where memory was refused or the writer failed.
+pub fn tell<A: Allocator + Copy, W: io::Write>(
+    alloc: A,
+    writer: &mut W,
+    name: &str,
+    ended: Ended,
+    reason: Option<io::Error>,
+) -> bool
+    ensures reason { IfSome reason (λ _. (shown : List ℕ) × IsTold name.now ended (Some shown) (W.contents writer.old) (W.contents writer.new) result) }
+    ensures fault { IfNone reason (IsTold name.now ended None (W.contents writer.old) (W.contents writer.new) result) }
+{
+    match reason {
+        None => tell_end(alloc, writer, name, ended),
+        Some(reason) => tell_because(alloc, writer, name, ended, reason),
+    }
+}
+
+// The same, where the system gave no reason.
+fn tell_end<A: Allocator + Copy, W: io::Write>(
+    alloc: A,
+    writer: &mut W,
+    name: &str,
+    ended: Ended,
+) -> bool
+    ensures { IsTold name.now ended None (W.contents writer.old) (W.contents writer.new) result }
+{
+    match ended {
+        Ended::Dump(fault) => tell_dump(alloc, writer, name, fault),
+        Ended::Plan(_) => tell_memory(alloc, writer, name),
+        Ended::WriteFailed => {
+            tell_line(alloc, writer, "standard output", "it takes nothing", PLACE)
+        }
+        Ended::Printed | Ended::Flawed(_) | Ended::NoDecision => true,
+    }
+}
+
+// The same, with the system's reason.
+fn tell_because<A: Allocator + Copy, W: io::Write>(
+    alloc: A,
+    writer: &mut W,
+    name: &str,
+    ended: Ended,
+    reason: io::Error,
+) -> bool
+    ensures { (shown : List ℕ) × IsTold name.now ended (Some shown) (W.contents writer.old) (W.contents writer.new) result }
+{
+    let Ok(shown) = format!(in alloc; "{reason}") else {
+        return false;
+    };
+    match ended {
+        Ended::Dump(fault) => tell_read(alloc, writer, name, fault, &shown),
+        Ended::Plan(_) => tell_memory(alloc, writer, name),
+        Ended::WriteFailed => tell_line(alloc, writer, "standard output", &shown, PLACE),
+        Ended::Printed | Ended::Flawed(_) | Ended::NoDecision => true,
+    }
+}
+
+// Tells that no memory was left for a decision.
+fn tell_memory<A: Allocator, W: io::Write>(alloc: A, writer: &mut W, name: &str) -> bool
+    ensures { Tells (line_about name.now (codes "out of memory") (codes "report on fewer numbers of PEs at a time")) (W.contents writer.old) (W.contents writer.new) result }
+{
+    let todo = "report on fewer numbers of PEs at a time";
+    tell_line(alloc, writer, name, "out of memory", todo)
+}
+
+// Tells of a fault of a dump.
+fn tell_dump<A: Allocator + Copy, W: io::Write>(
+    alloc: A,
+    writer: &mut W,
+    name: &str,
+    fault: DumpError,
+) -> bool
+    ensures { Tells (line_about name.now (fault_words fault) (advice fault)) (W.contents writer.old) (W.contents writer.new) result }
+{
+    let Ok(what) = format!(in alloc; "{}", Words(fault)) else {
+        return false;
+    };
+    tell_line(alloc, writer, name, &what, advice(fault))
+}
+
+// The same, with the system's reason.
+fn tell_read<A: Allocator + Copy, W: io::Write>(
+    alloc: A,
+    writer: &mut W,
+    name: &str,
+    fault: DumpError,
+    reason: &str,
+) -> bool
+    ensures { Tells (line_about name.now (fault_said fault (Some reason.now)) (advice fault)) (W.contents writer.old) (W.contents writer.new) result }
+{
+    let Ok(what) = format!(in alloc; "{}: {reason}", Words(fault)) else {
+        return false;
+    };
+    tell_line(alloc, writer, name, &what, advice(fault))
+}
+
+// Tells what is wrong with a file, and what to do about it.
+fn tell_line<A: Allocator, W: io::Write>(
+    alloc: A,
+    writer: &mut W,
+    name: &str,
+    what: &str,
+    todo: &str,
+) -> bool
+    ensures { Tells (line_about name.now what.now todo.now) (W.contents writer.old) (W.contents writer.new) result }
+{
+    let Ok(line) = format!(in alloc; "lb_report: {name}: {what}; {todo}\n") else {
+        return false;
+    };
+    write_out(writer, line.as_bytes())
+}
+
+/// The words for a fault of a dump, those of its own `Display`, whose bytes no clause names.
+#[derive(Clone, Copy)]
+struct Words(DumpError);
+
+impl Display for Words {
+    ghost output = { λ words. Some (fault_words words.0) };
+
+    fn fmt<W: fmt::Write>(&self, f: &mut Formatter<W>) -> fmt::Result {
+        match self.0 {
+            DumpError::Magic => f.write_str("not a dump"),
+            DumpError::Short(n) => write!(f, "the dump ends after {n} bytes"),
+            DumpError::Procs => f.write_str("the number of PEs is out of range"),
+            DumpError::Count => f.write_str("too many elements"),
+            DumpError::Size(i) => write!(f, "the size of element {i} is out of range"),
+            DumpError::Place(i) => write!(f, "the place of element {i} is out of range"),
+            DumpError::Trailing => f.write_str("bytes follow the end"),
+            DumpError::Read => f.write_str("reading failed"),
+            DumpError::Write => f.write_str("writing failed"),
+            DumpError::OutOfMemory => f.write_str("out of memory"),
+            DumpError::Load(i) => write!(f, "the load of element {i} is out of range"),
+            DumpError::Flag => f.write_str("the flag is out of range"),
+            DumpError::Target => f.write_str("the target is out of range"),
+            DumpError::Floor => f.write_str("the floor is out of range"),
+            DumpError::MoveCount => f.write_str("too many moves"),
+            DumpError::Move(k) => write!(f, "move {k} is out of range"),
+            DumpError::Wide(i) => {
+                write!(f, "the load of element {i} is too great for the format")
+            }
+        }
+    }
+}
+
+// What is to be done about a fault of a dump.
+fn advice(fault: DumpError) -> &'static str
+    ensures { result.now ≡ advice fault }
+{
+    match fault {
+        DumpError::Read => "give a file with a dump that you may read, or - for the standard input",
+        DumpError::Magic => {
+            "a dump begins with LBD1 or LBD2: give one that charm_run --dump wrote, or see docs/FORMATS.md"
+        }
+        DumpError::Short(_) => "a dump goes on here: copy it whole, or write it again",
+        DumpError::Trailing => "a dump ends here: give one dump in a file",
+        DumpError::OutOfMemory => "free some, or report on a smaller dump",
+        _ => "see docs/FORMATS.md for what is expected there, and write the dump again",
+    }
+}

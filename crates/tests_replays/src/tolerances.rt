@@ -1,0 +1,218 @@
+//! Replays within a tolerance. What they print was worked out by benches/refinement/texts.py, which tries all cuts and all
+//! namings.
+
+ghost use Rattle.lb_replay.specs.Requests.{MayRun};
+
+use crate::fixtures::{assert_for, ends};
+use chain_refinement::Tolerance;
+use chare_index::Limits;
+use lb_replay::{Ended, Task};
+use tests_fixtures::{EXAMPLE_DUMP, Source};
+
+/// Ten elements on three PEs, which stand in the order 2, 0, 1.
+pub(crate) const TEN: [u8; 136] = *b"LBD1\
+    \0\0\0\x07\0\0\0\x03\0\0\0\x0a\
+    \0\0\0\x01\0\0\0\x0a\0\0\0\x02\
+    \0\0\0\x01\0\0\0\x0a\0\0\0\x02\
+    \0\0\0\x01\0\0\0\x0a\0\0\0\x02\
+    \0\0\0\x02\0\0\0\x14\0\0\0\x02\
+    \0\0\0\x07\0\0\0\x3c\0\0\0\0\
+    \0\0\0\x08\0\0\0\x5a\0\0\0\0\
+    \0\0\0\x06\0\0\0\x46\0\0\0\0\
+    \0\0\0\x02\0\0\0\x14\0\0\0\x01\
+    \0\0\0\x01\0\0\0\x0a\0\0\0\x01\
+    \0\0\0\x01\0\0\0\x0a\0\0\0\x01";
+
+// Four elements without load on three PEs, which stand in the order 1, 2, 0.
+const IDLE: [u8; 64] = *b"LBD1\
+    \0\0\0\x04\0\0\0\x03\0\0\0\x04\
+    \0\0\0\0\0\0\0\x05\0\0\0\x01\
+    \0\0\0\0\0\0\0\x06\0\0\0\x01\
+    \0\0\0\0\0\0\0\x07\0\0\0\x02\
+    \0\0\0\0\0\0\0\x08\0\0\0\0";
+
+// Four elements on two PEs, with loads that need more than 32 bits, in the format LBD2.
+const WIDE: [u8; 84] = *b"LBD2\
+    \0\0\0\x09\0\0\0\x02\0\0\0\x04\
+    \0\0\x01\0\0\0\0\0\0\0\0\x03\0\0\0\x01\
+    \0\0\0\x02\0\0\0\0\0\0\0\x05\0\0\0\x01\
+    \0\0\0\x80\0\0\0\0\0\0\0\x07\0\0\0\x01\
+    \0\0\0\0\0\0\0\x07\0\0\0\x09\0\0\0\0\
+    \0\0\0\0";
+
+// No elements on two PEs.
+const NONE: [u8; 16] = *b"LBD1\0\0\0\0\0\0\0\x02\0\0\0\0";
+
+/// The text of that within 14.
+pub(crate) const WITHIN: &str = "step 7 procs 3 elements 10\n\
+    bottleneck 12\n\
+    fence 0 4 5 6\n\
+    limit 14\n\
+    block 0 0..5 load 12 pe 2\n\
+    block 1 5..7 load 14 pe 0\n\
+    block 2 7..10 load 4 pe 1\n\
+    moved 60\n";
+
+// A dump, the number of PEs that is asked for, a tolerance, and the text.
+struct Row {
+    dump: &'static [u8],
+    procs: Option<u32>,
+    tolerance: u32,
+    text: &'static str,
+}
+
+// The task of a row. A number that is out of range counts as none.
+fn task(row: &Row) -> Task
+    ensures may_run { MayRun result }
+{
+    let procs = row.procs.filter(|&p| 1 <= p && p <= Limits::PES);
+    Task::Refine(procs, row.tolerance.min(Tolerance::MOST))
+}
+
+// Whether a replay prints the text, from a reader that gives seven bytes a call.
+fn is_printed(rt: &impl AllocGlobal, row: &Row) -> bool {
+    let mut reader = Source::new(row.dump, 7, None);
+    ends(rt, task(row), &mut reader, row.text, Ended::Printed)
+}
+
+// PEs that stand in an order: within 14 one element moves, within 12 two, within 24 none.
+static ORDERED: [Row; 7] = [
+    Row {
+        dump: &TEN,
+        procs: None,
+        tolerance: 167,
+        text: WITHIN,
+    },
+    Row {
+        dump: &TEN,
+        procs: None,
+        tolerance: 0,
+        text: "step 7 procs 3 elements 10\n\
+            bottleneck 12\n\
+            fence 0 4 5 6\n\
+            limit 12\n\
+            block 0 0..5 load 12 pe 2\n\
+            block 1 5..6 load 8 pe 0\n\
+            block 2 6..10 load 10 pe 1\n\
+            moved 130\n",
+    },
+    Row {
+        dump: &TEN,
+        procs: None,
+        tolerance: 1000,
+        text: "step 7 procs 3 elements 10\n\
+            bottleneck 12\n\
+            fence 0 4 5 6\n\
+            limit 24\n\
+            block 0 0..4 load 5 pe 2\n\
+            block 1 4..7 load 21 pe 0\n\
+            block 2 7..10 load 4 pe 1\n\
+            moved 0\n",
+    },
+    Row {
+        dump: &IDLE,
+        procs: None,
+        tolerance: 20,
+        text: "step 4 procs 3 elements 4\n\
+            bottleneck 0\n\
+            fence zero\n\
+            limit 0\n\
+            block 0 0..2 load 0 pe 1\n\
+            block 1 2..3 load 0 pe 2\n\
+            block 2 3..4 load 0 pe 0\n\
+            moved 0\n",
+    },
+    Row {
+        dump: &WIDE,
+        procs: None,
+        tolerance: 7,
+        text: "step 9 procs 2 elements 4\n\
+            bottleneck 1099511627776\n\
+            fence 0 0 0\n\
+            limit 1107208209170\n\
+            block 0 0..1 load 1099511627776 pe 0\n\
+            block 1 1..4 load 558345748487 pe 1\n\
+            moved 12\n",
+    },
+    Row {
+        dump: &WIDE,
+        procs: None,
+        tolerance: 8,
+        text: "step 9 procs 2 elements 4\n\
+            bottleneck 1099511627776\n\
+            fence 0 0 0\n\
+            limit 1108307720798\n\
+            block 0 0..2 load 1108101562368 pe 1\n\
+            block 1 2..4 load 549755813895 pe 0\n\
+            moved 7\n",
+    },
+    Row {
+        dump: &NONE,
+        procs: None,
+        tolerance: 7,
+        text: "step 0 procs 2 elements 0\n\
+            bottleneck 0\n\
+            fence zero\n\
+            limit 0\n\
+            block 0 0..0 load 0 pe -\n\
+            block 1 0..0 load 0 pe -\n\
+            moved 0\n",
+    },
+];
+
+// The plan: the elements of a PE do not stand together, or a PE is not among those that are asked for, or no cuts within the
+// tolerance move fewer bytes.
+static PLANNED: [Row; 3] = [
+    Row {
+        dump: &EXAMPLE_DUMP,
+        procs: None,
+        tolerance: 500,
+        text: "step 5 procs 2 elements 3\n\
+            bottleneck 2\n\
+            fence 0 1 2\n\
+            limit 3\n\
+            block 0 0..2 load 2 pe 1\n\
+            block 1 2..3 load 2 pe 0\n\
+            moved 10\n",
+    },
+    Row {
+        dump: &TEN,
+        procs: Some(2),
+        tolerance: 100,
+        text: "step 7 procs 2 elements 10\n\
+            bottleneck 18\n\
+            fence 0 5 9\n\
+            limit 19\n\
+            block 0 0..5 load 12 pe 1\n\
+            block 1 5..10 load 18 pe 0\n\
+            moved 150\n",
+    },
+    Row {
+        dump: &TEN,
+        procs: Some(4),
+        tolerance: 250,
+        text: "step 7 procs 4 elements 10\n\
+            bottleneck 10\n\
+            fence 0 4 5 6 9\n\
+            limit 12\n\
+            block 0 0..4 load 5 pe 2\n\
+            block 1 4..5 load 7 pe 3\n\
+            block 2 5..6 load 8 pe 0\n\
+            block 3 6..10 load 10 pe 1\n\
+            moved 130\n",
+    },
+];
+
+#[test]
+fn elements_in_the_order_of_the_pes(rt: HostRuntime) {
+    for row in &ORDERED {
+        assert_for(&rt, is_printed(&rt, row), row.text);
+    }
+}
+
+#[test]
+fn the_plan_where_nothing_moves_less(rt: HostRuntime) {
+    for row in &PLANNED {
+        assert_for(&rt, is_printed(&rt, row), row.text);
+    }
+}

@@ -1,0 +1,153 @@
+//! What is told where no whole report was written.
+
+use crate::fixtures::assert_for;
+use dump_report::tell;
+use lb_certificates::Flaw;
+use lb_dump::DumpError;
+use lb_replay::Ended;
+use lb_strategy::PlanError;
+use std::alloc::AllocError;
+use std::io::{self, ErrorKind};
+use tests_fixtures::{Refusing, Sink};
+
+// An end without the system's reason, and the line for it.
+const LINES: [(Ended, &str); 10] = [
+    (
+        Ended::Dump(DumpError::Magic),
+        "lb_report: f: not a dump; a dump begins with LBD1 or LBD2: give one that charm_run --dump wrote, or see docs/FORMATS.md\n",
+    ),
+    (
+        Ended::Dump(DumpError::Short(40)),
+        "lb_report: f: the dump ends after 40 bytes; a dump goes on here: copy it whole, or write it again\n",
+    ),
+    (
+        Ended::Dump(DumpError::Trailing),
+        "lb_report: f: bytes follow the end; a dump ends here: give one dump in a file\n",
+    ),
+    (
+        Ended::Dump(DumpError::Place(2)),
+        "lb_report: f: the place of element 2 is out of range; \
+         see docs/FORMATS.md for what is expected there, and write the dump again\n",
+    ),
+    (
+        Ended::Dump(DumpError::OutOfMemory),
+        "lb_report: f: out of memory; free some, or report on a smaller dump\n",
+    ),
+    (
+        Ended::Plan(PlanError::OutOfMemory),
+        "lb_report: f: out of memory; report on fewer numbers of PEs at a time\n",
+    ),
+    (
+        Ended::WriteFailed,
+        "lb_report: standard output: it takes nothing; give it a place that takes all of the report\n",
+    ),
+    (Ended::Printed, ""),
+    (Ended::NoDecision, ""),
+    (Ended::Flawed(Flaw::CutCount), ""),
+];
+
+// Whether this is told of an end, without a reason.
+fn is_told(rt: &impl AllocGlobal, ended: Ended, line: &str) -> bool {
+    let mut told = Vec::new(rt.alloc());
+    let all = tell(rt.alloc(), &mut told, "f", ended, None);
+    let right = all && told.as_slice() == line.as_bytes();
+    drop(told);
+    right
+}
+
+#[test]
+fn each_end(rt: HostRuntime) {
+    for row in &LINES {
+        assert_for(&rt, is_told(&rt, row.0, row.1), row);
+    }
+}
+
+// The line with the words of the fault's own `Display`.
+fn displayed(rt: &impl AllocGlobal, fault: DumpError) -> Result<String, AllocError> {
+    format!(in rt.alloc();
+        "lb_report: f: {fault}; see docs/FORMATS.md for what is expected there, and write the dump again\n"
+    )
+}
+
+// Whether a fault is told in these words.
+fn is_displayed(rt: &impl AllocGlobal, fault: DumpError) -> bool {
+    let Ok(line) = displayed(rt, fault) else {
+        return false;
+    };
+    is_told(rt, Ended::Dump(fault), &line)
+}
+
+#[test]
+fn faults_in_their_own_words(rt: HostRuntime) {
+    const FAULTS: [DumpError; 12] = [
+        DumpError::Procs,
+        DumpError::Count,
+        DumpError::Size(65_535),
+        DumpError::Place(0),
+        DumpError::Write,
+        DumpError::Load(7),
+        DumpError::Flag,
+        DumpError::Target,
+        DumpError::Floor,
+        DumpError::MoveCount,
+        DumpError::Move(3),
+        DumpError::Wide(1),
+    ];
+    for &fault in &FAULTS {
+        assert_for(&rt, is_displayed(&rt, fault), fault);
+    }
+}
+
+// Whether this is told of an end with the system's reason.
+fn is_told_because(rt: &impl AllocGlobal, ended: Ended, line: &str) -> bool {
+    let mut told = Vec::new(rt.alloc());
+    let reason = io::Error::from(ErrorKind::NotFound);
+    let all = tell(rt.alloc(), &mut told, "f", ended, Some(reason));
+    let right = all && told.as_slice() == line.as_bytes();
+    drop(told);
+    right
+}
+
+#[test]
+fn ends_with_a_reason(rt: HostRuntime) {
+    const ROWS: [(Ended, &str); 3] = [
+        (
+            Ended::Dump(DumpError::Read),
+            "lb_report: f: reading failed: entity not found; \
+             give a file with a dump that you may read, or - for the standard input\n",
+        ),
+        (
+            Ended::WriteFailed,
+            "lb_report: standard output: entity not found; give it a place that takes all of the report\n",
+        ),
+        (Ended::Printed, ""),
+    ];
+    for row in &ROWS {
+        assert_for(&rt, is_told_because(&rt, row.0, row.1), row);
+    }
+}
+
+// Whether nothing is told where this request for memory is refused.
+fn is_silent(rt: &impl AllocGlobal, turn: u64) -> bool {
+    let alloc = Refusing::new(rt.alloc(), turn);
+    let mut told = Vec::new(rt.alloc());
+    let all = tell(&alloc, &mut told, "f", Ended::Dump(DumpError::Magic), None);
+    let silent = !all && told.is_empty();
+    drop(told);
+    silent
+}
+
+#[test]
+fn refused_memory_and_a_writer_that_fails(rt: HostRuntime) {
+    assert_for(&rt, is_silent(&rt, 1), "the first request");
+    let mut writer = Sink::new(&rt, 8, 2, Some(ErrorKind::Interrupted));
+    let all = tell(
+        rt.alloc(),
+        &mut writer,
+        "f",
+        Ended::Dump(DumpError::Magic),
+        None,
+    );
+    let part = writer.taken.as_slice() == b"lb_report: f: no".as_slice();
+    assert_for(&rt, !all && part, "the third call");
+}

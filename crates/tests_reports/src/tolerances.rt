@@ -1,0 +1,148 @@
+//! Reports on decisions within a tolerance. Their figures were worked out by benches/refinement/texts.py, which tries all cuts
+//! and all namings.
+
+use crate::fixtures::{VALUES, assert_for, reports_within};
+use chain_refinement::Tolerance;
+use load_report::Style;
+use tests_fixtures::EXAMPLE_DUMP;
+
+// Ten elements on three PEs, which stand in the order 2, 0, 1.
+const TEN: [u8; 136] = *b"LBD1\
+    \0\0\0\x07\0\0\0\x03\0\0\0\x0a\
+    \0\0\0\x01\0\0\0\x0a\0\0\0\x02\
+    \0\0\0\x01\0\0\0\x0a\0\0\0\x02\
+    \0\0\0\x01\0\0\0\x0a\0\0\0\x02\
+    \0\0\0\x02\0\0\0\x14\0\0\0\x02\
+    \0\0\0\x07\0\0\0\x3c\0\0\0\0\
+    \0\0\0\x08\0\0\0\x5a\0\0\0\0\
+    \0\0\0\x06\0\0\0\x46\0\0\0\0\
+    \0\0\0\x02\0\0\0\x14\0\0\0\x01\
+    \0\0\0\x01\0\0\0\x0a\0\0\0\x01\
+    \0\0\0\x01\0\0\0\x0a\0\0\0\x01";
+
+// Four elements without load on three PEs, which stand in the order 1, 2, 0.
+const IDLE: [u8; 64] = *b"LBD1\
+    \0\0\0\x04\0\0\0\x03\0\0\0\x04\
+    \0\0\0\0\0\0\0\x05\0\0\0\x01\
+    \0\0\0\0\0\0\0\x06\0\0\0\x01\
+    \0\0\0\0\0\0\0\x07\0\0\0\x02\
+    \0\0\0\0\0\0\0\x08\0\0\0\0";
+
+// Four elements on two PEs, with loads that need more than 32 bits, in the format LBD2.
+const WIDE: [u8; 84] = *b"LBD2\
+    \0\0\0\x09\0\0\0\x02\0\0\0\x04\
+    \0\0\x01\0\0\0\0\0\0\0\0\x03\0\0\0\x01\
+    \0\0\0\x02\0\0\0\0\0\0\0\x05\0\0\0\x01\
+    \0\0\0\x80\0\0\0\0\0\0\0\x07\0\0\0\x01\
+    \0\0\0\0\0\0\0\x07\0\0\0\x09\0\0\0\0\
+    \0\0\0\0";
+
+// No elements on two PEs.
+const NONE: [u8; 16] = *b"LBD1\0\0\0\0\0\0\0\x02\0\0\0\0";
+
+// A dump, a tolerance, and the report on it for as many PEs as it has.
+struct Row {
+    dump: &'static [u8],
+    tolerance: u32,
+    text: &'static str,
+}
+
+fn is_reported(rt: &impl AllocGlobal, row: &Row, style: Style) -> bool {
+    let tolerance = Tolerance::new(row.tolerance);
+    reports_within(rt, row.dump, &[], tolerance, style, row.text)
+}
+
+// The plan and the decision within the tolerance, behind the present placement.
+static FIGURES: [Row; 5] = [
+    Row {
+        dump: &TEN,
+        tolerance: 167,
+        text: "\"three\",present,3,10,21,10.000,2.100,,,,,,0,0,4,8,10,0.779,110.000,,,7\n\
+            \"three\",planned,3,10,12,10.000,1.200,12,2,20.000,130,41.935,0,0,8,8,10,0.163,20.000,130,70,7\n\
+            \"three\",within,3,10,14,10.000,1.400,12,1,10.000,60,19.354,0,0,4,8,10,0.432,40.000,60,60,7\n",
+    },
+    Row {
+        dump: &EXAMPLE_DUMP,
+        tolerance: 500,
+        text: "\"three\",present,2,3,3,2.000,1.500,,,,,,0,0,1,2,2,0.500,50.000,,,5\n\
+            \"three\",planned,2,3,2,2.000,1.000,2,1,33.333,10,37.037,0,0,2,2,2,0.000,0.000,10,10,5\n\
+            \"three\",within,2,3,2,2.000,1.000,2,1,33.333,10,37.037,0,0,2,2,2,0.000,0.000,10,10,5\n",
+    },
+    Row {
+        dump: &IDLE,
+        tolerance: 20,
+        text: "\"three\",present,3,4,0,0.000,,,,,,,0,3,0,0,0,,,,,4\n\
+            \"three\",planned,3,4,0,0.000,,0,2,50.000,15,57.692,2,3,0,0,0,,,8,15,4\n\
+            \"three\",within,3,4,0,0.000,,0,0,0.000,0,0.000,0,3,0,0,0,,,0,0,4\n",
+    },
+    Row {
+        dump: &WIDE,
+        tolerance: 8,
+        text: "\"three\",present,2,4,1657857376256,828928688131.500,1.999,,,,,,0,0,7,1099511627776,1099511627776,1.000,100.000,,,9\n\
+            \"three\",planned,2,4,1099511627776,828928688131.500,1.326,1099511627776,2,50.000,12,50.000,0,0,558345748487,1099511627776,1099511627776,0.326,32.642,9,9,9\n\
+            \"three\",within,2,4,1108101562368,828928688131.500,1.336,1099511627776,1,25.000,7,29.166,0,0,549755813895,1099511627776,1099511627776,0.337,33.679,7,7,9\n",
+    },
+    Row {
+        dump: &NONE,
+        tolerance: 7,
+        text: "\"three\",present,2,0,0,0.000,,,,,,,2,2,0,0,0,,,,,0\n\
+            \"three\",planned,2,0,0,0.000,,0,0,,0,,2,2,0,0,0,,,0,0,0\n\
+            \"three\",within,2,0,0,0.000,,0,0,,0,,2,2,0,0,0,,,0,0,0\n",
+    },
+];
+
+#[test]
+fn figures_within_a_tolerance(rt: HostRuntime) {
+    for row in &FIGURES {
+        assert_for(&rt, is_reported(&rt, row, VALUES), row.text);
+    }
+}
+
+// Ten elements on three PEs within 24, where nothing moves, and on four within 20, where one element moves.
+const ON_BOTH: &str = "\"three\",present,3,10,21,10.000,2.100,,,,,,0,0,4,8,10,0.779,110.000,,,7\n\
+    \"three\",planned,3,10,12,10.000,1.200,12,2,20.000,130,41.935,0,0,8,8,10,0.163,20.000,130,70,7\n\
+    \"three\",within,3,10,21,10.000,2.100,12,0,0.000,0,0.000,0,0,4,8,10,0.779,110.000,0,0,7\n\
+    \"three\",planned,4,10,10,7.500,1.333,10,2,20.000,130,41.935,0,0,5,8,8,0.240,33.333,130,70,7\n\
+    \"three\",within,4,10,14,7.500,1.866,10,1,10.000,60,19.354,1,1,0,8,8,0.763,86.667,60,60,7\n";
+
+#[test]
+fn figures_for_two_numbers_of_pes(rt: HostRuntime) {
+    let tolerance = Tolerance::new(1_000);
+    let found = reports_within(&rt, &TEN, &[3, 4], tolerance, VALUES, ON_BOTH);
+    assert_for(&rt, found, "three and four");
+}
+
+// The elements that the decision within the tolerance moves.
+static MOVES: [Row; 4] = [
+    Row {
+        dump: &TEN,
+        tolerance: 167,
+        text: "\"three\",3,4,0,2,60\n",
+    },
+    Row {
+        dump: &EXAMPLE_DUMP,
+        tolerance: 500,
+        text: "\"three\",2,0,0,1,10\n",
+    },
+    Row {
+        dump: &WIDE,
+        tolerance: 8,
+        text: "\"three\",2,2,1,0,7\n",
+    },
+    Row {
+        dump: &TEN,
+        tolerance: 1000,
+        text: "",
+    },
+];
+
+#[test]
+fn moves_within_a_tolerance(rt: HostRuntime) {
+    let style = Style {
+        csv: true,
+        moves: true,
+    };
+    for row in &MOVES {
+        assert_for(&rt, is_reported(&rt, row, style), row.text);
+    }
+}
