@@ -5,9 +5,11 @@ use crate::tallies::{Amounts, EXAMPLE, EXAMPLE_TEXT, run_tallies, text_of};
 use chare_index::Pe;
 use chares::{Mark, Note};
 use lb_certificates::{Snapshot, Units};
+use pe_state::Elements;
 use std::process::Abort;
 use std::sync::Wait;
 use std::thread::Threads;
+use tally::Tally;
 
 // So many PEs, so much room before each, what the tallies post, and what is printed.
 type Row<'a> = (u32, u32, Amounts<'a>, &'a str);
@@ -134,4 +136,24 @@ fn the_parts_of_an_outcome(rt: HostRuntime) {
     drop(ends);
     drop(left);
     drop(rounds);
+}
+
+// The sum of the next of these tallies.
+fn next_sum(elements: &mut Elements<Tally>) -> Option<u64> {
+    let element = elements.next()?;
+    let tally = element.into_chare();
+    Some(tally.sum())
+}
+
+#[test]
+fn the_chares_of_an_outcome_in_order(rt: HostRuntime) {
+    let outcome = run_tallies(&rt, &patient(2, 1_024), &EXAMPLE);
+    let mut elements = outcome.into_elements();
+    let first = (next_sum(&mut elements), next_sum(&mut elements));
+    let second = (next_sum(&mut elements), next_sum(&mut elements));
+    let last = next_sum(&mut elements);
+    drop(elements);
+    assert_for(&rt, first == (Some(8), Some(3)), first);
+    assert_for(&rt, second == (Some(3), Some(4)), second);
+    assert_for(&rt, last.is_none(), last);
 }
