@@ -15,7 +15,7 @@ floors_agree : (A B : Type 0) (stops : List ℕ) (zero : Type 0) (fence : List �
 floors_agree A B [] zero fence holds = holds
 floors_agree A B (stop ∷ stops) zero fence holds = holds
 
-flaws_agree : (A B : Type 0) (loads : List ℕ) (pes bottleneck : ℕ) (cuts stops : List ℕ) (flaw : Flaw) → HasFlaw loads pes (division_of {A = A} bottleneck cuts stops) flaw → HasFlaw loads pes (division_of {A = B} bottleneck cuts stops) flaw
+pub flaws_agree : (A B : Type 0) (loads : List ℕ) (pes bottleneck : ℕ) (cuts stops : List ℕ) (flaw : Flaw) → HasFlaw loads pes (division_of {A = A} bottleneck cuts stops) flaw → HasFlaw loads pes (division_of {A = B} bottleneck cuts stops) flaw
 flaws_agree A B loads pes bottleneck cuts stops FenceCount flawed = floors_agree A B stops _ _ flawed
 flaws_agree A B loads pes bottleneck cuts stops FenceStart flawed = floors_agree A B stops _ _ flawed
 flaws_agree A B loads pes bottleneck cuts stops FenceOrder flawed = floors_agree A B stops _ _ flawed

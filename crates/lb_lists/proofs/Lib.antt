@@ -1,10 +1,14 @@
 pub mod Blocks
 pub mod Claims
 pub mod FirstFlaws
+pub mod FlatSteps
 pub mod Greatest
+pub mod HeightRows
 pub mod NearLeast
 pub mod OnePlan
 pub mod Plans
+pub mod RefinedClaims
+pub mod RefinedRuns
 pub mod ShortClaims
 pub mod Ticks
 pub mod Zipped

@@ -4,3 +4,7 @@ pub mod Plans
 pub mod Rooms
 pub mod Claims
 pub mod Scales
+pub mod Steps
+pub mod Refinings
+pub mod RefinedRooms
+pub mod RefinedClaims

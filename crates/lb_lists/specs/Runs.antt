@@ -4,6 +4,8 @@ use Rattle.std.specs.List.{zip}
 use Rattle.chare_index.specs.declared.limits.TheConstants.Limits.{ELEMENTS, PES, LOAD, STATE_BYTES}
 use Rattle.lb_lists.specs.declared.error.RunError.{RunError}
 use Rattle.lb_lists.specs.declared.error.RunError.TheVariants.{BadInput, BadLoad, OutOfMemory}
+use Rattle.lb_lists.specs.declared.error.RefineError.{RefineError}
+use Rattle.lb_lists.specs.declared.error.RefineError.TheVariants.{BadTolerance, Run}
 
 -- of each element the load, the packed size in bytes and the PE on which it stands, and how many PEs there are
 pub record Listed : Type 0 where
@@ -42,3 +44,8 @@ abbrev pub IsRefusal : Type 0 → Type 0 → RunError → Type 0
 IsRefusal in_order small BadInput = ¬ in_order
 IsRefusal in_order small BadLoad = in_order × ¬ small
 IsRefusal in_order small OutOfMemory = in_order × small
+
+-- Why nothing was decided within a tolerance of so many thousandths: they are too many; or they are not, and why else.
+abbrev pub IsRefineRefusal : ℕ → Type 0 → Type 0 → RefineError → Type 0
+IsRefineRefusal thousandths in_order small BadTolerance = 1000 < thousandths
+IsRefineRefusal thousandths in_order small (Run error) = (thousandths ≤ 1000) × IsRefusal in_order small error

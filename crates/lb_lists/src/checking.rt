@@ -17,8 +17,8 @@ use lb_certificates::{
 };
 use std::alloc::{AllocError, Allocator};
 
-// The floor that these stops are.
-fn floor_from<A: Allocator>(alloc: A, stops: &[u32]) -> Result<Floor<A>, AllocError>
+/// The floor that these stops are.
+pub(crate) fn floor_from<A: Allocator>(alloc: A, stops: &[u32]) -> Result<Floor<A>, AllocError>
     ensures { IfOk result (λ f. f ≡ floor_of stops.now) }
 {
     if stops.is_empty() {
@@ -41,8 +41,11 @@ fn division_from<A: Allocator + Copy>(
     })
 }
 
-// The prices that are claimed.
-fn prices_from<A: Allocator + Copy>(alloc: A, claim: &Claim<'_>) -> Result<Prices<A>, AllocError>
+/// The prices that are claimed.
+pub(crate) fn prices_from<A: Allocator + Copy>(
+    alloc: A,
+    claim: &Claim<'_>,
+) -> Result<Prices<A>, AllocError>
     ensures blocks { IfOk result (λ p. p.u ≡ claim.now.block_prices) }
     ensures pes { IfOk result (λ p. p.v ≡ claim.now.pe_prices) }
 {
@@ -91,8 +94,8 @@ fn is_placed(count: usize, claim: &Claim<'_>) -> bool
     are_places(claim.cuts, claim.names, claim.new_places)
 }
 
-// The first flaw of what a claim tells of a right division and right names: of the bytes, and then of the places.
-fn flaw_told(moved: u64, count: usize, claim: &Claim<'_>) -> Option<Flaw>
+/// The first flaw of what a claim tells of a right division and right names: of the bytes, and then of the places.
+pub(crate) fn flaw_told(moved: u64, count: usize, claim: &Claim<'_>) -> Option<Flaw>
     requires some_block { 0 < blocks_between claim.now.cuts }
     requires divides { IsDivision 0 count (blocks_between claim.now.cuts) claim.now.cuts }
     requires few { count ≤ Limits.ELEMENTS }

@@ -63,8 +63,8 @@ fn write_stops<A: Allocator>(floor: &Floor<A>, stops: &mut [u32]) -> usize
     }
 }
 
-// Whether there is the room for a decision on so many elements.
-fn has_room(room: &Room<'_>, elements: usize, pes: u32) -> bool
+/// Whether there is the room for a decision on so many elements.
+pub(crate) fn has_room(room: &Room<'_>, elements: usize, pes: u32) -> bool
     ensures { IsTrue result ↔ HasRoom elements pes (lists_in room.now) }
 {
     let blocks = u64::from(pes);
@@ -76,8 +76,8 @@ fn has_room(room: &Room<'_>, elements: usize, pes: u32) -> bool
         && room.pe_prices.len() as u64 == blocks
 }
 
-// Writes a decision, and returns its numbers.
-fn write_decision<A: Allocator>(plan: &Plan<A>, room: &mut Room<'_>) -> Decided
+/// Writes a decision, and returns its numbers.
+pub(crate) fn write_decision<A: Allocator>(plan: &Plan<A>, room: &mut Room<'_>) -> Decided
     requires divides { IsDivision 0 (length room.old.new_places.now) (blocks_between plan.now.division.cuts) plan.now.division.cuts }
     requires some_block { 0 < blocks_between plan.now.division.cuts }
     requires few { length room.old.new_places.now ≤ Limits.ELEMENTS }

@@ -20,6 +20,17 @@ pub enum RunError {
     OutOfMemory,
 }
 
+/// Why nothing was decided within a tolerance.
+#[derive(Clone, Copy, Debug, PartialEq, Eq, Error)]
+pub enum RefineError {
+    /// The tolerance is above [`Tolerance::MOST`](chain_refinement::Tolerance::MOST).
+    #[error("the tolerance is too great")]
+    BadTolerance,
+    /// The tolerance is in order, and the run was not planned.
+    #[error("{0}")]
+    Run(RunError),
+}
+
 impl From<AllocError> for RunError {
     ghost from_gives = { λ _ e. e ≡ OutOfMemory };
 

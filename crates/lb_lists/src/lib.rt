@@ -4,7 +4,11 @@
 //! - [`Run`]: the elements of a run, as lists.
 //! - [`plan_run`]: decides; [`plan_into`] writes the place of each element, and [`decide_into`] the whole decision, into
 //!   [`Room`] of the caller.
+//! - [`refine_run`]: decides within a tolerance; [`refine_into`] writes the decision into a [`RefinedRoom`], or returns a
+//!   [`RefineError`].
 //! - [`check_claim`]: whether a [`Claim`] is right, whoever made it, or its first flaw; [`number_of`] a flaw.
+//! - [`check_refined`]: whether a [`RefinedClaim`] of a decision within a tolerance is right, or its first [`RefinedFlaw`], with
+//!   its [number](number_of_refined) and its [place](place_of_refined).
 //! - [`scale_loads`]: loads in seconds as whole numbers, or a [`ScaleError`].
 //! - [`RunError`]: why a run was not planned, or a claim not checked.
 //! - [`one_plan`]: the law that a run has one plan; [`near_least`]: that one of scaled loads is nearly least.
@@ -19,14 +23,22 @@ mod measured;
 mod places;
 mod plan;
 mod planning;
+mod refined_checking;
+mod refined_claim;
+mod refined_writing;
+mod refining;
 mod run;
 mod scaling;
+mod steps;
 
 pub use checking::{check_claim, number_of};
 pub use claim::Claim;
 pub use deciding::{Decided, Room, decide_into};
-pub use error::RunError;
+pub use error::{RefineError, RunError};
 pub use laws::{near_least, one_plan};
 pub use planning::{Planned, plan_into, plan_run};
+pub use refined_checking::{RefinedFlaw, check_refined, number_of_refined, place_of_refined};
+pub use refined_claim::RefinedClaim;
+pub use refining::{RefinedNumbers, RefinedRoom, StandingRoom, refine_into, refine_run};
 pub use run::Run;
 pub use scaling::{ScaleError, scale_loads};

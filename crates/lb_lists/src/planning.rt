@@ -17,8 +17,8 @@ use lb_certificates::Snapshot;
 use lb_strategy::{Decision, plan};
 use std::alloc::Allocator;
 
-// The snapshot of a run that is to go on with `pes` PEs, at step 0.
-fn snapshot_of<A: Allocator + Copy>(
+/// The snapshot of a run that is to go on with `pes` PEs, at step 0.
+pub(crate) fn snapshot_of<A: Allocator + Copy>(
     alloc: A,
     run: &Run<'_>,
     pes: u32,

@@ -1,0 +1,106 @@
+-- The refinement of a claim is the same whatever holds its lists; the first flaw of a claim, from what the checkers of refinements
+-- and namings answer; and what a right claim implies.
+use Rattle.std.proofs.Common.{◌≡◌, ℕ, ℤ, List, Option, None, Some, inl, inr, length, arith, ap, refl, subst, sym, ◌∙◌}
+use Rattle.std.specs.Prelude.{MatchOption}
+use Rattle.lb_certificates.specs.Flaws.{HasNamingFlaw, IsFirst}
+use Rattle.lb_certificates.specs.Naming.{blocks_between, bytes_moved, IsCheapest, IsNamed}
+use Rattle.lb_certificates.specs.declared.flaw.Flaw.{Flaw}
+use Rattle.lb_certificates.proofs.BlockSums.{cheapest_from_named}
+use Rattle.lb_certificates.proofs.LeastDivisions.{least_from_certified}
+use Rattle.chain_refinement.specs.Flaws.{HasRefinementFlaw, IsFirstRefinementFlaw}
+use Rattle.chain_refinement.specs.Refinement.{IsRefinement}
+use Rattle.chain_refinement.specs.declared.flaw.RefinementFlaw.{RefinementFlaw}
+use Rattle.chain_refinement.specs.declared.flaw.RefinementFlaw.TheVariants.{Least, PeCount, NameCount, NameRange, NameTwice, CutCount, NoDivision, Heavy, HeightCount, HeightStart, Steep, HeightLow}
+use Rattle.chain_refinement.proofs.Bounds.{fewest_from_proved}
+use Rattle.lb_lists.specs.Claims.{right_moved, Claimed, IsFlawTold, IsNamedRight, IsToldRight}
+use Rattle.lb_lists.specs.Places.{ArePlaces}
+use Rattle.lb_lists.specs.RefinedClaims.{claimed_refinement, refinement_of, AreNamesRight, IsBestWithin, IsFirstRefinedFlaw, IsNamesFlaw, IsRefinedRight, IsRightRefined, RefinedClaimed}
+use Rattle.lb_lists.specs.declared.refined_checking.RefinedFlaw.{RefinedFlaw}
+use Rattle.lb_lists.specs.Runs.{sizes_of, IsRun, Listed}
+use Rattle.lb_lists.proofs.Claims.{certified_claimed, flaws_agree}
+use Rattle.lb_lists.proofs.Zipped.{zip_length}
+
+refinement_flaws_agree : (A B : Type 0) (loads : List ℕ) (sizes : List (ℕ × ℕ)) (pes thousandths : ℕ) (claim : RefinedClaimed) (flaw : RefinementFlaw) → HasRefinementFlaw loads sizes pes (refinement_of {A = A} thousandths claim) flaw → HasRefinementFlaw loads sizes pes (refinement_of {A = B} thousandths claim) flaw
+refinement_flaws_agree A B loads sizes pes thousandths claim (Least flaw) flawed =
+    flaws_agree A B loads pes claim.decision.bottleneck claim.least_cuts claim.decision.stops flaw flawed
+refinement_flaws_agree A B loads sizes pes thousandths claim PeCount flawed = flawed
+refinement_flaws_agree A B loads sizes pes thousandths claim NameCount flawed = flawed
+refinement_flaws_agree A B loads sizes pes thousandths claim NameRange flawed = flawed
+refinement_flaws_agree A B loads sizes pes thousandths claim NameTwice flawed = flawed
+refinement_flaws_agree A B loads sizes pes thousandths claim CutCount flawed = flawed
+refinement_flaws_agree A B loads sizes pes thousandths claim NoDivision flawed = flawed
+refinement_flaws_agree A B loads sizes pes thousandths claim (Heavy b) flawed = flawed
+refinement_flaws_agree A B loads sizes pes thousandths claim HeightCount flawed = flawed
+refinement_flaws_agree A B loads sizes pes thousandths claim HeightStart flawed = flawed
+refinement_flaws_agree A B loads sizes pes thousandths claim (Steep b x) flawed = flawed
+refinement_flaws_agree A B loads sizes pes thousandths claim HeightLow flawed = flawed
+
+-- the first flaw of the refinement
+pub first_refinement : (A : Type 0) (loads : List ℕ) (sizes : List (ℕ × ℕ)) (pes thousandths : ℕ) (claim : RefinedClaimed) (flaw : RefinementFlaw) → IsFirstRefinementFlaw (HasRefinementFlaw loads sizes pes (refinement_of {A = A} thousandths claim)) flaw → IsFirstRefinementFlaw (HasRefinementFlaw loads sizes pes (claimed_refinement thousandths claim)) flaw
+first_refinement A loads sizes pes thousandths claim flaw first =
+    record {
+      applies_itself = refinement_flaws_agree A (Unit {0}) loads sizes pes thousandths claim flaw first.applies_itself;
+      no_lower_number = λ other lower flawed. first.no_lower_number other lower (refinement_flaws_agree (Unit {0}) A loads sizes pes thousandths claim other flawed);
+      no_lower_place = λ other same before flawed. first.no_lower_place other same before (refinement_flaws_agree (Unit {0}) A loads sizes pes thousandths claim other flawed);
+    }
+
+-- the refinement, where it is right
+pub right_refinement : (A : Type 0) (loads : List ℕ) (sizes : List (ℕ × ℕ)) (pes thousandths : ℕ) (claim : RefinedClaimed) → IsRefinement loads sizes pes (refinement_of {A = A} thousandths claim) → IsRefinement loads sizes pes (claimed_refinement thousandths claim)
+right_refinement A loads sizes pes thousandths claim right =
+    record {
+      least = certified_claimed A loads pes claim.decision.bottleneck claim.least_cuts claim.decision.stops right.least;
+      some_pe = right.some_pe;
+      few_pes = right.few_pes;
+      order = right.order;
+      proved = right.proved;
+    }
+
+-- the lists of a claim's decision, on a run
+pub record AreNamesOf (run : Listed) (claim : Claimed) (sizes : List (ℕ × ℕ)) (cuts names : List ℕ) (u v : List ℤ) : Type 0 where
+  pub sizes_are : sizes ≡ sizes_of run
+  pub cuts_are : cuts ≡ claim.cuts
+  pub names_are : names ≡ claim.names
+  pub block_prices_are : u ≡ claim.block_prices
+  pub pe_prices_are : v ≡ claim.pe_prices
+
+of_names : (run : Listed) (claim : Claimed) (sizes : List (ℕ × ℕ)) (cuts names : List ℕ) (u v : List ℤ) → (P : List (ℕ × ℕ) → List ℕ → List ℕ → List ℤ → List ℤ → Type 0) → AreNamesOf run claim sizes cuts names u v → P sizes cuts names u v → P (sizes_of run) claim.cuts claim.names claim.block_prices claim.pe_prices
+of_names run claim sizes cuts names u v P parts holds =
+    let with_sizes = subst (λ s. P s cuts names u v) parts.sizes_are holds in
+    let with_cuts = subst (λ c. P (sizes_of run) c names u v) parts.cuts_are with_sizes in
+    let with_names = subst (λ n. P (sizes_of run) claim.cuts n u v) parts.names_are with_cuts in
+    let with_blocks = subst (λ w. P (sizes_of run) claim.cuts claim.names w v) parts.block_prices_are with_names in
+    subst (P (sizes_of run) claim.cuts claim.names claim.block_prices) parts.pe_prices_are with_blocks
+
+-- a flaw that the checker of namings reports
+pub in_names : (run : Listed) (claim : Claimed) (sizes : List (ℕ × ℕ)) (cuts names : List ℕ) (u v : List ℤ) (flaw : Flaw) → AreNamesOf run claim sizes cuts names u v → IsFirst (HasNamingFlaw sizes cuts names u v) flaw → IsNamesFlaw run claim flaw
+in_names run claim sizes cuts names u v flaw parts first =
+    inl (of_names run claim sizes cuts names u v (λ s c n x y. IsFirst (HasNamingFlaw s c n x y) flaw) parts first)
+
+-- what is told of right names
+pub in_told : (run : Listed) (claim : Claimed) (sizes : List (ℕ × ℕ)) (cuts names : List ℕ) (u v : List ℤ) (moved count : ℕ) (result : Option Flaw) → AreNamesOf run claim sizes cuts names u v → IsNamed sizes cuts names u v → moved ≡ bytes_moved sizes cuts names → count ≡ length run.loads → MatchOption result (IsToldRight moved count claim) (IsFlawTold moved count claim) → MatchOption result (AreNamesRight run claim) (IsNamesFlaw run claim)
+in_told run claim sizes cuts names u v moved count result parts right moves counted told =
+    let named : IsNamedRight run claim = of_names run claim sizes cuts names u v IsNamed parts right in
+    let moved_is : moved ≡ right_moved run claim = of_names run claim sizes cuts names u v (λ s c n x y. moved ≡ bytes_moved s c n) parts moves in
+    told_by run claim result named (subst (λ m. MatchOption result (IsToldRight m (length run.loads) claim) (IsFlawTold m (length run.loads) claim)) moved_is (subst (λ n. MatchOption result (IsToldRight moved n claim) (IsFlawTold moved n claim)) counted told))
+  where
+    told_by : (run : Listed) (claim : Claimed) (result : Option Flaw) → IsNamedRight run claim → MatchOption result (IsToldRight (right_moved run claim) (length run.loads) claim) (IsFlawTold (right_moved run claim) (length run.loads) claim) → MatchOption result (AreNamesRight run claim) (IsNamesFlaw run claim)
+    told_by run claim None named told = record { named = named; moved = told.0; placed = told.1 }
+    told_by run claim (Some flaw) named told = inr (named, told)
+
+-- a right claim is best
+pub best_within : (run : Listed) (pes thousandths : ℕ) (claim : RefinedClaimed) → IsRun run → IsRightRefined run pes thousandths claim → IsBestWithin run pes thousandths claim
+best_within run pes thousandths claim is_run right =
+    let paired : length run.loads ≡ length (sizes_of run) = omega (arith, zip_length run.bytes run.places (omega (arith, is_run.stood, is_run.sized)), is_run.sized) in
+    let counted : blocks_between claim.decision.cuts ≡ pes = omega (arith, right.refinement.proved.within.divides.counted, right.refinement.order.counted) in
+    record {
+      least = least_from_certified run.loads pes _ right.refinement.least;
+      fewest = fewest_from_proved run.loads (sizes_of run) claim.order _ claim.decision.cuts _ paired right.refinement.proved;
+      cheapest = subst (λ n. IsCheapest (sizes_of run) claim.decision.cuts n claim.decision.names) counted (cheapest_from_named (sizes_of run) claim.decision.cuts claim.decision.names claim.decision.block_prices claim.decision.pe_prices right.names.named);
+      moved = right.names.moved;
+      placed = right.names.placed;
+    }
+
+-- a claim in which no flaw was found is best
+pub best_where_no_flaw : (run : Listed) (pes thousandths : ℕ) (claim : RefinedClaimed) (found : Option RefinedFlaw) → IsRun run → MatchOption found (IsRightRefined run pes thousandths claim) (IsFirstRefinedFlaw run pes thousandths claim) → found ≡ None → IsBestWithin run pes thousandths claim
+best_where_no_flaw run pes thousandths claim None is_run right none = best_within run pes thousandths claim is_run right
+best_where_no_flaw run pes thousandths claim (Some flaw) is_run first none = absurd cc

@@ -1,0 +1,134 @@
+-- The lists that a decision within a tolerance is written to.
+use Rattle.std.specs.Prelude.{◌≡◌, Bool, true, false, ℕ, ◌+◌, ◌<◌, ◌≤◌, List, length, take, drop}
+use Rattle.lb_refinement.specs.declared.refined.Kept.{Kept}
+use Rattle.lb_strategy.specs.declared.decision.Decision.{Decision}
+use Rattle.lb_lists.specs.Plans.{stops_in}
+use Rattle.lb_lists.specs.Refinings.{Standing, Told}
+use Rattle.lb_lists.specs.Rooms.{lists_in, HasListsOf, HasRoom, Lists}
+use Rattle.lb_lists.specs.Steps.{all_steps, first_steps, places_of, rises_of}
+use Rattle.lb_lists.specs.declared.refining.RefinedRoom.{RefinedRoom}
+use Rattle.lb_lists.specs.declared.refining.StandingRoom.{StandingRoom}
+
+-- what stands in the lists of the order, the present cuts, the least cuts and the steps
+pub record StandingLists : Type 0 where
+  pub least_cuts : List ℕ
+  pub order : List ℕ
+  pub present : List ℕ
+  pub step_starts : List ℕ
+  pub step_places : List ℕ
+  pub step_rises : List ℕ
+
+abbrev pub standing_lists_in : StandingRoom → StandingLists
+standing_lists_in room =
+    record {
+      least_cuts = room.least_cuts.now;
+      order = room.order.now;
+      present = room.present.now;
+      step_starts = room.step_starts.now;
+      step_places = room.step_places.now;
+      step_rises = room.step_rises.now;
+    }
+
+-- what stands in a room
+pub record RefinedLists : Type 0 where
+  pub decision : Lists
+  pub standing : StandingLists
+
+abbrev pub refined_lists_in : RefinedRoom → RefinedLists
+refined_lists_in room =
+    record { decision = lists_in room.decision; standing = standing_lists_in room.standing }
+
+-- the lists of a room are those of another, whatever stands in them
+pub record HasStandingListsOf (other room : StandingRoom) : Type 0 where
+  pub least_cuts : room.least_cuts.ghost_name ≡ other.least_cuts.ghost_name
+  pub order : room.order.ghost_name ≡ other.order.ghost_name
+  pub present : room.present.ghost_name ≡ other.present.ghost_name
+  pub step_starts : room.step_starts.ghost_name ≡ other.step_starts.ghost_name
+  pub step_places : room.step_places.ghost_name ≡ other.step_places.ghost_name
+  pub step_rises : room.step_rises.ghost_name ≡ other.step_rises.ghost_name
+
+pub record HasRefinedListsOf (other room : RefinedRoom) : Type 0 where
+  pub decision : HasListsOf other.decision room.decision
+  pub standing : HasStandingListsOf other.standing room.standing
+
+-- a cut and a first step more than PEs, a name for each PE, and as many rises of steps as places
+pub record HasStandingRoom (pes : ℕ) (lists : StandingLists) : Type 0 where
+  pub least_cuts : length lists.least_cuts ≡ pes + 1
+  pub order : length lists.order ≡ pes
+  pub present : length lists.present ≡ pes + 1
+  pub step_starts : length lists.step_starts ≡ pes + 1
+  pub step_rises : length lists.step_rises ≡ length lists.step_places
+
+-- the same, and room for a decision on so many elements
+pub record HasRefinedRoom (elements pes : ℕ) (lists : RefinedLists) : Type 0 where
+  pub decision : HasRoom elements pes lists.decision
+  pub standing : HasStandingRoom pes lists.standing
+
+-- what is told by these lists, with the first so many stops
+abbrev pub told_in : ℕ → ℕ → ℕ → RefinedLists → Told
+told_in least moved stops lists =
+    record {
+      least = least;
+      moved = moved;
+      cuts = lists.decision.cuts;
+      names = lists.decision.names;
+      block_prices = lists.decision.block_prices;
+      pe_prices = lists.decision.pe_prices;
+      least_cuts = lists.standing.least_cuts;
+      stops = take stops lists.decision.stops;
+    }
+
+-- what is to be told of a plan, and of cuts near the present ones
+abbrev pub told_of_plan : {A : Type 0} → Decision A → Told
+told_of_plan d =
+    record {
+      least = d.division.bottleneck;
+      moved = d.moved;
+      cuts = d.division.cuts;
+      names = d.naming;
+      block_prices = d.prices.u;
+      pe_prices = d.prices.v;
+      least_cuts = d.division.cuts;
+      stops = stops_in d.division.floor;
+    }
+
+abbrev pub told_of_kept : {A : Type 0} → Kept A → Told
+told_of_kept k =
+    record {
+      least = k.refinement.least.bottleneck;
+      moved = k.moved;
+      cuts = k.refinement.cuts;
+      names = k.naming;
+      block_prices = k.prices.u;
+      pe_prices = k.prices.v;
+      least_cuts = k.refinement.least.cuts;
+      stops = stops_in k.refinement.least.floor;
+    }
+
+-- The heights have so many steps. These are written where there is room for all of them: of each block the number of its
+-- first step, and of each step the place and the rise. Otherwise, and behind them, all is as it was.
+pub record AreStepsIn (heights : List (List (ℕ × ℕ))) (steps : ℕ) (old new : StandingLists) : Type 0 where
+  pub counted : steps ≡ length (all_steps heights)
+  pub starts : steps ≤ length old.step_places → new.step_starts ≡ first_steps 0 heights
+  pub places : steps ≤ length old.step_places → take steps new.step_places ≡ places_of (all_steps heights)
+  pub rises : steps ≤ length old.step_places → take steps new.step_rises ≡ rises_of (all_steps heights)
+  pub starts_left : length old.step_places < steps → new.step_starts ≡ old.step_starts
+  pub places_left : drop steps new.step_places ≡ drop steps old.step_places
+  pub rises_left : drop steps new.step_rises ≡ drop steps old.step_rises
+
+-- order, present cuts and steps are as they were
+pub record IsStandingLeft (old new : StandingLists) : Type 0 where
+  pub order : new.order ≡ old.order
+  pub present : new.present ≡ old.present
+  pub step_starts : new.step_starts ≡ old.step_starts
+  pub step_places : new.step_places ≡ old.step_places
+  pub step_rises : new.step_rises ≡ old.step_rises
+
+-- what is written beside the decision: the steps of these heights, where its cuts are near the present ones
+abbrev pub IsStandingIn : Bool → List (List (ℕ × ℕ)) → ℕ → StandingLists → StandingLists → Type 0
+IsStandingIn true heights steps old new = AreStepsIn heights steps old new
+IsStandingIn false heights steps old new = (steps ≡ 0) × IsStandingLeft old new
+
+-- the order and the present cuts of these lists, with heights
+abbrev pub standing_in : List (List (ℕ × ℕ)) → StandingLists → Standing
+standing_in heights lists = record { order = lists.order; present = lists.present; heights = heights }

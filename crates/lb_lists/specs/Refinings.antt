@@ -1,0 +1,68 @@
+-- A decision within a tolerance as plain lists.
+use Rattle.std.specs.Prelude.{◌≡◌, ◌⊎◌, Bool, true, false, ℕ, ◌<◌, ◌≤◌, List, length, ℤ}
+use Rattle.chain_partition.specs.Chosen.{IsChosen}
+use Rattle.lb_certificates.specs.Certificate.{IsCertified}
+use Rattle.lb_certificates.specs.Naming.{bytes_moved, IsLeastNaming, IsNamed}
+use Rattle.lb_certificates.specs.declared.division.Division.{Division}
+use Rattle.chain_refinement.specs.Orders.{IsPresentOrder}
+use Rattle.chain_refinement.specs.Refinement.{AreNearest, AreProved, AreWithin}
+use Rattle.chain_refinement.specs.Tolerances.{limit_of}
+use Rattle.present_order.specs.NoOrders.{HasNoOrder}
+use Rattle.lb_lists.specs.Claims.{division_of}
+use Rattle.lb_lists.specs.Runs.{sizes_of, Listed}
+
+-- the cuts, the names of the blocks between them with their prices, the bytes that move, and the least division
+pub record Told : Type 0 where
+  pub least : ℕ
+  pub moved : ℕ
+  pub cuts : List ℕ
+  pub names : List ℕ
+  pub block_prices : List ℤ
+  pub pe_prices : List ℤ
+  pub least_cuts : List ℕ
+  pub stops : List ℕ
+
+-- the order in which the PEs stand, with the present cuts, and the heights of each block
+pub record Standing : Type 0 where
+  pub order : List ℕ
+  pub present : List ℕ
+  pub heights : List (List (ℕ × ℕ))
+
+-- the least division that is told
+abbrev pub told_division : Told → Division (Unit {0})
+told_division told = division_of told.least told.least_cuts told.stops
+
+-- The least division is the chosen one, the names are the least of those that move the fewest bytes for the cuts, with prices
+-- that prove it, and the bytes are those that the names move.
+pub record IsToldRight (run : Listed) (pes : ℕ) (told : Told) : Type 0 where
+  pub certified : IsCertified run.loads pes (told_division told)
+  pub chosen : IsChosen run.loads pes (told_division told)
+  pub named : IsNamed (sizes_of run) told.cuts told.names told.block_prices told.pe_prices
+  pub least_naming : IsLeastNaming (sizes_of run) told.cuts pes told.names
+  pub moved : told.moved ≡ bytes_moved (sizes_of run) told.cuts told.names
+
+-- the decision of the plan: its cuts are those of the least division
+pub record IsToldPlan (run : Listed) (pes : ℕ) (told : Told) : Type 0 where
+  pub right : IsToldRight run pes told
+  pub cuts_are : told.cuts ≡ told.least_cuts
+
+-- Cuts near the present ones: in the order in which the PEs stand, of all cuts within the tolerance those that move the
+-- fewest bytes, which the heights prove, and of these the nearest.
+pub record IsToldNear (run : Listed) (pes tolerance : ℕ) (told : Told) (standing : Standing) : Type 0 where
+  pub right : IsToldRight run pes told
+  pub order : IsPresentOrder (sizes_of run) pes standing.order standing.present
+  pub proved : AreProved run.loads (sizes_of run) standing.order (limit_of told.least tolerance) told.cuts standing.heights
+  pub nearest : AreNearest run.loads (sizes_of run) standing.order standing.present (limit_of told.least tolerance) told.cuts
+
+-- What is decided within a tolerance: cuts near the present ones, where they move fewer bytes than the plan does; and
+-- otherwise the plan.
+abbrev pub IsRefinedRun : Listed → ℕ → ℕ → Bool → Told → Standing → Type 0
+IsRefinedRun run pes tolerance true told standing =
+    IsToldNear run pes tolerance told standing × ((plan : Told) → IsToldPlan run pes plan → told.moved < plan.moved)
+IsRefinedRun run pes tolerance false told standing =
+    IsToldPlan run pes told × (HasNoOrder (sizes_of run) pes ⊎ ((near : Told) × (stood : Standing) × IsToldNear run pes tolerance near stood × (told.moved ≤ near.moved)))
+
+-- the present cuts, where the PEs stand in an order, keep the blocks within the tolerance
+abbrev pub KeepWithin : Listed → ℕ → ℕ → Type 0
+KeepWithin run pes limit =
+    (order : List ℕ) × (present : List ℕ) × IsPresentOrder (sizes_of run) pes order present × AreWithin run.loads order limit present

@@ -1,0 +1,206 @@
+//! How a decision within a tolerance is written to the lists of a room.
+
+ghost use Rattle.std.specs.Prelude.{◌≡◌, ◌≤◌, ◌<◌, ◌+◌, false, true, ℕ, List, length, take, drop};
+ghost use Rattle.lb_certificates.specs.Chain.{IsDivision};
+ghost use Rattle.lb_certificates.specs.Naming.{blocks_between};
+ghost use Rattle.lb_lists.specs.Places.{ArePlaces};
+ghost use Rattle.lb_lists.specs.Plans.{stops_in};
+ghost use Rattle.lb_lists.specs.RefinedRooms.{refined_lists_in, standing_lists_in, told_in, told_of_kept, told_of_plan, AreStepsIn, HasRefinedListsOf, HasStandingListsOf, IsStandingLeft};
+ghost use Rattle.lb_lists.specs.Steps.{all_steps, first_steps, places_of, rises_of};
+
+use crate::deciding::{Decided, write_decision};
+use crate::plan::Plan;
+use crate::refining::{RefinedNumbers, RefinedRoom, StandingRoom};
+use crate::steps::FlatSteps;
+use chain_refinement::Refinement;
+use chare_index::Limits;
+use lb_certificates::Division;
+use lb_refinement::Kept;
+use lb_strategy::Decision;
+use std::alloc::Allocator;
+
+/// Writes the decision of a plan.
+pub(crate) fn write_planned<A: Allocator>(
+    decision: Decision<A>,
+    room: &mut RefinedRoom<'_>,
+) -> RefinedNumbers
+    requires divides { IsDivision 0 (length room.old.decision.new_places.now) (blocks_between decision.division.cuts) decision.division.cuts }
+    requires some_block { 0 < blocks_between decision.division.cuts }
+    requires few { length room.old.decision.new_places.now ≤ Limits.ELEMENTS }
+    requires cuts { length room.old.decision.cuts.now ≡ length decision.division.cuts }
+    requires stops { length (stops_in decision.division.floor) ≤ length room.old.decision.stops.now }
+    requires names { length room.old.decision.names.now ≡ length decision.naming }
+    requires named { length decision.naming ≡ blocks_between decision.division.cuts }
+    requires block_prices { length room.old.decision.block_prices.now ≡ length decision.prices.u }
+    requires pe_prices { length room.old.decision.pe_prices.now ≡ length decision.prices.v }
+    requires least_cuts { length room.old.standing.least_cuts.now ≡ length decision.division.cuts }
+    ensures same_lists { HasRefinedListsOf room.old room.new }
+    ensures told { told_in result.least result.moved result.stops (refined_lists_in room.new) ≡ told_of_plan decision }
+    ensures bottleneck { result.bottleneck ≡ decision.division.bottleneck }
+    ensures placed { ArePlaces decision.division.cuts decision.naming (length room.old.decision.new_places.now) room.new.decision.new_places.now }
+    ensures counted { result.stops ≡ length (stops_in decision.division.floor) }
+    ensures behind { drop result.stops room.new.decision.stops.now ≡ drop result.stops room.old.decision.stops.now }
+    ensures planned { result.near ≡ false }
+    ensures no_steps { result.steps ≡ 0 }
+    ensures left { IsStandingLeft (standing_lists_in room.old.standing) (standing_lists_in room.new.standing) }
+{
+    let Decision {
+        division,
+        naming,
+        prices,
+        moved,
+        moves,
+    } = decision;
+    drop(moves);
+    let plan = Plan {
+        division,
+        naming,
+        prices,
+        moved,
+    };
+    let decided = write_decision(&plan, &mut room.decision);
+    let least = plan.division.cuts.as_slice();
+    room.standing.least_cuts.copy_from_slice(least);
+    drop(plan);
+    let bottleneck = decided.bottleneck;
+    numbers(decided, bottleneck, false, 0)
+}
+
+// The numbers of a decision whose bottleneck was written as the least possible one, with what is told beside it.
+fn numbers(decided: Decided, bottleneck: u64, near: bool, steps: usize) -> RefinedNumbers
+    ensures least { result.least ≡ decided.bottleneck }
+    ensures bottleneck { result.bottleneck ≡ bottleneck }
+    ensures moved { result.moved ≡ decided.moved }
+    ensures stops { result.stops ≡ decided.stops }
+    ensures near { result.near ≡ near }
+    ensures steps { result.steps ≡ steps }
+{
+    RefinedNumbers {
+        least: decided.bottleneck,
+        bottleneck,
+        moved: decided.moved,
+        stops: decided.stops,
+        near,
+        steps,
+    }
+}
+
+/// Writes cuts near the present ones, with what proves them: the order of the PEs, the present cuts and the heights, whose steps
+/// these are.
+pub(crate) fn write_near<A: Allocator>(
+    kept: Kept<A>,
+    steps: FlatSteps<A>,
+    room: &mut RefinedRoom<'_>,
+) -> RefinedNumbers
+    requires divides { IsDivision 0 (length room.old.decision.new_places.now) (blocks_between kept.refinement.cuts) kept.refinement.cuts }
+    requires some_block { 0 < blocks_between kept.refinement.cuts }
+    requires few { length room.old.decision.new_places.now ≤ Limits.ELEMENTS }
+    requires cuts { length room.old.decision.cuts.now ≡ length kept.refinement.cuts }
+    requires stops { length (stops_in kept.refinement.least.floor) ≤ length room.old.decision.stops.now }
+    requires names { length room.old.decision.names.now ≡ length kept.naming }
+    requires named { length kept.naming ≡ blocks_between kept.refinement.cuts }
+    requires block_prices { length room.old.decision.block_prices.now ≡ length kept.prices.u }
+    requires pe_prices { length room.old.decision.pe_prices.now ≡ length kept.prices.v }
+    requires least_cuts { length room.old.standing.least_cuts.now ≡ length kept.refinement.least.cuts }
+    requires order { length room.old.standing.order.now ≡ length kept.refinement.order }
+    requires present { length room.old.standing.present.now ≡ length kept.refinement.present }
+    requires step_starts { length room.old.standing.step_starts.now ≡ length (first_steps 0 kept.refinement.heights) }
+    requires step_rises { length room.old.standing.step_rises.now ≡ length room.old.standing.step_places.now }
+    requires starts { steps.starts.items ≡ first_steps 0 kept.refinement.heights }
+    requires places { steps.places.items ≡ places_of (all_steps kept.refinement.heights) }
+    requires rises { steps.rises.items ≡ rises_of (all_steps kept.refinement.heights) }
+    ensures same_lists { HasRefinedListsOf room.old room.new }
+    ensures told { told_in result.least result.moved result.stops (refined_lists_in room.new) ≡ told_of_kept kept }
+    ensures bottleneck { result.bottleneck ≡ kept.bottleneck }
+    ensures placed { ArePlaces kept.refinement.cuts kept.naming (length room.old.decision.new_places.now) room.new.decision.new_places.now }
+    ensures counted { result.stops ≡ length (stops_in kept.refinement.least.floor) }
+    ensures behind { drop result.stops room.new.decision.stops.now ≡ drop result.stops room.old.decision.stops.now }
+    ensures near { result.near ≡ true }
+    ensures order { room.new.standing.order.now ≡ kept.refinement.order }
+    ensures present { room.new.standing.present.now ≡ kept.refinement.present }
+    ensures steps { AreStepsIn kept.refinement.heights result.steps (standing_lists_in room.old.standing) (standing_lists_in room.new.standing) }
+{
+    let Kept {
+        refinement,
+        bottleneck,
+        naming,
+        prices,
+        moved,
+        moves,
+    } = kept;
+    drop(moves);
+    let Refinement {
+        least,
+        tolerance: _,
+        order,
+        present,
+        cuts,
+        heights,
+    } = refinement;
+    drop(heights);
+    room.standing.order.copy_from_slice(order.as_slice());
+    room.standing.present.copy_from_slice(present.as_slice());
+    drop(order);
+    drop(present);
+    let Division {
+        bottleneck: least_load,
+        cuts: least_cuts,
+        floor,
+    } = least;
+    room.standing
+        .least_cuts
+        .copy_from_slice(least_cuts.as_slice());
+    drop(least_cuts);
+    // The cuts are those of the refinement; bottleneck and stops are those of the least division.
+    let plan = Plan {
+        division: Division {
+            bottleneck: least_load,
+            cuts,
+            floor,
+        },
+        naming,
+        prices,
+        moved,
+    };
+    let decided = write_decision(&plan, &mut room.decision);
+    drop(plan);
+    let count = write_steps(&steps, &mut room.standing);
+    numbers(decided, bottleneck, true, count)
+}
+
+// Writes these at the front of a list.
+fn write_front<T: Copy>(list: &mut [T], front: &[T])
+    requires room { length front.now ≤ length list.old }
+    ensures written { take (length front.now) list.new ≡ front.now }
+    ensures behind { drop (length front.now) list.new ≡ drop (length front.now) list.old }
+    ensures same_room { length list.new ≡ length list.old }
+{
+    list[..front.len()].copy_from_slice(front);
+}
+
+// Writes the steps where there is room for all of them, and returns how many there are.
+fn write_steps<A: Allocator>(steps: &FlatSteps<A>, room: &mut StandingRoom<'_>) -> usize
+    requires starts { length room.old.step_starts.now ≡ length steps.now.starts.items }
+    requires pairs { length steps.now.rises.items ≡ length steps.now.places.items }
+    requires step_rises { length room.old.step_rises.now ≡ length room.old.step_places.now }
+    ensures same_lists { HasStandingListsOf room.old room.new }
+    ensures least_cuts { room.new.least_cuts.now ≡ room.old.least_cuts.now }
+    ensures order { room.new.order.now ≡ room.old.order.now }
+    ensures present { room.new.present.now ≡ room.old.present.now }
+    ensures counted { result ≡ length steps.now.places.items }
+    ensures starts { result ≤ length room.old.step_places.now → room.new.step_starts.now ≡ steps.now.starts.items }
+    ensures places { result ≤ length room.old.step_places.now → take result room.new.step_places.now ≡ steps.now.places.items }
+    ensures rises { result ≤ length room.old.step_places.now → take result room.new.step_rises.now ≡ steps.now.rises.items }
+    ensures starts_left { length room.old.step_places.now < result → room.new.step_starts.now ≡ room.old.step_starts.now }
+    ensures places_left { drop result room.new.step_places.now ≡ drop result room.old.step_places.now }
+    ensures rises_left { drop result room.new.step_rises.now ≡ drop result room.old.step_rises.now }
+{
+    let count = steps.places.len();
+    if count > room.step_places.len() {
+        return count;
+    }
+    room.step_starts.copy_from_slice(&steps.starts);
+    write_front(room.step_places, &steps.places);
+    write_front(room.step_rises, &steps.rises);
+    count
+}

@@ -1,0 +1,183 @@
+//! Decisions within a tolerance.
+
+ghost use Rattle.std.specs.Prelude.{◌≡◌, ◌≤◌, ◌<◌, ◌+◌, ◌↔◌, false, true, ℕ, IsTrue, List, length, take, drop, IfOk, IfErr, OnOk, OnErr};
+ghost use Rattle.lb_certificates.specs.Chain.{peak, IsDivision};
+ghost use Rattle.lb_certificates.specs.Naming.{IsNaming};
+ghost use Rattle.lb_strategy.specs.Decisions.{ArePricesBounded};
+ghost use Rattle.chain_refinement.specs.Orders.{IsPresentOrder};
+ghost use Rattle.chain_refinement.specs.Refinement.{AreWithin};
+ghost use Rattle.chain_refinement.specs.Tolerances.{limit_of};
+ghost use Rattle.lb_strategy.specs.Moves.{HasPlace};
+ghost use Rattle.lb_strategy.specs.declared.decision.Decision.{Decision};
+ghost use Rattle.lb_refinement.specs.Refined.{least_load, refined_bottleneck, refined_cuts, refined_moved, refined_names, ArePricesSmall, IsPlanned, IsRefined};
+ghost use Rattle.lb_lists.specs.Plans.{IsPlan};
+ghost use Rattle.lb_lists.specs.Places.{ArePlaces};
+ghost use Rattle.lb_lists.specs.RefinedRooms.{refined_lists_in, standing_in, standing_lists_in, told_in, HasRefinedListsOf, HasRefinedRoom, HasStandingRoom, IsStandingIn};
+ghost use Rattle.lb_lists.specs.Refinings.{IsRefinedRun};
+ghost use Rattle.lb_lists.specs.Runs.{sizes_of, AreSmall, IsAsked, IsRefineRefusal, IsRefusal};
+
+use crate::deciding::{Room, has_room};
+use crate::error::{RefineError, RunError};
+use crate::planning::snapshot_of;
+use crate::refined_writing::{write_near, write_planned};
+use crate::run::Run;
+use crate::steps::flat_steps;
+use chain_refinement::Tolerance;
+use lb_refinement::{Refined, refine};
+use std::alloc::Allocator;
+
+/// Room for what is told of how elements stand, and of the heights that prove that no cuts within a tolerance move fewer
+/// bytes, for `pes` PEs.
+#[derive(Drop)]
+pub struct StandingRoom<'a> {
+    /// `pes + 1`: where the blocks of the least division begin and end.
+    pub least_cuts: &'a mut [u32],
+    /// `pes`: the PEs, in the order in which they stand.
+    pub order: &'a mut [u32],
+    /// `pes + 1`: where the elements of each begin and end today.
+    pub present: &'a mut [u32],
+    /// `pes + 1`: of each block the number of its first step, and behind them how many steps there are.
+    pub step_starts: &'a mut [usize],
+    /// Room for the place of each step.
+    pub step_places: &'a mut [u32],
+    /// As much room: how much higher it is from there on, in bytes.
+    pub step_rises: &'a mut [u64],
+}
+
+/// Room for what is told of a decision within a tolerance.
+#[derive(Drop)]
+pub struct RefinedRoom<'a> {
+    /// The decision. Its stops are those of the least division.
+    pub decision: Room<'a>,
+    /// What proves that cuts near the present ones move the fewest bytes.
+    pub standing: StandingRoom<'a>,
+}
+
+/// The numbers of a decision within a tolerance that was written.
+#[derive(Clone, Copy, Debug, PartialEq, Eq)]
+pub struct RefinedNumbers {
+    /// The least possible load of the heaviest block, in work units.
+    pub least: u64,
+    /// The load of the heaviest block of this decision, in work units.
+    pub bottleneck: u64,
+    /// The packed bytes of all elements that move.
+    pub moved: u64,
+    /// How many stops there are: `pes + 1`, or 0 where the least possible load is 0.
+    pub stops: usize,
+    /// Whether the cuts are near the present ones; otherwise the decision is that of the plan.
+    pub near: bool,
+    /// How many steps the heights have; 0 for the plan.
+    pub steps: usize,
+}
+
+/// Decides where each element of a run goes on, on `pes` PEs, within a tolerance, as [`refine`] does.
+///
+/// # Errors
+///
+/// As [`plan_run`](crate::plan_run).
+pub fn refine_run<A: Allocator + Copy>(
+    alloc: A,
+    run: &Run<'_>,
+    pes: u32,
+    tolerance: Tolerance,
+) -> Result<Refined<A>, RunError>
+    ensures refined { IfOk result (IsRefined run.now.loads (sizes_of run.now) pes tolerance) }
+    ensures blocks { IfOk result (λ r. IsDivision 0 (length run.now.loads) pes (refined_cuts r)) }
+    ensures naming { IfOk result (λ r. IsNaming pes (refined_names r)) }
+    ensures peak { IfOk result (λ r. refined_bottleneck r ≡ peak run.now.loads (refined_cuts r)) }
+    ensures within { IfOk result (λ r. refined_bottleneck r ≤ limit_of (least_load r) tolerance) }
+    ensures no_more { IfOk result (λ r. (d : Decision A) → IsPlanned run.now.loads (sizes_of run.now) pes d → refined_moved r ≤ d.moved) }
+    ensures kept_whole { IfOk result (λ r. (names present : List ℕ) → IsPresentOrder (sizes_of run.now) pes names present
+        → AreWithin run.now.loads names (limit_of (least_load r) tolerance) present → refined_moved r ≡ 0) }
+    ensures places { IfOk result (λ r. (i : ℕ) → i < length (sizes_of run.now) → HasPlace (refined_cuts r) (refined_names r) i) }
+    ensures bounded { IfOk result (ArePricesSmall (sizes_of run.now)) }
+    ensures asked { OnOk result (IsAsked run.now pes) }
+    ensures small { OnOk result (AreSmall run.now.loads) }
+    ensures refused { IfErr result (IsRefusal (IsAsked run.now pes) (AreSmall run.now.loads)) }
+{
+    let snapshot = match snapshot_of(alloc, run, pes) {
+        Ok(snapshot) => snapshot,
+        Err(refused) => return Err(refused),
+    };
+    let refined = refine(alloc, &snapshot, pes, tolerance);
+    drop(snapshot);
+    match refined {
+        Ok(refined) => Ok(refined),
+        Err(_) => Err(RunError::OutOfMemory),
+    }
+}
+
+// Whether there is the room for the order, the present cuts and the heights of `pes` PEs.
+fn has_standing_room(room: &StandingRoom<'_>, pes: u32) -> bool
+    ensures { IsTrue result ↔ HasStandingRoom pes (standing_lists_in room.now) }
+{
+    let blocks = u64::from(pes);
+    room.least_cuts.len() as u64 == blocks + 1
+        && room.order.len() as u64 == blocks
+        && room.present.len() as u64 == blocks + 1
+        && room.step_starts.len() as u64 == blocks + 1
+        && room.step_rises.len() == room.step_places.len()
+}
+
+// The same, and for a decision on so many elements.
+fn has_refined_room(room: &RefinedRoom<'_>, elements: usize, pes: u32) -> bool
+    ensures { IsTrue result ↔ HasRefinedRoom elements pes (refined_lists_in room.now) }
+{
+    has_room(&room.decision, elements, pes) && has_standing_room(&room.standing, pes)
+}
+
+/// Decides within a tolerance, so many thousandths, and writes the decision with all that proves it: what is told of a decision
+/// as [`decide_into`](crate::decide_into) does, and the least cuts; and where the cuts are near the present ones, the order of
+/// the PEs, the present cuts and the heights. Of these the steps are written where there is room for all of them. Where it is
+/// the plan, order, present cuts and steps are left as they were.
+///
+/// # Errors
+///
+/// [`BadTolerance`](RefineError::BadTolerance) above [`Tolerance::MOST`]; then as [`refine_run`], and
+/// [`BadInput`](RunError::BadInput) where a list of the room does not have the length that it needs. Then nothing is written.
+pub fn refine_into<A: Allocator + Copy>(
+    alloc: A,
+    run: &Run<'_>,
+    pes: u32,
+    thousandths: u32,
+    room: &mut RefinedRoom<'_>,
+) -> Result<RefinedNumbers, RefineError>
+    ensures same_lists { HasRefinedListsOf room.old room.new }
+    ensures refined { IfOk result (λ d. (heights : List (List (ℕ × ℕ)))
+        × IsRefinedRun run.now pes thousandths d.near (told_in d.least d.moved d.stops (refined_lists_in room.new)) (standing_in heights (standing_lists_in room.new.standing))
+        × IsStandingIn d.near heights d.steps (standing_lists_in room.old.standing) (standing_lists_in room.new.standing)) }
+    ensures placed { IfOk result (λ _. ArePlaces room.new.decision.cuts.now room.new.decision.names.now (length run.now.loads) room.new.decision.new_places.now) }
+    ensures peak { IfOk result (λ d. d.bottleneck ≡ peak run.now.loads room.new.decision.cuts.now) }
+    ensures within { IfOk result (λ d. d.bottleneck ≤ limit_of d.least thousandths) }
+    ensures no_more { IfOk result (λ d. (places : List ℕ) (bottleneck moved : ℕ) → IsPlan run.now pes places bottleneck moved → d.moved ≤ moved) }
+    ensures kept_whole { IfOk result (λ d. (order present : List ℕ) → IsPresentOrder (sizes_of run.now) pes order present
+        → AreWithin run.now.loads order (limit_of d.least thousandths) present → d.moved ≡ 0) }
+    ensures bounded { IfOk result (λ _. ArePricesBounded (sizes_of run.now) room.new.decision.cuts.now room.new.decision.block_prices.now room.new.decision.pe_prices.now) }
+    ensures counted { IfOk result (λ d. d.stops ≤ pes + 1) }
+    ensures behind { IfOk result (λ d. drop d.stops room.new.decision.stops.now ≡ drop d.stops room.old.decision.stops.now) }
+    ensures small_tolerance { OnOk result (thousandths ≤ 1000) }
+    ensures asked { OnOk result (IsAsked run.now pes × HasRefinedRoom (length run.now.loads) pes (refined_lists_in room.old)) }
+    ensures small { OnOk result (AreSmall run.now.loads) }
+    ensures refused { IfErr result (IsRefineRefusal thousandths (IsAsked run.now pes × HasRefinedRoom (length run.now.loads) pes (refined_lists_in room.old)) (AreSmall run.now.loads)) }
+    ensures kept { OnErr result (refined_lists_in room.new ≡ refined_lists_in room.old) }
+{
+    let Some(tolerance) = Tolerance::new(thousandths) else {
+        return Err(RefineError::BadTolerance);
+    };
+    if !has_refined_room(room, run.loads.len(), pes) {
+        return Err(RefineError::Run(RunError::BadInput));
+    }
+    let refined = match refine_run(alloc, run, pes, tolerance) {
+        Ok(refined) => refined,
+        Err(refused) => return Err(RefineError::Run(refused)),
+    };
+    match refined {
+        Refined::Planned(decision) => Ok(write_planned(decision, room)),
+        Refined::Near(kept) => {
+            let Ok(flat) = flat_steps(alloc, kept.refinement.heights.as_slice()) else {
+                return Err(RefineError::Run(RunError::OutOfMemory));
+            };
+            Ok(write_near(kept, flat, room))
+        }
+    }
+}

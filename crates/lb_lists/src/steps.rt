@@ -1,0 +1,60 @@
+//! The steps of heights, one behind the other.
+
+ghost use Rattle.std.specs.Prelude.{◌≡◌, ◌++◌, OnOk, IfOk};
+ghost use Rattle.lb_lists.specs.Steps.{all_steps, first_steps, places_of, rises_of};
+
+use chain_refinement::Steps;
+use std::alloc::{AllocError, Allocator};
+
+/// The steps of each block, as plain lists: the number of the first step of each block and of all steps, and of each step the
+/// place and the rise.
+#[derive(Drop)]
+pub(crate) struct FlatSteps<A: Allocator> {
+    pub(crate) starts: Vec<usize, A>,
+    pub(crate) places: Vec<u32, A>,
+    pub(crate) rises: Vec<u64, A>,
+}
+
+/// The steps of these heights.
+///
+/// # Errors
+///
+/// Out of memory.
+pub(crate) fn flat_steps<A: Allocator + Copy>(
+    alloc: A,
+    rows: &[Steps<A>],
+) -> Result<FlatSteps<A>, AllocError>
+    ensures starts { IfOk result (λ f. f.starts.items ≡ first_steps 0 rows.now) }
+    ensures places { IfOk result (λ f. f.places.items ≡ places_of (all_steps rows.now)) }
+    ensures rises { IfOk result (λ f. f.rises.items ≡ rises_of (all_steps rows.now)) }
+{
+    let mut starts = Vec::new(alloc);
+    let mut places = Vec::new(alloc);
+    let mut rises = Vec::new(alloc);
+    starts.push(0)?;
+    for row in rows {
+        push_steps(&mut places, &mut rises, row.as_slice())?;
+        starts.push(places.len())?;
+    }
+    Ok(FlatSteps {
+        starts,
+        places,
+        rises,
+    })
+}
+
+// Puts these steps behind the others.
+fn push_steps<A: Allocator>(
+    places: &mut Vec<u32, A>,
+    rises: &mut Vec<u64, A>,
+    steps: &[(u32, u64)],
+) -> Result<(), AllocError>
+    ensures places { OnOk result (places.new.items ≡ places.old.items ++ places_of steps.now) }
+    ensures rises { OnOk result (rises.new.items ≡ rises.old.items ++ rises_of steps.now) }
+{
+    for step in steps {
+        places.push(step.0)?;
+        rises.push(step.1)?;
+    }
+    Ok(())
+}
