@@ -102,6 +102,13 @@ class Written(InAFolder):
         for given in (dump, THREE, (THREE, None), (THREE, RIGHT), tezgumi.read_dump(dump)):
             self.assertEqual(self.write([given]).bytes, os.path.getsize(self.path))
         self.assertRaisesRegex(tezgumi.InputError, "^a page has one round at least$", self.write, [])
+        self.assertRaisesRegex(tezgumi.InputError, "^rounds is .*, and a list of rounds is wanted$", self.write, dump)
+
+    def test_names_that_are_no_text(self):
+        odd = os.path.join(os.fsencode(self.folder), b"odd\xff.lbd2")
+        tezgumi.write_dump(odd, THREE, RIGHT)
+        self.write([os.fsdecode(odd)])
+        self.assertIn("<title>odd?.lbd2</title>", read_bytes(self.path).decode())
 
     def test_who_decides(self):
         asked = []
