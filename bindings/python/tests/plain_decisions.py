@@ -92,10 +92,6 @@ MOST = 2**50
 """More than any cuts cost."""
 
 
-class Near(tezgumi.Decision):
-    """A decision within a tolerance, as the fields that a page reads of one."""
-
-
 def near(run, tolerance):
     """Cuts within a tolerance that move the fewest bytes, for a run whose elements stand by PE, with heights that prove it."""
     pes, count = run.procs, len(run)
@@ -134,19 +130,9 @@ def _near_decision(run, tolerance, least, sums, order, present, heights, cuts):
     places = np.repeat(names, np.diff(cuts)).astype(np.uint32)
     moved = int(run.bytes[places != run.places].sum())
     heaviest = int(np.diff(sums[cuts]).max())
-    made = Near(
-        run.procs, places, heaviest, moved, cuts, fence(run, sums, run.procs, least) if least else [], names, block_prices,
-        pe_prices, run.moves_to(places))
     steps = [[(int(x), int(rise)) for x, rise in enumerate(np.diff(row, prepend=0)) if rise] for row in heights]
-    fields = {
-        "tolerance": tolerance, "least": least, "least_cuts": filled(sums, run.procs, least), "order": order,
-        "present": present, "step_starts": [sum(map(len, steps[:b])) for b in range(run.procs + 1)],
-        "step_places": [x for row in steps for x, _ in row], "step_rises": [rise for row in steps for _, rise in row]}
-    return with_fields(made, **fields)
-
-
-def with_fields(made, **fields):
-    """A decision with other fields, which a frozen one lets nobody set."""
-    copy = object.__new__(Near)
-    copy.__dict__.update({**made.__dict__, **fields})
-    return copy
+    return tezgumi.NearDecision(
+        run.procs, places, heaviest, moved, cuts, fence(run, sums, run.procs, least) if least else [], names, block_prices,
+        pe_prices, run.moves_to(places), tolerance, least, filled(sums, run.procs, least), order, present,
+        step_starts=[sum(map(len, steps[:b])) for b in range(run.procs + 1)],
+        step_places=[x for row in steps for x, _ in row], step_rises=[rise for row in steps for _, rise in row])

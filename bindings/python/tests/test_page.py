@@ -11,7 +11,7 @@ import numpy as np
 import browser
 import slow_checker
 import tezgumi
-from plain_decisions import decided, near, with_fields
+from plain_decisions import decided, near
 from support import CHECKOUT, PACKAGES, THREE, TimedTest, as_lists, example, large_run, random_run, read_bytes
 from test_checking import FORGED, RIGHT, forge
 from test_program import call
@@ -68,8 +68,8 @@ FORGED_NEAR = (
     ({"order": [2, 0]}, "OrderCount"),
     ({"order": [2, 0, 3]}, "OrderRange"),
     ({"order": [2, 0, 0]}, "OrderTwice"),
-    ({"cuts": np.array([0, 5, 10])}, "NearCount"),
-    ({"cuts": np.array([0, 7, 5, 10])}, "NoDivision"),
+    ({"cuts": [0, 5, 10]}, "NearCount"),
+    ({"cuts": [0, 7, 5, 10]}, "NoDivision"),
     ({"tolerance": 100}, "PastLimit 1"),
     ({"step_starts": [0, 0, 1]}, "HeightCount"),
     ({"step_starts": [0, 1, 1, 1], "step_places": [0], "step_rises": [1]}, "HeightStart"),
@@ -77,7 +77,7 @@ FORGED_NEAR = (
     ({"step_starts": [0, 0, 1, 2], "step_places": [5, 0], "step_rises": [60, 61]}, "Steep 1 7"),
     ({"step_starts": [0, 0, 1, 2], "step_places": [5, 0], "step_rises": [60, 59]}, "HeightLow"),
     ({"step_starts": [0, 0, 0, 0], "step_places": [], "step_rises": []}, "HeightLow"),
-    ({"block_prices": np.array([0, 0, 0])}, "PriceGap"),
+    ({"block_prices": [0, 0, 0]}, "PriceGap"),
     ({"moved": 61}, "MovedWrong"),
     ({"bottleneck": 13}, "BottleneckWrong"),
 )
@@ -102,6 +102,13 @@ class Written(InAFolder):
         for given in (dump, THREE, (THREE, None), (THREE, RIGHT), tezgumi.read_dump(dump)):
             self.assertEqual(self.write([given]).bytes, os.path.getsize(self.path))
         self.assertRaisesRegex(tezgumi.InputError, "^a page has one round at least$", self.write, [])
+        self.assertRaisesRegex(tezgumi.InputError, "^rounds is .*, and a list of rounds is wanted$", self.write, dump)
+
+    def test_names_that_are_no_text(self):
+        odd = os.path.join(os.fsencode(self.folder), b"odd\xff.lbd2")
+        tezgumi.write_dump(odd, THREE, RIGHT)
+        self.write([os.fsdecode(odd)])
+        self.assertIn("<title>odd?.lbd2</title>", read_bytes(self.path).decode())
 
     def test_who_decides(self):
         asked = []
@@ -344,12 +351,21 @@ class Seen(InAFolder):
     def test_every_forged_decision_within_a_tolerance_is_named(self):
         ten = tezgumi.read_dump(example("ten-elements.lbd2")).run
         one = near(ten, 200)
-        page = self.open([(ten, with_fields(one, **changed)) for changed, _ in FORGED_NEAR])
+        page = self.open([(ten, replace(one, **changed)) for changed, _ in FORGED_NEAR])
         self.assertEqual([row[17] for row in page.rows("all-rounds")], [line for _, line in FORGED_NEAR])
         for number, (_, line) in enumerate(FORGED_NEAR):
             page.value(f"choose({number})")
             self.assertIn(f"{line}: ", page.text("#verdict"))
         self.assertEqual(page.errors, [])
+
+    def test_decisions_of_the_planner_within_a_tolerance(self):
+        runs = [sorted_run(seed) for seed in range(60)]
+        try:
+            rounds = [(run, tezgumi.decide(run, tolerance=40 * (seed % 9))) for seed, run in enumerate(runs)]
+        except tezgumi.LibraryError as error:
+            self.skipTest(str(error))
+        self.assertTrue(any(isinstance(one, tezgumi.NearDecision) for _, one in rounds))
+        self.assertEqual({row[17] for row in self.open(rounds).rows("all-rounds")}, {"holds"})
 
     def test_the_greatest_numbers(self):
         most = tezgumi.Run(2, [tezgumi.LOAD] * 9, [tezgumi.STATE_BYTES] * 9, [0] * 9, step=2**32 - 1)

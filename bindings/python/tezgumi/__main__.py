@@ -55,6 +55,9 @@ def _page_parser() -> argparse.ArgumentParser:
     parser.add_argument("--title", metavar="TEXT", help="what stands above the page; the names of the files, if left out")
     parser.add_argument(
         "--procs", type=_count, metavar="P", help="decide anew for so many PEs, 1 to 256, and leave recorded decisions aside")
+    parser.add_argument(
+        "--tolerance", type=_tolerance, metavar="N",
+        help="decide anew within N thousandths of the least load, 0 to 1000, where fewer bytes move by that")
     return parser
 
 
@@ -116,8 +119,9 @@ def _answer(asked: argparse.Namespace) -> int:
 
 def _write_page(asked: argparse.Namespace) -> int:
     written = tezgumi.page(
-        asked.files, asked.output, trace=asked.trace, title=asked.title, anew=asked.procs is not None,
-        decide=lambda run: tezgumi.decide(run, asked.procs))
+        asked.files, asked.output, trace=asked.trace, title=asked.title,
+        anew=asked.procs is not None or asked.tolerance is not None,
+        decide=lambda run: tezgumi.decide(run, asked.procs, asked.tolerance))
     count = len(asked.files)
     print(f"{asked.output}: {count:,} round{'s' if count > 1 else ''}, {written.bytes:,} bytes")
     if written.left_out:

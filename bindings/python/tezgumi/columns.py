@@ -1,8 +1,9 @@
 """Columns of whole numbers as a page holds them: compressed, in letters that a text may have.
 
 A column is written in as many bytes for each number as its greatest one needs: the lowest byte of each number, then the next
-of each, and so on, as equal bytes that stand together are compressed best. Columns follow one another in a block, which is
-compressed by zlib and written in base 64. What reads it is web/data.js.
+of each, and so on, as equal bytes that stand together are compressed best. Where that takes less room, it is written as the
+difference of each number from the one before it. Columns follow one another in a block, which is compressed by zlib and written
+in base 64. What reads it is web/data.js.
 """
 from __future__ import annotations
 
@@ -14,7 +15,7 @@ import numpy as np
 from numpy.typing import ArrayLike, NDArray
 
 Head = List[Union[str, int]]
-"""Of a column: its name, how many numbers it has, and the bytes of each."""
+"""Of a column: its name, how many numbers it has, the bytes of each, and 1 where they are differences, or 0."""
 
 
 def block(columns: Iterable[Tuple[str, ArrayLike]]) -> Tuple[List[Head], str]:
@@ -22,8 +23,11 @@ def block(columns: Iterable[Tuple[str, ArrayLike]]) -> Tuple[List[Head], str]:
     heads: List[Head] = []
     parts = []
     for name, values in columns:
-        width, text = _planes(np.asarray(values).astype("<u8"))
-        heads.append([name, len(text) // width, width])
+        numbers = np.asarray(values).astype("<u8")
+        forms = [_planes(numbers), _planes(folded(np.diff(numbers, prepend=np.uint64(0)).astype("<i8")))]
+        form = min((0, 1), key=lambda k: len(zlib.compress(forms[k][1], 1)))
+        width, text = forms[form]
+        heads.append([name, len(numbers), width, form])
         parts.append(text)
     return heads, base64.b64encode(zlib.compress(b"".join(parts), 6)).decode()
 

@@ -65,11 +65,13 @@ def page(
     A page has at most `most` bytes where the elements of enough rounds can be left out for that. InputError tells that there
     are no rounds, DumpError and TraceError what is wrong with a file.
     """
+    if isinstance(rounds, (str, os.PathLike)):
+        raise InputError(f"rounds is {rounds!r}, and a list of rounds is wanted")
     taken = [_taken(number, given, decide, anew) for number, given in enumerate(rounds, 1)]
     if not taken:
         raise InputError("a page has one round at least")
     text, left_out = _page_of(taken, title or _title_of(taken), trace, most)
-    data = text.encode("utf-8")
+    data = _bytes(text)
     with open(path, "wb") as out:
         out.write(data)
     return Written(len(data), tuple(left_out))
@@ -114,7 +116,7 @@ def _page_of(rounds: Sequence[_Round], title: str, trace: _Path | None, most: in
     described["load_heads"], blocks["loads"] = block(_load_columns(rounds))
     whole = _filled(described, blocks)
     elements = _Elements(rounds)
-    kept = elements.kept(most - len(whole.encode("utf-8")))
+    kept = elements.kept(most - len(_bytes(whole)))
     for number, one in enumerate(described["rounds"]):
         if number in kept:
             one["heads"], one["sizes"] = elements.heads[number], elements.sizes[number]
@@ -137,6 +139,11 @@ def _filled(described: Dict[str, Any], blocks: Dict[str, str]) -> str:
     }
     pieces = _part("page.html").split("@@")
     return "".join(parts[piece] if place % 2 else piece for place, piece in enumerate(pieces))
+
+
+def _bytes(text: str) -> bytes:
+    # A title that is the name of a file may have what is no character.
+    return text.encode("utf-8", "replace")
 
 
 def _part(name: str) -> str:
@@ -217,7 +224,7 @@ class _Elements:
         kept: Dict[int, None] = {}
         sizes = set()
         for number in _spread(len(self.letters)):
-            needed = len(self.letters[number]) + 100 + 32 * len(self.heads[number])
+            needed = len(self.letters[number]) + 100 + 34 * len(self.heads[number])
             if self.sizes[number] not in sizes:
                 needed += len(self.size_letters[self.sizes[number]]) + 120
             if needed > room:
@@ -245,6 +252,15 @@ def _spread(count: int) -> List[int]:
     return list(order)
 
 
+def _named_places(count: int, decision: Decision) -> NDArray[np.uint32]:
+    """The place of each element by the name of its block; none where the cuts do not divide the elements."""
+    cuts = decision.cuts.astype(np.int64)
+    lengths = np.diff(cuts)
+    if cuts.size != len(decision.names) + 1 or cuts[0] != 0 or cuts[-1] != count or (lengths < 0).any():
+        return np.zeros(0, np.uint32)
+    return np.repeat(decision.names, lengths)
+
+
 def _columns(run: Run, decision: Decision | None) -> Iterable[Tuple[str, Any]]:
     yield "loads", run.loads
     yield "places", run.places
@@ -254,8 +270,9 @@ def _columns(run: Run, decision: Decision | None) -> Iterable[Tuple[str, Any]]:
         yield name, getattr(decision, name)
     yield "block_prices", folded(decision.block_prices)
     yield "pe_prices", folded(decision.pe_prices)
-    yield "planned", decision.places
-    # Mostly the moves are those that the places tell, and then the page lists them by itself.
+    # Mostly the places are those that the names tell, and the moves those that the places tell: then the page lists them itself.
+    if not np.array_equal(_named_places(len(run), decision), decision.places):
+        yield "planned", decision.places
     if len(decision.places) != len(run) or not np.array_equal(run.moves_to(decision.places), decision.moves):
         for name in decision.moves.dtype.names or ():
             yield f"move_{name}", decision.moves[name]

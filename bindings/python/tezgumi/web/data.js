@@ -15,13 +15,24 @@ async function inflated(name) {
 async function columns(name, heads) {
   const bytes = await inflated(name);
   let at = 0;
-  return heads.map(([column, count, width]) => {
+  return heads.map(([column, count, width, isDifferences]) => {
     const numbers = new BigUint64Array(count);
     const view = new Uint8Array(numbers.buffer); // the lowest byte first, as on every machine that has a browser
     for (let k = 0; k < width; k++, at += count) {
       for (let i = 0; i < count; i++) view[8 * i + k] = bytes[at + i];
     }
-    return [column, numbers];
+    return [column, isDifferences ? summedUp(numbers) : numbers];
+  });
+}
+
+const unfolded = (n) => (n & 1n ? ~(n >> 1n) : n >> 1n);
+
+// Numbers whose differences, each from the one before it, these are.
+function summedUp(differences) {
+  let sum = 0n;
+  return differences.map((difference) => {
+    sum += unfolded(difference);
+    return sum;
   });
 }
 
@@ -32,7 +43,7 @@ async function readLoads() {
 }
 
 const plain = (numbers) => Float64Array.from(numbers, Number);
-const unfolded = (numbers) => BigInt64Array.from(numbers, (n) => (n & 1n ? ~(n >> 1n) : n >> 1n));
+const signed = (numbers) => BigInt64Array.from(numbers, unfolded);
 
 // A round with its elements: the run, and the decision where there is one. null where they were left out.
 async function readRound(r) {
@@ -45,11 +56,11 @@ async function readRound(r) {
 }
 
 function decisionOf(told, run, held) {
-  const planned = plain(held.planned);
+  const planned = held.planned ? plain(held.planned) : plannedByNames({ cuts: plain(held.cuts), names: plain(held.names) }, run);
   return {
     pes: told.pes, bottleneck: BigInt(told.bottleneck), moved: BigInt(told.moved),
     cuts: plain(held.cuts), stops: plain(held.stops), names: plain(held.names),
-    blockPrices: unfolded(held.block_prices), pePrices: unfolded(held.pe_prices), planned,
+    blockPrices: signed(held.block_prices), pePrices: signed(held.pe_prices), planned,
     moves: held.move_element ? movesOf(held) : movesTo(run.places, planned),
     near: told.tolerance !== null,
     ...(told.tolerance === null ? {} : nearOf(told, held)),

@@ -160,7 +160,8 @@ function tellNotes() {
   const listed = without.length > 20 ? `${without.slice(0, 20).join(", ")} and others` : without.join(", ");
   const all = page.rounds.length;
   notes.textContent = `The page has the elements of ${told(all - without.length)} of ${told(all)} rounds, as it would be too ` +
-    `large with all. Of the rounds ${listed} it has the loads of the PEs alone, so their chains are not drawn and their decisions not checked.`;
+    `large with all. Of the rounds ${listed} it has the loads of the PEs alone, so their chains are not drawn and their ` +
+    "decisions not checked.";
   document.getElementById("made").textContent =
     `Made by tezgumi ${page.version} of ${some(all, "round", "rounds")}. This file needs no network, and nothing leaves it.`;
 }

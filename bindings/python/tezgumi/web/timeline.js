@@ -275,8 +275,8 @@ function timelineRowTable() {
     trace.slice_row.forEach((one, k) => { if (one === r) busy += trace.slice_long[k]; });
     const arrows = (ends, moves) => ends.reduce((sum, one, k) => sum + (one === r && trace.arrow_moves[k] === moves ? 1 : 0), 0);
     const instants = trace.instant_row.reduce((sum, one, k) => sum + (one === r && !trace.instant_whole[k] ? 1 : 0), 0);
-    return [name, count(trace.slice_row, r), { exact: busy, told: toldTime(busy, trace.whole) }, instants,
-      arrows(trace.arrow_from_row, 0), arrows(trace.arrow_to_row, 0), arrows(trace.arrow_from_row, 1), arrows(trace.arrow_to_row, 1)];
+    const flows = [0, 1].flatMap((moves) => [arrows(trace.arrow_from_row, moves), arrows(trace.arrow_to_row, moves)]);
+    return [name, count(trace.slice_row, r), { exact: busy, told: toldTime(busy, trace.whole) }, instants, ...flows];
   });
   return table(["row", "handlers", "at work", "instants", "letters sent", "letters taken", "elements left", "elements came"], rows,
     `${page.trace.file}: ${some(trace.events, "event", "events")}, ${toldTime(trace.whole, trace.whole)}.`);
