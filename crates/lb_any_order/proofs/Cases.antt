@@ -1,0 +1,102 @@
+-- What follows of a decision in any order, whichever of the two it is.
+use Rattle.std.proofs.Common.{◌≡◌, ℕ, ◌+◌, ◌-◌, ◌<◌, ◌≤◌, List, length, slice_index, arith, ap, sym, ◌∙◌, subst}
+use Rattle.chare_index.specs.declared.limits.TheConstants.Limits.{PES}
+use Rattle.lb_certificates.specs.Certificate.{IsCertified}
+use Rattle.lb_certificates.specs.Chain.{IsDivision, peak}
+use Rattle.lb_certificates.specs.Naming.{AreBlocks, block_of, blocks_between, bytes_moved, IsNaming}
+use Rattle.lb_certificates.proofs.BlockSums.{block_of_is}
+use Rattle.lb_certificates.proofs.LeastDivisions.{peak_within}
+use Rattle.lb_strategy.specs.Moves.{HasPlace, planned_pe}
+use Rattle.lb_strategy.specs.declared.decision.Decision.{Decision}
+use Rattle.chain_refinement.specs.Tolerances.{limit_of}
+use Rattle.chain_refinement.proofs.Orders.{block_around}
+use Rattle.any_order.specs.AnyOrder.{IsReordered, reordered_limit}
+use Rattle.any_order.specs.declared.reordered.Reordered.{Reordered}
+use Rattle.lb_refinement.specs.Refined.{IsRefined, least_load, refined_bottleneck, refined_cuts, refined_least, refined_moved, refined_names}
+use Rattle.lb_refinement.specs.declared.refined.Kept.{Kept}
+use Rattle.lb_refinement.specs.declared.refined.Refined.{Refined}
+use Rattle.lb_refinement.specs.declared.refined.Refined.TheVariants.{Near, Planned}
+use Rattle.lb_any_order.specs.Reorderings.{HasPlaceBelow, IsFewest, IsLesser, IsReordering, reordering_cuts, reordering_least, reordering_moved, reordering_names}
+use Rattle.lb_any_order.specs.declared.reordering.Fewest.{Fewest}
+use Rattle.lb_any_order.specs.declared.reordering.Reordering.{Reordering}
+use Rattle.lb_any_order.specs.declared.reordering.Reordering.TheVariants.{InAnyOrder, InOrder}
+
+-- the division that a refined decision is measured from is certified
+pub least_certified : {A : Type 0} (loads : List ℕ) (sizes : List (ℕ × ℕ)) (pes tolerance : ℕ) (r : Refined A) → IsRefined loads sizes pes tolerance r → IsCertified loads pes (refined_least r)
+least_certified loads sizes pes tolerance (Planned d) right = right.0.right.division
+least_certified loads sizes pes tolerance (Near k) right = right.0.right.least
+
+-- the blocks of a plan
+pub blocks_of_plan : {A : Type 0} (loads : List ℕ) (sizes : List (ℕ × ℕ)) (pes : ℕ) (r : Reordered A) → length loads ≡ length sizes → IsReordered loads sizes pes r → AreBlocks sizes r.cuts
+blocks_of_plan loads sizes pes r paired right =
+    let blocks : blocks_between r.cuts ≡ pes = omega (arith, right.plan.divides.counted) in
+    record {
+      some_block = omega (arith, blocks, right.some_pe);
+      few_blocks = omega (arith, blocks, right.few_pes);
+      divides = subst (λ n. IsDivision 0 (length sizes) n r.cuts) (sym blocks) (subst (λ n. IsDivision 0 n pes r.cuts) paired right.plan.divides);
+    }
+
+-- the names of a plan, by its cuts
+pub naming_of_plan : {A : Type 0} (loads : List ℕ) (sizes : List (ℕ × ℕ)) (pes : ℕ) (r : Reordered A) → IsReordered loads sizes pes r → IsNaming (blocks_between r.cuts) r.names
+naming_of_plan loads sizes pes r right =
+    let blocks : blocks_between r.cuts ≡ pes = omega (arith, right.plan.divides.counted) in
+    subst (λ n. IsNaming n r.names) (sym blocks) right.plan.naming
+
+-- the division of a plan, by its names
+pub division_of_plan : {A : Type 0} (loads : List ℕ) (sizes : List (ℕ × ℕ)) (pes : ℕ) (r : Reordered A) → length loads ≡ length sizes → IsReordered loads sizes pes r → IsDivision 0 (length sizes) (length r.names) r.cuts
+division_of_plan loads sizes pes r paired right =
+    subst (λ n. IsDivision 0 n (length r.names) r.cuts) paired (subst (λ b. IsDivision 0 (length loads) b r.cuts) (sym right.plan.naming.counted) right.plan.divides)
+
+-- an element of so many blocks has a place below their number
+pub place_below : (n pes : ℕ) (cuts names : List ℕ) → IsDivision 0 n pes cuts → IsNaming pes names → pes ≤ PES → (i : ℕ) → i < n → HasPlaceBelow pes cuts names i
+place_below n pes cuts names divides naming few i inside =
+    let around = block_around cuts pes i (omega (arith, divides.starts)) (omega (arith, divides.ends, inside)) in
+    let block : block_of cuts i ≡ around.0 = block_of_is n pes cuts around.0 i divides around.1 around.2 around.3 in
+    let last : pes ≡ blocks_between cuts = omega (arith, divides.counted) in
+    let below : planned_pe cuts names i < pes = subst (λ b. slice_index names b < pes) (sym block) (naming.below around.0 around.1) in
+    record {
+      place = record {
+        starts = divides.starts;
+        ordered = divides.ordered;
+        inside = subst (λ b. i < slice_index cuts b) last (omega (arith, divides.ends, inside));
+        named = omega (arith, block, around.1, naming.counted);
+        pe = omega (arith, below, few);
+      };
+      below = below;
+    }
+
+-- the lesser of the two is a decision
+pub lesser_is : {A : Type 0} (loads : List ℕ) (sizes : List (ℕ × ℕ)) (pes tolerance : ℕ) (refined : Refined A) (fewest : Fewest A) (r : Reordering A) → IsRefined loads sizes pes tolerance refined → IsFewest loads sizes pes tolerance fewest → IsLesser refined fewest r → IsReordering loads sizes pes tolerance r
+lesser_is loads sizes pes tolerance refined fewest (InOrder r) one other same =
+    subst (IsRefined loads sizes pes tolerance) (sym same) one
+lesser_is loads sizes pes tolerance refined fewest (InAnyOrder f) one other (same, no_more) =
+    subst (IsFewest loads sizes pes tolerance) (sym same) other
+
+-- and moves no more bytes than what moves as many as the one that it is the lesser of
+pub lesser_moves : {A : Type 0} (refined : Refined A) (fewest : Fewest A) (r : Reordering A) (most : ℕ) → refined_moved refined ≡ most → IsLesser refined fewest r → reordering_moved r ≤ most
+lesser_moves refined fewest (InOrder r) most as_many same = omega (arith, ap refined_moved same, as_many)
+lesser_moves refined fewest (InAnyOrder f) most as_many (same, no_more) =
+    omega (arith, ap (λ (g : Fewest _). g.moved) same, no_more, as_many)
+
+-- no block of it is above the limit
+fewest_within : {A : Type 0} (loads : List ℕ) (sizes : List (ℕ × ℕ)) (pes tolerance : ℕ) (f : Fewest A) → IsFewest loads sizes pes tolerance f → peak loads f.reordered.cuts ≤ limit_of f.reordered.least.bottleneck tolerance
+fewest_within loads sizes pes tolerance f few =
+    subst (λ t. peak loads f.reordered.cuts ≤ limit_of f.reordered.least.bottleneck t) few.tolerance_is (peak_within loads pes (reordered_limit f.reordered) f.reordered.cuts few.right.plan.divides few.right.plan.within)
+
+pub within : {A : Type 0} (loads : List ℕ) (sizes : List (ℕ × ℕ)) (pes tolerance : ℕ) (refined : Refined A) (fewest : Fewest A) (r : Reordering A) → refined_bottleneck refined ≡ peak loads (refined_cuts refined) → refined_bottleneck refined ≤ limit_of (least_load refined) tolerance → IsFewest loads sizes pes tolerance fewest → IsLesser refined fewest r → peak loads (reordering_cuts r) ≤ limit_of (reordering_least r) tolerance
+within loads sizes pes tolerance refined fewest (InOrder r) heaviest low other same =
+    subst (λ (q : Refined _). peak loads (refined_cuts q) ≤ limit_of (least_load q) tolerance) (sym same) (omega (arith, heaviest, low))
+within loads sizes pes tolerance refined fewest (InAnyOrder f) heaviest low other (same, no_more) =
+    fewest_within loads sizes pes tolerance f (subst (IsFewest loads sizes pes tolerance) (sym same) other)
+
+-- a place by names below their number
+pub below_names : (pes : ℕ) (cuts names : List ℕ) (i : ℕ) → IsNaming pes names → HasPlace cuts names i → HasPlaceBelow pes cuts names i
+below_names pes cuts names i naming place =
+    record { place = place; below = naming.below (block_of cuts i) (omega (arith, place.named, naming.counted)) }
+
+-- the lesser has the places of one of the two
+pub lesser_places : {A : Type 0} (pes i : ℕ) (refined : Refined A) (fewest : Fewest A) (r : Reordering A) → HasPlaceBelow pes (refined_cuts refined) (refined_names refined) i → HasPlaceBelow pes fewest.reordered.cuts fewest.reordered.names i → IsLesser refined fewest r → HasPlaceBelow pes (reordering_cuts r) (reordering_names r) i
+lesser_places pes i refined fewest (InOrder r) one other same =
+    subst (λ (q : Refined _). HasPlaceBelow pes (refined_cuts q) (refined_names q) i) (sym same) one
+lesser_places pes i refined fewest (InAnyOrder f) one other (same, no_more) =
+    subst (λ (g : Fewest _). HasPlaceBelow pes g.reordered.cuts g.reordered.names i) (sym same) other

@@ -1,0 +1,13 @@
+//! Decisions within a tolerance where the PEs may change their order: as balanced as is asked for, with the fewest bytes moved of
+//! all.
+//!
+//! - [`refine_in_any_order`]: decides, as [`refine`](lb_refinement::refine) does, or out of memory.
+//! - [`Reordering`]: what it decides: cuts and names with the proof that no others move fewer bytes ([`Fewest`]), or the decision
+//!   in the present order.
+#![tactic(auto)]
+
+mod refining;
+mod reordering;
+
+pub use refining::refine_in_any_order;
+pub use reordering::{Fewest, Reordering};

@@ -1,0 +1,116 @@
+ghost use Rattle.std.specs.Prelude.{◌≡◌, ◌<◌, ◌≤◌, ℕ, length, IfOk, IfSome};
+ghost use Rattle.lb_certificates.specs.Chain.{peak};
+ghost use Rattle.chain_refinement.specs.Tolerances.{limit_of};
+ghost use Rattle.any_order.specs.AnyOrder.{IsReordered};
+ghost use Rattle.lb_refinement.specs.Refined.{IsRefined, refined_least, refined_moved};
+ghost use Rattle.lb_refinement.specs.declared.refined.Refined.{Refined};
+ghost use Rattle.lb_any_order.specs.Reorderings.{HasMoves, HasPlaceBelow, IsFewest, IsLesser, IsReordering, reordering_cuts, reordering_least, reordering_moved, reordering_names};
+
+use crate::reordering::{Fewest, Reordering};
+use any_order::{Reordered, moved_by};
+use any_order_search::reorder;
+use chain_refinement::Tolerance;
+use chare_index::Limits;
+use lb_certificates::{Division, Snapshot};
+use lb_refinement::laws::one_refined;
+use lb_refinement::{Refined, refine};
+use lb_strategy::moves_of;
+use present_order::present_order;
+use std::alloc::{AllocError, Allocator};
+
+/// Decides where each element of this snapshot runs next, on `pes` PEs, 1 to 256, so that the greatest load of a PE lies
+/// within a tolerance above the least possible one.
+///
+/// Where the elements of each PE stand together, all below `pes`, it searches all cuts within the tolerance, with all names of
+/// their blocks, for some that move the fewest bytes. It answers these only with the proof that none move fewer, which the
+/// checker has accepted. Otherwise, and where the search would be too large ([`TABLE`](any_order_search::TABLE)), it is the
+/// decision of [`refine`], and it never moves more bytes than that.
+///
+/// # Errors
+///
+/// Out of memory, where a list was refused.
+pub fn refine_in_any_order<A: Allocator + Copy, B: Allocator>(
+    alloc: A,
+    snapshot: &Snapshot<B>,
+    pes: u32,
+    tolerance: Tolerance,
+) -> Result<Reordering<A>, AllocError>
+    requires some_pe { 1 ≤ pes }
+    requires few_pes { pes ≤ Limits.PES }
+    ensures reordering { IfOk result (IsReordering snapshot.now.loads snapshot.now.sizes pes tolerance) }
+    ensures within { IfOk result (λ r. peak snapshot.now.loads (reordering_cuts r) ≤ limit_of (reordering_least r) tolerance) }
+    ensures no_more { IfOk result (λ r. (other : Refined A) → IsRefined snapshot.now.loads snapshot.now.sizes pes tolerance other → reordering_moved r ≤ refined_moved other) }
+    ensures places { IfOk result (λ r. (i : ℕ) → i < length snapshot.now.sizes → HasPlaceBelow pes (reordering_cuts r) (reordering_names r) i) }
+{
+    let refined = refine(alloc, snapshot, pes, tolerance)?;
+    one_refined::<A>();
+    let Some(fewest) = fewest_of_all(alloc, snapshot, pes, tolerance, &refined)? else {
+        return Ok(Reordering::InOrder(refined));
+    };
+    Ok(lesser(refined, fewest))
+}
+
+// Cuts and names that move the fewest bytes, where some are found with their proof.
+fn fewest_of_all<A: Allocator + Copy, B: Allocator>(
+    alloc: A,
+    snapshot: &Snapshot<B>,
+    pes: u32,
+    tolerance: Tolerance,
+    refined: &Refined<A>,
+) -> Result<Option<Fewest<A>>, AllocError>
+    requires some_pe { 1 ≤ pes }
+    requires few_pes { pes ≤ Limits.PES }
+    requires refined { IsRefined snapshot.now.loads snapshot.now.sizes pes tolerance refined.now }
+    ensures fewest { IfOk result (λ found. IfSome found (IsFewest snapshot.now.loads snapshot.now.sizes pes tolerance)) }
+    ensures places { IfOk result (λ found. IfSome found (λ f. (i : ℕ) → i < length snapshot.now.sizes → HasPlaceBelow pes f.reordered.cuts f.reordered.names i)) }
+{
+    let Some(order) = present_order(alloc, snapshot.sizes(), pes)? else {
+        return Ok(None);
+    };
+    let least = least_of(refined)?;
+    let Some(reordered) = reorder(alloc, snapshot, pes, least, tolerance, &order)? else {
+        return Ok(None);
+    };
+    Ok(Some(with_moves(alloc, snapshot, pes, reordered)?))
+}
+
+// A copy of the division that the limit is measured from.
+fn least_of<A: Allocator + Copy>(refined: &Refined<A>) -> Result<Division<A>, AllocError>
+    ensures copied { IfOk result (λ d. d ≡ refined_least refined.now) }
+{
+    refined.least().clone()
+}
+
+// Cuts and names, with the elements that move.
+fn with_moves<A: Allocator + Copy, B: Allocator>(
+    alloc: A,
+    snapshot: &Snapshot<B>,
+    pes: u32,
+    reordered: Reordered<A>,
+) -> Result<Fewest<A>, AllocError>
+    requires right { IsReordered snapshot.now.loads snapshot.now.sizes pes reordered }
+    ensures moves { IfOk result (HasMoves snapshot.now.sizes) }
+    ensures reordered { IfOk result (λ f. f.reordered ≡ reordered) }
+    ensures places { IfOk result (λ f. (i : ℕ) → i < length snapshot.now.sizes → HasPlaceBelow pes f.reordered.cuts f.reordered.names i) }
+{
+    let sizes = snapshot.sizes().as_slice();
+    let cuts = reordered.cuts.as_slice();
+    let names = reordered.names.as_slice();
+    let moved = moved_by(sizes, cuts, names);
+    let moves = moves_of(alloc, sizes, cuts, names)?;
+    Ok(Fewest {
+        reordered,
+        moved,
+        moves,
+    })
+}
+
+// The fewest, where they are no more bytes than those of the other.
+fn lesser<A: Allocator>(refined: Refined<A>, fewest: Fewest<A>) -> Reordering<A>
+    ensures { IsLesser refined fewest result }
+{
+    if fewest.moved <= refined.moved() {
+        return Reordering::InAnyOrder(fewest);
+    }
+    Reordering::InOrder(refined)
+}
