@@ -1,0 +1,31 @@
+//! Refused memory, one request after another.
+
+use crate::fixtures::{snapshot, tolerance};
+use crate::rows::TEN;
+use lb_any_order::{Reordering, refine_in_any_order};
+use std::alloc::{AllocError, Allocator};
+use tests_fixtures::{Outcome, each_refusal};
+
+// What the decision on the ten elements, a fifth above the least load, comes to.
+fn is_decided<A: Allocator>(answer: Result<Reordering<A>, AllocError>) -> Outcome {
+    let outcome = match &answer {
+        Ok(Reordering::InAnyOrder(fewest)) if fewest.moved == 60 => Outcome::Right,
+        Ok(_) => Outcome::Wrong,
+        Err(AllocError) => Outcome::Refused,
+    };
+    drop(answer);
+    outcome
+}
+
+#[test]
+fn each_request_may_be_refused(rt: HostRuntime) {
+    let taken = snapshot(&rt, TEN.loads, TEN.elements);
+    let fifth = tolerance(&rt, 200);
+    let refusals = each_refusal(
+        rt.alloc(),
+        999,
+        |alloc| is_decided(refine_in_any_order(alloc, &taken, 3, fifth)),
+    );
+    assert!(rt; refusals.is_ok());
+    drop(taken);
+}
