@@ -1,10 +1,10 @@
 -- Which flaw of a reordered division is the first, and that one that is right has none.
-use Rattle.std.proofs.Common.{◌≡◌, ◌≢◌, ◌⊎◌, inl, inr, ℕ, ◌+◌, ◌<◌, ◌≤◌, List, length, slice_index, arith, refl, subst, sym, ◌∙◌}
+use Rattle.std.proofs.Common.{◌≡◌, ◌≢◌, ◌⊎◌, inl, inr, ℕ, ◌+◌, ◌<◌, ◌≤◌, List, length, slice_index, arith, refl, subst, sym}
 use Rattle.chare_index.specs.declared.limits.TheConstants.Limits.{PES}
 use Rattle.lb_certificates.specs.declared.flaw.Flaw.{Flaw}
 use Rattle.lb_certificates.specs.Certificate.{IsCertified, NoneAbove}
 use Rattle.lb_certificates.specs.Chain.{IsDivision}
-use Rattle.lb_certificates.specs.Flaws.{AreApart, flaw_number, flaw_place, HasFlaw, IsBefore, IsFirst, Repeats}
+use Rattle.lb_certificates.specs.Flaws.{AreApart, flaw_number, flaw_place, HasFlaw, IsFirst, Repeats}
 use Rattle.lb_certificates.specs.Naming.{bytes_moved}
 use Rattle.lb_certificates.proofs.NoFlaws.{flawless}
 use Rattle.chain_refinement.proofs.FlawNumbers.{division_flaw}

@@ -1,5 +1,5 @@
 -- What an answer of the check says.
-use Rattle.std.proofs.Common.{◌≡◌, ℕ, ◌<◌, ◌≤◌, ◌↔◌, ◌+◌, List, length, Result, Ok, Err, IsOk, OnOk, IfErr, arith, refl}
+use Rattle.std.proofs.Common.{◌≡◌, ℕ, ◌≤◌, ◌↔◌, ◌+◌, List, length, Result, Ok, Err, IsOk, OnOk, IfErr, arith, refl}
 use Rattle.lb_certificates.specs.Certificate.{IsCertified}
 use Rattle.lb_certificates.specs.Chain.{peak}
 use Rattle.lb_certificates.specs.Naming.{bytes_moved}

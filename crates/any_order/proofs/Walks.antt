@@ -1,5 +1,5 @@
 -- What the walk along the chain keeps, and where it ends.
-use Rattle.std.proofs.Common.{◌≡◌, ◌≢◌, ℕ, ◌+◌, ◌-◌, ◌^◌, ◌<◌, ◌≤◌, inl, inr, true, false, eqb, cond, ◌||◌, List, length, get_or, slice_index, slice_set, slice_range, sum_by, IsFalse, arith, refl, subst, sym, ap, ◌∙◌, get_or-set_same, get_or-set_other}
+use Rattle.std.proofs.Common.{◌≡◌, ◌≢◌, ℕ, ◌+◌, ◌-◌, ◌^◌, ◌<◌, ◌≤◌, inl, inr, true, eqb, cond, ◌||◌, List, length, get_or, slice_index, slice_set, slice_range, sum_by, IsFalse, arith, refl, subst, sym, ap, ◌∙◌, get_or-set_same, get_or-set_other}
 use Rattle.std.proofs.lemmas.Bool.{cases_eq, cases_lt, eq-eqb, ne_eqb}
 use Rattle.std.proofs.lemmas.Bool.Decides.{eqb_tells, leb_tells}
 use Rattle.std.proofs.lemmas.List.{length-set}

@@ -6,7 +6,7 @@ use Rattle.lb_certificates.specs.Certificate.{NoneAbove}
 use Rattle.lb_certificates.specs.Chain.{block_load}
 use Rattle.lb_certificates.specs.Naming.{IsNaming}
 use Rattle.chain_refinement.specs.Refinement.{held_bytes}
-use Rattle.any_order.specs.AnyOrder.{home, is_level, IsCorner, level_at, reordered_limit, RisesTo}
+use Rattle.any_order.specs.AnyOrder.{is_level, IsCorner, level_at, reordered_limit, RisesTo}
 use Rattle.any_order.specs.Flaws.{IsSteep}
 use Rattle.any_order.specs.declared.block.Block.{Block}
 use Rattle.any_order.specs.declared.block.Pair.{Pair}

@@ -1,10 +1,6 @@
-use Rattle.std.proofs.Common.{◌≡◌, ◌+◌, ◌*◌, ◌≤◌, length, slice_index, add-one, arith, ap, sym, ◌∙◌}
-use Rattle.std.proofs.Math.Nat.{mul-le-mul_right}
-use Rattle.chare_index.specs.declared.limits.TheConstants.Limits.{STATE_BYTES}
-use Rattle.lb_snapshot.proofs.Parts.{sizes_part}
+use Rattle.std.proofs.Common.{◌≡◌, length, arith, ap, sym, ◌∙◌}
 use Rattle.lb_certificates.specs.Naming.{block_cost, naming_cost}
 use Rattle.lb_certificates.proofs.BlockSums.{moved_is_cost}
-use Rattle.lb_certificates.proofs.Chains.{block_within}
 use Rattle.any_order.proofs.moved.moved_by.Goals as goal
 
 pub returns : goal.returns

@@ -3,7 +3,7 @@ use Rattle.chare_index.specs.declared.limits.TheConstants.Limits.{PES}
 use Rattle.chain_refinement.specs.Refinement.{held_bytes}
 use Rattle.chain_refinement.proofs.Windows.{window_fits}
 use Rattle.any_order.specs.AnyOrder.{home}
-use Rattle.any_order.specs.Internal.{high_at, is_high_level, IsHolding, IsMost, IsRisen, low_at}
+use Rattle.any_order.specs.Internal.{high_at, is_high_level, IsHolding, IsMost, IsRisen}
 use Rattle.any_order.specs.declared.block.Pair.{Pair}
 use Rattle.any_order.proofs.Walks.{begin_walk, bytes_fit, held_next, kept_fit, next_walk, steep_end, too_heavy}
 use Rattle.any_order.proofs.walk.first_steep_end.Goals as goal
