@@ -1,7 +1,7 @@
 """A user's program, which mypy --strict takes as it stands, and which runs."""
 from __future__ import annotations
 
-from typing import List
+from typing import List, Tuple
 
 import numpy as np
 from numpy.typing import NDArray
@@ -27,6 +27,11 @@ def heaviest(run: tezgumi.Run, pes: int) -> int:
     moves: NDArray[np.void] = decision.moves
     cuts: List[int] = decision.cuts.tolist()
     assert len(moves) <= len(run) and cuts[0] == 0
+    within: tezgumi.Decision = tezgumi.decide(run, pes, tolerance=200)
+    assert tezgumi.check(run, within) and within.moved <= decision.moved
+    if isinstance(within, tezgumi.NearDecision):
+        heights: List[List[Tuple[int, int]]] = within.heights
+        assert within.bottleneck <= within.limit and len(heights) == pes
     return decision.bottleneck
 
 

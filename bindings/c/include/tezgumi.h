@@ -9,14 +9,15 @@
  *
  * There are two layers.
  *
- *   1. tezgumi_abi, tezgumi_plan, tezgumi_decide, tezgumi_check and tezgumi_scale are the library's exports. What they answer is proved.
+ *   1. tezgumi_abi, tezgumi_plan, tezgumi_decide, tezgumi_check, tezgumi_refine, tezgumi_check_refined and tezgumi_scale are
+ *      the library's exports. What they answer is proved.
  *      A list is a pointer and a length, in elements. The caller owes:
  *        - no pointer is null, not even that of a list without elements, and each is aligned for its type: to 8 bytes for
  *          64-bit numbers, and to 4 for 32-bit ones;
  *        - each list has the elements that its length says;
  *        - what a call writes overlaps nothing else that it is given;
  *        - no other thread writes what a call reads, or touches what it writes, before it returns.
- *   2. tezgumi_run, tezgumi_decision and the functions on them, static inline in this header, are tested and not proved.
+ *   2. tezgumi_run, tezgumi_decision, tezgumi_refinement and the functions on them, static inline in this header, are tested and not proved.
  *      They look for null, misaligned and overlapping lists and for wrong lengths first, and answer TEZGUMI_BAD_INPUT,
  *      where an export would be undefined. A list without elements may be null or misaligned: it is not passed on.
  *
@@ -48,6 +49,7 @@ extern "C" {
 #define TEZGUMI_PES 256u                       /* PEs, from 1 */
 #define TEZGUMI_LOAD UINT64_C(140737488355327) /* load of an element, from 0, in any unit: 2^47 - 1 */
 #define TEZGUMI_STATE_BYTES 1048576u           /* packed size of an element, from 0, in bytes */
+#define TEZGUMI_TOLERANCE 1000u                /* tolerance, from 0, in thousandths of the least possible load */
 
 /* What a call answers. After any answer but TEZGUMI_OK a call that plans has written nothing. */
 enum {
@@ -60,6 +62,7 @@ enum {
     TEZGUMI_NOT_A_NUMBER = -4, /* of loads to be scaled the first that is wrong is not a number */
     TEZGUMI_NEGATIVE = -5,     /* or it is below 0 */
     TEZGUMI_INFINITE = -6,     /* or it is infinite */
+    TEZGUMI_BAD_TOLERANCE = -7, /* the tolerance is above TEZGUMI_TOLERANCE; given before all other reasons */
     /* Above 0 the claim is wrong, and this is the least flaw that it has. */
     TEZGUMI_CUT_COUNT = 1,    /* there are not pes + 1 cuts */
     TEZGUMI_CUT_START = 2,    /* the first cut is not 0 */
@@ -79,7 +82,19 @@ enum {
     TEZGUMI_PRICE_HIGH = 16,  /* the prices of a block and a PE are above the bytes that the block would move to it */
     TEZGUMI_PRICE_GAP = 17,   /* all prices together are not the bytes that the names move */
     TEZGUMI_MOVED_WRONG = 18, /* the bytes moved are not those that the names move */
-    TEZGUMI_PLACES_WRONG = 19 /* there is not one place for each element, or one is not the name of its block */
+    TEZGUMI_PLACES_WRONG = 19, /* there is not one place for each element, or one is not the name of its block */
+    /* The flaws of cuts near the present ones, which tezgumi_check_refined alone reports, before 12 to 19. */
+    TEZGUMI_PE_COUNT = 20,     /* there is no PE, or there are more than TEZGUMI_PES */
+    TEZGUMI_ORDER_COUNT = 21,  /* there are not pes PEs in the order */
+    TEZGUMI_ORDER_RANGE = 22,  /* a PE of the order is not below pes */
+    TEZGUMI_ORDER_TWICE = 23,  /* a PE stands in the order twice */
+    TEZGUMI_NEAR_COUNT = 24,   /* there are not pes + 1 cuts near the present ones */
+    TEZGUMI_NO_DIVISION = 25,  /* these cuts do not divide the elements */
+    TEZGUMI_PAST_LIMIT = 26,   /* the load of a block is above the limit */
+    TEZGUMI_HEIGHT_COUNT = 27, /* there are not heights for pes blocks */
+    TEZGUMI_HEIGHT_START = 28, /* the height of the first block at the beginning of the chain is not 0 */
+    TEZGUMI_STEEP = 29,        /* heights rise by more from a block to the next than the cut between them costs */
+    TEZGUMI_HEIGHT_LOW = 30    /* the height of the last block is below what the cuts cost */
 };
 
 /* The status in words. */
@@ -93,6 +108,7 @@ static inline const char *tezgumi_status_name(int32_t status)
     case TEZGUMI_NOT_A_NUMBER: return "a load is not a number";
     case TEZGUMI_NEGATIVE: return "a load is negative";
     case TEZGUMI_INFINITE: return "a load is infinite";
+    case TEZGUMI_BAD_TOLERANCE: return "the tolerance is too great";
     case TEZGUMI_CUT_COUNT: return "wrong number of cuts";
     case TEZGUMI_CUT_START: return "the first cut is not 0";
     case TEZGUMI_CUT_ORDER: return "a cut is greater than the next";
@@ -112,6 +128,17 @@ static inline const char *tezgumi_status_name(int32_t status)
     case TEZGUMI_PRICE_GAP: return "the prices are not the bytes moved";
     case TEZGUMI_MOVED_WRONG: return "wrong number of bytes moved";
     case TEZGUMI_PLACES_WRONG: return "a place is not the name of its block";
+    case TEZGUMI_PE_COUNT: return "wrong number of PEs";
+    case TEZGUMI_ORDER_COUNT: return "wrong number of PEs in the order";
+    case TEZGUMI_ORDER_RANGE: return "the order has a number that is no PE";
+    case TEZGUMI_ORDER_TWICE: return "a PE stands in the order twice";
+    case TEZGUMI_NEAR_COUNT: return "wrong number of cuts near the present ones";
+    case TEZGUMI_NO_DIVISION: return "the cuts do not divide the elements";
+    case TEZGUMI_PAST_LIMIT: return "a block is heavier than the tolerance allows";
+    case TEZGUMI_HEIGHT_COUNT: return "wrong number of heights";
+    case TEZGUMI_HEIGHT_START: return "the heights do not begin with 0";
+    case TEZGUMI_STEEP: return "heights rise by more than a cut costs";
+    case TEZGUMI_HEIGHT_LOW: return "the heights are below what the cuts cost";
     default: return "unknown status";
     }
 }
@@ -165,6 +192,56 @@ int32_t tezgumi_check(
     const uint32_t *cuts, size_t cuts_len, const uint32_t *stops, size_t stops_len,
     const uint32_t *names, size_t names_len,
     const int64_t *block_prices, size_t block_prices_len, const int64_t *pe_prices, size_t pe_prices_len);
+
+/* Decides within a tolerance: so many thousandths, TEZGUMI_TOLERANCE at most, above the least possible load of the heaviest
+ * block, the limit rounded down.
+ *
+ * Where the elements of each PE stand together, the PEs keep the order in which they stand. Of all cuts that keep each block
+ * within the limit it takes those that move the fewest bytes, and of these the nearest to the present ones; then the cheapest
+ * names for these blocks. Where that moves no fewer bytes than the plan does, and where the elements of some PE do not stand
+ * together, the decision is the plan. So never more bytes move than by the plan, and none where the present places keep to
+ * the limit. This is proved.
+ *
+ * TEZGUMI_OK: new_places, *bottleneck, *moved, cuts, names and prices are those of the decision, as tezgumi_decide writes them.
+ * *least is the least possible load of the heaviest block, and least_cuts, with pes + 1 entries, and the first *stops_count stops prove
+ * it. *near is 0 for the plan, and then *steps_count is 0 and no other list is written. Else it is 1: order, with pes entries,
+ * has the PEs in their order, present, with pes + 1, the present cuts, and the heights prove that no other cuts move fewer
+ * bytes in this order. Those of block b are the steps step_starts[b] .. step_starts[b + 1] - 1: from the place
+ * step_places[s] on the height is greater by step_rises[s] bytes. step_starts has pes + 1 entries, step_places and step_rises
+ * have any number, the same for both. They are written where *steps_count is not above that, and otherwise left as they were:
+ * who wants them calls again with more room.
+ * Otherwise TEZGUMI_BAD_TOLERANCE, TEZGUMI_BAD_INPUT, TEZGUMI_BAD_LOAD or TEZGUMI_NO_MEMORY, and nothing is written. */
+int32_t tezgumi_refine(
+    const uint64_t *loads, size_t loads_len, const uint32_t *bytes, size_t bytes_len,
+    const uint32_t *places, size_t places_len, uint32_t procs, uint32_t pes, uint32_t tolerance,
+    uint32_t *new_places, size_t new_places_len, uint64_t *least, uint64_t *bottleneck, uint64_t *moved, uint32_t *near_present,
+    uint32_t *cuts, size_t cuts_len, uint32_t *stops, size_t stops_len, size_t *stops_count,
+    uint32_t *names, size_t names_len,
+    int64_t *block_prices, size_t block_prices_len, int64_t *pe_prices, size_t pe_prices_len,
+    uint32_t *least_cuts, size_t least_cuts_len, uint32_t *order, size_t order_len, uint32_t *present, size_t present_len,
+    size_t *step_starts, size_t step_starts_len, uint32_t *step_places, size_t step_places_len,
+    uint64_t *step_rises, size_t step_rises_len, size_t *steps_count);
+
+/* Checks what somebody claims to be a decision within a tolerance whose cuts are near the present ones: the claim's numbers and
+ * lengths may be any. The lists are those of tezgumi_refine. It takes memory as the claim's lists and steps do.
+ *
+ * TEZGUMI_OK exactly where every part of the claim is right. Then least is the least possible load of the heaviest block, no
+ * cuts within the tolerance move fewer bytes in this order of the PEs, no naming of the blocks moves fewer, and new_places are
+ * the names of the elements' blocks. Above 0: the first flaw of the claim, 1 to 11 and 20 to 30 being looked for before 12 to
+ * 19; *at_first and *at_second are then what it names: the block, the stop (from 1), the block and the PE, or the block and
+ * the place, and 0 where it names nothing. Otherwise TEZGUMI_BAD_TOLERANCE, TEZGUMI_BAD_INPUT, TEZGUMI_BAD_LOAD or
+ * TEZGUMI_NO_MEMORY, after which nothing is known of the claim. Both are written after a flaw alone. */
+int32_t tezgumi_check_refined(
+    const uint64_t *loads, size_t loads_len, const uint32_t *bytes, size_t bytes_len,
+    const uint32_t *places, size_t places_len, uint32_t procs, uint32_t pes, uint32_t tolerance,
+    const uint32_t *new_places, size_t new_places_len, uint64_t least, uint64_t moved,
+    const uint32_t *cuts, size_t cuts_len, const uint32_t *stops, size_t stops_len,
+    const uint32_t *names, size_t names_len,
+    const int64_t *block_prices, size_t block_prices_len, const int64_t *pe_prices, size_t pe_prices_len,
+    const uint32_t *least_cuts, size_t least_cuts_len, const uint32_t *order, size_t order_len,
+    const uint32_t *present, size_t present_len, const size_t *step_starts, size_t step_starts_len,
+    const uint32_t *step_places, size_t step_places_len, const uint64_t *step_rises, size_t step_rises_len,
+    uint32_t *at_first, uint32_t *at_second);
 
 /* Counts loads that were measured, in seconds say, in a unit that it chooses, so that they can be planned.
  *
@@ -234,6 +311,71 @@ static inline void tezgumi_decision_free(tezgumi_decision *d)
     if (!d) return;
     free(d->room);
     memset(d, 0, sizeof *d);
+}
+
+/* A decision within a tolerance, and what proves it. tezgumi_refinement_room gets room for its lists, and
+ * tezgumi_refinement_free gives it back; or the lists are the caller's own, and both rooms are null. */
+typedef struct {
+    tezgumi_decision decision; /* its bottleneck is the load of its heaviest block; the stops prove least */
+    uint32_t tolerance;        /* thousandths above least */
+    uint32_t near_present;     /* 1: the cuts are near the present ones; 0: it is the plan, and the lists from order on are not there */
+    uint64_t least;            /* the least possible load of the heaviest block */
+    uint32_t *least_cuts;      /* pes + 1: those of the least division */
+    uint32_t *order;           /* pes: the PEs, in the order in which they stand */
+    uint32_t *present;         /* pes + 1: the present cuts */
+    size_t *step_starts;       /* pes + 1: the first step of each block, and behind them how many steps there are */
+    uint32_t *step_places;     /* steps_room: the place of each step */
+    uint64_t *step_rises;      /* steps_room: how much higher it is from there on */
+    size_t steps_count;        /* steps of the heights; where there are more than steps_room, they were not written */
+    size_t steps_room;         /* room for steps */
+    void *room;                /* what tezgumi_refinement_free gives back, */
+    void *steps;               /* and the room of the steps */
+} tezgumi_refinement;
+
+/* Gives the room back and makes all of *d null and 0. d may be null. */
+static inline void tezgumi_refinement_free(tezgumi_refinement *d)
+{
+    if (!d) return;
+    tezgumi_decision_free(&d->decision);
+    free(d->room);
+    free(d->steps);
+    memset(d, 0, sizeof *d);
+}
+
+/* Gets room for so many steps, for those that there is room for are lost. */
+static inline int32_t tezgumi_steps_room(tezgumi_refinement *d, size_t count)
+{
+    const size_t size = sizeof *d->step_rises + sizeof *d->step_places;
+    void *steps = count < SIZE_MAX / size ? calloc(count ? count : 1, size) : NULL;
+    if (!steps) return TEZGUMI_NO_MEMORY;
+    free(d->steps);
+    d->steps = steps;
+    d->step_rises = (uint64_t *)steps;
+    d->step_places = (uint32_t *)(d->step_rises + count);
+    d->steps_room = count;
+    return TEZGUMI_OK;
+}
+
+/* Gets room for a decision within a tolerance on n elements and pes PEs, as tezgumi_decision_room does. tezgumi_refine_run gets
+ * room for more steps where it needs it. */
+static inline int32_t tezgumi_refinement_room(tezgumi_refinement *d, uint32_t n, uint32_t pes)
+{
+    const size_t starts = ((size_t)pes + 1) * sizeof(size_t), words = (3 * (size_t)pes + 2) * sizeof(uint32_t);
+    int32_t status;
+    if (!d) return TEZGUMI_BAD_INPUT;
+    memset(d, 0, sizeof *d);
+    status = tezgumi_decision_room(&d->decision, n, pes);
+    if (status != TEZGUMI_OK) return status;
+    d->room = calloc(1, starts + words);
+    if (!d->room || tezgumi_steps_room(d, 8 * (size_t)pes) != TEZGUMI_OK) {
+        tezgumi_refinement_free(d);
+        return TEZGUMI_NO_MEMORY;
+    }
+    d->step_starts = (size_t *)d->room;
+    d->least_cuts = (uint32_t *)(d->step_starts + pes + 1);
+    d->present = d->least_cuts + pes + 1;
+    d->order = d->present + pes + 1;
+    return TEZGUMI_OK;
 }
 
 /* So many entries of so many bytes each, from a pointer on. */
@@ -389,6 +531,90 @@ static inline int32_t tezgumi_check_run(const tezgumi_run *r, const tezgumi_deci
         (const uint32_t *)tezgumi_or(d->new_places, r->n, &none), r->n, d->bottleneck, d->moved, d->cuts, blocks + 1,
         (const uint32_t *)tezgumi_or(d->stops, d->stops_count, &none), d->stops_count, d->names, blocks,
         d->block_prices, blocks, d->pe_prices, blocks);
+}
+
+/* The lists of a refinement that its decision does not have, with so many steps. */
+static inline void tezgumi_refinement_areas(const tezgumi_refinement *d, size_t steps, tezgumi_area *areas)
+{
+    const size_t blocks = d->decision.pes;
+    areas[0] = tezgumi_area_of(d->least_cuts, blocks + 1, sizeof *d->least_cuts);
+    areas[1] = tezgumi_area_of(d->order, blocks, sizeof *d->order);
+    areas[2] = tezgumi_area_of(d->present, blocks + 1, sizeof *d->present);
+    areas[3] = tezgumi_area_of(d->step_starts, blocks + 1, sizeof *d->step_starts);
+    areas[4] = tezgumi_area_of(d->step_places, steps, sizeof *d->step_places);
+    areas[5] = tezgumi_area_of(d->step_rises, steps, sizeof *d->step_rises);
+}
+
+/* Asks the library once, with the room for steps that there is. */
+static inline int32_t tezgumi_refine_once(const tezgumi_run *r, uint32_t tolerance, tezgumi_refinement *d)
+{
+    tezgumi_decision *of = &d->decision;
+    uint64_t none = 0;
+    const size_t blocks = of->pes, ends = blocks + 1;
+    return tezgumi_refine(
+        (const uint64_t *)tezgumi_or(r->loads, r->n, &none), r->n, (const uint32_t *)tezgumi_or(r->bytes, r->n, &none), r->n,
+        (const uint32_t *)tezgumi_or(r->places, r->n, &none), r->n, r->procs, of->pes, tolerance,
+        (uint32_t *)tezgumi_or(of->new_places, r->n, &none), r->n, &d->least, &of->bottleneck, &of->moved,
+        &d->near_present,
+        of->cuts, ends, of->stops, ends, &of->stops_count, of->names, blocks, of->block_prices, blocks, of->pe_prices, blocks,
+        d->least_cuts, ends, d->order, blocks, d->present, ends, d->step_starts, ends,
+        (uint32_t *)tezgumi_or(d->step_places, d->steps_room, &none), d->steps_room,
+        (uint64_t *)tezgumi_or(d->step_rises, d->steps_room, &none), d->steps_room, &d->steps_count);
+}
+
+/* Decides within a tolerance for d->decision.pes PEs. Of the lists it asks what tezgumi_decide_run does. Where d has room of its
+ * own, it gets more for the steps, so that they are there; where that is refused, TEZGUMI_NO_MEMORY, and d is of no use. */
+static inline int32_t tezgumi_refine_run(const tezgumi_run *r, uint32_t tolerance, tezgumi_refinement *d)
+{
+    tezgumi_area areas[16];
+    int32_t status;
+    if (tolerance > TEZGUMI_TOLERANCE) return TEZGUMI_BAD_TOLERANCE;
+    if (!d || !tezgumi_fit(r, &d->decision)) return TEZGUMI_BAD_INPUT;
+    tezgumi_run_areas(r, areas);
+    tezgumi_decision_areas(&d->decision, (size_t)d->decision.pes + 1, areas + 3);
+    tezgumi_refinement_areas(d, d->steps_room, areas + 9);
+    areas[15] = tezgumi_area_of(d, sizeof *d, 1);
+    if (!tezgumi_are_usable(areas, 3, 16)) return TEZGUMI_BAD_INPUT;
+    status = tezgumi_refine_once(r, tolerance, d);
+    if (status == TEZGUMI_OK && d->steps && d->steps_count > d->steps_room) {
+        status = tezgumi_steps_room(d, d->steps_count);
+        if (status == TEZGUMI_OK) status = tezgumi_refine_once(r, tolerance, d);
+    }
+    if (status == TEZGUMI_OK) d->tolerance = tolerance;
+    return status;
+}
+
+/* Checks a decision within a tolerance, whoever made it: the plan as tezgumi_check_run does. at, which may be null, has room
+ * for the two numbers that a flaw names. */
+static inline int32_t tezgumi_check_refinement(const tezgumi_run *r, const tezgumi_refinement *d, uint32_t *at)
+{
+    tezgumi_area areas[15];
+    uint64_t none = 0;
+    uint32_t unread[2];
+    const tezgumi_decision *of;
+    size_t blocks, steps;
+    if (!d || !tezgumi_fit(r, &d->decision) || d->decision.stops_count > (size_t)d->decision.pes + 1) return TEZGUMI_BAD_INPUT;
+    of = &d->decision;
+    if (!at) at = unread;
+    if (!d->near_present) {
+        at[0] = at[1] = 0;
+        return tezgumi_check_run(r, of);
+    }
+    blocks = of->pes;
+    steps = d->steps_count;
+    if (steps > d->steps_room) return TEZGUMI_BAD_INPUT;
+    tezgumi_run_areas(r, areas);
+    tezgumi_decision_areas(of, of->stops_count, areas + 3);
+    tezgumi_refinement_areas(d, steps, areas + 9);
+    if (!tezgumi_are_usable(areas, 15, 15)) return TEZGUMI_BAD_INPUT;
+    return tezgumi_check_refined(
+        (const uint64_t *)tezgumi_or(r->loads, r->n, &none), r->n, (const uint32_t *)tezgumi_or(r->bytes, r->n, &none), r->n,
+        (const uint32_t *)tezgumi_or(r->places, r->n, &none), r->n, r->procs, of->pes, d->tolerance,
+        (const uint32_t *)tezgumi_or(of->new_places, r->n, &none), r->n, d->least, of->moved, of->cuts, blocks + 1,
+        (const uint32_t *)tezgumi_or(of->stops, of->stops_count, &none), of->stops_count, of->names, blocks,
+        of->block_prices, blocks, of->pe_prices, blocks, d->least_cuts, blocks + 1, d->order, blocks, d->present, blocks + 1,
+        d->step_starts, blocks + 1, (const uint32_t *)tezgumi_or(d->step_places, steps, &none), steps,
+        (const uint64_t *)tezgumi_or(d->step_rises, steps, &none), steps, &at[0], &at[1]);
 }
 
 #ifdef __cplusplus

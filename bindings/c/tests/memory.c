@@ -67,12 +67,23 @@ void __wrap_free(void *block)
 static const uint64_t loads[N] = {1, 1, 2};
 static const uint32_t bytes[N] = {10, 9, 8}, places[N] = {0, 1, 0};
 
+/* Ten elements on three PEs, whose work has gathered in the middle: within 167 thousandths the cuts are near the present ones. */
+enum { TEN = 10, Q = 3, THOUSANDTHS = 167, STEPS = 64 };
+static const uint64_t ten_loads[TEN] = {1, 1, 1, 2, 7, 8, 6, 2, 1, 1};
+static const uint32_t ten_bytes[TEN] = {10, 10, 10, 20, 60, 90, 70, 20, 10, 10}, ten_places[TEN] = {2, 2, 2, 2, 0, 0, 0, 1, 1, 1};
+
 /* What a call writes. */
 typedef struct {
     uint32_t new_places[N], cuts[P + 1], stops[P + 1], names[P];
     int64_t block_prices[P], pe_prices[P];
     uint64_t bottleneck, moved;
     size_t stops_count;
+    uint32_t ten_new[TEN], near_cuts[Q + 1], least_cuts[Q + 1], ten_stops[Q + 1], present[Q + 1], ten_names[Q], order[Q];
+    int64_t u[Q], v[Q];
+    uint64_t rises[STEPS];
+    uint64_t least;
+    uint32_t at[STEPS], near_present;
+    size_t starts[Q + 1], steps_count;
 } output;
 
 static int32_t call_plan(output *o)
@@ -90,6 +101,22 @@ static int32_t call_check(output *o)
 {
     return tezgumi_check(loads, N, bytes, N, places, N, P, P, o->new_places, N, o->bottleneck, o->moved, o->cuts, P + 1,
         o->stops, o->stops_count, o->names, P, o->block_prices, P, o->pe_prices, P);
+}
+
+static int32_t call_refine(output *o)
+{
+    return tezgumi_refine(ten_loads, TEN, ten_bytes, TEN, ten_places, TEN, Q, Q, THOUSANDTHS, o->ten_new, TEN, &o->least,
+        &o->bottleneck, &o->moved, &o->near_present, o->near_cuts, Q + 1, o->ten_stops, Q + 1, &o->stops_count, o->ten_names, Q, o->u, Q, o->v, Q,
+        o->least_cuts, Q + 1, o->order, Q, o->present, Q + 1, o->starts, Q + 1, o->at, STEPS, o->rises, STEPS,
+        &o->steps_count);
+}
+
+static int32_t call_check_refined(output *o)
+{
+    return tezgumi_check_refined(ten_loads, TEN, ten_bytes, TEN, ten_places, TEN, Q, Q, THOUSANDTHS, o->ten_new, TEN,
+        o->least, o->moved, o->near_cuts, Q + 1, o->ten_stops, o->stops_count, o->ten_names, Q, o->u, Q, o->v, Q,
+        o->least_cuts, Q + 1, o->order, Q, o->present, Q + 1, o->starts, Q + 1, o->at, o->steps_count, o->rises,
+        o->steps_count, &o->cuts[0], &o->cuts[1]);
 }
 
 static void each_refused(const char *name, int32_t (*call)(output *), const output *given)
@@ -155,6 +182,30 @@ static void *decide_much(void *arg)
     return tezgumi_decide_run(&many, d) == TEZGUMI_OK && tezgumi_check_run(&many, d) == TEZGUMI_OK ? arg : NULL;
 }
 
+static void *refine_much(void *arg)
+{
+    static uint64_t many_loads[MANY];
+    static uint32_t many_bytes[MANY], many_places[MANY];
+    const tezgumi_run many = {MANY, PES, many_loads, many_bytes, many_places};
+    tezgumi_refinement *d = (tezgumi_refinement *)arg;
+    return tezgumi_refine_run(&many, 20, d) == TEZGUMI_OK && tezgumi_check_refinement(&many, d, NULL) == TEZGUMI_OK ? arg : NULL;
+}
+
+/* The same within a tolerance, in one thread. */
+static int a_thread_refines(void)
+{
+    tezgumi_refinement d;
+    pthread_t thread;
+    pthread_attr_t small;
+    void *answer = NULL;
+    int right;
+    if (pthread_attr_init(&small) || pthread_attr_setstacksize(&small, STACK)) return 0;
+    if (tezgumi_refinement_room(&d, MANY, PES) != TEZGUMI_OK || pthread_create(&thread, &small, refine_much, &d)) return 0;
+    right = pthread_join(thread, &answer) == 0 && answer == &d;
+    tezgumi_refinement_free(&d);
+    return right;
+}
+
 static int threads_decide(void)
 {
     tezgumi_decision decisions[THREADS];
@@ -184,6 +235,9 @@ int main(void)
     each_refused("decide", call_decide, &empty);
     each_refused("check", call_check, &decided);
     long_lists(&decided);
+    if (call_refine(&decided) != TEZGUMI_OK || decided.near_present != 1) return 1;
+    each_refused("refine", call_refine, &empty);
+    each_refused("check within a tolerance", call_check_refined, &decided);
     {
         tezgumi_decision d;
         int32_t status;
@@ -194,6 +248,7 @@ int main(void)
         same("room is refused", status, TEZGUMI_NO_MEMORY);
         tezgumi_decision_free(&d);
     }
+    test("a thread of 32 KiB of stack decides within a tolerance", a_thread_refines());
     test("threads of 32 KiB of stack decide and check the greatest number of elements", threads_decide());
     return failures != 0;
 }

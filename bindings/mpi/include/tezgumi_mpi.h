@@ -6,7 +6,7 @@
  * order, each element on one rank. tezgumi_mpi_rebalance moves them so that afterwards
  *
  *   - the elements of each rank are one range of consecutive indices, or none;
- *   - the greatest load of a rank is the least that any such ranges have;
+ *   - the greatest load of a rank is the least that any such ranges have, or within a tolerance of it where that is asked;
  *   - of all ways to hand these ranges to the ranks, the one taken moves the fewest bytes.
  *
  * It works in three steps, which can also be called one by one:
@@ -81,6 +81,11 @@ typedef struct {
     size_t room;
     /* 1: trust the planner, and leave the checker out. */
     int skip_check;
+    /* 1: move no more bytes than the tolerance asks for, which is then 1 at most and taken to the nearest thousandth. Where each
+     * rank has one range already, the ranks keep the order in which they hold the chain, and of all ranges whose greatest load
+     * is at most 1 + tolerance times the least possible one those are taken that move the fewest bytes; where that moves no
+     * fewer than the least ranges do, and where a rank's elements are scattered, these. tezgumi_refine of tezgumi.h decides. */
+    int refine;
 } tezgumi_mpi_options;
 
 /* What happened. All but the seconds is of all ranks together, and the same on all. After a refusal only failed_rank,
@@ -143,7 +148,8 @@ int tezgumi_mpi_gather(MPI_Comm comm, const tezgumi_mpi_element *mine, uint32_t 
 /* Step 2. Writes new_places: the plan, or the present places if the tolerance lets all be. Until it answers TEZGUMI_OK,
  * new_places is left as it was.
  *
- * TEZGUMI_BAD_INPUT where the chain is null or of another number of ranks, or the tolerance is negative or no number;
+ * TEZGUMI_BAD_INPUT where the chain is null or of another number of ranks, or the tolerance is negative or no number, or
+ * above 1 for refine;
  * TEZGUMI_NO_MEMORY; TEZGUMI_MPI_WRONG_PLAN; TEZGUMI_MPI_DISAGREE. */
 int tezgumi_mpi_decide(MPI_Comm comm, tezgumi_mpi_chain *chain, const tezgumi_mpi_options *options,
     tezgumi_mpi_report *report);

@@ -46,15 +46,22 @@ static void count_moves(const tezgumi_mpi_chain *chain, verdict *v)
     }
 }
 
-/* The plan's places, or the present ones where these are good enough. */
-static void choose(const tezgumi_mpi_chain *chain, const tezgumi_decision *d, double tolerance, verdict *v)
+/* Whether the greatest load is good enough: for refine by the limit in whole numbers that was decided within. */
+static int is_enough(uint64_t load, const tezgumi_refinement *d, const tezgumi_mpi_options *options)
 {
-    const uint64_t before = max_load(chain, &v->total), least = d->bottleneck;
-    const int enough = before <= least || (double)(before - least) <= tolerance * (double)least;
-    const int stays = enough && in_ranges(chain);
-    v->places = stays ? chain->places : d->new_places;
+    const uint64_t least = options->refine ? d->least : d->decision.bottleneck;
+    if (options->refine) return load <= least || load - least <= least / 1000 * d->tolerance + least % 1000 * d->tolerance / 1000;
+    return load <= least || (double)(load - least) <= options->tolerance * (double)least;
+}
+
+/* The decided places, or the present ones where these are good enough: also elements of 0 bytes stay then. */
+static void choose(const tezgumi_mpi_chain *chain, const tezgumi_refinement *d, const tezgumi_mpi_options *options, verdict *v)
+{
+    const uint64_t before = max_load(chain, &v->total);
+    const int stays = in_ranges(chain) && is_enough(before, d, options);
+    v->places = stays ? chain->places : d->decision.new_places;
     v->max_load_before = before;
-    v->max_load_after = stays ? before : least;
+    v->max_load_after = stays ? before : d->decision.bottleneck;
     count_moves(chain, v);
 }
 
@@ -69,21 +76,33 @@ static void accept(const verdict *v, tezgumi_mpi_chain *chain, tezgumi_mpi_repor
     report->elements_moved = v->elements_moved;
 }
 
+/* Gets the room and decides: within the tolerance, where that is asked. */
+static int decide(const tezgumi_run *run, const tezgumi_mpi_options *options, tezgumi_refinement *d)
+{
+    tezgumi_decision *of = &d->decision;
+    const uint32_t ranks = run->procs;
+    int status;
+    if (options->refine) {
+        status = tezgumi_refinement_room(d, run->n, ranks);
+        return status == TEZGUMI_OK ? tezgumi_refine_run(run, (uint32_t)(options->tolerance * 1000 + 0.5), d) : status;
+    }
+    status = tezgumi_decision_room(of, run->n, ranks);
+    if (status != TEZGUMI_OK) return status;
+    if (!options->skip_check) return tezgumi_decide_run(run, of);
+    return tezgumi_plan_run(run, ranks, of->new_places, &of->bottleneck, &of->moved);
+}
+
 /* Plans and checks; the outcome's second part is the flaw that was found. */
-static tezgumi_mpi_outcome plan(const tezgumi_mpi_chain *chain, int skip_check, tezgumi_decision *d,
+static tezgumi_mpi_outcome plan(const tezgumi_mpi_chain *chain, const tezgumi_mpi_options *options, tezgumi_refinement *d,
     tezgumi_mpi_report *report)
 {
     const tezgumi_run run = {chain->n, chain->ranks, chain->loads, chain->bytes, chain->places};
     const double begin = MPI_Wtime();
-    double planned;
-    int status = tezgumi_decision_room(d, chain->n, chain->ranks);
-    if (status == TEZGUMI_OK)
-        status = skip_check ? tezgumi_plan_run(&run, chain->ranks, d->new_places, &d->bottleneck, &d->moved)
-                            : tezgumi_decide_run(&run, d);
-    planned = MPI_Wtime();
+    int status = decide(&run, options, d);
+    const double planned = MPI_Wtime();
     report->plan_seconds = planned - begin;
-    if (status != TEZGUMI_OK || skip_check) return tezgumi_mpi_outcome_of(status, 0);
-    status = tezgumi_check_run(&run, d);
+    if (status != TEZGUMI_OK || options->skip_check) return tezgumi_mpi_outcome_of(status, 0);
+    status = options->refine ? tezgumi_check_refinement(&run, d, NULL) : tezgumi_check_run(&run, &d->decision);
     report->check_seconds = MPI_Wtime() - planned;
     if (status > TEZGUMI_OK) return tezgumi_mpi_outcome_of(TEZGUMI_MPI_WRONG_PLAN, (uint32_t)status);
     return tezgumi_mpi_outcome_of(status, 0);
@@ -92,16 +111,16 @@ static tezgumi_mpi_outcome plan(const tezgumi_mpi_chain *chain, int skip_check, 
 /* Whether all that decide is given is in order. */
 static int usable(MPI_Comm comm, const tezgumi_mpi_chain *chain, const tezgumi_mpi_options *options)
 {
-    return tezgumi_mpi_fits(comm, chain) && options->tolerance >= 0;
+    return tezgumi_mpi_fits(comm, chain) && options->tolerance >= 0 && (!options->refine || options->tolerance <= 1);
 }
 
 int tezgumi_mpi_decide(MPI_Comm comm, tezgumi_mpi_chain *chain, const tezgumi_mpi_options *options,
     tezgumi_mpi_report *report)
 {
-    const tezgumi_mpi_options defaults = {0, 0, 0};
+    const tezgumi_mpi_options defaults = {0, 0, 0, 0};
     tezgumi_mpi_outcome outcome = {TEZGUMI_BAD_INPUT, 0};
     tezgumi_mpi_report unread;
-    tezgumi_decision d;
+    tezgumi_refinement d;
     verdict v;
     uint64_t print = 0;
     double begin;
@@ -110,15 +129,15 @@ int tezgumi_mpi_decide(MPI_Comm comm, tezgumi_mpi_chain *chain, const tezgumi_mp
     memset(&v, 0, sizeof v);
     if (!options) options = &defaults;
     if (!report) report = &unread;
-    if (usable(comm, chain, options)) outcome = plan(chain, options->skip_check, &d, report);
+    if (usable(comm, chain, options)) outcome = plan(chain, options, &d, report);
     if (outcome.status == TEZGUMI_OK) {
-        choose(chain, &d, options->tolerance, &v);
+        choose(chain, &d, options, &v);
         print = tezgumi_mpi_fingerprint(TEZGUMI_MPI_FINGERPRINT, v.places, chain->n);
     }
     begin = MPI_Wtime();
     status = tezgumi_mpi_agree(comm, outcome, print, report);
     report->agree_seconds = MPI_Wtime() - begin;
     if (status == TEZGUMI_OK) accept(&v, chain, report);
-    tezgumi_decision_free(&d);
+    tezgumi_refinement_free(&d);
     return status;
 }

@@ -66,15 +66,15 @@ static void drop_uncounted(void *app, uint32_t index)
     counting = 1;
 }
 
-static int rebalance_counted(int skip_check, tezgumi_mpi_report *report)
+static int rebalance_counted(int skip_check, int refine, tezgumi_mpi_report *report)
 {
     static tezgumi_mpi_element mine[FIELD_MOST];
-    const tezgumi_mpi_options options = {0, 1000, skip_check};
+    const tezgumi_mpi_options options = {0, 1000, skip_check, refine};
     const tezgumi_mpi_callbacks callbacks = {field_pack, unpack_uncounted, drop_uncounted, &f};
     tezgumi_mpi_chain chain = {0};
     uint32_t count;
     int status;
-    deal(&f, 60, 3, SCATTERED);
+    deal(&f, 60, 3, refine ? IN_ORDER : SCATTERED);
     f.fail_pack = fail_pack;
     f.fail_unpack = fail_unpack;
     count = elements_of(&f, mine);
@@ -89,14 +89,14 @@ static int rebalance_counted(int skip_check, tezgumi_mpi_report *report)
 }
 
 /* Refuses the first request on a rank, then the second, until none is left. How many there are. */
-static unsigned refuse_each(int on, int skip_check)
+static unsigned refuse_each(int on, int skip_check, int refine)
 {
     tezgumi_mpi_report report;
     unsigned k;
     int status = TEZGUMI_NO_MEMORY;
     for (k = 1; status == TEZGUMI_NO_MEMORY && k < 1000; k++) {
         refuse_at = rank == on ? k : 0;
-        status = rebalance_counted(skip_check, &report);
+        status = rebalance_counted(skip_check, refine, &report);
         if (status != TEZGUMI_NO_MEMORY) break;
         EXPECT(report.failed_rank == on);
         EXPECT(f.packs == 0 && f.unpacks == 0 && f.drops == 0);
@@ -109,11 +109,11 @@ static unsigned refuse_each(int on, int skip_check)
     return k - 1;
 }
 
-static void on_each_rank(int skip_check)
+static void on_each_rank(int skip_check, int refine)
 {
     int on;
     for (on = 0; on < ranks; on++) {
-        const unsigned refused = refuse_each(on, skip_check);
+        const unsigned refused = refuse_each(on, skip_check, refine);
         if (rank == on) EXPECT(refused == requests);
         EXPECT(refused >= (ranks == 1 ? 4u : 7u));
     }
@@ -127,21 +127,23 @@ static void after_callbacks(void)
     for (i = 0; i < 60; i++) {
         fail_pack = i % 2 ? i : UINT32_MAX;
         fail_unpack = i % 2 ? UINT32_MAX : i;
-        failed += rebalance_counted(0, &report) == TEZGUMI_MPI_CALLBACK;
+        failed += rebalance_counted(0, 0, &report) == TEZGUMI_MPI_CALLBACK;
         expect_whole(&f);
     }
     fail_pack = fail_unpack = UINT32_MAX;
     EXPECT(failed > 0);
 }
 
-static void checked(void) { on_each_rank(0); }
-static void unchecked(void) { on_each_rank(1); }
+static void checked(void) { on_each_rank(0, 0); }
+static void unchecked(void) { on_each_rank(1, 0); }
+static void refined(void) { on_each_rank(0, 1); }
 
 int main(int argc, char **argv)
 {
     begin_tests(&argc, &argv);
     run_test("memory refused on one rank", checked);
     run_test("memory refused on one rank, without the checker", unchecked);
+    run_test("memory refused on one rank, within a tolerance", refined);
     if (ranks > 1) run_test("memory is given back after a callback that failed", after_callbacks);
     field_free(&f);
     return end_tests();

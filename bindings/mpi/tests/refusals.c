@@ -224,7 +224,7 @@ static void gather_ring(tezgumi_mpi_chain *chain)
 static void fail_in_second(int from, int while_packing)
 {
     const tezgumi_mpi_callbacks callbacks = callbacks_of(&f);
-    const tezgumi_mpi_options options = {0, 4 * 64, 0};
+    const tezgumi_mpi_options options = {0, 4 * 64, 0, 0};
     const uint32_t bad = 12 * (uint32_t)from + 5;
     tezgumi_mpi_chain chain = {0};
     uint32_t i, moved;
@@ -278,7 +278,7 @@ static void callback_in_one_call(void)
 /* Two ranks fail in different ways: all return what has the least value. */
 static void two_reasons(void)
 {
-    const tezgumi_mpi_options options = {rank == 0 ? -1 : 0, 0, 0};
+    const tezgumi_mpi_options options = {rank == 0 ? -1 : 0, 0, 0, 0};
     const tezgumi_mpi_callbacks callbacks = callbacks_of(&f);
     tezgumi_mpi_chain chain = {0};
     gather_ring(&chain);

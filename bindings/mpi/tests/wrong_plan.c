@@ -1,5 +1,5 @@
-/* A planner that goes wrong on one rank is found out on all. Link with --wrap for tezgumi_decide, tezgumi_plan, tezgumi_abi
- * and MPI_Allgatherv. */
+/* A planner that goes wrong on one rank is found out on all. Link with --wrap for tezgumi_decide, tezgumi_plan,
+ * tezgumi_refine, tezgumi_abi and MPI_Allgatherv. */
 #include "harness.h"
 
 static field f;
@@ -28,6 +28,7 @@ int32_t __wrap_tezgumi_plan(
     const uint64_t *loads, size_t loads_len, const uint32_t *bytes, size_t bytes_len,
     const uint32_t *places, size_t places_len, uint32_t procs, uint32_t pes,
     uint32_t *new_places, size_t new_places_len, uint64_t *bottleneck, uint64_t *moved);
+extern __typeof__(tezgumi_refine) __real_tezgumi_refine, __wrap_tezgumi_refine;
 uint32_t __wrap_tezgumi_abi(void);
 int __wrap_MPI_Allgatherv(const void *out, int out_count, MPI_Datatype out_type, void *in, const int *in_counts,
     const int *in_starts, MPI_Datatype in_type, MPI_Comm comm);
@@ -65,6 +66,20 @@ int32_t __wrap_tezgumi_plan(
     return status;
 }
 
+int32_t __wrap_tezgumi_refine(const uint64_t *l, size_t l_len, const uint32_t *b, size_t b_len, const uint32_t *p, size_t p_len,
+    uint32_t procs, uint32_t pes, uint32_t tolerance, uint32_t *to, size_t to_len, uint64_t *least, uint64_t *bottleneck,
+    uint64_t *moved, uint32_t *near_present, uint32_t *cuts, size_t cuts_len, uint32_t *stops, size_t stops_len, size_t *stops_count,
+    uint32_t *names, size_t names_len, int64_t *u, size_t u_len, int64_t *v, size_t v_len, uint32_t *least_cuts,
+    size_t least_len, uint32_t *order, size_t order_len, uint32_t *present, size_t present_len, size_t *starts,
+    size_t starts_len, uint32_t *at, size_t at_len, uint64_t *rises, size_t rises_len, size_t *steps)
+{
+    const int32_t status = __real_tezgumi_refine(l, l_len, b, b_len, p, p_len, procs, pes, tolerance, to, to_len, least, bottleneck,
+        moved, near_present, cuts, cuts_len, stops, stops_len, stops_count, names, names_len, u, u_len, v, v_len, least_cuts, least_len,
+        order, order_len, present, present_len, starts, starts_len, at, at_len, rises, rises_len, steps);
+    spoil(to, to_len, pes);
+    return status;
+}
+
 uint32_t __wrap_tezgumi_abi(void)
 {
     return wrong_here ? TEZGUMI_ABI + 1 : TEZGUMI_ABI;
@@ -85,12 +100,12 @@ static void expect_left(void)
 }
 
 /* Decides, with a wrong planner on the last rank. */
-static int decide_wrongly(int skip_check, tezgumi_mpi_chain *chain)
+static int decide_wrongly(int skip_check, int refine, tezgumi_mpi_chain *chain)
 {
     static tezgumi_mpi_element mine[FIELD_MOST];
-    const tezgumi_mpi_options options = {0, 0, skip_check};
+    const tezgumi_mpi_options options = {refine ? 0.5 : 0, 0, skip_check, refine};
     int status;
-    deal(&f, 50, 2, SCATTERED);
+    deal(&f, 50, 2, refine ? IN_ORDER : SCATTERED);
     EXPECT(tezgumi_mpi_gather(MPI_COMM_WORLD, mine, elements_of(&f, mine), chain, &report) == TEZGUMI_OK);
     wrong_here = rank == ranks - 1;
     status = tezgumi_mpi_decide(MPI_COMM_WORLD, chain, &options, &report);
@@ -103,7 +118,7 @@ static int decide_wrongly(int skip_check, tezgumi_mpi_chain *chain)
 static void wrong_and_checked(void)
 {
     tezgumi_mpi_chain chain = {0};
-    EXPECT(decide_wrongly(0, &chain) == TEZGUMI_MPI_WRONG_PLAN);
+    EXPECT(decide_wrongly(0, 0, &chain) == TEZGUMI_MPI_WRONG_PLAN);
     EXPECT(report.failed_rank == ranks - 1 && report.failed_at == TEZGUMI_PLACES_WRONG);
     tezgumi_mpi_chain_free(&chain);
 }
@@ -111,8 +126,16 @@ static void wrong_and_checked(void)
 static void wrong_and_unchecked(void)
 {
     tezgumi_mpi_chain chain = {0};
-    EXPECT(decide_wrongly(1, &chain) == TEZGUMI_MPI_DISAGREE);
+    EXPECT(decide_wrongly(1, 0, &chain) == TEZGUMI_MPI_DISAGREE);
     EXPECT(report.failed_rank == -1);
+    tezgumi_mpi_chain_free(&chain);
+}
+
+static void wrong_within(void)
+{
+    tezgumi_mpi_chain chain = {0};
+    EXPECT(decide_wrongly(0, 1, &chain) == TEZGUMI_MPI_WRONG_PLAN);
+    EXPECT(report.failed_rank == ranks - 1 && report.failed_at == TEZGUMI_PLACES_WRONG);
     tezgumi_mpi_chain_free(&chain);
 }
 
@@ -121,9 +144,9 @@ static void certificates(void)
 {
     tezgumi_mpi_chain chain = {0};
     decisions = 0;
-    decide_wrongly(0, &chain);
+    decide_wrongly(0, 0, &chain);
     EXPECT(decisions == 1);
-    decide_wrongly(1, &chain);
+    decide_wrongly(1, 0, &chain);
     EXPECT(decisions == 1);
     tezgumi_mpi_chain_free(&chain);
 }
@@ -151,6 +174,7 @@ int main(int argc, char **argv)
 {
     begin_tests(&argc, &argv);
     run_test("a plan with a flaw on one rank", wrong_and_checked);
+    run_test("a decision within a tolerance with a flaw on one rank", wrong_within);
     if (ranks > 1) run_test("a plan of its own on one rank, without the checker", wrong_and_unchecked);
     run_test("certificates only where they are checked", certificates);
     run_test("another library on one rank", other_library);

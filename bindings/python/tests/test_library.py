@@ -10,7 +10,8 @@ import tezgumi
 from support import CHECKOUT, PACKAGES, THREE, TimedTest
 from tezgumi import library
 
-OTHER = "unsigned tezgumi_abi(void) { return 99; } int tezgumi_plan, tezgumi_decide, tezgumi_check, tezgumi_scale;"
+OTHER = "unsigned tezgumi_abi(void) { return 99; } int tezgumi_plan, tezgumi_decide, tezgumi_check, tezgumi_scale, " \
+    "tezgumi_refine, tezgumi_check_refined;"
 
 
 class Found(TimedTest):

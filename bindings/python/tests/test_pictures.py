@@ -97,6 +97,19 @@ class Texts(TimedTest):
                 sheet = tezgumi_plot.decision(run, tezgumi.decide(run, pes), title=name, checked=True, medium=medium)
                 self.assert_readable(sheet, f"{name}, {medium}")
 
+    def test_decisions_within_a_tolerance(self):
+        for name, run, tolerance in (
+                ("20", small(), 100), ("300", front(), 50), ("65,536", large_run(), 20), ("20 kept", small(), 1000)):
+            made = tezgumi.decide(run, tolerance=tolerance)
+            self.assertIs(type(made), tezgumi.NearDecision, name)
+            for medium in ("screen", "print"):
+                sheet = tezgumi_plot.decision(run, made, title=name, checked=tezgumi.check(run, made), medium=medium)
+                self.assert_readable(sheet, f"{name}, {medium}")
+                texts = [text for text, _ in written(sheet)]
+                kept = int(np.count_nonzero(made.places == run.places))
+                self.assertTrue(any(f"{kept:,} of {len(run):,} elements kept" in text for text in texts), texts)
+                self.assertIn("limit", texts)
+
     def test_sweeps(self):
         for medium in ("screen", "print"):
             for name, run, counts in (

@@ -54,11 +54,27 @@ class Program(TimedTest):
         self.assertEqual([row[:2] for row in rows[2:5]], [["16", "876"], ["4", "3,329"], ["1", "13,114"]])
         self.assertEqual(rows[5], ["check:", "ok"])
 
+    def test_a_tolerance(self):
+        status, out, errors = call("examples/ten-elements.lbd2", "--tolerance", "167")
+        lines = out.split("\n")
+        self.assertEqual((status, errors), (0, ""))
+        self.assertIn("greatest load       21      14", lines)
+        self.assertIn("moved bytes         60  of 310", lines)
+        self.assertEqual(lines[-3:], ["within 167 thousandths: 1 near the present cuts, 0 by the plan", "check: ok", ""])
+        status, out, _ = call("examples/ten-elements.lbd2", "--tolerance", "0", "--procs", "3,2")
+        self.assertEqual(out.split("\n")[-3:], ["within 0 thousandths: 0 near the present cuts, 2 by the plan", "check: ok", ""])
+        with tempfile.TemporaryDirectory() as folder:
+            if matplotlib:
+                path = os.path.join(folder, "near.png")
+                self.assertEqual(call("examples/ten-elements.lbd2", "--tolerance", "167", "--plot", path)[0], 0)
+                self.assertTrue(read_bytes(path).startswith(b"\x89PNG"))
+
     def test_words_that_are_not_understood(self):
         for words, text in (
                 ((), "FILE"), (("a", "b"), "unrecognized"), (("a", "--procs"), "expected one argument"),
                 (("a", "--procs", "0"), "0 is not 1 to 256"), (("a", "--procs", "257"), "257 is not 1 to 256"),
-                (("a", "--procs", "2,x"), "'2,x' is no list of whole numbers")):
+                (("a", "--procs", "2,x"), "'2,x' is no list of whole numbers"),
+                (("a", "--tolerance", "1001"), "'1001' is not 0 to 1000"), (("a", "--tolerance", "2%"), "'2%' is not 0 to 1000")):
             status, out, errors = call(*words)
             self.assertEqual((status, out), (2, ""))
             self.assertIn(text, errors)

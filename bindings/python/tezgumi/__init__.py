@@ -8,12 +8,13 @@
     assert tezgumi.check(run, decision)
 
 A `Run` is a chain of elements: the load, the packed size and the present PE of each. `plan` says where each runs from now
-on, `decide` says it with certificates, and `check` says whether every part of a decision is right, whoever made it. These
+on, `decide` says it with certificates, and `check` says whether every part of a decision is right, whoever made it. With
+`tolerance=20` the heaviest PE may have 2 per cent more than the least possible load, where fewer bytes move by that. These
 three call libtezgumi.so, whose planner and checker are proved; all else is plain Python, and tested. The library is looked
 for in this package, where the wheel has it; then where TEZGUMI_LIBRARY says; then by the system's loader. (In a clone, what
 bindings/build made comes before that.)
 
-- runs: Run, Plan, Decision, and the limits
+- runs: Run, Plan, Decision, NearDecision, and the limits
 - planning: plan, decide, check; checking: Verdict, Flaw
 - figures: figures, sweep, table, pe_loads
 - dumps: read_dump, write_dump, decode, encode, of the formats LBD1 and LBD2
@@ -37,13 +38,13 @@ from .errors import DumpError, InputError, LibraryError, LoadError, OutOfMemory,
 from .figures import Figures, Sweep, figures, pe_loads, sweep, table
 from .page import page
 from .planning import check, decide, plan
-from .runs import ELEMENTS, LOAD, MOVE, PES, STATE_BYTES, Decision, Plan, Run
+from .runs import ELEMENTS, LOAD, MOVE, PES, STATE_BYTES, TOLERANCE, Decision, NearDecision, Plan, Run
 from .texts import replay_text
 from .version import __version__
 
 __all__ = [
     "ELEMENTS", "LOAD", "MOVE", "PES", "STATE_BYTES", "Decision", "Dump", "DumpError", "Figures", "Flaw", "InputError",
-    "LibraryError", "LoadError", "OutOfMemory", "Plan", "Run", "Sweep", "TezgumiError", "TraceError", "Verdict", "check", "decide",
-    "__version__", "decode", "encode", "figures", "page", "pe_loads", "plan", "read_dump", "replay_text", "sweep", "table",
-    "write_dump",
+    "LibraryError", "LoadError", "NearDecision", "OutOfMemory", "Plan", "Run", "Sweep", "TOLERANCE", "TezgumiError", "TraceError",
+    "Verdict", "__version__", "check", "decide", "decode", "encode", "figures", "page", "pe_loads", "plan", "read_dump",
+    "replay_text", "sweep", "table", "write_dump",
 ]

@@ -38,6 +38,9 @@ def _parser() -> argparse.ArgumentParser:
     parser.add_argument(
         "--procs", type=_counts, metavar="P[,P..]", help="numbers of PEs to plan for, 1 to 256; of several a row each")
     parser.add_argument(
+        "--tolerance", type=_tolerance, metavar="N",
+        help="decide within N thousandths of the least load, 0 to 1000, where fewer bytes move by that")
+    parser.add_argument(
         "--plot", type=_picture, metavar="OUT", help="draw into this file, .png, .pdf or .svg; of several P the sweep")
     return parser
 
@@ -79,6 +82,12 @@ def _count(word: str) -> int:
     return counts[0]
 
 
+def _tolerance(word: str) -> int:
+    if not word.isascii() or not word.isdigit() or int(word) > tezgumi.TOLERANCE:
+        raise argparse.ArgumentTypeError(f"{word!r} is not 0 to {tezgumi.TOLERANCE}")
+    return int(word)
+
+
 def _picture(path: str) -> str:
     if not path.lower().endswith((".png", ".pdf", ".svg")):
         raise argparse.ArgumentTypeError(f"{path!r} does not end with .png, .pdf or .svg")
@@ -91,9 +100,12 @@ def _answer(asked: argparse.Namespace) -> int:
     print(f"{asked.file}: {len(run):,} elements on {run.procs} PEs, step {run.step}")
     if recorded is not None:
         print(f"recorded for {recorded.pes} PEs, {tezgumi.check(run, recorded)}")
-    decisions = [tezgumi.decide(run, pes) for pes in counts]
+    decisions = [tezgumi.decide(run, pes, asked.tolerance) for pes in counts]
     swept = [tezgumi.figures(run, decision) for decision in decisions]
     print(swept[0] if len(swept) == 1 else tezgumi.table(swept))
+    if asked.tolerance is not None:
+        near = sum(isinstance(decision, tezgumi.NearDecision) for decision in decisions)
+        print(f"within {asked.tolerance} thousandths: {near} near the present cuts, {len(decisions) - near} by the plan")
     verdicts = [tezgumi.check(run, decision) for decision in decisions]
     wrong = [verdict for verdict in verdicts if not verdict]
     print(wrong[0] if wrong else verdicts[0])

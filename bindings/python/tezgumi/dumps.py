@@ -10,7 +10,7 @@ from numpy.typing import NDArray
 
 from .errors import DumpError, InputError
 from .lists import whole_number
-from .runs import ELEMENTS, LOAD, MOVE, PES, STATE_BYTES, Decision, Run
+from .runs import ELEMENTS, LOAD, MOVE, PES, STATE_BYTES, Decision, NearDecision, Run
 
 _ROW = {
     1: np.dtype([("load", ">u4"), ("bytes", ">u4"), ("place", ">u4")]),
@@ -64,6 +64,8 @@ def encode(run: Run, decision: Decision | None = None, version: int = 2) -> byte
     """The bytes of a dump."""
     if version not in _ROW:
         raise InputError(f"version is {version!r}, and the formats are 1 and 2")
+    if isinstance(decision, NearDecision):
+        raise InputError("a dump records a decision of the plan, and this one is within a tolerance")
     rows = np.empty(len(run), _ROW[version])
     if version == 1:
         _refuse_for_lbd1(run, decision)

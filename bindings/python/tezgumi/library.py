@@ -42,7 +42,9 @@ def library() -> ctypes.CDLL:
         found = ctypes.CDLL(path)
         found.tezgumi_abi.restype = _WORD
         abi = found.tezgumi_abi()
-        calls = found.tezgumi_plan, found.tezgumi_decide, found.tezgumi_check, found.tezgumi_scale
+        calls = (
+            found.tezgumi_plan, found.tezgumi_decide, found.tezgumi_check, found.tezgumi_scale, found.tezgumi_refine,
+            found.tezgumi_check_refined)
     except (OSError, AttributeError) as error:
         raise LibraryError(f"no libtezgumi ({error}); {_HELP}") from error
     if abi != ABI:
@@ -52,6 +54,9 @@ def library() -> ctypes.CDLL:
     found.tezgumi_plan.argtypes = _PLAN
     found.tezgumi_decide.argtypes = _PLAN + _LIST * 2 + [_POINTER] + _LIST * 3
     found.tezgumi_check.argtypes = _RUN + _LIST + [_LONG, _LONG] + _LIST * 5
+    found.tezgumi_refine.argtypes = (
+        _RUN + [_WORD] + _LIST + [_POINTER] * 4 + _LIST * 2 + [_POINTER] + _LIST * 9 + [_POINTER])
+    found.tezgumi_check_refined.argtypes = _RUN + [_WORD] + _LIST + [_LONG, _LONG] + _LIST * 11 + [_POINTER] * 2
     found.tezgumi_scale.argtypes = _LIST * 2 + [_POINTER]
     return found
 

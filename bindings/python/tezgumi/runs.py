@@ -2,7 +2,7 @@
 from __future__ import annotations
 
 from dataclasses import InitVar, dataclass, fields, replace
-from typing import TYPE_CHECKING, Any, Sized
+from typing import TYPE_CHECKING, Any, List, Sized, Tuple
 
 import numpy as np
 from numpy.typing import ArrayLike, NDArray
@@ -19,6 +19,8 @@ LOAD = 140_737_488_355_327
 """The greatest load of an element, in work units: 47 bits."""
 STATE_BYTES = 1_048_576
 """The greatest packed size of an element, in bytes."""
+TOLERANCE = 1_000
+"""The greatest tolerance, in thousandths of the least load that the heaviest block can have."""
 
 _WORD, _LONG = 2**32 - 1, 2**64 - 1
 
@@ -148,7 +150,8 @@ class Plan(_Record):
     """Where each element runs from now on.
 
     `places` has the PE of each element, from 0 to pes - 1. `bottleneck` is the load of the heaviest block, which is least
-    for so many PEs, and `moved` the bytes of all elements that move, which are fewest for these blocks.
+    for so many PEs, or within the tolerance that was asked for, and `moved` the bytes of all elements that move, which are
+    fewest for these blocks.
     """
 
     pes: int
@@ -206,6 +209,57 @@ class Decision(Plan):
     def __repr__(self) -> str:
         lists = ", ".join(f"{name}={shown(getattr(self, name))}" for name in ("cuts", "names", "stops"))
         return f"Decision({self._shown()}, {lists}, {len(self.moves)} moves)"
+
+
+@dataclass(frozen=True, eq=False, repr=False)
+class NearDecision(Decision):
+    """A decision within a tolerance, whose cuts are near the present ones, with its certificates. It may be anybody's too.
+
+    `tolerance` is in thousandths of `least`, the least load that the heaviest block can have, which `least_cuts` and the
+    `stops` prove; `bottleneck` is the load of this decision's heaviest block. `order` has the PEs in the order in which they
+    stand, and `present` the present cuts. The heights prove that no cuts within the tolerance move fewer bytes in this order:
+    those of block b are the steps step_starts[b] .. step_starts[b + 1] - 1, each of which has a place, from which on the
+    height is greater by the rise.
+    """
+
+    tolerance: int
+    least: int
+    least_cuts: NDArray[np.uint32]
+    order: NDArray[np.uint32]
+    present: NDArray[np.uint32]
+    step_starts: NDArray[np.uintp]
+    step_places: NDArray[np.uint32]
+    step_rises: NDArray[np.uint64]
+
+    if TYPE_CHECKING:
+        def __init__(
+                self, pes: int, places: ArrayLike, bottleneck: int, moved: int, cuts: ArrayLike, stops: ArrayLike,
+                names: ArrayLike, block_prices: ArrayLike, pe_prices: ArrayLike, moves: Any, tolerance: int, least: int,
+                least_cuts: ArrayLike, order: ArrayLike, present: ArrayLike, step_starts: ArrayLike, step_places: ArrayLike,
+                step_rises: ArrayLike) -> None: ...
+
+    def __post_init__(self) -> None:
+        super().__post_init__()
+        self._keep("tolerance", whole_number(self.tolerance, 0, TOLERANCE, "tolerance"))
+        self._keep("least", whole_number(self.least, 0, _LONG, "least"))
+        for name in ("least_cuts", "order", "present", "step_places"):
+            self._keep(name, frozen(getattr(self, name), np.uint32, name))
+        self._keep("step_starts", frozen(self.step_starts, np.uintp, "step_starts"))
+        self._keep("step_rises", frozen(self.step_rises, np.uint64, "step_rises"))
+
+    @property
+    def limit(self) -> int:
+        """The greatest load that a block may have."""
+        return self.least + self.least * self.tolerance // 1000
+
+    @property
+    def heights(self) -> List[List[Tuple[int, int]]]:
+        """The steps of each block: the place and the rise of each."""
+        starts, places, rises = (array.tolist() for array in (self.step_starts, self.step_places, self.step_rises))
+        return [list(zip(places[first:end], rises[first:end])) for first, end in zip(starts, starts[1:])]
+
+    def __repr__(self) -> str:
+        return f"Near{super().__repr__()[:-1]}, tolerance={self.tolerance}, least={self.least})"
 
 
 def _moves(values: Any) -> NDArray[np.void]:

@@ -2,7 +2,9 @@
 import numpy as np
 from matplotlib.collections import LineCollection, PolyCollection
 
-from .palette import FAINT, INK, QUIET
+import tezgumi
+
+from .palette import FAINT, INK, KEPT, QUIET
 from .paper import count_axis, number_axis, points_wide, text_width
 
 MARKS = 64
@@ -65,6 +67,14 @@ def draw_cuts(axes, run, decision):
         axes.vlines(places, 1.015, 1.075, transform=above, color=INK, linewidth=0.5 * unit, clip_on=False)
 
 
+def draw_present(axes, run, decision):
+    """A hollow mark above each present cut, where there are few."""
+    cuts = np.unique(decision.present)
+    cuts = cuts[(cuts > 0) & (cuts < len(run))]
+    if len(cuts) <= MARKS:
+        _draw_marks(axes, cuts - 0.5, 1.05, "v", transform=axes.get_xaxis_transform(), markerfacecolor="none", markeredgecolor=INK)
+
+
 def draw_fence(axes, run, decision):
     """The stops, and beside few of them the elements from each to the next, alternately above and below."""
     _chain_limits(axes, run)
@@ -95,13 +105,16 @@ def draw_places(axes, run, places, palette, label):
 
 
 def draw_moves(axes, run, decision):
-    """The part of the elements that move, of each few of them; for few elements, each that moves."""
+    """The part of the elements that move, of each few of them; for few elements, each that moves. Within a tolerance the part
+    that is kept is grey."""
     _chain_limits(axes, run)
     axes.set_ylim(0, 1)
     moving = (run.places != decision.places).astype(np.uint64)
     if len(run):
         edges, parts, _ = _steps(moving, 0, max(1, -(-len(run) // BINS)))
         axes.stairs(parts, edges, fill=True, color=INK, linewidth=0)
+        if isinstance(decision, tezgumi.NearDecision):
+            axes.stairs(np.ones(len(parts)), edges, baseline=parts, fill=True, color=KEPT, linewidth=0)
     axes.axhline(0, color=FAINT, linewidth=0.8 * axes.figure.scale)
     _label_row(axes, "moves")
 
@@ -121,7 +134,8 @@ def number_elements(axes, run):
 def _draw_marks(axes, places, height, shape, **how):
     size = 8 * axes.figure.scale
     heights = np.full(len(places), height)
-    axes.plot(places, heights, shape, color=INK, markersize=size, markeredgewidth=0, clip_on=False, **how)
+    width = axes.figure.scale if how.get("markerfacecolor") == "none" else 0
+    axes.plot(places, heights, shape, color=INK, markersize=size, markeredgewidth=width, clip_on=False, **how)
 
 
 def _chain_limits(axes, run):

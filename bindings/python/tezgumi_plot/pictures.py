@@ -10,7 +10,7 @@ from matplotlib.ticker import FixedLocator, FuncFormatter, NullLocator, ScalarFo
 import tezgumi
 
 from .bars import PAIRS, draw_bars, draw_limits
-from .chain import MARKS, draw_cuts, draw_fence, draw_loads, draw_moves, draw_places, marked_cuts, number_elements
+from .chain import MARKS, draw_cuts, draw_fence, draw_loads, draw_moves, draw_places, draw_present, marked_cuts, number_elements
 from .palette import COLORS, INK, QUIET, Palette
 from .paper import Sheet, few_letters, points_wide, text_width
 
@@ -21,6 +21,8 @@ def decision(
         run: tezgumi.Run, made: tezgumi.Decision, title: str | None = None, checked: tezgumi.Verdict | bool | None = None,
         medium: str = "screen") -> Figure:
     """A picture of a decision on a run: the chain with its cuts and its fence, and the load of each PE before and after.
+
+    Of a decision within a tolerance the present cuts are shown too, and the elements that are kept where they are.
 
     `checked` is what `tezgumi.check` said of the decision, or None where it was not asked. The medium is "screen" or
     "print". The picture is a matplotlib Figure, which a notebook shows. A decision that is not right is drawn too, unless its
@@ -33,7 +35,7 @@ def decision(
     sheet.write(LEFT, 0.18, title or f"{len(run):,} elements", size=1.35, weight="bold")
     _draw_chain(sheet, run, made, palette)
     _draw_loads_of_pes(sheet, run, made, palette, figures)
-    _write_figures(sheet, figures, checked)
+    _write_figures(sheet, made, figures, checked)
     return sheet
 
 
@@ -52,6 +54,8 @@ def _draw_chain(sheet, run, made, palette):
     loads = sheet.panel(LEFT, 1.05, WIDTH, 2.35)
     width = draw_loads(loads, run, made, palette)
     draw_cuts(loads, run, made)
+    if isinstance(made, tezgumi.NearDecision):
+        draw_present(loads, run, made)
     sheet.write(LEFT, 0.58, _told_blocks(run, made, width), color=QUIET, size=0.9)
     draw_fence(sheet.bare(LEFT, 3.44, WIDTH, 0.42), run, made)
     sheet.write(LEFT, 3.88, _told_fence(made), color=QUIET, size=0.9)
@@ -69,6 +73,9 @@ def _told_blocks(run, made, width):
     text = f"{made.pes} block{'s' if made.pes > 1 else ''}"
     if len(cuts):
         text += f", cut at {'▼' if len(cuts) <= MARKS else '|'}"
+    if isinstance(made, tezgumi.NearDecision):
+        kept = int(np.count_nonzero(made.places == run.places))
+        text += f", today at {'▽' if len(cuts) <= MARKS else '|'}; {kept:,} of {len(run):,} elements kept (grey)"
     empty = int(np.count_nonzero(made.cuts[1:] <= made.cuts[:-1]))
     if empty:
         text += f"; {empty} without elements"
@@ -81,7 +88,7 @@ def _told_fence(made):
     if not len(made.stops):
         return "no fence: the bottleneck is 0"
     mark = "▲" if len(np.unique(made.stops)) <= MARKS else "|"
-    load = few_letters(made.bottleneck)
+    load = few_letters(made.least if isinstance(made, tezgumi.NearDecision) else made.bottleneck)
     told = f"the elements from each stop to the next, both included, weigh {load} or more"
     return f"fence {mark}: {told}, so no division is lighter"
 
@@ -94,7 +101,7 @@ def _draw_loads_of_pes(sheet, run, made, palette, figures):
     axes.set_xlabel(f"PE ({told})", fontsize=sheet.text_size, color=INK)
 
 
-def _write_figures(sheet, figures, checked):
+def _write_figures(sheet, made, figures, checked):
     rows = [
         ("imbalance", f"{figures.imbalance_before:.3f} → {figures.imbalance_after:.3f}"),
         ("greatest load", f"{few_letters(figures.greatest_before)} → {few_letters(figures.greatest_after)}"),
@@ -103,6 +110,8 @@ def _write_figures(sheet, figures, checked):
         ("elements moved", f"{few_letters(figures.moved_elements)} of {few_letters(figures.elements)}"),
         ("bytes moved", f"{few_letters(figures.moved_bytes)} of {few_letters(figures.total_bytes)}"),
     ]
+    if isinstance(made, tezgumi.NearDecision):
+        rows.insert(2, ("limit", f"{few_letters(made.limit)}, {made.tolerance} ‰ above {few_letters(made.least)}"))
     for row, (name, value) in enumerate(rows):
         top = 5.8 + 0.29 * row
         sheet.write(NOTES, top, name, color=QUIET)

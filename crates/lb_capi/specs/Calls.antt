@@ -1,10 +1,14 @@
 -- What a caller of the library passes: lists, as a run, a claim, or room for a decision.
 use Rattle.std.specs.Prelude.{ℕ, List, ℤ, negsuc}
 use Rattle.lb_lists.specs.Claims.{Claimed}
+use Rattle.lb_lists.specs.RefinedClaims.{RefinedClaimed}
+use Rattle.lb_lists.specs.RefinedRooms.{StandingLists}
 use Rattle.lb_lists.specs.Rooms.{Lists}
 use Rattle.lb_lists.specs.Runs.{Listed}
 use Rattle.lb_lists.specs.declared.error.RunError.{RunError}
 use Rattle.lb_lists.specs.declared.error.RunError.TheVariants.{BadInput, BadLoad, OutOfMemory}
+use Rattle.lb_lists.specs.declared.error.RefineError.{RefineError}
+use Rattle.lb_lists.specs.declared.error.RefineError.TheVariants.{BadTolerance, Run}
 use Rattle.lb_lists.specs.declared.scaling.ScaleError.{ScaleError}
 use Rattle.lb_lists.specs.declared.scaling.ScaleError.TheVariants as Scale
 
@@ -24,6 +28,18 @@ room_of new_places cuts stops names block_prices pe_prices =
       pe_prices = pe_prices;
     }
 
+-- the lists that tell how elements stand
+abbrev pub standing_room_of : List ℕ → List ℕ → List ℕ → List ℕ → List ℕ → List ℕ → StandingLists
+standing_room_of least_cuts order present step_starts step_places step_rises =
+    record {
+      least_cuts = least_cuts;
+      order = order;
+      present = present;
+      step_starts = step_starts;
+      step_places = step_places;
+      step_rises = step_rises;
+    }
+
 -- the claim of these lists
 abbrev pub claim_of : ℕ → ℕ → List ℕ → List ℕ → List ℕ → List ℕ → List ℤ → List ℤ → Claimed
 claim_of bottleneck moved new_places cuts stops names block_prices pe_prices =
@@ -38,11 +54,29 @@ claim_of bottleneck moved new_places cuts stops names block_prices pe_prices =
       pe_prices = pe_prices;
     }
 
+-- the claim of a decision within a tolerance
+abbrev pub refined_claim_of : Claimed → StandingLists → RefinedClaimed
+refined_claim_of decision standing =
+    record {
+      decision = decision;
+      least_cuts = standing.least_cuts;
+      order = standing.order;
+      present = standing.present;
+      step_starts = standing.step_starts;
+      step_places = standing.step_places;
+      step_rises = standing.step_rises;
+    }
+
 -- the status that tells why a call was refused
 abbrev pub refusal_status : RunError → ℤ
 refusal_status BadInput = negsuc 0
 refusal_status OutOfMemory = negsuc 1
 refusal_status BadLoad = negsuc 2
+
+-- the status that tells why nothing was decided within a tolerance
+abbrev pub refine_status : RefineError → ℤ
+refine_status BadTolerance = negsuc 6
+refine_status (Run error) = refusal_status error
 
 -- the status that tells why loads were not scaled
 abbrev pub scale_status : ScaleError → ℤ

@@ -3,30 +3,41 @@
 //!
 //! - [`tezgumi_plan`]: plans over the caller's own lists; [`tezgumi_decide`] writes the certificates too.
 //! - [`tezgumi_check`]: checks a plan with its certificates, whoever made it.
+//! - [`tezgumi_refine`]: decides within a tolerance, with all that proves it; [`tezgumi_check_refined`] checks it.
 //! - [`tezgumi_scale`]: loads in seconds as whole numbers, which can be planned.
 //! - [`tezgumi_abi`]: the number of this interface.
 #![tactic(auto)]
 
-ghost use Rattle.std.specs.Prelude.{◌≡◌, ◌≢◌, ◌↔◌, ◌⊎◌, ◌<◌, ◌≤◌, ◌+◌, ℕ, All, length, take, drop, pos, negsuc};
+ghost use Rattle.std.specs.Prelude.{◌≡◌, ◌≢◌, ◌↔◌, ◌⊎◌, ◌<◌, ◌≤◌, ◌+◌, ◌==◌, ℕ, All, List, length, take, drop, pos, negsuc};
 ghost use Rattle.chain_partition.specs.Chosen.{IsChosen};
+ghost use Rattle.lb_certificates.specs.Chain.{peak};
 ghost use Rattle.lb_certificates.specs.Flaws.{flaw_number};
 ghost use Rattle.lb_certificates.specs.Naming.{IsLeastNaming};
 ghost use Rattle.lb_certificates.specs.declared.flaw.Flaw.{Flaw};
 ghost use Rattle.lb_strategy.specs.Decisions.{ArePricesBounded};
+ghost use Rattle.chain_refinement.specs.Orders.{IsPresentOrder};
+ghost use Rattle.chain_refinement.specs.Refinement.{AreWithin};
+ghost use Rattle.chain_refinement.specs.Tolerances.{limit_of};
 ghost use Rattle.lb_lists.specs.Claims.{claimed_division, IsBest, IsFirstFlaw, IsRightClaim};
 ghost use Rattle.lb_lists.specs.Plans.{IsPlan};
+ghost use Rattle.lb_lists.specs.Places.{ArePlaces};
+ghost use Rattle.lb_lists.specs.RefinedClaims.{refined_flaw_number, refined_flaw_place, IsBestWithin, IsFirstRefinedFlaw, IsRightRefined};
+ghost use Rattle.lb_lists.specs.declared.refined_checking.RefinedFlaw.{RefinedFlaw};
+ghost use Rattle.lb_lists.specs.RefinedRooms.{standing_in, told_in, HasRefinedRoom, IsStandingIn};
+ghost use Rattle.lb_lists.specs.Refinings.{IsRefinedRun};
 ghost use Rattle.lb_lists.specs.Rooms.{claim_in, HasRoom};
 ghost use Rattle.lb_lists.specs.Runs.{sizes_of, AreSmall, IsAsked};
 ghost use Rattle.lb_lists.specs.Scales.{IsFirstScaleFault, IsMeasured, IsRoomFor, IsScaled};
 ghost use Rattle.lb_lists.specs.declared.scaling.ScaleError.TheVariants.{NotANumber, Negative, Infinite};
-ghost use Rattle.lb_capi.specs.Calls.{claim_of, refusal_status, room_of, run_of, scale_status};
+ghost use Rattle.lb_capi.specs.Calls.{claim_of, refine_status, refusal_status, room_of, run_of, refined_claim_of, scale_status, standing_room_of};
 
 #[cfg(test)]
 mod tests;
 
 use lb_lists::{
-    Claim, Room, Run, RunError, ScaleError, check_claim, decide_into, number_of, plan_into,
-    scale_loads,
+    Claim, RefineError, RefinedClaim, Room, Run, RunError, ScaleError, StandingRoom, check_claim,
+    check_refined, decide_into, number_of, number_of_refined, place_of_refined, plan_into,
+    refine_into, scale_loads,
 };
 use std::alloc::Global;
 
@@ -214,6 +225,219 @@ pub extern "C" fn tezgumi_check(
         Ok(None) => 0,
         Ok(Some(flaw)) => i32::from(number_of(flaw)),
         Err(error) => status_of(error),
+    }
+}
+
+// The status of a refusal to decide within a tolerance.
+fn refine_status_of(error: RefineError) -> i32
+    ensures { result ≡ refine_status error }
+{
+    match error {
+        RefineError::BadTolerance => -7,
+        RefineError::Run(error) => status_of(error),
+    }
+}
+
+// 1 where the cuts are near the present ones, and otherwise 0.
+fn flag_of(near: bool) -> u32
+    ensures flag { (result == 1) ≡ near }
+{
+    u32::from(near)
+}
+
+/// Decides a run for `pes` PEs within a tolerance, so many thousandths above the least possible load of the heaviest block, and
+/// writes what [`tezgumi_decide`] does, and in `least` the least possible load, which the stops prove. `least_cuts` are those
+/// of the least division. `near` is 1 where the cuts are near the present ones: of all cuts within the tolerance, in the order
+/// in which the PEs stand, those that move the fewest bytes. Then `order` and `present` have that order and the present cuts,
+/// and the steps prove that no such cuts move fewer, where there is room for all `steps_count` of them. Where `near` is 0 the
+/// decision is the plan, and these lists are left as they were. -7 where the tolerance is above 1,000, before all else;
+/// otherwise as [`tezgumi_decide`], where also `least_cuts`, `present` and `step_starts` have `pes + 1` entries, `order` has
+/// `pes`, and `step_rises` as many as `step_places`.
+#[unsafe(no_mangle)]
+pub extern "C" fn tezgumi_refine(
+    alloc: Global,
+    loads: &[u64],
+    bytes: &[u32],
+    places: &[u32],
+    procs: u32,
+    pes: u32,
+    tolerance: u32,
+    new_places: &mut [u32],
+    least: &mut u64,
+    bottleneck: &mut u64,
+    moved: &mut u64,
+    near: &mut u32,
+    cuts: &mut [u32],
+    stops: &mut [u32],
+    stops_count: &mut usize,
+    names: &mut [u32],
+    block_prices: &mut [i64],
+    pe_prices: &mut [i64],
+    least_cuts: &mut [u32],
+    order: &mut [u32],
+    present: &mut [u32],
+    step_starts: &mut [usize],
+    step_places: &mut [u32],
+    step_rises: &mut [u64],
+    steps_count: &mut usize,
+) -> i32
+    ensures statuses { (result ≡ pos 0) ⊎ (result ≡ negsuc 0) ⊎ (result ≡ negsuc 1) ⊎ (result ≡ negsuc 2) ⊎ (result ≡ negsuc 6) }
+    ensures refined { result ≡ pos 0 → (heights : List (List (ℕ × ℕ)))
+        × IsRefinedRun (run_of loads.now bytes.now places.now procs) pes tolerance (near.new == 1)
+        (told_in least.new moved.new stops_count.new
+        (room_of new_places.new cuts.new stops.new names.new block_prices.new pe_prices.new)
+        (standing_room_of least_cuts.new order.new present.new step_starts.new step_places.new step_rises.new))
+        (standing_in heights (standing_room_of least_cuts.new order.new present.new step_starts.new step_places.new step_rises.new))
+        × IsStandingIn (near.new == 1) heights steps_count.new
+        (standing_room_of least_cuts.old order.old present.old step_starts.old step_places.old step_rises.old)
+        (standing_room_of least_cuts.new order.new present.new step_starts.new step_places.new step_rises.new) }
+    ensures placed { result ≡ pos 0 → ArePlaces cuts.new names.new (length loads.now) new_places.new }
+    ensures peak { result ≡ pos 0 → bottleneck.new ≡ peak loads.now cuts.new }
+    ensures within { result ≡ pos 0 → bottleneck.new ≤ limit_of least.new tolerance }
+    ensures no_more { result ≡ pos 0
+        → (others : List ℕ) (other more : ℕ) → IsPlan (run_of loads.now bytes.now places.now procs) pes others other more → moved.new ≤ more }
+    ensures bounded { result ≡ pos 0 → ArePricesBounded (sizes_of (run_of loads.now bytes.now places.now procs)) cuts.new block_prices.new pe_prices.new }
+    ensures kept_whole { result ≡ pos 0
+        → (pes_order cuts_now : List ℕ) → IsPresentOrder (sizes_of (run_of loads.now bytes.now places.now procs)) pes pes_order cuts_now
+        → AreWithin loads.now pes_order (limit_of least.new tolerance) cuts_now → moved.new ≡ 0 }
+    ensures counted { result ≡ pos 0 → stops_count.new ≤ pes + 1 }
+    ensures behind { result ≡ pos 0 → drop stops_count.new stops.new ≡ drop stops_count.new stops.old }
+    ensures tolerance { result ≡ negsuc 6 ↔ (1000 < tolerance) }
+    ensures input { result ≡ negsuc 0
+        ↔ ((tolerance ≤ 1000) × ¬ (IsAsked (run_of loads.now bytes.now places.now procs) pes
+        × HasRefinedRoom (length loads.now) pes (room_of new_places.old cuts.old stops.old names.old block_prices.old pe_prices.old)
+        (standing_room_of least_cuts.old order.old present.old step_starts.old step_places.old step_rises.old))) }
+    ensures load { result ≡ negsuc 2
+        ↔ ((tolerance ≤ 1000) × (IsAsked (run_of loads.now bytes.now places.now procs) pes
+        × HasRefinedRoom (length loads.now) pes (room_of new_places.old cuts.old stops.old names.old block_prices.old pe_prices.old)
+        (standing_room_of least_cuts.old order.old present.old step_starts.old step_places.old step_rises.old)) × ¬ (AreSmall loads.now)) }
+    ensures kept { result ≢ pos 0
+        → room_of new_places.new cuts.new stops.new names.new block_prices.new pe_prices.new
+        ≡ room_of new_places.old cuts.old stops.old names.old block_prices.old pe_prices.old }
+    ensures standing_kept { result ≢ pos 0
+        → standing_room_of least_cuts.new order.new present.new step_starts.new step_places.new step_rises.new
+        ≡ standing_room_of least_cuts.old order.old present.old step_starts.old step_places.old step_rises.old }
+    ensures numbers_kept { result ≢ pos 0 → (least.new ≡ least.old) × (bottleneck.new ≡ bottleneck.old) × (moved.new ≡ moved.old) × (near.new ≡ near.old)
+        × (stops_count.new ≡ stops_count.old) × (steps_count.new ≡ steps_count.old) }
+{
+    let run = Run {
+        loads,
+        bytes,
+        places,
+        procs,
+    };
+    let mut room = Room {
+        new_places,
+        cuts,
+        stops,
+        names,
+        block_prices,
+        pe_prices,
+    };
+    let mut standing = StandingRoom {
+        least_cuts,
+        order,
+        present,
+        step_starts,
+        step_places,
+        step_rises,
+    };
+    match refine_into(alloc, &run, pes, tolerance, &mut room, &mut standing) {
+        Ok(told) => {
+            *least = told.least;
+            *bottleneck = told.bottleneck;
+            *moved = told.moved;
+            *near = flag_of(told.near);
+            *stops_count = told.stops;
+            *steps_count = told.steps;
+            0
+        }
+        Err(error) => refine_status_of(error),
+    }
+}
+
+/// Checks what somebody claims to be a decision for a run and `pes` PEs within a tolerance whose cuts are near the present ones:
+/// 0 where every part is right, and otherwise the number of its first flaw, where the block, the stop, the block and the PE, or
+/// the block and the place that it names are written. -7 where the tolerance is above 1,000, before all else; otherwise as
+/// [`tezgumi_check`]. A list of the claim may have any length.
+#[unsafe(no_mangle)]
+pub extern "C" fn tezgumi_check_refined<'a>(
+    alloc: Global,
+    loads: &[u64],
+    bytes: &[u32],
+    places: &[u32],
+    procs: u32,
+    pes: u32,
+    tolerance: u32,
+    new_places: &'a [u32],
+    least: u64,
+    moved: u64,
+    cuts: &'a [u32],
+    stops: &'a [u32],
+    names: &'a [u32],
+    block_prices: &'a [i64],
+    pe_prices: &'a [i64],
+    least_cuts: &'a [u32],
+    order: &'a [u32],
+    present: &'a [u32],
+    step_starts: &'a [usize],
+    step_places: &'a [u32],
+    step_rises: &'a [u64],
+    at_first: &mut u32,
+    at_second: &mut u32,
+) -> i32
+    ensures right { result ≡ pos 0
+        → IsRightRefined (run_of loads.now bytes.now places.now procs) pes tolerance
+        (refined_claim_of (claim_of least moved new_places.now cuts.now stops.now names.now block_prices.now pe_prices.now)
+        (standing_room_of least_cuts.now order.now present.now step_starts.now step_places.now step_rises.now)) }
+    ensures best { result ≡ pos 0
+        → IsBestWithin (run_of loads.now bytes.now places.now procs) pes tolerance
+        (refined_claim_of (claim_of least moved new_places.now cuts.now stops.now names.now block_prices.now pe_prices.now)
+        (standing_room_of least_cuts.now order.now present.now step_starts.now step_places.now step_rises.now)) }
+    ensures flawed { (n : ℕ) → result ≡ pos (n + 1)
+        → (flaw : RefinedFlaw) × (refined_flaw_number flaw ≡ n + 1) × (refined_flaw_place flaw ≡ (at_first.new, at_second.new))
+        × IsFirstRefinedFlaw (run_of loads.now bytes.now places.now procs) pes tolerance
+        (refined_claim_of (claim_of least moved new_places.now cuts.now stops.now names.now block_prices.now pe_prices.now)
+        (standing_room_of least_cuts.now order.now present.now step_starts.now step_places.now step_rises.now)) flaw }
+    ensures refusals { (n : ℕ) → result ≡ negsuc n → (n < 3) ⊎ (n ≡ 6) }
+    ensures tolerance { result ≡ negsuc 6 ↔ (1000 < tolerance) }
+    ensures input { result ≡ negsuc 0 ↔ ((tolerance ≤ 1000) × ¬ (IsAsked (run_of loads.now bytes.now places.now procs) pes)) }
+    ensures load { result ≡ negsuc 2
+        ↔ ((tolerance ≤ 1000) × IsAsked (run_of loads.now bytes.now places.now procs) pes × ¬ (AreSmall loads.now)) }
+    ensures kept_right { result ≡ pos 0 → (at_first.new ≡ at_first.old) × (at_second.new ≡ at_second.old) }
+    ensures kept_refused { (n : ℕ) → result ≡ negsuc n → (at_first.new ≡ at_first.old) × (at_second.new ≡ at_second.old) }
+{
+    let run = Run {
+        loads,
+        bytes,
+        places,
+        procs,
+    };
+    let claim = RefinedClaim {
+        decision: Claim {
+            bottleneck: least,
+            moved,
+            new_places,
+            cuts,
+            stops,
+            names,
+            block_prices,
+            pe_prices,
+        },
+        least_cuts,
+        order,
+        present,
+        step_starts,
+        step_places,
+        step_rises,
+    };
+    match check_refined(alloc, &run, pes, tolerance, &claim) {
+        Ok(None) => 0,
+        Ok(Some(flaw)) => {
+            (*at_first, *at_second) = place_of_refined(flaw);
+            i32::from(number_of_refined(flaw))
+        }
+        Err(error) => refine_status_of(error),
     }
 }
 

@@ -4,9 +4,8 @@ use Rattle.lb_refinement.specs.declared.refined.Kept.{Kept}
 use Rattle.lb_strategy.specs.declared.decision.Decision.{Decision}
 use Rattle.lb_lists.specs.Plans.{stops_in}
 use Rattle.lb_lists.specs.Refinings.{Standing, Told}
-use Rattle.lb_lists.specs.Rooms.{lists_in, HasListsOf, HasRoom, Lists}
+use Rattle.lb_lists.specs.Rooms.{HasRoom, Lists}
 use Rattle.lb_lists.specs.Steps.{all_steps, first_steps, places_of, rises_of}
-use Rattle.lb_lists.specs.declared.refining.RefinedRoom.{RefinedRoom}
 use Rattle.lb_lists.specs.declared.refining.StandingRoom.{StandingRoom}
 
 -- what stands in the lists of the order, the present cuts, the least cuts and the steps
@@ -29,15 +28,6 @@ standing_lists_in room =
       step_rises = room.step_rises.now;
     }
 
--- what stands in a room
-pub record RefinedLists : Type 0 where
-  pub decision : Lists
-  pub standing : StandingLists
-
-abbrev pub refined_lists_in : RefinedRoom → RefinedLists
-refined_lists_in room =
-    record { decision = lists_in room.decision; standing = standing_lists_in room.standing }
-
 -- the lists of a room are those of another, whatever stands in them
 pub record HasStandingListsOf (other room : StandingRoom) : Type 0 where
   pub least_cuts : room.least_cuts.ghost_name ≡ other.least_cuts.ghost_name
@@ -47,10 +37,6 @@ pub record HasStandingListsOf (other room : StandingRoom) : Type 0 where
   pub step_places : room.step_places.ghost_name ≡ other.step_places.ghost_name
   pub step_rises : room.step_rises.ghost_name ≡ other.step_rises.ghost_name
 
-pub record HasRefinedListsOf (other room : RefinedRoom) : Type 0 where
-  pub decision : HasListsOf other.decision room.decision
-  pub standing : HasStandingListsOf other.standing room.standing
-
 -- a cut and a first step more than PEs, a name for each PE, and as many rises of steps as places
 pub record HasStandingRoom (pes : ℕ) (lists : StandingLists) : Type 0 where
   pub least_cuts : length lists.least_cuts ≡ pes + 1
@@ -59,23 +45,23 @@ pub record HasStandingRoom (pes : ℕ) (lists : StandingLists) : Type 0 where
   pub step_starts : length lists.step_starts ≡ pes + 1
   pub step_rises : length lists.step_rises ≡ length lists.step_places
 
--- the same, and room for a decision on so many elements
-pub record HasRefinedRoom (elements pes : ℕ) (lists : RefinedLists) : Type 0 where
-  pub decision : HasRoom elements pes lists.decision
-  pub standing : HasStandingRoom pes lists.standing
+-- room for a decision on so many elements, and for what proves it
+pub record HasRefinedRoom (elements pes : ℕ) (decision : Lists) (standing : StandingLists) : Type 0 where
+  pub decision_room : HasRoom elements pes decision
+  pub standing_room : HasStandingRoom pes standing
 
 -- what is told by these lists, with the first so many stops
-abbrev pub told_in : ℕ → ℕ → ℕ → RefinedLists → Told
-told_in least moved stops lists =
+abbrev pub told_in : ℕ → ℕ → ℕ → Lists → StandingLists → Told
+told_in least moved stops decision standing =
     record {
       least = least;
       moved = moved;
-      cuts = lists.decision.cuts;
-      names = lists.decision.names;
-      block_prices = lists.decision.block_prices;
-      pe_prices = lists.decision.pe_prices;
-      least_cuts = lists.standing.least_cuts;
-      stops = take stops lists.decision.stops;
+      cuts = decision.cuts;
+      names = decision.names;
+      block_prices = decision.block_prices;
+      pe_prices = decision.pe_prices;
+      least_cuts = standing.least_cuts;
+      stops = take stops decision.stops;
     }
 
 -- what is to be told of a plan, and of cuts near the present ones

@@ -183,6 +183,7 @@ pub fn check_claim<A: Allocator + Copy>(
 /// The number of a flaw, from 1, in the order in which flaws are looked for.
 pub fn number_of(flaw: Flaw) -> u8
     ensures value { result ≡ flaw_number flaw }
+    ensures positive { 1 ≤ result }
 {
     match flaw {
         Flaw::CutCount => 1,

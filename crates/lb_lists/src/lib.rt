@@ -4,8 +4,8 @@
 //! - [`Run`]: the elements of a run, as lists.
 //! - [`plan_run`]: decides; [`plan_into`] writes the place of each element, and [`decide_into`] the whole decision, into
 //!   [`Room`] of the caller.
-//! - [`refine_run`]: decides within a tolerance; [`refine_into`] writes the decision into a [`RefinedRoom`], or returns a
-//!   [`RefineError`].
+//! - [`refine_run`]: decides within a tolerance; [`refine_into`] writes the decision into a [`Room`] and a [`StandingRoom`],
+//!   or returns a [`RefineError`].
 //! - [`check_claim`]: whether a [`Claim`] is right, whoever made it, or its first flaw; [`number_of`] a flaw.
 //! - [`check_refined`]: whether a [`RefinedClaim`] of a decision within a tolerance is right, or its first [`RefinedFlaw`], with
 //!   its [number](number_of_refined) and its [place](place_of_refined).
@@ -39,6 +39,6 @@ pub use laws::{near_least, one_plan};
 pub use planning::{Planned, plan_into, plan_run};
 pub use refined_checking::{RefinedFlaw, check_refined, number_of_refined, place_of_refined};
 pub use refined_claim::RefinedClaim;
-pub use refining::{RefinedNumbers, RefinedRoom, StandingRoom, refine_into, refine_run};
+pub use refining::{RefinedNumbers, StandingRoom, refine_into, refine_run};
 pub use run::Run;
 pub use scaling::{ScaleError, scale_loads};

@@ -221,6 +221,7 @@ pub fn check_refined<A: Allocator + Copy>(
 /// The number of a flaw, from 1: those of a [`RefinementFlaw`] are 1 to 11 and 20 to 30, those of the decision 12 to 19.
 pub fn number_of_refined(flaw: RefinedFlaw) -> u8
     ensures value { result ≡ refined_flaw_number flaw }
+    ensures positive { 1 ≤ result }
 {
     match flaw {
         RefinedFlaw::OfRefinement(flaw) => number_of_refinement(flaw),
@@ -230,7 +231,8 @@ pub fn number_of_refined(flaw: RefinedFlaw) -> u8
 
 // The number of a flaw of a refinement.
 fn number_of_refinement(flaw: RefinementFlaw) -> u8
-    ensures { result ≡ refinement_flaw_number flaw }
+    ensures value { result ≡ refinement_flaw_number flaw }
+    ensures positive { 1 ≤ result }
 {
     match flaw {
         RefinementFlaw::Least(flaw) => number_of(flaw),

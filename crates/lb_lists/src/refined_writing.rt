@@ -5,12 +5,13 @@ ghost use Rattle.lb_certificates.specs.Chain.{IsDivision};
 ghost use Rattle.lb_certificates.specs.Naming.{blocks_between};
 ghost use Rattle.lb_lists.specs.Places.{ArePlaces};
 ghost use Rattle.lb_lists.specs.Plans.{stops_in};
-ghost use Rattle.lb_lists.specs.RefinedRooms.{refined_lists_in, standing_lists_in, told_in, told_of_kept, told_of_plan, AreStepsIn, HasRefinedListsOf, HasStandingListsOf, IsStandingLeft};
+ghost use Rattle.lb_lists.specs.RefinedRooms.{standing_lists_in, told_in, told_of_kept, told_of_plan, AreStepsIn, HasStandingListsOf, IsStandingLeft};
+ghost use Rattle.lb_lists.specs.Rooms.{lists_in, HasListsOf};
 ghost use Rattle.lb_lists.specs.Steps.{all_steps, first_steps, places_of, rises_of};
 
-use crate::deciding::{Decided, write_decision};
+use crate::deciding::{Decided, Room, write_decision};
 use crate::plan::Plan;
-use crate::refining::{RefinedNumbers, RefinedRoom, StandingRoom};
+use crate::refining::{RefinedNumbers, StandingRoom};
 use crate::steps::FlatSteps;
 use chain_refinement::Refinement;
 use chare_index::Limits;
@@ -22,27 +23,29 @@ use std::alloc::Allocator;
 /// Writes the decision of a plan.
 pub(crate) fn write_planned<A: Allocator>(
     decision: Decision<A>,
-    room: &mut RefinedRoom<'_>,
+    room: &mut Room<'_>,
+    standing: &mut StandingRoom<'_>,
 ) -> RefinedNumbers
-    requires divides { IsDivision 0 (length room.old.decision.new_places.now) (blocks_between decision.division.cuts) decision.division.cuts }
+    requires divides { IsDivision 0 (length room.old.new_places.now) (blocks_between decision.division.cuts) decision.division.cuts }
     requires some_block { 0 < blocks_between decision.division.cuts }
-    requires few { length room.old.decision.new_places.now ≤ Limits.ELEMENTS }
-    requires cuts { length room.old.decision.cuts.now ≡ length decision.division.cuts }
-    requires stops { length (stops_in decision.division.floor) ≤ length room.old.decision.stops.now }
-    requires names { length room.old.decision.names.now ≡ length decision.naming }
+    requires few { length room.old.new_places.now ≤ Limits.ELEMENTS }
+    requires cuts { length room.old.cuts.now ≡ length decision.division.cuts }
+    requires stops { length (stops_in decision.division.floor) ≤ length room.old.stops.now }
+    requires names { length room.old.names.now ≡ length decision.naming }
     requires named { length decision.naming ≡ blocks_between decision.division.cuts }
-    requires block_prices { length room.old.decision.block_prices.now ≡ length decision.prices.u }
-    requires pe_prices { length room.old.decision.pe_prices.now ≡ length decision.prices.v }
-    requires least_cuts { length room.old.standing.least_cuts.now ≡ length decision.division.cuts }
-    ensures same_lists { HasRefinedListsOf room.old room.new }
-    ensures told { told_in result.least result.moved result.stops (refined_lists_in room.new) ≡ told_of_plan decision }
+    requires block_prices { length room.old.block_prices.now ≡ length decision.prices.u }
+    requires pe_prices { length room.old.pe_prices.now ≡ length decision.prices.v }
+    requires least_cuts { length standing.old.least_cuts.now ≡ length decision.division.cuts }
+    ensures same_lists { HasListsOf room.old room.new }
+    ensures same_standing { HasStandingListsOf standing.old standing.new }
+    ensures told { told_in result.least result.moved result.stops (lists_in room.new) (standing_lists_in standing.new) ≡ told_of_plan decision }
     ensures bottleneck { result.bottleneck ≡ decision.division.bottleneck }
-    ensures placed { ArePlaces decision.division.cuts decision.naming (length room.old.decision.new_places.now) room.new.decision.new_places.now }
+    ensures placed { ArePlaces decision.division.cuts decision.naming (length room.old.new_places.now) room.new.new_places.now }
     ensures counted { result.stops ≡ length (stops_in decision.division.floor) }
-    ensures behind { drop result.stops room.new.decision.stops.now ≡ drop result.stops room.old.decision.stops.now }
+    ensures behind { drop result.stops room.new.stops.now ≡ drop result.stops room.old.stops.now }
     ensures planned { result.near ≡ false }
     ensures no_steps { result.steps ≡ 0 }
-    ensures left { IsStandingLeft (standing_lists_in room.old.standing) (standing_lists_in room.new.standing) }
+    ensures left { IsStandingLeft (standing_lists_in standing.old) (standing_lists_in standing.new) }
 {
     let Decision {
         division,
@@ -58,9 +61,9 @@ pub(crate) fn write_planned<A: Allocator>(
         prices,
         moved,
     };
-    let decided = write_decision(&plan, &mut room.decision);
+    let decided = write_decision(&plan, room);
     let least = plan.division.cuts.as_slice();
-    room.standing.least_cuts.copy_from_slice(least);
+    standing.least_cuts.copy_from_slice(least);
     drop(plan);
     let bottleneck = decided.bottleneck;
     numbers(decided, bottleneck, false, 0)
@@ -90,35 +93,37 @@ fn numbers(decided: Decided, bottleneck: u64, near: bool, steps: usize) -> Refin
 pub(crate) fn write_near<A: Allocator>(
     kept: Kept<A>,
     steps: FlatSteps<A>,
-    room: &mut RefinedRoom<'_>,
+    room: &mut Room<'_>,
+    standing: &mut StandingRoom<'_>,
 ) -> RefinedNumbers
-    requires divides { IsDivision 0 (length room.old.decision.new_places.now) (blocks_between kept.refinement.cuts) kept.refinement.cuts }
+    requires divides { IsDivision 0 (length room.old.new_places.now) (blocks_between kept.refinement.cuts) kept.refinement.cuts }
     requires some_block { 0 < blocks_between kept.refinement.cuts }
-    requires few { length room.old.decision.new_places.now ≤ Limits.ELEMENTS }
-    requires cuts { length room.old.decision.cuts.now ≡ length kept.refinement.cuts }
-    requires stops { length (stops_in kept.refinement.least.floor) ≤ length room.old.decision.stops.now }
-    requires names { length room.old.decision.names.now ≡ length kept.naming }
+    requires few { length room.old.new_places.now ≤ Limits.ELEMENTS }
+    requires cuts { length room.old.cuts.now ≡ length kept.refinement.cuts }
+    requires stops { length (stops_in kept.refinement.least.floor) ≤ length room.old.stops.now }
+    requires names { length room.old.names.now ≡ length kept.naming }
     requires named { length kept.naming ≡ blocks_between kept.refinement.cuts }
-    requires block_prices { length room.old.decision.block_prices.now ≡ length kept.prices.u }
-    requires pe_prices { length room.old.decision.pe_prices.now ≡ length kept.prices.v }
-    requires least_cuts { length room.old.standing.least_cuts.now ≡ length kept.refinement.least.cuts }
-    requires order { length room.old.standing.order.now ≡ length kept.refinement.order }
-    requires present { length room.old.standing.present.now ≡ length kept.refinement.present }
-    requires step_starts { length room.old.standing.step_starts.now ≡ length (first_steps 0 kept.refinement.heights) }
-    requires step_rises { length room.old.standing.step_rises.now ≡ length room.old.standing.step_places.now }
+    requires block_prices { length room.old.block_prices.now ≡ length kept.prices.u }
+    requires pe_prices { length room.old.pe_prices.now ≡ length kept.prices.v }
+    requires least_cuts { length standing.old.least_cuts.now ≡ length kept.refinement.least.cuts }
+    requires order { length standing.old.order.now ≡ length kept.refinement.order }
+    requires present { length standing.old.present.now ≡ length kept.refinement.present }
+    requires step_starts { length standing.old.step_starts.now ≡ length (first_steps 0 kept.refinement.heights) }
+    requires step_rises { length standing.old.step_rises.now ≡ length standing.old.step_places.now }
     requires starts { steps.starts.items ≡ first_steps 0 kept.refinement.heights }
     requires places { steps.places.items ≡ places_of (all_steps kept.refinement.heights) }
     requires rises { steps.rises.items ≡ rises_of (all_steps kept.refinement.heights) }
-    ensures same_lists { HasRefinedListsOf room.old room.new }
-    ensures told { told_in result.least result.moved result.stops (refined_lists_in room.new) ≡ told_of_kept kept }
+    ensures same_lists { HasListsOf room.old room.new }
+    ensures same_standing { HasStandingListsOf standing.old standing.new }
+    ensures told { told_in result.least result.moved result.stops (lists_in room.new) (standing_lists_in standing.new) ≡ told_of_kept kept }
     ensures bottleneck { result.bottleneck ≡ kept.bottleneck }
-    ensures placed { ArePlaces kept.refinement.cuts kept.naming (length room.old.decision.new_places.now) room.new.decision.new_places.now }
+    ensures placed { ArePlaces kept.refinement.cuts kept.naming (length room.old.new_places.now) room.new.new_places.now }
     ensures counted { result.stops ≡ length (stops_in kept.refinement.least.floor) }
-    ensures behind { drop result.stops room.new.decision.stops.now ≡ drop result.stops room.old.decision.stops.now }
+    ensures behind { drop result.stops room.new.stops.now ≡ drop result.stops room.old.stops.now }
     ensures near { result.near ≡ true }
-    ensures order { room.new.standing.order.now ≡ kept.refinement.order }
-    ensures present { room.new.standing.present.now ≡ kept.refinement.present }
-    ensures steps { AreStepsIn kept.refinement.heights result.steps (standing_lists_in room.old.standing) (standing_lists_in room.new.standing) }
+    ensures order { standing.new.order.now ≡ kept.refinement.order }
+    ensures present { standing.new.present.now ≡ kept.refinement.present }
+    ensures steps { AreStepsIn kept.refinement.heights result.steps (standing_lists_in standing.old) (standing_lists_in standing.new) }
 {
     let Kept {
         refinement,
@@ -138,8 +143,8 @@ pub(crate) fn write_near<A: Allocator>(
         heights,
     } = refinement;
     drop(heights);
-    room.standing.order.copy_from_slice(order.as_slice());
-    room.standing.present.copy_from_slice(present.as_slice());
+    standing.order.copy_from_slice(order.as_slice());
+    standing.present.copy_from_slice(present.as_slice());
     drop(order);
     drop(present);
     let Division {
@@ -147,9 +152,7 @@ pub(crate) fn write_near<A: Allocator>(
         cuts: least_cuts,
         floor,
     } = least;
-    room.standing
-        .least_cuts
-        .copy_from_slice(least_cuts.as_slice());
+    standing.least_cuts.copy_from_slice(least_cuts.as_slice());
     drop(least_cuts);
     // The cuts are those of the refinement; bottleneck and stops are those of the least division.
     let plan = Plan {
@@ -162,9 +165,9 @@ pub(crate) fn write_near<A: Allocator>(
         prices,
         moved,
     };
-    let decided = write_decision(&plan, &mut room.decision);
+    let decided = write_decision(&plan, room);
     drop(plan);
-    let count = write_steps(&steps, &mut room.standing);
+    let count = write_steps(&steps, standing);
     numbers(decided, bottleneck, true, count)
 }
 

@@ -12,7 +12,8 @@ ghost use Rattle.lb_strategy.specs.declared.decision.Decision.{Decision};
 ghost use Rattle.lb_refinement.specs.Refined.{least_load, refined_bottleneck, refined_cuts, refined_moved, refined_names, ArePricesSmall, IsPlanned, IsRefined};
 ghost use Rattle.lb_lists.specs.Plans.{IsPlan};
 ghost use Rattle.lb_lists.specs.Places.{ArePlaces};
-ghost use Rattle.lb_lists.specs.RefinedRooms.{refined_lists_in, standing_in, standing_lists_in, told_in, HasRefinedListsOf, HasRefinedRoom, HasStandingRoom, IsStandingIn};
+ghost use Rattle.lb_lists.specs.RefinedRooms.{standing_in, standing_lists_in, told_in, HasRefinedRoom, HasStandingListsOf, HasStandingRoom, IsStandingIn};
+ghost use Rattle.lb_lists.specs.Rooms.{lists_in, HasListsOf};
 ghost use Rattle.lb_lists.specs.Refinings.{IsRefinedRun};
 ghost use Rattle.lb_lists.specs.Runs.{sizes_of, AreSmall, IsAsked, IsRefineRefusal, IsRefusal};
 
@@ -42,15 +43,6 @@ pub struct StandingRoom<'a> {
     pub step_places: &'a mut [u32],
     /// As much room: how much higher it is from there on, in bytes.
     pub step_rises: &'a mut [u64],
-}
-
-/// Room for what is told of a decision within a tolerance.
-#[derive(Drop)]
-pub struct RefinedRoom<'a> {
-    /// The decision. Its stops are those of the least division.
-    pub decision: Room<'a>,
-    /// What proves that cuts near the present ones move the fewest bytes.
-    pub standing: StandingRoom<'a>,
 }
 
 /// The numbers of a decision within a tolerance that was written.
@@ -120,16 +112,16 @@ fn has_standing_room(room: &StandingRoom<'_>, pes: u32) -> bool
 }
 
 // The same, and for a decision on so many elements.
-fn has_refined_room(room: &RefinedRoom<'_>, elements: usize, pes: u32) -> bool
-    ensures { IsTrue result ↔ HasRefinedRoom elements pes (refined_lists_in room.now) }
+fn has_refined_room(room: &Room<'_>, standing: &StandingRoom<'_>, elements: usize, pes: u32) -> bool
+    ensures { IsTrue result ↔ HasRefinedRoom elements pes (lists_in room.now) (standing_lists_in standing.now) }
 {
-    has_room(&room.decision, elements, pes) && has_standing_room(&room.standing, pes)
+    has_room(room, elements, pes) && has_standing_room(standing, pes)
 }
 
 /// Decides within a tolerance, so many thousandths, and writes the decision with all that proves it: what is told of a decision
 /// as [`decide_into`](crate::decide_into) does, and the least cuts; and where the cuts are near the present ones, the order of
 /// the PEs, the present cuts and the heights. Of these the steps are written where there is room for all of them. Where it is
-/// the plan, order, present cuts and steps are left as they were.
+/// the plan, order, present cuts and steps are left as they were. The stops are those of the least division.
 ///
 /// # Errors
 ///
@@ -140,31 +132,34 @@ pub fn refine_into<A: Allocator + Copy>(
     run: &Run<'_>,
     pes: u32,
     thousandths: u32,
-    room: &mut RefinedRoom<'_>,
+    room: &mut Room<'_>,
+    standing: &mut StandingRoom<'_>,
 ) -> Result<RefinedNumbers, RefineError>
-    ensures same_lists { HasRefinedListsOf room.old room.new }
+    ensures same_lists { HasListsOf room.old room.new }
+    ensures same_standing { HasStandingListsOf standing.old standing.new }
     ensures refined { IfOk result (λ d. (heights : List (List (ℕ × ℕ)))
-        × IsRefinedRun run.now pes thousandths d.near (told_in d.least d.moved d.stops (refined_lists_in room.new)) (standing_in heights (standing_lists_in room.new.standing))
-        × IsStandingIn d.near heights d.steps (standing_lists_in room.old.standing) (standing_lists_in room.new.standing)) }
-    ensures placed { IfOk result (λ _. ArePlaces room.new.decision.cuts.now room.new.decision.names.now (length run.now.loads) room.new.decision.new_places.now) }
-    ensures peak { IfOk result (λ d. d.bottleneck ≡ peak run.now.loads room.new.decision.cuts.now) }
+        × IsRefinedRun run.now pes thousandths d.near (told_in d.least d.moved d.stops (lists_in room.new) (standing_lists_in standing.new)) (standing_in heights (standing_lists_in standing.new))
+        × IsStandingIn d.near heights d.steps (standing_lists_in standing.old) (standing_lists_in standing.new)) }
+    ensures placed { IfOk result (λ _. ArePlaces room.new.cuts.now room.new.names.now (length run.now.loads) room.new.new_places.now) }
+    ensures peak { IfOk result (λ d. d.bottleneck ≡ peak run.now.loads room.new.cuts.now) }
     ensures within { IfOk result (λ d. d.bottleneck ≤ limit_of d.least thousandths) }
     ensures no_more { IfOk result (λ d. (places : List ℕ) (bottleneck moved : ℕ) → IsPlan run.now pes places bottleneck moved → d.moved ≤ moved) }
     ensures kept_whole { IfOk result (λ d. (order present : List ℕ) → IsPresentOrder (sizes_of run.now) pes order present
         → AreWithin run.now.loads order (limit_of d.least thousandths) present → d.moved ≡ 0) }
-    ensures bounded { IfOk result (λ _. ArePricesBounded (sizes_of run.now) room.new.decision.cuts.now room.new.decision.block_prices.now room.new.decision.pe_prices.now) }
+    ensures bounded { IfOk result (λ _. ArePricesBounded (sizes_of run.now) room.new.cuts.now room.new.block_prices.now room.new.pe_prices.now) }
     ensures counted { IfOk result (λ d. d.stops ≤ pes + 1) }
-    ensures behind { IfOk result (λ d. drop d.stops room.new.decision.stops.now ≡ drop d.stops room.old.decision.stops.now) }
+    ensures behind { IfOk result (λ d. drop d.stops room.new.stops.now ≡ drop d.stops room.old.stops.now) }
     ensures small_tolerance { OnOk result (thousandths ≤ 1000) }
-    ensures asked { OnOk result (IsAsked run.now pes × HasRefinedRoom (length run.now.loads) pes (refined_lists_in room.old)) }
+    ensures asked { OnOk result (IsAsked run.now pes × HasRefinedRoom (length run.now.loads) pes (lists_in room.old) (standing_lists_in standing.old)) }
     ensures small { OnOk result (AreSmall run.now.loads) }
-    ensures refused { IfErr result (IsRefineRefusal thousandths (IsAsked run.now pes × HasRefinedRoom (length run.now.loads) pes (refined_lists_in room.old)) (AreSmall run.now.loads)) }
-    ensures kept { OnErr result (refined_lists_in room.new ≡ refined_lists_in room.old) }
+    ensures refused { IfErr result (IsRefineRefusal thousandths (IsAsked run.now pes × HasRefinedRoom (length run.now.loads) pes (lists_in room.old) (standing_lists_in standing.old)) (AreSmall run.now.loads)) }
+    ensures kept { OnErr result (lists_in room.new ≡ lists_in room.old) }
+    ensures standing_kept { OnErr result (standing_lists_in standing.new ≡ standing_lists_in standing.old) }
 {
     let Some(tolerance) = Tolerance::new(thousandths) else {
         return Err(RefineError::BadTolerance);
     };
-    if !has_refined_room(room, run.loads.len(), pes) {
+    if !has_refined_room(room, standing, run.loads.len(), pes) {
         return Err(RefineError::Run(RunError::BadInput));
     }
     let refined = match refine_run(alloc, run, pes, tolerance) {
@@ -172,12 +167,12 @@ pub fn refine_into<A: Allocator + Copy>(
         Err(refused) => return Err(RefineError::Run(refused)),
     };
     match refined {
-        Refined::Planned(decision) => Ok(write_planned(decision, room)),
+        Refined::Planned(decision) => Ok(write_planned(decision, room, standing)),
         Refined::Near(kept) => {
             let Ok(flat) = flat_steps(alloc, kept.refinement.heights.as_slice()) else {
                 return Err(RefineError::Run(RunError::OutOfMemory));
             };
-            Ok(write_near(kept, flat, room))
+            Ok(write_near(kept, flat, room, standing))
         }
     }
 }

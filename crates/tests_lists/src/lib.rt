@@ -1,4 +1,4 @@
-//! Tests of the planner over lists: the example, each reason to refuse, and each request for memory refused in turn. They
+//! Tests of the planner over lists: the example, each reason to refuse, and each request for memory refused in turn; and decisions within a tolerance. They
 //! use public calls only; the answers were worked out by hand.
 #![tactic(auto)]
 
@@ -6,5 +6,7 @@
 mod calls;
 #[cfg(test)]
 mod fixtures;
+#[cfg(test)]
+mod refined;
 #[cfg(test)]
 mod requests;

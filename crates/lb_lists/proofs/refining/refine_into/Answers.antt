@@ -1,6 +1,7 @@
 use Rattle.std.proofs.Common.{◌≡◌, ◌≤◌, [], length, rules, arith, ap, refl, subst, sym, ◌∙◌}
 use Rattle.lb_refinement.specs.Refined.{IsRefined}
-use Rattle.lb_lists.specs.RefinedRooms.{refined_lists_in, standing_lists_in, told_in, HasRefinedRoom, IsStandingIn}
+use Rattle.lb_lists.specs.RefinedRooms.{standing_lists_in, HasRefinedRoom, IsStandingIn}
+use Rattle.lb_lists.specs.Rooms.{lists_in}
 use Rattle.lb_lists.specs.Refinings.{Told}
 use Rattle.lb_lists.specs.Runs.{sizes_of, Listed}
 use Rattle.lb_lists.proofs.FlatSteps.{first_steps-length}
@@ -10,7 +11,7 @@ use Rattle.lb_lists.proofs.refining.refine_into.Goals as goal
 pub returns-in_default-flat_steps-clause-refused : goal.returns-in_default-flat_steps-clause-refused
 returns-in_default-flat_steps-clause-refused g c =
     let few : c.args.thousandths ≤ 1000 = c.in-Some.ensures.when.0 refl in
-    let room = subst (λ (r : Listed). HasRefinedRoom (length r.loads) c.args.pes (refined_lists_in c.args.room.now)) c.run.view_is (c.if-not-has_refined_room.ensures.0 refl) in
+    let room = subst (λ (r : Listed). HasRefinedRoom (length r.loads) c.args.pes (lists_in c.args.room.now) (standing_lists_in c.args.standing.now)) c.run.view_is (c.if-not-has_refined_room.ensures.0 refl) in
     (few, ((c.in-Ok.ensures.asked, room), c.in-Ok.ensures.small))
 
 pub write_near-requires-clause-stops : goal.write_near-requires-clause-stops
@@ -18,14 +19,14 @@ write_near-requires-clause-stops g c =
     let run = c.args.run.now in
     let kept = (subst (IsRefined run.loads (sizes_of run) c.args.pes c.in-Some.tolerance) c.in-Near.is c.in-Ok.ensures.refined).0 in
     let room = c.if-not-has_refined_room.ensures.0 refl in
-    omega (arith, few_stops run.loads c.args.pes c.in-Near.kept.refinement.least.bottleneck c.in-Near.kept.refinement.least.floor kept.right.least.floor_holds, room.decision.stops)
+    omega (arith, few_stops run.loads c.args.pes c.in-Near.kept.refinement.least.bottleneck c.in-Near.kept.refinement.least.floor kept.right.least.floor_holds, room.decision_room.stops)
 
 pub write_near-requires-clause-step_starts : goal.write_near-requires-clause-step_starts
 write_near-requires-clause-step_starts g c =
     let run = c.args.run.now in
     let kept = (subst (IsRefined run.loads (sizes_of run) c.args.pes c.in-Some.tolerance) c.in-Near.is c.in-Ok.ensures.refined).0 in
     let room = c.if-not-has_refined_room.ensures.0 refl in
-    omega (arith, room.standing.step_starts, first_steps-length 0 c.in-Near.kept.refinement.heights, kept.right.proved.counted, kept.order.naming.counted)
+    omega (arith, room.standing_room.step_starts, first_steps-length 0 c.in-Near.kept.refinement.heights, kept.right.proved.counted, kept.order.naming.counted)
 
 pub returns-in-Planned-clause-refined : goal.returns-in-Planned-clause-refined
 returns-in-Planned-clause-refined g c =
@@ -43,13 +44,13 @@ returns-in-Planned-clause-kept_whole g c =
 
 pub returns-in-Planned-clause-asked : goal.returns-in-Planned-clause-asked
 returns-in-Planned-clause-asked g c =
-    (c.in-Ok.ensures.asked, subst (λ (r : Listed). HasRefinedRoom (length r.loads) c.args.pes (refined_lists_in c.args.room.now)) c.run.view_is (c.if-not-has_refined_room.ensures.0 refl))
+    (c.in-Ok.ensures.asked, subst (λ (r : Listed). HasRefinedRoom (length r.loads) c.args.pes (lists_in c.args.room.now) (standing_lists_in c.args.standing.now)) c.run.view_is (c.if-not-has_refined_room.ensures.0 refl))
 
 pub returns-in-Ok-flat_steps-clause-refined : goal.returns-in-Ok-flat_steps-clause-refined
 returns-in-Ok-flat_steps-clause-refined g c =
     let w = c.write_near.ensures in
     let k = c.in-Near.kept in
-    (k.refinement.heights, told_as_near c.args.run.now c.args.pes c.in-Some.tolerance c.args.thousandths c.in-Ok.refined k _ _ _ c.in-Near.is c.in-Some.ensures.some w.near w.told (same_standing k _ _ w.order w.present) c.in-Ok.ensures.refined, subst (λ b. IsStandingIn b k.refinement.heights c.write_near.result.steps (standing_lists_in c.args.room.now.standing) (standing_lists_in c.write_near.new.room.standing)) (sym w.near) w.steps)
+    (k.refinement.heights, told_as_near c.args.run.now c.args.pes c.in-Some.tolerance c.args.thousandths c.in-Ok.refined k _ _ _ c.in-Near.is c.in-Some.ensures.some w.near w.told (same_standing k _ _ w.order w.present) c.in-Ok.ensures.refined, subst (λ b. IsStandingIn b k.refinement.heights c.write_near.result.steps (standing_lists_in c.args.standing.now) (standing_lists_in c.write_near.new.standing)) (sym w.near) w.steps)
 
 pub returns-in-Ok-flat_steps-clause-no_more : goal.returns-in-Ok-flat_steps-clause-no_more
 returns-in-Ok-flat_steps-clause-no_more g c =
@@ -68,4 +69,4 @@ returns-in-Ok-flat_steps-clause-counted g c =
 
 pub returns-in-Ok-flat_steps-clause-asked : goal.returns-in-Ok-flat_steps-clause-asked
 returns-in-Ok-flat_steps-clause-asked g c =
-    (c.in-Ok.ensures.asked, subst (λ (r : Listed). HasRefinedRoom (length r.loads) c.args.pes (refined_lists_in c.args.room.now)) c.run.view_is (c.if-not-has_refined_room.ensures.0 refl))
+    (c.in-Ok.ensures.asked, subst (λ (r : Listed). HasRefinedRoom (length r.loads) c.args.pes (lists_in c.args.room.now) (standing_lists_in c.args.standing.now)) c.run.view_is (c.if-not-has_refined_room.ensures.0 refl))

@@ -1,0 +1,88 @@
+"""The calls of the library for decisions within a tolerance."""
+from __future__ import annotations
+
+import ctypes
+from typing import Any, List, Tuple
+
+import numpy as np
+from numpy.typing import NDArray
+
+from .checking import Flaw, Verdict, running_sums
+from .library import library, lists
+from .runs import Decision, NearDecision, Plan, Run
+from .statuses import hold
+
+STEPS = 8
+"""At first there is room for so many steps of heights for each PE."""
+
+
+class _Room:
+    """The lists and numbers that tezgumi_refine writes, with room for so many steps."""
+
+    def __init__(self, count: int, pes: int, steps: int) -> None:
+        self.pes = pes
+        self.places, self.names, self.order = (np.empty(size, np.uint32) for size in (count, pes, pes))
+        self.cuts, self.stops, self.least_cuts, self.present = (np.empty(pes + 1, np.uint32) for _ in range(4))
+        self.block_prices, self.pe_prices = np.empty(pes, np.int64), np.empty(pes, np.int64)
+        self.step_starts = np.empty(pes + 1, np.uintp)
+        self.step_places, self.step_rises = np.empty(steps, np.uint32), np.empty(steps, np.uint64)
+        self.least, self.bottleneck, self.moved = ctypes.c_uint64(), ctypes.c_uint64(), ctypes.c_uint64()
+        self.near = ctypes.c_uint32()
+        self.stops_count, self.steps_count = ctypes.c_size_t(), ctypes.c_size_t()
+
+    def words(self) -> List[int]:
+        """What is passed behind the run, the number of PEs and the tolerance."""
+        numbers = [ctypes.addressof(number) for number in (self.least, self.bottleneck, self.moved, self.near)]
+        return [
+            *lists(self.places), *numbers, *lists(self.cuts, self.stops), ctypes.addressof(self.stops_count),
+            *lists(self.names, self.block_prices, self.pe_prices, self.least_cuts, self.order, self.present),
+            *lists(self.step_starts, self.step_places, self.step_rises), ctypes.addressof(self.steps_count)]
+
+
+def plan_within(run: Run, pes: int, tolerance: int) -> Plan:
+    """The places of a decision within a tolerance."""
+    room = _refined(run, pes, tolerance, 0)
+    return Plan(pes, room.places, room.bottleneck.value, room.moved.value)
+
+
+def decide_within(run: Run, pes: int, tolerance: int) -> Decision:
+    """The decision within a tolerance: a NearDecision, or that of the plan."""
+    room = _refined(run, pes, tolerance, STEPS * pes)
+    if room.steps_count.value > room.step_places.size:
+        room = _refined(run, pes, tolerance, room.steps_count.value)
+    steps = room.steps_count.value
+    told = (
+        pes, room.places, room.bottleneck.value, room.moved.value, room.cuts, room.stops[:room.stops_count.value],
+        room.names, room.block_prices, room.pe_prices, run.moves_to(room.places))
+    if not room.near.value:
+        return Decision(*told)
+    return NearDecision(
+        *told, tolerance, room.least.value, room.least_cuts, room.order, room.present, room.step_starts,
+        room.step_places[:steps], room.step_rises[:steps])
+
+
+def check_near(run: Run, decision: NearDecision) -> Verdict:
+    """What the proved checker says of it. That its bottleneck is the load of its heaviest block is compared here."""
+    d = decision
+    first, second = ctypes.c_uint32(), ctypes.c_uint32()
+    status = library().tezgumi_check_refined(
+        *lists(run.loads, run.bytes, run.places), run.procs, d.pes, d.tolerance, *lists(d.places), d.least, d.moved,
+        *lists(d.cuts, d.stops, d.names, d.block_prices, d.pe_prices, d.least_cuts, d.order, d.present),
+        *lists(d.step_starts, d.step_places, d.step_rises), ctypes.addressof(first), ctypes.addressof(second))
+    if status > 0:
+        flaw = next(flaw for flaw in Flaw if flaw == status)
+        return Verdict(flaw, (first.value, second.value)[:flaw.meaning.count("{")])
+    hold(status)
+    return Verdict() if _heaviest(run, d.cuts) == d.bottleneck else Verdict(Flaw.BOTTLENECK_WRONG)
+
+
+def _refined(run: Run, pes: int, tolerance: int, steps: int) -> _Room:
+    room = _Room(len(run), pes, steps)
+    hold(library().tezgumi_refine(
+        *lists(run.loads, run.bytes, run.places), run.procs, pes, tolerance, *room.words()))
+    return room
+
+
+def _heaviest(run: Run, cuts: NDArray[np.uint32]) -> int:
+    sums = running_sums(run.loads)
+    return int((sums[cuts[1:]] - sums[cuts[:-1]]).max())

@@ -1,0 +1,328 @@
+//! Decisions within a tolerance: the example of the certificates by each call, each reason to refuse, a claim with one number
+//! changed for each flaw, and each request for memory refused in turn.
+
+use crate::fixtures::{assert_for, same};
+use chain_refinement::{RefinementFlaw, Tolerance};
+use lb_certificates::Flaw;
+use lb_lists::{
+    Claim, RefineError, RefinedClaim, RefinedFlaw, RefinedNumbers, Room, Run, RunError,
+    StandingRoom, check_refined, number_of_refined, place_of_refined, refine_into, refine_run,
+};
+use std::alloc::{Allocator, Global};
+use tests_fixtures::{Outcome, Refusing, each_refusal};
+
+// Ten elements on three PEs, whose work has gathered in the middle. The least possible load is 12, and 12 + 12 * 167 / 1000 is
+// 14. Of the cuts within 14, in the order of the PEs 2, 0, 1, those at 5 and 7 move element 4, of 60 bytes, and none fewer.
+fn ten() -> Run<'static> {
+    Run {
+        loads: &[1, 1, 1, 2, 7, 8, 6, 2, 1, 1],
+        bytes: &[10, 10, 10, 20, 60, 90, 70, 20, 10, 10],
+        places: &[2, 2, 2, 2, 0, 0, 0, 1, 1, 1],
+        procs: 3,
+    }
+}
+
+const THOUSANDTHS: u32 = 167;
+
+// No call here has as many steps.
+const STEPS: usize = 40;
+
+// The lists that a decision on the example is written to.
+#[derive(Clone, Copy)]
+struct Lists {
+    new_places: [u32; 10],
+    cuts: [u32; 4],
+    stops: [u32; 4],
+    names: [u32; 3],
+    block_prices: [i64; 3],
+    pe_prices: [i64; 3],
+    least_cuts: [u32; 4],
+    order: [u32; 3],
+    present: [u32; 4],
+    step_starts: [usize; 4],
+    step_places: [u32; STEPS],
+    step_rises: [u64; STEPS],
+}
+
+const EMPTY: Lists = Lists {
+    new_places: [7; 10],
+    cuts: [7; 4],
+    stops: [7; 4],
+    names: [7; 3],
+    block_prices: [7; 3],
+    pe_prices: [7; 3],
+    least_cuts: [7; 4],
+    order: [7; 3],
+    present: [7; 4],
+    step_starts: [7; 4],
+    step_places: [7; STEPS],
+    step_rises: [7; STEPS],
+};
+
+// Decides on a run for three PEs, with room for so many steps.
+fn written<A: Allocator + Copy>(
+    alloc: A,
+    run: &Run<'_>,
+    thousandths: u32,
+    steps: usize,
+    lists: &mut Lists,
+) -> Result<RefinedNumbers, RefineError> {
+    let mut room = Room {
+        new_places: &mut lists.new_places,
+        cuts: &mut lists.cuts,
+        stops: &mut lists.stops,
+        names: &mut lists.names,
+        block_prices: &mut lists.block_prices,
+        pe_prices: &mut lists.pe_prices,
+    };
+    let mut standing = StandingRoom {
+        least_cuts: &mut lists.least_cuts,
+        order: &mut lists.order,
+        present: &mut lists.present,
+        step_starts: &mut lists.step_starts,
+        step_places: lists.step_places.get_mut(..steps).unwrap_or(&mut []),
+        step_rises: lists.step_rises.get_mut(..steps).unwrap_or(&mut []),
+    };
+    refine_into(alloc, run, 3, thousandths, &mut room, &mut standing)
+}
+
+#[test]
+fn the_example_is_refined(rt: HostRuntime) {
+    let mut lists = EMPTY;
+    let decided = written(rt.alloc(), &ten(), THOUSANDTHS, STEPS, &mut lists);
+    assert!(rt;
+        decided.is_ok_and(|d| d.least == 12
+            && d.bottleneck == 14
+            && d.moved == 60
+            && d.stops == 4
+            && d.near)
+    );
+    assert!(rt; same(&lists.new_places, &[2, 2, 2, 2, 2, 0, 0, 1, 1, 1]));
+    assert!(rt; same(&lists.cuts, &[0, 5, 7, 10]) && same(&lists.names, &[2, 0, 1]));
+    assert!(rt; same(&lists.least_cuts, &[0, 5, 6, 10]) && same(&lists.stops, &[0, 4, 5, 6]));
+    assert!(rt; same(&lists.order, &[2, 0, 1]) && same(&lists.present, &[0, 4, 7, 10]));
+}
+
+#[test]
+fn steps_are_written_where_there_is_room(rt: HostRuntime) {
+    let alloc = rt.alloc();
+    let (mut all, mut few) = (EMPTY, EMPTY);
+    let steps = written(alloc, &ten(), THOUSANDTHS, STEPS, &mut all).map_or(0, |d| d.steps);
+    assert!(rt; 0 < steps && steps < STEPS && all.step_starts[3] == steps);
+    assert!(rt; all.step_places[steps] == 7 && all.step_rises[steps] == 7);
+    let decided = written(alloc, &ten(), THOUSANDTHS, steps - 1, &mut few);
+    assert!(rt; decided.is_ok_and(|d| d.steps == steps && d.near));
+    assert!(rt; same(&few.step_places, &[7; STEPS]) && same(&few.step_rises, &[7; STEPS]));
+    assert!(rt; same(&few.step_starts, &[7; 4]) && same(&few.present, &[0, 4, 7, 10]));
+    let decided = written(alloc, &ten(), THOUSANDTHS, steps, &mut few);
+    assert!(rt;
+        decided.is_ok_and(|d| d.steps == steps) && same(&few.step_starts, &all.step_starts)
+    );
+}
+
+#[test]
+fn without_a_tolerance_it_is_the_plan(rt: HostRuntime) {
+    let mut lists = EMPTY;
+    let decided = written(rt.alloc(), &ten(), 0, STEPS, &mut lists);
+    assert!(rt;
+        decided.is_ok_and(|d| d.least == 12
+            && d.bottleneck == 12
+            && d.moved == 130
+            && !d.near
+            && d.steps == 0)
+    );
+    assert!(rt; same(&lists.cuts, &[0, 5, 6, 10]) && same(&lists.least_cuts, &[0, 5, 6, 10]));
+    assert!(rt; same(&lists.order, &[7; 3]) && same(&lists.present, &[7; 4]));
+    assert!(rt; same(&lists.step_starts, &[7; 4]) && same(&lists.step_places, &[7; STEPS]));
+}
+
+#[test]
+fn places_that_keep_to_the_limit_are_kept(rt: HostRuntime) {
+    let mut lists = EMPTY;
+    let decided = written(rt.alloc(), &ten(), 1_000, STEPS, &mut lists);
+    assert!(rt;
+        decided.is_ok_and(|d| d.moved == 0 && d.near && d.bottleneck == 21)
+            && same(&lists.new_places, ten().places)
+    );
+}
+
+#[test]
+fn loads_of_nothing_and_scattered_elements(rt: HostRuntime) {
+    let alloc = rt.alloc();
+    let zero = Run {
+        loads: &[0; 10],
+        ..ten()
+    };
+    let mut lists = EMPTY;
+    let decided = written(alloc, &zero, 20, STEPS, &mut lists);
+    assert!(rt; decided.is_ok_and(|d| d.least == 0 && d.moved == 0 && d.stops == 0));
+    assert!(rt; same(&lists.new_places, ten().places));
+    let scattered = Run {
+        places: &[0, 1, 0, 1, 0, 1, 0, 1, 0, 1],
+        ..ten()
+    };
+    let decided = written(alloc, &scattered, 1_000, STEPS, &mut lists);
+    assert!(rt; decided.is_ok_and(|d| d.least == 12 && !d.near));
+}
+
+// Whether a decision is refused so, and nothing written.
+fn is_refused(alloc: Global, run: &Run<'_>, thousandths: u32, error: RefineError) -> bool {
+    let mut lists = EMPTY;
+    let decided = written(alloc, run, thousandths, STEPS, &mut lists);
+    decided == Err(error) && is_empty(&lists)
+}
+
+// Whether nothing was written.
+fn is_empty(lists: &Lists) -> bool {
+    same(&lists.new_places, &[7; 10])
+        && same(&lists.cuts, &[7; 4])
+        && same(&lists.stops, &[7; 4])
+        && same(&lists.names, &[7; 3])
+        && same(&lists.block_prices, &[7; 3])
+        && same(&lists.pe_prices, &[7; 3])
+        && same(&lists.least_cuts, &[7; 4])
+        && is_standing_empty(lists)
+}
+
+// Whether nothing was written of how elements stand.
+fn is_standing_empty(lists: &Lists) -> bool {
+    same(&lists.order, &[7; 3])
+        && same(&lists.present, &[7; 4])
+        && same(&lists.step_starts, &[7; 4])
+        && same(&lists.step_places, &[7; STEPS])
+        && same(&lists.step_rises, &[7; STEPS])
+}
+
+const TOO_GREAT: u64 = 140_737_488_355_328;
+
+#[test]
+fn reasons_to_refuse_in_their_order(rt: HostRuntime) {
+    let alloc = rt.alloc();
+    let input = RefineError::Run(RunError::BadInput);
+    let heavy = Run {
+        loads: &[1, TOO_GREAT, 1, 2, 7, 8, 6, 2, 1, 1],
+        ..ten()
+    };
+    let astray = Run {
+        procs: 2,
+        loads: heavy.loads,
+        ..ten()
+    };
+    let short = Run {
+        loads: &[1],
+        ..ten()
+    };
+    assert!(rt; is_refused(alloc, &astray, 1_001, RefineError::BadTolerance));
+    assert!(rt; is_refused(alloc, &astray, 1_000, input));
+    assert!(rt; is_refused(alloc, &short, 0, input));
+    assert!(rt; is_refused(alloc, &heavy, 0, RefineError::Run(RunError::BadLoad)));
+}
+
+// A claim of these lists.
+fn claim_of<'a>(lists: &'a Lists, least: u64, moved: u64, steps: usize) -> RefinedClaim<'a> {
+    RefinedClaim {
+        decision: Claim {
+            bottleneck: least,
+            moved,
+            new_places: &lists.new_places,
+            cuts: &lists.cuts,
+            stops: &lists.stops,
+            names: &lists.names,
+            block_prices: &lists.block_prices,
+            pe_prices: &lists.pe_prices,
+        },
+        least_cuts: &lists.least_cuts,
+        order: &lists.order,
+        present: &lists.present,
+        step_starts: &lists.step_starts,
+        step_places: lists.step_places.get(..steps).unwrap_or(&[]),
+        step_rises: lists.step_rises.get(..steps).unwrap_or(&[]),
+    }
+}
+
+// What a check of the decision on the example comes to, where it is changed so: the number and the place of its flaw.
+fn flaw_with<F: Fn(&mut Lists)>(alloc: Global, change: F) -> (u8, (u32, u32))
+    requires callable { F.IsAlwaysCallable change }
+{
+    let mut lists = EMPTY;
+    let Ok(told) = written(alloc, &ten(), THOUSANDTHS, STEPS, &mut lists) else {
+        return (99, (0, 0));
+    };
+    change(&mut lists);
+    let claim = claim_of(&lists, told.least, told.moved, told.steps);
+    number_and_place(check_refined(alloc, &ten(), 3, THOUSANDTHS, &claim))
+}
+
+// The number and the place of a flaw, and 0 where there is none.
+fn number_and_place(checked: Result<Option<RefinedFlaw>, RefineError>) -> (u8, (u32, u32)) {
+    match checked {
+        Ok(None) => (0, (0, 0)),
+        Ok(Some(flaw)) => (number_of_refined(flaw), place_of_refined(flaw)),
+        Err(_) => (98, (0, 0)),
+    }
+}
+
+#[test]
+fn flaws_of_the_refinement(rt: HostRuntime) {
+    let alloc = rt.alloc();
+    assert!(rt; flaw_with(alloc, |_lists| {}) == (0, (0, 0)));
+    assert!(rt; flaw_with(alloc, |lists| lists.least_cuts[0] = 1) == (2, (0, 0)));
+    assert!(rt; flaw_with(alloc, |lists| lists.least_cuts[2] = 7) == (5, (1, 0)));
+    assert!(rt; flaw_with(alloc, |lists| lists.stops[2] = 4) == (10, (2, 0)));
+    assert!(rt; flaw_with(alloc, |lists| lists.order[0] = 3) == (22, (0, 0)));
+    assert!(rt; flaw_with(alloc, |lists| lists.order[0] = 0) == (23, (0, 0)));
+    assert!(rt; flaw_with(alloc, |lists| lists.cuts[1] = 8) == (25, (0, 0)));
+    assert!(rt; flaw_with(alloc, |lists| lists.cuts[2] = 8) == (26, (1, 0)));
+    assert!(rt; flaw_with(alloc, |lists| lists.cuts[2] = 6) == (30, (0, 0)));
+    assert!(rt; flaw_with(alloc, |lists| lists.step_places[0] = 0) == (28, (0, 0)));
+    assert!(rt; flaw_with(alloc, |lists| lists.present[1] = 9) == (0, (0, 0)));
+}
+
+#[test]
+fn flaws_of_the_decision(rt: HostRuntime) {
+    let alloc = rt.alloc();
+    assert!(rt; flaw_with(alloc, |lists| lists.names[0] = 3) == (13, (0, 0)));
+    assert!(rt; flaw_with(alloc, |lists| lists.names[0] = 0) == (14, (0, 0)));
+    assert!(rt; flaw_with(alloc, |lists| lists.pe_prices[1] = 1_000_000) == (16, (0, 1)));
+    assert!(rt; flaw_with(alloc, |lists| lists.block_prices[0] = -1_000) == (17, (0, 0)));
+    assert!(rt; flaw_with(alloc, |lists| lists.new_places[4] = 0) == (19, (0, 0)));
+}
+
+#[test]
+fn numbers_and_places_of_flaws(rt: HostRuntime) {
+    let steep = RefinedFlaw::OfRefinement(RefinementFlaw::Steep(3, 8));
+    let least = RefinedFlaw::OfRefinement(RefinementFlaw::Least(Flaw::Heavy(4)));
+    let high = RefinedFlaw::OfDecision(Flaw::PriceHigh(1, 2));
+    assert!(rt; number_of_refined(steep) == 29 && place_of_refined(steep) == (3, 8));
+    assert!(rt; number_of_refined(least) == 5 && place_of_refined(least) == (4, 0));
+    assert!(rt; number_of_refined(high) == 16 && place_of_refined(high) == (1, 2));
+}
+
+type Lent<'a> = &'a Refusing<Global>;
+
+// What a decision comes to, and the lists that it was to write.
+fn writes(alloc: Lent<'_>) -> Outcome {
+    let mut lists = EMPTY;
+    match written(alloc, &ten(), THOUSANDTHS, STEPS, &mut lists) {
+        Ok(told) if told.moved == 60 && same(&lists.cuts, &[0, 5, 7, 10]) => Outcome::Right,
+        Err(RefineError::Run(RunError::OutOfMemory)) if is_empty(&lists) => Outcome::Refused,
+        _ => Outcome::Wrong,
+    }
+}
+
+#[test]
+fn each_request_for_memory(rt: HostRuntime) {
+    let refusals = each_refusal(rt.alloc(), 100, writes);
+    let refusals = refusals.expect(&rt, "a refusal was not told");
+    assert_for(&rt, refusals == WRITTEN, refusals);
+}
+
+// The requests of a decision that is written: the lists of the snapshot, the decision, and the steps one behind the other.
+const WRITTEN: u64 = 49;
+
+#[test]
+fn a_decision_in_lists_of_its_own(rt: HostRuntime) {
+    let tolerance = Tolerance::new(THOUSANDTHS).expect(&rt, "a tolerance");
+    let refined = refine_run(rt.alloc(), &ten(), 3, tolerance);
+    assert!(rt; refined.is_ok_and(|refined| refined.moved() == 60));
+}
