@@ -3,11 +3,10 @@ use Rattle.std.specs.Prelude.{◌≡◌, ◌≢◌, ℕ, List, [], ◌∷◌, le
 use Rattle.std.specs.List.{range_with_len}
 use Rattle.std.specs.Option.{option_or}
 use Rattle.at_sync.specs.Boards.{AreDecided, BoardState, IsBoard, HaveFinished}
-use Rattle.chares.specs.Elements.{ElementView}
 use Rattle.chares.specs.Steps.{Step}
 use Rattle.lb_database.specs.Measuring.{elements}
+pub use Rattle.pe_state.specs.InOrder.{element_on}
 use Rattle.pe_state.specs.Pes.{PeView, Parcel}
-use Rattle.pe_state.specs.Rooms.{found}
 use Rattle.pe_worker.specs.declared.fault.Fault.{Fault}
 use Rattle.pe_worker.specs.declared.fault.Fault.TheVariants.{Mismatch, Unpack}
 use Rattle.round_marks.specs.Runs.{AreAllMarked}
@@ -21,11 +20,6 @@ pub record OutcomeView (C A : Type 0) : Type 0 where
   pub left : List (List Parcel)
   pub board : BoardState A
   pub fault : Option Fault
-
--- the element with this index, on the first PE where one stands: in a run that ended no second PE has one
-abbrev pub element_on : {C : Type 0} → ℕ → List (PeView C) → Option (ElementView C)
-element_on i [] = None
-element_on i (pe ∷ pes) = option_or (found i pe.room) (element_on i pes)
 
 -- the fault of the first worker that met one
 abbrev pub first_fault : List (Option Fault) → Option Fault

@@ -5,7 +5,10 @@ ghost use Rattle.chare_index.specs.declared.limits.TheConstants.Limits.{PES};
 ghost use Rattle.at_sync.specs.Boards.{IsBoard};
 ghost use Rattle.rts_core.specs.Accounts.{IsCounted, posted_count, executed_count, held_count};
 ghost use Rattle.run_account.specs.RunAccounts.{left_world};
+ghost use Rattle.lb_database.specs.Measuring.{elements};
+ghost use Rattle.pe_state.specs.InOrder.{elements_at};
 ghost use Rattle.rts_run.specs.Outcomes.{element_on};
+ghost use Rattle.std.specs.List.{range_with_len};
 ghost use Rattle.std.specs.Option.{option_copied};
 
 use crate::counting::{held_by, posted_by, queued_in};
@@ -14,7 +17,7 @@ use chare_index::Index;
 use chares::{Chare, Element};
 use lb_certificates::Snapshot;
 use lb_strategy::Decision;
-use pe_state::{HeldParcel, PeEnd};
+use pe_state::{Elements, HeldParcel, PeEnd};
 use pe_worker::Fault;
 use rts_core::Account;
 use std::alloc::{Allocator, Global};
@@ -115,8 +118,8 @@ impl<C: Chare<A>, A: Allocator> Outcome<C, A> {
         self.fault
     }
 
-    /// Its PEs, what is left in their queues, the board, and the fault, each by value. The elements are in the rooms of the
-    /// PEs, and [`Board::into_rounds`] gives the snapshot and the decision of each round.
+    /// Its PEs, what is left in their queues, the board, and the fault, each by value. [`PeEnd::take`] gives an element of a
+    /// PE, and [`Board::into_rounds`] the snapshot and the decision of each round.
     pub fn into_parts(
         self,
     ) -> (
@@ -137,6 +140,23 @@ impl<C: Chare<A>, A: Allocator> Outcome<C, A> {
             fault,
         } = self;
         (ends, left, board, fault)
+    }
+
+    /// Its elements, each by value, in the order of their indices; [`Element::into_chare`] gives the chare of one. Those that
+    /// are on their way, packed, are left out, as [`element`](Outcome::element) does not find them. The rest of the outcome is
+    /// given up. This takes no memory.
+    ///
+    /// ```
+    /// let mut chares = Vec::new(alloc);
+    /// for element in outcome.into_elements() {
+    ///     chares.push(element.into_chare())?;
+    /// }
+    /// ```
+    pub fn into_elements(self) -> Elements<C, A>
+        ensures value { result ≡ elements_at (range_with_len 0 (elements self.board.database)) self.ends }
+    {
+        let n = self.board.len() as u32;
+        Elements::new(self.ends, n)
     }
 
     /// How many letters were posted, how many of them were executed, and how many are held. This takes no memory. It looks at
