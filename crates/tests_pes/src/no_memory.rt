@@ -111,6 +111,32 @@ fn quiet<H: Openings<Relay<A>>, A: Allocator + Copy>(
     drop(end);
 }
 
+// The element of an ended PE is taken out.
+fn given<H: Openings<Relay<A>>, A: Allocator + Copy>(
+    rt: &impl Abort,
+    made: &Refusing<Global>,
+    alloc: A,
+    chare: Relay<A>,
+)
+    requires pes { H.pes ≡ 1 }
+    requires opening { H.opened ≡ chare ∷ [] }
+{
+    let at = started::<H, A>(rt, alloc, chare);
+    let mut end = at.into_end();
+    let requests = made.requests();
+    let element = end.take(index(rt, 0));
+    assert!(rt; made.requests() == requests && element.is_some());
+    drop(element);
+    drop(end);
+}
+
+#[test]
+fn an_element_by_value(rt: HostRuntime) {
+    let alloc = Refusing::new(rt.alloc(), 0);
+    let chare = Relay::with_body(&alloc, 1, &[0]).expect(&rt, "out of memory");
+    given::<Brand, &Refusing<Global>>(&rt, &alloc, &alloc, chare);
+}
+
 #[test]
 fn calls_of_a_pe(rt: HostRuntime) {
     let alloc = Refusing::new(rt.alloc(), 0);
