@@ -1,21 +1,19 @@
 -- What is reported is one function of the bytes read, the name, the numbers of PEs, the tolerance and the style.
-use Rattle.std.proofs.Common.{◌≡◌, ℕ, List, [], ◌∷◌, ◌++◌, length, Option, None, Some, ap, sym, ◌∙◌, subst, inl, inr}
-use Rattle.std.specs.Prelude.{if◌then◌else◌}
+use Rattle.std.proofs.Common.{◌≡◌, ℕ, List, [], ◌∷◌, ◌++◌, Option, None, Some, ap, sym, ◌∙◌, subst, inl, inr}
 use Rattle.chain_partition.proofs.ChosenOnce.{only_from_chosen}
 use Rattle.dump_format.specs.Dumps.{Dumped}
 use Rattle.dump_format.specs.declared.recorded.Recorded.{Recorded}
 use Rattle.dump_format.proofs.OneText.{one_dump}
 use Rattle.lb_certificates.specs.declared.division.Division.{Division}
-use Rattle.lb_refinement.specs.Refined.{AreSame, refined_cuts, refined_least, refined_moves, refined_names}
+use Rattle.lb_refinement.specs.Refined.{AreSame, refined_cuts, refined_least, refined_moved, refined_moves, refined_names, refined_prices}
 use Rattle.lb_refinement.specs.declared.refined.Refined.{Refined}
+use Rattle.lb_refinement.specs.declared.refined.Refined.TheVariants.{Planned}
 use Rattle.lb_refinement.proofs.OneRefined.{one_refined}
 use Rattle.lb_replay.proofs.RefinedTexts.{chosen_from_refined}
 use Rattle.lb_snapshot.specs.Measured.{Taken}
 use Rattle.lb_strategy.specs.declared.decision.Decision.{Decision}
 use Rattle.lb_strategy.proofs.OneDecisions.{IsSame, one_decision}
-use Rattle.load_report.specs.Figures.{change_by, planned_places}
-use Rattle.load_report.specs.Text.{IsRecordedText, changed_line, move_lines, planned_text, present_text, refined_text}
-use Rattle.load_report.specs.declared.cell.Cell.TheVariants.{Within}
+use Rattle.load_report.specs.Text.{IsRecordedText, planned_text, present_text, refined_text}
 use Rattle.load_report.specs.declared.style.Style.{Style}
 use Rattle.dump_report.specs.Reports.{ArePlans, IsBeside, IsDecided, IsPast, IsPlan, IsReport, IsSaid, IsWithin, numbers_of}
 
@@ -47,18 +45,27 @@ module _ (A : Type 0) (style : Style) (name : List ℕ) (s : Taken) where
       let same : IsSame this.decision that.decision = one_decision s.loads s.sizes pes this.decision that.decision this.chosen that.chosen this.least that.least this.right that.right in
       this.printed ∙ same_text pes this.decision that.decision same ∙ sym that.printed
 
-  -- what is told of the parts of a decision within a tolerance
-  abbrev told_within : ℕ → ℕ → List ℕ → List ℕ → List (ℕ × ℕ × ℕ) → List ℕ
-  told_within pes least cuts names moves =
-      if style.moves then move_lines style.csv name s.sizes pes moves else changed_line Within style.csv name s pes (planned_places cuts names (length s.sizes)) (change_by s least cuts names)
+  -- a decision within a tolerance with other parts, but those that no text depends on
+  abbrev refined_with : Refined A → ℕ → List (ℕ × ℕ × ℕ) → List ℕ → List ℕ → Refined A
+  refined_with r least moves cuts names = Planned (record {
+    division = record { bottleneck = least; cuts = cuts; floor = (refined_least r).floor };
+    naming = names;
+    prices = refined_prices r;
+    moved = refined_moved r;
+    moves = moves;
+  })
+
+  -- what is told of it
+  abbrev told_within : ℕ → Refined A → ℕ → List (ℕ × ℕ × ℕ) → List ℕ → List ℕ → List ℕ
+  told_within pes r least moves cuts names = refined_text style name s pes (refined_with r least moves cuts names)
 
   -- decisions that have these in common have one text
   same_within : (pes : ℕ) (d e : Refined A) → refined_least d ≡ refined_least e → AreSame d e → refined_text style name s pes d ≡ refined_text style name s pes e
   same_within pes d e least same =
-      ap (λ (division : Division A). told_within pes division.bottleneck (refined_cuts d) (refined_names d) (refined_moves d)) least
-      ∙ ap (λ cuts. told_within pes (refined_least e).bottleneck cuts (refined_names d) (refined_moves d)) same.cuts
-      ∙ ap (λ names. told_within pes (refined_least e).bottleneck (refined_cuts e) names (refined_moves d)) same.names
-      ∙ ap (λ moves. told_within pes (refined_least e).bottleneck (refined_cuts e) (refined_names e) moves) same.moves
+      ap (λ (division : Division A). told_within pes d division.bottleneck (refined_moves d) (refined_cuts d) (refined_names d)) least
+      ∙ ap (λ moves. told_within pes d (refined_least e).bottleneck moves (refined_cuts d) (refined_names d)) same.moves
+      ∙ ap (λ cuts. told_within pes d (refined_least e).bottleneck (refined_moves e) cuts (refined_names d)) same.cuts
+      ∙ ap (λ names. told_within pes d (refined_least e).bottleneck (refined_moves e) (refined_cuts e) names) same.names
 
   one_within : (pes tolerance : ℕ) (text other : List ℕ) → IsWithin A style name s pes tolerance text → IsWithin A style name s pes tolerance other → text ≡ other
   one_within pes tolerance text other this that =

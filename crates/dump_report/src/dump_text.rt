@@ -1,6 +1,6 @@
 //! What is said of a dump. It is made whole before any of it goes out.
 
-ghost use Rattle.std.specs.Prelude.{◌≡◌, ◌≤◌, ◌++◌, All, List, ℕ, OnOk, IfOk, IfErr};
+ghost use Rattle.std.specs.Prelude.{◌≡◌, ◌≤◌, ◌++◌, All, List, ℕ, Some, OnOk, IfOk, IfErr};
 ghost use Rattle.dump_report.specs.Reports.{ArePlans, IsBeside, IsDecided, IsNumber, IsPast, IsPlan, IsSaid, IsWithin, numbers_of};
 ghost use Rattle.lb_replay.specs.declared.ended.Ended.TheVariants.{Plan};
 ghost use Rattle.lb_strategy.specs.declared.error.PlanError.TheVariants.{OutOfMemory};
@@ -116,7 +116,7 @@ fn push_plans<A: Allocator + Copy, B: Allocator>(
     ensures fault { IfErr result (λ fault. fault ≡ OutOfMemory) }
 {
     for &pes in procs {
-        push_decided(text, snapshot, name, pes, tolerance, style)?;
+        push_decided(text, snapshot, name, pes, &tolerance, style)?;
     }
     Ok(())
 }
@@ -127,17 +127,34 @@ fn push_decided<A: Allocator + Copy, B: Allocator>(
     snapshot: &Snapshot<B>,
     name: &str,
     pes: u32,
-    tolerance: Option<Tolerance>,
+    tolerance: &Option<Tolerance>,
     style: Style,
 ) -> Result<(), PlanError>
     requires some_pe { 1 ≤ pes }
     requires few_pes { pes ≤ Limits.PES }
-    ensures decided { OnOk result ((said : List ℕ) × IsDecided A style name.now snapshot.now tolerance pes said × (text.new.items ≡ text.old.items ++ said)) }
+    ensures decided { OnOk result ((said : List ℕ) × IsDecided A style name.now snapshot.now tolerance.now pes said × (text.new.items ≡ text.old.items ++ said)) }
     ensures fault { IfErr result (λ fault. fault ≡ OutOfMemory) }
 {
-    let Some(tolerance) = tolerance else {
-        return push_plan(text, snapshot, name, pes, style);
-    };
+    match tolerance {
+        None => push_plan(text, snapshot, name, pes, style),
+        Some(tolerance) => push_both(text, snapshot, name, pes, *tolerance, style),
+    }
+}
+
+// What is said of the plan, and of the decision within a tolerance.
+fn push_both<A: Allocator + Copy, B: Allocator>(
+    text: &mut Vec<u8, A>,
+    snapshot: &Snapshot<B>,
+    name: &str,
+    pes: u32,
+    tolerance: Tolerance,
+    style: Style,
+) -> Result<(), PlanError>
+    requires some_pe { 1 ≤ pes }
+    requires few_pes { pes ≤ Limits.PES }
+    ensures both { OnOk result ((said : List ℕ) × IsDecided A style name.now snapshot.now (Some tolerance) pes said × (text.new.items ≡ text.old.items ++ said)) }
+    ensures fault { IfErr result (λ fault. fault ≡ OutOfMemory) }
+{
     push_beside(text, snapshot, name, pes, style)?;
     push_within(text, snapshot, name, pes, tolerance, style)
 }

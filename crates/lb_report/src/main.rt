@@ -66,30 +66,23 @@ fn headed(rt: &HostRuntime, asked: &Asked<'_>, procs: &[u32]) -> u8
         csv: asked.csv,
         moves: asked.moves,
     };
-    let tolerance = asked.tolerance.and_then(Tolerance::new);
     let mut output = Noted::new(io::writer(rt));
     if !write_out(&mut output, style.head().as_bytes()) {
         let ended = Ended::WriteFailed;
         let _told = tell(rt.alloc(), &mut rt.stderr(), "", ended, output.failure());
         return ended.status();
     }
-    all(rt, asked.files.as_slice(), procs, tolerance, style)
+    all(rt, asked, procs, style)
 }
 
 // Prints the report on each file, and returns the status of the first that has a fault, or 0. Nothing is done after the
 // output has failed.
-fn all(
-    rt: &HostRuntime,
-    names: &[&str],
-    procs: &[u32],
-    tolerance: Option<Tolerance>,
-    style: Style,
-) -> u8
+fn all(rt: &HostRuntime, asked: &Asked<'_>, procs: &[u32], style: Style) -> u8
     requires { All IsNumber procs.now }
 {
     let mut status = 0;
-    for name in names {
-        let ended = one(rt, name, procs, tolerance, style);
+    for name in asked.files.as_slice() {
+        let ended = one(rt, name, procs, asked.tolerance, style);
         if status == 0 {
             status = ended.status();
         }
@@ -101,16 +94,11 @@ fn all(
 }
 
 // Prints the report on a file, or tells its fault on the standard error.
-fn one(
-    rt: &HostRuntime,
-    name: &str,
-    procs: &[u32],
-    tolerance: Option<Tolerance>,
-    style: Style,
-) -> Ended
+fn one(rt: &HostRuntime, name: &str, procs: &[u32], thousandths: Option<u32>, style: Style) -> Ended
     requires { All IsNumber procs.now }
 {
     let alloc = rt.alloc();
+    let tolerance = thousandths.and_then(Tolerance::new);
     let mut output = Noted::new(io::writer(rt));
     let (ended, reason) = if name == "-" {
         let mut input = Noted::new(rt.stdin());
