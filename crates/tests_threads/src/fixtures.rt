@@ -1,6 +1,7 @@
 //! What the tests start from, and an assertion over a row.
 
 ghost use Rattle.std.specs.Prelude.{◌≡◌, ◌<◌, true, IfOk};
+ghost use Rattle.at_sync.specs.declared.strategy.Strategy.TheVariants.{Least};
 ghost use Rattle.lb_database.specs.Measuring.{elements};
 
 use at_sync::{Board, Strategy};
@@ -34,6 +35,7 @@ pub(crate) fn index(place: u32) -> Index
 pub(crate) fn two<J: BoardSize, A: Allocator + Copy>(alloc: A) -> Result<Barrier<J, A>, AllocError>
     requires elements { J.elements ≡ 2 }
     requires pes { J.pes ≡ 2 }
+    requires by_strategy { J.strategy ≡ Least }
 {
     Ok(Barrier::new(Board::new(alloc, 2, 2, Strategy::Least)?))
 }
@@ -44,6 +46,7 @@ pub(crate) fn three<J: BoardSize, A: Allocator + Copy>(
 ) -> Result<Barrier<J, A>, AllocError>
     requires elements { J.elements ≡ 3 }
     requires pes { J.pes ≡ 2 }
+    requires by_strategy { J.strategy ≡ Least }
 {
     Ok(Barrier::new(Board::new(alloc, 3, 2, Strategy::Least)?))
 }

@@ -2,6 +2,7 @@
 
 ghost use Rattle.std.specs.Prelude.{◌≡◌, IfOk};
 ghost use Rattle.std.specs.VecDeque.{deque_len};
+ghost use Rattle.at_sync.specs.declared.strategy.Strategy.TheVariants.{Least};
 
 use crate::fixtures::{index, two};
 use barrier::{Barrier, BoardSize, RoundPlaces};
@@ -106,6 +107,7 @@ fn passes<J: BoardSize + Send + Sync, R: Threads + Wait + Sync>(
     requires elements { J.elements ≡ 2 }
     requires known { pes ≡ J.pes }
     requires pes { J.pes ≡ 2 }
+    requires by_strategy { J.strategy ≡ Least }
 {
     let crew = Crew::with_capacity(alloc, 2)?;
     let barrier = two::<J, Global>(alloc)?;

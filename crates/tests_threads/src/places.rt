@@ -1,6 +1,7 @@
 //! The places of a round, copied in one visit under the lock and read without it.
 
 ghost use Rattle.std.specs.Prelude.{◌≡◌, ◌<◌};
+ghost use Rattle.at_sync.specs.declared.strategy.Strategy.TheVariants.{Least};
 
 use crate::fixtures::{index, two};
 use barrier::{BoardSize, RoundPlaces, RunBoard};
@@ -61,6 +62,7 @@ fn passes<J: BoardSize, R: Wait, A: Allocator + Copy>(
     requires elements { J.elements ≡ 2 }
     requires known { pes ≡ J.pes }
     requires pes { J.pes ≡ 2 }
+    requires by_strategy { J.strategy ≡ Least }
 {
     let barrier = two::<J, A>(alloc)?;
     let mut places = RoundPlaces::new(alloc, pes)?;

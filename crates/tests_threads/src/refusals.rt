@@ -2,6 +2,7 @@
 //! else.
 
 ghost use Rattle.std.specs.Prelude.{◌≡◌};
+ghost use Rattle.at_sync.specs.declared.strategy.Strategy.TheVariants.{Least};
 
 use crate::fixtures::{index, two};
 use crate::places::{both_decide, both_stay};
@@ -52,6 +53,7 @@ fn asked_again<J: BoardSize, R: Wait, A: Allocator + Copy>(
 fn decides<J: BoardSize, R: Wait, A: Allocator + Copy>(rt: &R, alloc: A) -> Outcome
     requires elements { J.elements ≡ 2 }
     requires pes { J.pes ≡ 2 }
+    requires by_strategy { J.strategy ≡ Least }
 {
     let Ok(barrier) = two::<J, A>(alloc) else {
         return Outcome::Refused;
@@ -122,6 +124,7 @@ fn copy_requests<J: BoardSize, R: Wait>(
     requires elements { J.elements ≡ 2 }
     requires known { pes ≡ J.pes }
     requires pes { J.pes ≡ 2 }
+    requires by_strategy { J.strategy ≡ Least }
 {
     let barrier = two::<J, _>(alloc)?;
     let mut places = RoundPlaces::new(alloc, pes)?;

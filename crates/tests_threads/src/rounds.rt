@@ -2,6 +2,7 @@
 //! neither round does each have the place of its number.
 
 ghost use Rattle.std.specs.Prelude.{◌≡◌};
+ghost use Rattle.at_sync.specs.declared.strategy.Strategy.TheVariants.{Least};
 
 use crate::counting::Counting;
 use crate::fixtures::{assert_for, index, same, three};
@@ -270,6 +271,7 @@ fn passes<J: BoardSize, R: Threads + Wait + Sync, A: Allocator + Copy>(
 ) -> Result<bool, AllocError>
     requires elements { J.elements ≡ 3 }
     requires pes { J.pes ≡ 2 }
+    requires by_strategy { J.strategy ≡ Least }
 {
     let barrier = three::<J, A>(alloc)?;
     let gate = Counting::new();

@@ -2,8 +2,9 @@
 
 use crate::dumps::{Round, is_right, text_of};
 use crate::fixtures::{assert_for, driven};
-use lb_dump::decode;
-use lb_strategy::check;
+use lb_dump::{Dump, decode};
+use lb_refinement::Refined;
+use lb_strategy::{Decision, check};
 use std::alloc::{AllocError, Global};
 use std::process::Abort;
 use std::sync::Wait;
@@ -117,15 +118,23 @@ fn ending(alloc: Global, drawn: &Drawn, size: &Size) -> Result<String, AllocErro
     Ok(text)
 }
 
+// Whether a dump records this plan, for so many PEs.
+fn is_plan(dump: &Dump<Global>, pes: u32, plan: &Decision) -> bool {
+    dump.recorded().map_or(false, |recorded| {
+        recorded.target == pes && recorded.decision == *plan
+    })
+}
+
 // Whether the dump of a round, in the format LBD2, is read back as that round, with a right decision on so many PEs.
 fn is_recorded(rt: &(impl Abort + AllocGlobal), round: &Round, pes: u32) -> bool {
     let text = text_of(rt, round, DumpFormat::Lbd2);
     let dump = decode(rt.alloc(), &text).expect(rt, "it is a dump");
     drop(text);
     let (snapshot, decision) = round;
-    let same = dump.recorded().map_or(false, |recorded| {
-        recorded.target == pes && recorded.decision == *decision
-    });
+    let same = match decision {
+        Refined::Planned(plan) => is_plan(&dump, pes, plan),
+        Refined::Near(_) => false,
+    };
     let right = same && dump.snapshot() == snapshot && is_right(&dump);
     drop(dump);
     right
@@ -137,7 +146,10 @@ fn is_right_alone(rt: &(impl Abort + AllocGlobal), round: &Round, pes: u32) -> b
     let dump = decode(rt.alloc(), &text).expect(rt, "it is a dump");
     drop(text);
     let (_, decision) = round;
-    let right = check(dump.snapshot(), pes, decision).is_ok();
+    let right = match decision {
+        Refined::Planned(plan) => check(dump.snapshot(), pes, plan).is_ok(),
+        Refined::Near(_) => false,
+    };
     drop(dump);
     right
 }
