@@ -294,16 +294,6 @@ static void few_and_odd(void)
     tezgumi_refinement_free(&d);
 }
 
-/* Each status has words of its own. */
-static void the_words(void)
-{
-    int32_t s, t, alike = 0;
-    for (s = TEZGUMI_BAD_TOLERANCE; s <= TEZGUMI_HEIGHT_LOW; s++)
-        for (t = TEZGUMI_BAD_TOLERANCE; t < s; t++) alike += !strcmp(tezgumi_status_name(s), tezgumi_status_name(t));
-    same("two statuses have the same words", alike, 0);
-    test("no status", !strcmp(tezgumi_status_name(31), "unknown status") && !strcmp(tezgumi_status_name(-8), "unknown status"));
-}
-
 int main(void)
 {
     the_example();
@@ -314,6 +304,5 @@ int main(void)
     the_present_cuts();
     the_struct();
     few_and_odd();
-    the_words();
     return failures != 0;
 }

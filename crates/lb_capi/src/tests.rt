@@ -161,7 +161,7 @@ struct Refined {
 }
 
 // What decides within a tolerance of so many thousandths comes to, and what is written.
-fn refined(alloc: Global, tolerance: u32) -> (i32, Refined) {
+fn written_within(alloc: Global, tolerance: u32) -> (i32, Refined) {
     let (mut new_places, mut near, mut cuts, mut stops) = ([7; 10], 7, [7; 4], [7; 4]);
     let (mut least, mut bottleneck, mut moved) = (7, 7, 7);
     let (mut stops_count, mut steps_count) = (7, 7);
@@ -216,7 +216,7 @@ fn refined(alloc: Global, tolerance: u32) -> (i32, Refined) {
 
 #[test]
 fn a_run_is_decided_within_a_tolerance(rt: HostRuntime) {
-    let (status, told) = refined(rt.alloc(), 167);
+    let (status, told) = written_within(rt.alloc(), 167);
     assert!(rt;
         status == 0 && told.near == 1 && told.numbers == [12, 14, 60] && told.counts[0] == 4
     );
@@ -229,12 +229,12 @@ fn a_run_is_decided_within_a_tolerance(rt: HostRuntime) {
 
 #[test]
 fn the_plan_and_too_great_a_tolerance(rt: HostRuntime) {
-    let (status, told) = refined(rt.alloc(), 0);
+    let (status, told) = written_within(rt.alloc(), 0);
     assert!(rt;
         status == 0 && told.near == 0 && told.numbers == [12, 12, 130] && told.counts == [4, 0]
     );
     assert!(rt; same(&told.cuts, &[0, 5, 6, 10]) && same(&told.order, &[7; 3]));
-    let (status, told) = refined(rt.alloc(), 1_001);
+    let (status, told) = written_within(rt.alloc(), 1_001);
     assert!(rt; status == -7 && told.near == 7 && told.numbers == [7; 3] && told.counts == [7, 7]);
     assert!(rt; same(&told.cuts, &[7; 4]) && same(&told.present, &[7; 4]));
 }
@@ -273,7 +273,7 @@ fn status_of_refined(alloc: Global, tolerance: u32, told: &Refined) -> (i32, u32
 #[test]
 fn a_decision_within_a_tolerance_is_checked(rt: HostRuntime) {
     let alloc = rt.alloc();
-    let (_, mut told) = refined(alloc, 167);
+    let (_, mut told) = written_within(alloc, 167);
     assert!(rt; status_of_refined(alloc, 167, &told) == (0, 7, 7));
     assert!(rt; status_of_refined(alloc, 166, &told) == (26, 1, 0));
     assert!(rt; status_of_refined(alloc, 1_001, &told) == (-7, 7, 7));

@@ -241,8 +241,8 @@ fn claim_of<'a>(lists: &'a Lists, least: u64, moved: u64, steps: usize) -> Refin
 }
 
 // What a check of the decision on the example comes to, where it is changed so: the number and the place of its flaw.
-fn flaw_with<F: FnOnce(&mut Lists)>(alloc: Global, change: F) -> (u8, (u32, u32))
-    requires callable { F.IsCallable change }
+fn flaw_with<F: Fn(&mut Lists)>(alloc: Global, change: F) -> (u8, (u32, u32))
+    requires callable { F.IsAlwaysCallable change }
 {
     let mut lists = EMPTY;
     let Ok(told) = written(alloc, &ten(), THOUSANDTHS, STEPS, &mut lists) else {
@@ -283,8 +283,8 @@ fn flaws_of_the_decision(rt: HostRuntime) {
     let alloc = rt.alloc();
     assert!(rt; flaw_with(alloc, |lists| lists.names[0] = 3) == (13, (0, 0)));
     assert!(rt; flaw_with(alloc, |lists| lists.names[0] = 0) == (14, (0, 0)));
-    assert!(rt; flaw_with(alloc, |lists| lists.pe_prices[1] += 1_000) == (16, (0, 1)));
-    assert!(rt; flaw_with(alloc, |lists| lists.block_prices[0] -= 1) == (17, (0, 0)));
+    assert!(rt; flaw_with(alloc, |lists| lists.pe_prices[1] = 1_000_000) == (16, (0, 1)));
+    assert!(rt; flaw_with(alloc, |lists| lists.block_prices[0] = -1_000) == (17, (0, 0)));
     assert!(rt; flaw_with(alloc, |lists| lists.new_places[4] = 0) == (19, (0, 0)));
 }
 

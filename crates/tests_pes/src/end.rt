@@ -78,7 +78,11 @@ fn an_element_is_taken_once(rt: HostRuntime) {
     let (second, again) = (taken(&rt, &mut end, 1), taken(&rt, &mut end, 1));
     assert!(rt; second.is_some() && again.is_none() && end.room().len() == 1);
     let (first, stranger) = (taken(&rt, &mut end, 0), taken(&rt, &mut end, 70));
-    assert!(rt; first.map(|len| len + 2) == second && stranger.is_none() && end.room().is_empty());
+    assert!(rt;
+        first.and_then(|len| len.checked_add(2)) == second
+            && stranger.is_none()
+            && end.room().is_empty()
+    );
     drop(end);
 }
 
