@@ -130,7 +130,12 @@ impl<A: Allocator> Board<A> {
         ensures ok { OnOk result (Decides self.old self.new) }
         ensures err { OnErr result (self.new ≡ self.old) }
     {
-        let kept = decided(*self.rounds.allocator(), &self.database, self.pes, self.strategy)?;
+        let kept = decided(
+            *self.rounds.allocator(),
+            &self.database,
+            self.pes,
+            self.strategy,
+        )?;
         let round = self.database.round();
         keep(&mut self.database, &mut self.rounds, kept)?;
         Ok(round)

@@ -6,18 +6,7 @@ use clap::{Arg, ArgAction, ArgMatches, Command, Error, value_parser};
 use hot_spot_strip::StripLimits;
 use std::alloc::{AllocError, Global};
 
-/fn tolerance<'a>(alloc: Global) -> Arg<'a> {
-    Arg::new(alloc, "tolerance")
-        .long("tolerance")
-        .value_name("T")
-        .help(
-            "Lets the greatest load of a PE lie up to T thousandths above the least{n}possible one, so that fewer bytes move; 0 to 1000",
-        )
-        .action(ArgAction::Set)
-        .value_parser(value_parser!(u32).range(0..=1_000))
-}
-
-// What the words ask for.
+/// What the words ask for.
 #[derive(Clone, Copy, Debug, PartialEq, Eq)]
 pub(crate) struct RunOptions {
     pub(crate) elements: u32,

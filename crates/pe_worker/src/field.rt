@@ -25,7 +25,12 @@ const PES_WORTH_THREADS: u32 = 128;
 /// to stop; and how many executed letters they have counted, for who looks on. No clause rests on a hint or on that
 /// number. Contracts see the queues.
 #[derive(Drop)]
-pub struct Field<C: Chare<A>, H: Openings<C> + RunStrategy, J: RunBeginning<C>, A: Allocator = Global> {
+pub struct Field<
+    C: Chare<A>,
+    H: Openings<C> + RunStrategy,
+    J: RunBeginning<C>,
+    A: Allocator = Global,
+> {
     pub(crate) post: Post<Parcel<C, H, A>, A>,
     pub(crate) words: Locations<OfRun<C, H>, A>,
     pub(crate) barrier: Barrier<OfRun<C, H>, A>,
@@ -39,7 +44,8 @@ pub struct Field<C: Chare<A>, H: Openings<C> + RunStrategy, J: RunBeginning<C>, 
     of: PhantomData<J>,
 }
 
-impl<C: Chare<A>, H: Openings<C> + RunStrategy, J: RunBeginning<C>, A: Allocator> Model for Field<C, H, J, A> {
+impl<C: Chare<A>, H: Openings<C> + RunStrategy, J: RunBeginning<C>, A: Allocator> Model
+    for Field<C, H, J, A> {
     ghost use Rattle.std.specs.Prelude.{◌≡◌, ◌≤◌, length};
     ghost use Rattle.chare_index.specs.declared.limits.TheConstants.Limits.{PROBE_WORKERS};
     ghost use Rattle.pe_queues.specs.Seats.{PostView};
@@ -53,7 +59,12 @@ impl<C: Chare<A>, H: Openings<C> + RunStrategy, J: RunBeginning<C>, A: Allocator
         × (1 ≤ f.probe_workers) × (f.probe_workers ≤ PROBE_WORKERS) };
 }
 
-impl<C: Chare<A>, H: Openings<C> + RunStrategy, J: RunBeginning<C>, A: Allocator> Field<C, H, J, A> {
+impl<C: Chare<A>, H: Openings<C> + RunStrategy, J: RunBeginning<C>, A: Allocator> Field<
+    C,
+    H,
+    J,
+    A,
+> {
     /// The queues, words and board of a run as it opens. Its workers give up after so many idle turns, and a round is
     /// decided by at most so many probe workers, 1 to 64, and by one where its PEs are few.
     pub fn new(

@@ -58,7 +58,12 @@ fn take_finish<J: BoardSize, A: Allocator>(board: &mut RunBoard<J, A>, e: Index)
     board.finish(e.get()).is_ok()
 }
 
-impl<C: Chare<A>, H: Openings<C> + RunStrategy, J: RunBeginning<C>, A: Allocator + Copy> SeatedPe<C, H, J, A> {
+impl<C: Chare<A>, H: Openings<C> + RunStrategy, J: RunBeginning<C>, A: Allocator + Copy> SeatedPe<
+    C,
+    H,
+    J,
+    A,
+> {
     /// Report: gives the first note that is owed to the board, under whose lock the caller is, and returns it. It returns
     /// `None`, and changes nothing, where no note is owed, or where the board refuses it, which then stays owed.
     pub fn report(&mut self, board: &mut RunBoard<OfRun<C, H>, A>) -> Option<Note>

@@ -31,7 +31,12 @@ const SPINS: u64 = 64;
 /// A worker of a run: a PE with its seat, what it has to see to, and the fault that it met, if it met one. Contracts see it
 /// as the record `WorkerView`.
 #[derive(Drop)]
-pub struct Worker<C: Chare<A>, H: Openings<C> + RunStrategy, J: RunBeginning<C>, A: Allocator = Global> {
+pub struct Worker<
+    C: Chare<A>,
+    H: Openings<C> + RunStrategy,
+    J: RunBeginning<C>,
+    A: Allocator = Global,
+> {
     seated: SeatedPe<C, H, J, A>,
     agenda: Agenda<OfRun<C, H>, A>,
     // For how many turns the first note has been owed.
@@ -43,7 +48,8 @@ pub struct Worker<C: Chare<A>, H: Openings<C> + RunStrategy, J: RunBeginning<C>,
     fault: Option<Fault>,
 }
 
-impl<C: Chare<A>, H: Openings<C> + RunStrategy, J: RunBeginning<C>, A: Allocator> Model for Worker<C, H, J, A> {
+impl<C: Chare<A>, H: Openings<C> + RunStrategy, J: RunBeginning<C>, A: Allocator> Model
+    for Worker<C, H, J, A> {
     ghost use Rattle.std.specs.Prelude.{IfSome, ◌≢◌};
     ghost use Rattle.pe_worker.specs.Workers.{WorkerView};
     ghost use Rattle.pe_worker.specs.declared.fault.Fault.TheVariants.{Mismatch, Unpack};
@@ -55,7 +61,12 @@ impl<C: Chare<A>, H: Openings<C> + RunStrategy, J: RunBeginning<C>, A: Allocator
     ghost invariant = { λ w. IfSome w.fault (λ fault. (fault ≢ Unpack) × (fault ≢ Mismatch)) };
 }
 
-impl<C: Chare<A>, H: Openings<C> + RunStrategy, J: RunBeginning<C>, A: Allocator> Worker<C, H, J, A> {
+impl<C: Chare<A>, H: Openings<C> + RunStrategy, J: RunBeginning<C>, A: Allocator> Worker<
+    C,
+    H,
+    J,
+    A,
+> {
     /// A worker that has done nothing.
     pub fn new(seated: SeatedPe<C, H, J, A>, agenda: Agenda<OfRun<C, H>, A>) -> Self
         ensures made { result ≡ record { seated = seated; fault = None } }
@@ -97,7 +108,8 @@ impl<C: Chare<A>, H: Openings<C> + RunStrategy, J: RunBeginning<C>, A: Allocator
     }
 }
 
-impl<C: Chare<A>, H: Openings<C> + RunStrategy, J: RunBeginning<C>, A: Allocator> Work for Worker<C, H, J, A> {
+impl<C: Chare<A>, H: Openings<C> + RunStrategy, J: RunBeginning<C>, A: Allocator> Work
+    for Worker<C, H, J, A> {
     ghost number = { λ w. w.seated.pe.me };
 
     fn number(&self) -> u32 {
@@ -105,7 +117,8 @@ impl<C: Chare<A>, H: Openings<C> + RunStrategy, J: RunBeginning<C>, A: Allocator
     }
 }
 
-impl<C: Chare<A>, H: Openings<C> + RunStrategy, J: RunBeginning<C>, A: Allocator> Ended for Worker<C, H, J, A> {
+impl<C: Chare<A>, H: Openings<C> + RunStrategy, J: RunBeginning<C>, A: Allocator> Ended
+    for Worker<C, H, J, A> {
     ghost use Rattle.std.specs.Prelude.{Some};
     ghost use Rattle.std.specs.Option.{option_or};
     ghost use Rattle.pe_worker.specs.declared.fault.Fault.TheVariants.{OutOfMemory};
@@ -123,7 +136,12 @@ impl<C: Chare<A>, H: Openings<C> + RunStrategy, J: RunBeginning<C>, A: Allocator
     }
 }
 
-impl<C: Chare<A>, H: Openings<C> + RunStrategy, J: RunBeginning<C>, A: Allocator + Copy> Worker<C, H, J, A> {
+impl<C: Chare<A>, H: Openings<C> + RunStrategy, J: RunBeginning<C>, A: Allocator + Copy> Worker<
+    C,
+    H,
+    J,
+    A,
+> {
     /// Starts the elements of its PE, and then takes turns until every element has finished, this worker meets a fault, or
     /// another one has. A fault sets the stop flag for all. Whatever happens, it keeps what its PE holds. Who looks on is told of
     /// each round that it decides, and asked before each start and each turn whether the run is to stop.
@@ -244,7 +262,12 @@ impl<C: Chare<A>, H: Openings<C> + RunStrategy, J: RunBeginning<C>, A: Allocator
     }
 }
 
-impl<C: Chare<A>, H: Openings<C> + RunStrategy, J: RunBeginning<C>, A: Allocator + Copy> Worker<C, H, J, A> {
+impl<C: Chare<A>, H: Openings<C> + RunStrategy, J: RunBeginning<C>, A: Allocator + Copy> Worker<
+    C,
+    H,
+    J,
+    A,
+> {
     // Acts on what is in the hand. An element there arrives, and is due.
     fn act<G: Gate>(&mut self, gate: &G) -> Result<bool, Fault>
         ensures same_me { self.new.seated.pe.me ≡ self.old.seated.pe.me }
@@ -374,7 +397,9 @@ impl<C: Chare<A>, H: Openings<C> + RunStrategy, J: RunBeginning<C>, A: Allocator
 }
 
 // The element in the hand of a PE, if there is one.
-fn arriving<C: Chare<A>, H: Openings<C> + RunStrategy, A: Allocator>(pe: &PeState<C, H, A>) -> Option<Index> {
+fn arriving<C: Chare<A>, H: Openings<C> + RunStrategy, A: Allocator>(
+    pe: &PeState<C, H, A>,
+) -> Option<Index> {
     let item = pe.hand()?;
     let Carried::Element(element) = &item.parcel else {
         return None;

@@ -16,7 +16,12 @@ use std::alloc::{AllocError, Allocator};
 use std::collections::VecDeque;
 
 /// A worker for each PE, in order, with its seat and its agenda. The only error is that memory was refused.
-pub(crate) fn open_workers<C: Chare<A>, H: Openings<C> + RunStrategy, J: RunBeginning<C>, A: Allocator + Copy>(
+pub(crate) fn open_workers<
+    C: Chare<A>,
+    H: Openings<C> + RunStrategy,
+    J: RunBeginning<C>,
+    A: Allocator + Copy,
+>(
     alloc: A,
     count: u32,
     mut states: VecDeque<PeState<C, H, A>, A>,

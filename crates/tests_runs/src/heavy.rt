@@ -25,8 +25,7 @@ fn is_decided_so(outcome: &Outcome<Errand>, load: Units, bottleneck: u64) -> boo
     let [(snapshot, decision)] = outcome.rounds() else {
         return false;
     };
-    snapshot.loads().as_slice() == [load, load].as_slice()
-        && decision.bottleneck() == bottleneck
+    snapshot.loads().as_slice() == [load, load].as_slice() && decision.bottleneck() == bottleneck
 }
 
 fn runs_so<R: Threads + Wait + Sync + Abort + AllocGlobal>(rt: &R, row: &Row) -> bool {

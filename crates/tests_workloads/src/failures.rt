@@ -19,7 +19,14 @@ fn cut_off<R: Threads + Wait + Sync + Abort + AllocGlobal>(
 ) -> (Driven<Global>, Vec<u8>) {
     let mut reader = Source::new(WORKED, 1, Some((at, kind)));
     let mut text = Vec::new(rt.alloc());
-    let driven = drive(rt, rt.alloc(), &mut reader, &mut text, TURNS, Strategy::Least);
+    let driven = drive(
+        rt,
+        rt.alloc(),
+        &mut reader,
+        &mut text,
+        TURNS,
+        Strategy::Least,
+    );
     (driven, text)
 }
 
@@ -51,7 +58,14 @@ fn behind_a_fault<R: Threads + Wait + Sync + Abort + AllocGlobal>(
 ) -> (Ended, usize) {
     let mut reader = Source::new(b"pes 257\nrounds", 1, Some((at, ErrorKind::Other)));
     let mut text = Vec::new(rt.alloc());
-    let driven = drive(rt, rt.alloc(), &mut reader, &mut text, TURNS, Strategy::Least);
+    let driven = drive(
+        rt,
+        rt.alloc(),
+        &mut reader,
+        &mut text,
+        TURNS,
+        Strategy::Least,
+    );
     let ended = driven.ended;
     drop(driven);
     drop(text);
@@ -74,7 +88,14 @@ fn is_cut<R: Threads + Wait + Sync + Abort + AllocGlobal>(
 ) -> bool {
     let mut reader = WORKED;
     let mut writer = Sink::new(rt, 7, at, error);
-    let driven = drive(rt, rt.alloc(), &mut reader, &mut writer, TURNS, Strategy::Least);
+    let driven = drive(
+        rt,
+        rt.alloc(),
+        &mut reader,
+        &mut writer,
+        TURNS,
+        Strategy::Least,
+    );
     let right = driven.ended == Ended::WriteFailed && driven.status() == 5;
     let rounds = driven.rounds().len() == 2;
     drop(driven);
@@ -97,7 +118,14 @@ fn a_writer_that_fails_at_any_call(rt: HostRuntime) {
 fn a_writer_that_takes_a_byte_at_a_time(rt: HostRuntime) {
     let mut reader = WORKED;
     let mut writer = Sink::new(&rt, 1, usize::MAX, None);
-    let driven = drive(&rt, rt.alloc(), &mut reader, &mut writer, TURNS, Strategy::Least);
+    let driven = drive(
+        &rt,
+        rt.alloc(),
+        &mut reader,
+        &mut writer,
+        TURNS,
+        Strategy::Least,
+    );
     let right = driven.ended == Ended::Ran(None);
     drop(driven);
     assert!(rt; right && writer.taken.as_slice() == WORKED_TEXT.as_bytes());

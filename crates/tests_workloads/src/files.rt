@@ -51,7 +51,15 @@ fn ends<R: Threads + Wait + Sync + Abort + AllocGlobal>(
 ) -> bool {
     let seen = Seen::new();
     let mut text = Vec::new(rt.alloc());
-    let (driven, found) = drive_file(rt, rt.alloc(), file, &mut text, TURNS, Strategy::Least, &seen);
+    let (driven, found) = drive_file(
+        rt,
+        rt.alloc(),
+        file,
+        &mut text,
+        TURNS,
+        Strategy::Least,
+        &seen,
+    );
     let right = driven.ended == ended && found.map(|error| error.kind()) == reason;
     drop(driven);
     let (want, rounds) = told;

@@ -37,7 +37,14 @@ pub(crate) fn driven<R: Threads + Wait + Sync + Abort + AllocGlobal>(
 ) -> (Driven<Global>, Vec<u8>) {
     let mut reader = workload;
     let mut text = Vec::new(rt.alloc());
-    let driven = drive(rt, rt.alloc(), &mut reader, &mut text, TURNS, Strategy::Least);
+    let driven = drive(
+        rt,
+        rt.alloc(),
+        &mut reader,
+        &mut text,
+        TURNS,
+        Strategy::Least,
+    );
     (driven, text)
 }
 

@@ -23,8 +23,8 @@ mod random;
 #[cfg(test)]
 mod refused_memory;
 #[cfg(test)]
-mod words;
-#[cfg(test)]
 mod tolerances;
+#[cfg(test)]
+mod words;
 #[cfg(test)]
 mod worked;

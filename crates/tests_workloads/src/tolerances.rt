@@ -32,7 +32,12 @@ const KEPT_TEXT: &str = "round 1 bottleneck 7 moved 0\n\
 // 166 thousandths above 6 are less than 1, and 167 are more.
 #[test]
 fn a_tolerance_keeps_what_lies_within_it(rt: HostRuntime) {
-    for (thousandths, want) in &[(0, WORKED_TEXT), (166, WORKED_TEXT), (167, KEPT_TEXT), (1_000, KEPT_TEXT)] {
+    for (thousandths, want) in &[
+        (0, WORKED_TEXT),
+        (166, WORKED_TEXT),
+        (167, KEPT_TEXT),
+        (1_000, KEPT_TEXT),
+    ] {
         let (driven, text) = driven_within(&rt, *thousandths);
         drop(driven);
         let same = text.as_slice() == want.as_bytes();

@@ -2,8 +2,8 @@
 
 ghost use Rattle.std.specs.Prelude.{◌≡◌};
 
-use at_sync::Strategy;
 use crate::fixtures::assert_for;
+use at_sync::Strategy;
 use chare_index::Pe;
 use chares::{Carried, Chare, Entry, Letter, Openings, TraceEntry};
 use rts_core::{

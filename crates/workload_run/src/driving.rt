@@ -103,7 +103,15 @@ fn drive_watched<
     W: Write,
     V: Onlooker + Sync,
     A: Allocator + Copy + Send + Sync,
->(rt: &T, alloc: A, reader: &mut R, writer: &mut W, turns: u64, strategy: Strategy, watch: &V) -> Driven<A>
+>(
+    rt: &T,
+    alloc: A,
+    reader: &mut R,
+    writer: &mut W,
+    turns: u64,
+    strategy: Strategy,
+    watch: &V,
+) -> Driven<A>
     requires some_turn { 1 ≤ turns }
     requires few_turns { turns ≤ Limits.IDLE_TURNS }
     ensures ends { EndsDrive ⟦<Tally<A> as Pup<A>>⟧.fits strategy (R.remaining reader.old) (R.remaining reader.new)
@@ -137,7 +145,15 @@ fn run_workload<
     W: Write,
     V: Onlooker + Sync,
     A: Allocator + Copy + Send + Sync,
->(rt: &T, alloc: A, workload: Workload<A>, writer: &mut W, turns: u64, strategy: Strategy, watch: &V) -> Driven<A>
+>(
+    rt: &T,
+    alloc: A,
+    workload: Workload<A>,
+    writer: &mut W,
+    turns: u64,
+    strategy: Strategy,
+    watch: &V,
+) -> Driven<A>
     requires some_turn { 1 ≤ turns }
     requires few_turns { turns ≤ Limits.IDLE_TURNS }
     requires within { IsWithin workload }
