@@ -4,6 +4,7 @@
 //! The methods are those of the crates: a shortest path through the cuts, layer by layer, each between two bounds.
 
 use crate::decision::Chain;
+use std::ops::Range;
 
 /// Places from which on a height is greater, each with the rise.
 pub type Steps = Vec<(u32, u64)>;
@@ -56,7 +57,7 @@ impl Order {
     }
 }
 
-/// Of each place the least start of a block within the limit that ends there.
+/// For each place the least start of a block within the limit that ends there.
 fn least_starts(sums: &[u64], limit: u64) -> Vec<u32> {
     let mut start = 0;
     let least = sums.iter().map(|&sum| {
@@ -68,7 +69,7 @@ fn least_starts(sums: &[u64], limit: u64) -> Vec<u32> {
     least.collect()
 }
 
-/// Where each block may begin, from here on: as far as blocks within the limit reach, but no farther than the present cut.
+/// The first place of each block's row: as far as blocks within the limit reach, but no farther than the present cut.
 fn first_places(starts: &[u32], present: &[usize]) -> Vec<usize> {
     let mut first = vec![0; present.len() - 1];
     for block in 1..first.len() {
@@ -78,7 +79,7 @@ fn first_places(starts: &[u32], present: &[usize]) -> Vec<usize> {
     first
 }
 
-/// And up to here: the least start of what comes behind it, but no nearer than the present cut.
+/// The last place of each block's row: the least start before that of the next block, but no nearer than the present cut.
 fn last_places(starts: &[u32], present: &[usize]) -> Vec<usize> {
     let mut last = present.to_vec();
     for block in (0..last.len() - 1).rev() {
@@ -109,11 +110,13 @@ fn heights(chain: &Chain, order: &Order, starts: &[u32]) -> Vec<Steps> {
     heights
 }
 
-/// A cut between the blocks of two PEs, where it is, and where it may be. The block before it begins nowhere before the least.
+/// The cut between the block of one PE and that of another.
 struct Cut {
     from: u32,
     to: u32,
+    /// The first place of the row of the block before it.
     least: usize,
+    /// The first and the last place of the row of the block behind it, and where it is at present.
     first: usize,
     present: usize,
     last: usize,
@@ -123,22 +126,27 @@ impl Cut {
     /// Writes the row of the block behind this cut over that of the block before it: at each place the least that it takes to
     /// cut there or farther on. No start lies behind its end, so each number is read before it is written over.
     fn write(&self, chain: &Chain, starts: &[u32], row: &mut [u64]) {
-        let mut cost = (self.present..self.last).map(|element| held(chain, element, self.to)).sum::<u64>();
-        let mut least = u64::MAX;
-        for place in (self.first..=self.last).rev() {
-            if place < self.last {
-                cost = cost + held(chain, place, self.from) - held(chain, place, self.to);
-            }
-            let start = (starts[place] as usize).max(self.least);
-            least = least.min(row[start] + cost);
+        let mut cost: u64 = elements(chain, self.present..self.last).map(|element| held(element, self.to)).sum();
+        let mut least = row[self.least.max(starts[self.last] as usize)] + cost;
+        row[self.last] = least;
+        let places = self.first..self.last;
+        let before = places.clone().zip(elements(chain, places.clone())).zip(&starts[places]);
+        for ((place, element), &start) in before.rev() {
+            cost = cost + held(element, self.from) - held(element, self.to);
+            least = least.min(row[self.least.max(start as usize)] + cost);
             row[place] = least;
         }
     }
 }
 
+/// The sizes and places of elements of a chain.
+fn elements(chain: &Chain, range: Range<usize>) -> impl DoubleEndedIterator<Item = (u32, u32)> + ExactSizeIterator {
+    chain.sizes[range.clone()].iter().copied().zip(chain.places[range].iter().copied())
+}
+
 /// The bytes of an element that stand on a PE.
-fn held(chain: &Chain, element: usize, pe: u32) -> u64 {
-    if chain.places[element] == pe { u64::from(chain.sizes[element]) } else { 0 }
+fn held((size, place): (u32, u32), pe: u32) -> u64 {
+    if place == pe { u64::from(size) } else { 0 }
 }
 
 /// The steps of a row from its first place on. Before that it is level.

@@ -1,11 +1,11 @@
 #!/usr/bin/env python3
-"""Compares what a program prints of `--tolerance T FILE` with what the search of search_all.py says, as texts.py writes it.
+"""Compares what a program prints for `--tolerance T FILE` with what the search of search_all.py says, as texts.py writes it.
 
     compare.py PROGRAM [--chains 500] [--least]
 
-The dumps are those of texts.py and so many chains of search_all.py, those on whose PEs all elements are. Where several namings are
-cheapest a program may print any: its own has to move the bytes that the search says. With --least the texts have to be the same
-byte for byte. The status is 0 where all are as they have to be.
+The dumps are those of texts.py, with some tolerances each, and so many chains of search_all.py, all of whose elements are on PEs of
+theirs. Several namings of the blocks may be cheapest: what the program prints has to be one of them. With --least it has to be the
+least, so that the texts are the same byte for byte: lb_sim itself prints that. The status is 0 where all are as they have to be.
 """
 import argparse
 import os
@@ -16,18 +16,22 @@ import sys
 import tempfile
 from contextlib import redirect_stdout
 from io import StringIO
-from itertools import count, islice
+from itertools import chain, count, islice
 
 sys.dont_write_bytecode = True
 import search_all  # noqa: E402
 import texts  # noqa: E402
 
 
-def chains():
-    """Names, numbers of PEs and tolerances of dumps, and the dumps themselves."""
-    for name, (step, procs, loads, sizes, places) in list(texts.DUMPS.items()):
+def named():
+    """The dumps of texts.py: the name, the number of PEs, and a tolerance."""
+    for name, (_, pes, *_) in list(texts.DUMPS.items()):
         for tolerance in (0, 20, 167, 500, 1000):
-            yield name, procs, tolerance
+            yield name, pes, tolerance
+
+
+def drawn():
+    """The same of the chains of search_all.py, which are put with the others under their seeds."""
     for seed in count():
         loads, sizes, places, pes, tolerance = search_all.chain(seed)
         if all(place < pes for place in places):
@@ -75,7 +79,7 @@ def main():
     asked = words.parse_args()
     same, alike = 0, 0
     with tempfile.TemporaryDirectory() as folder:
-        for name, pes, tolerance in islice(chains(), 25 + asked.chains):
+        for name, pes, tolerance in chain(named(), islice(drawn(), asked.chains)):
             there, here = searched(name, pes, tolerance), printed(asked.program, folder, name, tolerance)
             if here == there:
                 same += 1
