@@ -33,11 +33,17 @@ impl Decision {
         let bottleneck = least_bottleneck(&chain.loads, &sums, pes);
         let cuts = cut(&sums, pes, bottleneck);
         let fence = fence(&sums, pes, bottleneck);
-        let costs = costs(chain, &cuts, pes);
-        let names = names(&costs, pes);
-        let moved = names.iter().enumerate().map(|(block, &pe)| costs[block * pes + pe] as u64).sum();
+        let (names, moved) = named(chain, &cuts, pes);
         Decision { bottleneck, cuts, fence, names, moved, sums }
     }
+}
+
+/// The cheapest names of these blocks, and the bytes that move.
+pub fn named(chain: &Chain, cuts: &[usize], pes: usize) -> (Vec<usize>, u64) {
+    let costs = costs(chain, cuts, pes);
+    let names = names(&costs, pes);
+    let moved = names.iter().enumerate().map(|(block, &pe)| costs[block * pes + pe] as u64).sum();
+    (names, moved)
 }
 
 fn running_sums(loads: &[u64]) -> Vec<u64> {

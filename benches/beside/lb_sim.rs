@@ -1,9 +1,11 @@
 //! A yardstick for `lb_sim`: reads a dump, decides, and prints the same text, in plain Rust without proofs.
 //!
-//!     lb_sim FILE
+//!     lb_sim [--tolerance T] FILE
 mod decision;
+mod refinement;
 
-use decision::{Chain, Decision};
+use decision::{Chain, Decision, named};
+use refinement::Refinement;
 use std::fs::File;
 use std::io::{self, Read, Write};
 use std::process::ExitCode;
@@ -99,8 +101,22 @@ fn read(file: File) -> io::Result<(u32, u32, Chain)> {
     if is_past { fault("an element is out of its limits") } else { Ok((step, pes, chain)) }
 }
 
+/// So many thousandths above a bottleneck, rounded down.
+fn limit(bottleneck: u64, tolerance: u32) -> u64 {
+    bottleneck + (u128::from(bottleneck) * u128::from(tolerance) / 1000) as u64
+}
+
+/// The decision within a limit: the plan, where no cuts near the present ones move fewer bytes.
+fn within(plan: Decision, chain: &Chain, pes: usize, limit: u64) -> Decision {
+    let Some(Refinement { cuts, .. }) = Refinement::of(chain, &plan.sums, pes, limit) else {
+        return plan;
+    };
+    let (names, moved) = named(chain, &cuts, pes);
+    if plan.moved <= moved { plan } else { Decision { cuts, names, moved, ..plan } }
+}
+
 /// What lb_sim prints.
-fn text(step: u32, pes: u32, chain: &Chain, decision: &Decision, out: &mut impl Write) -> io::Result<()> {
+fn text(step: u32, pes: u32, chain: &Chain, decision: &Decision, limit: Option<u64>, out: &mut impl Write) -> io::Result<()> {
     writeln!(out, "step {step} procs {pes} elements {}", chain.loads.len())?;
     writeln!(out, "bottleneck {}", decision.bottleneck)?;
     write!(out, "fence")?;
@@ -111,6 +127,9 @@ fn text(step: u32, pes: u32, chain: &Chain, decision: &Decision, out: &mut impl 
         write!(out, " {stop}")?;
     }
     writeln!(out)?;
+    if let Some(limit) = limit {
+        writeln!(out, "limit {limit}")?;
+    }
     for (block, (ends, pe)) in decision.cuts.windows(2).zip(&decision.names).enumerate() {
         let (from, to) = (ends[0], ends[1]);
         write!(out, "block {block} {from}..{to} load {}", decision.sums[to] - decision.sums[from])?;
@@ -123,21 +142,37 @@ fn text(step: u32, pes: u32, chain: &Chain, decision: &Decision, out: &mut impl 
     writeln!(out, "moved {}", decision.moved)
 }
 
-fn run(path: &str) -> io::Result<()> {
+fn run(path: &str, tolerance: Option<u32>) -> io::Result<()> {
     let (step, pes, chain) = read(File::open(path)?)?;
-    let decision = Decision::of(&chain, pes as usize);
+    let mut decision = Decision::of(&chain, pes as usize);
+    let limit = tolerance.map(|tolerance| limit(decision.bottleneck, tolerance));
+    if let Some(limit) = limit {
+        decision = within(decision, &chain, pes as usize, limit);
+    }
     let mut out = io::BufWriter::with_capacity(65_536, io::stdout().lock());
-    text(step, pes, &chain, &decision, &mut out)?;
+    text(step, pes, &chain, &decision, limit, &mut out)?;
     out.flush()
+}
+
+/// The file and the tolerance, in thousandths.
+fn asked(words: &[String]) -> Option<(&str, Option<u32>)> {
+    match words {
+        [path] => Some((path, None)),
+        [option, tolerance, path] if option == "--tolerance" => {
+            let tolerance = tolerance.parse().ok().filter(|&tolerance| tolerance <= 1000)?;
+            Some((path, Some(tolerance)))
+        }
+        _ => None,
+    }
 }
 
 fn main() -> ExitCode {
     let words: Vec<String> = std::env::args().skip(1).collect();
-    let [path] = words.as_slice() else {
-        eprintln!("usage: lb_sim FILE");
+    let Some((path, tolerance)) = asked(&words) else {
+        eprintln!("usage: lb_sim [--tolerance T] FILE");
         return ExitCode::from(2);
     };
-    match run(path) {
+    match run(path, tolerance) {
         Ok(()) => ExitCode::SUCCESS,
         Err(error) => {
             eprintln!("lb_sim: {path}: {error}");
