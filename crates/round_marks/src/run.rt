@@ -1,13 +1,13 @@
 //! The marks of all elements of a run: in the rooms, the hands and the outboxes of its PEs, and in its queues.
 
-ghost use Rattle.std.specs.Prelude.{◌<◌, ◌↔◌, All, IfSome, IsTrue, SomeIff, map};
+ghost use Rattle.std.specs.Prelude.{◌≡◌, ◌<◌, ◌≤◌, ◌↔◌, All, IfSome, IsTrue, SomeIff, map};
 ghost use Rattle.lb_database.specs.Measuring.{elements};
 ghost use Rattle.rts_core.specs.Worlds.{home};
 ghost use Rattle.round_marks.specs.Runs.{AreAllMarked, IsMarked, IsMarkedOn, IsMarkedParcel, IsMarkedPe};
 
 use crate::marks::marks_agree;
 use at_sync::Board;
-use chare_index::{Index, Pe, opening_pe};
+use chare_index::{Index, Limits, Pe, opening_pe};
 use chares::{Carried, Chare, Element, Mark};
 use pe_state::{HeldParcel, Item, PeEnd};
 use std::alloc::Allocator;
@@ -142,9 +142,18 @@ fn parcel_agrees<A: Allocator>(board: &Board<A>, parcel: &HeldParcel<A>) -> bool
 fn home_of<A: Allocator>(board: &Board<A>, e: Index) -> Option<Pe>
     ensures { SomeIff result (e < elements board.now.database) (home e (elements board.now.database) board.now.pes) }
 {
-    let (n, _rounds) = (board.len(), board.rounds());
-    if n <= e.get() as usize {
+    let n = element_count(board);
+    let _rounds = board.rounds();
+    if n <= e.get() {
         return None;
     }
-    Some(opening_pe(e, n as u32, board.pes()))
+    Some(opening_pe(e, n, board.pes()))
+}
+
+// How many elements the board has.
+fn element_count<A: Allocator>(board: &Board<A>) -> u32
+    ensures value { result ≡ elements board.now.database }
+    ensures few { result ≤ Limits.ELEMENTS }
+{
+    board.len() as u32
 }

@@ -398,9 +398,8 @@ fn stays_within(decision: &Refined) -> bool {
 
 #[test]
 fn a_tolerance_keeps_what_lies_within_it(rt: HostRuntime) {
-    let tolerance = Tolerance::new(167);
     for gated in [false, true] {
-        let mut board = four_reported(&rt, Strategy::within(tolerance));
+        let mut board = four_reported(&rt, Strategy::within(Tolerance::new(167)));
         let decided = if gated {
             board.decide_with(&rt, 2, &NoGate)
         } else {

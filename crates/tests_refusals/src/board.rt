@@ -2,7 +2,7 @@
 
 use crate::fixtures::{Lent, assert_for, assert_requests};
 use at_sync::{Board, BoardError, Strategy};
-use chare_index::{NoGate, Round};
+use chare_index::{NoGate, Pe, Round};
 use std::alloc::{AllocError, Allocator};
 use std::process::Abort;
 use std::thread::Threads;
@@ -37,9 +37,16 @@ fn new_boards(rt: HostRuntime) {
 // refused shows in what is decided.
 fn two_reported<A: Allocator + Copy>(alloc: A) -> Option<Board<A>> {
     let mut board = Board::new(alloc, 2, 2, Strategy::Least).ok()?;
-    let _taken = board.report(0, round(1), 3, 5, pe(0)).is_ok();
-    let _taken = board.report(1, round(1), 3, 5, pe(1)).is_ok();
+    reports(&mut board, 0, pe(0));
+    reports(&mut board, 1, pe(1));
     Some(board)
+}
+
+// An element reports from this PE, where the board has it.
+fn reports<A: Allocator>(board: &mut Board<A>, i: u32, place: Pe) {
+    if place.get() < board.pes() {
+        let _taken = board.report(i, round(1), 3, 5, place).is_ok();
+    }
 }
 
 // The same, where no memory for them ends the test.
