@@ -1,4 +1,7 @@
 use Rattle.rts_run.proofs.running.run_watched.Given as goal
 
-abbrev pub ghosts-run_as : goal.ghosts-run_as
-ghosts-run_as g a = record { opened = a.chares.items; pes = a.config.now.pes; strategy = a.config.now.strategy }
+abbrev pub ghosts-run_as-H-Openings : goal.ghosts-run_as-H-Openings
+ghosts-run_as-H-Openings g a = record { opened = a.chares.items; pes = a.config.now.pes }
+
+abbrev pub ghosts-run_as-H-RunStrategy : goal.ghosts-run_as-H-RunStrategy
+ghosts-run_as-H-RunStrategy g a = record { strategy = a.config.now.strategy }
