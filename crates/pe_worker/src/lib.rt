@@ -8,6 +8,7 @@ mod field;
 mod rounds;
 mod seated;
 mod steps;
+mod telling;
 mod watch;
 mod worker;
 
@@ -15,5 +16,5 @@ pub use agenda::Agenda;
 pub use fault::Fault;
 pub use field::Field;
 pub use seated::{OfRun, RunBeginning, SeatedPe};
-pub use watch::{NoWatch, Watch};
+pub use watch::{NoWatch, PeStep, Watch};
 pub use worker::Worker;

@@ -1,4 +1,26 @@
-use chare_index::Round;
+use chare_index::{Index, Pe, Round};
+use chares::LetterId;
+
+/// What a worker did with its PE in one step. Posts are counted beside it: see [`Watch::made_step`].
+#[derive(Clone, Copy, Debug, PartialEq, Eq)]
+pub enum PeStep {
+    /// The element started: its handler ran for round 0.
+    Started(Index),
+    /// The element executed the letter: its handler ran.
+    Executed(LetterId, Index),
+    /// The letter came before its element, and waits on the shelf.
+    Shelved(LetterId),
+    /// The letter was forwarded to where its element has gone.
+    Forwarded(LetterId),
+    /// The element arrived.
+    Installed(Index),
+    /// The worker handed notes of its elements to the board.
+    Reported,
+    /// The element left for this PE, its place in the round that was decided.
+    Departed(Index, Pe),
+    /// The element went on after this round: its handler ran.
+    Resumed(Index, Round),
+}
 
 /// Who looks on at a run, and may ask it to stop. Nothing else in the run depends on it.
 pub trait Watch {
@@ -13,6 +35,20 @@ pub trait Watch {
     fn wants_stop(&self) -> bool {
         false
     }
+
+    /// Whether [`begins_step`](Watch::begins_step) and [`made_step`](Watch::made_step) are called. A run whose watch answers
+    /// no pays nothing for them.
+    fn follows_steps(&self) -> bool {
+        false
+    }
+
+    /// The worker of this PE begins a step that may run a handler. If the step turns out not to be enabled, no
+    /// [`made_step`](Watch::made_step) follows.
+    fn begins_step(&self, _pe: Pe) {}
+
+    /// The worker of this PE made this step, after which the PE has posted so many letters, numbered from 0 on. Each worker
+    /// calls it for its own PE, without a lock, and the run waits meanwhile.
+    fn made_step(&self, _pe: Pe, _step: PeStep, _posted: u64) {}
 }
 
 /// Nobody looks on, and nobody asks the run to stop.

@@ -8,7 +8,8 @@ use crate::agenda::Agenda;
 use crate::fault::{Fault, fault_of};
 use crate::field::Field;
 use crate::seated::{OfRun, RunBeginning, SeatedPe};
-use crate::watch::Watch;
+use crate::telling::{after, after_act, after_going_on, before_act, before_element};
+use crate::watch::{PeStep, Watch};
 use at_sync::BoardError;
 use barrier::{RunBoard, RunStrategy};
 use chare_index::{Gate, Index, Pe};
@@ -185,13 +186,13 @@ impl<C: Chare<A>, H: Openings<C> + RunStrategy, J: RunBeginning<C>, A: Allocator
             if watch.wants_stop() {
                 return Err(Fault::Stopped);
             }
-            self.start_next(gate)?;
+            self.start_next(gate, watch)?;
         }
         Ok(())
     }
 
     // Starts the element that is due next.
-    fn start_next<G: Gate>(&mut self, gate: &G) -> Result<(), Fault>
+    fn start_next<G: Gate, V: Watch>(&mut self, gate: &G, watch: &V) -> Result<(), Fault>
         ensures same_me { self.new.seated.pe.me ≡ self.old.seated.pe.me }
         ensures unpacks { IfErr result (λ fault. fault ≢ Unpack) }
         ensures no_mismatch { IfErr result (λ fault. fault ≢ Mismatch) }
@@ -199,8 +200,14 @@ impl<C: Chare<A>, H: Openings<C> + RunStrategy, J: RunBeginning<C>, A: Allocator
         let Some(element) = self.agenda.next_due() else {
             return Ok(());
         };
+        before_element(watch, self.seated.pe());
         match self.seated.start(gate, element) {
-            Ok(_) => Ok(()),
+            Ok(started) => {
+                if started {
+                    after(watch, self.seated.pe(), PeStep::Started(element));
+                }
+                Ok(())
+            }
             Err(error) => Err(fault_of(error)),
         }
     }
@@ -252,11 +259,11 @@ impl<C: Chare<A>, H: Openings<C> + RunStrategy, J: RunBeginning<C>, A: Allocator
     {
         let delivered = self.seated.deliver(rt, &field.post);
         let looked = self.seated.look(&field.words);
-        let acted = self.act(gate)?;
+        let acted = self.act(gate, watch)?;
         let flushed = self.seated.flush(rt, &field.post);
-        let went_on = self.go_on(rt, gate, field)?;
+        let went_on = self.go_on(rt, gate, watch, field)?;
         let busy = delivered || looked || acted || flushed || went_on;
-        let reported = self.report(rt, field, busy)?;
+        let reported = self.report(rt, watch, field, busy)?;
         let decided = self.decide(rt, gate, watch, field)?;
         Ok(busy || reported || decided)
     }
@@ -269,7 +276,7 @@ impl<C: Chare<A>, H: Openings<C> + RunStrategy, J: RunBeginning<C>, A: Allocator
     A,
 > {
     // Acts on what is in the hand. An element there arrives, and is due.
-    fn act<G: Gate>(&mut self, gate: &G) -> Result<bool, Fault>
+    fn act<G: Gate, V: Watch>(&mut self, gate: &G, watch: &V) -> Result<bool, Fault>
         ensures same_me { self.new.seated.pe.me ≡ self.old.seated.pe.me }
         ensures unpacks { IfErr result (λ fault. fault ≢ Unpack) }
         ensures no_mismatch { IfErr result (λ fault. fault ≢ Mismatch) }
@@ -279,8 +286,10 @@ impl<C: Chare<A>, H: Openings<C> + RunStrategy, J: RunBeginning<C>, A: Allocator
                 return Err(Fault::OutOfMemory);
             }
         }
+        let held = before_act(watch, self.seated.pe());
         match self.seated.act(gate) {
             Ok(acted) => {
+                after_act(watch, self.seated.pe(), held, acted);
                 if acted == Some(Acted::Executed) {
                     self.executed = self.executed.saturating_add(1);
                 }
@@ -291,10 +300,11 @@ impl<C: Chare<A>, H: Openings<C> + RunStrategy, J: RunBeginning<C>, A: Allocator
     }
 
     // Lets one element go on that is due.
-    fn go_on<G: Gate, R: Wait>(
+    fn go_on<G: Gate, V: Watch, R: Wait>(
         &mut self,
         rt: &R,
         gate: &G,
+        watch: &V,
         field: &Field<C, H, J, A>,
     ) -> Result<bool, Fault>
         ensures same_me { self.new.seated.pe.me ≡ self.old.seated.pe.me }
@@ -307,11 +317,17 @@ impl<C: Chare<A>, H: Openings<C> + RunStrategy, J: RunBeginning<C>, A: Allocator
         let Some(element) = self.agenda.next_due() else {
             return Ok(false);
         };
+        before_element(watch, self.seated.pe());
         match self
             .seated
             .go_on(gate, &field.words, &self.agenda.places, element)
         {
-            Ok(done) => Ok(done),
+            Ok(done) => {
+                if done {
+                    after_going_on(watch, self.seated.pe(), &self.agenda.places, element);
+                }
+                Ok(done)
+            }
             Err(error) => Err(fault_of(error)),
         }
     }
@@ -332,9 +348,10 @@ impl<C: Chare<A>, H: Openings<C> + RunStrategy, J: RunBeginning<C>, A: Allocator
 
     // Hands in the notes that are owed, all under one lock: at once where there was nothing else to do, and otherwise once
     // there are many of them, or the first has been owed for long.
-    fn report<R: Wait>(
+    fn report<V: Watch, R: Wait>(
         &mut self,
         rt: &R,
+        watch: &V,
         field: &Field<C, H, J, A>,
         busy: bool,
     ) -> Result<bool, Fault>
@@ -362,6 +379,10 @@ impl<C: Chare<A>, H: Openings<C> + RunStrategy, J: RunBeginning<C>, A: Allocator
         self.completes = board.is_complete();
         if board.all_finished() {
             field.tell_finished();
+        }
+        drop(guard);
+        if handed {
+            after(watch, self.seated.pe(), PeStep::Reported);
         }
         Ok(handed)
     }

@@ -65,4 +65,11 @@ impl<C: Chare<A>, H: Openings<C>, A: Allocator> Queue<C, H, A> {
     {
         &self.parcels
     }
+
+    /// The parcels by value, the front first.
+    pub fn into_parcels(self) -> VecDeque<Parcel<C, H, A>, A>
+        ensures value { result.items ≡ self }
+    {
+        self.parcels
+    }
 }

@@ -207,6 +207,27 @@ impl<C: Chare<A>, H: Openings<C>, A: Allocator> World<C, H, A> {
         &self.board
     }
 
+    /// Its PEs, the queue before each, and the board, each by value. The words are given up. The clauses `world`,
+    /// `histories`, `sent` and `counted` say what its type said.
+    pub fn into_parts(self) -> (Vec<PeState<C, H, A>, A>, Vec<Queue<C, H, A>, A>, Board<A>)
+        ensures pes { result.0.items ≡ self.pes }
+        ensures queues { result.1.items ≡ self.queues }
+        ensures board { result.2 ≡ self.board }
+        ensures world { IsWorld (length H.opened) H.pes self }
+        ensures histories { AreHistories C.step C.fits C.pack H.opened self }
+        ensures sent { AreSent C.step H.opened self }
+        ensures counted { IsCounted self }
+    {
+        let World {
+            pes,
+            queues,
+            words: _,
+            board,
+            alloc: _,
+        } = self;
+        (pes, queues, board)
+    }
+
     /// How many letters were posted, how many of them were executed, and how many are held in places. This takes no
     /// memory. It looks at each PE and at each parcel on its way, but not into journals: what was posted and is not held
     /// was executed.

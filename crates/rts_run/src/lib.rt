@@ -22,5 +22,5 @@ pub use chain_refinement::Tolerance;
 pub use config::Config;
 pub use error::{RunError, Setting};
 pub use outcome::Outcome;
-pub use pe_worker::{Fault, NoWatch, Watch};
+pub use pe_worker::{Fault, NoWatch, PeStep, Watch};
 pub use running::{run, run_watched};

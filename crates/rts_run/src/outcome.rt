@@ -51,8 +51,9 @@ impl<C: Chare<A>, A: Allocator> Model for Outcome<C, A> {
 }
 
 impl<C: Chare<A>, A: Allocator> Outcome<C, A> {
-    /// What a run left, with as many letters posted as are held and were executed.
-    pub(crate) fn new(
+    /// What a run left, with as many letters posted as are held and were executed: its PEs, what is left in the queue of
+    /// each, the board, and why it ended early, if it did. [`into_parts`](Outcome::into_parts) gives them back.
+    pub fn new(
         ends: Vec<PeEnd<C, A>, A>,
         left: Vec<Vec<HeldParcel<A>, A>, A>,
         board: Board<A>,
