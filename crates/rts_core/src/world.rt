@@ -207,12 +207,20 @@ impl<C: Chare<A>, H: Openings<C>, A: Allocator> World<C, H, A> {
         &self.board
     }
 
-    /// Its PEs, the queue before each, and the board, each by value. The words are given up. The clauses `world`,
+    /// Its PEs, the queue before each, the words of the elements, and the board, each by value. The clauses `world`,
     /// `histories`, `sent` and `counted` say what its type said.
-    pub fn into_parts(self) -> (Vec<PeState<C, H, A>, A>, Vec<Queue<C, H, A>, A>, Board<A>)
+    pub fn into_parts(
+        self,
+    ) -> (
+        Vec<PeState<C, H, A>, A>,
+        Vec<Queue<C, H, A>, A>,
+        Vec<Pe, A>,
+        Board<A>,
+    )
         ensures pes { result.0.items ≡ self.pes }
         ensures queues { result.1.items ≡ self.queues }
-        ensures board { result.2 ≡ self.board }
+        ensures words { result.2.items ≡ self.words }
+        ensures board { result.3 ≡ self.board }
         ensures world { IsWorld (length H.opened) H.pes self }
         ensures histories { AreHistories C.step C.fits C.pack H.opened self }
         ensures sent { AreSent C.step H.opened self }
@@ -221,11 +229,11 @@ impl<C: Chare<A>, H: Openings<C>, A: Allocator> World<C, H, A> {
         let World {
             pes,
             queues,
-            words: _,
+            words,
             board,
             alloc: _,
         } = self;
-        (pes, queues, board)
+        (pes, queues, words, board)
     }
 
     /// How many letters were posted, how many of them were executed, and how many are held in places. This takes no
