@@ -208,7 +208,7 @@ impl<C: Chare<A>, H: Openings<C>, A: Allocator> World<C, H, A> {
     }
 
     /// Its PEs, the queue before each, the words of the elements, and the board, each by value. The clauses `world`,
-    /// `histories`, `sent` and `counted` say what its type said.
+    /// `histories` and `counted` say what its type said.
     pub fn into_parts(
         self,
     ) -> (
@@ -223,7 +223,6 @@ impl<C: Chare<A>, H: Openings<C>, A: Allocator> World<C, H, A> {
         ensures board { result.3 ≡ self.board }
         ensures world { IsWorld (length H.opened) H.pes self }
         ensures histories { AreHistories C.step C.fits C.pack H.opened self }
-        ensures sent { AreSent C.step H.opened self }
         ensures counted { IsCounted self }
     {
         let World {
