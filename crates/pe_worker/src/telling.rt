@@ -44,12 +44,20 @@ pub(crate) fn after_act<V: Watch, C: Chare<A>, H: Openings<C>, A: Allocator>(
 
 // The step that an act was.
 fn act_of(held: Option<InHand>, acted: Option<Acted>) -> Option<PeStep> {
-    match (held?, acted?) {
-        (InHand::Letter(id, element), Acted::Executed) => Some(PeStep::Executed(id, element)),
-        (InHand::Letter(id, _), Acted::Shelved) => Some(PeStep::Shelved(id)),
-        (InHand::Letter(id, _), Acted::Forwarded) => Some(PeStep::Forwarded(id)),
-        (InHand::Element(element), _) => Some(PeStep::Installed(element)),
-        _ => None,
+    let acted = acted?;
+    match held? {
+        InHand::Letter(id, element) => letter_step(id, element, acted),
+        InHand::Element(element) => Some(PeStep::Installed(element)),
+    }
+}
+
+// The step that an act on a letter was.
+fn letter_step(id: LetterId, element: Index, acted: Acted) -> Option<PeStep> {
+    match acted {
+        Acted::Executed => Some(PeStep::Executed(id, element)),
+        Acted::Shelved => Some(PeStep::Shelved(id)),
+        Acted::Forwarded => Some(PeStep::Forwarded(id)),
+        Acted::Installed => None,
     }
 }
 
