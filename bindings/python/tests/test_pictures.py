@@ -68,7 +68,7 @@ def shown_texts(axes):
     texts += legend.get_texts() if legend else []
     if axes.axison:
         texts += [axes.xaxis.label, axes.yaxis.label]
-        for axis, (low, high) in ((axes.xaxis, axes.get_xlim()), (axes.yaxis, axes.get_ylim())):
+        for axis, (low, high) in ((axes.xaxis, sorted(axes.get_xlim())), (axes.yaxis, sorted(axes.get_ylim()))):
             ticks = [tick for tick in axis.get_major_ticks() if low <= tick.get_loc() <= high and tick.label1.get_visible()]
             texts += [tick.label1 for tick in ticks]
     return texts

@@ -2,6 +2,8 @@
 asked.
 
 python3 -m tezgumi page FILE.. -o OUT: a page that shows the rounds of these dumps in a browser.
+
+python3 -m tezgumi timeline FILE --plot OUT: a picture of what happened in a run, by its trace.
 """
 from __future__ import annotations
 
@@ -11,6 +13,7 @@ import sys
 from typing import List, Sequence
 
 import tezgumi
+from tezgumi.traces import read_trace, timeline_of
 
 # As those of lb_sim: words that are not understood have 2, by argparse.
 RIGHT, DUMP_FAULT, FLAWED, FAILED = 0, 3, 4, 5
@@ -19,10 +22,11 @@ RIGHT, DUMP_FAULT, FLAWED, FAILED = 0, 3, 4, 5
 def main(words: Sequence[str] | None = None) -> int:
     words = sys.argv[1:] if words is None else words
     # The word alone is a file of that name.
-    is_page = len(words) > 1 and words[0] == "page"
-    asked = _page_parser().parse_args(words[1:]) if is_page else _parser().parse_args(words)
+    named = {"page": (_page_parser, _write_page), "timeline": (_timeline_parser, _draw_timeline)}
+    parser, answer = named.get(words[0], (_parser, _answer)) if len(words) > 1 else (_parser, _answer)
+    asked = parser().parse_args(words if parser is _parser else words[1:])
     try:
-        return _write_page(asked) if is_page else _answer(asked)
+        return answer(asked)
     except (tezgumi.DumpError, tezgumi.TraceError) as error:
         return _fail(error, DUMP_FAULT)
     except (tezgumi.TezgumiError, OSError, ImportError) as error:
@@ -32,7 +36,8 @@ def main(words: Sequence[str] | None = None) -> int:
 def _parser() -> argparse.ArgumentParser:
     parser = argparse.ArgumentParser(
         prog=_name(), description="Plans the run of a dump, checks the decision, and prints its figures.",
-        epilog=f"{_name()} page FILE.. -o OUT writes a page that shows the rounds of a run in a browser; page --help tells more.")
+        epilog=f"{_name()} page FILE.. -o OUT writes a page that shows the rounds of a run in a browser, and {_name()} timeline "
+        "FILE --plot OUT draws a trace; page --help and timeline --help tell more.")
     parser.add_argument("file", metavar="FILE", help="a dump, LBD1 or LBD2")
     parser.add_argument("--version", action="version", version=f"tezgumi {tezgumi.__version__}")
     parser.add_argument(
@@ -58,6 +63,19 @@ def _page_parser() -> argparse.ArgumentParser:
     parser.add_argument(
         "--tolerance", type=_tolerance, metavar="N",
         help="decide anew within N thousandths of the least load, 0 to 1000, where fewer bytes move by that")
+    return parser
+
+
+def _timeline_parser() -> argparse.ArgumentParser:
+    parser = argparse.ArgumentParser(
+        prog=_name() + " timeline", description="Draws what happened in a run: the handlers of each PE in the colors of their "
+        "elements, letters and elements that go from one PE to another, and decisions.")
+    parser.add_argument("file", metavar="FILE", help="a trace, in the Trace Event Format")
+    parser.add_argument(
+        "--plot", type=_picture, metavar="OUT", required=True, help="draw into this file, .png, .pdf or .svg")
+    parser.add_argument("--title", metavar="TEXT", help="what stands above the picture; the name of the file, if left out")
+    parser.add_argument(
+        "--unit", metavar="TEXT", default="microseconds", help="what its times are: microseconds, or events in a run by a seed")
     return parser
 
 
@@ -141,12 +159,27 @@ def _draw(
         verdict: tezgumi.Verdict) -> None:
     import tezgumi_plot
 
-    look = {"title": os.path.basename(asked.file), "medium": "print" if asked.plot.lower().endswith(".pdf") else "screen"}
+    look = {"title": os.path.basename(asked.file), "medium": _medium(asked)}
     if len(decisions) == 1:
         picture = tezgumi_plot.decision(run, decisions[0], checked=verdict, **look)
     else:
         picture = tezgumi_plot.sweep(swept, **look)
     tezgumi_plot.save(picture, asked.plot)
+
+
+def _draw_timeline(asked: argparse.Namespace) -> int:
+    import tezgumi_plot
+
+    told = timeline_of(read_trace(asked.file))
+    picture = tezgumi_plot.timeline(told, asked.title or os.path.basename(asked.file), _medium(asked), asked.unit)
+    tezgumi_plot.save(picture, asked.plot)
+    counts = ", ".join(f"{count:,} {word}{'' if count == 1 else 's'}" for word, count in told.counts().items())
+    print(f"{asked.plot}: {counts}")
+    return RIGHT
+
+
+def _medium(asked: argparse.Namespace) -> str:
+    return "print" if asked.plot.lower().endswith(".pdf") else "screen"
 
 
 def _fail(error: Exception, status: int) -> int:

@@ -1,4 +1,4 @@
-"""What happened in a run, from a file in the Trace Event Format (as chrome://tracing and Perfetto read it), for a page.
+"""What happened in a run, from a file in the Trace Event Format (as chrome://tracing and Perfetto read it), for others to show.
 
 Of the events these are taken: complete events (X) and pairs of a beginning and an end (B, E), which are slices in the row of
 their process and thread; instants (i, I); flows (s, t, f), each of which makes arrows from one place to the next; counters
@@ -19,7 +19,7 @@ _Event = Dict[str, Any]
 _Row = Tuple[Any, Any]
 
 MOST_EVENTS = 200_000
-"""So many events of a trace a page shows at most: the earliest ones."""
+"""So many events of a trace are shown at most: the earliest ones."""
 
 
 def read_trace(path: _Path) -> List[_Event]:
@@ -63,10 +63,17 @@ class _Names:
         return self.numbers.setdefault(str(text), len(self.numbers))
 
 
-class _Timeline:
-    """The events of a trace, put in order: rows, slices, instants, arrows and counters."""
+class Timeline:
+    """The events of a trace, put in order: rows, slices, instants, arrows and counters. Times are nanoseconds.
 
-    def __init__(self) -> None:
+    A slice has its start, its length, its row, and the numbers of two texts: its name and its element, of which none is "". An
+    instant has its time, its row, the number of its name, and whether it is one of all rows. An arrow has the time and the row
+    where it starts and where it ends, the number of its name, and whether an element moves. A decision is an instant of all
+    rows: its time, and its round or "".
+    """
+
+    def __init__(self, events: int) -> None:
+        self.events, self.start, self.others = events, 0, 0
         self.names = _Names()
         self.rows: Dict[_Row, int] = {}
         self.told: Dict[_Row, str] = {}
@@ -74,9 +81,18 @@ class _Timeline:
         self.instants: List[Tuple[int, int, int, int]] = []
         self.arrows: List[Tuple[int, int, int, int, int, int]] = []
         self.counters: Dict[Tuple[str, str], List[Tuple[int, float]]] = defaultdict(list)
+        self.decisions: List[Tuple[int, str]] = []
         self.open: Dict[int, List[_Event]] = defaultdict(list)
         self.flows: Dict[Tuple[str, str, str], Tuple[int, int]] = {}
-        self.others = 0
+
+    @property
+    def left_out(self) -> int:
+        return max(0, self.events - MOST_EVENTS)
+
+    def counts(self) -> Dict[str, int]:
+        """How many handlers ran, letters went to another PE, elements moved to one, and decisions were made."""
+        gone = [moves for _, row, _, other, _, moves in self.arrows if row != other]
+        return {"handler": len(self.slices), "letter": gone.count(0), "element": gone.count(1), "decision": len(self.decisions)}
 
     def row(self, event: _Event) -> int:
         return self.rows.setdefault(_row_of(event), len(self.rows))
@@ -105,14 +121,14 @@ class _Timeline:
         self._slice({**event, **first}, start, max(nanoseconds(event["ts"]) - start, 0))
 
     def _slice(self, event: _Event, start: int, long: int) -> None:
-        arguments = event.get("args")
-        element = arguments.get("element") if isinstance(arguments, dict) else None
-        told = self.names.number("" if element is None else element)
+        told = self.names.number(_argument(event, "element"))
         self.slices.append((start, long, self.row(event), self.names.number(event.get("name", "")), told))
 
     def _instant(self, event: _Event) -> None:
         whole = event.get("s") == "g"
         row = 0 if whole else self.row(event)
+        if whole:
+            self.decisions.append((nanoseconds(event["ts"]), _argument(event, "round")))
         self.instants.append((nanoseconds(event["ts"]), row, self.names.number(event.get("name", "")), int(whole)))
 
     def _flow(self, event: _Event) -> None:
@@ -140,6 +156,13 @@ class _Timeline:
             self.told[_row_of(event)] = str(arguments.get("name", ""))
 
 
+def _argument(event: _Event, name: str) -> str:
+    """An argument of an event as a text, or "" where it has none of this name."""
+    arguments = event.get("args")
+    value = arguments.get(name) if isinstance(arguments, dict) else None
+    return "" if value is None else str(value)
+
+
 def _row_of(event: _Event) -> _Row:
     process, thread = (event.get(name, 0) for name in ("pid", "tid"))
     return (process if isinstance(process, int) else str(process)), (thread if isinstance(thread, int) else str(thread))
@@ -158,19 +181,26 @@ def nanoseconds(microseconds: float) -> int:
     return round(microseconds * 1000)
 
 
-def packed(events: List[_Event]) -> Tuple[Dict[str, Any], str]:
-    """What a page holds of a trace: its description, and its numbers in letters."""
-    timeline = _Timeline()
+def timeline_of(events: List[_Event]) -> Timeline:
+    """The timeline of the events that read_trace answered, the earliest of them where there are too many."""
+    timeline = Timeline(len(events))
     for row in sorted({_row_of(event) for event in events if _is_in_a_row(event)}, key=_order_of_rows):
         timeline.rows[row] = len(timeline.rows)
     order = sorted(range(len(events)), key=lambda k: (events[k].get("ts", 0) if events[k]["ph"] != "M" else -1, k))
     for k in order[:MOST_EVENTS]:
         timeline.take(events[k])
     timeline.others += sum(len(opened) for opened in timeline.open.values())
-    start = min((nanoseconds(event["ts"]) for event in events if event["ph"] != "M"), default=0)
+    timeline.start = min((nanoseconds(event["ts"]) for event in events if event["ph"] != "M"), default=0)
+    return timeline
+
+
+def packed(events: List[_Event]) -> Tuple[Dict[str, Any], str]:
+    """What a page holds of a trace: its description, and its numbers in letters."""
+    timeline = timeline_of(events)
+    start = timeline.start
     described = {
-        "rows": _row_names(timeline), "names": list(timeline.names.numbers), "events": len(events), "others": timeline.others,
-        "left_out": max(0, len(events) - MOST_EVENTS),
+        "rows": row_names(timeline), "names": list(timeline.names.numbers), "events": len(events), "others": timeline.others,
+        "left_out": timeline.left_out,
         "counters": [
             {"name": name, "series": series, "at": [at - start for at, _ in values], "values": [value for _, value in values]}
             for (name, series), values in timeline.counters.items()],
@@ -179,7 +209,8 @@ def packed(events: List[_Event]) -> Tuple[Dict[str, Any], str]:
     return described, letters
 
 
-def _row_names(timeline: _Timeline) -> List[str]:
+def row_names(timeline: Timeline) -> List[str]:
+    """What each row is called."""
     several = len({process for process, _ in timeline.rows}) > 1
     told = []
     for process, thread in timeline.rows:
@@ -188,7 +219,7 @@ def _row_names(timeline: _Timeline) -> List[str]:
     return told
 
 
-def _columns(timeline: _Timeline, start: int) -> List[Tuple[str, List[int]]]:
+def _columns(timeline: Timeline, start: int) -> List[Tuple[str, List[int]]]:
     # The rows of a table as columns, and times from the first one on.
     tables: Tuple[Tuple[Tuple[str, ...], Sequence[Tuple[int, ...]]], ...] = (
         (("slice_at", "slice_long", "slice_row", "slice_name", "slice_element"), timeline.slices),

@@ -7,9 +7,11 @@
     picture = tezgumi_plot.decision(run, decision, checked=tezgumi.check(run, decision))
     tezgumi_plot.save(picture, "decision.png")
 
-`decision` and `sweep` answer a matplotlib Figure, which a notebook shows. medium="print" makes it fit a page.
+`decision`, `sweep` and `timeline`, of a trace, answer a matplotlib Figure, which a notebook shows. medium="print" makes it fit a
+page.
 """
 from .paper import save
 from .pictures import decision, sweep
+from .timelines import timeline
 
-__all__ = ["decision", "save", "sweep"]
+__all__ = ["decision", "save", "sweep", "timeline"]

@@ -4,7 +4,7 @@ import numpy as np
 import tezgumi
 
 from .palette import FAINT, INK, QUIET
-from .paper import count_axis, number_axis, points_wide, text_width
+from .paper import count_axis, number_axis, points_high, points_wide, text_width
 
 PAIRS = 40
 """So many PEs have a pair of bars each; for more the loads before are a line."""
@@ -38,7 +38,7 @@ def draw_limits(axes, decision, average):
     axes.axhline(heights[0], color=INK, linewidth=1.0 * unit)
     axes.axhline(heights[1], color=INK, linewidth=1.0 * unit, linestyle=(0, (4, 3)))
     # Names of lines that are near each other are moved apart.
-    line = size * 1.25 / (axes.get_position().height * axes.figure.get_figheight() * 72)
+    line = size * 1.25 / points_high(axes)
     at = [heights[0] / top, heights[1] / top]
     if at[0] - at[1] < line:
         middle = max(sum(at) / 2, line / 2)

@@ -74,6 +74,11 @@ def points_wide(axes):
     return axes.get_position().width * axes.figure.get_figwidth() * 72
 
 
+def points_high(axes):
+    """The height of axes in points."""
+    return axes.get_position().height * axes.figure.get_figheight() * 72
+
+
 def text_width(text, size):
     return 0.62 * size * len(text)
 

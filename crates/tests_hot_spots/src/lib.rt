@@ -10,3 +10,5 @@ mod plain;
 mod refused_memory;
 #[cfg(test)]
 mod runs;
+#[cfg(test)]
+mod schedules;

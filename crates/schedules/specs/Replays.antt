@@ -1,0 +1,37 @@
+-- What a run by a list of events comes to.
+use Rattle.std.specs.Prelude.{◌≡◌, ℕ, List, ◌∷◌, ◌++◌, length, Option, None, Some, Result}
+use Rattle.chares.specs.Steps.{Step}
+use Rattle.pup_pack.specs.declared.error.PupError.{PupError}
+use Rattle.rts_core.specs.Worlds.{opening_world}
+use Rattle.rts_core.specs.declared.event.Event.{Event}
+use Rattle.rts_run.specs.declared.error.RunError.TheVariants as Why
+use Rattle.schedules.specs.Courses.{CourseView, ExploredView, IsEnabled, Leads, events_of}
+use Rattle.schedules.specs.Schedules.{MayExplore, RefusesSchedule}
+use Rattle.schedules.specs.declared.error.ReplayError.{ReplayError}
+use Rattle.schedules.specs.declared.error.ReplayError.TheVariants as Ends
+use Rattle.schedules.specs.declared.schedule.Schedule.{Schedule}
+
+-- those events of a list have happened: all of them, or those before the one that was refused
+abbrev pub FollowsTo : List Event → List Event → Option Event → Type 0
+FollowsTo events happened None = events ≡ happened
+FollowsTo events happened (Some refused) = (rest : List Event) × (events ≡ happened ++ refused ∷ rest)
+
+abbrev pub Follows : {C A : Type 0} → List Event → ExploredView C A → Type 0
+Follows events x = FollowsTo events (events_of x.steps) x.refused
+
+module _ {C A : Type 0} (step : Step C) (pack : C → List ℕ) (unpack : List ℕ → Result (C × ℕ) PupError) where
+  -- the event with this index is not enabled in the world to which those before it have led
+  abbrev pub StopsAt : List Event → CourseView C A → ℕ → Type 0
+  StopsAt events course at =
+      (event : Event) × (rest : List Event) × (events ≡ events_of course.steps ++ event ∷ rest)
+      × (length course.steps ≡ at) × ¬ (IsEnabled step pack unpack course.world event)
+
+module _ {C : Type 0} (A : Type 0) (step : Step C) (pack : C → List ℕ) (unpack : List ℕ → Result (C × ℕ) PupError) where
+  -- a list of events is not repeated on these chares: a number is out of its limits, or memory was refused, or an event is not enabled
+  -- after those before it
+  abbrev pub RefusesReplay : List C → Schedule → List Event → ReplayError → Type 0
+  RefusesReplay chares schedule events (Ends.Config setting) = RefusesSchedule schedule (length chares) (Why.Config setting)
+  RefusesReplay chares schedule events Ends.OutOfMemory = MayExplore schedule (length chares)
+  RefusesReplay chares schedule events (Ends.NotEnabled at) =
+      (course : CourseView C A) × Leads step pack unpack (opening_world schedule.pes chares course.strategy) course.steps course.world
+      × (course.strategy ≡ schedule.strategy) × StopsAt step pack unpack events course at

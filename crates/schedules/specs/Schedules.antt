@@ -1,0 +1,19 @@
+-- When a run on one thread does not begin, and for what.
+use Rattle.std.specs.Prelude.{ℕ, ◌≤◌}
+use Rattle.chare_index.specs.declared.limits.TheConstants.Limits.{PES, ELEMENTS}
+use Rattle.rts_run.specs.Configs.{IsOneTo}
+use Rattle.rts_run.specs.declared.error.RunError.{RunError}
+use Rattle.rts_run.specs.declared.error.RunError.TheVariants as Why
+use Rattle.rts_run.specs.declared.error.Setting.TheVariants as Of
+use Rattle.schedules.specs.declared.schedule.Schedule.{Schedule}
+
+-- n elements may run on the PEs of a schedule
+abbrev pub MayExplore : Schedule → ℕ → Type 0
+MayExplore schedule n = IsOneTo PES schedule.pes × (n ≤ ELEMENTS)
+
+-- the first number that is out of its limits, or that memory was refused
+abbrev pub RefusesSchedule : Schedule → ℕ → RunError → Type 0
+RefusesSchedule schedule n (Why.Config Of.Pes) = ¬ (IsOneTo PES schedule.pes)
+RefusesSchedule schedule n (Why.Config Of.Elements) = IsOneTo PES schedule.pes × ¬ (n ≤ ELEMENTS)
+RefusesSchedule schedule n (Why.Config setting) = ⊥
+RefusesSchedule schedule n Why.OutOfMemory = MayExplore schedule n

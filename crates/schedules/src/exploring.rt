@@ -1,0 +1,124 @@
+//! Runs by a seed.
+
+ghost use Rattle.std.specs.Prelude.{◌≡◌, ◌+◌, ◌≤◌, [], IfOk, MatchResult, length};
+ghost use Rattle.schedules.specs.Courses.{IsExplored};
+ghost use Rattle.schedules.specs.Schedules.{MayExplore, RefusesSchedule};
+
+use crate::chooser::Chooser;
+use crate::course::Course;
+use crate::explored::Explored;
+use crate::leaving::{Ending, leave};
+use crate::schedule::Schedule;
+use chare_index::{Limits, Pe};
+use chares::{Chare, Openings};
+use pe_state::StepError;
+use rts_core::{Event, World};
+use rts_run::RunError;
+use std::alloc::{AllocError, Allocator};
+use std::marker::Brand;
+
+/// Runs chares on one thread until every element has finished and no letter is held, the events of the schedule are used up,
+/// nothing is enabled, or a handler meets a fault; and returns what that left. Element `i` is the `i`-th chare, and opens on PE
+/// `i * pes / n`, rounded down, of `n` elements. Each next event is drawn among those that are enabled, by a generator with this
+/// seed: docs/SCHEDULES.md says how. The same schedule, seed and chares always lead to the same steps.
+///
+/// Of what it returns the clause `explored` says: the steps lead from the opening to the world that is left, each of them
+/// enabled; each letter that was posted is in one place or was executed once, by its own element; each element is what its
+/// journal says; and without a fault every element has finished and no letter is held.
+///
+/// # Errors
+///
+/// The first that applies: [`Config`](RunError::Config) where the number of PEs is out of its limits, or there are more than
+/// [`Limits::ELEMENTS`] chares; [`OutOfMemory`](RunError::OutOfMemory) before the first step or after the last. Where memory is
+/// refused in a step, that is the fault of what is returned.
+pub fn explore<C: Chare<A>, A: Allocator + Copy>(
+    alloc: A,
+    schedule: &Schedule,
+    seed: u64,
+    chares: Vec<C, A>,
+) -> Result<Explored<C, A>, RunError>
+    ensures answer { MatchResult result (λ _. MayExplore schedule.now (length chares.items)) (RefusesSchedule schedule.now (length chares.items)) }
+    ensures explored { IfOk result (IsExplored C.step C.fits C.pack C.unpack chares.items schedule.now.pes schedule.now.strategy) }
+    ensures few { IfOk result (λ x. length x.steps ≤ schedule.now.steps) }
+{
+    if let Some(setting) = schedule.first_outside(chares.len()) {
+        return Err(RunError::Config(setting));
+    }
+    match explore_as::<C, Brand, A>(alloc, schedule, seed, chares) {
+        Ok(explored) => Ok(explored),
+        Err(_) => Err(RunError::OutOfMemory),
+    }
+}
+
+// The run of the chares that `H` names.
+fn explore_as<C: Chare<A>, H: Openings<C>, A: Allocator + Copy>(
+    alloc: A,
+    schedule: &Schedule,
+    seed: u64,
+    chares: Vec<C, A>,
+) -> Result<Explored<C, A>, AllocError>
+    requires may { MayExplore schedule.now (length chares.items) }
+    requires run { schedule.now.pes ≡ H.pes }
+    requires opened { chares.items ≡ H.opened }
+    ensures explored { IfOk result (IsExplored C.step C.fits C.pack C.unpack H.opened H.pes schedule.now.strategy) }
+    ensures few { IfOk result (λ x. length x.steps ≤ schedule.now.steps) }
+{
+    let mut course = Course::<C, H, A>::new(alloc, schedule.pes, chares, schedule.strategy)?;
+    let mut chooser = Chooser::new(alloc, course.world(), seed, schedule.bias)?;
+    let ending = draw_steps(&mut course, &mut chooser, schedule.steps);
+    leave(alloc, course, ending)
+}
+
+// Takes one step after another, up to so many.
+fn draw_steps<C: Chare<A>, H: Openings<C>, A: Allocator + Copy>(
+    course: &mut Course<C, H, A>,
+    chooser: &mut Chooser<A>,
+    steps: u64,
+) -> Ending
+    requires fresh { course.old.steps ≡ [] }
+    ensures strategy { course.new.strategy ≡ course.old.strategy }
+    ensures few { length course.new.steps ≤ steps }
+{
+    for _step in 0..steps {
+        if chooser.is_done(course.world()) {
+            return Ending::at_last();
+        }
+        let Some(event) = chooser.draw(course.world()) else {
+            return Ending::idle();
+        };
+        if let Err(error) = draw_step(course, chooser, &event) {
+            return Ending::refused(error, event);
+        }
+    }
+    Ending::at_last()
+}
+
+// Takes a step that was drawn, and sees what it has changed.
+fn draw_step<C: Chare<A>, H: Openings<C>, A: Allocator + Copy>(
+    course: &mut Course<C, H, A>,
+    chooser: &mut Chooser<A>,
+    event: &Event,
+) -> Result<(), StepError>
+    ensures strategy { course.new.strategy ≡ course.old.strategy }
+    ensures few { length course.new.steps ≤ length course.old.steps + 1 }
+{
+    let to = goes_to(course.world(), event);
+    if !course.take(event)? {
+        return Ok(());
+    }
+    if let Some(step) = course.steps().last() {
+        chooser.see(course.world(), event, to, step.entries());
+    }
+    Ok(())
+}
+
+// The PE whose queue an event puts a parcel into.
+fn goes_to<C: Chare<A>, H: Openings<C>, A: Allocator>(
+    world: &World<C, H, A>,
+    event: &Event,
+) -> Option<Pe> {
+    let Event::Flush(p) = event else {
+        return None;
+    };
+    world.pe(*p)?.front_out()
+}

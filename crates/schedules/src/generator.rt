@@ -1,0 +1,31 @@
+//! The generator of the numbers by which events are drawn.
+
+/// SplitMix64, the generator of G. Steele, D. Lea and C. Flood, "Fast splittable pseudorandom number generators", OOPSLA 2014.
+/// Its state is a number of 64 bits, the seed at first.
+#[derive(Clone, Copy, Debug, PartialEq, Eq)]
+pub struct SplitMix64 {
+    state: u64,
+}
+
+impl SplitMix64 {
+    /// The generator with this seed.
+    pub fn new(seed: u64) -> Self {
+        SplitMix64 { state: seed }
+    }
+
+    /// The next number.
+    pub fn next(&mut self) -> u64 {
+        self.state = self.state.wrapping_add(0x9e37_79b9_7f4a_7c15);
+        let mut z = self.state;
+        z = (z ^ (z >> 30)).wrapping_mul(0xbf58_476d_1ce4_e5b9);
+        z = (z ^ (z >> 27)).wrapping_mul(0x94d0_49bb_1331_11eb);
+        z ^ (z >> 31)
+    }
+
+    /// The next number, scaled to one below this bound: the upper half of their product, as D. Lemire has it ("Fast random
+    /// integer generation in an interval", 2019), without a second draw. It is 0 where the bound is.
+    pub fn below(&mut self, bound: u64) -> u64 {
+        let product = u128::from(self.next()).wrapping_mul(u128::from(bound));
+        (product >> 64) as u64
+    }
+}

@@ -1,0 +1,145 @@
+//! What a course leaves.
+
+ghost use Rattle.std.specs.Prelude.{◌≡◌, IfOk, IfSome, None, Some, map};
+ghost use Rattle.schedules.specs.Courses.{IsDone, IsExplored};
+
+use crate::course::Course;
+use crate::explored::Explored;
+use chares::{Chare, Openings};
+use pe_state::{HeldParcel, PeEnd, PeState, StepError, into_held};
+use rts_core::{Event, Queue, World};
+use rts_run::{Fault, Outcome};
+use run_account::take_next;
+use std::alloc::{AllocError, Allocator};
+use std::collections::VecDeque;
+
+/// Why a course ended, where a fault ended it, and the event that was refused.
+#[derive(Clone, Copy)]
+pub(crate) struct Ending {
+    pub(crate) fault: Option<Fault>,
+    pub(crate) refused: Option<Event>,
+}
+
+impl Ending {
+    /// No event was refused, and whether the course is done is seen from its world.
+    pub(crate) fn at_last() -> Self
+        ensures refused { result.refused ≡ None }
+    {
+        Ending {
+            fault: None,
+            refused: None,
+        }
+    }
+
+    /// Nothing is enabled, and yet the course is not done.
+    pub(crate) fn idle() -> Self
+        ensures refused { result.refused ≡ None }
+    {
+        Ending {
+            fault: Some(Fault::Idle),
+            refused: None,
+        }
+    }
+
+    /// This event was refused.
+    pub(crate) fn refused(error: StepError, event: Event) -> Self
+        ensures refused { result.refused ≡ Some event }
+    {
+        Ending {
+            fault: Some(fault_of(error)),
+            refused: Some(event),
+        }
+    }
+}
+
+// The fault that a refused step comes to.
+fn fault_of(error: StepError) -> Fault {
+    match error {
+        StepError::OutOfMemory => Fault::OutOfMemory,
+        StepError::Unpack => Fault::Unpack,
+        StepError::Stranger => Fault::Stranger,
+        StepError::TooLong => Fault::TooLong,
+        StepError::Worn => Fault::Worn,
+    }
+}
+
+/// What a course left that ended so.
+pub(crate) fn leave<C: Chare<A>, H: Openings<C>, A: Allocator + Copy>(
+    alloc: A,
+    course: Course<C, H, A>,
+    ending: Ending,
+) -> Result<Explored<C, A>, AllocError>
+    ensures explored { IfOk result (IsExplored C.step C.fits C.pack C.unpack H.opened H.pes course.strategy) }
+    ensures steps { IfOk result (λ x. x.steps ≡ course.steps) }
+    ensures refused { IfOk result (λ x. x.refused ≡ ending.refused) }
+{
+    let (world, steps) = course.into_parts();
+    let fault = fault_at_end(&world, ending.fault);
+    let (pes, queues, words, board) = world.into_parts();
+    let ends = ends_of(alloc, pes)?;
+    let left = left_in(alloc, queues)?;
+    let outcome = Outcome::new(ends, left, board, fault);
+    Ok(Explored::new(outcome, words, steps, ending.refused))
+}
+
+// The fault of a world that met this one. Where none was met, and yet it is not done, its events were used up.
+fn fault_at_end<C: Chare<A>, H: Openings<C>, A: Allocator>(
+    world: &World<C, H, A>,
+    met: Option<Fault>,
+) -> Option<Fault>
+    ensures met { IfSome met (λ fault. result ≡ Some fault) }
+    ensures done { result ≡ None → IsDone world.now }
+{
+    if met.is_some() {
+        return met;
+    }
+    if world.board().all_finished() && world.account().held == 0 {
+        return None;
+    }
+    Some(Fault::Stopped)
+}
+
+// The ends of these PEs.
+fn ends_of<C: Chare<A>, H: Openings<C>, A: Allocator + Copy>(
+    alloc: A,
+    pes: Vec<PeState<C, H, A>, A>,
+) -> Result<Vec<PeEnd<C, A>, A>, AllocError>
+    ensures value { IfOk result (λ ends. ends.items ≡ pes.items) }
+{
+    let mut ends = Vec::new(alloc);
+    let mut states = VecDeque::from_vec(pes);
+    while let Some(pe) = take_next(&mut states) {
+        ends.push(pe.into_end())?;
+    }
+    Ok(ends)
+}
+
+// What is left in these queues.
+fn left_in<C: Chare<A>, H: Openings<C>, A: Allocator + Copy>(
+    alloc: A,
+    queues: Vec<Queue<C, H, A>, A>,
+) -> Result<Vec<Vec<HeldParcel<A>, A>, A>, AllocError>
+    ensures value { IfOk result (λ left. map (λ q. q.items) left.items ≡ queues.items) }
+{
+    let mut left = Vec::new(alloc);
+    let mut queues = VecDeque::from_vec(queues);
+    while let Some(queue) = take_next(&mut queues) {
+        left.push(parcels_of(alloc, queue)?)?;
+    }
+    Ok(left)
+}
+
+// What is left in a queue.
+fn parcels_of<C: Chare<A>, H: Openings<C>, A: Allocator + Copy>(
+    alloc: A,
+    queue: Queue<C, H, A>,
+) -> Result<Vec<HeldParcel<A>, A>, AllocError>
+    ensures value { IfOk result (λ left. left.items ≡ queue) }
+{
+    let mut left = Vec::new(alloc);
+    let mut parcels = queue.into_parcels();
+    while let Some(parcel) = take_next(&mut parcels) {
+        left.push(into_held(parcel))?;
+    }
+    Ok(left)
+}

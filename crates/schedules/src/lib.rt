@@ -1,0 +1,36 @@
+//! Runs of chares on one thread, in any order of events: found by a seed, repeated, and made short.
+//!
+//! - [`explore`]: runs chares under a [`Schedule`]; each next event is drawn among those that are enabled, by a seed.
+//! - [`replay`]: runs them by a list of events; [`replay_enabled`] leaves out those that are not enabled.
+//! - [`shrink`]: finds a shorter list of events that a [`Suspect`] still calls bad.
+//! - [`Explored`]: what that left: an [`Outcome`](rts_run::Outcome) as of a run over threads, and each [`Step`].
+//!
+//! docs/SCHEDULES.md says how an event is drawn, so that a seed means the same in every version.
+#![tactic(auto)]
+
+mod bias;
+mod chooser;
+mod course;
+mod error;
+mod explored;
+mod exploring;
+mod generator;
+mod laws;
+mod leaving;
+mod number_set;
+mod replaying;
+mod schedule;
+mod shrinking;
+mod step;
+mod trying;
+
+pub use bias::Bias;
+pub use error::ReplayError;
+pub use explored::Explored;
+pub use exploring::explore;
+pub use generator::SplitMix64;
+pub use laws::course_laws;
+pub use replaying::{replay, replay_enabled};
+pub use schedule::Schedule;
+pub use shrinking::{Cast, Suspect, shrink};
+pub use step::Step;

@@ -1,0 +1,49 @@
+ghost use Rattle.std.specs.Prelude.{◌≡◌, MatchOption};
+ghost use Rattle.rts_run.specs.declared.error.RunError.TheVariants.{Config};
+ghost use Rattle.schedules.specs.Schedules.{MayExplore, RefusesSchedule};
+
+use crate::bias::Bias;
+use at_sync::Strategy;
+use chare_index::Limits;
+use rts_run::Setting;
+
+/// The numbers of a run on one thread, and how its events are drawn.
+#[derive(Clone, Copy, Debug, PartialEq)]
+pub struct Schedule {
+    /// On how many PEs it runs, 1 to [`Limits::PES`].
+    pub pes: u32,
+    /// How each round is decided.
+    pub strategy: Strategy,
+    /// After how many events it is stopped.
+    pub steps: u64,
+    /// What is drawn more often.
+    pub bias: Bias,
+}
+
+impl Schedule {
+    /// The usual one on so many PEs, 1 to [`Limits::PES`]: rounds by [`Strategy::Least`], up to 1,000,000 events, and no bias.
+    pub fn usual(pes: u32) -> Self
+        ensures pes { result.pes ≡ pes }
+    {
+        Schedule {
+            pes,
+            strategy: Strategy::Least,
+            steps: 1_000_000,
+            bias: Bias::default(),
+        }
+    }
+
+    /// The first number that is out of its limits in a run of so many elements, of which there may be up to
+    /// [`Limits::ELEMENTS`]; or `None` where each is within.
+    pub fn first_outside(&self, elements: usize) -> Option<Setting>
+        ensures answer { MatchOption result (MayExplore self.now elements) (λ setting. RefusesSchedule self.now elements (Config setting)) }
+    {
+        if self.pes < 1 || Limits::PES < self.pes {
+            return Some(Setting::Pes);
+        }
+        if elements > Limits::ELEMENTS as usize {
+            return Some(Setting::Elements);
+        }
+        None
+    }
+}

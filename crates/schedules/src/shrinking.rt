@@ -1,0 +1,173 @@
+//! A shorter list of events that is still bad. Source: A. Zeller and R. Hildebrandt, "Simplifying and isolating failure-inducing
+//! input", IEEE Transactions on Software Engineering 28(2), 2002: chunks are left out, of half the list at first, and single
+//! events at last.
+
+ghost use Rattle.std.specs.Prelude.{◌≡◌, ◌≤◌, ◌<◌, IfOk, IfSome, length, true};
+ghost use Rattle.schedules.specs.Courses.{IsExplored};
+
+use crate::explored::Explored;
+use crate::replaying::replay_enabled;
+use crate::schedule::Schedule;
+use chares::Chare;
+use rts_core::Event;
+use rts_run::RunError;
+use std::alloc::{AllocError, Allocator};
+
+/// The chares that a run opens with, made anew for each run.
+pub trait Cast<C, A: Allocator> {
+    ghost use Rattle.std.specs.Prelude.{◌≡◌, IfOk, List};
+
+    /// The chares.
+    ghost chares: { Self → List C };
+
+    /// Makes them. The only error is that memory was refused.
+    fn chares(&self, alloc: A) -> Result<Vec<C, A>, AllocError>
+        ensures value { IfOk result (λ made. made.items ≡ Self.chares self.now) };
+}
+
+/// What is looked for in runs.
+pub trait Suspect<C: Chare<A>, A: Allocator> {
+    ghost use Rattle.std.specs.Prelude.{◌≡◌, Bool};
+    ghost use Rattle.schedules.specs.Courses.{ExploredView};
+
+    /// Whether it is in this run.
+    ghost is_bad: { Self → ExploredView C A → Bool };
+
+    /// Whether it is in this run: it depends on nothing else.
+    fn is_bad(&self, explored: &Explored<C, A>) -> bool
+        ensures value { result ≡ Self.is_bad self.now explored.now };
+}
+
+/// Finds a shorter list of events by which a run still is bad, and returns that run; or `None` where the run by those of these
+/// events that are enabled is not bad. Chunks of the list are left out, each candidate is run anew, with what is not enabled any
+/// more left out too, and kept where it is shorter and still bad. At last no single event can be left out.
+///
+/// # Errors
+///
+/// Those of [`explore`](crate::explore).
+pub fn shrink<C: Chare<A>, K: Cast<C, A>, S: Suspect<C, A>, A: Allocator + Copy>(
+    alloc: A,
+    schedule: &Schedule,
+    cast: &K,
+    events: &[Event],
+    suspect: &S,
+) -> Result<Option<Explored<C, A>>, RunError>
+    ensures bad { IfOk result (λ found. IfSome found (λ x. S.is_bad suspect.now x ≡ true)) }
+    ensures explored { IfOk result (λ found. IfSome found
+        (IsExplored C.step C.fits C.pack C.unpack (K.chares cast.now) schedule.now.pes schedule.now.strategy)) }
+    ensures few { IfOk result (λ found. IfSome found (λ x. length x.steps ≤ length events.now)) }
+{
+    let Some(first) = bad_run(alloc, schedule, cast, events, suspect)? else {
+        return Ok(None);
+    };
+    let mut best = first;
+    let mut size = best.steps().len() / 2;
+    while size > 1 {
+        best = without_chunks(alloc, schedule, cast, suspect, best, size)?;
+        size /= 2;
+    }
+    for _pass in 0..best.steps().len() {
+        let before = best.steps().len();
+        best = without_chunks(alloc, schedule, cast, suspect, best, 1)?;
+        if best.steps().len() == before {
+            break;
+        }
+    }
+    Ok(Some(best))
+}
+
+// The run by those of these events that are enabled, where it is bad.
+fn bad_run<C: Chare<A>, K: Cast<C, A>, S: Suspect<C, A>, A: Allocator + Copy>(
+    alloc: A,
+    schedule: &Schedule,
+    cast: &K,
+    events: &[Event],
+    suspect: &S,
+) -> Result<Option<Explored<C, A>>, RunError>
+    ensures bad { IfOk result (λ found. IfSome found (λ x. S.is_bad suspect.now x ≡ true)) }
+    ensures explored { IfOk result (λ found. IfSome found
+        (IsExplored C.step C.fits C.pack C.unpack (K.chares cast.now) schedule.now.pes schedule.now.strategy)) }
+    ensures few { IfOk result (λ found. IfSome found (λ x. length x.steps ≤ length events.now)) }
+{
+    let chares = cast.chares(alloc)?;
+    let explored = replay_enabled(alloc, schedule, chares, events)?;
+    if suspect.is_bad(&explored) {
+        return Ok(Some(explored));
+    }
+    Ok(None)
+}
+
+// A run that is bad without some chunks of so many events: each is left out in turn, and stays out where that is so.
+fn without_chunks<C: Chare<A>, K: Cast<C, A>, S: Suspect<C, A>, A: Allocator + Copy>(
+    alloc: A,
+    schedule: &Schedule,
+    cast: &K,
+    suspect: &S,
+    bad: Explored<C, A>,
+    size: usize,
+) -> Result<Explored<C, A>, RunError>
+    requires bad { S.is_bad suspect.now bad ≡ true }
+    requires explored { IsExplored C.step C.fits C.pack C.unpack (K.chares cast.now) schedule.now.pes schedule.now.strategy bad }
+    ensures bad { IfOk result (λ x. S.is_bad suspect.now x ≡ true) }
+    ensures explored { IfOk result (IsExplored C.step C.fits C.pack C.unpack (K.chares cast.now) schedule.now.pes schedule.now.strategy) }
+    ensures few { IfOk result (λ x. length x.steps ≤ length bad.steps) }
+{
+    let mut best = bad;
+    let mut at = 0;
+    for _turn in 0..best.steps().len() {
+        if best.steps().len() <= at {
+            break;
+        }
+        let (run, next) = without_chunk(alloc, schedule, cast, suspect, best, at, size)?;
+        best = run;
+        at = next;
+    }
+    Ok(best)
+}
+
+// A run that is bad without so many events from this one on, and where the next chunk begins then; or the run itself where it is
+// not bad without them, or no shorter.
+fn without_chunk<C: Chare<A>, K: Cast<C, A>, S: Suspect<C, A>, A: Allocator + Copy>(
+    alloc: A,
+    schedule: &Schedule,
+    cast: &K,
+    suspect: &S,
+    bad: Explored<C, A>,
+    at: usize,
+    size: usize,
+) -> Result<(Explored<C, A>, usize), RunError>
+    requires bad { S.is_bad suspect.now bad ≡ true }
+    requires explored { IsExplored C.step C.fits C.pack C.unpack (K.chares cast.now) schedule.now.pes schedule.now.strategy bad }
+    ensures bad { IfOk result (λ next. S.is_bad suspect.now next.0 ≡ true) }
+    ensures explored { IfOk result (λ next. IsExplored C.step C.fits C.pack C.unpack (K.chares cast.now) schedule.now.pes schedule.now.strategy next.0) }
+    ensures few { IfOk result (λ next. length next.0.steps ≤ length bad.steps) }
+{
+    let candidate = events_without(alloc, &bad, at, size)?;
+    let Some(run) = bad_run(alloc, schedule, cast, &candidate, suspect)? else {
+        return Ok((bad, at.saturating_add(size)));
+    };
+    if bad.steps().len() <= run.steps().len() {
+        return Ok((bad, at.saturating_add(size)));
+    }
+    Ok((run, at))
+}
+
+// The events of a run but for so many of its steps, from this one on, and the event that was refused.
+fn events_without<C: Chare<A>, A: Allocator + Copy>(
+    alloc: A,
+    run: &Explored<C, A>,
+    at: usize,
+    size: usize,
+) -> Result<Vec<Event, A>, AllocError> {
+    let end = at.saturating_add(size);
+    let mut events = Vec::new(alloc);
+    for (place, step) in run.steps().iter().enumerate() {
+        if place < at || end <= place {
+            events.push(step.event())?;
+        }
+    }
+    if let Some(event) = run.refused() {
+        events.push(event)?;
+    }
+    Ok(events)
+}

@@ -1,0 +1,73 @@
+//! Runs by eleven seeds, beside the lists of events that a program outside drew.
+
+use crate::expected::{LISTED, Listed, Work};
+use crate::fixtures::{assert_for, expect_text};
+use at_sync::Strategy;
+use chain_refinement::Tolerance;
+use chare_index::Pe;
+use rts_core::Event;
+use schedules::{Bias, Explored, Schedule, explore};
+use std::alloc::AllocError;
+use std::process::Abort;
+use tally::Tally;
+
+// The schedule of a list.
+fn schedule_of(listed: &Listed) -> Schedule {
+    let usual = Schedule::usual(listed.work.pes);
+    Schedule {
+        strategy: Strategy::within(listed.tolerance.and_then(Tolerance::new)),
+        steps: listed.limit.unwrap_or(usual.steps),
+        bias: Bias {
+            letters_first: listed.letters_first,
+            moves_first: listed.moves_first,
+            stale_looks: listed.stale_looks,
+            starved: listed.starve.and_then(Pe::new),
+        },
+        ..usual
+    }
+}
+
+// The tallies of a list.
+fn tallies_of(rt: &(impl Abort + AllocGlobal), work: &Work) -> Vec<Tally> {
+    let mut chares = Vec::new(rt.alloc());
+    for amounts in work.amounts {
+        let next = Tally::with_amounts(rt.alloc(), amounts, work.pad).expect(rt, "no tally");
+        chares.push(next).expect(rt, "out of memory");
+    }
+    chares
+}
+
+// Adds the line of an event.
+fn push_event(text: &mut String, event: &Event) -> Result<(), AllocError> {
+    match event {
+        Event::Start(p, e) => writeln!(text, "Start {} {}", p.get(), e.get()),
+        Event::Look(p) => writeln!(text, "Look {}", p.get()),
+        Event::Flush(p) => writeln!(text, "Flush {}", p.get()),
+        Event::Deliver(p) => writeln!(text, "Deliver {}", p.get()),
+        Event::Act(p) => writeln!(text, "Act {}", p.get()),
+        Event::Report(p) => writeln!(text, "Report {}", p.get()),
+        Event::Decide => writeln!(text, "Decide"),
+        Event::Depart(p, e) => writeln!(text, "Depart {} {}", p.get(), e.get()),
+        Event::Resume(p, e) => writeln!(text, "Resume {} {}", p.get(), e.get()),
+    }
+}
+
+// The events of a run, a line each.
+fn text_of(rt: &(impl Abort + AllocGlobal), run: &Explored<Tally>) -> String {
+    let mut text = String::new(rt.alloc());
+    for step in run.steps() {
+        push_event(&mut text, &step.event()).expect(rt, "out of memory");
+    }
+    text
+}
+
+#[test]
+fn each_seed_leads_to_its_list(rt: HostRuntime) {
+    for listed in &LISTED {
+        let chares = tallies_of(&rt, &listed.work);
+        let run = explore(rt.alloc(), &schedule_of(listed), listed.seed, chares);
+        let run = run.expect(&rt, "the run did not begin");
+        assert_for(&rt, run.refused() == None, listed.name);
+        expect_text(&rt, text_of(&rt, &run).as_str(), listed.events);
+    }
+}
