@@ -1,0 +1,5 @@
+use Rattle.event_lists.proofs.Lines.{stripped_as}
+use Rattle.event_lists.proofs.name.behind.Goals as goal
+
+pub returns : goal.returns
+returns c = stripped_as c.args.word.now c.args.bytes.now c.strip_prefix.result c.strip_prefix.ensures.cases

@@ -1,0 +1,48 @@
+//! The text of a list of events, written and read.
+//!
+//! - [`write_events`]: the text of these events.
+//! - [`read_events`]: the events of this text.
+//! - [`EventListError`]: why bytes are no such text, and [`EventListLimits`], how many events a list may have.
+//!
+//! Each event is a line: its name, then the number of its PE and that of its element, where it names them, each behind
+//! one blank. Numbers are decimal, without a leading zero, and have at most ten digits. Each line ends with a newline.
+//!
+//! ```text
+//! Start 0 3
+//! Look 1
+//! Flush 1
+//! Deliver 0
+//! Act 0
+//! Report 1
+//! Decide
+//! Depart 0 3
+//! Resume 1 3
+//! ```
+//!
+//! ```
+//! use event_lists::{EventListError, read_events, write_events};
+//! use rts_core::Event;
+//!
+//! let events = read_events(alloc, b"Start 0 3\nDecide\n")?;
+//! assert!(events.len() == 2 && events[1] == Event::Decide);
+//! assert!(write_events(alloc, &events)?.as_bytes() == b"Start 0 3\nDecide\n".as_slice());
+//! assert!(read_events(alloc, b"Decide\nLook 01\n").err() == Some(EventListError::Form(2)));
+//! assert!(read_events(alloc, b"Decide\nLook 256\n").err() == Some(EventListError::Limit(2)));
+//! ```
+#![tactic(auto)]
+
+mod error;
+mod form;
+mod laws;
+mod line;
+mod name;
+mod numbers;
+mod reader;
+mod writer;
+
+pub use error::EventListError;
+pub use form::EventListLimits;
+#[doc(hidden)]
+pub use laws::event_list_laws;
+pub use reader::read_events;
+pub use writer::write_events;
