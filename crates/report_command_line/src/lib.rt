@@ -4,14 +4,22 @@
 //! ```
 //! use report_command_line::{NO_WORDS, asked, numbers, words_status};
 //!
-//! let words = ["lb_report", "--procs", "4,8", "--csv", "one.lbd1", "two.lbd1"];
-//! let asked_for = asked(alloc, &words).unwrap();
-//! assert!(asked_for.files.as_slice() == ["one.lbd1", "two.lbd1"]);
-//! assert!(asked_for.csv && !asked_for.moves && asked_for.tolerance.is_none());
-//! assert!(numbers(alloc, asked_for.procs.unwrap()).unwrap().as_slice() == [4, 8]);
+//! let words = [
+//!     "lb_report",
+//!     "--procs",
+//!     "4,8",
+//!     "--csv",
+//!     "one.lbd1",
+//!     "two.lbd1",
+//! ];
+//! let asked_for = asked(alloc, &words).ok().ok_or("refused")?;
+//! assert!(rt; asked_for.files.as_slice() == ["one.lbd1", "two.lbd1"].as_slice());
+//! assert!(rt; asked_for.csv && !asked_for.moves && asked_for.tolerance.is_none());
+//! let procs = numbers(alloc, asked_for.procs.ok_or("no numbers")?)?;
+//! assert!(rt; procs.as_slice() == [4, 8].as_slice());
 //!
-//! let error = asked(alloc, &["lb_report"]).unwrap_err();
-//! assert!(words_status(&error) == NO_WORDS);
+//! let error = asked(alloc, &["lb_report"]).err().ok_or("taken")?;
+//! assert!(rt; words_status(&error) == NO_WORDS);
 //! ```
 #![tactic(auto)]
 

@@ -5,12 +5,14 @@
 //! use run_command_line::{NO_WORDS, asked, words_status};
 //!
 //! let words = ["charm_run", "--dump", "rounds", "--progress", "ring.work"];
-//! let asked_for = asked(alloc, &words).unwrap();
-//! assert!(asked_for.file == "ring.work" && asked_for.dump == Some("rounds"));
-//! assert!(asked_for.progress && !asked_for.lbd1);
+//! let asked_for = asked(alloc, &words).ok().ok_or("refused")?;
+//! assert!(rt; asked_for.file == "ring.work" && asked_for.dump == Some("rounds"));
+//! assert!(rt; asked_for.progress && !asked_for.lbd1);
 //!
-//! let error = asked(alloc, &["charm_run", "--quiet", "ring.work"]).unwrap_err();
-//! assert!(words_status(&error) == NO_WORDS);
+//! let error = asked(alloc, &["charm_run", "--quiet", "ring.work"])
+//!     .err()
+//!     .ok_or("taken")?;
+//! assert!(rt; words_status(&error) == NO_WORDS);
 //! ```
 #![tactic(auto)]
 

@@ -123,7 +123,9 @@ fn tolerance<'a>(alloc: Global) -> Arg<'a>
         .long("tolerance")
         .value_name("T")
         .help(
-            "Lets the greatest load of a PE lie up to T thousandths{n}             above the least possible one, so that fewer bytes{n}             move; 0 to 1000",
+            "Lets the greatest load of a PE lie up to T thousandths{n}\
+             above the least possible one, so that fewer bytes{n}\
+             move; 0 to 1000",
         )
         .action(ArgAction::Set)
         .value_parser(thousandths())
