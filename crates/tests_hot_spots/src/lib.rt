@@ -5,10 +5,10 @@
 #[cfg(test)]
 mod fixtures;
 #[cfg(test)]
+mod many_orders;
+#[cfg(test)]
 mod plain;
 #[cfg(test)]
 mod refused_memory;
 #[cfg(test)]
 mod runs;
-#[cfg(test)]
-mod schedules;
