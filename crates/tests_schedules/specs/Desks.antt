@@ -1,5 +1,5 @@
 -- A desk that has to be opened before anything is handed in, with a fault: what is handed in before goes to nobody.
-use Rattle.std.specs.Prelude.{◌≡◌, ℕ, zero, suc, ◌≤◌, List, [], ◌∷◌, length, ◌==◌, if◌then◌else◌, Bool, true, false, Option, Some}
+use Rattle.std.specs.Prelude.{◌≡◌, ℕ, ◌≤◌, List, [], ◌∷◌, length, ◌==◌, if◌then◌else◌, Bool, true, false, Option, Some}
 use Rattle.std.specs.Int.{w32, to_be_bytes}
 use Rattle.std.proofs.Common.{arith}
 use Rattle.chare_index.specs.declared.limits.TheConstants.Limits.{LETTERS, STATE_BYTES}
@@ -7,7 +7,8 @@ use Rattle.chares.specs.declared.entry.Entry.{Entry}
 use Rattle.chares.specs.declared.entry.Entry.TheVariants.{Letter, Resumption}
 use Rattle.chares.specs.declared.sends.SendError.{SendError}
 use Rattle.chares.specs.declared.sends.SendError.TheVariants.{Stranger, Worn}
-use Rattle.chares.specs.Steps.{Effect, Outcome}
+use Rattle.chares.specs.declared.chare.Effect.{Effect}
+use Rattle.chares.specs.Steps.{Outcome}
 use Rattle.pe_worker.specs.declared.fault.Fault.{Fault}
 use Rattle.pe_worker.specs.declared.fault.Fault.TheVariants as Lost
 

@@ -1,6 +1,6 @@
 //! A chare with a planted fault, which only one order of two letters brings out.
 
-ghost use Rattle.std.specs.Prelude.{◌≡◌, ◌∷◌, []};
+ghost use Rattle.std.specs.Prelude.{◌≡◌, false};
 
 use chare_index::{Gate, Index, Round};
 use chares::{Chare, Effect, Here, SendError, Sends};
@@ -36,6 +36,8 @@ impl Model for Desk {
 }
 
 impl<A: Allocator + Copy> Pup<A> for Desk {
+    ghost use Rattle.pup_pack.specs.Trips.{u32_trips};
+
     ghost fits = { λ opened. ⟦<u32 as Pup<A>>⟧.fits opened };
 
     ghost counted = { λ opened. ⟦<u32 as Pup<A>>⟧.counted opened };
@@ -44,7 +46,7 @@ impl<A: Allocator + Copy> Pup<A> for Desk {
 
     ghost unpack = { λ bytes. ⟦<u32 as Pup<A>>⟧.unpack bytes };
 
-    ghost round_trip = { ⟦<u32 as Pup<A>>⟧.round_trip };
+    ghost round_trip = { u32_trips.trip };
 
     fn packed_len(&self) -> u32 {
         <u32 as Pup<A>>::packed_len(&self.opened)
@@ -79,9 +81,10 @@ impl<A: Allocator + Copy> Chare<A> for Desk {
             self.opened = 1;
             return Ok(effect(false));
         }
-        if self.opened == 0 {
-            sends.put(Index::new(NOBODY).unwrap(), &[])?;
+        if self.opened != 0 {
+            return Ok(effect(false));
         }
+        sends.put(Index::new(NOBODY).unwrap(), &[])?;
         Ok(effect(false))
     }
 
@@ -92,10 +95,13 @@ impl<A: Allocator + Copy> Chare<A> for Desk {
         sends: &mut Sends<P, A>,
     ) -> Result<Effect, SendError> {
         let desk = Index::new(2).unwrap();
-        match here.me.get() {
-            0 => sends.put(desk, &[])?,
-            1 => sends.put(desk, &[1])?,
-            _ => {}
+        if here.me.get() == 0 {
+            sends.put(desk, &[])?;
+            return Ok(effect(true));
+        }
+        if here.me.get() == 1 {
+            sends.put(desk, &[1])?;
+            return Ok(effect(true));
         }
         Ok(effect(true))
     }

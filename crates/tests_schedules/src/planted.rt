@@ -17,8 +17,6 @@ use std::process::Abort;
 struct Desks;
 
 impl Model for Desks {
-    ghost use Rattle.std.specs.Prelude.{Unit};
-
     ghost Value = { Unit {0} };
 
     ghost view = { λ _. tt };
@@ -43,8 +41,6 @@ impl<A: Allocator + Copy> Cast<Desk, A> for Desks {
 struct LostLetter;
 
 impl Model for LostLetter {
-    ghost use Rattle.std.specs.Prelude.{Unit};
-
     ghost Value = { Unit {0} };
 
     ghost view = { λ _. tt };
