@@ -10,16 +10,16 @@
 //! use lb_certificates::{Cuts, Sizes, check_naming};
 //!
 //! // Three elements in two blocks: the bytes and the PE of each, and the cuts.
-//! let (zero, one) = (Pe::new(0)?, Pe::new(1)?);
-//! let sizes = Sizes::new(vec![in alloc; (10, zero), (9, one), (8, zero)]?)?;
+//! let (zero, one) = (Pe::new(0).unwrap(), Pe::new(1).unwrap());
+//! let sizes = Sizes::new(vec![in alloc; (10, zero), (9, one), (8, zero)]?).ok_or("too many")?;
 //! let cuts = Cuts::new(vec![in alloc; 0, 2, 3]?);
 //!
 //! let table = CostTable::of(alloc, &sizes, &cuts)?;
-//! assert_eq!((table.cost(0, 0), table.cost(0, 1)), (9, 10));
-//! assert_eq!((table.cost(1, 0), table.cost(1, 1)), (0, 8));
+//! assert!(rt; (table.cost(0, 0), table.cost(0, 1)) == (9, 10));
+//! assert!(rt; (table.cost(1, 0), table.cost(1, 1)) == (0, 8));
 //! let (naming, prices) = name_blocks(alloc, &table)?;
-//! assert_eq!(naming.as_slice(), [1, 0].as_slice());
-//! assert_eq!(check_naming(&sizes, &cuts, &naming, &prices), Ok(10));
+//! assert!(rt; naming.as_slice() == [1, 0].as_slice());
+//! assert!(rt; check_naming(&sizes, &cuts, &naming, &prices) == Ok(10));
 //! ```
 #![tactic(auto)]
 

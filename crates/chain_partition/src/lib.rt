@@ -8,15 +8,12 @@
 //! ```
 //! use chain_partition::divide;
 //! use lb_certificates::Loads;
-//! use std::alloc::{AllocError, Allocator};
 //!
-//! // The heaviest block's load, where five elements are divided into two blocks: 9, of the blocks 1 2 3 and 4 5.
-//! fn heaviest_of_two<A: Allocator + Copy>(alloc: A) -> Result<Option<u64>, AllocError> {
-//!     let Some(loads) = Loads::new(vec![in alloc; 1, 2, 3, 4, 5]?) else {
-//!         return Ok(None);
-//!     };
-//!     Ok(Some(divide(alloc, &loads, 2)?.bottleneck))
-//! }
+//! // Five elements in two blocks: 1 2 3 and 4 5.
+//! let loads = Loads::new(vec![in alloc; 1, 2, 3, 4, 5]?).ok_or("too many")?;
+//! let division = divide(alloc, &loads, 2)?;
+//! assert!(rt; division.bottleneck == 9);
+//! assert!(rt; division.cuts.as_slice() == [0, 3, 5].as_slice());
 //! ```
 #![tactic(auto)]
 

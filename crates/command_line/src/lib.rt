@@ -5,11 +5,13 @@
 //! use command_line::{NO_WORDS, asked, words_status};
 //!
 //! let words = ["lb_sim", "--procs", "2", "steps.lbd1"];
-//! let asked_for = asked(alloc, &words).unwrap();
-//! assert!(asked_for.file == "steps.lbd1" && asked_for.procs == Some(2) && !asked_for.check);
+//! let asked_for = asked(alloc, &words).ok().ok_or("refused")?;
+//! assert!(rt; asked_for.file == "steps.lbd1" && asked_for.procs == Some(2) && !asked_for.check);
 //!
-//! let error = asked(alloc, &["lb_sim", "--procs", "0", "steps.lbd1"]).unwrap_err();
-//! assert!(words_status(&error) == NO_WORDS);
+//! let error = asked(alloc, &["lb_sim", "--procs", "0", "steps.lbd1"])
+//!     .err()
+//!     .ok_or("taken")?;
+//! assert!(rt; words_status(&error) == NO_WORDS);
 //! ```
 #![tactic(auto)]
 

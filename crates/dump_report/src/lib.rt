@@ -4,6 +4,23 @@
 //!
 //! - [`report_dump`]: the report, from the bytes of a reader to the bytes of a writer; [`report_file`]: that of a file.
 //! - [`tell`]: what is told of a file, or of the output, where no whole report was written.
+//!
+//! ```
+//! use dump_report::report_dump;
+//! use load_report::Style;
+//!
+//! // One element of 9 bytes on PE 1 of two. For one PE it moves to PE 0.
+//! let dump = b"LBD1\0\0\0\x05\0\0\0\x02\0\0\0\x01\0\0\0\x04\0\0\0\x09\0\0\0\x01";
+//! let style = Style {
+//!     csv: true,
+//!     moves: true,
+//! };
+//! let mut text = Vec::new(alloc);
+//! let mut reader = dump.as_slice();
+//! let ended = report_dump(alloc, &mut reader, &mut text, "one", &[1], None, style);
+//! assert!(rt; ended.status() == 0);
+//! assert!(rt; text.as_slice() == b"\"one\",1,0,1,0,9\n".as_slice());
+//! ```
 #![tactic(auto)]
 
 mod dump_text;

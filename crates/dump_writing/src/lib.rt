@@ -6,13 +6,20 @@
 //! `specs/Text.antt` of `dump_format` says which bytes these texts are.
 //!
 //! ```
+//! use dump_format::{Dump, DumpError};
 //! use dump_writing::{encode, encode_dump};
+//! use lb_snapshot::{Loads, Sizes, Snapshot};
 //!
-//! // `dump` is a `dump_format::Dump`.
+//! // No elements on three PEs, at step 7.
+//! let loads = Loads::new(Vec::new(alloc)).ok_or("too many")?;
+//! let sizes = Sizes::new(Vec::new(alloc)).ok_or("too many")?;
+//! let snapshot = Snapshot::new(7, 3, loads, sizes).ok_or("no snapshot")?;
+//! let text = encode(alloc, &snapshot)?;
+//! assert!(rt; text.as_slice() == b"LBD1\0\0\0\x07\0\0\0\x03\0\0\0\0".as_slice());
+//!
+//! let dump = Dump::new(snapshot, None).ok_or("no dump")?;
 //! let text = encode_dump(alloc, &dump)?;
-//! assert_eq!(&text[..4], b"LBD2");
-//! let text = encode(alloc, dump.snapshot())?; // Err(DumpError::Wide(i)) where the load of element i is too great
-//! assert_eq!(&text[..4], b"LBD1");
+//! assert!(rt; text.as_slice() == b"LBD2\0\0\0\x07\0\0\0\x03\0\0\0\0\0\0\0\0".as_slice());
 //! ```
 #![tactic(auto)]
 

@@ -2,6 +2,26 @@
 //!
 //! - [`run_chain`]: the run of a [`Chain`].
 //! - [`text_of`]: a line for each round, and the checksum of all cells; [`checksum`] alone.
+//!
+//! ```
+//! use hot_spot_run::{Chain, run_chain, text_of};
+//! use hot_spot_strip::Mode;
+//! use rts_run::Config;
+//!
+//! // Three strips of two cells on two PEs, not balanced. Each cell takes one unit of work in the one round.
+//! let chain = Chain {
+//!     mode: Mode::Static,
+//!     rounds: 1,
+//!     work: 0,
+//!     cells: &[2, 2, 2],
+//! };
+//! let outcome = run_chain(&rt, alloc, &Config::usual(2), &chain)?;
+//! let text = text_of(alloc, &chain, 2, &outcome)?;
+//! assert!(rt;
+//!     text.as_str()
+//!         .starts_with("round 1 greatest 4 average 3 moved 0\nchecksum ")
+//! );
+//! ```
 #![tactic(auto)]
 
 mod chain;

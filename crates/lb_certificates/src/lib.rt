@@ -11,13 +11,15 @@
 //! Whoever made the division, an `Ok` proves it least:
 //!
 //! ```
-//! let loads = Loads::new(vec![in alloc; 1, 2, 3, 4, 5]?)?;
+//! use lb_certificates::{Cuts, Division, Floor, Loads, Stops, check_division};
+//!
+//! let loads = Loads::new(vec![in alloc; 1, 2, 3, 4, 5]?).ok_or("too many")?;
 //! let division = Division {
 //!     bottleneck: 9,
 //!     cuts: Cuts::new(vec![in alloc; 0, 3, 5]?),
 //!     floor: Floor::Fence(Stops::new(vec![in alloc; 0, 3, 4]?)),
 //! };
-//! check_division(&loads, 2, &division) // Ok(())
+//! assert!(rt; check_division(&loads, 2, &division) == Ok(()));
 //! ```
 #![tactic(auto)]
 

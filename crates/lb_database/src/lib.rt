@@ -13,11 +13,11 @@
 //! let round = db.round();
 //! for i in 0..2 {
 //!     db.charge(i, 7)?;
-//!     db.report(i, round, 100, Pe::new(i)?)?;
+//!     db.report(i, round, 100, Pe::new(i).ok_or("no such PE")?)?;
 //! }
-//! assert!(db.is_complete() && db.stands_on(2));
+//! assert!(rt; db.is_complete() && db.stands_on(2));
 //! let snapshot = db.snapshot(5, 2)?;
-//! assert_eq!(snapshot.loads().as_slice(), [7, 7].as_slice());
+//! assert!(rt; snapshot.loads().as_slice() == [7, 7].as_slice());
 //! db.next_round()?;
 //! ```
 #![tactic(auto)]

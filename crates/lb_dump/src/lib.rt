@@ -11,10 +11,12 @@
 //! ```
 //! use lb_dump::{DumpError, decode, encode};
 //!
-//! // `snapshot` is an `lb_snapshot::Snapshot`.
-//! let text = encode(alloc, &snapshot)?;
-//! assert_eq!(decode(alloc, &text[..15]).err(), Some(DumpError::Short(15)));
-//! assert_eq!(decode(alloc, &text)?.snapshot(), &snapshot);
+//! // No elements on three PEs, at step 7.
+//! let text = b"LBD1\0\0\0\x07\0\0\0\x03\0\0\0\0";
+//! let dump = decode(alloc, text)?;
+//! assert!(rt; dump.snapshot().step() == 7 && dump.recorded().is_none());
+//! assert!(rt; encode(alloc, dump.snapshot())?.as_slice() == text.as_slice());
+//! assert!(rt; decode(alloc, &text[..15]).err() == Some(DumpError::Short(15)));
 //! ```
 #![tactic(auto)]
 

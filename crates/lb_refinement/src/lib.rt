@@ -4,6 +4,25 @@
 //! - [`Refined`]: what it decides: cuts near the present ones, with their proofs ([`Kept`]), or the plan.
 //! - [`block_around`]: the block that contains an element.
 //! - [`laws`]: what the definitions imply.
+//!
+//! ```
+//! use chain_refinement::Tolerance;
+//! use chare_index::Pe;
+//! use lb_certificates::{Loads, Sizes, Snapshot};
+//! use lb_refinement::refine;
+//!
+//! // Four elements on two PEs, with loads of 5 and 7. The least possible is 6, and 7 is within 200 thousandths of it.
+//! let (zero, one) = (Pe::new(0).unwrap(), Pe::new(1).unwrap());
+//! let loads = Loads::new(vec![in alloc; 3, 2, 1, 6]?).ok_or("too many")?;
+//! let sizes = vec![in alloc; (9, zero), (9, zero), (9, one), (9, one)]?;
+//! let sizes = Sizes::new(sizes).ok_or("too many")?;
+//! let snapshot = Snapshot::new(5, 2, loads, sizes).ok_or("no snapshot")?;
+//!
+//! let least = refine(alloc, &snapshot, 2, Tolerance::new(0).unwrap())?;
+//! assert!(rt; least.bottleneck() == 6 && least.moved() == 9);
+//! let near = refine(alloc, &snapshot, 2, Tolerance::new(200).unwrap())?;
+//! assert!(rt; near.bottleneck() == 7 && near.moved() == 0);
+//! ```
 #![tactic(auto)]
 
 mod heaviest;

@@ -13,13 +13,13 @@
 //! // No elements on three PEs, at step 7, replayed for one PE.
 //! let mut dump = b"LBD1\0\0\0\x07\0\0\0\x03\0\0\0\0".as_slice();
 //! let mut text = Vec::new(alloc);
-//! assert!(simulate(alloc, &mut dump, &mut text, Some(1), None) == Ended::Printed);
-//! assert!(text.starts_with(b"step 7 procs 1 elements 0\n"));
+//! assert!(rt; simulate(alloc, &mut dump, &mut text, Some(1), None) == Ended::Printed);
+//! assert!(rt; text.starts_with(b"step 7 procs 1 elements 0\n"));
 //!
 //! let mut line = Vec::new(alloc);
 //! let mut dump = b"LBD1\0\0\0\x07\0\0\0\x03\0\0\0\0".as_slice();
-//! assert!(verify(alloc, &mut dump, &mut line) == Ended::NoDecision);
-//! assert!(line.as_slice() == b"check: no decision\n");
+//! assert!(rt; verify(alloc, &mut dump, &mut line) == Ended::NoDecision);
+//! assert!(rt; line.as_slice() == b"check: no decision\n".as_slice());
 //! ```
 #![tactic(auto)]
 

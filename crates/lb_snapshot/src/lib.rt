@@ -7,9 +7,15 @@
 //! Each keeps its limits, so whoever holds a snapshot need not test them again:
 //!
 //! ```
-//! let loads = Loads::new(vec![in alloc; 1, 1, 2]?)?;
-//! let sizes = Sizes::new(vec![in alloc; (10, Pe::new(0)?), (9, Pe::new(1)?), (8, Pe::new(0)?)]?)?;
-//! let snapshot = Snapshot::new(5, 2, loads, sizes)?; // step 5, on two PEs
+//! use chare_index::Pe;
+//! use lb_snapshot::{Loads, Sizes, Snapshot};
+//!
+//! // The loads of three elements, the bytes and the PE of each; step 5, on two PEs.
+//! let (zero, one) = (Pe::new(0).unwrap(), Pe::new(1).unwrap());
+//! let loads = Loads::new(vec![in alloc; 1, 1, 2]?).ok_or("too many")?;
+//! let sizes = Sizes::new(vec![in alloc; (10, zero), (9, one), (8, zero)]?).ok_or("too many")?;
+//! let snapshot = Snapshot::new(5, 2, loads, sizes).ok_or("no snapshot")?;
+//! assert!(rt; snapshot.step() == 5 && snapshot.procs() == 2);
 //! ```
 #![tactic(auto)]
 

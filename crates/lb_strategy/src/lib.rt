@@ -7,21 +7,20 @@
 //! - [`name_cuts`] and [`moves_of`]: the names of any blocks, and the moves that they ask for.
 //!
 //! ```
-//! use chare_index::{Index, Pe};
+//! use chare_index::Pe;
 //! use lb_certificates::{Loads, Sizes, Snapshot};
 //! use lb_strategy::{check, plan};
 //!
 //! // Three elements on two PEs: their loads, and the bytes and the PE of each.
-//! let (zero, one) = (Pe::new(0)?, Pe::new(1)?);
-//! let loads = Loads::new(vec![in alloc; 1, 1, 2]?)?;
-//! let sizes = Sizes::new(vec![in alloc; (10, zero), (9, one), (8, zero)]?)?;
-//! let snapshot = Snapshot::new(5, 2, loads, sizes)?;
+//! let (zero, one) = (Pe::new(0).unwrap(), Pe::new(1).unwrap());
+//! let loads = Loads::new(vec![in alloc; 1, 1, 2]?).ok_or("too many")?;
+//! let sizes = Sizes::new(vec![in alloc; (10, zero), (9, one), (8, zero)]?).ok_or("too many")?;
+//! let snapshot = Snapshot::new(5, 2, loads, sizes).ok_or("no snapshot")?;
 //!
 //! let decision = plan(alloc, &snapshot, 2)?;
-//! assert!(check(&snapshot, 2, &decision).is_ok());
-//! assert_eq!(decision.division.bottleneck, 2);
-//! assert_eq!(decision.moved, 10);
-//! assert_eq!(decision.place_of(Index::new(2)?), zero);
+//! assert!(rt; check(&snapshot, 2, &decision).is_ok());
+//! assert!(rt; decision.division.bottleneck == 2 && decision.moved == 10);
+//! assert!(rt; decision.naming.as_slice() == [1, 0].as_slice());
 //! ```
 #![tactic(auto)]
 

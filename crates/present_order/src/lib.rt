@@ -5,8 +5,16 @@
 //! - [`laws`]: what the definitions imply.
 //!
 //! ```
-//! let sizes = Sizes::new(vec![in alloc; (10, Pe::new(2)?), (10, Pe::new(2)?), (10, Pe::new(0)?)]?)?;
-//! present_order(alloc, &sizes, 3) // the PEs 2, 0, 1, and the cuts 0, 2, 3, 3
+//! use chare_index::Pe;
+//! use lb_certificates::Sizes;
+//! use present_order::present_order;
+//!
+//! // Three elements, of which the first two are on PE 2 and the last is on PE 0.
+//! let (zero, two) = (Pe::new(0).unwrap(), Pe::new(2).unwrap());
+//! let sizes = Sizes::new(vec![in alloc; (10, two), (10, two), (10, zero)]?).ok_or("too many")?;
+//! let order = present_order(alloc, &sizes, 3)?.ok_or("in no order")?;
+//! assert!(rt; order.names.as_slice() == [2, 0, 1].as_slice());
+//! assert!(rt; order.present.as_slice() == [0, 2, 3, 3].as_slice());
 //! ```
 #![tactic(auto)]
 

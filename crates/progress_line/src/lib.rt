@@ -9,12 +9,19 @@
 //! ```
 //!
 //! ```
+//! use chare_index::NoGate;
 //! use progress_line::Progress;
+//! use rts_run::{Config, run_watched};
+//! use std::io::IsTerminal;
+//! use tally::Tally;
 //!
+//! // One tally on one PE, for one round.
+//! let chares = vec![in alloc; Tally::with_amounts(alloc, &[7], 0)?]?;
 //! let progress = Progress::new(&rt, rt.stderr().is_terminal()).unwrap_or(Progress::Off);
-//! progress.expect(100);
-//! let outcome = run_watched(&rt, alloc, &config, &NoGate, &progress, chares);
+//! progress.expect(1);
+//! let outcome = run_watched(&rt, alloc, &Config::usual(1), &NoGate, &progress, chares)?;
 //! progress.finish();
+//! assert!(rt; outcome.fault().is_none());
 //! ```
 #![tactic(auto)]
 

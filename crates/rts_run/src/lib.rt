@@ -7,6 +7,23 @@
 //! - [`RunError`]: why a run did not begin, with the [`Setting`] that is out of its limits. [`Fault`]: why one ended early.
 //!
 //! docs/RUNS.md has the protocol.
+//!
+//! ```
+//! use chare_index::NoGate;
+//! use rts_run::{Config, run};
+//! use tally::Tally;
+//!
+//! // Two chares on two PEs, each of which sends its amount to the other and is balanced once.
+//! let (three, five) = (
+//!     Tally::with_amounts(alloc, &[3], 8)?,
+//!     Tally::with_amounts(alloc, &[5], 8)?,
+//! );
+//! let chares = vec![in alloc; three, five]?;
+//! let outcome = run(&rt, alloc, &Config::usual(2), &NoGate, chares)?;
+//! assert!(rt; outcome.fault().is_none() && outcome.rounds().len() == 1);
+//! let account = outcome.account();
+//! assert!(rt; account.posted == 2 && account.executed == 2 && account.held == 0);
+//! ```
 #![tactic(auto)]
 
 mod config;

@@ -9,7 +9,7 @@
 //!
 //! // Its first amount is 3, its second 5, and 8 bytes of padding make it heavier to move.
 //! let tally = Tally::with_amounts(alloc, &[3, 5], 8)?;
-//! assert!(tally.sum() == 0);
+//! assert!(rt; tally.sum() == 0);
 //! ```
 #![tactic(auto)]
 

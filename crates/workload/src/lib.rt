@@ -19,9 +19,14 @@
 //! use workload::{WorkError, Workload};
 //!
 //! let workload = Workload::parse(alloc, b"pes 2\nrounds 0\npad 8\nchares 3\n")?;
-//! assert!(workload.chares == 3);
-//! assert!(matches!(Workload::parse(alloc, b"pes 02\n"), Err(WorkError::Form(1))));
-//! assert!(matches!(Workload::parse(alloc, b"pes 257\n"), Err(WorkError::Limit(1))));
+//! assert!(rt; workload.chares == 3);
+//! assert!(rt; matches!(Workload::parse(alloc, b"pes 02\n"), Err(WorkError::Form(1))));
+//! assert!(rt;
+//!     matches!(
+//!         Workload::parse(alloc, b"pes 257\n"),
+//!         Err(WorkError::Limit(1))
+//!     )
+//! );
 //! ```
 #![tactic(auto)]
 

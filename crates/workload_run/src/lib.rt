@@ -7,14 +7,23 @@
 //!   some [`DumpFiles`]; [`write_asked`]: the same where it is asked for, with the status of it all.
 //!
 //! ```
+//! use rts_run::Strategy;
 //! use workload_run::{Ended, drive};
 //!
 //! // One tally on one PE, which sends itself a 7.
 //! let mut workload = b"pes 1\nrounds 1\npad 0\nchares 1\namounts 7\n".as_slice();
 //! let mut text = Vec::new(alloc);
-//! let driven = drive(&rt, alloc, &mut workload, &mut text, 1_000_000_000);
-//! assert!(driven.ended == Ended::Ran(None));
-//! assert!(text == b"round 1 bottleneck 7 moved 0\nsums 7\nposted 1 executed 1 held 0\n");
+//! let driven = drive(
+//!     &rt,
+//!     alloc,
+//!     &mut workload,
+//!     &mut text,
+//!     1_000_000_000,
+//!     Strategy::Least,
+//! );
+//! assert!(rt; driven.ended == Ended::Ran(None));
+//! let expected = b"round 1 bottleneck 7 moved 0\nsums 7\nposted 1 executed 1 held 0\n";
+//! assert!(rt; text.as_slice() == expected.as_slice());
 //! ```
 #![tactic(auto)]
 
