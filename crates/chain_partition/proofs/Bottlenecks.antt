@@ -1,14 +1,12 @@
 -- The least limit within which the blocks can hold all elements.
-use Rattle.std.proofs.Common.{◌≡◌, ◌≢◌, ℕ, suc, zero, ◌+◌, ◌-◌, ◌*◌, ◌/◌, ◌%◌, ◌^◌, ◌<◌, ◌≤◌, ◌⊎◌, min, max, inl, inr, List, All, length, get_or, slice_index, arith, add-one, ap, sym, ◌∙◌, subst}
+use Rattle.std.proofs.Common.{◌≡◌, ◌≢◌, ℕ, suc, zero, ◌+◌, ◌-◌, ◌*◌, ◌/◌, ◌%◌, ◌^◌, ◌<◌, ◌≤◌, ◌⊎◌, min, max, inl, inr, List, All, length, get_or, slice_index, sum, arith, add-one, ap, sym, ◌∙◌, subst}
 use Rattle.std.proofs.lemmas.Bool.{cases_lt, cases_eq}
 use Rattle.std.proofs.Math.Nat.{div-le_self, lt-mul-div-succ, mul-le-mul_left, mul-le-mul_right}
 use Rattle.std.proofs.lemmas.Grind.{div_ceil_times}
 use Rattle.std.proofs.lemmas.List.{get_or_default}
-use Rattle.std.proofs.lemmas.List.Sums.{sum_by-take-le}
-use Rattle.chare_index.specs.declared.limits.TheConstants.Limits.{LOAD}
-use Rattle.lb_snapshot.proofs.LoadSums.{sum_small}
+use Rattle.std.proofs.lemmas.List.Sums.{sum_by-take-le, sum_by_more_le}
 use Rattle.lb_certificates.specs.Chain.{peak, IsDivision, IsLeastPeak}
-use Rattle.lb_snapshot.specs.Measured.{load, IsLoads}
+use Rattle.lb_snapshot.specs.Measured.{load}
 use Rattle.lb_certificates.specs.Certificate.{IsFence, MatchFloor, HoldsFor, IsCertified}
 use Rattle.lb_certificates.specs.declared.division.Division.{Division}
 use Rattle.lb_certificates.specs.declared.division.Floor.{Floor}
@@ -126,10 +124,15 @@ even_share xs p greatest positive small =
           absurd (omega (arith, heavy, within, lt-mul-div-succ (load xs 0 (length xs)) positive))
     ]
 
--- that limit is below 2^64
-pub share_small : (xs : List ℕ) (p greatest : ℕ) → IsLoads xs → greatest ≤ LOAD → load xs 0 (length xs) / p + greatest < 2 ^ 64
+-- no load is above the sum of all
+pub all_within_sum : (xs : List ℕ) → All (λ w. w ≤ sum xs) xs
+all_within_sum xs i d inside =
+    omega (arith, sum_by_more_le (λ x. x) xs i d inside)
+
+-- that limit is below 2^16
+pub share_small : (xs : List ℕ) (p greatest : ℕ) → sum xs < 2 ^ 63 → greatest ≤ sum xs → load xs 0 (length xs) / p + greatest < 2 ^ 64
 share_small xs p greatest small low =
-    omega (arith, load_after xs 0 (length xs) (omega arith), sum_by-take-le (λ x. x) xs (length xs), sum_small xs small, div-le_self (load xs 0 (length xs)) p)
+    omega (arith, load_after xs 0 (length xs) (omega arith), sum_by-take-le (λ x. x) xs (length xs), div-le_self (load xs 0 (length xs)) p)
 
 -- where nothing fits below one limit and another fits, the other is no lower
 pub bounds_ordered : (xs : List ℕ) (p low high : ℕ) → StopBelow xs p low → CanFit xs p high → low ≤ high

@@ -1,19 +1,30 @@
--- The running sums of a chain, by which the load of any range of elements is one subtraction.
-use Rattle.std.specs.Prelude.{◌≡◌, ℕ, ◌+◌, ◌-◌, ◌≤◌, List, [], ◌∷◌, length, slice_index}
-use Rattle.lb_snapshot.specs.Measured.{load, IsLoads}
+-- Running sums of a chain: one in 16 is kept, and with it the load of any range of elements is two short sums.
+use Rattle.std.specs.Prelude.{◌≡◌, ℕ, ◌+◌, ◌*◌, ◌/◌, ◌^◌, ◌<◌, ◌≤◌, List, ◌++◌, length, slice_index, sum}
+use Rattle.lb_snapshot.specs.Measured.{load}
+use Rattle.chain_partition.specs.declared.error.ChainError.{ChainError}
+use Rattle.chain_partition.specs.declared.error.ChainError.TheVariants.{TooLong, TooHeavy, OutOfMemory}
 
--- the running sums of the first n loads: the load of the first k elements, for each k from 0 to n
-pub record AreSums (loads : List ℕ) (n : ℕ) (sums : List ℕ) : Type 0 where
-  pub counted : length sums ≡ n + 1
-  pub each : (k : ℕ) → k ≤ n → slice_index sums k ≡ load loads 0 k
+-- the loads of a chain that can be divided: the number of elements fits 32 bits, and the sum of any two ranges 64
+pub record IsChain (loads : List ℕ) : Type 0 where
+  pub few : length loads < 2 ^ 32
+  pub light : sum loads < 2 ^ 63
 
--- the loads whose running sums these are: by how much each sum is above the one before it
-abbrev pub loads_of : List ℕ → List ℕ
-loads_of [] = []
-loads_of (a ∷ []) = []
-loads_of (a ∷ b ∷ sums) = (b - a) ∷ loads_of (b ∷ sums)
+-- why loads are refused as a chain, in the order of the reasons
+abbrev pub IsRefused : List ℕ → ChainError → Type 0
+IsRefused loads TooLong = 2 ^ 32 ≤ length loads
+IsRefused loads TooHeavy = (length loads < 2 ^ 32) × (2 ^ 63 ≤ sum loads)
+IsRefused loads OutOfMemory = IsChain loads
 
--- the running sums of a list of loads that keeps its limits
-pub record IsPrefix (sums : List ℕ) : Type 0 where
-  pub limited : IsLoads (loads_of sums)
-  pub summed : AreSums (loads_of sums) (length (loads_of sums)) sums
+-- the samples up to number n: the load of the elements before each 16th one
+pub record AreSamples (loads : List ℕ) (n : ℕ) (samples : List ℕ) : Type 0 where
+  pub counted : length samples ≡ n + 1
+  pub each : (k : ℕ) → k ≤ n → slice_index samples k ≡ load loads 0 (k * 16)
+
+-- a chain, and all of its samples
+pub record IsSampled (loads samples : List ℕ) : Type 0 where
+  pub chain : IsChain loads
+  pub summed : AreSamples loads (length loads / 16) samples
+
+-- the new list is the old one, followed by the samples of a chain
+abbrev pub AppendsSamples : List ℕ → List ℕ → List ℕ → Type 0
+AppendsSamples loads old new = (samples : List ℕ) × (new ≡ old ++ samples) × IsSampled loads samples

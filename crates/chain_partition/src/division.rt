@@ -2,13 +2,13 @@ ghost use Rattle.std.specs.Prelude.{◌≡◌, ◌≤◌, IfOk};
 ghost use Rattle.lb_certificates.specs.Chain.{IsLeastDivision, IsLeastPeak};
 ghost use Rattle.lb_certificates.specs.Certificate.{IsCertified};
 ghost use Rattle.chain_partition.specs.Chosen.{IsChosen, IsLeastFloor};
-ghost use Rattle.chain_partition.specs.Sums.{IsPrefix, loads_of};
+ghost use Rattle.chain_partition.specs.Sums.{IsSampled};
 
-use crate::prefix::Prefix;
+use crate::chain::Chain;
 use crate::search::{least_bottleneck, opening};
 use crate::walk::greedy_ends;
 use chare_index::Limits;
-use lb_certificates::{Cuts, Division, Floor, Loads, Stops};
+use lb_certificates::{Cuts, Division, Floor, Loads, Stops, Units};
 use std::alloc::{AllocError, Allocator};
 
 /// The division of these loads into `pes` blocks, 1 to 256, whose heaviest block is lightest. Its blocks take as
@@ -29,26 +29,44 @@ pub fn divide<A: Allocator + Copy, B: Allocator>(
     ensures certified { IfOk result (IsCertified loads.now pes) }
     ensures least { IfOk result (λ d. IsLeastDivision loads.now pes d.bottleneck d.cuts) }
 {
-    let prefix = Prefix::of(alloc, loads)?;
-    let bounds = opening(loads, prefix.load(0, prefix.len()), pes);
-    let bottleneck = least_bottleneck(prefix.sums(), pes, bounds);
-    division_at(alloc, prefix.sums(), pes, bottleneck)
+    let chain = Chain::of(alloc, loads)?;
+    divide_chain(alloc, &chain, pes)
+}
+
+/// The same as [`divide`], for a [`Chain`], into `pes` blocks, 1 or more.
+///
+/// # Errors
+///
+/// Out of memory, where one of the two lists of `pes + 1` numbers was refused.
+pub fn divide_chain<A: Allocator + Copy, B: Allocator>(
+    alloc: A,
+    chain: &Chain<'_, B>,
+    pes: u32,
+) -> Result<Division<A>, AllocError>
+    requires some_pe { 1 ≤ pes }
+    ensures chosen { IfOk result (IsChosen chain.now pes) }
+    ensures certified { IfOk result (IsCertified chain.now pes) }
+    ensures least { IfOk result (λ d. IsLeastDivision chain.now pes d.bottleneck d.cuts) }
+{
+    let bounds = opening(chain.loads(), chain.load(0, chain.len()), pes);
+    let bottleneck = least_bottleneck(chain.loads(), chain.samples(), pes, bounds);
+    division_at(alloc, chain.loads(), chain.samples(), pes, bottleneck)
 }
 
 /// The division with this bottleneck, which is the least.
 pub(crate) fn division_at<A: Allocator + Copy>(
     alloc: A,
-    sums: &[u64],
+    loads: &[Units],
+    samples: &[u64],
     pes: u32,
     bottleneck: u64,
 ) -> Result<Division<A>, AllocError>
-    requires valid { IsPrefix sums.now }
-    requires few_pes { pes ≤ Limits.PES }
-    requires least { IsLeastPeak (loads_of sums.now) 0 pes bottleneck }
-    ensures chosen { IfOk result (IsChosen (loads_of sums.now) pes) }
+    requires valid { IsSampled loads.now samples.now }
+    requires least { IsLeastPeak loads.now 0 pes bottleneck }
+    ensures chosen { IfOk result (IsChosen loads.now pes) }
 {
-    let cuts = Cuts::new(greedy_ends(alloc, sums, pes, bottleneck)?);
-    let floor = least_floor(alloc, sums, pes, bottleneck)?;
+    let cuts = Cuts::new(greedy_ends(alloc, loads, samples, pes, bottleneck)?);
+    let floor = least_floor(alloc, loads, samples, pes, bottleneck)?;
     Ok(Division {
         bottleneck,
         cuts,
@@ -59,18 +77,18 @@ pub(crate) fn division_at<A: Allocator + Copy>(
 // The least fence for the least bottleneck. A bottleneck of 0 needs no fence.
 fn least_floor<A: Allocator>(
     alloc: A,
-    sums: &[u64],
+    loads: &[Units],
+    samples: &[u64],
     pes: u32,
     bottleneck: u64,
 ) -> Result<Floor<A>, AllocError>
-    requires valid { IsPrefix sums.now }
-    requires few_pes { pes ≤ Limits.PES }
-    requires least { IsLeastPeak (loads_of sums.now) 0 pes bottleneck }
-    ensures floor { IfOk result (IsLeastFloor (loads_of sums.now) pes bottleneck) }
+    requires valid { IsSampled loads.now samples.now }
+    requires least { IsLeastPeak loads.now 0 pes bottleneck }
+    ensures floor { IfOk result (IsLeastFloor loads.now pes bottleneck) }
 {
     if bottleneck == 0 {
         return Ok(Floor::Zero);
     }
-    let stops = greedy_ends(alloc, sums, pes, bottleneck - 1)?;
+    let stops = greedy_ends(alloc, loads, samples, pes, bottleneck - 1)?;
     Ok(Floor::Fence(Stops::new(stops)))
 }

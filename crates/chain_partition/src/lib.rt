@@ -1,9 +1,11 @@
 //! The least division of a chain: of all ways to cut the elements into at most so many consecutive blocks, one
 //! whose heaviest block is lightest, with the certificate that a checker accepts.
 //!
-//! - [`Prefix`]: the running sums of the loads.
-//! - [`probe`], and [`probe_on`] running sums: whether blocks within a limit can hold all elements, as a [`Probe`].
 //! - [`divide`]: the least division; [`divide_with`] finds it with several threads.
+//! - [`probe`]: whether blocks within a limit can hold all elements, as a [`Probe`]; [`probe_on`] takes the running sums of
+//!   the loads, a [`Prefix`].
+//! - [`Chain`]: loads beyond the limits of a snapshot, which a [`ChainError`] refuses only at 2^32 elements or a sum of 2^63.
+//!   [`divide_chain`], [`divide_chain_with`] and [`probe_chain`] take one, and any number of blocks.
 //!
 //! ```
 //! use chain_partition::divide;
@@ -17,7 +19,9 @@
 //! ```
 #![tactic(auto)]
 
+mod chain;
 mod division;
+mod error;
 mod outcome;
 mod prefix;
 mod probing;
@@ -25,8 +29,10 @@ mod search;
 mod threads;
 mod walk;
 
-pub use division::divide;
+pub use chain::Chain;
+pub use division::{divide, divide_chain};
+pub use error::ChainError;
 pub use outcome::Probe;
 pub use prefix::Prefix;
-pub use probing::{probe, probe_on};
-pub use threads::divide_with;
+pub use probing::{probe, probe_chain, probe_on};
+pub use threads::{divide_chain_with, divide_with};

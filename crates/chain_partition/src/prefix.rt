@@ -1,53 +1,53 @@
 ghost use Rattle.std.specs.Prelude.{◌≡◌, ◌≤◌, ◌↔◌, [], IsTrue, IfOk, length};
 ghost use Rattle.lb_snapshot.specs.Measured.{load};
-ghost use Rattle.chain_partition.specs.Sums.{IsPrefix, loads_of};
+ghost use Rattle.chain_partition.specs.Sums.{IsSampled};
 
+use crate::chain::{load_between, push_samples, samples_of};
 use chare_index::Limits;
-use lb_certificates::Loads;
+use lb_certificates::{Loads, Units};
 use std::alloc::{AllocError, Allocator, Global};
 use std::marker::Model;
 
-/// The running sums of a list of loads, which give the load of any range of elements by one subtraction. Contracts
-/// see it as the list of the loads.
+/// A list of loads with its running sums, by which the load of any range of elements is two short sums. Contracts see it
+/// as the list of the loads.
 #[derive(Drop)]
 #[derive_where(Debug)]
 pub struct Prefix<A: Allocator = Global> {
-    // The load of the elements before each one, and of all of them.
-    sums: Vec<u64, A>,
+    // The loads, followed by the load of the elements before each 16th one.
+    list: Vec<u64, A>,
+    // The number of loads.
+    count: usize,
 }
 
 impl<A: Allocator> Model for Prefix<A> {
-    ghost use Rattle.std.specs.Prelude.{List, ℕ};
-    ghost use Rattle.chain_partition.specs.Sums.{IsPrefix, loads_of};
+    ghost use Rattle.std.specs.Prelude.{◌≤◌, List, ℕ, length, take, drop};
+    ghost use Rattle.lb_snapshot.specs.Measured.{IsLoads};
+    ghost use Rattle.chain_partition.specs.Sums.{IsSampled};
 
     ghost Value = { List ℕ };
 
-    ghost view = { λ p. loads_of p.sums.items };
+    ghost view = { λ p. take p.count p.list.items };
 
-    ghost invariant = { λ p. IsPrefix p.sums.items };
+    ghost invariant = { λ p. (p.count ≤ length p.list.items) × IsLoads (take p.count p.list.items) × IsSampled (take p.count p.list.items) (drop p.count p.list.items) };
 }
 
 impl<A: Allocator> Prefix<A> {
-    /// The running sums of these loads.
+    /// These loads, which are copied, with their running sums.
     ///
     /// # Errors
     ///
-    /// Out of memory, where the one list of the sums was refused. Its capacity is half as much again as the sums need.
-    #[tactic(auto, using(lb_snapshot::proofs::LoadSums::next_fits))]
+    /// Out of memory, where the one list of the loads and their running sums was refused.
     pub fn of<B: Allocator>(alloc: A, loads: &Loads<B>) -> Result<Self, AllocError>
         ensures made { IfOk result (λ prefix. prefix ≡ loads.now) }
     {
-        // As much room as the table of costs gets. An allocator that maps large lists one by one stops doing so for
-        // lists up to the size of one that was freed. So the costs and the moves, which are made after the sums are
-        // freed, share memory.
-        let mut sums = Vec::with_capacity(alloc, loads.len() * 3 / 2 + 2)?;
-        let mut total = 0;
-        sums.push_reserved(total);
-        for &units in loads.as_slice() {
-            total += units;
-            sums.push_reserved(total);
+        let loads = loads.as_slice();
+        let count = loads.len();
+        let mut list = Vec::with_capacity(alloc, count + samples_of(count))?;
+        for &units in loads {
+            list.push_reserved(units);
         }
-        Ok(Prefix { sums })
+        push_samples(&mut list, loads);
+        Ok(Prefix { list, count })
     }
 
     /// The load of the elements `first..end`: at most 9,223,372,036,854,710,272 work units. It takes no memory.
@@ -56,15 +56,15 @@ impl<A: Allocator> Prefix<A> {
         requires within { end ≤ length self.now }
         ensures value { result ≡ load self.now first end }
     {
-        load_between(self.sums.as_slice(), first, end)
+        load_between(self.loads(), self.samples(), first, end)
     }
 
-    /// How many elements there are.
+    /// The number of elements.
     pub fn len(&self) -> usize
         ensures value { result ≡ length self.now }
         ensures few { result ≤ Limits.ELEMENTS }
     {
-        self.sums.len() - 1
+        self.count
     }
 
     /// Whether there is no element.
@@ -74,22 +74,17 @@ impl<A: Allocator> Prefix<A> {
         self.len() == 0
     }
 
-    /// The sums themselves.
-    pub(crate) fn sums(&self) -> &[u64]
-        ensures value { loads_of result.now ≡ self.now }
-        ensures valid { IsPrefix result.now }
+    /// The loads.
+    pub(crate) fn loads(&self) -> &[Units]
+        ensures value { result.now ≡ self.now }
     {
-        self.sums.as_slice()
+        &self.list.as_slice()[..self.count]
     }
-}
 
-/// The load of the elements `first..end`, by these running sums.
-#[tactic(auto, using(crate::proofs::RunningSums::load_in_prefix, crate::proofs::RunningSums::length_prefix))]
-pub(crate) fn load_between(sums: &[u64], first: usize, end: usize) -> u64
-    requires valid { IsPrefix sums.now }
-    requires ordered { first ≤ end }
-    requires within { end ≤ length (loads_of sums.now) }
-    ensures value { result ≡ load (loads_of sums.now) first end }
-{
-    sums[end] - sums[first]
+    /// The running sums that are kept.
+    pub(crate) fn samples(&self) -> &[u64]
+        ensures valid { IsSampled self.now result.now }
+    {
+        &self.list.as_slice()[self.count..]
+    }
 }

@@ -1,16 +1,14 @@
 //! The search for the least bottleneck: the exact bisection of A. Pinar and C. Aykanat, JPDC 64(8), 2004. Each walk
 //! finds more than whether blocks within its limit hold all elements, so about half as many walks are enough.
 
-ghost use Rattle.std.specs.Prelude.{◌≡◌, ℕ, ◌-◌, ◌^◌, ◌<◌, ◌≤◌, All, length};
+ghost use Rattle.std.specs.Prelude.{◌≡◌, ℕ, ◌-◌, ◌^◌, ◌<◌, ◌≤◌, All, length, sum};
 ghost use Rattle.lb_certificates.specs.Chain.{IsLeastPeak};
 ghost use Rattle.lb_snapshot.specs.Measured.{load};
 ghost use Rattle.chain_partition.specs.Search.{Enclose, Shows};
-ghost use Rattle.chain_partition.specs.Sums.{IsPrefix, loads_of};
+ghost use Rattle.chain_partition.specs.Sums.{IsSampled};
 
-use crate::prefix::load_between;
 use crate::walk::end_of_block;
-use lb_certificates::{Loads, Units};
-use std::alloc::Allocator;
+use lb_certificates::Units;
 
 /// What the walk within one limit shows of other limits.
 #[derive(Clone, Copy)]
@@ -29,17 +27,17 @@ pub(crate) struct Bounds {
 }
 
 /// The least limit within which `pes` blocks can hold all elements, which lies within these bounds.
-pub(crate) fn least_bottleneck(sums: &[u64], pes: u32, bounds: Bounds) -> u64
-    requires valid { IsPrefix sums.now }
+pub(crate) fn least_bottleneck(loads: &[Units], samples: &[u64], pes: u32, bounds: Bounds) -> u64
+    requires valid { IsSampled loads.now samples.now }
     requires some_pe { 1 ≤ pes }
-    requires enclosed { Enclose (loads_of sums.now) pes bounds.low bounds.high }
-    ensures least { IsLeastPeak (loads_of sums.now) 0 pes result }
+    requires enclosed { Enclose loads.now pes bounds.low bounds.high }
+    ensures least { IsLeastPeak loads.now 0 pes result }
 {
     let mut low = bounds.low;
     let mut high = bounds.high;
     let mut limit = low;
     while low < high {
-        match bound_within(sums, pes, limit) {
+        match bound_within(loads, samples, pes, limit) {
             Bound::Fits(heaviest) => high = heaviest,
             Bound::Stops(next) => low = next,
         }
@@ -50,25 +48,27 @@ pub(crate) fn least_bottleneck(sums: &[u64], pes: u32, bounds: Bounds) -> u64
 
 /// Fills up to `pes` blocks in order, each with as many elements as fit within the limit, and returns what that shows
 /// of other limits.
-#[tactic(auto, using(crate::proofs::RunningSums::length_prefix, crate::proofs::Walks::walk_none))]
-pub(crate) fn bound_within(sums: &[u64], pes: u32, limit: u64) -> Bound
-    requires valid { IsPrefix sums.now }
+#[tactic(auto, using(crate::proofs::Walks::walk_none))]
+pub(crate) fn bound_within(loads: &[Units], samples: &[u64], pes: u32, limit: u64) -> Bound
+    requires valid { IsSampled loads.now samples.now }
     requires some_pe { 1 ≤ pes }
     requires below { limit < 2 ^ 64 - 1 }
-    ensures shows { Shows (loads_of sums.now) pes limit result }
+    ensures shows { Shows loads.now pes limit result }
 {
-    let all = sums.len() - 1;
+    let all = loads.len();
     let mut first = 0;
+    let mut before = 0;
     let mut heaviest = 0;
     let mut least = u64::MAX;
     for _ in 0..pes {
-        let end = end_of_block(sums, first, limit);
-        heaviest = heaviest.max(load_between(sums, first, end));
-        if end == all {
+        let block = end_of_block(loads, samples, first, before, limit);
+        heaviest = heaviest.max(block.load);
+        if block.end == all {
             return Bound::Fits(heaviest);
         }
-        least = least.min(load_between(sums, first, end + 1));
-        first = end;
+        least = least.min(block.load + loads[block.end]);
+        first = block.end;
+        before += block.load;
     }
     Bound::Stops(least)
 }
@@ -77,12 +77,13 @@ pub(crate) fn bound_within(sums: &[u64], pes: u32, limit: u64) -> Bound
 /// And with an even share plus the greatest load as the limit, each block that cannot take the next element weighs more
 /// than such a share, so not all blocks can be of that kind.
 #[tactic(auto, using(crate::proofs::Bottlenecks::opening_encloses))]
-pub(crate) fn opening<A: Allocator>(loads: &Loads<A>, total: u64, pes: u32) -> Bounds
+pub(crate) fn opening(loads: &[Units], total: u64, pes: u32) -> Bounds
     requires some_pe { 1 ≤ pes }
     requires all { total ≡ load loads.now 0 (length loads.now) }
+    requires light { sum loads.now < 2 ^ 63 }
     ensures enclosed { Enclose loads.now pes result.low result.high }
 {
-    let greatest = greatest(loads.as_slice());
+    let greatest = greatest(loads);
     let pes = u64::from(pes);
     Bounds {
         low: greatest.max(total.div_ceil(pes)),

@@ -5,13 +5,13 @@ ghost use Rattle.lb_certificates.specs.Chain.{IsLeastDivision, IsLeastPeak};
 ghost use Rattle.lb_certificates.specs.Certificate.{IsCertified};
 ghost use Rattle.chain_partition.specs.Chosen.{IsChosen, IsTheOnly};
 ghost use Rattle.chain_partition.specs.Search.{Enclose, Shows, WasTried};
-ghost use Rattle.chain_partition.specs.Sums.{IsPrefix, loads_of};
+ghost use Rattle.chain_partition.specs.Sums.{IsSampled};
 
+use crate::chain::Chain;
 use crate::division::division_at;
-use crate::prefix::Prefix;
 use crate::search::{Bound, Bounds, bound_within, opening};
 use chare_index::{Gate, Limits};
-use lb_certificates::{Division, Loads};
+use lb_certificates::{Division, Loads, Units};
 use std::alloc::{AllocError, Allocator};
 use std::thread::{self, Threads};
 
@@ -43,34 +43,67 @@ pub fn divide_with<R: Threads + Sync, G: Gate + Sync, A: Allocator + Copy, B: Al
     ensures certified { IfOk result (IsCertified loads.now pes) }
     ensures least { IfOk result (λ d. IsLeastDivision loads.now pes d.bottleneck d.cuts) }
 {
-    let prefix = Prefix::of(alloc, loads)?;
-    let bounds = opening(loads, prefix.load(0, prefix.len()), pes);
-    let bottleneck = least_tried(rt, prefix.sums(), pes, bounds, workers as usize, gate);
-    division_at(alloc, prefix.sums(), pes, bottleneck)
+    let chain = Chain::of(alloc, loads)?;
+    divide_chain_with(rt, alloc, &chain, pes, workers, gate)
+}
+
+/// The same as [`divide_with`], for a [`Chain`], into `pes` blocks, 1 or more.
+///
+/// # Errors
+///
+/// Out of memory, where one of the two lists of `pes + 1` numbers was refused.
+pub fn divide_chain_with<R: Threads + Sync, G: Gate + Sync, A: Allocator + Copy, B: Allocator>(
+    rt: &R,
+    alloc: A,
+    chain: &Chain<'_, B>,
+    pes: u32,
+    workers: u32,
+    gate: &G,
+) -> Result<Division<A>, AllocError>
+    requires some_pe { 1 ≤ pes }
+    requires some_worker { 1 ≤ workers }
+    requires few_workers { workers ≤ Limits.PROBE_WORKERS }
+    ensures as_divide { IfOk result (IsTheOnly chain.now pes) }
+    ensures chosen { IfOk result (IsChosen chain.now pes) }
+    ensures certified { IfOk result (IsCertified chain.now pes) }
+    ensures least { IfOk result (λ d. IsLeastDivision chain.now pes d.bottleneck d.cuts) }
+{
+    let bounds = opening(chain.loads(), chain.load(0, chain.len()), pes);
+    let bottleneck = least_tried(
+        rt,
+        chain.loads(),
+        chain.samples(),
+        pes,
+        bounds,
+        workers as usize,
+        gate,
+    );
+    division_at(alloc, chain.loads(), chain.samples(), pes, bottleneck)
 }
 
 // The least limit within which `pes` blocks can hold all elements, which lies within these bounds.
 fn least_tried<R: Threads + Sync, G: Gate + Sync>(
     rt: &R,
-    sums: &[u64],
+    loads: &[Units],
+    samples: &[u64],
     pes: u32,
     bounds: Bounds,
     workers: usize,
     gate: &G,
 ) -> u64
-    requires valid { IsPrefix sums.now }
+    requires valid { IsSampled loads.now samples.now }
     requires some_pe { 1 ≤ pes }
     requires some_worker { 1 ≤ workers }
     requires few_workers { workers ≤ Limits.PROBE_WORKERS }
-    requires enclosed { Enclose (loads_of sums.now) pes bounds.low bounds.high }
-    ensures least { IsLeastPeak (loads_of sums.now) 0 pes result }
+    requires enclosed { Enclose loads.now pes bounds.low bounds.high }
+    ensures least { IsLeastPeak loads.now 0 pes result }
 {
     let mut bounds_found = [Bound::Stops(0); MOST_WORKERS];
     let bounds_found = &mut bounds_found[..workers];
     let mut bounds = bounds;
     while bounds.low < bounds.high {
-        try_all(rt, sums, pes, bounds, gate, bounds_found);
-        bounds = narrowed(sums, pes, bounds, bounds_found);
+        try_all(rt, loads, samples, pes, bounds, gate, bounds_found);
+        bounds = narrowed(loads, pes, bounds, bounds_found);
     }
     bounds.high
 }
@@ -78,45 +111,52 @@ fn least_tried<R: Threads + Sync, G: Gate + Sync>(
 // One round: a worker for each place, which writes there what its walk found.
 fn try_all<R: Threads + Sync, G: Gate + Sync>(
     rt: &R,
-    sums: &[u64],
+    loads: &[Units],
+    samples: &[u64],
     pes: u32,
     bounds: Bounds,
     gate: &G,
     bounds_found: &mut [Bound],
 )
-    requires valid { IsPrefix sums.now }
+    requires valid { IsSampled loads.now samples.now }
     requires some_pe { 1 ≤ pes }
     requires some_worker { 1 ≤ length bounds_found.old }
     requires few_workers { length bounds_found.old ≤ Limits.PROBE_WORKERS }
     requires apart { bounds.low < bounds.high }
-    ensures tried { (i : ℕ) (d : Bound) → i < length bounds_found.old → WasTried (loads_of sums.now) pes bounds.low bounds.high (slice_index_or bounds_found.new i d) }
+    ensures tried { (i : ℕ) (d : Bound) → i < length bounds_found.old → WasTried loads.now pes bounds.low bounds.high (slice_index_or bounds_found.new i d) }
 {
     let workers = bounds_found.len();
     let probe = move |worker: usize, place: &mut Bound|
-        requires { IsPrefix sums.now × (1 ≤ pes) × (worker < workers) × (workers ≤ Limits.PROBE_WORKERS) × (bounds.low < bounds.high) }
-        ensures { WasTried (loads_of sums.entry.now) pes bounds.low bounds.high place.exit.now }
-    { *place = try_limit(sums, pes, bounds, worker, workers, gate) };
+        requires { IsSampled loads.now samples.now × (1 ≤ pes) × (worker < workers) × (workers ≤ Limits.PROBE_WORKERS) × (bounds.low < bounds.high) }
+        ensures { WasTried loads.entry.now pes bounds.low bounds.high place.exit.now }
+    { *place = try_limit(loads, samples, pes, bounds, worker, workers, gate) };
     thread::for_each_mut(rt, bounds_found, workers, &probe);
 }
 
 // The walk of one worker. The limits of all workers are spread evenly from the low bound to the high one.
 fn try_limit<G: Gate>(
-    sums: &[u64],
+    loads: &[Units],
+    samples: &[u64],
     pes: u32,
     bounds: Bounds,
     worker: usize,
     workers: usize,
     gate: &G,
 ) -> Bound
-    requires valid { IsPrefix sums.now }
+    requires valid { IsSampled loads.now samples.now }
     requires some_pe { 1 ≤ pes }
     requires one_of { worker < workers }
     requires few_workers { workers ≤ Limits.PROBE_WORKERS }
     requires apart { bounds.low < bounds.high }
-    ensures tried { WasTried (loads_of sums.now) pes bounds.low bounds.high result }
+    ensures tried { WasTried loads.now pes bounds.low bounds.high result }
 {
     gate.pass(worker as u32);
-    bound_within(sums, pes, limit_of(bounds, worker as u64, workers as u64))
+    bound_within(
+        loads,
+        samples,
+        pes,
+        limit_of(bounds, worker as u64, workers as u64),
+    )
 }
 
 // The limit of one of so many workers. In 128 bits the product is in range, however far apart the bounds are.
@@ -134,11 +174,11 @@ fn limit_of(bounds: Bounds, worker: u64, workers: u64) -> u64
 }
 
 // The bounds, narrowed by what the walks of one round found.
-fn narrowed(sums: &[u64], pes: u32, bounds: Bounds, bounds_found: &[Bound]) -> Bounds
+fn narrowed(loads: &[Units], pes: u32, bounds: Bounds, bounds_found: &[Bound]) -> Bounds
     requires some_worker { 1 ≤ length bounds_found.now }
-    requires enclosed { Enclose (loads_of sums.now) pes bounds.low bounds.high }
-    requires tried { (i : ℕ) (d : Bound) → i < length bounds_found.now → WasTried (loads_of sums.now) pes bounds.low bounds.high (slice_index_or bounds_found.now i d) }
-    ensures enclosed { Enclose (loads_of sums.now) pes result.low result.high }
+    requires enclosed { Enclose loads.now pes bounds.low bounds.high }
+    requires tried { (i : ℕ) (d : Bound) → i < length bounds_found.now → WasTried loads.now pes bounds.low bounds.high (slice_index_or bounds_found.now i d) }
+    ensures enclosed { Enclose loads.now pes result.low result.high }
     ensures closer { result.high - result.low < bounds.high - bounds.low }
 {
     let mut low = bounds.low;

@@ -1,54 +1,108 @@
 //! The walk over running sums that fills one block after the other.
 
-ghost use Rattle.std.specs.Prelude.{◌≡◌, ◌≤◌, IfOk, length};
-ghost use Rattle.chain_partition.specs.Greedy.{IsGreatestEnd, IsGreedy};
-ghost use Rattle.chain_partition.specs.Sums.{IsPrefix, loads_of};
+ghost use Rattle.std.specs.Prelude.{◌≡◌, ◌<◌, ◌≤◌, ◌+◌, ◌^◌, IfOk, length};
+ghost use Rattle.lb_snapshot.specs.Measured.{load};
+ghost use Rattle.chain_partition.specs.Greedy.{IsBracket, IsGreatestEnd, IsGreedy};
+ghost use Rattle.chain_partition.specs.Sums.{IsSampled};
 
-use crate::prefix::load_between;
-use chare_index::Limits;
+use crate::chain::STRIDE;
+use lb_certificates::Units;
 use std::alloc::{AllocError, Allocator};
+
+/// How far a block reaches, and the load of its elements.
+#[derive(Clone, Copy)]
+pub(crate) struct Block {
+    pub(crate) end: usize,
+    pub(crate) load: u64,
+}
+
+// The end of a block lies at `fits`, up to which the block weighs `load`, or behind it, and before `beyond`.
+#[derive(Clone, Copy)]
+struct Bracket {
+    fits: usize,
+    load: u64,
+    beyond: usize,
+}
 
 /// The ends of `pes` blocks that follow each other from the first element on, each with as many elements as fit
 /// within the limit: 0, and then the end of each block.
 #[tactic(auto, using(crate::proofs::GreedyCuts::greedy_none))]
 pub(crate) fn greedy_ends<A: Allocator>(
     alloc: A,
-    sums: &[u64],
+    loads: &[Units],
+    samples: &[u64],
     pes: u32,
     limit: u64,
 ) -> Result<Vec<u32, A>, AllocError>
-    requires valid { IsPrefix sums.now }
-    requires few_pes { pes ≤ Limits.PES }
-    ensures greedy { IfOk result (λ ends. IsGreedy (loads_of sums.now) pes limit ends.items) }
+    requires valid { IsSampled loads.now samples.now }
+    ensures greedy { IfOk result (λ ends. IsGreedy loads.now pes limit ends.items) }
 {
     let mut ends = Vec::with_capacity(alloc, pes as usize + 1)?;
     ends.push_reserved(0);
     let mut end = 0;
+    let mut before = 0;
     for _ in 0..pes {
-        end = end_of_block(sums, end, limit);
+        let block = end_of_block(loads, samples, end, before, limit);
+        end = block.end;
+        before += block.load;
         ends.push_reserved(end as u32);
     }
     Ok(ends)
 }
 
-/// How far a block that begins at `first` reaches within the limit, by binary search: its load grows with its end.
-#[tactic(auto, using(crate::proofs::Ranges::load_nothing, crate::proofs::RunningSums::length_prefix))]
-pub(crate) fn end_of_block(sums: &[u64], first: usize, limit: u64) -> usize
-    requires valid { IsPrefix sums.now }
-    requires inside { first ≤ length (loads_of sums.now) }
-    ensures greatest { IsGreatestEnd (loads_of sums.now) first limit result }
-    ensures onward { first ≤ result }
-    ensures few { result ≤ Limits.ELEMENTS }
+/// How far a block that begins at `first` reaches within the limit, where `before` is the load of the elements before it:
+/// its load grows with its end, so by binary search over the running sums that are kept, and then load by load.
+pub(crate) fn end_of_block(
+    loads: &[Units],
+    samples: &[u64],
+    first: usize,
+    before: u64,
+    limit: u64,
+) -> Block
+    requires valid { IsSampled loads.now samples.now }
+    requires inside { first ≤ length loads.now }
+    requires before { before ≡ load loads.now 0 first }
+    ensures greatest { IsGreatestEnd loads.now first limit result.end }
+    ensures onward { first ≤ result.end }
+    ensures few { result.end < 2 ^ 32 }
+    ensures load { result.load ≡ load loads.now first result.end }
 {
-    let mut fits = first;
-    let mut beyond = sums.len();
-    while fits + 1 < beyond {
-        let middle = fits + (beyond - fits) / 2;
-        if load_between(sums, first, middle) <= limit {
-            fits = middle;
+    let Bracket { fits, load, beyond } = narrowed_end(loads, samples, first, before, limit);
+    let mut block = Block { end: fits, load };
+    let mut beyond = beyond;
+    while block.end + 1 < beyond {
+        let load = block.load + loads[block.end];
+        if load <= limit {
+            block = Block {
+                end: block.end + 1,
+                load,
+            };
         } else {
-            beyond = middle;
+            beyond = block.end + 1;
         }
     }
-    fits
+    block
+}
+
+// Where that end lies, by the running sums that are kept: within two strides.
+fn narrowed_end(loads: &[Units], samples: &[u64], first: usize, before: u64, limit: u64) -> Bracket
+    requires valid { IsSampled loads.now samples.now }
+    requires inside { first ≤ length loads.now }
+    requires before { before ≡ load loads.now 0 first }
+    ensures bracket { IsBracket loads.now first limit result.fits result.load result.beyond }
+{
+    let mut fits = first;
+    let mut load = 0;
+    let mut beyond = loads.len() + 1;
+    while beyond - fits > 2 * STRIDE {
+        let group = (fits + (beyond - fits) / 2) / STRIDE;
+        let reached = samples[group] - before;
+        if reached <= limit {
+            fits = group * STRIDE;
+            load = reached;
+        } else {
+            beyond = group * STRIDE;
+        }
+    }
+    Bracket { fits, load, beyond }
 }

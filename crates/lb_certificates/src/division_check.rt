@@ -6,7 +6,8 @@ ghost use Rattle.lb_certificates.specs.Flaws.{Falls, HasFlaw, IsFirst};
 
 use crate::division::{Division, Floor};
 use crate::flaw::Flaw;
-use lb_snapshot::Loads;
+use crate::sums::total;
+use lb_snapshot::{Loads, Units};
 use std::alloc::Allocator;
 
 /// Checks a division of these loads into `pes` blocks, whoever made it. `Ok` means that its bottleneck is the
@@ -20,9 +21,27 @@ use std::alloc::Allocator;
 ///
 /// The fence is the certificate of the lower bound of A. Pinar and C. Aykanat, JPDC 64(8), 2004: a probe at
 /// the bottleneck less one ends short of the last element.
-#[tactic(auto, using(crate::proofs::LeastDivisions::least_from_certified, crate::proofs::NoFlaws::certified_where_ok, crate::proofs::NoFlaws::ok_where_certified))]
 pub fn check_division<A: Allocator, B: Allocator>(
     loads: &Loads<A>,
+    pes: u32,
+    division: &Division<B>,
+) -> Result<(), Flaw>
+    ensures exact { IsOk result ↔ IsCertified loads.now pes division.now }
+    ensures least { OnOk result (IsLeastDivision loads.now pes division.now.bottleneck division.now.cuts) }
+    ensures first_flaw { IfErr result (IsFirst (HasFlaw loads.now pes division.now)) }
+{
+    check_chain(loads.as_slice(), pes, division)
+}
+
+/// What [`check_division`] checks, over loads that keep no limits: any number of them, each of any size. They are added
+/// up twice, in 128 bits, and no memory is taken.
+///
+/// # Errors
+///
+/// The first [`Flaw`] that applies, in their order.
+#[tactic(auto, using(crate::proofs::LeastDivisions::least_from_certified, crate::proofs::NoFlaws::certified_where_ok, crate::proofs::NoFlaws::ok_where_certified))]
+pub fn check_chain<B: Allocator>(
+    loads: &[Units],
     pes: u32,
     division: &Division<B>,
 ) -> Result<(), Flaw>
@@ -43,11 +62,7 @@ pub(crate) fn rises(numbers: &[u32]) -> bool
 }
 
 // The flaws of the list of cuts itself.
-fn check_cuts<A: Allocator, B: Allocator>(
-    loads: &Loads<A>,
-    pes: u32,
-    division: &Division<B>,
-) -> Result<(), Flaw>
+fn check_cuts<B: Allocator>(loads: &[Units], pes: u32, division: &Division<B>) -> Result<(), Flaw>
     ensures divides { OnOk result (IsDivision 0 (length loads.now) pes division.now.cuts) }
     ensures first_flaw { IfErr result (IsFirst (HasFlaw loads.now pes division.now)) }
 {
@@ -68,11 +83,7 @@ fn check_cuts<A: Allocator, B: Allocator>(
 }
 
 // The first block above the bottleneck.
-fn check_blocks<A: Allocator, B: Allocator>(
-    loads: &Loads<A>,
-    pes: u32,
-    division: &Division<B>,
-) -> Result<(), Flaw>
+fn check_blocks<B: Allocator>(loads: &[Units], pes: u32, division: &Division<B>) -> Result<(), Flaw>
     requires { IsDivision 0 (length loads.now) pes division.now.cuts }
     ensures within { OnOk result (NoneAbove loads.now pes division.now.bottleneck division.now.cuts) }
     ensures first_flaw { IfErr result (IsFirst (HasFlaw loads.now pes division.now)) }
@@ -81,7 +92,7 @@ fn check_blocks<A: Allocator, B: Allocator>(
     for b in 0..pes {
         let first = cuts[b as usize] as usize;
         let end = cuts[b as usize + 1] as usize;
-        if loads.load(first, end) > division.bottleneck {
+        if total(&loads[first..end]) > u128::from(division.bottleneck) {
             return Err(Flaw::Heavy(b));
         }
     }
@@ -89,11 +100,7 @@ fn check_blocks<A: Allocator, B: Allocator>(
 }
 
 // The flaws of the floor.
-fn check_floor<A: Allocator, B: Allocator>(
-    loads: &Loads<A>,
-    pes: u32,
-    division: &Division<B>,
-) -> Result<(), Flaw>
+fn check_floor<B: Allocator>(loads: &[Units], pes: u32, division: &Division<B>) -> Result<(), Flaw>
     requires divides { IsDivision 0 (length loads.now) pes division.now.cuts }
     requires within { NoneAbove loads.now pes division.now.bottleneck division.now.cuts }
     ensures holds { OnOk result (HoldsFor loads.now pes division.now.bottleneck division.now.floor) }
@@ -126,12 +133,7 @@ fn check_floor<A: Allocator, B: Allocator>(
 
 // The first stop, numbered from 1, up to which the elements from the stop before it weigh less than the
 // bottleneck.
-fn first_light<A: Allocator>(
-    loads: &Loads<A>,
-    pes: u32,
-    bottleneck: u64,
-    stops: &[u32],
-) -> Option<u32>
+fn first_light(loads: &[Units], pes: u32, bottleneck: u64, stops: &[u32]) -> Option<u32>
     requires counted { length stops.now ≡ pes + 1 }
     requires ordered { IsNonDecreasing stops.now }
     requires ends { slice_index stops.now pes < length loads.now }
@@ -140,7 +142,7 @@ fn first_light<A: Allocator>(
     for i in 0..pes {
         let first = stops[i as usize] as usize;
         let last = stops[i as usize + 1] as usize;
-        if loads.load(first, last + 1) < bottleneck {
+        if total(&loads[first..last + 1]) < u128::from(bottleneck) {
             return Some(i + 1);
         }
     }

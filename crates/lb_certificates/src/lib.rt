@@ -6,7 +6,8 @@
 //! - [`Naming`] and [`Prices`], with [`PriceList`]: on which PE each block runs, and the certificate that no
 //!   other naming moves fewer bytes.
 //! - [`check_division`] and [`check_naming`]: accept a division or a naming exactly where its certificate is right,
-//!   and otherwise report the first [`Flaw`].
+//!   and otherwise report the first [`Flaw`]; [`check_chain`] is the first of them over loads without limits.
+//! - [`total`]: the sum of any loads.
 //!
 //! Whoever made the division, an `Ok` proves it least:
 //!
@@ -32,13 +33,15 @@ mod naming;
 mod naming_check;
 mod prices;
 mod stops;
+mod sums;
 
 pub use cuts::Cuts;
 pub use division::{Division, Floor};
-pub use division_check::check_division;
+pub use division_check::{check_chain, check_division};
 pub use flaw::Flaw;
 pub use lb_snapshot::{Loads, Sizes, Snapshot, Units};
 pub use naming::Naming;
 pub use naming_check::check_naming;
 pub use prices::{PriceList, Prices};
 pub use stops::Stops;
+pub use sums::total;

@@ -6,6 +6,8 @@
 #[cfg(test)]
 mod certificates;
 #[cfg(test)]
+mod chains;
+#[cfg(test)]
 mod decisions;
 #[cfg(test)]
 mod divisions;

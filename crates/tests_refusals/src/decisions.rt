@@ -5,7 +5,10 @@ use crate::fixtures::{
     table_of,
 };
 use block_assignment::{CostTable, NameError, name_blocks};
-use chain_partition::{Prefix, Probe, divide, divide_with, probe, probe_on};
+use chain_partition::{
+    Chain, ChainError, Prefix, Probe, divide, divide_chain, divide_with, probe, probe_chain,
+    probe_on,
+};
 use chare_index::{Index, NoGate};
 use lb_certificates::{Cuts, Division, Floor, Loads, Naming, Prices, Sizes, Snapshot};
 use lb_strategy::{Decision, PlanError, check, plan, plan_with};
@@ -142,6 +145,38 @@ fn divisions_by_two_workers(rt: HostRuntime) {
     let attempt = |alloc: Lent<'_>| two_divide(&rt, alloc, &five);
     assert_requests(&rt, attempt, DIVIDING, "none for the workers");
     drop(five);
+}
+
+// What a chain of five comes to, with memory of its own.
+fn chains(alloc: Lent<'_>, units: &[u64]) -> Outcome {
+    let answer = Chain::new(alloc, units);
+    let outcome = match &answer {
+        Ok(chain) if chain.len() == 5 && chain.load(2, 5) == 12 => Outcome::Right,
+        Err(ChainError::OutOfMemory) => Outcome::Refused,
+        _ => Outcome::Wrong,
+    };
+    drop(answer);
+    outcome
+}
+
+// What a division and a probe of a chain that was made before come to.
+fn chain_divides(alloc: Lent<'_>, chain: &Chain<'_>) -> Outcome {
+    is_divided(divide_chain(alloc, chain, 2))
+}
+
+fn chain_probes(alloc: Lent<'_>, chain: &Chain<'_>) -> Outcome {
+    is_probed(probe_chain(alloc, chain, 2, 9), 9)
+}
+
+#[test]
+fn divisions_of_a_chain(rt: HostRuntime) {
+    let units: &[u64] = &[1, 2, 3, 4, 5];
+    let attempt = |alloc: Lent<'_>| chains(alloc, units);
+    assert_requests(&rt, attempt, 1, "the running sums");
+    let chain = Chain::new(rt.alloc(), units).expect(&rt, "no chain");
+    assert_requests_on(&rt, chain_divides, &chain, 2, "the cuts and the fence");
+    assert_requests_on(&rt, chain_probes, &chain, 1, "the cuts");
+    drop(chain);
 }
 
 // Whether a table has the costs of the example's two blocks: 9 and 10, and 0 and 8.

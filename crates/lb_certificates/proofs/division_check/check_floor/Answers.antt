@@ -1,4 +1,4 @@
-use Rattle.std.proofs.Common.{◌≡◌, ◌≢◌, ◌+◌, ◌<◌, ◌≤◌, length, slice_index, ap, subst, sym, ◌∙◌}
+use Rattle.std.proofs.Common.{◌≡◌, ◌≢◌, ◌+◌, ◌<◌, ◌≤◌, length, slice_index, ap, sym, ◌∙◌}
 use Rattle.std.specs.List.Sorted.{IsNonDecreasing}
 use Rattle.lb_certificates.specs.declared.division.Floor.TheVariants.{Fence}
 use Rattle.lb_certificates.specs.Flaws.{Falls}
@@ -36,7 +36,7 @@ returns-then-stops-pes-clause-first_flaw g c =
     let counted : length c.as_slice-stops.result.now ≡ c.args.pes + 1 = c.if-stops-from.false ∙ ap (λ n. n + 1) c.from.ensures in
     let starts : slice_index c.as_slice-stops.result.now 0 ≡ 0 = c.if-stops-ne0.false in
     let ordered : IsNonDecreasing c.as_slice-stops.result.now = c.if-not-rises.ensures in
-    let wrong : length c.args.loads.now ≤ slice_index c.as_slice-stops.result.now c.args.pes = subst (λ n. n ≤ slice_index c.as_slice-stops.result.now c.args.pes) c.len.ensures.value c.if-stops-pes.true in
+    let wrong : length c.args.loads.now ≤ slice_index c.as_slice-stops.result.now c.args.pes = c.if-stops-pes.true in
     end_is_first c.args.loads.now c.args.pes c.args.division.now c.as_slice-stops.result.now c.requires.divides c.requires.within same counted starts ordered wrong
 
 pub returns-in-None-clause-holds : goal.returns-in-None-clause-holds
@@ -45,7 +45,7 @@ returns-in-None-clause-holds g c =
     let counted : length c.as_slice-stops.result.now ≡ c.args.pes + 1 = c.if-stops-from.false ∙ ap (λ n. n + 1) c.from.ensures in
     let starts : slice_index c.as_slice-stops.result.now 0 ≡ 0 = c.if-stops-ne0.false in
     let ordered : IsNonDecreasing c.as_slice-stops.result.now = c.if-not-rises.ensures in
-    let ends : slice_index c.as_slice-stops.result.now c.args.pes < length c.args.loads.now = subst (λ n. slice_index c.as_slice-stops.result.now c.args.pes < n) c.len.ensures.value c.if-stops-pes.false in
+    let ends : slice_index c.as_slice-stops.result.now c.args.pes < length c.args.loads.now = c.if-stops-pes.false in
     fence_holds c.args.loads.now c.args.pes c.args.division.now.bottleneck c.args.division.now.floor c.as_slice-stops.result.now same counted starts ordered ends c.in-None.ensures
 
 pub returns-in-Some-clause-first_flaw : goal.returns-in-Some-clause-first_flaw
@@ -54,5 +54,5 @@ returns-in-Some-clause-first_flaw g c =
     let counted : length c.as_slice-stops.result.now ≡ c.args.pes + 1 = c.if-stops-from.false ∙ ap (λ n. n + 1) c.from.ensures in
     let starts : slice_index c.as_slice-stops.result.now 0 ≡ 0 = c.if-stops-ne0.false in
     let ordered : IsNonDecreasing c.as_slice-stops.result.now = c.if-not-rises.ensures in
-    let ends : slice_index c.as_slice-stops.result.now c.args.pes < length c.args.loads.now = subst (λ n. slice_index c.as_slice-stops.result.now c.args.pes < n) c.len.ensures.value c.if-stops-pes.false in
+    let ends : slice_index c.as_slice-stops.result.now c.args.pes < length c.args.loads.now = c.if-stops-pes.false in
     light_is_first c.args.loads.now c.args.pes c.args.division.now c.as_slice-stops.result.now c.in-Some.i c.requires.divides c.requires.within same counted starts ordered ends c.in-Some.ensures
