@@ -28,6 +28,19 @@ fn fills_and_empties<R: Wait, A: Allocator>(
     put && full && taken && empty
 }
 
+// The same in single attempts, with no other thread in the way.
+fn tries_so<A: Allocator>(post: &Post<char, A>, seat: &mut Seat<char, A>) -> bool
+    requires own { seat.old.post ≡ post.now }
+    requires known { 0 < pes post.now }
+    ensures { seat.new.post ≡ post.now }
+{
+    let put = post.try_put(seat, pe(0), 'a') == Ok(());
+    let full = post.try_put(seat, pe(0), 'b') == Err('b');
+    let taken = post.try_take(seat, pe(0)) == Some('a');
+    let empty = post.try_take(seat, pe(0)).is_none();
+    put && full && taken && empty
+}
+
 // The post and the seat that are handed back where one seat is out.
 fn refused<R: Wait, A: Allocator>(
     post: Post<char, A>,
@@ -50,7 +63,7 @@ fn refused<R: Wait, A: Allocator>(
 // Whether a queue of one place fills and empties so, and what is put into it then is left.
 fn holds_one<R: Wait, A: Allocator + Copy>(rt: &R, alloc: A) -> Result<bool, Fail> {
     let (post, mut first, second) = two_seats(alloc, 1)?;
-    let emptied = fills_and_empties(rt, &post, &mut first);
+    let emptied = fills_and_empties(rt, &post, &mut first) && tries_so(&post, &mut first);
     let put = post.put(rt, &mut first, pe(0), 'b').is_ok();
     let (post, first) = refused(post, rt, first)?;
     let all = post.join(second, first);
