@@ -1,3 +1,4 @@
 pub mod Courses
+pub mod Generators
 pub mod Replays
 pub mod Schedules

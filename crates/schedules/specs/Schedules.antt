@@ -1,11 +1,16 @@
--- When a run on one thread does not begin, and for what.
-use Rattle.std.specs.Prelude.{ℕ, ◌≤◌}
+-- What the usual schedule is; and when a run on one thread does not begin, and for what.
+use Rattle.std.specs.Prelude.{ℕ, ◌≤◌, None, false}
 use Rattle.chare_index.specs.declared.limits.TheConstants.Limits.{PES, ELEMENTS}
 use Rattle.rts_run.specs.Configs.{IsOneTo}
 use Rattle.rts_run.specs.declared.error.RunError.{RunError}
 use Rattle.rts_run.specs.declared.error.RunError.TheVariants as Why
 use Rattle.rts_run.specs.declared.error.Setting.TheVariants as Of
+use Rattle.schedules.specs.declared.bias.Bias.{Bias}
 use Rattle.schedules.specs.declared.schedule.Schedule.{Schedule}
+
+-- nothing is drawn more often than the rest, or less
+abbrev pub no_bias : Bias
+no_bias = record { letters_first = false; moves_first = false; stale_looks = false; starved = None }
 
 -- n elements may run on the PEs of a schedule
 abbrev pub MayExplore : Schedule → ℕ → Type 0

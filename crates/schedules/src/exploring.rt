@@ -1,6 +1,7 @@
 //! Runs by a seed.
 
-ghost use Rattle.std.specs.Prelude.{◌≡◌, ◌+◌, ◌≤◌, [], IfOk, MatchResult, length};
+ghost use Rattle.std.specs.Prelude.{◌≡◌, ◌+◌, ◌≤◌, [], Some, IfOk, OnErr, MatchBool, MatchResult, length};
+ghost use Rattle.pe_worker.specs.declared.fault.Fault.TheVariants.{Stopped};
 ghost use Rattle.schedules.specs.Courses.{IsExplored};
 ghost use Rattle.schedules.specs.Schedules.{MayExplore, RefusesSchedule};
 
@@ -40,6 +41,7 @@ pub fn explore<C: Chare<A>, A: Allocator + Copy>(
     ensures answer { MatchResult result (λ _. MayExplore schedule.now (length chares.items)) (RefusesSchedule schedule.now (length chares.items)) }
     ensures explored { IfOk result (IsExplored C.step C.fits C.pack C.unpack chares.items schedule.now.pes schedule.now.strategy) }
     ensures few { IfOk result (λ x. length x.steps ≤ schedule.now.steps) }
+    ensures stopped { IfOk result (λ x. x.outcome.fault ≡ Some Stopped → length x.steps ≡ schedule.now.steps) }
 {
     if let Some(setting) = schedule.first_outside(chares.len()) {
         return Err(RunError::Config(setting));
@@ -62,6 +64,7 @@ fn explore_as<C: Chare<A>, H: Openings<C>, A: Allocator + Copy>(
     requires opened { chares.items ≡ H.opened }
     ensures explored { IfOk result (IsExplored C.step C.fits C.pack C.unpack H.opened H.pes schedule.now.strategy) }
     ensures few { IfOk result (λ x. length x.steps ≤ schedule.now.steps) }
+    ensures stopped { IfOk result (λ x. x.outcome.fault ≡ Some Stopped → length x.steps ≡ schedule.now.steps) }
 {
     let mut course = Course::<C, H, A>::new(alloc, schedule.pes, chares, schedule.strategy)?;
     let mut chooser = Chooser::new(alloc, course.world(), seed, schedule.bias)?;
@@ -78,38 +81,42 @@ fn draw_steps<C: Chare<A>, H: Openings<C>, A: Allocator + Copy>(
     requires fresh { course.old.steps ≡ [] }
     ensures strategy { course.new.strategy ≡ course.old.strategy }
     ensures few { length course.new.steps ≤ steps }
+    ensures stopped { result.fault ≡ Stopped → length course.new.steps ≡ steps }
 {
     for _step in 0..steps {
         if chooser.is_done(course.world()) {
-            return Ending::at_last();
+            return Ending::idle();
         }
         let Some(event) = chooser.draw(course.world()) else {
             return Ending::idle();
         };
-        if let Err(error) = draw_step(course, chooser, &event) {
-            return Ending::refused(error, event);
+        match draw_step(course, chooser, &event) {
+            Ok(true) => {}
+            Ok(false) => return Ending::idle(),
+            Err(error) => return Ending::refused(error, event),
         }
     }
     Ending::at_last()
 }
 
-// Takes a step that was drawn, and sees what it has changed.
+// Takes a step that was drawn, and sees what it has changed; or returns false where the event is not enabled.
 fn draw_step<C: Chare<A>, H: Openings<C>, A: Allocator + Copy>(
     course: &mut Course<C, H, A>,
     chooser: &mut Chooser<A>,
     event: &Event,
-) -> Result<(), StepError>
+) -> Result<bool, StepError>
     ensures strategy { course.new.strategy ≡ course.old.strategy }
-    ensures few { length course.new.steps ≤ length course.old.steps + 1 }
+    ensures one { IfOk result (λ taken. MatchBool taken (length course.new.steps ≡ length course.old.steps + 1) (course.new.steps ≡ course.old.steps)) }
+    ensures none { OnErr result (course.new.steps ≡ course.old.steps) }
 {
     let to = goes_to(course.world(), event);
     if !course.take(event)? {
-        return Ok(());
+        return Ok(false);
     }
     if let Some(step) = course.steps().last() {
         chooser.see(course.world(), event, to, step.entries());
     }
-    Ok(())
+    Ok(true)
 }
 
 // The PE whose queue an event puts a parcel into.

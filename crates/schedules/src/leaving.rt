@@ -1,6 +1,7 @@
 //! What a course leaves.
 
-ghost use Rattle.std.specs.Prelude.{◌≡◌, IfOk, IfSome, None, Some, map};
+ghost use Rattle.std.specs.Prelude.{◌≡◌, ◌≢◌, IfOk, IfSome, None, Some, map};
+ghost use Rattle.pe_worker.specs.declared.fault.Fault.TheVariants.{Stopped};
 ghost use Rattle.schedules.specs.Courses.{IsDone, IsExplored};
 
 use crate::course::Course;
@@ -13,47 +14,51 @@ use run_account::take_next;
 use std::alloc::{AllocError, Allocator};
 use std::collections::VecDeque;
 
-/// Why a course ended, where a fault ended it, and the event that was refused.
+/// How a course ended: the event that was refused, if one was, and the fault that it ends with where one was or it is not done.
 #[derive(Clone, Copy)]
 pub(crate) struct Ending {
-    pub(crate) fault: Option<Fault>,
+    pub(crate) fault: Fault,
     pub(crate) refused: Option<Event>,
 }
 
 impl Ending {
-    /// No event was refused, and whether the course is done is seen from its world.
+    /// Its events are used up.
     pub(crate) fn at_last() -> Self
         ensures refused { result.refused ≡ None }
     {
         Ending {
-            fault: None,
+            fault: Fault::Stopped,
             refused: None,
         }
     }
 
-    /// Nothing is enabled, and yet the course is not done.
+    /// Nothing more may happen.
     pub(crate) fn idle() -> Self
+        ensures fault { result.fault ≢ Stopped }
         ensures refused { result.refused ≡ None }
     {
         Ending {
-            fault: Some(Fault::Idle),
+            fault: Fault::Idle,
             refused: None,
         }
     }
 
     /// This event was refused.
     pub(crate) fn refused(error: StepError, event: Event) -> Self
+        ensures fault { result.fault ≢ Stopped }
         ensures refused { result.refused ≡ Some event }
     {
         Ending {
-            fault: Some(fault_of(error)),
+            fault: fault_of(error),
             refused: Some(event),
         }
     }
 }
 
 // The fault that a refused step comes to.
-fn fault_of(error: StepError) -> Fault {
+fn fault_of(error: StepError) -> Fault
+    ensures value { result ≢ Stopped }
+{
     match error {
         StepError::OutOfMemory => Fault::OutOfMemory,
         StepError::Unpack => Fault::Unpack,
@@ -72,9 +77,10 @@ pub(crate) fn leave<C: Chare<A>, H: Openings<C>, A: Allocator + Copy>(
     ensures explored { IfOk result (IsExplored C.step C.fits C.pack C.unpack H.opened H.pes course.strategy) }
     ensures steps { IfOk result (λ x. x.steps ≡ course.steps) }
     ensures refused { IfOk result (λ x. x.refused ≡ ending.refused) }
+    ensures fault { IfOk result (λ x. IfSome x.outcome.fault (λ fault. fault ≡ ending.fault)) }
 {
     let (world, steps) = course.into_parts();
-    let fault = fault_at_end(&world, ending.fault);
+    let fault = fault_at_end(&world, &ending);
     let (pes, queues, words, board) = world.into_parts();
     let ends = ends_of(alloc, pes)?;
     let left = left_in(alloc, queues)?;
@@ -82,21 +88,21 @@ pub(crate) fn leave<C: Chare<A>, H: Openings<C>, A: Allocator + Copy>(
     Ok(Explored::new(outcome, words, steps, ending.refused))
 }
 
-// The fault of a world that met this one. Where none was met, and yet it is not done, its events were used up.
+// The fault of a world whose course ended so.
 fn fault_at_end<C: Chare<A>, H: Openings<C>, A: Allocator>(
     world: &World<C, H, A>,
-    met: Option<Fault>,
+    ending: &Ending,
 ) -> Option<Fault>
-    ensures met { IfSome met (λ fault. result ≡ Some fault) }
+    ensures value { IfSome result (λ fault. fault ≡ ending.now.fault) }
     ensures done { result ≡ None → IsDone world.now }
 {
-    if met.is_some() {
-        return met;
+    if ending.refused.is_some() {
+        return Some(ending.fault);
     }
     if world.board().all_finished() && world.account().held == 0 {
         return None;
     }
-    Some(Fault::Stopped)
+    Some(ending.fault)
 }
 
 // The ends of these PEs.

@@ -1,6 +1,7 @@
 ghost use Rattle.std.specs.Prelude.{◌≡◌, MatchOption};
+ghost use Rattle.at_sync.specs.declared.strategy.Strategy.TheVariants.{Least};
 ghost use Rattle.rts_run.specs.declared.error.RunError.TheVariants.{Config};
-ghost use Rattle.schedules.specs.Schedules.{MayExplore, RefusesSchedule};
+ghost use Rattle.schedules.specs.Schedules.{MayExplore, RefusesSchedule, no_bias};
 
 use crate::bias::Bias;
 use at_sync::Strategy;
@@ -24,6 +25,9 @@ impl Schedule {
     /// The usual one on so many PEs, 1 to [`Limits::PES`]: rounds by [`Strategy::Least`], up to 1,000,000 events, and no bias.
     pub fn usual(pes: u32) -> Self
         ensures pes { result.pes ≡ pes }
+        ensures strategy { result.strategy ≡ Least }
+        ensures steps { result.steps ≡ 1_000_000 }
+        ensures bias { result.bias ≡ no_bias }
     {
         Schedule {
             pes,
