@@ -6,35 +6,17 @@
 //! - `run`: what the threads share, and a whole run.
 //! - `pe`: a PE, its elements, and what it does in a turn.
 //! - `board`: where the PEs report, and each round is decided.
+//! - `workload`: what runs.
 mod board;
 #[expect(dead_code, reason = "a run prints neither the fence nor the loads of blocks")]
 mod decision;
 mod pe;
 mod run;
+mod workload;
 
 use std::io::{self, Write};
 use std::process::ExitCode;
-
-/// What runs: on so many PEs, so many rounds of chares with so much padding, and of each round the amounts.
-pub struct Workload {
-    pub pes: usize,
-    pub pad: usize,
-    pub chares: usize,
-    pub rounds: Vec<Vec<u32>>,
-}
-
-impl Workload {
-    fn parse(text: &str) -> Option<Self> {
-        let mut lines = text.lines();
-        let mut number = |word: &str| -> Option<usize> { lines.next()?.strip_prefix(word)?.trim_start().parse().ok() };
-        let (pes, rounds) = (number("pes")?, number("rounds")?);
-        let (pad, chares) = (number("pad")?, number("chares")?);
-        let amounts = |line: &str| line.strip_prefix("amounts")?.split_whitespace().map(|word| word.parse().ok()).collect();
-        let found: Vec<Vec<u32>> = lines.map(amounts).collect::<Option<_>>()?;
-        let is_whole = found.len() == rounds && found.iter().all(|row| row.len() == chares) && (1..=256).contains(&pes);
-        is_whole.then_some(Workload { pes, pad, chares, rounds: found })
-    }
-}
+use workload::Workload;
 
 fn print(outcome: &run::Outcome, out: &mut impl Write) -> io::Result<()> {
     for (at, round) in outcome.rounds.iter().enumerate() {

@@ -26,20 +26,32 @@ pub struct Decision {
     pub sums: Vec<u64>,
 }
 
+/// What finds the PE of each block, by what each would cost, row by row.
+type Names = fn(&[i64], usize) -> Vec<usize>;
+
 impl Decision {
     /// The decision for so many PEs.
     pub fn of(chain: &Chain, pes: usize) -> Self {
+        Decision::named_by(names, chain, pes)
+    }
+
+    /// The same, with the blocks named so.
+    pub fn named_by(names: Names, chain: &Chain, pes: usize) -> Self {
         let sums = running_sums(&chain.loads);
         let bottleneck = least_bottleneck(&chain.loads, &sums, pes);
         let cuts = cut(&sums, pes, bottleneck);
         let fence = fence(&sums, pes, bottleneck);
-        let (names, moved) = named(chain, &cuts, pes);
+        let (names, moved) = by(names, chain, &cuts, pes);
         Decision { bottleneck, cuts, fence, names, moved, sums }
     }
 }
 
 /// The cheapest names of these blocks, and the bytes that move.
 pub fn named(chain: &Chain, cuts: &[usize], pes: usize) -> (Vec<usize>, u64) {
+    by(names, chain, cuts, pes)
+}
+
+fn by(names: Names, chain: &Chain, cuts: &[usize], pes: usize) -> (Vec<usize>, u64) {
     let costs = costs(chain, cuts, pes);
     let names = names(&costs, pes);
     let moved = names.iter().enumerate().map(|(block, &pe)| costs[block * pes + pe] as u64).sum();
@@ -157,13 +169,13 @@ struct Near {
 }
 
 /// The search for the names: prices of blocks and PEs, which no cost undercuts, the block of each PE and the PE of each block.
-struct Search<'a> {
-    costs: &'a [i64],
-    pes: usize,
-    block_prices: Vec<i64>,
-    pe_prices: Vec<i64>,
-    holders: Vec<usize>,
-    names: Vec<usize>,
+pub struct Search<'a> {
+    pub costs: &'a [i64],
+    pub pes: usize,
+    pub block_prices: Vec<i64>,
+    pub pe_prices: Vec<i64>,
+    pub holders: Vec<usize>,
+    pub names: Vec<usize>,
     to_scan: Vec<Near>,
     scanned: Vec<Near>,
     /// The block before each PE on a way.
@@ -239,6 +251,11 @@ impl Search<'_> {
 
 /// The PE of each block, so that the fewest bytes move.
 fn names(costs: &[i64], pes: usize) -> Vec<usize> {
+    searched(costs, pes).names
+}
+
+/// The search for the names, at its end.
+pub fn searched(costs: &[i64], pes: usize) -> Search<'_> {
     let mut search = Search {
         costs,
         pes,
@@ -253,5 +270,5 @@ fn names(costs: &[i64], pes: usize) -> Vec<usize> {
     for block in 0..pes {
         search.name(block);
     }
-    search.names
+    search
 }

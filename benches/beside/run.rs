@@ -1,7 +1,7 @@
 //! What the threads share, and a whole run.
-use crate::Workload;
 use crate::board::{Board, Round};
 use crate::pe::{Element, Item, Pe};
+use crate::workload::Workload;
 use crossbeam_queue::ArrayQueue;
 use std::sync::Mutex;
 use std::sync::atomic::{AtomicU32, AtomicUsize};

@@ -1,14 +1,16 @@
 #!/usr/bin/env python3
 """The lists of events that slow_schedule.py draws for some seeds, which are kept in the folder expected.
 
-    lists.py             compares the files with what slow_schedule.py says; the status is 1 where one differs
-    lists.py --write     writes them
-    lists.py --rattle    prints them as a table for a test
+    lists.py                   compares the files with what slow_schedule.py says; the status is 1 where one differs
+    lists.py --beside PROGRAM  compares them with what the plain program of benches/beside/schedules.rs says, which knows no tolerance
+    lists.py --write           writes them
+    lists.py --rattle          prints them as a table for a test
 
 NAME.events is a list of events, and NAME.stdout what charm_run prints of that run. The seeds were chosen so that each rule of
 docs/SCHEDULES.md and docs/EVENTS.md that can change a list changes one of these.
 """
 import os
+import subprocess
 import sys
 
 sys.dont_write_bytecode = True
@@ -58,16 +60,25 @@ def files():
             yield f"{name}.{ending}", text
 
 
+def said(program, name, workload, seed, asked):
+    """The same, as this program says it, and the files that keep it."""
+    words = [program, WORKLOADS[workload], "--seed", str(seed)]
+    for option, value in asked.items():
+        words += ["--" + option.replace("_", "-"), *([] if value is True else [str(value)])]
+    for ending, more in (("events", ["--events"]), ("stdout", [])):
+        yield f"{name}.{ending}", subprocess.run(words + more, stdout=subprocess.PIPE, check=True, encoding="ascii").stdout
+
+
 def write():
     for name, text in files():
         with open(os.path.join(FOLDER, name), "w", encoding="ascii") as file:
             file.write(text)
 
 
-def compare():
-    wanted = dict(files())
+def compare(wanted, is_all):
+    """Compares the files with these, which are all of them or some."""
     there = {name for name in os.listdir(FOLDER) if name.endswith((".events", ".stdout"))}
-    different = sorted(there ^ wanted.keys())
+    different = sorted(there ^ wanted.keys() if is_all else wanted.keys() - there)
     for name in sorted(there & wanted.keys()):
         with open(os.path.join(FOLDER, name), encoding="ascii", newline="") as file:
             if file.read() != wanted[name]:
@@ -114,8 +125,10 @@ def main(words):
         write()
     elif words == ["--rattle"]:
         print(table())
+    elif words[:1] == ["--beside"] and len(words) == 2:
+        return compare(dict(file for run in RUNS if "tolerance" not in run[3] for file in said(words[1], *run)), is_all=False)
     elif not words:
-        return compare()
+        return compare(dict(files()), is_all=True)
     else:
         sys.exit(__doc__)
     return 0
