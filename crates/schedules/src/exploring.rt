@@ -25,7 +25,8 @@ use std::marker::Brand;
 ///
 /// Of what it returns the clause `explored` says: the steps lead from the opening to the world that is left, each of them
 /// enabled; each letter that was posted is in one place or was executed once, by its own element; each element is what its
-/// journal says; and without a fault every element has finished and no letter is held.
+/// journal says; and without a fault every element has finished and no letter is held. It ends as
+/// [`Stopped`](rts_run::Fault::Stopped) only where it has taken as many steps as the schedule allows.
 ///
 /// # Errors
 ///
