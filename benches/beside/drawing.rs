@@ -18,38 +18,49 @@ impl Numbers {
     }
 }
 
+/// How many words of a set are counted together.
+const BLOCK: usize = 16;
+
 /// Numbers below a bound, a bit for each.
 pub struct Set {
     words: Vec<u64>,
+    /// How many numbers each block of words has.
+    blocks: Vec<u64>,
     len: u64,
 }
 
 impl Set {
     pub fn new(bound: usize) -> Self {
-        Set { words: vec![0; bound.div_ceil(64)], len: 0 }
+        let words = bound.div_ceil(64);
+        Set { words: vec![0; words], blocks: vec![0; words.div_ceil(BLOCK)], len: 0 }
     }
 
     pub fn put(&mut self, number: usize, is_in: bool) {
-        let word = &mut self.words[number / 64];
+        let at = number / 64;
         let bit = 1 << (number % 64);
-        if (*word & bit != 0) != is_in {
-            *word ^= bit;
-            self.len = if is_in { self.len + 1 } else { self.len - 1 };
+        if (self.words[at] & bit != 0) != is_in {
+            self.words[at] ^= bit;
+            let block = &mut self.blocks[at / BLOCK];
+            (*block, self.len) = if is_in { (*block + 1, self.len + 1) } else { (*block - 1, self.len - 1) };
         }
     }
 
     /// The number that has so many others before it.
     fn nth(&self, before: u64) -> usize {
-        let mut left = before;
-        for (at, &word) in self.words.iter().enumerate() {
-            let ones = u64::from(word.count_ones());
+        let (mut at, mut left) = (0, before);
+        while self.blocks[at / BLOCK] <= left {
+            left -= self.blocks[at / BLOCK];
+            at += BLOCK;
+        }
+        loop {
+            let ones = u64::from(self.words[at].count_ones());
             if left < ones {
-                let rest = (0..left).fold(word, |rest, _| rest & (rest - 1));
+                let rest = (0..left).fold(self.words[at], |rest, _| rest & (rest - 1));
                 return at * 64 + rest.trailing_zeros() as usize;
             }
             left -= ones;
+            at += 1;
         }
-        unreachable!("fewer numbers than their count says")
     }
 }
 
