@@ -6,7 +6,7 @@ use at_sync::Strategy;
 use chain_refinement::Tolerance;
 use chare_index::Pe;
 use rts_core::Event;
-use schedules::{Bias, Explored, Schedule, explore};
+use schedules::{Bias, Explored, Schedule, SplitMix64, explore};
 use std::alloc::AllocError;
 use std::process::Abort;
 use tally::Tally;
@@ -70,4 +70,13 @@ fn each_seed_leads_to_its_list(rt: HostRuntime) {
         assert_for(&rt, run.refused() == None, listed.name);
         expect_text(&rt, text_of(&rt, &run).as_str(), listed.events);
     }
+}
+
+// The first outputs of SplitMix64 that is seeded with 1234567, as they are published; the third is 0.532 times 2^64.
+#[test]
+fn the_generator_gives_the_published_numbers(rt: HostRuntime) {
+    let mut numbers = SplitMix64::new(1_234_567);
+    assert!(rt; numbers.next() == 6_457_827_717_110_365_317);
+    assert!(rt; numbers.next() == 3_203_168_211_198_807_973);
+    assert!(rt; numbers.below(1_000) == 532);
 }
