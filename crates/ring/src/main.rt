@@ -10,6 +10,7 @@ use pup_pack::{Pup, PupError};
 use rts_core::Account;
 use rts_run::{Config, Outcome, RunError, run};
 use std::alloc::{AllocError, Allocator};
+use std::fmt::Display;
 use std::marker::Model;
 use std::process::ExitCode;
 use std::sync::Wait;
@@ -119,38 +120,50 @@ fn next(me: Index, n: u32) -> Index
 }
 
 fn main(rt: HostRuntime) -> ExitCode {
-    let Ok(
-        Account {
-            posted,
-            executed,
-            held,
-        },
-    ) = counted(&rt, 100, 10)
-    else {
-        return ExitCode::from(1);
+    let outcome = match ran(&rt, 100, 10) {
+        Ok(outcome) => outcome,
+        Err(error) => return failed(&rt, &error),
     };
-    match println!(rt; "posted {posted} executed {executed} held {held}") {
-        Ok(()) => ExitCode::from(0),
-        Err(_) => ExitCode::from(1),
+    match outcome.fault() {
+        Some(fault) => failed(&rt, &fault),
+        None => printed(&rt, outcome.account()),
     }
 }
 
-// The letters of so many members on two PEs, each of which the token visits so often.
-fn counted<R: Threads + Wait + Sync + AllocGlobal>(
+// Reports why there is no account.
+fn failed<E: Display>(rt: &impl Eprint, error: &E) -> ExitCode {
+    let _ = eprintln!(rt; "ring: {error}");
+    ExitCode::from(1)
+}
+
+fn printed(rt: &(impl Print + Eprint), account: Account) -> ExitCode {
+    let Account {
+        posted,
+        executed,
+        held,
+    } = account;
+    match println!(rt; "posted {posted} executed {executed} held {held}") {
+        Ok(()) => ExitCode::from(0),
+        Err(error) => failed(rt, &error),
+    }
+}
+
+// Runs so many members on two PEs, each of which the token visits so often.
+fn ran<R: Threads + Wait + Sync + AllocGlobal>(
     rt: &R,
     members: u32,
     visits: u32,
-) -> Result<Account, RunError> {
+) -> Result<Outcome<Member>, RunError> {
     let config = Config::usual(2);
     let chares = ring(rt, members, visits)?;
     let outcome: Outcome<Member> = run(rt, rt.alloc(), &config, &NoGate, chares)?;
-    Ok(outcome.account())
+    Ok(outcome)
 }
 
 fn ring<R: AllocGlobal>(rt: &R, members: u32, visits: u32) -> Result<Vec<Member>, AllocError> {
     let mut chares = Vec::with_capacity(rt.alloc(), members as usize)?;
     for _ in 0..members {
-        let _ = chares.push(Member { left: visits });
+        chares.push(Member { left: visits })?;
     }
     Ok(chares)
 }
