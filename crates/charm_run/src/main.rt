@@ -1,19 +1,25 @@
 //! `charm_run [--dump PREFIX] [--lbd1] [--progress] [--tolerance T] FILE` runs the chares of a workload over threads: it prints what each
-//! round decided, what each chare added up, and where every letter is.
+//! round decided, what each chare added up, and where every letter is. With `--seed S`, `--seeds N` or `--replay LIST` it runs them on
+//! one thread, in an order of events that can be repeated; `--events LIST` writes that order.
 //!
-//! - `run_command_line::asked`: what the words of the command line ask for, and the status where they ask for no run.
+//! - `run_command_line::asked`: what the words of the command line ask for, and the status where they ask for no run;
+//!   `Asked::task`: how the chares are run, if the options go together.
 //! - `workload_run::drive_file`: the run of a workload, from a file to its text; `write_asked`: the dumps of its rounds, and
 //!   the status.
+//! - `one_thread`: the runs on one thread, by the crate `schedule_run`.
 //! - `progress_line::Progress`: what is written to the standard error meanwhile; `file_faults::Advice`: what is told of a
 //!   file with a fault.
 #![tactic(auto)]
 
+mod one_thread;
+
 ghost use Rattle.std.specs.Prelude.{None};
 
+use crate::one_thread::{run_by_list, run_by_seed, run_by_seeds};
 use file_faults::Advice;
 use progress_line::Progress;
 use rts_run::{Strategy, Tolerance};
-use run_command_line::{Asked, NO_WORDS, asked, words_status};
+use run_command_line::{Asked, NO_WORDS, Task, asked, refuse, words_status};
 use std::env;
 use std::fs::{File, Files};
 use std::io::{self, IsTerminal, Write};
@@ -27,14 +33,14 @@ use workload_run::{DumpFiles, DumpFormat, NotWritten, drive_file, write_asked};
 const TURNS: u64 = 1_000_000_000;
 
 /// What to do about a file with a fault.
-const ADVICE: Advice<'static> = Advice {
+pub(crate) const ADVICE: Advice<'static> = Advice {
     program: "charm_run",
     unread: "give a file with a workload that you may read, or /dev/stdin for the standard input",
     wrong: "give a workload: pes, rounds, pad and chares, a line each, and then the amounts of each round",
 };
 
 /// The status where the file cannot be read, or its workload has a fault.
-const FAULT: u8 = 3;
+pub(crate) const FAULT: u8 = 3;
 
 fn main(rt: HostRuntime) -> ExitCode {
     let Ok(args) = env::args(&rt) else {
@@ -53,12 +59,28 @@ fn main(rt: HostRuntime) -> ExitCode {
     match asked(rt.alloc(), &words) {
         Ok(asked) => {
             let progress = asked.progress || rt.stderr().is_terminal();
-            ExitCode::from(ran(&rt, &asked, progress, &mut rt.stderr()))
+            ExitCode::from(done(&rt, &asked, progress, &mut rt.stderr()))
         }
         Err(error) => {
             let _ = error.print(&rt);
             ExitCode::from(words_status(&error))
         }
+    }
+}
+
+// Does what is asked for, and returns the status. No file is opened where the options do not go together.
+fn done<R: Threads + Wait + Sync + Files + Clock + Print + Eprint + AllocGlobal, E: Write>(
+    rt: &R,
+    asked: &Asked<'_>,
+    progress: bool,
+    errors: &mut E,
+) -> u8 {
+    match asked.task() {
+        Ok(Task::Threads) => ran(rt, asked, progress, errors),
+        Ok(Task::Seed(seed)) => run_by_seed(rt, asked, seed, errors),
+        Ok(Task::Seeds(seeds)) => run_by_seeds(rt, asked, seeds, errors),
+        Ok(Task::Replay(list)) => run_by_list(rt, asked, list, errors),
+        Err(clash) => refuse(errors, clash),
     }
 }
 
@@ -108,7 +130,7 @@ fn ran<R: Threads + Wait + Sync + Files + Clock + Print + Eprint + AllocGlobal, 
 }
 
 // Tells the name of a dump that was not written, and the system's reason, or else what was wrong.
-fn tell_dump<R: Eprint>(rt: &R, prefix: &str, dump: NotWritten) {
+pub(crate) fn tell_dump<R: Eprint>(rt: &R, prefix: &str, dump: NotWritten) {
     let _ = match dump.reason {
         Some(reason) => eprintln!(rt; "charm_run: {prefix}.{}: {reason}", dump.round),
         None => eprintln!(rt; "charm_run: {prefix}.{}: {}", dump.round, dump.fault),
@@ -117,7 +139,7 @@ fn tell_dump<R: Eprint>(rt: &R, prefix: &str, dump: NotWritten) {
 
 // The files of the system.
 #[derive(Drop)]
-struct SystemFiles<'a, R>(&'a R);
+pub(crate) struct SystemFiles<'a, R>(pub(crate) &'a R);
 
 impl<R: Files> DumpFiles for SystemFiles<'_, R> {
     type File = R::File;

@@ -1,9 +1,12 @@
--- What clap reads from the words of a command line: `charm_run [--dump PREFIX] [--lbd1] [--progress] [--tolerance T] FILE`.
-use Rattle.std.specs.Prelude.{ℕ, ◌≡◌, ◌≤◌, List, Option, None, Some, codes, pos, true}
+-- What clap reads from the words of a command line: `charm_run [--dump PREFIX] [--lbd1] [--progress] [--tolerance T] [--seed S]
+-- [--seeds N] [--events FILE] [--replay FILE] [--trace FILE] FILE`.
+use Rattle.std.specs.Prelude.{ℕ, ◌≡◌, ◌≤◌, List, [], ◌∷◌, ◌++◌, Option, None, Some, codes, pos, true}
 use Rattle.std.specs.Str.Parse.{IsNumeral, digits_value, without_leading_plus}
 use Rattle.clap.specs.Words.{App, Rule, Text, first_of, matches_of, new_app, new_rule, one_of, with_rule}
 use Rattle.clap.specs.declared.builder.action.ArgAction.TheVariants.{Set, SetTrue}
-use Rattle.clap.specs.declared.builder.value_parser.ValueParser.TheVariants.{Signed}
+use Rattle.clap.specs.declared.builder.value_parser.ValueParser.TheVariants.{Signed, Unsigned}
+use Rattle.run_command_line.specs.declared.request.Clash.{Clash}
+use Rattle.run_command_line.specs.declared.request.Clash.TheVariants.{SeedAndSeeds, SeedAndReplay, SeedsAndReplay, EventsWithoutSeed, SeedsAndDump, SeedsAndTrace}
 
 -- the workload, which has to be named
 abbrev pub file_rule : Rule
@@ -37,14 +40,58 @@ tolerance_rule = record (new_rule (codes "tolerance")) {
   parser = Some (Signed (pos 0) (pos 1000));
 }
 
+-- the seed of a run on one thread
+abbrev pub seed_rule : Rule
+seed_rule = record (new_rule (codes "seed")) {
+  long = Some (codes "seed");
+  action = Some Set;
+  value_names = 1;
+  parser = Some (Unsigned 0 18446744073709551615);
+}
+
+-- how many seeds are run
+abbrev pub seeds_rule : Rule
+seeds_rule = record (new_rule (codes "seeds")) {
+  long = Some (codes "seeds");
+  action = Some Set;
+  value_names = 1;
+  parser = Some (Signed (pos 1) (pos 1000000));
+}
+
+-- the file that a list of events goes to, that which has one, and the file that a trace goes to
+abbrev pub events_rule : Rule
+events_rule = record (new_rule (codes "events")) {
+  long = Some (codes "events");
+  action = Some Set;
+  value_names = 1;
+}
+
+abbrev pub replay_rule : Rule
+replay_rule = record (new_rule (codes "replay")) {
+  long = Some (codes "replay");
+  action = Some Set;
+  value_names = 1;
+}
+
+abbrev pub trace_rule : Rule
+trace_rule = record (new_rule (codes "trace")) {
+  long = Some (codes "trace");
+  action = Some Set;
+  value_names = 1;
+}
+
 -- the program before its words are declared: it has a version
 abbrev pub versioned : App
 versioned = let plain = new_app (codes "charm_run") in record plain { top = record plain.top { has_version = true } }
 
+-- with the words for runs on one thread
+abbrev pub with_schedules : App → App
+with_schedules app =
+    with_rule (with_rule (with_rule (with_rule (with_rule app seed_rule) seeds_rule) events_rule) replay_rule) trace_rule
+
 -- the program with its words, to which clap adds those that ask for help and for the version
 abbrev pub program : App
-program =
-    with_rule (with_rule (with_rule (with_rule (with_rule versioned file_rule) dump_rule) lbd1_rule) progress_rule) tolerance_rule
+program = with_schedules (with_rule (with_rule (with_rule (with_rule (with_rule versioned file_rule) dump_rule) lbd1_rule) progress_rule) tolerance_rule)
 
 -- the word that names the file
 abbrev pub file_in : List Text → Option Text
@@ -58,6 +105,33 @@ dump_in words = first_of (codes "dump") (matches_of program words)
 abbrev pub tolerance_in : List Text → Option Text
 tolerance_in words = one_of (codes "tolerance") (matches_of program words)
 
+-- the words that say by which seed, and by how many
+abbrev pub seed_in : List Text → Option Text
+seed_in words = one_of (codes "seed") (matches_of program words)
+
+abbrev pub seeds_in : List Text → Option Text
+seeds_in words = one_of (codes "seeds") (matches_of program words)
+
+-- the words that name these three files
+abbrev pub events_in : List Text → Option Text
+events_in words = first_of (codes "events") (matches_of program words)
+
+abbrev pub replay_in : List Text → Option Text
+replay_in words = first_of (codes "replay") (matches_of program words)
+
+abbrev pub trace_in : List Text → Option Text
+trace_in words = first_of (codes "trace") (matches_of program words)
+
+-- the word spells a seed
+abbrev pub SpellsSeed : Option Text → ℕ → Type 0
+SpellsSeed None n = ⊥
+SpellsSeed (Some word) n = IsNumeral 10 (without_leading_plus word) × (n ≡ digits_value 10 (without_leading_plus word)) × (n ≤ 18446744073709551615)
+
+-- the word spells how many seeds there may be
+abbrev pub SpellsSeeds : Option Text → ℕ → Type 0
+SpellsSeeds None n = ⊥
+SpellsSeeds (Some word) n = IsNumeral 10 (without_leading_plus word) × (n ≡ digits_value 10 (without_leading_plus word)) × (1 ≤ n) × (n ≤ 1000000)
+
 -- the word spells a tolerance that there may be
 abbrev pub SpellsTolerance : Option Text → ℕ → Type 0
 SpellsTolerance None n = ⊥
@@ -69,3 +143,12 @@ AsksLbd1 words = one_of (codes "lbd1") (matches_of program words) ≡ Some (code
 
 abbrev pub TellsProgress : List Text → Type 0
 TellsProgress words = one_of (codes "progress") (matches_of program words) ≡ Some (codes "true")
+
+-- the line that tells which options do not go together, or which one is lacking
+abbrev pub clash_line : Clash → List ℕ
+clash_line SeedAndSeeds = codes "charm_run: --seed and --seeds" ++ 10 ∷ []
+clash_line SeedAndReplay = codes "charm_run: --seed and --replay" ++ 10 ∷ []
+clash_line SeedsAndReplay = codes "charm_run: --seeds and --replay" ++ 10 ∷ []
+clash_line EventsWithoutSeed = codes "charm_run: --events without --seed" ++ 10 ∷ []
+clash_line SeedsAndDump = codes "charm_run: --seeds and --dump" ++ 10 ∷ []
+clash_line SeedsAndTrace = codes "charm_run: --seeds and --trace" ++ 10 ∷ []

@@ -28,5 +28,11 @@ sums S0 S1 ..                  what each element summed up, in order of index
 fault WORD                     in place of sums: what ended the run early
 posted X executed Y held Z     letters sent, handled, and left over
 
-Statuses: 0 ended well, 2 words, 3 workload, 4 a fault of the run,
+With --seed S the same is printed of a run on one thread, whose order of events
+S decides; --replay LIST repeats the order that --events LIST wrote. With
+--seeds N it prints
+  seed S fault WORD held Z     the run by S ended early, with Z letters left
+  seeds N faults F             the seeds 1 to N ran, and F of them ended early
+
+Statuses: 0 ended well, 2 words, 3 workload or list, 4 a fault of a run,
 5 memory or output.";

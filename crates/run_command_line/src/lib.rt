@@ -2,7 +2,7 @@
 //! writes the texts of what it refuses, of help and of the version.
 //!
 //! ```
-//! use run_command_line::{NO_WORDS, asked, words_status};
+//! use run_command_line::{NO_WORDS, Task, asked, words_status};
 //!
 //! let words = ["charm_run", "--dump", "rounds", "--progress", "ring.work"];
 //! let asked_for = asked(alloc, &words).ok().ok_or("refused")?;
@@ -13,6 +13,10 @@
 //!     .err()
 //!     .ok_or("taken")?;
 //! assert!(rt; words_status(&error) == NO_WORDS);
+//!
+//! let words = ["charm_run", "--seed", "7", "ring.work"];
+//! let asked_for = asked(alloc, &words).ok().ok_or("refused")?;
+//! assert!(rt; asked_for.task() == Ok(Task::Seed(7)));
 //! ```
 #![tactic(auto)]
 
@@ -20,5 +24,5 @@ mod help;
 mod request;
 mod words;
 
-pub use request::Asked;
-pub use words::{NO_WORDS, asked, words_status};
+pub use request::{Asked, Clash, Task};
+pub use words::{NO_WORDS, asked, refuse, words_status};

@@ -1,3 +1,6 @@
+ghost use Rattle.std.specs.Prelude.{◌≡◌};
+ghost use Rattle.run_command_line.specs.Requests.{clash_with, clash_with_seeds, clash_without_seed, task_of, way_of};
+
 /// What the words of a command line ask for.
 #[derive(Clone, Copy, Debug, PartialEq, Eq)]
 pub struct Asked<'a> {
@@ -7,8 +10,121 @@ pub struct Asked<'a> {
     pub dump: Option<&'a str>,
     /// Whether dumps are written in the format LBD1, which has no decision.
     pub lbd1: bool,
-    /// Whether the progress of the run is written also where the standard error is no terminal.
+    /// Whether the progress of a run over threads is written also where the standard error is no terminal.
     pub progress: bool,
     /// The tolerance within which rounds are decided, in thousandths, 0 to 1,000.
     pub tolerance: Option<u32>,
+    /// The seed of a run on one thread.
+    pub seed: Option<u64>,
+    /// How many seeds are run, 1 to 1,000,000.
+    pub seeds: Option<u32>,
+    /// The file that the list of events of a run by a seed goes to.
+    pub events: Option<&'a str>,
+    /// The list of events of a run that is repeated.
+    pub replay: Option<&'a str>,
+    /// The file that the trace of a run goes to.
+    pub trace: Option<&'a str>,
+}
+
+/// How the chares of a workload are run.
+#[derive(Clone, Copy, Debug, PartialEq, Eq)]
+pub enum Task<'a> {
+    /// Over threads.
+    Threads,
+    /// On one thread, in the order of events that this seed decides.
+    Seed(u64),
+    /// The same by each of so many seeds, from 1 on.
+    Seeds(u32),
+    /// On one thread, by the list of events in the file of this name.
+    Replay(&'a str),
+}
+
+/// Options that do not go together, or of which one lacks the other.
+#[derive(Clone, Copy, Debug, PartialEq, Eq)]
+pub enum Clash {
+    /// One seed, and many.
+    SeedAndSeeds,
+    /// A seed, and a list of events.
+    SeedAndReplay,
+    /// Many seeds, and a list of events.
+    SeedsAndReplay,
+    /// A list of events is to be written, and no seed is given.
+    EventsWithoutSeed,
+    /// Many seeds, and dumps.
+    SeedsAndDump,
+    /// Many seeds, and a trace.
+    SeedsAndTrace,
+}
+
+impl<'a> Asked<'a> {
+    /// How the chares are run.
+    ///
+    /// # Errors
+    ///
+    /// The first that applies, in the order of [`Clash`].
+    pub fn task(self) -> Result<Task<'a>, Clash>
+        ensures value { result ≡ task_of self.entry }
+    {
+        let task = way_of(self.seed, self.seeds, self.replay)?;
+        match self.clash_with(task) {
+            Some(clash) => Err(clash),
+            None => Ok(task),
+        }
+    }
+
+    // The first option that does not go with a task.
+    fn clash_with(self, task: Task<'a>) -> Option<Clash>
+        ensures value { result ≡ clash_with self.entry task.entry }
+    {
+        match task {
+            Task::Threads | Task::Replay(_) => clash_without_seed(self.events),
+            Task::Seed(_) => None,
+            Task::Seeds(_) => clash_with_seeds(self.events, self.dump, self.trace),
+        }
+    }
+}
+
+// One way to run, of those that are asked for.
+fn way_of<'a>(
+    seed: Option<u64>,
+    seeds: Option<u32>,
+    replay: Option<&'a str>,
+) -> Result<Task<'a>, Clash>
+    ensures value { result ≡ way_of seed seeds replay.entry }
+{
+    match seed {
+        Some(seed) => match (seeds, replay) {
+            (Some(_), _) => Err(Clash::SeedAndSeeds),
+            (None, Some(_)) => Err(Clash::SeedAndReplay),
+            (None, None) => Ok(Task::Seed(seed)),
+        },
+        None => match (seeds, replay) {
+            (Some(_), Some(_)) => Err(Clash::SeedsAndReplay),
+            (Some(seeds), None) => Ok(Task::Seeds(seeds)),
+            (None, Some(replay)) => Ok(Task::Replay(replay)),
+            (None, None) => Ok(Task::Threads),
+        },
+    }
+}
+
+// What is lacking where there is no seed.
+fn clash_without_seed(events: Option<&str>) -> Option<Clash>
+    ensures value { result ≡ clash_without_seed events.entry }
+{
+    match events {
+        Some(_) => Some(Clash::EventsWithoutSeed),
+        None => None,
+    }
+}
+
+// What does not go with many seeds.
+fn clash_with_seeds(events: Option<&str>, dump: Option<&str>, trace: Option<&str>) -> Option<Clash>
+    ensures value { result ≡ clash_with_seeds events.entry dump.entry trace.entry }
+{
+    match (events, (dump, trace)) {
+        (Some(_), _) => Some(Clash::EventsWithoutSeed),
+        (None, (Some(_), _)) => Some(Clash::SeedsAndDump),
+        (None, (None, Some(_))) => Some(Clash::SeedsAndTrace),
+        (None, (None, None)) => None,
+    }
 }

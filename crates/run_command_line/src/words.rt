@@ -4,16 +4,21 @@ ghost use Rattle.clap.specs.Built.{FitsChain, TakesValue};
 ghost use Rattle.clap.specs.Values.{kind_of};
 ghost use Rattle.clap.specs.Walk.{texts};
 ghost use Rattle.clap.specs.Words.{FailsBy, app_of, fault_of, first_value, found_of, one_text, rule_of};
-ghost use Rattle.run_command_line.specs.CommandLine.{AsksLbd1, SpellsTolerance, TellsProgress, dump_in, dump_rule, file_in, file_rule, lbd1_rule, program, progress_rule, tolerance_in, tolerance_rule};
-ghost use Rattle.run_command_line.specs.Internal.{NamesFile};
-ghost use Rattle.clap.specs.declared.builder.value_parser.ValueParser.TheVariants.{Signed};
+ghost use Rattle.streams.specs.Writing.{WritesPrefix};
+ghost use Rattle.run_command_line.specs.CommandLine.{AsksLbd1, SpellsSeed, SpellsSeeds, SpellsTolerance, TellsProgress, clash_line, dump_in, events_in, file_in, lbd1_rule};
+ghost use Rattle.run_command_line.specs.CommandLine.{dump_rule, events_rule, file_rule, program, progress_rule, replay_in, replay_rule, seed_in, seed_rule, seeds_in, seeds_rule};
+ghost use Rattle.run_command_line.specs.CommandLine.{tolerance_in, tolerance_rule, trace_in, trace_rule, with_schedules};
+ghost use Rattle.run_command_line.specs.Internal.{IsBare, NamesFile};
+ghost use Rattle.clap.specs.declared.builder.value_parser.ValueParser.TheVariants.{Signed, Unsigned};
 ghost use Rattle.clap.specs.declared.error.kind.ErrorKind.TheVariants.{DisplayHelp, DisplayVersion};
 
 use crate::help::{ABOUT, HOW_TO};
-use crate::request::Asked;
+use crate::request::{Asked, Clash};
 use clap::builder::ValueParser;
 use clap::{Arg, ArgAction, ArgMatches, Command, Error, value_parser};
 use std::alloc::{AllocError, Global};
+use std::io::Write;
+use streams::write_out;
 
 /// The status where the words of the command line cannot be had, or are refused.
 pub const NO_WORDS: u8 = 2;
@@ -26,13 +31,37 @@ pub fn words_status(error: &Error) -> u8
     if error.use_stderr() { NO_WORDS } else { 0 }
 }
 
+/// Tells which options do not go together, and returns the status for that, [`NO_WORDS`].
+pub fn refuse<W: Write>(writer: &mut W, clash: Clash) -> u8
+    ensures told { WritesPrefix (W.contents writer.old) (W.contents writer.new) (clash_line clash) }
+    ensures status { result ≡ NO_WORDS }
+{
+    let _told = write_out(writer, line_of(clash).as_bytes());
+    NO_WORDS
+}
+
+// The line that tells of these options.
+fn line_of(clash: Clash) -> &'static str
+    ensures { result.now ≡ clash_line clash }
+{
+    match clash {
+        Clash::SeedAndSeeds => "charm_run: --seed and --seeds\n",
+        Clash::SeedAndReplay => "charm_run: --seed and --replay\n",
+        Clash::SeedsAndReplay => "charm_run: --seeds and --replay\n",
+        Clash::EventsWithoutSeed => "charm_run: --events without --seed\n",
+        Clash::SeedsAndDump => "charm_run: --seeds and --dump\n",
+        Clash::SeedsAndTrace => "charm_run: --seeds and --trace\n",
+    }
+}
+
 /// Reads the words of a command line, the program's name first.
 ///
 /// # Errors
 ///
-/// The words are not `[--dump PREFIX] [--lbd1] [--progress] [--tolerance T] FILE` with a T of 0 to 1,000, help or the version is
-/// asked for, or it is out of memory.
-/// The error has the text to print; [`words_status`] is the status for it.
+/// The words are not `[--dump PREFIX] [--lbd1] [--progress] [--tolerance T] [--seed S] [--seeds N] [--events FILE] [--replay FILE]
+/// [--trace FILE] FILE` with a T of 0 to 1,000, an S below 2^64 and an N of 1 to 1,000,000, help or the version is asked for, or it
+/// is out of memory. The error has the text to print; [`words_status`] is the status for it. Options that do not go together are no
+/// error here: [`Asked::task`] returns the [`Clash`].
 pub fn asked<'a>(alloc: Global, words: &'a [&'a str]) -> Result<Asked<'a>, Error>
     ensures faults { FailsBy (fault_of program (texts words.now)) result }
     ensures file { IfOk result (λ asked. file_in (texts words.now) ≡ Some asked.file.now) }
@@ -41,6 +70,13 @@ pub fn asked<'a>(alloc: Global, words: &'a [&'a str]) -> Result<Asked<'a>, Error
     ensures progress { IfOk result (λ asked. IsTrue asked.progress ↔ TellsProgress (texts words.now)) }
     ensures tolerance { IfOk result (λ asked. (n : ℕ) → (asked.tolerance ≡ Some n) ↔ SpellsTolerance (tolerance_in (texts words.now)) n) }
     ensures range { IfOk result (λ asked. ForSome asked.tolerance (λ t. t ≤ 1000)) }
+    ensures seed { IfOk result (λ asked. (n : ℕ) → (asked.seed ≡ Some n) ↔ SpellsSeed (seed_in (texts words.now)) n) }
+    ensures seeds { IfOk result (λ asked. (n : ℕ) → (asked.seeds ≡ Some n) ↔ SpellsSeeds (seeds_in (texts words.now)) n) }
+    ensures some_seed { IfOk result (λ asked. ForSome asked.seeds (λ n. 1 ≤ n)) }
+    ensures few_seeds { IfOk result (λ asked. ForSome asked.seeds (λ n. n ≤ 1000000)) }
+    ensures events { IfOk result (λ asked. events_in (texts words.now) ≡ option_map (λ name. name.now) asked.events) }
+    ensures replay { IfOk result (λ asked. replay_in (texts words.now) ≡ option_map (λ name. name.now) asked.replay) }
+    ensures trace { IfOk result (λ asked. trace_in (texts words.now) ≡ option_map (λ name. name.now) asked.trace) }
 {
     match command(alloc)?.try_get_matches_from(words) {
         Ok(matches) => Ok(found(&matches)),
@@ -48,21 +84,32 @@ pub fn asked<'a>(alloc: Global, words: &'a [&'a str]) -> Result<Asked<'a>, Error
     }
 }
 
-// The words that are understood: `charm_run [--dump PREFIX] [--lbd1] [--progress] [--tolerance T] FILE`, and those for help and
-// for the version, which clap adds.
+// The words that are understood: `charm_run [--dump PREFIX] [--lbd1] [--progress] [--tolerance T] FILE`, those for runs on one
+// thread, and those for help and for the version, which clap adds.
 fn command<'a>(alloc: Global) -> Result<Command<'a>, AllocError>
     ensures program { IfOk result (λ command. app_of command ≡ program) }
     ensures named { IfOk result NamesFile }
 {
-    let command = Command::new(alloc, "charm_run")
-        .version("0.2.0")
-        .about(ABOUT)
-        .after_help(HOW_TO);
-    let command = command.arg(file(alloc))?;
+    let command = bare(alloc).arg(file(alloc))?;
     let command = command.arg(dump(alloc))?;
     let command = command.arg(lbd1(alloc))?;
     let command = command.arg(progress(alloc))?;
-    command.arg(tolerance(alloc))
+    let command = command.arg(tolerance(alloc))?;
+    let command = command.arg(seed(alloc))?;
+    let command = command.arg(seeds(alloc))?;
+    let command = command.arg(events(alloc))?;
+    let command = command.arg(replay(alloc))?;
+    command.arg(trace(alloc))
+}
+
+// The program before its words are declared.
+fn bare<'a>(alloc: Global) -> Command<'a>
+    ensures { IsBare result }
+{
+    Command::new(alloc, "charm_run")
+        .version("0.2.0")
+        .about(ABOUT)
+        .after_help(HOW_TO)
 }
 
 fn file<'a>(alloc: Global) -> Arg<'a>
@@ -131,6 +178,87 @@ fn tolerance<'a>(alloc: Global) -> Arg<'a>
         .value_parser(thousandths())
 }
 
+fn seed<'a>(alloc: Global) -> Arg<'a>
+    ensures rule { rule_of result ≡ seed_rule }
+    ensures fits { FitsChain result }
+{
+    Arg::new(alloc, "seed")
+        .long("seed")
+        .value_name("S")
+        .help(
+            "Runs the chares on one thread, in the order of events{n}\
+             that the seed S decides, and so as often as wanted",
+        )
+        .action(ArgAction::Set)
+        .value_parser(any_number())
+}
+
+fn seeds<'a>(alloc: Global) -> Arg<'a>
+    ensures rule { rule_of result ≡ seeds_rule }
+    ensures fits { FitsChain result }
+{
+    Arg::new(alloc, "seeds")
+        .long("seeds")
+        .value_name("N")
+        .help(
+            "Runs the chares so by each of the seeds 1 to N, and{n}\
+             prints those whose run ends in a fault or leaves{n}\
+             letters, and how many there are; N is 1 to 1000000",
+        )
+        .action(ArgAction::Set)
+        .value_parser(number_of_seeds())
+}
+
+fn events<'a>(alloc: Global) -> Arg<'a>
+    ensures rule { rule_of result ≡ events_rule }
+    ensures fits { FitsChain result }
+{
+    Arg::new(alloc, "events")
+        .long("events")
+        .value_name("LIST")
+        .help("With --seed, writes the events of the run to the file{n}LIST, a line each")
+        .action(ArgAction::Set)
+}
+
+fn replay<'a>(alloc: Global) -> Arg<'a>
+    ensures rule { rule_of result ≡ replay_rule }
+    ensures fits { FitsChain result }
+{
+    Arg::new(alloc, "replay")
+        .long("replay")
+        .value_name("LIST")
+        .help("Runs the chares on one thread by the events in the{n}file LIST")
+        .action(ArgAction::Set)
+}
+
+fn trace<'a>(alloc: Global) -> Arg<'a>
+    ensures rule { rule_of result ≡ trace_rule }
+    ensures fits { FitsChain result }
+{
+    Arg::new(alloc, "trace")
+        .long("trace")
+        .value_name("TRACE")
+        .help(
+            "Writes what happened to the file TRACE, in the Trace{n}\
+             Event Format that viewers show",
+        )
+        .action(ArgAction::Set)
+}
+
+// Any number of 64 bits.
+fn any_number<'a>() -> ValueParser<'a>
+    ensures { result ≡ Unsigned 0 18446744073709551615 }
+{
+    value_parser!(u64)
+}
+
+// A number of seeds.
+fn number_of_seeds<'a>() -> ValueParser<'a>
+    ensures { result ≡ Signed (pos 1) (pos 1000000) }
+{
+    value_parser!(u32).range(1..=1_000_000)
+}
+
 // A number of thousandths.
 fn thousandths<'a>() -> ValueParser<'a>
     ensures { result ≡ Signed (pos 0) (pos 1000) }
@@ -147,6 +275,13 @@ fn found<'a>(matches: &ArgMatches<'a>) -> Asked<'a>
     ensures progress { IsTrue result.progress ↔ (one_text (found_of matches.now) (codes "progress") ≡ Some (codes "true")) }
     ensures tolerance { (n : ℕ) → (result.tolerance ≡ Some n) ↔ SpellsTolerance (one_text (found_of matches.now) (codes "tolerance")) n }
     ensures range { ForSome result.tolerance (λ t. t ≤ 1000) }
+    ensures seed { (n : ℕ) → (result.seed ≡ Some n) ↔ SpellsSeed (one_text (found_of matches.now) (codes "seed")) n }
+    ensures seeds { (n : ℕ) → (result.seeds ≡ Some n) ↔ SpellsSeeds (one_text (found_of matches.now) (codes "seeds")) n }
+    ensures some_seed { ForSome result.seeds (λ n. 1 ≤ n) }
+    ensures few_seeds { ForSome result.seeds (λ n. n ≤ 1000000) }
+    ensures events { first_value (found_of matches.now) (codes "events") ≡ option_map (λ name. name.now) result.events }
+    ensures replay { first_value (found_of matches.now) (codes "replay") ≡ option_map (λ name. name.now) result.replay }
+    ensures trace { first_value (found_of matches.now) (codes "trace") ≡ option_map (λ name. name.now) result.trace }
 {
     Asked {
         file: matches.get_str("file").unwrap(),
@@ -154,6 +289,11 @@ fn found<'a>(matches: &ArgMatches<'a>) -> Asked<'a>
         lbd1: matches.get_one("lbd1") == Some(true),
         progress: matches.get_one("progress") == Some(true),
         tolerance: tolerance_in(matches),
+        seed: seed_in(matches),
+        seeds: seeds_in(matches),
+        events: matches.get_str("events"),
+        replay: matches.get_str("replay"),
+        trace: matches.get_str("trace"),
     }
 }
 
@@ -164,4 +304,21 @@ fn tolerance_in<'a>(matches: &ArgMatches<'a>) -> Option<u32>
 {
     let number = matches.get_one::<u32>("tolerance");
     number.filter(|&t| t <= 1_000)
+}
+
+// The seed asked for.
+fn seed_in<'a>(matches: &ArgMatches<'a>) -> Option<u64>
+    ensures seed { (n : ℕ) → (result ≡ Some n) ↔ SpellsSeed (one_text (found_of matches.now) (codes "seed")) n }
+{
+    matches.get_one::<u64>("seed")
+}
+
+// How many seeds are asked for. clap refuses a number out of range; here it would count as none.
+fn seeds_in<'a>(matches: &ArgMatches<'a>) -> Option<u32>
+    ensures seeds { (n : ℕ) → (result ≡ Some n) ↔ SpellsSeeds (one_text (found_of matches.now) (codes "seeds")) n }
+    ensures some_seed { ForSome result (λ n. 1 ≤ n) }
+    ensures few_seeds { ForSome result (λ n. n ≤ 1000000) }
+{
+    let number = matches.get_one::<u32>("seeds");
+    number.filter(|&n| 1 <= n && n <= 1_000_000)
 }

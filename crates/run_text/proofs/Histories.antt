@@ -10,6 +10,7 @@ use Rattle.chares.specs.Letters.{Done}
 use Rattle.chares.specs.Steps.{Step}
 use Rattle.pe_state.specs.Histories.{HasHistories, IsParcelHistory}
 use Rattle.pe_state.specs.Pes.{PeView, Parcel, Item}
+use Rattle.rts_core.specs.Accounts.{times}
 use Rattle.rts_core.specs.Histories.{AreHistories}
 use Rattle.rts_core.specs.Places.{Life, life_of, lives}
 use Rattle.rts_run.specs.Outcomes.{OutcomeView}
@@ -99,13 +100,19 @@ module _ (fits : TallyView → Type 0) (numbers : (t : TallyView) → fits t →
     ties_all histories =
         zip_all (AddsUp opened) o (λ k d inside. ties_at _ (histories.pes k d inside)) (λ k d inside. λ j e within. ties_in _ (histories.queues k d inside j e within))
 
+    -- what is left of tallies, each in one place and what its journal says, are tallies
+    pub tallies_left : ((e : ℕ) → e < length opened → times (λ x. x.0 == e) (lives (left_world o.ends o.left)) ≡ 1)
+        → AreHistories tally_step fits tally_pack opened (left_world o.ends o.left)
+        → AreTallies (length opened) o
+    tallies_left stands histories = record {
+      stands = stands;
+      at_pes = λ k d inside. has_tally_packs _ (histories.pes k d inside);
+      in_queues = λ k d inside. λ j e within. is_tally_parcel _ (histories.queues k d inside j e within);
+    }
+
     -- what a run of tallies left are tallies
     pub tallies_of : IsTallyRun fits opened o → AreTallies (length opened) o
-    tallies_of run = record {
-      stands = run.account.stands;
-      at_pes = λ k d inside. has_tally_packs _ (run.histories.pes k d inside);
-      in_queues = λ k d inside. λ j e within. is_tally_parcel _ (run.histories.queues k d inside j e within);
-    }
+    tallies_of run = tallies_left run.account.stands run.histories
 
 -- of an element that is named once, the first life and the first sum are those of that element
 first_ties : (opened : List TallyView) (e : ℕ) (us : List Life) (vs : List (ℕ × ℕ)) → AllZip (AddsUp opened) us vs → named e vs ≡ 1

@@ -120,12 +120,13 @@ fn push_ending<A: Allocator + Copy>(
 fn push_fault<A: Allocator>(text: &mut String<A>, fault: Fault) -> Result<(), AllocError>
     ensures { OnOk result (string_bytes text.new ≡ string_bytes text.old ++ fault_line fault) }
 {
-    let word = word_of(fault);
+    let word = fault_word(fault);
     writeln!(text, "fault {word}")
 }
 
-fn word_of(fault: Fault) -> &'static str
-    ensures { result.now ≡ fault_word fault }
+/// The word for a fault, as in the text of what a run left.
+pub fn fault_word(fault: Fault) -> &'static str
+    ensures word { result.now ≡ fault_word fault }
 {
     match fault {
         Fault::OutOfMemory => "memory",

@@ -48,7 +48,7 @@ fn words_of_lb_report(rt: HostRuntime) -> Result<(), Fail> {
 #[test]
 fn words_of_charm_run(rt: HostRuntime) -> Result<(), Fail> {
     let alloc = rt.alloc();
-    use run_command_line::{NO_WORDS, asked, words_status};
+    use run_command_line::{NO_WORDS, Task, asked, words_status};
 
     let words = ["charm_run", "--dump", "rounds", "--progress", "ring.work"];
     let asked_for = asked(alloc, &words).ok().ok_or("refused")?;
@@ -59,6 +59,28 @@ fn words_of_charm_run(rt: HostRuntime) -> Result<(), Fail> {
         .err()
         .ok_or("taken")?;
     assert!(rt; words_status(&error) == NO_WORDS);
+
+    let words = ["charm_run", "--seed", "7", "ring.work"];
+    let asked_for = asked(alloc, &words).ok().ok_or("refused")?;
+    assert!(rt; asked_for.task() == Ok(Task::Seed(7)));
+    Ok(())
+}
+
+// schedule_run
+#[test]
+fn a_workload_by_a_seed(rt: HostRuntime) -> Result<(), Fail> {
+    let alloc = rt.alloc();
+    use rts_run::Strategy;
+    use schedule_run::drive_seed;
+    use workload::Workload;
+    use workload_run::Ended;
+
+    // One tally on one PE, which sends itself a 7.
+    let workload = Workload::parse(alloc, b"pes 1\nrounds 1\npad 0\nchares 1\namounts 7\n")?;
+    let mut text = Vec::new(alloc);
+    let driven = drive_seed(alloc, &workload, Strategy::Least, 1, &mut text);
+    assert!(rt; driven.ended == Ended::Ran(None));
+    assert!(rt; text == b"round 1 bottleneck 7 moved 0\nsums 7\nposted 1 executed 1 held 0\n");
     Ok(())
 }
 

@@ -1,7 +1,7 @@
 //! The words of a command line that asks for the run of a workload.
 
 use crate::fixtures::assert_for;
-use run_command_line::{Asked, NO_WORDS, asked, words_status};
+use run_command_line::{Asked, Clash, NO_WORDS, Task, asked, refuse, words_status};
 use std::alloc::Global;
 
 // Words, and what they ask for; `None` where they are refused.
@@ -14,6 +14,11 @@ const PLAIN: Asked<'static> = Asked {
     lbd1: false,
     progress: false,
     tolerance: None,
+    seed: None,
+    seeds: None,
+    events: None,
+    replay: None,
+    trace: None,
 };
 
 // The status for words that ask for no run, and what the others ask for.
@@ -97,6 +102,94 @@ fn help_and_the_version_are_no_mistakes(rt: HostRuntime) {
             &rt,
             answer(rt.alloc(), &["charm_run", word]) == Err(0),
             word,
+        );
+    }
+}
+
+// Words for runs on one thread, and the task that they ask for, or which of them do not go together; `None` where they are refused.
+type TaskRow<'a> = (&'a [&'a str], Option<Result<Task<'a>, Clash>>);
+
+#[test]
+fn words_and_their_tasks(rt: HostRuntime) {
+    let rows: [TaskRow<'static>; 18] = [
+        (&["f"], Some(Ok(Task::Threads))),
+        (&["--trace", "t", "f"], Some(Ok(Task::Threads))),
+        (&["--seed", "0", "f"], Some(Ok(Task::Seed(0)))),
+        (
+            &["f", "--seed", "18446744073709551615", "--events", "e"],
+            Some(Ok(Task::Seed(u64::MAX))),
+        ),
+        (
+            &["--seed", "7", "--dump", "p", "--trace", "t", "f"],
+            Some(Ok(Task::Seed(7))),
+        ),
+        (&["--seeds", "1", "f"], Some(Ok(Task::Seeds(1)))),
+        (
+            &["--seeds", "1000000", "f"],
+            Some(Ok(Task::Seeds(1_000_000))),
+        ),
+        (&["--replay", "e", "f"], Some(Ok(Task::Replay("e")))),
+        (
+            &["--seed", "1", "--seeds", "2", "--replay", "e", "f"],
+            Some(Err(Clash::SeedAndSeeds)),
+        ),
+        (
+            &["--seed", "1", "--replay", "e", "f"],
+            Some(Err(Clash::SeedAndReplay)),
+        ),
+        (
+            &["--seeds", "1", "--replay", "e", "f"],
+            Some(Err(Clash::SeedsAndReplay)),
+        ),
+        (&["--events", "e", "f"], Some(Err(Clash::EventsWithoutSeed))),
+        (
+            &["--seeds", "1", "--events", "e", "--dump", "p", "f"],
+            Some(Err(Clash::EventsWithoutSeed)),
+        ),
+        (
+            &["--seeds", "1", "--dump", "p", "--trace", "t", "f"],
+            Some(Err(Clash::SeedsAndDump)),
+        ),
+        (
+            &["--seeds", "1", "--trace", "t", "f"],
+            Some(Err(Clash::SeedsAndTrace)),
+        ),
+        (&["--seed", "18446744073709551616", "f"], None),
+        (&["--seeds", "0", "f"], None),
+        (&["--seeds", "1000001", "f"], None),
+    ];
+    for (words, want) in &rows {
+        let mut all = Vec::new(rt.alloc());
+        let made = all.push("charm_run").is_ok() && all.extend_from_slice(*words).is_ok();
+        let found = answer(rt.alloc(), &all);
+        let right = match want {
+            Some(task) => found.map(|asked| asked.task()) == Ok(*task),
+            None => found == Err(NO_WORDS),
+        };
+        assert_for(&rt, made && right, *words);
+    }
+}
+
+#[test]
+fn options_that_do_not_go_together_are_told(rt: HostRuntime) {
+    let rows = [
+        (Clash::SeedAndSeeds, "charm_run: --seed and --seeds\n"),
+        (Clash::SeedAndReplay, "charm_run: --seed and --replay\n"),
+        (Clash::SeedsAndReplay, "charm_run: --seeds and --replay\n"),
+        (
+            Clash::EventsWithoutSeed,
+            "charm_run: --events without --seed\n",
+        ),
+        (Clash::SeedsAndDump, "charm_run: --seeds and --dump\n"),
+        (Clash::SeedsAndTrace, "charm_run: --seeds and --trace\n"),
+    ];
+    for (clash, line) in rows {
+        let mut told = Vec::new(rt.alloc());
+        let status = refuse(&mut told, clash);
+        assert_for(
+            &rt,
+            status == NO_WORDS && told.as_slice() == line.as_bytes(),
+            line,
         );
     }
 }

@@ -11,9 +11,10 @@ use Rattle.workload.specs.Text.{WorkloadView, IsText}
 use Rattle.workload.specs.declared.error.WorkError.{WorkError}
 use Rattle.workload.specs.declared.error.WorkError.TheVariants as Why
 use Rattle.workload_run.specs.Driving.{EndsDrive, IsLeftBy, IsOfWorkload, IsRefusal, IsRunOf}
-use Rattle.workload_run.specs.Internal.{EndsRun, ReportsFault, WritesText}
+use Rattle.workload_run.specs.Internal.{EndsRun}
 use Rattle.workload_run.specs.Lines.{fault_line, memory_line}
 use Rattle.workload_run.specs.Tallies.{tallies_of}
+use Rattle.workload_run.specs.Telling.{ReportsFault, WritesText}
 use Rattle.workload_run.specs.declared.ended.Ended.{Ended}
 use Rattle.workload_run.specs.declared.ended.Ended.TheVariants.{OutOfMemory}
 use Rattle.at_sync.specs.declared.strategy.Strategy.{Strategy}
@@ -25,11 +26,11 @@ known_text (Some all) w (inl wrong) = absurd (cc)
 known_text (Some all) w (inr text) = text
 
 -- an answer that is no workload
-abbrev failed : WorkError → Result WorkloadView WorkError
+abbrev pub failed : WorkError → Result WorkloadView WorkError
 failed e = Err e
 
 -- a fault that is told of the workload
-known_fault : (all : Option (List ℕ)) (e : WorkError) → e ≢ Why.OutOfMemory → IfSome all (λ xs. (failed e ≡ failed Why.Read) ⊎ IsReadAnswer xs (failed e)) → IfSome all (λ xs. (e ≡ Why.Read) ⊎ IsFault xs e)
+pub known_fault : (all : Option (List ℕ)) (e : WorkError) → e ≢ Why.OutOfMemory → IfSome all (λ xs. (failed e ≡ failed Why.Read) ⊎ IsReadAnswer xs (failed e)) → IfSome all (λ xs. (e ≡ Why.Read) ⊎ IsFault xs e)
 known_fault None e other known = tt
 known_fault (Some xs) e other (inl is) = inl (cc)
 known_fault (Some xs) e other (inr (inl is)) = absurd (other is)

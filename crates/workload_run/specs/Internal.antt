@@ -1,35 +1,16 @@
 -- What the contracts of inner functions say.
-use Rattle.std.specs.Prelude.{◌≡◌, ◌≢◌, ◌⊎◌, ℕ, List, Option, None, Some}
-use Rattle.std.specs.Io.KnownBytes.{Appends}
+use Rattle.std.specs.Prelude.{ℕ, List, Option, None, Some}
 use Rattle.at_sync.specs.declared.strategy.Strategy.{Strategy}
-use Rattle.pe_worker.specs.declared.fault.Fault.{Fault}
 use Rattle.rts_run.specs.Outcomes.{OutcomeView}
 use Rattle.run_text.specs.Text.{outcome_text}
-use Rattle.streams.specs.Writing.{WritesPrefix}
 use Rattle.tally.specs.Tallies.{TallyView}
 use Rattle.workload.specs.Text.{WorkloadView}
-use Rattle.workload.specs.declared.error.WorkError.{WorkError}
-use Rattle.workload.specs.declared.error.WorkError.TheVariants as Why
 use Rattle.workload_run.specs.Driving.{IsLeftBy}
-use Rattle.workload_run.specs.Lines.{fault_line, memory_line}
+use Rattle.workload_run.specs.Lines.{memory_line}
 use Rattle.workload_run.specs.Tallies.{tallies_of}
+use Rattle.workload_run.specs.Telling.{TellsOutcome, WritesText}
 use Rattle.workload_run.specs.declared.ended.Ended.{Ended}
-use Rattle.workload_run.specs.declared.ended.Ended.TheVariants.{Ran, Refused, OutOfMemory, WriteFailed}
-
--- this text was written and the end is this one, or a prefix of it was
-abbrev pub WritesText : List ℕ → Ended → Option (List ℕ) → Option (List ℕ) → Ended → Type 0
-WritesText text ended old new result =
-    ((result ≡ ended) × Appends old new text) ⊎ ((result ≡ WriteFailed) × WritesPrefix old new text)
-
--- the text of what a run left was written, or the line for refused memory, or a prefix of one
-abbrev pub TellsOutcome : List ℕ → Option (List ℕ) → Option (List ℕ) → Option Fault → Ended → Type 0
-TellsOutcome text old new fault result =
-    WritesText text (Ran fault) old new result ⊎ WritesText memory_line OutOfMemory old new result
-
--- the line of a fault of the workload was written, or the line for refused memory, or a prefix of one
-abbrev pub ReportsFault : WorkError → Option (List ℕ) → Option (List ℕ) → Ended → Type 0
-ReportsFault fault old new result =
-    ((fault ≢ Why.OutOfMemory) × WritesText (fault_line fault) (Refused fault) old new result) ⊎ WritesText memory_line OutOfMemory old new result
+use Rattle.workload_run.specs.declared.ended.Ended.TheVariants.{OutOfMemory}
 
 -- what came of a workload that was read
 abbrev pub EndsRun : {A : Type 0} → (TallyView → Type 0) → Strategy → WorkloadView → Option (List ℕ) → Option (List ℕ) → Option (OutcomeView TallyView A) → Ended → Type 0

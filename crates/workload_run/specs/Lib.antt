@@ -5,3 +5,4 @@ pub mod Internal
 pub mod Lines
 pub mod Statuses
 pub mod Tallies
+pub mod Telling

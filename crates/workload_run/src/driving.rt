@@ -1,27 +1,22 @@
 ghost use Rattle.std.specs.Prelude.{◌≡◌, ◌≤◌, ◌⊎◌, ℕ, List, Option, None, Some, IfOk, IfErr};
-ghost use Rattle.run_text.specs.Sums.{AreTallies};
-ghost use Rattle.run_text.specs.Text.{outcome_text};
 ghost use Rattle.workload.specs.Text.{IsWithin};
 ghost use Rattle.workload_run.specs.Driving.{EndsDrive, IsLeftBy, IsOfWorkload, ReportsUnread};
-ghost use Rattle.workload_run.specs.Internal.{EndsRun, ReportsFault, TellsOutcome, WritesText};
-ghost use Rattle.workload_run.specs.Lines.{memory_line};
+ghost use Rattle.workload_run.specs.Internal.{EndsRun};
 ghost use Rattle.workload_run.specs.Tallies.{tallies_of};
-ghost use Rattle.workload_run.specs.declared.ended.Ended.TheVariants.{OutOfMemory};
 
 use crate::driven::Driven;
 use crate::ended::Ended;
-use crate::line::{NO_MEMORY, fault_line};
 use crate::onlooker::Onlooker;
 use crate::tallies::tallies_of;
+use crate::telling::{report_fault, report_memory, tell_outcome};
 use chare_index::{Limits, NoGate};
 use pup_pack::Pup;
 use rts_run::{Config, NoWatch, Outcome, Strategy, run_watched};
-use run_text::outcome_text;
 use std::alloc::{AllocError, Allocator};
 use std::io::{self, Read, Write};
 use std::sync::Wait;
 use std::thread::Threads;
-use streams::{Noted, write_out};
+use streams::Noted;
 use tally::Tally;
 use workload::{WorkError, Workload};
 
@@ -90,7 +85,7 @@ pub fn drive_file<
             (driven, noted.failure())
         }
         Err(reason) => {
-            let ended = report(alloc, writer, WorkError::Read);
+            let ended = report_fault(alloc, writer, WorkError::Read);
             (without_run(ended), Some(reason))
         }
     }
@@ -124,7 +119,7 @@ fn drive_watched<
             watch.expects(workload.rounds);
             run_workload(rt, alloc, workload, writer, turns, strategy, watch)
         }
-        Err(fault) => without_run(report(alloc, writer, fault)),
+        Err(fault) => without_run(report_fault(alloc, writer, fault)),
     }
 }
 
@@ -162,7 +157,7 @@ fn run_workload<
     let chares = workload.chares as usize;
     match outcome_of(rt, alloc, workload, turns, strategy, watch) {
         Ok(outcome) => {
-            let ended = tell(alloc, chares, &outcome, writer);
+            let ended = tell_outcome(alloc, chares, &outcome, writer);
             Driven {
                 ended,
                 outcome: Some(outcome),
@@ -198,52 +193,5 @@ fn outcome_of<T: Threads + Wait + Sync, V: Onlooker + Sync, A: Allocator + Copy 
     match run_watched(rt, alloc, &config, &NoGate, watch, chares) {
         Ok(outcome) => Ok(outcome),
         Err(_) => Err(AllocError),
-    }
-}
-
-// Writes the text of what a run of so many chares left, or that memory was refused.
-fn tell<W: Write, A: Allocator + Copy>(
-    alloc: A,
-    chares: usize,
-    outcome: &Outcome<Tally<A>, A>,
-    writer: &mut W,
-) -> Ended
-    requires tallies { AreTallies chares outcome.now }
-    ensures told { TellsOutcome (outcome_text chares outcome.now) (W.contents writer.old) (W.contents writer.new) outcome.now.fault result }
-{
-    let Ok(text) = outcome_text(alloc, chares, outcome) else {
-        return report_memory(writer);
-    };
-    report_line(writer, text.as_bytes(), Ended::Ran(outcome.fault()))
-}
-
-// Writes the line of a fault of the workload, or that memory was refused.
-fn report<A: Allocator, W: Write>(alloc: A, writer: &mut W, fault: WorkError) -> Ended
-    ensures reported { ReportsFault fault (W.contents writer.old) (W.contents writer.new) result }
-{
-    if fault == WorkError::OutOfMemory {
-        return report_memory(writer);
-    }
-    let Ok(line) = fault_line(alloc, fault) else {
-        return report_memory(writer);
-    };
-    report_line(writer, line.as_bytes(), Ended::Refused(fault))
-}
-
-// Writes the line where memory was refused.
-fn report_memory<W: Write>(writer: &mut W) -> Ended
-    ensures written { WritesText memory_line OutOfMemory (W.contents writer.old) (W.contents writer.new) result }
-{
-    report_line(writer, NO_MEMORY.as_bytes(), Ended::OutOfMemory)
-}
-
-// Writes a text, and returns this end, or that the writer failed.
-fn report_line<W: Write>(writer: &mut W, text: &[u8], ended: Ended) -> Ended
-    ensures written { WritesText text.now ended (W.contents writer.old) (W.contents writer.new) result }
-{
-    if write_out(writer, text) {
-        ended
-    } else {
-        Ended::WriteFailed
     }
 }

@@ -5,6 +5,8 @@
 //! - [`Driven`]: what came of it: how it [`Ended`], the status for that, and the rounds.
 //! - [`write_round`]: the dump of a round, in a [`DumpFormat`]; [`write_dumps`]: that of each round, to a file of its own of
 //!   some [`DumpFiles`]; [`write_asked`]: the same where it is asked for, with the status of it all.
+//! - [`tallies_of`]: the tallies of a workload; [`tell_outcome`], [`report_fault`], [`report_memory`], [`report_text`]: what is
+//!   written, for whoever runs them otherwise.
 //!
 //! ```
 //! use rts_run::Strategy;
@@ -36,6 +38,7 @@ mod line;
 mod onlooker;
 mod round_dump;
 mod tallies;
+mod telling;
 
 pub use driven::Driven;
 pub use driving::{drive, drive_file};
@@ -44,3 +47,5 @@ pub use ended::Ended;
 pub use finishing::write_asked;
 pub use onlooker::Onlooker;
 pub use round_dump::{DumpFormat, write_round};
+pub use tallies::tallies_of;
+pub use telling::{report_fault, report_memory, report_text, tell_outcome};

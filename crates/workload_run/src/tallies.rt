@@ -8,9 +8,12 @@ use std::alloc::{AllocError, Allocator};
 use tally::Tally;
 use workload::Workload;
 
-/// The tallies of a workload, in order: tally `i` has amount `i` of each line, and the padding. The only error is that
-/// memory was refused.
-pub(crate) fn tallies_of<A: Allocator + Copy>(
+/// The tallies of a workload, in order: tally `i` has amount `i` of each line, and the padding.
+///
+/// # Errors
+///
+/// Memory was refused.
+pub fn tallies_of<A: Allocator + Copy>(
     alloc: A,
     workload: &Workload<A>,
 ) -> Result<Vec<Tally<A>, A>, AllocError>

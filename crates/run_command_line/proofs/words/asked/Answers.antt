@@ -5,7 +5,7 @@ use Rattle.clap.specs.declared.error.Error.{Error}
 use Rattle.clap.specs.declared.parser.matches.ArgMatches.{ArgMatches}
 use Rattle.clap.proofs.OnLiterals.{clap_on_literals}
 use Rattle.clap.proofs.WalkLemmas.{first_value-rows, one_text-rows}
-use Rattle.run_command_line.specs.CommandLine.{SpellsTolerance, program}
+use Rattle.run_command_line.specs.CommandLine.{SpellsSeed, SpellsSeeds, SpellsTolerance, program}
 use Rattle.run_command_line.proofs.words.asked.Goals as goal
 
 simple : is_simple program ≡ true
@@ -57,6 +57,40 @@ returns-in-Ok-clause-tolerance c n =
     let same = one_text-rows (found_of m) (codes "tolerance") ∙ ap (one_of (codes "tolerance")) rows in
     let spelled = c.found.ensures.tolerance n in
     (λ e. subst (λ word. SpellsTolerance word n) same (spelled.0 e), λ h. spelled.1 (subst (λ word. SpellsTolerance word n) (sym same) h))
+
+pub returns-in-Ok-clause-events : goal.returns-in-Ok-clause-events
+returns-in-Ok-clause-events c =
+    let m = c.in-Ok.matches in
+    let rows = found _ (texts c.args.words.now) m c.in_ok-command.ensures.program c.in-Ok.ensures.matches in
+    sym (first_value-rows (found_of m) (codes "events") ∙ ap (first_of (codes "events")) rows) ∙ c.found.ensures.events
+
+pub returns-in-Ok-clause-replay : goal.returns-in-Ok-clause-replay
+returns-in-Ok-clause-replay c =
+    let m = c.in-Ok.matches in
+    let rows = found _ (texts c.args.words.now) m c.in_ok-command.ensures.program c.in-Ok.ensures.matches in
+    sym (first_value-rows (found_of m) (codes "replay") ∙ ap (first_of (codes "replay")) rows) ∙ c.found.ensures.replay
+
+pub returns-in-Ok-clause-trace : goal.returns-in-Ok-clause-trace
+returns-in-Ok-clause-trace c =
+    let m = c.in-Ok.matches in
+    let rows = found _ (texts c.args.words.now) m c.in_ok-command.ensures.program c.in-Ok.ensures.matches in
+    sym (first_value-rows (found_of m) (codes "trace") ∙ ap (first_of (codes "trace")) rows) ∙ c.found.ensures.trace
+
+pub returns-in-Ok-clause-seed : goal.returns-in-Ok-clause-seed
+returns-in-Ok-clause-seed c n =
+    let m = c.in-Ok.matches in
+    let rows = found _ (texts c.args.words.now) m c.in_ok-command.ensures.program c.in-Ok.ensures.matches in
+    let same = one_text-rows (found_of m) (codes "seed") ∙ ap (one_of (codes "seed")) rows in
+    let spelled = c.found.ensures.seed n in
+    (λ e. subst (λ word. SpellsSeed word n) same (spelled.0 e), λ h. spelled.1 (subst (λ word. SpellsSeed word n) (sym same) h))
+
+pub returns-in-Ok-clause-seeds : goal.returns-in-Ok-clause-seeds
+returns-in-Ok-clause-seeds c n =
+    let m = c.in-Ok.matches in
+    let rows = found _ (texts c.args.words.now) m c.in_ok-command.ensures.program c.in-Ok.ensures.matches in
+    let same = one_text-rows (found_of m) (codes "seeds") ∙ ap (one_of (codes "seeds")) rows in
+    let spelled = c.found.ensures.seeds n in
+    (λ e. subst (λ word. SpellsSeeds word n) same (spelled.0 e), λ h. spelled.1 (subst (λ word. SpellsSeeds word n) (sym same) h))
 
 pub returns-in-Ok-clause-faults : goal.returns-in-Ok-clause-faults
 returns-in-Ok-clause-faults c =

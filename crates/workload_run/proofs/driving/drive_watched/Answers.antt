@@ -11,5 +11,5 @@ returns-in-Ok-clause-outcome g c = of_workload _ c.args.strategy (g.R.Read.remai
 pub returns-in-Err-clause-ends : goal.returns-in-Err-clause-ends
 returns-in-Err-clause-ends g c =
     let read = c.in-Err.ensures.read in
-    let ended = λ (fits : TallyView → Type 0). ends_refused g.row.A.Denot fits c.args.strategy _ _ _ _ read.0 c.in-Err.fault c.report.result read.1 read.3 c.in-Err.ensures.at_end c.in-Err.ensures.known c.report.ensures.reported in
+    let ended = λ (fits : TallyView → Type 0). ends_refused g.row.A.Denot fits c.args.strategy _ _ _ _ read.0 c.in-Err.fault c.report_fault.result read.1 read.3 c.in-Err.ensures.at_end c.in-Err.ensures.known c.report_fault.ensures.reported in
     rw (c.without_run.ensures.outcome, c.without_run.ensures.ended) (search ended)

@@ -1,0 +1,184 @@
+//! Runs on one thread: by a seed, by many, or by a list of events.
+
+ghost use Rattle.std.specs.Prelude.{IfOk};
+ghost use Rattle.workload.specs.Text.{IsWithin};
+
+use crate::{ADVICE, FAULT, SystemFiles, tell_dump};
+use file_faults::Advice;
+use rts_run::{Strategy, Tolerance};
+use run_command_line::Asked;
+use schedule_run::{
+    DrivenOnOne, ListFault, drive_events, drive_seed, drive_seeds, read_list, read_workload,
+    report_list, write_list,
+};
+use std::alloc::Global;
+use std::fs::{File, Files};
+use std::io::{self, Write};
+use streams::{Noted, write_out};
+use workload::Workload;
+use workload_run::{DumpFormat, write_asked};
+
+/// What to do about a list of events with a fault.
+const LIST_ADVICE: Advice<'static> = Advice {
+    program: "charm_run",
+    unread: "give a file with a list of events that you may read, or /dev/stdin for the standard input",
+    wrong: "give a list of the events of a run of this workload: charm_run --seed S --events LIST writes one",
+};
+
+/// The status where a file was not written.
+const NO_OUTPUT: u8 = 5;
+
+/// Runs the workload by a seed, writes what is asked for of that, and returns the status.
+pub(crate) fn run_by_seed<R: Files + Print + Eprint + AllocGlobal, E: Write>(
+    rt: &R,
+    asked: &Asked<'_>,
+    seed: u64,
+    errors: &mut E,
+) -> u8 {
+    let writer = &mut io::writer(rt);
+    match opened(rt, asked, errors, writer) {
+        Ok(workload) => {
+            let driven = drive_seed(rt.alloc(), &workload, strategy_of(asked), seed, writer);
+            finished(rt, asked, driven, writer)
+        }
+        Err(status) => status,
+    }
+}
+
+/// Runs the workload by each of so many seeds, and returns the status.
+pub(crate) fn run_by_seeds<R: Files + Print + Eprint + AllocGlobal, E: Write>(
+    rt: &R,
+    asked: &Asked<'_>,
+    seeds: u32,
+    errors: &mut E,
+) -> u8 {
+    let writer = &mut io::writer(rt);
+    match opened(rt, asked, errors, writer) {
+        Ok(workload) => {
+            drive_seeds(rt.alloc(), &workload, strategy_of(asked), seeds, writer).status()
+        }
+        Err(status) => status,
+    }
+}
+
+/// Runs the workload by the events of a list, writes what is asked for of that, and returns the status.
+pub(crate) fn run_by_list<R: Files + Print + Eprint + AllocGlobal, E: Write>(
+    rt: &R,
+    asked: &Asked<'_>,
+    list: &str,
+    errors: &mut E,
+) -> u8 {
+    let writer = &mut io::writer(rt);
+    let (events, reason) = read_list(rt.alloc(), File::open(rt, list));
+    let events = match events {
+        Ok(events) => events,
+        Err(fault) => return refuse_list(rt, list, fault, reason, errors, writer),
+    };
+    let workload = match opened(rt, asked, errors, writer) {
+        Ok(workload) => workload,
+        Err(status) => return status,
+    };
+    match drive_events(rt.alloc(), &workload, strategy_of(asked), &events, writer) {
+        Ok(driven) => finished(rt, asked, driven, writer),
+        Err(number) => {
+            let fault = ListFault::NotEnabled(number);
+            refuse_list(rt, list, fault, None, errors, writer)
+        }
+    }
+}
+
+// Tells what is wrong with a list of events, and returns the status.
+fn refuse_list<R: AllocGlobal, E: Write, W: Write>(
+    rt: &R,
+    list: &str,
+    fault: ListFault,
+    reason: Option<io::Error>,
+    errors: &mut E,
+    writer: &mut W,
+) -> u8 {
+    let status = report_list(rt.alloc(), writer, fault);
+    let _told = LIST_ADVICE.tell(rt.alloc(), errors, list, reason, status == FAULT);
+    status
+}
+
+// The workload of the file that is asked for; or else what is wrong with it is told, and that is the status.
+fn opened<R: Files + AllocGlobal, E: Write, W: Write>(
+    rt: &R,
+    asked: &Asked<'_>,
+    errors: &mut E,
+    writer: &mut W,
+) -> Result<Workload<Global>, u8>
+    ensures within { IfOk result IsWithin }
+{
+    let (workload, reason) = read_workload(rt.alloc(), File::open(rt, asked.file), writer);
+    match workload {
+        Ok(workload) => Ok(workload),
+        Err(ended) => {
+            let status = ended.status();
+            let _told = ADVICE.tell(rt.alloc(), errors, asked.file, reason, status == FAULT);
+            Err(status)
+        }
+    }
+}
+
+fn strategy_of(asked: &Asked<'_>) -> Strategy {
+    Strategy::within(asked.tolerance.and_then(Tolerance::new))
+}
+
+// Writes the list of events and the dumps that are asked for, and returns the status.
+fn finished<R: Files + Eprint + AllocGlobal, W: Write>(
+    rt: &R,
+    asked: &Asked<'_>,
+    driven: DrivenOnOne<Global>,
+    writer: &mut W,
+) -> u8 {
+    let kept = kept_events(rt, asked, &driven, writer);
+    let (status, failed) = write_asked(
+        rt.alloc(),
+        &driven.into_driven(),
+        DumpFormat::asked(asked.lbd1),
+        asked.dump,
+        &mut SystemFiles(rt),
+        writer,
+    );
+    if let Some(dump) = failed {
+        tell_dump(rt, asked.dump.unwrap_or(""), dump);
+    }
+    if kept { status } else { NO_OUTPUT }
+}
+
+// Writes the list of events to the file that is asked for, and returns whether that was done, or was not asked for. The writer is
+// told where it was not done, and the standard error gets the system's reason.
+fn kept_events<R: Files + Eprint + AllocGlobal, W: Write>(
+    rt: &R,
+    asked: &Asked<'_>,
+    driven: &DrivenOnOne<Global>,
+    writer: &mut W,
+) -> bool {
+    let (Some(name), Some(explored)) = (asked.events, &driven.explored) else {
+        return true;
+    };
+    let mut file = match File::create(rt, name) {
+        Ok(file) => Noted::new(file),
+        Err(reason) => return unkept(rt, name, Some(reason), writer),
+    };
+    if !write_list(rt.alloc(), explored, &mut file) {
+        return unkept(rt, name, file.failure(), writer);
+    }
+    true
+}
+
+// Tells of a list of events that was not written.
+fn unkept<R: Eprint, W: Write>(
+    rt: &R,
+    name: &str,
+    reason: Option<io::Error>,
+    writer: &mut W,
+) -> bool {
+    let _told = write_out(writer, b"events: write failed\n");
+    let _ = match reason {
+        Some(reason) => eprintln!(rt; "charm_run: {name}: {reason}"),
+        None => eprintln!(rt; "charm_run: {name}: out of memory"),
+    };
+    false
+}

@@ -1,0 +1,4 @@
+pub mod Lefts
+pub mod ListFaults
+pub mod SeedLines
+pub mod Tellings

@@ -1,0 +1,4 @@
+pub mod Lists
+pub mod OneThread
+pub mod Reading
+pub mod Seeds

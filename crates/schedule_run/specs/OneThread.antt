@@ -1,0 +1,47 @@
+-- What a workload's run on one thread left, and what is written of it.
+use Rattle.std.specs.Prelude.{◌≡◌, ℕ, List, Option, None, Some, Result}
+use Rattle.at_sync.specs.declared.strategy.Strategy.{Strategy}
+use Rattle.pup_pack.specs.declared.error.PupError.{PupError}
+use Rattle.rts_core.specs.Worlds.{opening_world}
+use Rattle.rts_core.specs.declared.event.Event.{Event}
+use Rattle.run_text.specs.Text.{outcome_text}
+use Rattle.schedules.specs.Courses.{CourseView, ExploredView, IsExplored, Leads}
+use Rattle.schedules.specs.Replays.{StopsAt}
+use Rattle.schedules.specs.declared.error.ReplayError.{ReplayError}
+use Rattle.schedules.specs.declared.error.ReplayError.TheVariants as Ends
+use Rattle.tally.specs.Tallies.{TallyView, tally_pack, tally_step}
+use Rattle.workload.specs.Text.{WorkloadView}
+use Rattle.workload_run.specs.Lines.{memory_line}
+use Rattle.workload_run.specs.Tallies.{tallies_of}
+use Rattle.workload_run.specs.Telling.{TellsOutcome, WritesText}
+use Rattle.workload_run.specs.declared.ended.Ended.{Ended}
+use Rattle.workload_run.specs.declared.ended.Ended.TheVariants.{OutOfMemory}
+
+-- what a tally is made of bytes
+abbrev pub Unpack : Type 0
+Unpack = List ℕ → Result (TallyView × ℕ) PupError
+
+module _ {A : Type 0} (fits : TallyView → Type 0) (unpack : Unpack) where
+  -- what the tallies of a workload left on one thread, with rounds by this strategy: every clause of `explore` holds of it
+  abbrev pub IsRunOnOne : WorkloadView → Strategy → ExploredView TallyView A → Type 0
+  IsRunOnOne w strategy x = IsExplored tally_step fits tally_pack unpack (tallies_of w) w.pes strategy x
+
+  -- what was written of that: the text of its outcome; without it the line for refused memory; or a prefix of one of these
+  abbrev pub EndsOnOne : WorkloadView → Strategy → Option (List ℕ) → Option (List ℕ) → Option (ExploredView TallyView A) → Ended → Type 0
+  EndsOnOne w strategy old new (Some x) ended =
+      IsRunOnOne w strategy x × TellsOutcome (outcome_text w.chares x.outcome) old new x.outcome.fault ended
+  EndsOnOne w strategy old new None ended = WritesText memory_line OutOfMemory old new ended
+
+module _ (A : Type 0) (unpack : Unpack) where
+  -- The event with this index in a list is not enabled: the events before it lead to a world where it is not.
+  abbrev pub StopsRun : WorkloadView → Strategy → List Event → ℕ → Type 0
+  StopsRun w strategy events at =
+      (course : CourseView TallyView A)
+      × Leads tally_step tally_pack unpack (opening_world w.pes (tallies_of w) course.strategy) course.steps course.world
+      × (course.strategy ≡ strategy) × StopsAt tally_step tally_pack unpack events course at
+
+  -- a list of events is not repeated: memory was refused, or an event is not enabled
+  abbrev pub RefusesRun : WorkloadView → Strategy → List Event → ReplayError → Type 0
+  RefusesRun w strategy events (Ends.Config setting) = ⊥
+  RefusesRun w strategy events Ends.OutOfMemory = Unit {0}
+  RefusesRun w strategy events (Ends.NotEnabled at) = StopsRun w strategy events at

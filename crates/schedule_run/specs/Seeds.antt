@@ -1,0 +1,66 @@
+-- The runs of a workload by many seeds, and what is written of them.
+use Rattle.std.specs.Prelude.{◌≡◌, ◌⊎◌, ℕ, ◌+◌, List, [], ◌∷◌, ◌++◌, All, codes, length, map, Option, None, Some, Result}
+use Rattle.std.specs.Fmt.{decimal}
+use Rattle.at_sync.specs.declared.strategy.Strategy.{Strategy}
+use Rattle.pe_worker.specs.declared.fault.Fault.{Fault}
+use Rattle.chares.specs.Steps.{Step}
+use Rattle.pup_pack.specs.declared.error.PupError.{PupError}
+use Rattle.rts_core.specs.Accounts.{held_count}
+use Rattle.rts_run.specs.Outcomes.{first_fault}
+use Rattle.run_text.specs.Text.{fault_word}
+use Rattle.schedules.specs.Courses.{ExploredView, IsExplored, left_by}
+use Rattle.tally.specs.Tallies.{TallyView, tally_pack, tally_step}
+use Rattle.workload.specs.Text.{WorkloadView}
+use Rattle.schedule_run.specs.OneThread.{Unpack}
+use Rattle.schedule_run.specs.declared.verdict.Verdict.{Verdict}
+use Rattle.workload_run.specs.Lines.{memory_line, newline}
+use Rattle.workload_run.specs.Tallies.{tallies_of}
+use Rattle.workload_run.specs.Telling.{TellsOutcome, WritesText}
+use Rattle.workload_run.specs.declared.ended.Ended.{Ended}
+use Rattle.workload_run.specs.declared.ended.Ended.TheVariants.{OutOfMemory}
+
+-- how a run of these chares on one thread ended: its fault, and how many letters it left
+abbrev pub IsVerdict : {C : Type 0} (A : Type 0) → Step C → (C → Type 0) → (C → List ℕ) → (List ℕ → Result (C × ℕ) PupError) → List C → ℕ → Strategy → Verdict → Type 0
+IsVerdict {C} A step fits pack unpack chares pes strategy v =
+    (x : ExploredView C A) × IsExplored step fits pack unpack chares pes strategy x × (v.fault ≡ x.outcome.fault)
+    × (v.held ≡ held_count (left_by x))
+
+-- the line of a run by this seed that a fault ended, with so many letters left; there is none of another
+abbrev pub fault_line : ℕ → ℕ → Option Fault → List ℕ
+fault_line seed held None = []
+fault_line seed held (Some fault) =
+    codes "seed " ++ decimal seed ++ codes " fault " ++ fault_word fault ++ codes " held " ++ decimal held ++ newline
+
+-- the lines of runs by this seed and those after it
+abbrev pub fault_lines : ℕ → List Verdict → List ℕ
+fault_lines seed [] = []
+fault_lines seed (v ∷ vs) = fault_line seed v.held v.fault ++ fault_lines (seed + 1) vs
+
+-- whether a fault ended a run, as a number, and how many runs one ended
+abbrev pub fault_count : Option Fault → ℕ
+fault_count None = 0
+fault_count (Some fault) = 1
+
+abbrev pub faults_among : List Verdict → ℕ
+faults_among [] = 0
+faults_among (v ∷ vs) = fault_count v.fault + faults_among vs
+
+-- seeds N faults F
+abbrev pub count_line : ℕ → ℕ → List ℕ
+count_line seeds faults = codes "seeds " ++ decimal seeds ++ codes " faults " ++ decimal faults ++ newline
+
+-- the whole text of runs by the seeds from 1 on
+abbrev pub seeds_text : List Verdict → List ℕ
+seeds_text verdicts = fault_lines 1 verdicts ++ count_line (length verdicts) (faults_among verdicts)
+
+-- the first fault that ended a run
+abbrev pub fault_of_first : List Verdict → Option Fault
+fault_of_first verdicts = first_fault (map (λ v. v.fault) verdicts)
+
+-- The workload was run by each of so many seeds, and the text of that was written, or a prefix of it; or memory was refused, and
+-- the line for that was written, or a prefix of it.
+abbrev pub TriesSeeds : (A : Type 0) → (TallyView → Type 0) → Unpack → WorkloadView → Strategy → ℕ → Option (List ℕ) → Option (List ℕ) → Ended → Type 0
+TriesSeeds A fits unpack w strategy seeds old new ended =
+    ((verdicts : List Verdict) × All (IsVerdict A tally_step fits tally_pack unpack (tallies_of w) w.pes strategy) verdicts × (length verdicts ≡ seeds)
+    × TellsOutcome (seeds_text verdicts) old new (fault_of_first verdicts) ended)
+    ⊎ WritesText memory_line OutOfMemory old new ended

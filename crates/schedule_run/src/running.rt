@@ -1,0 +1,73 @@
+//! Runs of the tallies of a workload on one thread.
+
+ghost use Rattle.std.specs.Prelude.{◌≡◌, IfErr, IfOk};
+ghost use Rattle.schedule_run.specs.OneThread.{IsRunOnOne, RefusesRun};
+ghost use Rattle.schedules.specs.Replays.{Follows};
+ghost use Rattle.workload.specs.Text.{IsWithin};
+
+use pup_pack::Pup;
+use rts_core::Event;
+use rts_run::Strategy;
+use schedules::{Bias, Explored, ReplayError, Schedule, explore, replay};
+use std::alloc::{AllocError, Allocator};
+use tally::Tally;
+use workload::Workload;
+use workload_run::tallies_of;
+
+/// Runs the tallies of a workload on one thread until every one has finished and no letter is held, or a fault ends the run. Each next
+/// event is drawn by a generator with this seed, as [`explore`] does without a bias, and rounds are decided by `strategy`.
+///
+/// # Errors
+///
+/// Memory was refused before the first event or after the last. Where it is refused in between, that is the fault of the run.
+pub fn search<A: Allocator + Copy>(
+    alloc: A,
+    workload: &Workload<A>,
+    strategy: Strategy,
+    seed: u64,
+) -> Result<Explored<Tally<A>, A>, AllocError>
+    requires within { IsWithin workload.now }
+    ensures left { IfOk result (IsRunOnOne ⟦<Tally<A> as Pup<A>>⟧.fits ⟦<Tally<A> as Pup<A>>⟧.unpack workload.now strategy) }
+{
+    let schedule = schedule_of(workload.pes, strategy);
+    let tallies = tallies_of(alloc, workload)?;
+    match explore(alloc, &schedule, seed, tallies) {
+        Ok(explored) => Ok(explored),
+        Err(_) => Err(AllocError),
+    }
+}
+
+/// Runs the tallies of a workload on one thread by a list of events, as [`replay`] does.
+///
+/// # Errors
+///
+/// [`NotEnabled`](ReplayError::NotEnabled) at the first event that is not enabled after those before it, by its index from 0 on; and
+/// [`OutOfMemory`](ReplayError::OutOfMemory) before the first event or after the last. There is no other.
+pub fn follow<A: Allocator + Copy>(
+    alloc: A,
+    workload: &Workload<A>,
+    strategy: Strategy,
+    events: &[Event],
+) -> Result<Explored<Tally<A>, A>, ReplayError>
+    requires within { IsWithin workload.now }
+    ensures left { IfOk result (IsRunOnOne ⟦<Tally<A> as Pup<A>>⟧.fits ⟦<Tally<A> as Pup<A>>⟧.unpack workload.now strategy) }
+    ensures follows { IfOk result (Follows events.now) }
+    ensures refused { IfErr result (RefusesRun A ⟦<Tally<A> as Pup<A>>⟧.unpack workload.now strategy events.now) }
+{
+    let schedule = schedule_of(workload.pes, strategy);
+    let tallies = tallies_of(alloc, workload)?;
+    replay(alloc, &schedule, tallies, events)
+}
+
+/// A schedule without a bias, whose runs are not stopped.
+pub(crate) fn schedule_of(pes: u32, strategy: Strategy) -> Schedule
+    ensures pes { result.pes ≡ pes }
+    ensures strategy { result.strategy ≡ strategy }
+{
+    Schedule {
+        pes,
+        strategy,
+        steps: u64::MAX,
+        bias: Bias::default(),
+    }
+}

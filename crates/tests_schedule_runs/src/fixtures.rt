@@ -1,0 +1,46 @@
+//! What the tests here are made of: the worked workload, and its runs by a seed.
+
+ghost use Rattle.std.specs.Prelude.{◌≡◌, true};
+ghost use Rattle.workload.specs.Text.{IsWithin};
+
+use rts_run::Strategy;
+use schedule_run::{DrivenOnOne, drive_seed};
+use std::alloc::{Allocator, Global};
+use std::fmt::Debug;
+use std::process::Abort;
+use workload::Workload;
+
+/// The worked workload.
+pub(crate) const WORKED: &[u8] =
+    b"pes 2\nrounds 2\npad 8\nchares 4\namounts 1 1 2 6\namounts 2 2 2 2\n";
+
+/// What is printed of its run over threads.
+pub(crate) const WORKED_TEXT: &str = "round 1 bottleneck 6 moved 40\n\
+    round 2 bottleneck 4 moved 40\n\
+    sums 8 3 3 4\n\
+    posted 8 executed 8 held 0\n";
+
+/// Ends the test where this does not hold, with what it was to hold for.
+pub(crate) fn assert_for<R: Debug + Copy>(rt: &impl Abort, holds: bool, row: R)
+    ensures held { holds ≡ true }
+{
+    assert!(rt; holds, "{row:?}");
+}
+
+/// The worked workload, parsed.
+pub(crate) fn worked<A: Allocator + Copy>(rt: &impl Abort, alloc: A) -> Workload<A>
+    ensures within { IsWithin result }
+{
+    match Workload::parse(alloc, WORKED) {
+        Ok(workload) => workload,
+        Err(_) => rt.abort(),
+    }
+}
+
+/// Its run by a seed, and what was written.
+pub(crate) fn driven(rt: &(impl Abort + AllocGlobal), seed: u64) -> (DrivenOnOne<Global>, Vec<u8>) {
+    let workload = worked(rt, rt.alloc());
+    let mut text = Vec::new(rt.alloc());
+    let driven = drive_seed(rt.alloc(), &workload, Strategy::Least, seed, &mut text);
+    (driven, text)
+}

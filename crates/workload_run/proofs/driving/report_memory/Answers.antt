@@ -1,8 +1,0 @@
-use Rattle.std.proofs.Common.{subst}
-use Rattle.workload_run.specs.Internal.{WritesText}
-use Rattle.workload_run.specs.declared.ended.Ended.TheVariants.{OutOfMemory}
-use Rattle.workload_run.proofs.driving.report_memory.Goals as goal
-
-pub returns : goal.returns
-returns g c =
-    record { written = subst (λ t. WritesText t OutOfMemory (g.W.Write.contents c.args.writer.now) (g.W.Write.contents c.report_line.new.writer) c.report_line.result) c.as_bytes.ensures.value c.report_line.ensures.written }
