@@ -1,4 +1,5 @@
 """Pictures of traces: what is drawn of each, counted, and that nothing written lies over something else."""
+import collections
 import json
 import os
 import random
@@ -15,6 +16,10 @@ from test_program import call
 import tezgumi_plot
 from tezgumi_plot.palette import COLORS
 from tezgumi_plot.timelines import HEADS, LINES, NAMED
+
+
+HOT_SPOT = os.path.join(os.path.dirname(TRACE), "hot-spot.trace.json")
+LETTERS, MOVES = 88, 18
 
 
 def row(pe, name):
@@ -124,6 +129,29 @@ class Timelines(TimedTest):
             self.assertIn(text, texts)
         self.assertTrue(any("2 letters to another PE (thin arrows); 1 element moved" in text for text in texts), texts)
         self.assertEqual([line[0][0] for line in paths(sheet, "decisions")], [7, 19])
+
+    def test_a_run_of_hot_spot(self):
+        # What hot_spot --elements 12 --pes 3 --rounds 4 --work 100 --trace FILE wrote, counted by Python's own reader.
+        with open(HOT_SPOT, encoding="utf-8") as file:
+            events = json.load(file)["traceEvents"]
+        count = collections.Counter((event["ph"], event["name"]) for event in events)
+        letters = count["X", "letter"]
+        self.assertEqual(count["X", "start"], 12)
+        self.assertEqual((count["s", "letter"], count["f", "letter"]), (letters, letters))
+        moves = count["X", "depart"]
+        for kind in (("X", "arrive"), ("s", "element"), ("f", "element")):
+            self.assertEqual(count[kind], moves)
+        self.assertEqual(count["X", "resume"], count["i", "resumption"])
+        self.assertEqual((count["i", "decision"], count["M", "thread_name"]), (4, 3))
+        self.assertEqual([count["C", f"load of PE {pe}"] for pe in range(4)], [4, 4, 4, 0])
+        self.assertEqual((letters, moves), (LETTERS, MOVES))
+        told = tezgumi.traces.timeline_of(events).counts()
+        handlers = 12 + letters + count["X", "resume"]
+        self.assertEqual((told["handler"], told["element"], told["decision"]), (handlers, moves, 4))
+        sheet = tezgumi_plot.timeline(HOT_SPOT)
+        self.assertEqual(drawn(sheet), (handlers + 2 * moves, told["letter"], moves, 4))
+        texts = [text for text, _ in test_pictures.written(sheet)]
+        self.assertTrue(any(f"{handlers} handlers of 12 elements" in text for text in texts), texts)
 
     def test_rows_go_down(self):
         sheet = self.draw([row(0, "upper"), row(1, "lower"), handler(0, 0, 0), handler(0, 1, 0)])

@@ -73,7 +73,7 @@ class Timeline:
     """
 
     def __init__(self, events: int) -> None:
-        self.events, self.start, self.others = events, 0, 0
+        self.events, self.start, self.others, self.parts_of_moves = events, 0, 0, 0
         self.names = _Names()
         self.rows: Dict[_Row, int] = {}
         self.told: Dict[_Row, str] = {}
@@ -92,7 +92,8 @@ class Timeline:
     def counts(self) -> Dict[str, int]:
         """How many handlers ran, letters went to another PE, elements moved to one, and decisions were made."""
         gone = [moves for _, row, _, other, _, moves in self.arrows if row != other]
-        return {"handler": len(self.slices), "letter": gone.count(0), "element": gone.count(1), "decision": len(self.decisions)}
+        handlers = len(self.slices) - self.parts_of_moves
+        return {"handler": handlers, "letter": gone.count(0), "element": gone.count(1), "decision": len(self.decisions)}
 
     def row(self, event: _Event) -> int:
         return self.rows.setdefault(_row_of(event), len(self.rows))
@@ -122,6 +123,7 @@ class Timeline:
 
     def _slice(self, event: _Event, start: int, long: int) -> None:
         told = self.names.number(_argument(event, "element"))
+        self.parts_of_moves += event.get("cat") == "move"
         self.slices.append((start, long, self.row(event), self.names.number(event.get("name", "")), told))
 
     def _instant(self, event: _Event) -> None:

@@ -76,7 +76,7 @@ class Shown:
 
     def text(self):
         kinds = _counted(len(self.kinds), "element" if self.by_element else "name")
-        parts = [f"{_counted(len(self.begin), 'handler')} of {kinds}"]
+        parts = [f"{_counted(self.counts['handler'], 'handler')} of {kinds}"]
         broken = "dashed" if len(self.decisions) <= LINES else "thin"
         for word, rest, look in (("letter", " to another PE", "thin"), ("element", " moved", "thick"), ("decision", "", broken)):
             count = self.counts[word]

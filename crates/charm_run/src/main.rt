@@ -1,25 +1,29 @@
 //! `charm_run [--dump PREFIX] [--lbd1] [--progress] [--tolerance T] FILE` runs the chares of a workload over threads: it prints what each
 //! round decided, what each chare added up, and where every letter is. With `--seed S`, `--seeds N` or `--replay LIST` it runs them on
-//! one thread, in an order of events that can be repeated; `--events LIST` writes that order.
+//! one thread, in an order of events that can be repeated; `--events LIST` writes that order. `--trace FILE` writes what happened.
 //!
 //! - `run_command_line::asked`: what the words of the command line ask for, and the status where they ask for no run;
 //!   `Asked::task`: how the chares are run, if the options go together.
 //! - `workload_run::drive_file`: the run of a workload, from a file to its text; `write_asked`: the dumps of its rounds, and
 //!   the status.
-//! - `one_thread`: the runs on one thread, by the crate `schedule_run`.
+//! - `one_thread`: the runs on one thread, by the crate `schedule_run`. `traces`: the trace of a run, by `run_trace`.
 //! - `progress_line::Progress`: what is written to the standard error meanwhile; `file_faults::Advice`: what is told of a
 //!   file with a fault.
 #![tactic(auto)]
 
 mod one_thread;
+mod traces;
 
 ghost use Rattle.std.specs.Prelude.{None};
 
 use crate::one_thread::{run_by_list, run_by_seed, run_by_seeds};
+use crate::traces::{Onlookers, keep_recorded, lost};
 use file_faults::Advice;
 use progress_line::Progress;
 use rts_run::{Strategy, Tolerance};
 use run_command_line::{Asked, NO_WORDS, Task, asked, refuse, words_status};
+use run_trace::Tracing;
+use std::alloc::Global;
 use std::env;
 use std::fs::{File, Files};
 use std::io::{self, IsTerminal, Write};
@@ -27,7 +31,7 @@ use std::process::ExitCode;
 use std::sync::Wait;
 use std::thread::Threads;
 use std::time::Clock;
-use workload_run::{DumpFiles, DumpFormat, NotWritten, drive_file, write_asked};
+use workload_run::{Driven, DumpFiles, DumpFormat, NotWritten, drive_file, write_asked};
 
 /// After how many idle turns in a row a worker gives up.
 const TURNS: u64 = 1_000_000_000;
@@ -41,6 +45,9 @@ pub(crate) const ADVICE: Advice<'static> = Advice {
 
 /// The status where the file cannot be read, or its workload has a fault.
 pub(crate) const FAULT: u8 = 3;
+
+/// The status where a file was not written.
+pub(crate) const NO_OUTPUT: u8 = 5;
 
 fn main(rt: HostRuntime) -> ExitCode {
     let Ok(args) = env::args(&rt) else {
@@ -84,8 +91,7 @@ fn done<R: Threads + Wait + Sync + Files + Clock + Print + Eprint + AllocGlobal,
     }
 }
 
-// Opens the workload, runs it to the standard output, writes the dumps that are asked for, and returns the status. What was
-// wrong with a file goes to `errors`.
+// Runs the workload over threads, with whoever looks on, and returns the status.
 fn ran<R: Threads + Wait + Sync + Files + Clock + Print + Eprint + AllocGlobal, E: Write>(
     rt: &R,
     asked: &Asked<'_>,
@@ -93,6 +99,24 @@ fn ran<R: Threads + Wait + Sync + Files + Clock + Print + Eprint + AllocGlobal, 
     errors: &mut E,
 ) -> u8 {
     let progress = Progress::new(rt, progress).unwrap_or(Progress::Off);
+    match Tracing::new(rt, rt.alloc(), asked.trace.is_some()) {
+        Ok(tracing) => ran_watched(rt, asked, Onlookers { progress, tracing }, errors),
+        Err(error) => {
+            let name = asked.trace.unwrap_or("");
+            let _lost = lost(rt, name, error, &mut io::writer(rt));
+            NO_OUTPUT
+        }
+    }
+}
+
+// Opens the workload, runs it to the standard output, writes the dumps and the trace that are asked for, and returns the
+// status. What was wrong with a file goes to `errors`.
+fn ran_watched<R: Threads + Wait + Sync + Files + Clock + Print + Eprint + AllocGlobal, E: Write>(
+    rt: &R,
+    asked: &Asked<'_>,
+    onlookers: Onlookers<'_, R>,
+    errors: &mut E,
+) -> u8 {
     let strategy = Strategy::within(asked.tolerance.and_then(Tolerance::new));
     let file = File::open(rt, asked.file);
     let mut writer = io::writer(rt);
@@ -103,26 +127,27 @@ fn ran<R: Threads + Wait + Sync + Files + Clock + Print + Eprint + AllocGlobal, 
         &mut writer,
         TURNS,
         strategy,
-        &progress,
+        &onlookers,
     );
+    let Onlookers { progress, tracing } = onlookers;
     progress.finish();
-    let _told = ADVICE.tell(
-        rt.alloc(),
-        errors,
-        asked.file,
-        reason,
-        driven.status() == FAULT,
-    );
+    let is_fault = driven.status() == FAULT;
+    let _told = ADVICE.tell(rt.alloc(), errors, asked.file, reason, is_fault);
+    let kept = keep_recorded(rt, asked.trace, tracing, driven.rounds(), &mut writer);
+    let status = dumped(rt, asked, &driven, &mut writer);
+    if kept { status } else { NO_OUTPUT }
+}
+
+/// Writes the dumps of the rounds that are asked for, and returns the status.
+pub(crate) fn dumped<R: Files + Eprint + AllocGlobal, W: Write>(
+    rt: &R,
+    asked: &Asked<'_>,
+    driven: &Driven<Global>,
+    writer: &mut W,
+) -> u8 {
     let format = DumpFormat::asked(asked.lbd1);
     let mut files = SystemFiles(rt);
-    let (status, failed) = write_asked(
-        rt.alloc(),
-        &driven,
-        format,
-        asked.dump,
-        &mut files,
-        &mut writer,
-    );
+    let (status, failed) = write_asked(rt.alloc(), driven, format, asked.dump, &mut files, writer);
     if let Some(dump) = failed {
         tell_dump(rt, asked.dump.unwrap_or(""), dump);
     }
@@ -130,7 +155,7 @@ fn ran<R: Threads + Wait + Sync + Files + Clock + Print + Eprint + AllocGlobal, 
 }
 
 // Tells the name of a dump that was not written, and the system's reason, or else what was wrong.
-pub(crate) fn tell_dump<R: Eprint>(rt: &R, prefix: &str, dump: NotWritten) {
+fn tell_dump<R: Eprint>(rt: &R, prefix: &str, dump: NotWritten) {
     let _ = match dump.reason {
         Some(reason) => eprintln!(rt; "charm_run: {prefix}.{}: {reason}", dump.round),
         None => eprintln!(rt; "charm_run: {prefix}.{}: {}", dump.round, dump.fault),
@@ -139,7 +164,7 @@ pub(crate) fn tell_dump<R: Eprint>(rt: &R, prefix: &str, dump: NotWritten) {
 
 // The files of the system.
 #[derive(Drop)]
-pub(crate) struct SystemFiles<'a, R>(pub(crate) &'a R);
+struct SystemFiles<'a, R>(&'a R);
 
 impl<R: Files> DumpFiles for SystemFiles<'_, R> {
     type File = R::File;

@@ -3,10 +3,12 @@
 ghost use Rattle.std.specs.Prelude.{IfOk};
 ghost use Rattle.workload.specs.Text.{IsWithin};
 
-use crate::{ADVICE, FAULT, SystemFiles, tell_dump};
+use crate::traces::{keep_trace, lost};
+use crate::{ADVICE, FAULT, NO_OUTPUT, dumped};
 use file_faults::Advice;
 use rts_run::{Strategy, Tolerance};
 use run_command_line::Asked;
+use run_trace::{Timeline, TraceError};
 use schedule_run::{
     DrivenOnOne, ListFault, drive_events, drive_seed, drive_seeds, read_list, read_workload,
     report_list, write_list,
@@ -16,7 +18,6 @@ use std::fs::{File, Files};
 use std::io::{self, Write};
 use streams::{Noted, write_out};
 use workload::Workload;
-use workload_run::{DumpFormat, write_asked};
 
 /// What to do about a list of events with a fault.
 const LIST_ADVICE: Advice<'static> = Advice {
@@ -24,9 +25,6 @@ const LIST_ADVICE: Advice<'static> = Advice {
     unread: "give a file with a list of events that you may read, or /dev/stdin for the standard input",
     wrong: "give a list of the events of a run of this workload: charm_run --seed S --events LIST writes one",
 };
-
-/// The status where a file was not written.
-const NO_OUTPUT: u8 = 5;
 
 /// Runs the workload by a seed, writes what is asked for of that, and returns the status.
 pub(crate) fn run_by_seed<R: Files + Print + Eprint + AllocGlobal, E: Write>(
@@ -125,7 +123,7 @@ fn strategy_of(asked: &Asked<'_>) -> Strategy {
     Strategy::within(asked.tolerance.and_then(Tolerance::new))
 }
 
-// Writes the list of events and the dumps that are asked for, and returns the status.
+// Writes the list of events, the trace and the dumps that are asked for, and returns the status.
 fn finished<R: Files + Eprint + AllocGlobal, W: Write>(
     rt: &R,
     asked: &Asked<'_>,
@@ -133,18 +131,27 @@ fn finished<R: Files + Eprint + AllocGlobal, W: Write>(
     writer: &mut W,
 ) -> u8 {
     let kept = kept_events(rt, asked, &driven, writer);
-    let (status, failed) = write_asked(
-        rt.alloc(),
-        &driven.into_driven(),
-        DumpFormat::asked(asked.lbd1),
-        asked.dump,
-        &mut SystemFiles(rt),
-        writer,
-    );
-    if let Some(dump) = failed {
-        tell_dump(rt, asked.dump.unwrap_or(""), dump);
+    let traced = kept_trace(rt, asked, &driven, writer);
+    let status = dumped(rt, asked, &driven.into_driven(), writer);
+    if kept && traced { status } else { NO_OUTPUT }
+}
+
+// Writes the trace to the file that is asked for, by the numbers of the events, and returns whether nothing is left to write.
+fn kept_trace<R: Files + Eprint + AllocGlobal, W: Write>(
+    rt: &R,
+    asked: &Asked<'_>,
+    driven: &DrivenOnOne<Global>,
+    writer: &mut W,
+) -> bool {
+    let (Some(name), Some(explored)) = (asked.trace, &driven.explored) else {
+        return true;
+    };
+    let outcome = explored.outcome();
+    let pes = outcome.ends().len() as u32;
+    match Timeline::of_steps(rt.alloc(), explored.steps()) {
+        Ok(timeline) => keep_trace(rt, name, pes, &timeline, outcome.rounds(), writer),
+        Err(error) => lost(rt, name, TraceError::from(error), writer),
     }
-    if kept { status } else { NO_OUTPUT }
 }
 
 // Writes the list of events to the file that is asked for, and returns whether that was done, or was not asked for. The writer is

@@ -20,4 +20,4 @@ checksum S                             of all cells: the same on any number of
 fault WORD                             in place of it: what ended the run early
 
 Standard error tells the time. Statuses: 0 ended well, 2 words, 4 a fault of
-the run, 5 memory or output.";
+the run, 5 memory, output or trace.";

@@ -1,17 +1,20 @@
-//! `hot_spot [--elements N] [--pes P] [--rounds R] [--work W] [--static] [--tolerance T]` runs a chain of strips whose work
-//! wanders. It prints the loads of each round and the checksum of all cells, and on the standard error how long the run took.
+//! `hot_spot [--elements N] [--pes P] [--rounds R] [--work W] [--static] [--tolerance T] [--trace FILE]` runs a chain of
+//! strips whose work wanders. It prints the loads of each round and the checksum of all cells, and on the standard error how long
+//! the run took.
 //!
-//! - `hot_spot_run::run_chain`: the run. `hot_spot_run::text_of`: what is printed.
+//! - `hot_spot_run::run_chain_watched`: the run. `hot_spot_run::text_of`: what is printed. `run_trace`: the trace of the run.
 #![tactic(auto)]
 
 mod help;
 mod words;
 
 use crate::words::{RunOptions, read_options};
-use hot_spot_run::{Chain, ChainError, run_chain, text_of};
-use hot_spot_strip::Mode;
-use rts_run::{Config, Strategy, Tolerance};
+use hot_spot_run::{Chain, ChainError, run_chain_watched, text_of};
+use hot_spot_strip::{Mode, Strip};
+use rts_run::{Config, Outcome, Strategy, Tolerance, Watch};
+use run_trace::{TraceError, Tracing, write_trace};
 use std::alloc::AllocError;
+use std::fs::{File, Files};
 use std::process::ExitCode;
 use std::sync::Wait;
 use std::thread::Threads;
@@ -55,9 +58,9 @@ fn main(rt: HostRuntime) -> ExitCode {
 }
 
 // Runs the chain, and returns the status.
-fn ran<R: Threads + Wait + Sync + Clock + Print + Eprint + AllocGlobal>(
+fn ran<R: Threads + Wait + Sync + Files + Clock + Print + Eprint + AllocGlobal>(
     rt: &R,
-    options: &RunOptions,
+    options: &RunOptions<'_>,
 ) -> u8 {
     let Ok(cells) = cells_of(rt, options.elements) else {
         return NO_OUTPUT;
@@ -72,10 +75,10 @@ fn ran<R: Threads + Wait + Sync + Clock + Print + Eprint + AllocGlobal>(
         work: options.work,
         cells: &cells,
     };
-    match told(rt, &chain, options.pes, options.tolerance) {
+    match traced(rt, &chain, options) {
         Ok(status) => status,
         Err(error) => {
-            let _ = eprintln!(rt; "hot_spot: {error}");
+            let _ = eprintln!(rt; "hot_spot: {}: {error}", options.trace.unwrap_or(""));
             NO_OUTPUT
         }
     }
@@ -88,27 +91,58 @@ fn cells_of<R: AllocGlobal>(rt: &R, strips: u32) -> Result<Vec<u32>, AllocError>
     Ok(cells)
 }
 
-// Runs a chain and prints what it left.
-fn told<R: Threads + Wait + Sync + Clock + Print + Eprint + AllocGlobal>(
+// Runs a chain, prints what it left, and writes its trace, if one is asked for.
+fn traced<R: Threads + Wait + Sync + Files + Clock + Print + Eprint + AllocGlobal>(
     rt: &R,
     chain: &Chain<'_>,
-    pes: u32,
-    tolerance: Option<u32>,
-) -> Result<u8, ChainError> {
+    options: &RunOptions<'_>,
+) -> Result<u8, TraceError> {
+    let tracing = Tracing::new(rt, rt.alloc(), options.trace.is_some())?;
+    let told = match told(rt, chain, options, &tracing) {
+        Ok(told) => told,
+        Err(error) => {
+            let _ = eprintln!(rt; "hot_spot: {error}");
+            return Ok(NO_OUTPUT);
+        }
+    };
+    let (Some(path), Some(timeline)) = (options.trace, tracing.into_timeline()?) else {
+        return Ok(told.1);
+    };
+    let Ok(mut file) = File::create(rt, path) else {
+        return Err(TraceError::Write);
+    };
+    write_trace(
+        rt.alloc(),
+        &mut file,
+        options.pes,
+        timeline.happenings(),
+        told.0.rounds(),
+    )?;
+    Ok(told.1)
+}
+
+// Runs a chain and prints what it left; and the status, if nothing more is written.
+fn told<V: Watch + Sync, R: Threads + Wait + Sync + Clock + Print + Eprint + AllocGlobal>(
+    rt: &R,
+    chain: &Chain<'_>,
+    options: &RunOptions<'_>,
+    watch: &V,
+) -> Result<(Outcome<Strip>, u8), ChainError> {
     let config = Config {
-        strategy: Strategy::within(tolerance.and_then(Tolerance::new)),
-        ..Config::usual(pes)
+        strategy: Strategy::within(options.tolerance.and_then(Tolerance::new)),
+        ..Config::usual(options.pes)
     };
     let start = Instant::now(rt);
-    let outcome = run_chain(rt, rt.alloc(), &config, chain)?;
+    let outcome = run_chain_watched(rt, rt.alloc(), &config, watch, chain)?;
     if let Ok(start) = start {
         tell_time(rt, &start, outcome.account().executed);
     }
-    let text = text_of(rt.alloc(), chain, pes, &outcome)?;
+    let text = text_of(rt.alloc(), chain, options.pes, &outcome)?;
     if !write_out(&mut io::writer(rt), text.as_bytes()) {
-        return Ok(NO_OUTPUT);
+        return Ok((outcome, NO_OUTPUT));
     }
-    Ok(if outcome.fault().is_some() { FAULT } else { 0 })
+    let status = if outcome.fault().is_some() { FAULT } else { 0 };
+    Ok((outcome, status))
 }
 
 // Tells on the standard error how long a run took, and how many letters it handled in a second.

@@ -8,17 +8,21 @@ use std::alloc::{AllocError, Global};
 
 /// What the words ask for.
 #[derive(Clone, Copy, Debug, PartialEq, Eq)]
-pub(crate) struct RunOptions {
+pub(crate) struct RunOptions<'a> {
     pub(crate) elements: u32,
     pub(crate) pes: u32,
     pub(crate) rounds: u32,
     pub(crate) work: u32,
     pub(crate) is_static: bool,
     pub(crate) tolerance: Option<u32>,
+    pub(crate) trace: Option<&'a str>,
 }
 
 /// Reads the words of a command line, the program's name first. The error has the text to print.
-pub(crate) fn read_options<'a>(alloc: Global, words: &'a [&'a str]) -> Result<RunOptions, Error> {
+pub(crate) fn read_options<'a>(
+    alloc: Global,
+    words: &'a [&'a str],
+) -> Result<RunOptions<'a>, Error> {
     match command(alloc)?.try_get_matches_from(words) {
         Ok(matches) => Ok(found(&matches)),
         Err(error) => Err(error),
@@ -35,7 +39,8 @@ fn command<'a>(alloc: Global) -> Result<Command<'a>, AllocError> {
     let command = command.arg(rounds(alloc))?;
     let command = command.arg(work(alloc))?;
     let command = command.arg(is_static(alloc))?;
-    command.arg(tolerance(alloc))
+    let command = command.arg(tolerance(alloc))?;
+    command.arg(trace(alloc))
 }
 
 fn elements<'a>(alloc: Global) -> Arg<'a> {
@@ -94,8 +99,18 @@ fn tolerance<'a>(alloc: Global) -> Arg<'a> {
         .value_parser(value_parser!(u32).range(0..=1_000))
 }
 
+fn trace<'a>(alloc: Global) -> Arg<'a> {
+    Arg::new(alloc, "trace")
+        .long("trace")
+        .value_name("FILE")
+        .help(
+            "Writes what each PE did to FILE, in the Trace Event Format, for{n}chrome://tracing, Perfetto or `tezgumi timeline`",
+        )
+        .action(ArgAction::Set)
+}
+
 // What the words ask for.
-fn found<'a>(matches: &ArgMatches<'a>) -> RunOptions {
+fn found<'a>(matches: &ArgMatches<'a>) -> RunOptions<'a> {
     RunOptions {
         elements: matches.get_one::<u32>("elements").unwrap_or(64),
         pes: matches.get_one::<u32>("pes").unwrap_or(4),
@@ -103,5 +118,6 @@ fn found<'a>(matches: &ArgMatches<'a>) -> RunOptions {
         work: matches.get_one::<u32>("work").unwrap_or(1_000),
         is_static: matches.get_one("static") == Some(true),
         tolerance: matches.get_one::<u32>("tolerance"),
+        trace: matches.get_str("trace"),
     }
 }

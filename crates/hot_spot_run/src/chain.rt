@@ -9,7 +9,7 @@ ghost use Rattle.run_account.specs.RunAccounts.{IsRunAccount, left_world};
 use chare_index::NoGate;
 use hot_spot_strip::{Chain, ChainError, Strip};
 use pup_pack::Pup;
-use rts_run::{Config, Outcome, RunError, run};
+use rts_run::{Config, NoWatch, Outcome, RunError, Watch, run_watched};
 use std::alloc::Allocator;
 use std::sync::Wait;
 use std::thread::Threads;
@@ -30,8 +30,31 @@ pub fn run_chain<R: Threads + Wait + Sync, A: Allocator + Copy + Send + Sync>(
     ensures histories { IfOk result (λ o. AreHistories strip_step ⟦<Strip<A> as Pup<A>>⟧.fits ⟦<Strip<A> as Pup<A>>⟧.pack
         (opening_strips chain.now.mode chain.now.rounds chain.now.work 0 chain.now.cells.now) (left_world o.ends o.left)) }
 {
+    run_chain_watched(rt, alloc, config, &NoWatch, chain)
+}
+
+/// Runs a chain of strips on PEs, while somebody looks on: see [`rts_run::run_watched`].
+///
+/// # Errors
+///
+/// Those of [`run_chain`].
+pub fn run_chain_watched<
+    V: Watch + Sync,
+    R: Threads + Wait + Sync,
+    A: Allocator + Copy + Send + Sync,
+>(
+    rt: &R,
+    alloc: A,
+    config: &Config,
+    watch: &V,
+    chain: &Chain<'_>,
+) -> Result<Outcome<Strip<A>, A>, ChainError>
+    ensures account { IfOk result (λ o. IsRunAccount strip_step (opening_strips chain.now.mode chain.now.rounds chain.now.work 0 chain.now.cells.now) (left_world o.ends o.left)) }
+    ensures histories { IfOk result (λ o. AreHistories strip_step ⟦<Strip<A> as Pup<A>>⟧.fits ⟦<Strip<A> as Pup<A>>⟧.pack
+        (opening_strips chain.now.mode chain.now.rounds chain.now.work 0 chain.now.cells.now) (left_world o.ends o.left)) }
+{
     let strips = chain.strips(alloc)?;
-    match run(rt, alloc, config, &NoGate, strips) {
+    match run_watched(rt, alloc, config, &NoGate, watch, strips) {
         Ok(outcome) => Ok(outcome),
         Err(RunError::Config(_)) => Err(ChainError::Limit),
         Err(RunError::OutOfMemory) => Err(ChainError::OutOfMemory),

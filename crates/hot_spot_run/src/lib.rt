@@ -1,6 +1,6 @@
 //! Runs a chain of strips over threads, and tells what each round was like and what the cells are then.
 //!
-//! - [`run_chain`]: the run of a [`Chain`].
+//! - [`run_chain`]: the run of a [`Chain`]; [`run_chain_watched`], while somebody looks on.
 //! - [`text_of`]: a line for each round, and the checksum of all cells; [`checksum`] alone.
 //!
 //! ```
@@ -29,7 +29,7 @@ mod loads;
 mod sums;
 mod text;
 
-pub use chain::run_chain;
+pub use chain::{run_chain, run_chain_watched};
 pub use hot_spot_strip::{Chain, ChainError};
 pub use sums::checksum;
 pub use text::text_of;

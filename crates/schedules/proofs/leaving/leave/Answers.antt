@@ -1,6 +1,7 @@
-use Rattle.std.proofs.Common.{◌≡◌, ◌∙◌, List, sym, ap, subst}
+use Rattle.std.proofs.Common.{◌≡◌, ◌∙◌, List, Option, IfSome, sym, ap, subst}
 use Rattle.at_sync.specs.Boards.{BoardState}
 use Rattle.lb_database.specs.Measuring.{elements}
+use Rattle.pe_worker.specs.declared.fault.Fault.{Fault}
 use Rattle.rts_core.specs.Histories.{AreHistories}
 use Rattle.rts_core.specs.Worlds.{WorldView, opening_world}
 use Rattle.rts_core.proofs.RunAccount.{accounted}
@@ -39,3 +40,8 @@ returns-clause-explored g c =
 
 pub returns-clause-steps : goal.returns-clause-steps
 returns-clause-steps g c = ap (λ (v : ExploredView g.row.C.Denot g.row.A.Denot). v.steps) c.new.ensures.made ∙ c.into_parts-world.ensures.steps
+
+pub returns-clause-fault : goal.returns-clause-fault
+returns-clause-fault g c =
+    let same = ap (λ (v : ExploredView g.row.C.Denot g.row.A.Denot). v.outcome.fault) c.new.ensures.made ∙ c.new-outcome.ensures.fault in
+    subst (λ (o : Option Fault). IfSome o (λ fault. fault ≡ c.args.ending.fault)) (sym same) c.fault_at_end-fault.ensures.value

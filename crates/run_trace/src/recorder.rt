@@ -1,0 +1,103 @@
+//! A watch that keeps what happened.
+
+use crate::row::Row;
+use crate::timeline::Timeline;
+use chare_index::{Limits, Pe, Round};
+use rts_run::{PeStep, Watch};
+use std::alloc::{AllocError, Allocator, Global};
+use std::collections::VecDeque;
+use std::sync::{Mutex, Wait};
+use std::time::{Clock, Instant};
+use trace_events::TraceError;
+
+/// Looks on at a run over threads, and keeps what each PE does, with its time by the monotonic clock: a reading of the clock
+/// as a step begins and one as it ends. Each worker keeps it in a row of its own, whose lock no other worker wants. Where memory
+/// is refused the run goes on, and [`into_timeline`](Recorder::into_timeline) says so. A time that cannot be read is that of the
+/// PE's last reading.
+#[derive(Drop)]
+pub struct Recorder<'a, R, A: Allocator = Global> {
+    rt: &'a R,
+    start: Instant,
+    rows: VecDeque<Mutex<Row<A>>, A>,
+    decisions: Mutex<Row<A>>,
+}
+
+impl<'a, R: Clock, A: Allocator + Copy> Recorder<'a, R, A> {
+    /// A recorder of a run that begins now.
+    ///
+    /// # Errors
+    ///
+    /// [`Clock`](TraceError::Clock), and then [`OutOfMemory`](TraceError::OutOfMemory).
+    pub fn new(rt: &'a R, alloc: A) -> Result<Self, TraceError> {
+        let Ok(start) = Instant::now(rt) else {
+            return Err(TraceError::Clock);
+        };
+        Ok(Recorder {
+            rt,
+            start,
+            rows: rows(alloc)?,
+            decisions: Mutex::new(Row::new(alloc)),
+        })
+    }
+
+    /// What happened, in order of time, once the run has ended.
+    ///
+    /// # Errors
+    ///
+    /// Memory was refused now, or for something that happened during the run.
+    pub fn into_timeline(self) -> Result<Timeline<A>, AllocError> {
+        let Recorder {
+            rt: _,
+            start: _,
+            rows,
+            decisions,
+        } = self;
+        let mut rows = rows;
+        let mut happenings = decisions.into_inner().into_happenings()?;
+        while let Some(row) = rows.pop_front() {
+            let more = row.into_inner().into_happenings()?;
+            happenings.extend_from_slice(&more)?;
+        }
+        Timeline::sorted(happenings)
+    }
+
+    // The nanoseconds since the run began, where the clock can be read.
+    fn now(&self) -> Option<u64> {
+        let elapsed = self.start.elapsed(self.rt).ok()?;
+        Some(u64::try_from(elapsed.as_nanos()).unwrap_or(u64::MAX))
+    }
+}
+
+// A row for each PE that a run may have.
+fn rows<A: Allocator + Copy>(alloc: A) -> Result<VecDeque<Mutex<Row<A>>, A>, AllocError> {
+    let mut rows = VecDeque::new(alloc);
+    for _pe in 0..Limits::PES {
+        rows.push_back(Mutex::new(Row::new(alloc)))?;
+    }
+    Ok(rows)
+}
+
+impl<R: Clock + Wait, A: Allocator + Copy> Watch for Recorder<'_, R, A> {
+    fn decided(&self, round: Round, _executed: u64) {
+        let now = self.now();
+        self.decisions.lock(self.rt).decide(round, now);
+    }
+
+    fn follows_steps(&self) -> bool {
+        true
+    }
+
+    fn begins_step(&self, pe: Pe) {
+        let now = self.now();
+        if let Some(row) = self.rows.get(pe.get() as usize) {
+            row.lock(self.rt).begin(now);
+        }
+    }
+
+    fn made_step(&self, pe: Pe, step: PeStep, posted: u64) {
+        let now = self.now();
+        if let Some(row) = self.rows.get(pe.get() as usize) {
+            row.lock(self.rt).end(pe, step, posted, now);
+        }
+    }
+}

@@ -1,0 +1,109 @@
+//! What one PE did.
+
+ghost use Rattle.std.specs.Prelude.{◌≡◌, ◌++◌, ◌∷◌, [], true, MatchBool, MatchResult};
+
+use chare_index::{Pe, Round};
+use rts_run::PeStep;
+use std::alloc::{AllocError, Allocator};
+use trace_events::{Deed, Happening, What};
+
+/// What one PE did so far, in order.
+#[derive(Drop)]
+pub(crate) struct Row<A: Allocator> {
+    happenings: Vec<Happening, A>,
+    // Whether something is missing, since memory was refused for it.
+    is_short: bool,
+    // When the step began that is under way, or the last one was made.
+    began: u64,
+    // How many letters the PE has posted.
+    posted: u32,
+}
+
+impl<A: Allocator> Row<A> {
+    /// Nothing yet.
+    pub(crate) fn new(alloc: A) -> Self {
+        Row {
+            happenings: Vec::new(alloc),
+            is_short: false,
+            began: 0,
+            posted: 0,
+        }
+    }
+
+    /// A step begins. Where the time is not known, it begins where the last one ended.
+    pub(crate) fn begin(&mut self, now: Option<u64>) {
+        self.began = now.unwrap_or(self.began);
+    }
+
+    /// The PE made this step, after which it has posted so many letters.
+    pub(crate) fn end(&mut self, pe: Pe, step: PeStep, posted: u64, now: Option<u64>) {
+        let now = now.unwrap_or(self.began);
+        let at = match step {
+            PeStep::Reported => now,
+            _ => self.began,
+        };
+        let end = u32::try_from(posted).unwrap_or(u32::MAX);
+        let what = What::Done(pe, deed_of(step), self.posted, end);
+        self.posted = end;
+        self.began = now;
+        self.note(Happening {
+            at,
+            long: now.saturating_sub(at),
+            what,
+        });
+    }
+
+    /// This round was decided.
+    pub(crate) fn decide(&mut self, round: Round, now: Option<u64>) {
+        let now = now.unwrap_or(self.began);
+        self.began = now;
+        self.note(Happening {
+            at: now,
+            long: 0,
+            what: What::Decided(round),
+        });
+    }
+
+    /// Keeps what happened, behind the rest; or notes that it is missing.
+    pub(crate) fn note(&mut self, happening: Happening)
+        ensures kept { MatchBool self.new.is_short (self.new.happenings.items ≡ self.old.happenings.items) (self.new.happenings.items ≡ self.old.happenings.items ++ happening ∷ []) }
+    {
+        if self.is_short || self.happenings.push(happening).is_err() {
+            self.is_short = true;
+        }
+    }
+
+    /// All that happened.
+    ///
+    /// # Errors
+    ///
+    /// Memory was refused for something.
+    pub(crate) fn into_happenings(self) -> Result<Vec<Happening, A>, AllocError>
+        ensures all { MatchResult result (λ all. all.items ≡ self.happenings.items) (λ _. self.is_short ≡ true) }
+    {
+        let Row {
+            happenings,
+            is_short,
+            began: _,
+            posted: _,
+        } = self;
+        if is_short {
+            return Err(AllocError);
+        }
+        Ok(happenings)
+    }
+}
+
+// What a PE did in a step.
+fn deed_of(step: PeStep) -> Deed {
+    match step {
+        PeStep::Started(element) => Deed::Started(element),
+        PeStep::Executed(letter, element) => Deed::Executed(letter, element),
+        PeStep::Shelved(letter) => Deed::Shelved(letter),
+        PeStep::Forwarded(letter) => Deed::Forwarded(letter),
+        PeStep::Installed(element) => Deed::Arrived(element),
+        PeStep::Reported => Deed::Reported,
+        PeStep::Departed(element, _) => Deed::Departed(element),
+        PeStep::Resumed(element, round) => Deed::Resumed(element, round),
+    }
+}

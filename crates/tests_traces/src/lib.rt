@@ -1,0 +1,14 @@
+//! Tests of traces: of a run over threads and of one by a seed, read back and counted; with memory refused, a clock that fails, and
+//! a writer that does.
+#![tactic(auto)]
+
+#[cfg(test)]
+mod counting;
+#[cfg(test)]
+mod events;
+#[cfg(test)]
+mod refused;
+#[cfg(test)]
+mod seeds;
+#[cfg(test)]
+mod threads;

@@ -1,0 +1,68 @@
+//! The trace of a run over threads.
+
+use crate::counting::{Expected, assert_for, expect_trace, moves_in, text_in};
+use hot_spot_run::{Chain, run_chain_watched};
+use hot_spot_strip::Mode;
+use rts_run::{Config, Watch};
+use run_trace::{Recorder, Tracing};
+use std::process::Abort;
+use std::sync::Wait;
+use std::thread::Threads;
+use std::time::Clock;
+
+// A chain of strips that moves.
+fn chain<'a>(cells: &'a [u32]) -> Chain<'a> {
+    Chain {
+        mode: Mode::Balanced,
+        rounds: 4,
+        work: 50,
+        cells,
+    }
+}
+
+// A run on so many PEs, traced, and what its trace has to have.
+fn expect_run<R: Threads + Wait + Sync + Clock + Abort + AllocGlobal>(rt: &R, pes: u32) {
+    let recorder = Recorder::new(rt, rt.alloc()).expect(rt, "no recorder");
+    let config = Config::usual(pes);
+    let outcome = run_chain_watched(rt, rt.alloc(), &config, &recorder, &chain(&[3; 12]));
+    let outcome = outcome.expect(rt, "no run");
+    assert_for(rt, outcome.fault() == None, pes);
+    let timeline = recorder.into_timeline().expect(rt, "no timeline");
+    let text = text_in(rt, pes, &timeline, outcome.rounds());
+    let expected = Expected {
+        pes: u64::from(pes),
+        elements: 12,
+        rounds: outcome.rounds().len() as u64,
+        moves: moves_in(outcome.rounds()),
+        account: outcome.account(),
+    };
+    assert_for(rt, expected.rounds == 4, expected.rounds);
+    expect_trace(rt, &text, &expected);
+}
+
+#[test]
+fn a_run_on_three_pes(rt: HostRuntime) {
+    expect_run(&rt, 3);
+}
+
+#[test]
+fn a_run_on_one_pe(rt: HostRuntime) {
+    expect_run(&rt, 1);
+}
+
+#[test]
+fn nobody_looks_on(rt: HostRuntime) {
+    let nobody = Tracing::new(&rt, rt.alloc(), false).expect(&rt, "no recorder was asked for");
+    assert_for(&rt, !nobody.follows_steps(), 0);
+    let outcome = run_chain_watched(
+        &rt,
+        rt.alloc(),
+        &Config::usual(2),
+        &nobody,
+        &chain(&[3; 12]),
+    );
+    assert_for(&rt, outcome.is_ok(), 0);
+    drop(outcome);
+    let timeline = nobody.into_timeline();
+    assert_for(&rt, matches!(timeline, Ok(None)), 0);
+}

@@ -1,0 +1,22 @@
+use std::alloc::AllocError;
+use thiserror::Error;
+
+/// Why there is no trace, or not all of one.
+#[derive(Clone, Copy, Debug, PartialEq, Eq, Error)]
+pub enum TraceError {
+    /// The clock could not be read as the run began.
+    #[error("the clock cannot be read")]
+    Clock,
+    /// Memory was refused. Nothing was written.
+    #[error("out of memory")]
+    OutOfMemory,
+    /// Writing failed, after a part of the trace perhaps.
+    #[error("the trace could not be written")]
+    Write,
+}
+
+impl From<AllocError> for TraceError {
+    fn from(_error: AllocError) -> Self {
+        TraceError::OutOfMemory
+    }
+}
