@@ -11,7 +11,7 @@ use Rattle.rts_run.specs.declared.error.Setting.TheVariants as Of
 use Rattle.rts_run.specs.declared.error.RunError.TheVariants as Why
 use Rattle.run_text.specs.Sums.{AreTallies}
 use Rattle.run_text.proofs.Histories as of_runs
-use Rattle.schedules.specs.Courses.{CourseView, ExploredView, IsExplored, Leads, Made, events_of}
+use Rattle.schedules.specs.Courses.{ExploredView, IsExplored, Leads, Made, events_of}
 use Rattle.schedules.specs.Replays.{RefusesReplay}
 use Rattle.schedules.specs.Schedules.{MayExplore, RefusesSchedule}
 use Rattle.schedules.specs.declared.error.ReplayError.{ReplayError}
@@ -87,7 +87,7 @@ module _ (A : Type 0) (unpack : Unpack) (w : WorkloadView) (chares : List TallyV
     stops,
   )
 
-  pub refused_run : (r : Result (ExploredView TallyView A) ReplayError) → IsWithin w → chares ≡ tallies_of w → schedule.pes ≡ w.pes → schedule.strategy ≡ strategy
+  pub refused_run : {T : Type 0} (r : Result T ReplayError) → IsWithin w → chares ≡ tallies_of w → schedule.pes ≡ w.pes → schedule.strategy ≡ strategy
       → MatchResult r (λ _. MayExplore schedule (length chares)) (RefusesReplay A tally_step tally_pack unpack chares schedule events) → IfErr r (RefusesRun A unpack w strategy events)
   refused_run (Ok x) within same_chares same_pes same_strategy answer = tt
   refused_run (Err e) within same_chares same_pes same_strategy answer =

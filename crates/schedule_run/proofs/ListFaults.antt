@@ -1,5 +1,5 @@
 -- What a list of events is refused for.
-use Rattle.std.proofs.Common.{◌≡◌, ◌⊎◌, inl, inr, ℕ, List, Option, ap}
+use Rattle.std.proofs.Common.{inl, inr, ℕ, List, Option, ap}
 use Rattle.std.specs.Io.KnownBytes.{Consumes, IsAtEnd}
 use Rattle.event_lists.specs.Faults.{IsFault}
 use Rattle.event_lists.specs.Reading.{IsRefusal}

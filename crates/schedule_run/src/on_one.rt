@@ -29,13 +29,11 @@ impl<A: Allocator + Copy> DrivenOnOne<A> {
         ensures ended { result.ended ≡ self.ended }
         ensures outcome { result.outcome ≡ option_map (λ x. x.outcome) self.explored }
     {
-        let outcome = match self.explored {
+        let DrivenOnOne { ended, explored } = self;
+        let outcome = match explored {
             Some(explored) => Some(explored.into_parts().0),
             None => None,
         };
-        Driven {
-            ended: self.ended,
-            outcome,
-        }
+        Driven { ended, outcome }
     }
 }

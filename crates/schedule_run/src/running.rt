@@ -56,7 +56,10 @@ pub fn follow<A: Allocator + Copy>(
 {
     let schedule = schedule_of(workload.pes, strategy);
     let tallies = tallies_of(alloc, workload)?;
-    replay(alloc, &schedule, tallies, events)
+    match replay(alloc, &schedule, tallies, events) {
+        Ok(explored) => Ok(explored),
+        Err(error) => Err(error),
+    }
 }
 
 /// A schedule without a bias, whose runs are not stopped.

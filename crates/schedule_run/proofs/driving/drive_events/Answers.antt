@@ -1,5 +1,5 @@
 use Rattle.std.proofs.Common.{◌≡◌, ap}
-use Rattle.schedule_run.proofs.Lefts.{are_tallies, stops_inside}
+use Rattle.schedule_run.proofs.Lefts.{are_tallies}
 use Rattle.schedule_run.proofs.driving.drive_events.Goals as goal
 
 pub told-requires : goal.told-requires

@@ -1,6 +1,4 @@
-use Rattle.std.proofs.Common.{◌≡◌, ◌∙◌, ap, inl, sym}
-use Rattle.tally.specs.Tallies.{TallyView}
-use Rattle.schedule_run.specs.OneThread.{Unpack}
+use Rattle.std.proofs.Common.{◌≡◌, ◌∙◌, ap, inl}
 use Rattle.workload_run.specs.Tallies.{tallies_of}
 use Rattle.schedule_run.proofs.Lefts.{verdicts_on_one}
 use Rattle.schedule_run.proofs.seeds.drive_seeds.Goals as goal

@@ -1,4 +1,4 @@
-use Rattle.std.proofs.Common.{◌<◌, Fits, arith, length, rules, w64}
+use Rattle.std.proofs.Common.{Fits, arith, length, rules, w64}
 use Rattle.schedule_run.proofs.SeedLines.{faults_counted, faults_fit, lines_written}
 use Rattle.schedule_run.proofs.seeds.push_faults.Goals as goal
 

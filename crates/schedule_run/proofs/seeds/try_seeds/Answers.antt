@@ -1,4 +1,4 @@
-use Rattle.std.proofs.Common.{length, length-append, arith, ap, ◌∙◌}
+use Rattle.std.proofs.Common.{length-append, arith, ◌∙◌}
 use Rattle.std.proofs.lemmas.List.Elements.{All-push}
 use Rattle.schedule_run.specs.Seeds.{IsVerdict}
 use Rattle.schedule_run.proofs.seeds.try_seeds.Goals as goal
