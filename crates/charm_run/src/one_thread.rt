@@ -147,7 +147,7 @@ fn kept_trace<R: Files + Eprint + AllocGlobal, W: Write>(
         return true;
     };
     let outcome = explored.outcome();
-    let pes = outcome.ends().len() as u32;
+    let pes = u32::try_from(outcome.ends().len()).unwrap_or(u32::MAX);
     match Timeline::of_steps(rt.alloc(), explored.steps()) {
         Ok(timeline) => keep_trace(rt, name, pes, &timeline, outcome.rounds(), writer),
         Err(error) => lost(rt, name, TraceError::from(error), writer),
