@@ -18,7 +18,8 @@
 //! let mut text = Vec::new(alloc);
 //! let driven = drive_seed(alloc, &workload, Strategy::Least, 1, &mut text);
 //! assert!(rt; driven.ended == Ended::Ran(None));
-//! assert!(rt; text == b"round 1 bottleneck 7 moved 0\nsums 7\nposted 1 executed 1 held 0\n");
+//! let expected = b"round 1 bottleneck 7 moved 0\nsums 7\nposted 1 executed 1 held 0\n";
+//! assert!(rt; text.as_slice() == expected.as_slice());
 //! ```
 #![tactic(auto)]
 

@@ -80,7 +80,8 @@ fn a_workload_by_a_seed(rt: HostRuntime) -> Result<(), Fail> {
     let mut text = Vec::new(alloc);
     let driven = drive_seed(alloc, &workload, Strategy::Least, 1, &mut text);
     assert!(rt; driven.ended == Ended::Ran(None));
-    assert!(rt; text == b"round 1 bottleneck 7 moved 0\nsums 7\nposted 1 executed 1 held 0\n");
+    let expected = b"round 1 bottleneck 7 moved 0\nsums 7\nposted 1 executed 1 held 0\n";
+    assert!(rt; text.as_slice() == expected.as_slice());
     Ok(())
 }
 
