@@ -192,16 +192,22 @@ function drawMark(context, rank, x, y, colors) {
   context.lineWidth = 1;
 }
 
-// Counters of one name have one scale.
-function greatestValue(name) {
-  const values = trace.counters.filter((one) => one.name === name).flatMap((one) => one.values);
+// Counters that count the same, as the loads of all PEs, have one scale: those of one name, or of one series that has a name.
+function greatestValue({ name, series }) {
+  const isAlike = (one) => one.name === name || (one.series === series && series !== "value");
+  const values = trace.counters.filter(isAlike).flatMap((one) => one.values);
   return values.reduce((a, b) => Math.max(a, b), 0) || 1;
+}
+
+// The name of a counter, with its series where the name does not say it.
+function counterLabel({ name, series }) {
+  return series === "value" || name.split(" ").includes(series) ? name : `${name} ${series}`;
 }
 
 // A counter as steps: its value stays until the next one.
 function drawCounter({ context, x, left, right, colors }, one, top) {
-  const most = greatestValue(one.name);
-  labelRow({ context, colors }, one.series === "value" ? one.name : `${one.name} ${one.series}`, top + TIME.counter / 2);
+  const most = greatestValue(one);
+  labelRow({ context, colors }, counterLabel(one), top + TIME.counter / 2);
   const high = (value) => (Math.max(value, 0) / most) * (TIME.counter - 8);
   one.at.forEach((at, k) => {
     const begin = Math.max(x(at), left);
@@ -301,7 +307,7 @@ function eventTable() {
   });
   for (const one of trace.counters) {
     one.at.forEach((at, k) => {
-      if (inside(at, at)) rows.push([at, `${one.name} ${one.series}`, "counter", told(one.values[k]), "", null]);
+      if (inside(at, at)) rows.push([at, counterLabel(one), "counter", told(one.values[k]), "", null]);
     });
   }
   rows.sort((a, b) => a[0] - b[0]);
