@@ -5,7 +5,7 @@ ghost use Rattle.dump_report.specs.Tellings.{IsTold, advice, fault_said, fault_w
 ghost use Rattle.file_faults.specs.Telling.{Tells};
 
 use lb_dump::DumpError;
-use lb_replay::Ended;
+use lb_replay::{Ended, dump_advice};
 use std::alloc::Allocator;
 use std::fmt::{self, Display, Formatter};
 use std::io;
@@ -167,12 +167,7 @@ fn advice(fault: DumpError) -> &'static str
 {
     match fault {
         DumpError::Read => "give a file with a dump that you may read, or - for the standard input",
-        DumpError::Magic => {
-            "a dump begins with LBD1 or LBD2: give one that charm_run --dump wrote, or see docs/FORMATS.md"
-        }
-        DumpError::Short(_) => "a dump goes on here: copy it whole, or write it again",
-        DumpError::Trailing => "a dump ends here: give one dump in a file",
         DumpError::OutOfMemory => "free some, or report on a smaller dump",
-        _ => "see docs/FORMATS.md for what is expected there, and write the dump again",
+        _ => dump_advice(fault),
     }
 }

@@ -105,6 +105,13 @@ dump_line MoveCount = codes "dump: more moves than elements" ++ newline
 dump_line (Move k) = codes "dump: move " ++ decimal k ++ codes " is out of range" ++ newline
 dump_line (Wide i) = codes "dump: write failed" ++ newline
 
+-- what is to be done about a fault in the bytes of a dump
+abbrev pub dump_advice : DumpError → List ℕ
+dump_advice Magic = codes "a dump begins with LBD1 or LBD2: give one that charm_run --dump wrote, or see docs/FORMATS.md"
+dump_advice (Short n) = codes "a dump goes on here: copy it whole, or write it again"
+dump_advice Trailing = codes "a dump ends here: give one dump in a file"
+dump_advice _ = codes "see docs/FORMATS.md for what is expected there, and write the dump again"
+
 -- the line where the decision of a dump is right, and the one where it has none
 abbrev pub right_line : List ℕ
 right_line = codes "check: ok" ++ newline

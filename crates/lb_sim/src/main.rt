@@ -7,7 +7,8 @@
 //!   done.
 //! - `lb_replay::Asked::task`: which task that is, if the options go together; `command_line::refuse_both`: what is told if they
 //!   do not.
-//! - `lb_replay::run`: the task, and the status for its end; `file_faults::Advice`: what is told of a file with a fault.
+//! - `lb_replay::run`: the task, and its end with the status for that; `lb_replay::dump_advice`: what to do about a fault of the
+//!   dump; `file_faults::Advice`: what is printed about a file with a fault.
 #![tactic(auto)]
 
 ghost use Rattle.lb_replay.specs.Requests.{MayRun};
@@ -18,7 +19,7 @@ use chain_refinement::Tolerance;
 use chare_index::Limits;
 use command_line::{NO_WORDS, asked, refuse_both, words_status};
 use file_faults::Advice;
-use lb_replay::{Asked, Task, run};
+use lb_replay::{Asked, Ended, Task, dump_advice, run};
 use std::fs::File;
 use std::process::ExitCode;
 use std::{env, io};
@@ -26,7 +27,7 @@ use std::{env, io};
 /// The status where the file cannot be read, or its dump has a fault.
 const FAULT: u8 = 3;
 
-/// What to do about a file with a fault.
+/// What to do about a file that cannot be read, and in general about one with a fault.
 const ADVICE: Advice<'static> = Advice {
     program: "lb_sim",
     unread: "give a file with a dump that you may read, or /dev/stdin for the standard input",
@@ -74,7 +75,24 @@ fn ran(rt: &HostRuntime, name: &str, task: Task) -> u8
     requires { MayRun task }
 {
     let file = File::open(rt, name);
-    let (status, reason) = run(rt.alloc(), task, file, &mut io::writer(rt));
-    let _told = ADVICE.tell(rt.alloc(), &mut rt.stderr(), name, reason, status == FAULT);
+    let (ended, reason) = run(rt.alloc(), task, file, &mut io::writer(rt));
+    let status = ended.status();
+    let advice = advice_on(ended);
+    let _told = advice.tell(rt.alloc(), &mut rt.stderr(), name, reason, status == FAULT);
     status
+}
+
+// What to do about a file whose replay or check ended so.
+fn advice_on(ended: Ended) -> Advice<'static> {
+    match ended {
+        Ended::Dump(fault) => Advice {
+            wrong: dump_advice(fault),
+            ..ADVICE
+        },
+        Ended::Printed
+        | Ended::Plan(_)
+        | Ended::Flawed(_)
+        | Ended::NoDecision
+        | Ended::WriteFailed => ADVICE,
+    }
 }
