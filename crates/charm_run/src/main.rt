@@ -2,8 +2,9 @@
 //! round decided, what each chare added up, and where every letter is. With `--seed S`, `--seeds N` or `--replay LIST` it runs them on
 //! one thread, in an order of events that can be repeated; `--events LIST` writes that order. `--trace FILE` writes what happened.
 //!
-//! - `run_command_line::asked`: what the words of the command line ask for, and the status where they ask for no run;
-//!   `Asked::task`: how the chares are run, if the options go together.
+//! - `program_words::on_words`: the words of the command line, and the status. `run_command_line::asked`: what the words ask for;
+//!   `Asked::task`: how the chares are run, if the options go together; `program_words::refused`: the status where the words ask
+//!   for no run.
 //! - `workload_run::drive_file`: the run of a workload, from a file to its text; `write_asked`: the dumps of its rounds, and
 //!   the status.
 //! - `one_thread`: the runs on one thread, by the crate `schedule_run`. `traces`: the trace of a run, by `run_trace`.
@@ -19,12 +20,12 @@ ghost use Rattle.std.specs.Prelude.{None};
 use crate::one_thread::{run_by_list, run_by_seed, run_by_seeds};
 use crate::traces::{Onlookers, keep_recorded, lost};
 use file_faults::Advice;
+use program_words::{on_words, refused};
 use progress_line::Progress;
 use rts_run::{Strategy, Tolerance};
-use run_command_line::{Asked, NO_WORDS, Task, asked, refuse, words_status};
+use run_command_line::{Asked, Task, asked, refuse};
 use run_trace::Tracing;
 use std::alloc::Global;
-use std::env;
 use std::fs::{File, Files};
 use std::io::{self, IsTerminal, Write};
 use std::process::ExitCode;
@@ -50,29 +51,13 @@ pub(crate) const FAULT: u8 = 3;
 pub(crate) const NO_OUTPUT: u8 = 5;
 
 fn main(rt: HostRuntime) -> ExitCode {
-    let Ok(args) = env::args(&rt) else {
-        return ExitCode::from(NO_WORDS);
-    };
-    let Ok(words) = args.collect::<Vec<String>>(rt.alloc()) else {
-        return ExitCode::from(NO_WORDS);
-    };
-    let Ok(words) = words
-        .iter()
-        .map(|word| word.as_str())
-        .collect::<Vec<&str>>(rt.alloc())
-    else {
-        return ExitCode::from(NO_WORDS);
-    };
-    match asked(rt.alloc(), &words) {
+    on_words(&rt, |words| match asked(rt.alloc(), words) {
         Ok(asked) => {
             let progress = asked.progress || rt.stderr().is_terminal();
-            ExitCode::from(done(&rt, &asked, progress, &mut rt.stderr()))
+            done(&rt, &asked, progress, &mut rt.stderr())
         }
-        Err(error) => {
-            let _ = error.print(&rt);
-            ExitCode::from(words_status(&error))
-        }
-    }
+        Err(error) => refused(&rt, &error),
+    })
 }
 
 // Does what is asked for, and returns the status. No file is opened where the options do not go together.

@@ -3,8 +3,8 @@ ghost use Rattle.std.specs.String.{string_bytes};
 ghost use Rattle.report_command_line.specs.Numbers.{IsNumber, no_numbers_line, numerals, numerals_after};
 ghost use Rattle.streams.specs.Writing.{WritesPrefix};
 
-use crate::words::NO_WORDS;
 use chare_index::Limits;
+use program_words::NO_WORDS;
 use std::alloc::{AllocError, AllocFailed, Allocator};
 use std::io::Write;
 use streams::write_out;
