@@ -2,7 +2,7 @@ use Rattle.std.proofs.Common.{◌≡◌, ◌*◌, ◌∙◌, ap, length, length-
 use Rattle.dump_parts.specs.Heads.{element_len}
 use Rattle.lb_dump.specs.Held.{front_text}
 use Rattle.lb_dump.proofs.Lengths.{front_length, none_length}
-use Rattle.lb_dump.proofs.making.text_len.Goals as goal
+use Rattle.lb_dump.proofs.whole_dump.text_len.Goals as goal
 
 pub returns-in_default-clause-value : goal.returns-in_default-clause-value
 returns-in_default-clause-value g c =

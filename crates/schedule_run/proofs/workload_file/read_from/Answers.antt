@@ -1,6 +1,6 @@
 use Rattle.std.proofs.Common.{refl}
 use Rattle.workload_run.proofs.Endings.{known_fault, known_text}
-use Rattle.schedule_run.proofs.opening.read_from.Goals as goal
+use Rattle.schedule_run.proofs.workload_file.read_from.Goals as goal
 
 pub returns-in-Ok-clause-reads : goal.returns-in-Ok-clause-reads
 returns-in-Ok-clause-reads g c = (known_text _ c.in-Ok.workload c.in-Ok.ensures.known, refl)

@@ -1,7 +1,7 @@
 use Rattle.std.proofs.Common.{length, ap, arith, sym, subst}
 use Rattle.pe_state.specs.Histories.{IsParcelHistory}
 use Rattle.run_account.proofs.Passing.{passed, all_passed, all_more, counted_more}
-use Rattle.run_account.proofs.left.release_queue.Goals as goal
+use Rattle.run_account.proofs.left_buffers.release_queue.Goals as goal
 
 pub loop-parcel-preserved : goal.loop-parcel-preserved
 loop-parcel-preserved g c =

@@ -1,7 +1,7 @@
 use Rattle.std.proofs.Common.{◌≡◌, ◌+◌, ◌++◌, ◌≤◌, length, vec_capacity}
 use Rattle.std.specs.Prelude.{All}
 use Rattle.pe_state.specs.Histories.{IsParcelHistory}
-use Rattle.run_account.proofs.left.release_queue.Given as goal
+use Rattle.run_account.proofs.left_buffers.release_queue.Given as goal
 
 abbrev pub invariant-loop-parcel : goal.invariant-loop-parcel
 invariant-loop-parcel g l = record {

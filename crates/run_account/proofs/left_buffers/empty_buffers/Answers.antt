@@ -1,6 +1,6 @@
 use Rattle.std.proofs.Common.{◌≡◌, ◌≤◌, [], arith, vec_capacity}
 use Rattle.run_account.proofs.Passing.{all_more, counted_more}
-use Rattle.run_account.proofs.left.empty_buffers.Goals as goal
+use Rattle.run_account.proofs.left_buffers.empty_buffers.Goals as goal
 
 pub loop-queue-preserved : goal.loop-queue-preserved
 loop-queue-preserved g c =

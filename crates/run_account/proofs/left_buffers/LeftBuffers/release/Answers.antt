@@ -2,7 +2,7 @@ use Rattle.std.proofs.Common.{◌≡◌, ◌≤◌, [], length, ap, arith, vec_c
 use Rattle.std.specs.Prelude.{All}
 use Rattle.pe_state.specs.Histories.{IsParcelHistory}
 use Rattle.run_account.proofs.Passing.{passed_by, all_next, all_more, counted_more}
-use Rattle.run_account.proofs.left.LeftBuffers.release.Goals as goal
+use Rattle.run_account.proofs.left_buffers.LeftBuffers.release.Goals as goal
 
 pub release_queue-requires-clause-empty : goal.release_queue-requires-clause-empty
 release_queue-requires-clause-empty g c =

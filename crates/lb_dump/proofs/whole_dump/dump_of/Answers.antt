@@ -4,7 +4,7 @@ use Rattle.dump_parts.specs.declared.head.Head.{Head}
 use Rattle.lb_dump.specs.Held.{text_of}
 use Rattle.lb_dump.specs.Made.{recorded_with, taken_of}
 use Rattle.lb_dump.proofs.WholeDumps.{text_made, value_of}
-use Rattle.lb_dump.proofs.making.dump_of.Goals as goal
+use Rattle.lb_dump.proofs.whole_dump.dump_of.Goals as goal
 
 pub unwrap-requires : goal.unwrap-requires
 unwrap-requires g c =

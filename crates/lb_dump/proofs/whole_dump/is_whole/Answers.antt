@@ -1,6 +1,6 @@
 use Rattle.std.proofs.Common.{◌≡◌, length, arith}
 use Rattle.lb_dump.proofs.Standing.{found_element, found_head, found_moves, found_narrow, found_nothing, found_plan, told_by}
-use Rattle.lb_dump.proofs.making.is_whole.Goals as goal
+use Rattle.lb_dump.proofs.whole_dump.is_whole.Goals as goal
 
 pub returns-in_default : goal.returns-in_default
 returns-in_default g c =

@@ -3,7 +3,7 @@
 ghost use Rattle.std.specs.Prelude.{◌≡◌, ◌≤◌, [], All, IfOk, length, map, vec_capacity};
 ghost use Rattle.pe_state.specs.Histories.{IsParcelHistory};
 
-use crate::taking::take_next;
+use crate::next_owner::take_next;
 use chares::{Chare, Openings};
 use pe_state::{HeldParcel, Parcel, into_held};
 use std::alloc::{AllocError, Allocator, Global};

@@ -1,7 +1,7 @@
 use Rattle.std.proofs.Common.{◌≡◌, ◌+◌, ◌++◌, ◌≤◌, [], length, map, vec_capacity}
 use Rattle.std.specs.Prelude.{All}
 use Rattle.pe_state.specs.Histories.{IsParcelHistory}
-use Rattle.run_account.proofs.left.LeftBuffers.release.Given as goal
+use Rattle.run_account.proofs.left_buffers.LeftBuffers.release.Given as goal
 
 abbrev pub invariant-loop-queue : goal.invariant-loop-queue
 invariant-loop-queue g l = record {

@@ -1,4 +1,4 @@
-use Rattle.schedule_run.proofs.opening.read_workload.Goals as goal
+use Rattle.schedule_run.proofs.workload_file.read_workload.Goals as goal
 
 pub returns-in-Ok-clause-opened : goal.returns-in-Ok-clause-opened
 returns-in-Ok-clause-opened g c =
