@@ -6,7 +6,8 @@ ghost use Rattle.chares.specs.declared.sends.SendError.TheVariants.{OutOfMemory}
 ghost use Rattle.chares.specs.Posting.{posted};
 ghost use Rattle.hot_spot_strip.specs.Chains.{WornBy};
 ghost use Rattle.hot_spot_strip.specs.Profile.{cell_work};
-ghost use Rattle.hot_spot_strip.specs.Strips.{after_round, are_within, asks, begins, effect_of, goes_on, is_strip, of_parts, opening_strip, shown_by, shown_left, shown_right, takes};
+ghost use Rattle.hot_spot_strip.specs.Strips.{after_round, are_within, asks, begins, effect_of, goes_on, is_strip, of_parts, opening_strip};
+ghost use Rattle.hot_spot_strip.specs.Strips.{shown_by, shown_left, shown_right, takes};
 
 use crate::came::Came;
 use crate::cells::{compute, first_value, last_value};

@@ -5,7 +5,8 @@ ghost use Rattle.std.specs.List.{between, zip};
 ghost use Rattle.lb_certificates.specs.Flaws.{flaw_number, flaw_place};
 ghost use Rattle.chain_refinement.specs.Flaws.{refinement_flaw_number, refinement_flaw_place};
 ghost use Rattle.lb_lists.specs.Claims.{division_of};
-ghost use Rattle.lb_lists.specs.RefinedClaims.{refined_flaw_number, refined_flaw_place, refinement_of, AreNamesRight, IsBestWithin, IsFirstRefinedFlaw, IsNamesFlaw, IsRightRefined};
+ghost use Rattle.lb_lists.specs.RefinedClaims.{refined_flaw_number, refined_flaw_place, refinement_of, AreNamesRight, IsBestWithin};
+ghost use Rattle.lb_lists.specs.RefinedClaims.{IsFirstRefinedFlaw, IsNamesFlaw, IsRightRefined};
 ghost use Rattle.lb_lists.specs.Runs.{sizes_of, AreSmall, IsAsked, IsRefineRefusal, Listed};
 ghost use Rattle.lb_lists.specs.Steps.{heights_in};
 

@@ -138,7 +138,8 @@ pub fn refine_into<A: Allocator + Copy>(
     ensures same_lists { HasListsOf room.old room.new }
     ensures same_standing { HasStandingListsOf standing.old standing.new }
     ensures refined { IfOk result (λ d. (heights : List (List (ℕ × ℕ)))
-        × IsRefinedRun run.now pes thousandths d.near (told_in d.least d.moved d.stops (lists_in room.new) (standing_lists_in standing.new)) (standing_in heights (standing_lists_in standing.new))
+        × IsRefinedRun run.now pes thousandths d.near (told_in d.least d.moved d.stops (lists_in room.new) (standing_lists_in standing.new))
+        (standing_in heights (standing_lists_in standing.new))
         × IsStandingIn d.near heights d.steps (standing_lists_in standing.old) (standing_lists_in standing.new)) }
     ensures placed { IfOk result (λ _. ArePlaces room.new.cuts.now room.new.names.now (length run.now.loads) room.new.new_places.now) }
     ensures peak { IfOk result (λ d. d.bottleneck ≡ peak run.now.loads room.new.cuts.now) }
@@ -152,7 +153,9 @@ pub fn refine_into<A: Allocator + Copy>(
     ensures small_tolerance { OnOk result (thousandths ≤ 1000) }
     ensures asked { OnOk result (IsAsked run.now pes × HasRefinedRoom (length run.now.loads) pes (lists_in room.old) (standing_lists_in standing.old)) }
     ensures small { OnOk result (AreSmall run.now.loads) }
-    ensures refused { IfErr result (IsRefineRefusal thousandths (IsAsked run.now pes × HasRefinedRoom (length run.now.loads) pes (lists_in room.old) (standing_lists_in standing.old)) (AreSmall run.now.loads)) }
+    ensures refused { IfErr result (IsRefineRefusal thousandths
+        (IsAsked run.now pes × HasRefinedRoom (length run.now.loads) pes (lists_in room.old) (standing_lists_in standing.old))
+        (AreSmall run.now.loads)) }
     ensures kept { OnErr result (lists_in room.new ≡ lists_in room.old) }
     ensures standing_kept { OnErr result (standing_lists_in standing.new ≡ standing_lists_in standing.old) }
 {

@@ -66,7 +66,8 @@ impl<A: Allocator> Row<A> {
 
     /// Keeps what happened, behind the rest; or notes that it is missing.
     pub(crate) fn note(&mut self, happening: Happening)
-        ensures kept { MatchBool self.new.is_short (self.new.happenings.items ≡ self.old.happenings.items) (self.new.happenings.items ≡ self.old.happenings.items ++ happening ∷ []) }
+        ensures kept { MatchBool self.new.is_short (self.new.happenings.items ≡ self.old.happenings.items)
+            (self.new.happenings.items ≡ self.old.happenings.items ++ happening ∷ []) }
     {
         if self.is_short || self.happenings.push(happening).is_err() {
             self.is_short = true;
