@@ -8,8 +8,8 @@
 //! - `workload_run::drive_file`: the run of a workload, from a file to its text; `write_asked`: the dumps of its rounds, and
 //!   the status.
 //! - `one_thread`: the runs on one thread, by the crate `schedule_run`. `traces`: the trace of a run, by `run_trace`.
-//! - `progress_line::Progress`: what is written to the standard error meanwhile; `file_faults::Advice`: what is told of a
-//!   file with a fault.
+//! - `progress_line::Progress`: what is written to the standard error meanwhile; `file_faults::Advice`: what is printed about
+//!   a file with a fault.
 #![tactic(auto)]
 
 mod one_thread;
@@ -139,7 +139,7 @@ pub(crate) fn dumped<R: Files + Eprint + AllocGlobal, W: Write>(
     status
 }
 
-// Tells the name of a dump that was not written, and the system's reason, or else what was wrong.
+// Writes the name of a dump that was not written, and the system's reason, or else what was wrong.
 fn tell_dump<R: Eprint>(rt: &R, prefix: &str, dump: NotWritten) {
     let _ = match dump.reason {
         Some(reason) => eprintln!(rt; "charm_run: {prefix}.{}: {reason}", dump.round),

@@ -43,7 +43,7 @@ pub(crate) fn run_by_seed<R: Files + Print + Eprint + AllocGlobal, E: Write>(
     }
 }
 
-/// Runs the workload by each of so many seeds, and returns the status.
+/// Runs the workload by each of the seeds from 1 to this number, and returns the status.
 pub(crate) fn run_by_seeds<R: Files + Print + Eprint + AllocGlobal, E: Write>(
     rt: &R,
     asked: &Asked<'_>,
@@ -85,7 +85,7 @@ pub(crate) fn run_by_list<R: Files + Print + Eprint + AllocGlobal, E: Write>(
     }
 }
 
-// Tells what is wrong with a list of events, and returns the status.
+// Writes what is wrong with a list of events, and returns the status.
 fn refuse_list<R: AllocGlobal, E: Write, W: Write>(
     rt: &R,
     list: &str,
@@ -99,7 +99,7 @@ fn refuse_list<R: AllocGlobal, E: Write, W: Write>(
     status
 }
 
-// The workload of the file that is asked for; or else what is wrong with it is told, and that is the status.
+// The workload of the file that is asked for; or else what is wrong with it is written, and this is the status.
 fn opened<R: Files + AllocGlobal, E: Write, W: Write>(
     rt: &R,
     asked: &Asked<'_>,
@@ -175,7 +175,7 @@ fn kept_events<R: Files + Eprint + AllocGlobal, W: Write>(
     true
 }
 
-// Tells of a list of events that was not written.
+// Writes that a list of events was not written.
 fn unkept<R: Eprint, W: Write>(
     rt: &R,
     name: &str,

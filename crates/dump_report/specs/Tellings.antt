@@ -1,4 +1,4 @@
--- What is told where no whole report on a file was written.
+-- What is printed where no whole report on a file was written.
 use Rattle.std.specs.Prelude.{◌≡◌, ℕ, List, ◌++◌, codes, Bool, Option, None, Some}
 use Rattle.std.specs.Fmt.{decimal}
 use Rattle.dump_format.specs.declared.error.DumpError.{DumpError}
@@ -48,8 +48,8 @@ abbrev pub output_words : Option (List ℕ) → List ℕ
 output_words None = codes "it takes nothing"
 output_words (Some reason) = reason
 
--- What is told of the end of a report on a file of this name, with the system's reason in these words, if there is one: of a
--- fault of the dump, of want of memory, or of an output that failed. Of another end nothing is told.
+-- What is printed at the end of a report on a file of this name, with the system's reason in these words, if there is one: for a
+-- fault of the dump, where memory ran out, and where the output failed. At another end nothing is printed.
 abbrev pub IsTold : List ℕ → Ended → Option (List ℕ) → Option (List ℕ) → Option (List ℕ) → Bool → Type 0
 IsTold name (Ended.Dump e) reason old new told =
     Tells (line_about name (fault_said e reason) (advice e)) old new told

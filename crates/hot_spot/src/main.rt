@@ -128,7 +128,7 @@ fn told<V: Watch + Sync, R: Threads + Wait + Sync + Clock + Print + Eprint + All
     Ok((outcome, status))
 }
 
-// Tells on the standard error how long a run took, and how many letters it handled in a second.
+// Prints to the standard error how long a run took, and how many letters it handled in a second.
 fn tell_time<R: Clock + Eprint>(rt: &R, start: &Instant, letters: u64) {
     let Ok(elapsed) = start.elapsed(rt) else {
         return;

@@ -70,12 +70,12 @@ block_lines loads cuts names blocks = flat_map (line_of loads cuts names) (range
 abbrev pub moved_line : ℕ → List ℕ
 moved_line moved = codes "moved " ++ decimal moved ++ newline
 
--- the whole text of a decision on a snapshot, for so many PEs
+-- the whole text of a decision on a snapshot, for this number of PEs
 abbrev pub decision_text : {A : Type 0} → Taken → ℕ → Decision A → List ℕ
 decision_text s pes d =
     head_line s.step pes (length s.loads) ++ bottleneck_line d.division.bottleneck ++ floor_line d.division.floor ++ block_lines s.loads d.division.cuts d.naming pes ++ moved_line d.moved
 
--- The whole text of a decision within a tolerance on a snapshot, for so many PEs: the bottleneck and the floor are those of the
+-- The whole text of a decision within a tolerance on a snapshot, for this number of PEs: the bottleneck and the floor are those of the
 -- least division, and the blocks and the bytes that move those of the decision.
 abbrev pub refined_text : {A : Type 0} → Taken → ℕ → ℕ → Refined A → List ℕ
 refined_text s pes tolerance r =

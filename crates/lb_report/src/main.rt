@@ -77,7 +77,7 @@ fn all(rt: &HostRuntime, asked: &Asked<'_>, procs: &[u32], style: Style) -> u8
     status
 }
 
-// Prints the report on a file, or tells its fault on the standard error.
+// Prints the report on a file, or its fault to the standard error.
 fn one(rt: &HostRuntime, name: &str, procs: &[u32], thousandths: Option<u32>, style: Style) -> Ended
     requires { All IsNumber procs.now }
 {

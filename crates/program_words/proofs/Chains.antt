@@ -1,5 +1,5 @@
 -- A program whose arguments are declared one behind the other, and what clap finds for them.
-use Rattle.std.proofs.Common.{◌≡◌, ◌∙◌, ◌<◌, ◌↔◌, ℕ, zero, suc, ap, subst, refl, sym, absurd, arith, true, false, Bool, cond, List, [], ◌∷◌, Option, Result, length, map, slice_index_or}
+use Rattle.std.proofs.Common.{◌≡◌, ◌∙◌, ◌<◌, ◌↔◌, ℕ, zero, suc, ap, subst, refl, sym, arith, true, false, Bool, cond, List, [], ◌∷◌, Option, Result, length, map, slice_index_or}
 use Rattle.std.proofs.lemmas.Slice.Eq.{bytes_eq-Decides}
 use Rattle.std.specs.Str.{bytes_eq}
 use Rattle.clap.specs.Built.{AddsArg, FitsChain, HasDistinctIds}

@@ -10,7 +10,7 @@ use std::alloc::{AllocError, Allocator, Global};
 use std::collections::VecDeque;
 use std::marker::Model;
 
-/// Room for the parcels that a run leaves in its queues. It is made before the run, so that a run that ends for want of
+/// Room for the parcels that a run leaves in its queues. It is made before the run, so that a run that runs out of
 /// memory loses nothing. Contracts see the number of queues, and for how many parcels of each they have capacity.
 #[derive(Drop)]
 pub struct LeftBuffers<A: Allocator = Global> {
@@ -33,7 +33,7 @@ impl<A: Allocator> Model for LeftBuffers<A> {
 }
 
 impl<A: Allocator> LeftBuffers<A> {
-    /// Room for so many queues, each of so many parcels. The only error is that memory was refused.
+    /// Room for this number of queues, and for `capacity` parcels of each. The only error is that memory was refused.
     pub fn new(alloc: A, queues: usize, capacity: usize) -> Result<Self, AllocError>
     where
         A: Copy,
@@ -76,7 +76,7 @@ impl<A: Allocator> LeftBuffers<A> {
     }
 }
 
-// So many empty lists, each with room for so many parcels.
+// This number of empty lists, each with room for `capacity` parcels.
 fn empty_buffers<A: Allocator + Copy>(
     alloc: A,
     queues: usize,

@@ -92,7 +92,7 @@ AsksLbd1 words = one_of (codes "lbd1") (matches_of program words) ≡ Some (code
 abbrev pub TellsProgress : List Text → Type 0
 TellsProgress words = one_of (codes "progress") (matches_of program words) ≡ Some (codes "true")
 
--- the line that tells which options do not go together, or which one is lacking
+-- the line for options that do not go together, or of which one is missing
 abbrev pub clash_line : Clash → List ℕ
 clash_line SeedAndSeeds = codes "charm_run: --seed and --seeds" ++ 10 ∷ []
 clash_line SeedAndReplay = codes "charm_run: --seed and --replay" ++ 10 ∷ []

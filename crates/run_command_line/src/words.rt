@@ -19,7 +19,7 @@ use std::alloc::{AllocError, Global};
 use std::io::Write;
 use streams::write_out;
 
-/// Tells which options do not go together, and returns the status for that, [`NO_WORDS`].
+/// Writes which options do not go together, and returns the status for that, [`NO_WORDS`].
 pub fn refuse<W: Write>(writer: &mut W, clash: Clash) -> u8
     ensures told { WritesPrefix (W.contents writer.old) (W.contents writer.new) (clash_line clash) }
     ensures status { result ≡ NO_WORDS }
@@ -28,7 +28,7 @@ pub fn refuse<W: Write>(writer: &mut W, clash: Clash) -> u8
     NO_WORDS
 }
 
-// The line that tells of these options.
+// The line for these options.
 fn line_of(clash: Clash) -> &'static str
     ensures { result.now ≡ clash_line clash }
 {

@@ -20,13 +20,13 @@ use std::alloc::{AllocError, Global};
 use std::io::Write;
 use streams::write_out;
 
-/// What is told where a check is asked for, and a number of PEs too.
+/// What is printed where a check is asked for, and a number of PEs too.
 const PROCS_AND_CHECK: &str = "lb_sim: --procs and --check\n";
 
-/// What is told where a check is asked for, and a tolerance too.
+/// What is printed where a check is asked for, and a tolerance too.
 const TOLERANCE_AND_CHECK: &str = "lb_sim: --tolerance and --check\n";
 
-/// Tells which two options do not go together, and returns the status for that, [`NO_WORDS`].
+/// Writes which two options do not go together, and returns the status for that, [`NO_WORDS`].
 pub fn refuse_both<W: Write>(writer: &mut W, clash: Clash) -> u8
     ensures told { WritesPrefix (W.contents writer.old) (W.contents writer.new) (both_line clash) }
     ensures status { result ≡ NO_WORDS }
@@ -35,7 +35,7 @@ pub fn refuse_both<W: Write>(writer: &mut W, clash: Clash) -> u8
     NO_WORDS
 }
 
-// The line that tells of two such options.
+// The line for two such options.
 fn line_of(clash: Clash) -> &'static str
     ensures { result.now ≡ both_line clash }
 {
