@@ -3,7 +3,8 @@
 use crate::loads::{Spread, expected, measured};
 use crate::sums::checksum;
 use hot_spot_strip::{Chain, Strip};
-use rts_run::{Fault, Outcome};
+use rts_run::Outcome;
+use run_text::fault_word;
 use std::alloc::{AllocError, Allocator};
 
 /// The text of what the run of a chain on this number of PEs left: for each round `round R greatest G average A moved M`, and then
@@ -87,18 +88,5 @@ fn push_ending<A: Allocator + Copy>(
     match checksum(n, outcome) {
         Some(sum) => writeln!(text, "checksum {sum:016x}"),
         None => writeln!(text, "checksum unknown"),
-    }
-}
-
-fn fault_word(fault: Fault) -> &'static str {
-    match fault {
-        Fault::OutOfMemory => "memory",
-        Fault::Idle => "idle",
-        Fault::Unpack => "unpack",
-        Fault::Stranger => "stranger",
-        Fault::TooLong => "toolong",
-        Fault::Worn => "worn",
-        Fault::Mismatch => "mismatch",
-        Fault::Stopped => "stopped",
     }
 }
