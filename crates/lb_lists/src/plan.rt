@@ -17,8 +17,8 @@ use lb_certificates::{Division, Loads, Naming, Prices, Sizes};
 use lb_strategy::name_cuts;
 use std::alloc::Allocator;
 
-/// What is decided of a run: what a [`Decision`](lb_strategy::Decision) has but the list of its moves, since the caller is
-/// told the place of each element.
+/// What is decided of a run: what a [`Decision`](lb_strategy::Decision) has but the list of its moves, since the caller
+/// gets the place of each element.
 #[derive(Drop)]
 pub(crate) struct Plan<A: Allocator> {
     pub(crate) division: Division<A>,

@@ -27,7 +27,7 @@ use chain_refinement::Tolerance;
 use lb_refinement::{Refined, refine};
 use std::alloc::Allocator;
 
-/// Room for what is told of how elements stand, and of the heights that prove that no cuts within a tolerance move fewer
+/// Room for what is written of the order of the elements, and of the heights that prove that no cuts within a tolerance move fewer
 /// bytes, for `pes` PEs.
 #[derive(Drop)]
 pub struct StandingRoom<'a> {
@@ -111,14 +111,14 @@ fn has_standing_room(room: &StandingRoom<'_>, pes: u32) -> bool
         && room.step_rises.len() == room.step_places.len()
 }
 
-// The same, and for a decision on so many elements.
+// The same, and for a decision on this number of elements.
 fn has_refined_room(room: &Room<'_>, standing: &StandingRoom<'_>, elements: usize, pes: u32) -> bool
     ensures { IsTrue result ↔ HasRefinedRoom elements pes (lists_in room.now) (standing_lists_in standing.now) }
 {
     has_room(room, elements, pes) && has_standing_room(standing, pes)
 }
 
-/// Decides within a tolerance, so many thousandths, and writes the decision with all that proves it: what is told of a decision
+/// Decides within a tolerance, a number of thousandths, and writes the decision with all that proves it: what is written of a decision
 /// as [`decide_into`](crate::decide_into) does, and the least cuts; and where the cuts are near the present ones, the order of
 /// the PEs, the present cuts and the heights. Of these the steps are written where there is room for all of them. Where it is
 /// the plan, order, present cuts and steps are left as they were. The stops are those of the least division.

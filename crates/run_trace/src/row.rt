@@ -35,7 +35,7 @@ impl<A: Allocator> Row<A> {
         self.began = now.unwrap_or(self.began);
     }
 
-    /// The PE made this step, after which it has posted so many letters.
+    /// The PE made this step, after which it has posted this number of letters.
     pub(crate) fn end(&mut self, pe: Pe, step: PeStep, posted: u64, now: Option<u64>) {
         let now = now.unwrap_or(self.began);
         let at = match step {
