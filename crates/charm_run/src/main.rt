@@ -20,7 +20,7 @@ ghost use Rattle.std.specs.Prelude.{None};
 use crate::one_thread::{run_by_list, run_by_seed, run_by_seeds};
 use crate::traces::{Onlookers, keep_recorded, lost};
 use file_faults::Advice;
-use program_words::{on_words, refused};
+use program_words::{BAD_FILE, NO_OUTPUT, on_words, refused};
 use progress_line::Progress;
 use rts_run::{Strategy, Tolerance};
 use run_command_line::{Asked, Task, asked, refuse};
@@ -43,12 +43,6 @@ pub(crate) const ADVICE: Advice<'static> = Advice {
     unread: "give a file with a workload that you may read, or /dev/stdin for the standard input",
     wrong: "give a workload: pes, rounds, pad and chares, a line each, and then the amounts of each round",
 };
-
-/// The status where the file cannot be read, or its workload has a fault.
-pub(crate) const FAULT: u8 = 3;
-
-/// The status where a file was not written.
-pub(crate) const NO_OUTPUT: u8 = 5;
 
 fn main(rt: HostRuntime) -> ExitCode {
     on_words(&rt, |words| match asked(rt.alloc(), words) {
@@ -116,7 +110,7 @@ fn ran_watched<R: Threads + Wait + Sync + Files + Clock + Print + Eprint + Alloc
     );
     let Onlookers { progress, tracing } = onlookers;
     progress.finish();
-    let is_fault = driven.status() == FAULT;
+    let is_fault = driven.status() == BAD_FILE;
     let _told = ADVICE.tell(rt.alloc(), errors, asked.file, reason, is_fault);
     let kept = keep_recorded(rt, asked.trace, tracing, driven.rounds(), &mut writer);
     let status = dumped(rt, asked, &driven, &mut writer);

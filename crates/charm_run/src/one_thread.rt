@@ -4,8 +4,9 @@ ghost use Rattle.std.specs.Prelude.{IfOk};
 ghost use Rattle.workload.specs.Text.{IsWithin};
 
 use crate::traces::{keep_trace, lost};
-use crate::{ADVICE, FAULT, NO_OUTPUT, dumped};
+use crate::{ADVICE, dumped};
 use file_faults::Advice;
+use program_words::{BAD_FILE, NO_OUTPUT};
 use rts_run::{Strategy, Tolerance};
 use run_command_line::Asked;
 use run_trace::{Timeline, TraceError};
@@ -95,7 +96,7 @@ fn refuse_list<R: AllocGlobal, E: Write, W: Write>(
     writer: &mut W,
 ) -> u8 {
     let status = report_list(rt.alloc(), writer, fault);
-    let _told = LIST_ADVICE.tell(rt.alloc(), errors, list, reason, status == FAULT);
+    let _told = LIST_ADVICE.tell(rt.alloc(), errors, list, reason, status == BAD_FILE);
     status
 }
 
@@ -113,7 +114,7 @@ fn opened<R: Files + AllocGlobal, E: Write, W: Write>(
         Ok(workload) => Ok(workload),
         Err(ended) => {
             let status = ended.status();
-            let _told = ADVICE.tell(rt.alloc(), errors, asked.file, reason, status == FAULT);
+            let _told = ADVICE.tell(rt.alloc(), errors, asked.file, reason, status == BAD_FILE);
             Err(status)
         }
     }

@@ -12,7 +12,7 @@ mod words;
 use crate::words::{RunOptions, read_options};
 use hot_spot_run::{Chain, ChainError, run_chain_watched, text_of};
 use hot_spot_strip::{Mode, Strip};
-use program_words::{on_words, refused};
+use program_words::{NO_OUTPUT, RUN_FAULT, on_words, refused};
 use rts_run::{Config, Outcome, Strategy, Tolerance, Watch};
 use run_trace::{TraceError, Tracing, write_trace};
 use std::alloc::AllocError;
@@ -26,12 +26,6 @@ use streams::write_out;
 
 /// Cells of each strip.
 const CELLS: u32 = 16;
-
-/// The status where a fault ended the run early.
-const FAULT: u8 = 4;
-
-/// The status where memory was refused, or the output failed.
-const NO_OUTPUT: u8 = 5;
 
 fn main(rt: HostRuntime) -> ExitCode {
     on_words(&rt, |words| match read_options(rt.alloc(), words) {
@@ -124,7 +118,11 @@ fn told<V: Watch + Sync, R: Threads + Wait + Sync + Clock + Print + Eprint + All
     if !write_out(&mut io::writer(rt), text.as_bytes()) {
         return Ok((outcome, NO_OUTPUT));
     }
-    let status = if outcome.fault().is_some() { FAULT } else { 0 };
+    let status = if outcome.fault().is_some() {
+        RUN_FAULT
+    } else {
+        0
+    };
     Ok((outcome, status))
 }
 

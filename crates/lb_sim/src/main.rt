@@ -19,14 +19,11 @@ use chain_refinement::Tolerance;
 use chare_index::Limits;
 use file_faults::Advice;
 use lb_replay::{Asked, Ended, Task, dump_advice, run};
-use program_words::{on_words, refused};
+use program_words::{BAD_FILE, on_words, refused};
 use sim_command_line::{asked, refuse_both};
 use std::fs::File;
 use std::io;
 use std::process::ExitCode;
-
-/// The status where the file cannot be read, or its dump has a fault.
-const FAULT: u8 = 3;
 
 /// What to do about a file that cannot be read, and in general about one with a fault.
 const ADVICE: Advice<'static> = Advice {
@@ -63,7 +60,13 @@ fn ran(rt: &HostRuntime, name: &str, task: Task) -> u8
     let (ended, reason) = run(rt.alloc(), task, file, &mut io::writer(rt));
     let status = ended.status();
     let advice = advice_on(ended);
-    let _told = advice.tell(rt.alloc(), &mut rt.stderr(), name, reason, status == FAULT);
+    let _told = advice.tell(
+        rt.alloc(),
+        &mut rt.stderr(),
+        name,
+        reason,
+        status == BAD_FILE,
+    );
     status
 }
 

@@ -1,8 +1,8 @@
 //! What the programs have in common: the words of their command lines, and the arguments that several of them take. clap reads the
 //! words, and writes the texts of what it refuses, of help and of the version.
 //!
-//! - [`on_words`]: runs a program on its words; [`refused`]: prints why there is nothing to run; [`NO_WORDS`] and [`words_status`]:
-//!   the status then.
+//! - [`on_words`]: runs a program on its words; [`refused`]: prints why there is nothing to run; [`words_status`]: the status then.
+//! - [`NO_WORDS`], [`BAD_FILE`], [`RUN_FAULT`] and [`NO_OUTPUT`]: statuses of the programs.
 //! - [`new_program`]: a program before its arguments are declared; [`file`], [`word`], [`flag`] and [`tolerance`]: arguments;
 //!   [`tolerance_in`]: the tolerance that was found.
 //!
@@ -22,4 +22,4 @@ mod arguments;
 mod words;
 
 pub use arguments::{file, flag, new_program, tolerance, tolerance_in, word};
-pub use words::{NO_WORDS, on_words, refused, words_status};
+pub use words::{BAD_FILE, NO_OUTPUT, NO_WORDS, RUN_FAULT, on_words, refused, words_status};

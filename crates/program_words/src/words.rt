@@ -11,6 +11,15 @@ use std::process::ExitCode;
 /// The status where the words of the command line cannot be read, or are refused.
 pub const NO_WORDS: u8 = 2;
 
+/// The status where a file cannot be read, or what it has is at fault.
+pub const BAD_FILE: u8 = 3;
+
+/// The status where a fault ended a run early.
+pub const RUN_FAULT: u8 = 4;
+
+/// The status where memory was refused, or the output or a file could not be written.
+pub const NO_OUTPUT: u8 = 5;
+
 /// The status where the words ask for nothing to be done: 0 for help or the version, and else [`NO_WORDS`].
 pub fn words_status(error: &Error) -> u8
     ensures shown { (kind_of error.now ≡ DisplayHelp) ⊎ (kind_of error.now ≡ DisplayVersion) → result ≡ 0 }
