@@ -27,7 +27,15 @@ impl<'a> Model for Claim<'a> {
 
     ghost Value = { Claimed };
 
-    ghost view = { λ c. record { loads = c.loads.now; sizes = c.sizes.now; limit = c.limit; any = c.any.now; free = c.free.now; next_any = c.next_any.now; next_free = c.next_free.now } };
+    ghost view = { λ c. record {
+      loads = c.loads.now;
+      sizes = c.sizes.now;
+      limit = c.limit;
+      any = c.any.now;
+      free = c.free.now;
+      next_any = c.next_any.now;
+      next_free = c.next_free.now;
+    } };
 }
 
 /// How many elements there are.

@@ -27,7 +27,8 @@ impl Most {
 /// The most, where this PE now holds so many bytes.
 #[tactic(auto, using(crate::proofs::Mosts::more_on_most, crate::proofs::Mosts::more_than_most, crate::proofs::Mosts::more_on_other))]
 pub(crate) fn raised(most: Most, pe: u32, bytes: u64) -> Most
-    ensures { (held next : ℕ → ℕ) (own : ℕ) → IsMost held own most → pe ≢ own → next pe ≡ bytes → ((other : ℕ) → other ≢ pe → next other ≡ held other) → held pe ≤ bytes → IsMost next own result }
+    ensures { (held next : ℕ → ℕ) (own : ℕ) → IsMost held own most → pe ≢ own → next pe ≡ bytes
+        → ((other : ℕ) → other ≢ pe → next other ≡ held other) → held pe ≤ bytes → IsMost next own result }
 {
     if pe == most.pe {
         return Most {
@@ -56,7 +57,8 @@ pub(crate) fn joined(element: (u32, u32), own: u32, kept: &mut [u64], most: Most
     requires in_range { element.1 < PES }
     requires fits { slice_index kept.old element.1 + element.0 < 2 ^ 64 }
     ensures kept { kept.new ≡ slice_set kept.old element.1 (slice_index kept.old element.1 + element.0) }
-    ensures most { (held next : ℕ → ℕ) → IsMost held own most → held element.1 ≡ slice_index kept.old element.1 → ((pe : ℕ) → next pe ≡ held pe + held_bytes element pe) → IsMost next own result }
+    ensures most { (held next : ℕ → ℕ) → IsMost held own most → held element.1 ≡ slice_index kept.old element.1
+        → ((pe : ℕ) → next pe ≡ held pe + held_bytes element pe) → IsMost next own result }
 {
     let (bytes, pe) = element;
     let now = kept[pe as usize] + u64::from(bytes);

@@ -33,7 +33,7 @@ fn moved_to(elements: &[(u32, Pe)], pe: u32) -> u64
 pub fn moved_by(sizes: &[(u32, Pe)], cuts: &[u32], names: &[u32]) -> u64
     requires sizes { IsSizes sizes.now }
     requires divides { IsDivision 0 (length sizes.now) (length names.now) cuts.now }
-    ensures { result ≡ bytes_moved sizes.now cuts.now names.now }
+    ensures value { result ≡ bytes_moved sizes.now cuts.now names.now }
 {
     let mut moved = 0;
     for b in 0..names.len() {

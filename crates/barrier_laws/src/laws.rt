@@ -30,6 +30,7 @@ pub fn barrier_law<C: Chare<A>, A: Allocator>()
     ensures barrier { ForEachRun C.step C.pack C.unpack (λ (chares : List C) (last : After C A). IsBarrier (length chares) last.1) }
     ensures stands { ForEachStep C.step C.pack C.unpack (λ (chares : List C) (w : WorldView C A) (next : After C A). ResumesInPlace w next) }
     ensures kept { ForEachEvent C.step C.pack C.unpack (λ (w : WorldView C A) (next : After C A). KeepsRounds w next) }
-    ensures in_order { (pes : ℕ) (chares : List C) (strategy : Strategy) (events : List Event) (last : After C A) → RunsTo C.step C.pack C.unpack pes chares strategy events last → AreInOrder last.0 }
+    ensures in_order { (pes : ℕ) (chares : List C) (strategy : Strategy) (events : List Event) (last : After C A)
+        → RunsTo C.step C.pack C.unpack pes chares strategy events last → AreInOrder last.0 }
     ensures measured { ForEachStep C.step C.pack C.unpack (λ (chares : List C) (w : WorldView C A) (next : After C A). Forecasts C.step C.fits C.pack chares w next) }
 {}

@@ -27,7 +27,8 @@ pub(crate) fn stand_in_order<A: Allocator>(
 // Whether each element stands on the PE of its block, where the cuts divide the elements so.
 fn all_in_place(sizes: &[(u32, Pe)], names: &[u32], cuts: &[u32]) -> bool
     requires divides { IsDivision 0 (length sizes.now) (length names.now) cuts.now }
-    ensures stands { OnTrue result ((b i : ℕ) → b < length names.now → slice_index cuts.now b ≤ i → i < slice_index cuts.now (b + 1) → place_of sizes.now i ≡ slice_index names.now b) }
+    ensures stands { OnTrue result ((b i : ℕ) → b < length names.now → slice_index cuts.now b ≤ i → i < slice_index cuts.now (b + 1)
+        → place_of sizes.now i ≡ slice_index names.now b) }
 {
     for b in 0..names.len() {
         if !all_on(sizes, cuts[b] as usize, cuts[b + 1] as usize, names[b]) {

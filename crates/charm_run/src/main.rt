@@ -2,13 +2,14 @@
 //! round decided, what each chare added up, and where every letter is. With `--seed S`, `--seeds N` or `--replay LIST` it runs them on
 //! one thread, in an order of events that can be repeated; `--events LIST` writes that order. `--trace FILE` writes what happened.
 //!
-//! - `run_command_line::asked`: what the words of the command line ask for, and the status where they ask for no run;
-//!   `Asked::task`: how the chares are run, if the options go together.
+//! - `program_words::on_words`: the words of the command line, and the status. `run_command_line::asked`: what the words ask for;
+//!   `Asked::task`: how the chares are run, if the options go together; `program_words::refused`: the status where the words ask
+//!   for no run.
 //! - `workload_run::drive_file`: the run of a workload, from a file to its text; `write_asked`: the dumps of its rounds, and
 //!   the status.
 //! - `one_thread`: the runs on one thread, by the crate `schedule_run`. `traces`: the trace of a run, by `run_trace`.
-//! - `progress_line::Progress`: what is written to the standard error meanwhile; `file_faults::Advice`: what is told of a
-//!   file with a fault.
+//! - `progress_line::Progress`: what is written to the standard error meanwhile; `file_faults::Advice`: what is printed about
+//!   a file with a fault.
 #![tactic(auto)]
 
 mod one_thread;
@@ -19,12 +20,12 @@ ghost use Rattle.std.specs.Prelude.{None};
 use crate::one_thread::{run_by_list, run_by_seed, run_by_seeds};
 use crate::traces::{Onlookers, keep_recorded, lost};
 use file_faults::Advice;
+use program_words::{BAD_FILE, NO_OUTPUT, on_words, refused};
 use progress_line::Progress;
 use rts_run::{Strategy, Tolerance};
-use run_command_line::{Asked, NO_WORDS, Task, asked, refuse, words_status};
+use run_command_line::{Asked, Task, asked, refuse};
 use run_trace::Tracing;
 use std::alloc::Global;
-use std::env;
 use std::fs::{File, Files};
 use std::io::{self, IsTerminal, Write};
 use std::process::ExitCode;
@@ -43,36 +44,14 @@ pub(crate) const ADVICE: Advice<'static> = Advice {
     wrong: "give a workload: pes, rounds, pad and chares, a line each, and then the amounts of each round",
 };
 
-/// The status where the file cannot be read, or its workload has a fault.
-pub(crate) const FAULT: u8 = 3;
-
-/// The status where a file was not written.
-pub(crate) const NO_OUTPUT: u8 = 5;
-
 fn main(rt: HostRuntime) -> ExitCode {
-    let Ok(args) = env::args(&rt) else {
-        return ExitCode::from(NO_WORDS);
-    };
-    let Ok(words) = args.collect::<Vec<String>>(rt.alloc()) else {
-        return ExitCode::from(NO_WORDS);
-    };
-    let Ok(words) = words
-        .iter()
-        .map(|word| word.as_str())
-        .collect::<Vec<&str>>(rt.alloc())
-    else {
-        return ExitCode::from(NO_WORDS);
-    };
-    match asked(rt.alloc(), &words) {
+    on_words(&rt, |words| match asked(rt.alloc(), words) {
         Ok(asked) => {
             let progress = asked.progress || rt.stderr().is_terminal();
-            ExitCode::from(done(&rt, &asked, progress, &mut rt.stderr()))
+            done(&rt, &asked, progress, &mut rt.stderr())
         }
-        Err(error) => {
-            let _ = error.print(&rt);
-            ExitCode::from(words_status(&error))
-        }
-    }
+        Err(error) => refused(&rt, &error),
+    })
 }
 
 // Does what is asked for, and returns the status. No file is opened where the options do not go together.
@@ -131,7 +110,7 @@ fn ran_watched<R: Threads + Wait + Sync + Files + Clock + Print + Eprint + Alloc
     );
     let Onlookers { progress, tracing } = onlookers;
     progress.finish();
-    let is_fault = driven.status() == FAULT;
+    let is_fault = driven.status() == BAD_FILE;
     let _told = ADVICE.tell(rt.alloc(), errors, asked.file, reason, is_fault);
     let kept = keep_recorded(rt, asked.trace, tracing, driven.rounds(), &mut writer);
     let status = dumped(rt, asked, &driven, &mut writer);
@@ -154,7 +133,7 @@ pub(crate) fn dumped<R: Files + Eprint + AllocGlobal, W: Write>(
     status
 }
 
-// Tells the name of a dump that was not written, and the system's reason, or else what was wrong.
+// Writes the name of a dump that was not written, and the system's reason, or else what was wrong.
 fn tell_dump<R: Eprint>(rt: &R, prefix: &str, dump: NotWritten) {
     let _ = match dump.reason {
         Some(reason) => eprintln!(rt; "charm_run: {prefix}.{}: {reason}", dump.round),

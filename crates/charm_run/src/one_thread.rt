@@ -4,8 +4,9 @@ ghost use Rattle.std.specs.Prelude.{IfOk};
 ghost use Rattle.workload.specs.Text.{IsWithin};
 
 use crate::traces::{keep_trace, lost};
-use crate::{ADVICE, FAULT, NO_OUTPUT, dumped};
+use crate::{ADVICE, dumped};
 use file_faults::Advice;
+use program_words::{BAD_FILE, NO_OUTPUT};
 use rts_run::{Strategy, Tolerance};
 use run_command_line::Asked;
 use run_trace::{Timeline, TraceError};
@@ -43,7 +44,7 @@ pub(crate) fn run_by_seed<R: Files + Print + Eprint + AllocGlobal, E: Write>(
     }
 }
 
-/// Runs the workload by each of so many seeds, and returns the status.
+/// Runs the workload by each of the seeds from 1 to this number, and returns the status.
 pub(crate) fn run_by_seeds<R: Files + Print + Eprint + AllocGlobal, E: Write>(
     rt: &R,
     asked: &Asked<'_>,
@@ -85,7 +86,7 @@ pub(crate) fn run_by_list<R: Files + Print + Eprint + AllocGlobal, E: Write>(
     }
 }
 
-// Tells what is wrong with a list of events, and returns the status.
+// Writes what is wrong with a list of events, and returns the status.
 fn refuse_list<R: AllocGlobal, E: Write, W: Write>(
     rt: &R,
     list: &str,
@@ -95,11 +96,11 @@ fn refuse_list<R: AllocGlobal, E: Write, W: Write>(
     writer: &mut W,
 ) -> u8 {
     let status = report_list(rt.alloc(), writer, fault);
-    let _told = LIST_ADVICE.tell(rt.alloc(), errors, list, reason, status == FAULT);
+    let _told = LIST_ADVICE.tell(rt.alloc(), errors, list, reason, status == BAD_FILE);
     status
 }
 
-// The workload of the file that is asked for; or else what is wrong with it is told, and that is the status.
+// The workload of the file that is asked for; or else what is wrong with it is written, and this is the status.
 fn opened<R: Files + AllocGlobal, E: Write, W: Write>(
     rt: &R,
     asked: &Asked<'_>,
@@ -113,7 +114,7 @@ fn opened<R: Files + AllocGlobal, E: Write, W: Write>(
         Ok(workload) => Ok(workload),
         Err(ended) => {
             let status = ended.status();
-            let _told = ADVICE.tell(rt.alloc(), errors, asked.file, reason, status == FAULT);
+            let _told = ADVICE.tell(rt.alloc(), errors, asked.file, reason, status == BAD_FILE);
             Err(status)
         }
     }
@@ -175,7 +176,7 @@ fn kept_events<R: Files + Eprint + AllocGlobal, W: Write>(
     true
 }
 
-// Tells of a list of events that was not written.
+// Writes that a list of events was not written.
 fn unkept<R: Eprint, W: Write>(
     rt: &R,
     name: &str,

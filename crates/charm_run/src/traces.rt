@@ -68,7 +68,7 @@ pub(crate) fn keep_recorded<R: Clock + Files + Eprint + AllocGlobal, W: Write>(
     }
 }
 
-/// Writes the trace of what happened, and returns whether that was done. The writer is told where it was not done, and the
+/// Writes the trace of what happened, and returns whether that was done. Where it was not, the writer gets a line, and the
 /// standard error gets the reason.
 pub(crate) fn keep_trace<R: Files + Eprint + AllocGlobal, W: Write>(
     rt: &R,
@@ -87,7 +87,7 @@ pub(crate) fn keep_trace<R: Files + Eprint + AllocGlobal, W: Write>(
     }
 }
 
-/// Tells of a trace that was not written, and returns false.
+/// Writes that a trace was not written, and returns false.
 pub(crate) fn lost<R: Eprint, W: Write>(
     rt: &R,
     name: &str,

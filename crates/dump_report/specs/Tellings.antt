@@ -1,9 +1,10 @@
--- What is told where no whole report on a file was written.
+-- What is printed where no whole report on a file was written.
 use Rattle.std.specs.Prelude.{◌≡◌, ℕ, List, ◌++◌, codes, Bool, Option, None, Some}
 use Rattle.std.specs.Fmt.{decimal}
 use Rattle.dump_format.specs.declared.error.DumpError.{DumpError}
 use Rattle.dump_format.specs.declared.error.DumpError.TheVariants.{Count, Flag, Floor, Load, Magic, Move, MoveCount, OutOfMemory, Place, Procs, Read, Short, Size, Target, Trailing, Wide, Write}
 use Rattle.file_faults.specs.Telling.{Tells, fault_line}
+use Rattle.lb_replay.specs.Text.{dump_advice}
 use Rattle.lb_replay.specs.declared.ended.Ended.{Ended}
 use Rattle.lb_replay.specs.declared.ended.Ended.TheVariants.{WriteFailed}
 
@@ -30,11 +31,8 @@ fault_words (Wide i) = codes "the load of element " ++ decimal i ++ codes " is t
 -- what is to be done about it
 abbrev pub advice : DumpError → List ℕ
 advice Read = codes "give a file with a dump that you may read, or - for the standard input"
-advice Magic = codes "a dump begins with LBD1 or LBD2: give one that charm_run --dump wrote, or see docs/FORMATS.md"
-advice (Short n) = codes "a dump goes on here: copy it whole, or write it again"
-advice Trailing = codes "a dump ends here: give one dump in a file"
 advice OutOfMemory = codes "free some, or report on a smaller dump"
-advice _ = codes "see docs/FORMATS.md for what is expected there, and write the dump again"
+advice e = dump_advice e
 
 -- a line of the program about a file
 abbrev pub line_about : List ℕ → List ℕ → List ℕ → List ℕ
@@ -50,8 +48,8 @@ abbrev pub output_words : Option (List ℕ) → List ℕ
 output_words None = codes "it takes nothing"
 output_words (Some reason) = reason
 
--- What is told of the end of a report on a file of this name, with the system's reason in these words, if there is one: of a
--- fault of the dump, of want of memory, or of an output that failed. Of another end nothing is told.
+-- What is printed at the end of a report on a file of this name, with the system's reason in these words, if there is one: for a
+-- fault of the dump, where memory ran out, and where the output failed. At another end nothing is printed.
 abbrev pub IsTold : List ℕ → Ended → Option (List ℕ) → Option (List ℕ) → Option (List ℕ) → Bool → Type 0
 IsTold name (Ended.Dump e) reason old new told =
     Tells (line_about name (fault_said e reason) (advice e)) old new told

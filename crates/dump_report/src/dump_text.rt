@@ -121,7 +121,7 @@ fn push_plans<A: Allocator + Copy, B: Allocator>(
     Ok(())
 }
 
-// What is said for so many PEs.
+// What is said for this number of PEs.
 fn push_decided<A: Allocator + Copy, B: Allocator>(
     text: &mut Vec<u8, A>,
     snapshot: &Snapshot<B>,
@@ -197,7 +197,7 @@ fn push_within<A: Allocator + Copy, B: Allocator>(
     Ok(())
 }
 
-// What is said of the plan for so many PEs.
+// What is said of the plan for this number of PEs.
 fn push_plan<A: Allocator + Copy, B: Allocator>(
     text: &mut Vec<u8, A>,
     snapshot: &Snapshot<B>,

@@ -3,7 +3,7 @@
 //! for each element that moves.
 //!
 //! - [`report_dump`]: the report, from the bytes of a reader to the bytes of a writer; [`report_file`]: that of a file.
-//! - [`tell`]: what is told of a file, or of the output, where no whole report was written.
+//! - [`tell`]: what is printed about a file, or the output, where no whole report was written.
 //!
 //! ```
 //! use dump_report::report_dump;

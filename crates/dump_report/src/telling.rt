@@ -1,23 +1,24 @@
-//! What is told on the standard error of a program.
+//! What is printed to the standard error of a program.
 
 ghost use Rattle.std.specs.Prelude.{◌≡◌, ℕ, List, None, Some, codes, IfNone, IfSome};
 ghost use Rattle.dump_report.specs.Tellings.{IsTold, advice, fault_said, fault_words, line_about};
 ghost use Rattle.file_faults.specs.Telling.{Tells};
 
 use lb_dump::DumpError;
-use lb_replay::Ended;
+use lb_replay::{Ended, dump_advice};
 use std::alloc::Allocator;
 use std::fmt::{self, Display, Formatter};
 use std::io;
 use streams::write_out;
 
-/// What is told where the output failed.
+/// What to do where the output failed.
 const PLACE: &str = "give it a place that takes all of the report";
 
-/// Tells of the end of a report on a file of this name, in one line: the file, what is wrong, the system's reason where there is
-/// one, and what to do about it. Where the output failed, it is told of that. Where a report was written, nothing is told.
+/// Writes how a report on a file of this name ended, in one line: the file, what is wrong, the system's reason where there is
+/// one, and what to do about it. Where the output failed, the line is about the output. Where a report was written, nothing is
+/// written here.
 ///
-/// Returns whether all was told: not where memory was refused or the writer failed.
+/// Returns whether the whole line was written: not where memory was refused or the writer failed.
 pub fn tell<A: Allocator + Copy, W: io::Write>(
     alloc: A,
     writer: &mut W,
@@ -74,7 +75,7 @@ fn tell_because<A: Allocator + Copy, W: io::Write>(
     }
 }
 
-// Tells that no memory was left for a decision.
+// Writes that no memory was left for a decision.
 fn tell_memory<A: Allocator, W: io::Write>(alloc: A, writer: &mut W, name: &str) -> bool
     ensures { Tells (line_about name.now (codes "out of memory") (codes "report on fewer numbers of PEs at a time")) (W.contents writer.old) (W.contents writer.new) result }
 {
@@ -82,7 +83,7 @@ fn tell_memory<A: Allocator, W: io::Write>(alloc: A, writer: &mut W, name: &str)
     tell_line(alloc, writer, name, "out of memory", todo)
 }
 
-// Tells of a fault of a dump.
+// Writes the line of a fault of a dump.
 fn tell_dump<A: Allocator + Copy, W: io::Write>(
     alloc: A,
     writer: &mut W,
@@ -113,7 +114,7 @@ fn tell_read<A: Allocator + Copy, W: io::Write>(
     tell_line(alloc, writer, name, &what, advice(fault))
 }
 
-// Tells what is wrong with a file, and what to do about it.
+// Writes what is wrong with a file, and what to do about it.
 fn tell_line<A: Allocator, W: io::Write>(
     alloc: A,
     writer: &mut W,
@@ -167,12 +168,7 @@ fn advice(fault: DumpError) -> &'static str
 {
     match fault {
         DumpError::Read => "give a file with a dump that you may read, or - for the standard input",
-        DumpError::Magic => {
-            "a dump begins with LBD1 or LBD2: give one that charm_run --dump wrote, or see docs/FORMATS.md"
-        }
-        DumpError::Short(_) => "a dump goes on here: copy it whole, or write it again",
-        DumpError::Trailing => "a dump ends here: give one dump in a file",
         DumpError::OutOfMemory => "free some, or report on a smaller dump",
-        _ => "see docs/FORMATS.md for what is expected there, and write the dump again",
+        _ => dump_advice(fault),
     }
 }

@@ -1,4 +1,4 @@
--- What is told of a file, and what a writer holds then.
+-- What is written about a file, and what a writer holds then.
 use Rattle.std.specs.Prelude.{◌≡◌, ℕ, List, [], ◌∷◌, ◌++◌, codes, Bool, Option, MatchBool, IsTrue}
 use Rattle.std.specs.Io.KnownBytes.{Appends}
 use Rattle.streams.specs.Writing.{WritesPrefix}
@@ -7,10 +7,10 @@ use Rattle.streams.specs.Writing.{WritesPrefix}
 abbrev pub fault_line : List ℕ → List ℕ → List ℕ → List ℕ
 fault_line program name said = program ++ codes ": " ++ name ++ codes ": " ++ said ++ 10 ∷ []
 
--- this line was told, or where that failed, a prefix of it
+-- this line was written, or where that failed, a prefix of it
 abbrev pub Tells : List ℕ → Option (List ℕ) → Option (List ℕ) → Bool → Type 0
 Tells line old new told = MatchBool told (Appends old new line) (WritesPrefix old new line)
 
--- there was nothing to tell
+-- there was nothing to write
 abbrev pub TellsAll : Option (List ℕ) → Option (List ℕ) → Bool → Type 0
 TellsAll old new told = IsTrue told × (new ≡ old)

@@ -5,7 +5,7 @@ use std::alloc::Allocator;
 use std::io::{self, Write};
 use streams::write_out;
 
-/// What a program tells of a file.
+/// What a program says about a file.
 #[derive(Clone, Copy, Debug)]
 pub struct Advice<'a> {
     /// The program's name.
@@ -17,11 +17,11 @@ pub struct Advice<'a> {
 }
 
 impl Advice<'_> {
-    /// Tells of the file with this name, in one line. Where it was not opened or a read failed, the line has the system's
+    /// Writes what is wrong with the file of this name, in one line. Where it was not opened or a read failed, the line has the system's
     /// reason and what to do about that; otherwise, where the file is faulty, what to do about that. Of a file that was read
-    /// and is not faulty nothing is told.
+    /// and is not faulty nothing is written.
     ///
-    /// Returns whether all was told: not where memory was refused or the writer failed.
+    /// Returns whether the whole line was written: not where memory was refused or the writer failed.
     pub fn tell<A: Allocator + Copy, W: Write>(
         self,
         alloc: A,
@@ -43,7 +43,7 @@ impl Advice<'_> {
         }
     }
 
-    // Tells why a file was not read.
+    // Writes why a file was not read.
     fn tell_reason<A: Allocator + Copy, W: Write>(
         self,
         alloc: A,
@@ -65,7 +65,7 @@ impl Advice<'_> {
     }
 }
 
-// Tells this of a file, in a line.
+// Writes this about a file, in a line.
 fn tell_line<A: Allocator, W: Write>(
     alloc: A,
     writer: &mut W,

@@ -1,4 +1,4 @@
-//! What a program tells on the standard error of a file that it could not use: the file, what was wrong, and what to do.
+//! What a program prints to the standard error about a file that it could not use: the file, what was wrong, and what to do.
 //!
 //! - [`Advice`]: the program, and what it advises.
 #![tactic(auto)]

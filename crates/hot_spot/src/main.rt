@@ -2,6 +2,7 @@
 //! strips whose work wanders. It prints the loads of each round and the checksum of all cells, and on the standard error how long
 //! the run took.
 //!
+//! - `program_words::on_words`: the words of the command line, and the status.
 //! - `hot_spot_run::run_chain_watched`: the run. `hot_spot_run::text_of`: what is printed. `run_trace`: the trace of the run.
 #![tactic(auto)]
 
@@ -11,50 +12,26 @@ mod words;
 use crate::words::{RunOptions, read_options};
 use hot_spot_run::{Chain, ChainError, run_chain_watched, text_of};
 use hot_spot_strip::{Mode, Strip};
+use program_words::{NO_OUTPUT, RUN_FAULT, on_words, refused};
 use rts_run::{Config, Outcome, Strategy, Tolerance, Watch};
 use run_trace::{TraceError, Tracing, write_trace};
 use std::alloc::AllocError;
 use std::fs::{File, Files};
+use std::io;
 use std::process::ExitCode;
 use std::sync::Wait;
 use std::thread::Threads;
 use std::time::{Clock, Instant};
-use std::{env, io};
 use streams::write_out;
 
 /// Cells of each strip.
 const CELLS: u32 = 16;
 
-/// The status where the words cannot be had, or are refused.
-const NO_WORDS: u8 = 2;
-
-/// The status where a fault ended the run early.
-const FAULT: u8 = 4;
-
-/// The status where memory was refused, or the output failed.
-const NO_OUTPUT: u8 = 5;
-
 fn main(rt: HostRuntime) -> ExitCode {
-    let Ok(args) = env::args(&rt) else {
-        return ExitCode::from(NO_WORDS);
-    };
-    let Ok(words) = args.collect::<Vec<String>>(rt.alloc()) else {
-        return ExitCode::from(NO_WORDS);
-    };
-    let Ok(words) = words
-        .iter()
-        .map(|word| word.as_str())
-        .collect::<Vec<&str>>(rt.alloc())
-    else {
-        return ExitCode::from(NO_WORDS);
-    };
-    match read_options(rt.alloc(), &words) {
-        Ok(options) => ExitCode::from(ran(&rt, &options)),
-        Err(error) => {
-            let _ = error.print(&rt);
-            ExitCode::from(if error.use_stderr() { NO_WORDS } else { 0 })
-        }
-    }
+    on_words(&rt, |words| match read_options(rt.alloc(), words) {
+        Ok(options) => ran(&rt, &options),
+        Err(error) => refused(&rt, &error),
+    })
 }
 
 // Runs the chain, and returns the status.
@@ -141,11 +118,15 @@ fn told<V: Watch + Sync, R: Threads + Wait + Sync + Clock + Print + Eprint + All
     if !write_out(&mut io::writer(rt), text.as_bytes()) {
         return Ok((outcome, NO_OUTPUT));
     }
-    let status = if outcome.fault().is_some() { FAULT } else { 0 };
+    let status = if outcome.fault().is_some() {
+        RUN_FAULT
+    } else {
+        0
+    };
     Ok((outcome, status))
 }
 
-// Tells on the standard error how long a run took, and how many letters it handled in a second.
+// Prints to the standard error how long a run took, and how many letters it handled in a second.
 fn tell_time<R: Clock + Eprint>(rt: &R, start: &Instant, letters: u64) {
     let Ok(elapsed) = start.elapsed(rt) else {
         return;

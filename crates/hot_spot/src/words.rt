@@ -2,8 +2,9 @@
 
 use crate::help::{ABOUT, HOW_TO};
 use chare_index::Limits;
-use clap::{Arg, ArgAction, ArgMatches, Command, Error, value_parser};
+use clap::{Arg, ArgMatches, Command, Error, value_parser};
 use hot_spot_strip::StripLimits;
+use program_words::{flag, new_program, tolerance_in, word};
 use std::alloc::{AllocError, Global};
 
 /// What the words ask for.
@@ -30,10 +31,7 @@ pub(crate) fn read_options<'a>(
 }
 
 fn command<'a>(alloc: Global) -> Result<Command<'a>, AllocError> {
-    let command = Command::new(alloc, "hot_spot")
-        .version("0.2.0")
-        .about(ABOUT)
-        .after_help(HOW_TO);
+    let command = new_program(alloc, "hot_spot", ABOUT, HOW_TO);
     let command = command.arg(elements(alloc))?;
     let command = command.arg(pes(alloc))?;
     let command = command.arg(rounds(alloc))?;
@@ -44,69 +42,48 @@ fn command<'a>(alloc: Global) -> Result<Command<'a>, AllocError> {
 }
 
 fn elements<'a>(alloc: Global) -> Arg<'a> {
-    Arg::new(alloc, "elements")
-        .long("elements")
-        .value_name("N")
-        .help("How many strips there are, each with 16 cells: 64 where it is not said")
-        .action(ArgAction::Set)
-        .value_parser(value_parser!(u32).range(0..=i64::from(Limits::ELEMENTS)))
+    let help = "How many strips there are, each with 16 cells: 64 where it is not said";
+    let range = value_parser!(u32).range(0..=i64::from(Limits::ELEMENTS));
+    word(alloc, "elements", "N", help).value_parser(range)
 }
 
 fn pes<'a>(alloc: Global) -> Arg<'a> {
-    Arg::new(alloc, "pes")
-        .long("pes")
-        .value_name("P")
-        .help("On how many PEs they run, each with a thread: 4 where it is not said")
-        .action(ArgAction::Set)
-        .value_parser(value_parser!(u32).range(1..=i64::from(Limits::PES)))
+    let help = "On how many PEs they run, each with a thread: 4 where it is not said";
+    let range = value_parser!(u32).range(1..=i64::from(Limits::PES));
+    word(alloc, "pes", "P", help).value_parser(range)
 }
 
 fn rounds<'a>(alloc: Global) -> Arg<'a> {
-    Arg::new(alloc, "rounds")
-        .long("rounds")
-        .value_name("R")
-        .help("How many rounds there are: 64 where it is not said")
-        .action(ArgAction::Set)
-        .value_parser(value_parser!(u32).range(0..=i64::from(StripLimits::ROUNDS)))
+    let help = "How many rounds there are: 64 where it is not said";
+    let range = value_parser!(u32).range(0..=i64::from(StripLimits::ROUNDS));
+    word(alloc, "rounds", "R", help).value_parser(range)
 }
 
 fn work<'a>(alloc: Global) -> Arg<'a> {
-    Arg::new(alloc, "work")
-        .long("work")
-        .value_name("W")
-        .help(
-            "How many rounds of mixing more a cell takes in the middle of the hot spot:{n}1000 where it is not said",
-        )
-        .action(ArgAction::Set)
-        .value_parser(value_parser!(u32).range(0..=1_000_000))
+    let help =
+        "How many rounds of mixing more a cell takes in the middle of the hot spot:{n}1000 where it is not said";
+    let range = value_parser!(u32).range(0..=1_000_000);
+    word(alloc, "work", "W", help).value_parser(range)
 }
 
 fn is_static<'a>(alloc: Global) -> Arg<'a> {
-    Arg::new(alloc, "static")
-        .long("static")
-        .help("Runs the same without balancing")
-        .action(ArgAction::SetTrue)
+    flag(alloc, "static", "Runs the same without balancing")
 }
 
 fn tolerance<'a>(alloc: Global) -> Arg<'a> {
-    Arg::new(alloc, "tolerance")
-        .long("tolerance")
-        .value_name("T")
-        .help(
-            "Lets the greatest load of a PE lie up to T thousandths above the least{n}possible one, so that fewer bytes move; 0 to 1000",
-        )
-        .action(ArgAction::Set)
-        .value_parser(value_parser!(u32).range(0..=1_000))
+    program_words::tolerance(
+        alloc,
+        "Lets the greatest load of a PE lie up to T thousandths above the least{n}possible one, so that fewer bytes move; 0 to 1000",
+    )
 }
 
 fn trace<'a>(alloc: Global) -> Arg<'a> {
-    Arg::new(alloc, "trace")
-        .long("trace")
-        .value_name("FILE")
-        .help(
-            "Writes what each PE did to FILE, in the Trace Event Format, for{n}chrome://tracing, Perfetto or `tezgumi timeline`",
-        )
-        .action(ArgAction::Set)
+    word(
+        alloc,
+        "trace",
+        "FILE",
+        "Writes what each PE did to FILE, in the Trace Event Format, for{n}chrome://tracing, Perfetto or `tezgumi timeline`",
+    )
 }
 
 // What the words ask for.
@@ -117,7 +94,7 @@ fn found<'a>(matches: &ArgMatches<'a>) -> RunOptions<'a> {
         rounds: matches.get_one::<u32>("rounds").unwrap_or(64),
         work: matches.get_one::<u32>("work").unwrap_or(1_000),
         is_static: matches.get_one("static") == Some(true),
-        tolerance: matches.get_one::<u32>("tolerance"),
+        tolerance: tolerance_in(matches),
         trace: matches.get_str("trace"),
     }
 }

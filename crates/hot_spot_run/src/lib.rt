@@ -1,4 +1,4 @@
-//! Runs a chain of strips over threads, and tells what each round was like and what the cells are then.
+//! Runs a chain of strips over threads, and says what each round was like and what the cells are then.
 //!
 //! - [`run_chain`]: the run of a [`Chain`]; [`run_chain_watched`], while somebody looks on.
 //! - [`text_of`]: a line for each round, and the checksum of all cells; [`checksum`] alone.

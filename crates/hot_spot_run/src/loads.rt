@@ -81,7 +81,7 @@ fn home(place: usize, n: usize, pes: u32) -> Option<u32> {
     Some(opening_pe(index, n as u32, pes).get())
 }
 
-// The work of a strip with so many cells in that round.
+// The work of a strip with this number of cells in that round.
 fn units(chain: &Chain<'_>, place: usize, count: u32, round: u32) -> u64 {
     let n = chain.cells.len();
     if place >= n || n > Limits::ELEMENTS as usize || round >= chain.rounds {

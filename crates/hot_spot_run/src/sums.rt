@@ -6,7 +6,7 @@ use rts_run::Outcome;
 use std::alloc::Allocator;
 
 /// The checksum of all cells of a chain of `n` strips, in their order: each cell is joined to the sum so far bit by bit, and
-/// that is mixed. `None` where a strip stands on no PE, since it is on its way, packed: as a fault ended the run, or as
+/// that is mixed. `None` where a strip is on no PE, since it is on its way, packed: as a fault ended the run, or as
 /// the last strip finished.
 pub fn checksum<A: Allocator + Copy>(n: u32, outcome: &Outcome<Strip<A>, A>) -> Option<u64> {
     let mut sum = 0;

@@ -3,14 +3,15 @@
 use crate::loads::{Spread, expected, measured};
 use crate::sums::checksum;
 use hot_spot_strip::{Chain, Strip};
-use rts_run::{Fault, Outcome};
+use rts_run::Outcome;
+use run_text::fault_word;
 use std::alloc::{AllocError, Allocator};
 
-/// The text of what the run of a chain on so many PEs left: for each round `round R greatest G average A moved M`, and then
+/// The text of what the run of a chain on this number of PEs left: for each round `round R greatest G average A moved M`, and then
 /// `checksum S`, or in place of that `fault`, and what ended the run early.
 ///
-/// Of a chain that is balanced, the loads are those that were measured in the round, on the PEs on which the strips stood, and
-/// then so many bytes moved. Of one that is not balanced nothing is measured, and the loads are those that the profile gives
+/// Of a chain that is balanced, the loads are those that were measured in the round, on the PEs where the strips were, and M is the
+/// number of bytes that then moved. Of one that is not balanced nothing is measured, and the loads are those that the profile gives
 /// for it. The average is rounded down.
 ///
 /// # Errors
@@ -87,18 +88,5 @@ fn push_ending<A: Allocator + Copy>(
     match checksum(n, outcome) {
         Some(sum) => writeln!(text, "checksum {sum:016x}"),
         None => writeln!(text, "checksum unknown"),
-    }
-}
-
-fn fault_word(fault: Fault) -> &'static str {
-    match fault {
-        Fault::OutOfMemory => "memory",
-        Fault::Idle => "idle",
-        Fault::Unpack => "unpack",
-        Fault::Stranger => "stranger",
-        Fault::TooLong => "toolong",
-        Fault::Worn => "worn",
-        Fault::Mismatch => "mismatch",
-        Fault::Stopped => "stopped",
     }
 }

@@ -14,7 +14,7 @@ last_value cells none = slice_index_or cells (length cells - 1) none
 abbrev pub stirred : ℕ → ℕ → ℕ → ℕ
 stirred left cell right = bit_xor (bit_xor cell left) (right / 2)
 
--- the cells after a round with so many rounds of mixing for each, from what all were before it; `left` is the value before
+-- the cells after a round with this number of rounds of mixing for each, from what all were before it; `left` is the value before
 -- the first one, and `after` that behind the last
 abbrev pub computed : ℕ → ℕ → List ℕ → ℕ → List ℕ
 computed rounds left [] after = []

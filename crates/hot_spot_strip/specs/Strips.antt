@@ -78,7 +78,7 @@ goes_on s = nat_lt (s.done + 1) s.rounds
 abbrev pub asks : StripView → ℕ → Option ℕ
 asks s me = if is_static s.mode && goes_on s then Some me else None
 
--- the work of a round: so many rounds of mixing for each cell
+-- the work of a round: this number of rounds of mixing for each cell
 abbrev pub units_of : StripView → ℕ → ℕ → ℕ
 units_of s me n = length s.cells * cell_work me n s.done s.rounds s.work
 

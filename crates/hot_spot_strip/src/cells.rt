@@ -5,7 +5,7 @@ ghost use Rattle.hot_spot_strip.specs.Cells.{computed, first_value, last_value, 
 
 use crate::mixing::mixed;
 
-/// Computes each cell from what it was, the cell before it, and the one after it, by so many rounds of mixing. `before` and
+/// Computes each cell from what it was, the cell before it, and the one after it, by this number of rounds of mixing. `before` and
 /// `after` are the values beside the strip.
 pub fn compute(cells: &mut [u64], before: u64, after: u64, rounds: u64)
     ensures value { cells.new ≡ computed rounds before cells.old after }

@@ -4,7 +4,7 @@
 //!
 //! - [`Strip`]: the chare. [`Mode`]: whether it is balanced. [`StripLimits`]: how many rounds and cells it may have.
 //! - [`Chain`]: the strips of a chain, as they open.
-//! - [`mix`] and [`mixed`]: the computation, a 64-bit mixing function, and so many rounds of it.
+//! - [`mix`] and [`mixed`]: the computation, a 64-bit mixing function, and a number of rounds of it.
 //! - [`cell_work`]: the profile, how many rounds of mixing a cell takes.
 //! - [`compute`]: a round of a whole strip, [`first_value`] and [`last_value`]: what its neighbors see of it.
 #![tactic(auto)]

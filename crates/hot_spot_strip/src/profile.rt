@@ -4,7 +4,7 @@ ghost use Rattle.std.specs.Prelude.{◌≡◌, ◌+◌, ◌*◌, ◌/◌, ◌<�
 ghost use Rattle.chare_index.specs.declared.limits.TheConstants.Limits.{ELEMENTS};
 ghost use Rattle.hot_spot_strip.specs.Profile.{cell_work, distance, middle};
 
-/// How many rounds of mixing each cell of strip `me`, one of `n`, takes in a round, counted from 0, of so many.
+/// How many rounds of mixing each cell of strip `me`, one of `n`, takes in a round, counted from 0, of `rounds`.
 ///
 /// It is one round of mixing, and `work` more in the middle of the hot spot. That falls off evenly on both sides, down to none
 /// at an eighth of the chain. The middle is at `round * n / rounds`, so it goes from one end of the chain to the other.

@@ -6,7 +6,8 @@ ghost use Rattle.chares.specs.declared.sends.SendError.TheVariants.{OutOfMemory}
 ghost use Rattle.chares.specs.Posting.{posted};
 ghost use Rattle.hot_spot_strip.specs.Chains.{WornBy};
 ghost use Rattle.hot_spot_strip.specs.Profile.{cell_work};
-ghost use Rattle.hot_spot_strip.specs.Strips.{after_round, are_within, asks, begins, effect_of, goes_on, is_strip, of_parts, opening_strip, shown_by, shown_left, shown_right, takes};
+ghost use Rattle.hot_spot_strip.specs.Strips.{after_round, are_within, asks, begins, effect_of, goes_on, is_strip, of_parts, opening_strip};
+ghost use Rattle.hot_spot_strip.specs.Strips.{shown_by, shown_left, shown_right, takes};
 
 use crate::came::Came;
 use crate::cells::{compute, first_value, last_value};
@@ -57,7 +58,7 @@ type Parts<A> = (Mode, (u32, (u32, (u32, (u32, SlotParts<A>)))));
 type SlotParts<A> = (Slot, (Slot, (Slot, (Slot, Items<u64, A>))));
 
 impl<A: Allocator> Strip<A> {
-    /// A strip with these cells that has begun no round of so many, or `None` past a limit. In the middle of the hot spot a cell
+    /// A strip with these cells that has begun no round of `rounds`, or `None` past a limit. In the middle of the hot spot a cell
     /// takes `work` more rounds of mixing than far from it.
     pub fn new(alloc: A, mode: Mode, rounds: u32, work: u32, cells: Items<u64, A>) -> Option<Self>
         ensures value { IfSome result (λ s. s ≡ opening_strip mode rounds work cells) }
@@ -104,7 +105,7 @@ impl<A: Allocator> Strip<A> {
     }
 }
 
-// Whether a strip may have so many rounds, of which it has begun and computed so many, and so many cells.
+// Whether a strip may have this number of rounds, of which it has begun and computed these, and this number of cells.
 fn are_within(rounds: u32, begun: u32, done: u32, cells: usize) -> bool
     ensures value { result ≡ are_within rounds begun done cells }
 {

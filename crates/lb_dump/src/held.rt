@@ -10,7 +10,7 @@ ghost use Rattle.dump_plan.specs.declared.plan.Plan.TheVariants.{Begun};
 ghost use Rattle.lb_dump.specs.Held.{HasMoves, IsHeld, text_of};
 ghost use Rattle.lb_dump.specs.Reading.{HasGoodHead};
 
-use crate::making::is_whole;
+use crate::whole_dump::is_whole;
 use chare_index::{Index, Pe};
 use dump_format::DumpError;
 use dump_parts::{

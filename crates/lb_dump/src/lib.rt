@@ -22,8 +22,8 @@
 
 mod decoding;
 mod held;
-mod making;
 mod reader;
+mod whole_dump;
 
 pub use decoding::{decode, read_from};
 #[doc(hidden)]

@@ -12,7 +12,7 @@ use Rattle.lb_certificates.specs.declared.flaw.Flaw.TheVariants.{MovedWrong, Mov
 use Rattle.lb_lists.specs.Places.{ArePlaces}
 use Rattle.lb_lists.specs.Runs.{Listed, sizes_of}
 
--- a decision as plain lists: no stops stand for a bottleneck of 0
+-- a decision as plain lists: no stops mean a bottleneck of 0
 pub record Claimed : Type 0 where
   pub bottleneck : ℕ
   pub moved : ℕ
@@ -79,11 +79,11 @@ pub record IsBest (run : Listed) (pes : ℕ) (claim : Claimed) : Type 0 where
   pub moved : claim.moved ≡ right_moved run claim
   pub placed : IsPlacedRight run claim
 
--- the claim tells so many bytes, and of each of so many elements the name of its block
+-- the claim states this number of bytes, and for each of this number of elements the name of its block
 abbrev pub IsToldRight : ℕ → ℕ → Claimed → Type 0
 IsToldRight moved count claim = (claim.moved ≡ moved) × ArePlaces claim.cuts claim.names count claim.new_places
 
--- the claim tells other bytes; or these, and a wrong place
+-- the claim states other bytes; or these, and a wrong place
 abbrev pub IsFlawTold : ℕ → ℕ → Claimed → Flaw → Type 0
 IsFlawTold moved count claim flaw =
     ((flaw ≡ MovedWrong) × (claim.moved ≢ moved)) ⊎ ((flaw ≡ MovesWrong) × (claim.moved ≡ moved) × ¬ (ArePlaces claim.cuts claim.names count claim.new_places))

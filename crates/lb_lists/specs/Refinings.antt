@@ -28,7 +28,7 @@ pub record Standing : Type 0 where
   pub present : List ℕ
   pub heights : List (List (ℕ × ℕ))
 
--- the least division that is told
+-- the least division that is written
 abbrev pub told_division : Told → Division (Unit {0})
 told_division told = division_of told.least told.least_cuts told.stops
 

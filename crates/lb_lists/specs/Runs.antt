@@ -7,7 +7,7 @@ use Rattle.lb_lists.specs.declared.error.RunError.TheVariants.{BadInput, BadLoad
 use Rattle.lb_lists.specs.declared.error.RefineError.{RefineError}
 use Rattle.lb_lists.specs.declared.error.RefineError.TheVariants.{BadTolerance, Run}
 
--- of each element the load, the packed size in bytes and the PE on which it stands, and how many PEs there are
+-- of each element the load, the packed size in bytes and the PE on which it is, and how many PEs there are
 pub record Listed : Type 0 where
   pub loads : List ℕ
   pub bytes : List ℕ
@@ -19,7 +19,7 @@ abbrev pub sizes_of : Listed → List (ℕ × ℕ)
 sizes_of run = zip run.bytes run.places
 
 -- The lists speak of the same elements, of which there are not too many, the sizes are not too great, and each element
--- stands on one of the PEs. How great the loads are is not asked.
+-- is on one of the PEs. How great the loads are is not asked.
 pub record IsRun (run : Listed) : Type 0 where
   pub some_pe : 0 < run.procs
   pub few_pes : run.procs ≤ PES
@@ -45,7 +45,7 @@ IsRefusal in_order small BadInput = ¬ in_order
 IsRefusal in_order small BadLoad = in_order × ¬ small
 IsRefusal in_order small OutOfMemory = in_order × small
 
--- Why nothing was decided within a tolerance of so many thousandths: they are too many; or they are not, and why else.
+-- Why nothing was decided within a tolerance: its thousandths are too many; or they are not, and why else.
 abbrev pub IsRefineRefusal : ℕ → Type 0 → Type 0 → RefineError → Type 0
 IsRefineRefusal thousandths in_order small BadTolerance = 1000 < thousandths
 IsRefineRefusal thousandths in_order small (Run error) = (thousandths ≤ 1000) × IsRefusal in_order small error

@@ -24,6 +24,6 @@ abbrev pub rows_between : List ℕ → List (ℕ × ℕ) → List (List (ℕ × 
 rows_between (first ∷ next ∷ starts) steps = between first next steps ∷ rows_between (next ∷ starts) steps
 rows_between _ steps = []
 
--- the steps that plain lists tell of each block
+-- the steps that plain lists give for each block
 abbrev pub heights_in : List ℕ → List ℕ → List ℕ → List (List (ℕ × ℕ))
 heights_in starts places rises = rows_between starts (zip places rises)

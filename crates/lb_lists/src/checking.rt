@@ -79,7 +79,7 @@ fn parts_of<A: Allocator + Copy>(alloc: A, claim: &Claim<'_>) -> Result<Parts<A>
     })
 }
 
-// Whether there is a place for each of so many elements, and each is the name of its block.
+// Whether there is a place for each of this number of elements, and each is the name of its block.
 fn is_placed(count: usize, claim: &Claim<'_>) -> bool
     requires some_block { 0 < blocks_between claim.now.cuts }
     requires divides { IsDivision 0 count (blocks_between claim.now.cuts) claim.now.cuts }
@@ -94,7 +94,7 @@ fn is_placed(count: usize, claim: &Claim<'_>) -> bool
     are_places(claim.cuts, claim.names, claim.new_places)
 }
 
-/// The first flaw of what a claim tells of a right division and right names: of the bytes, and then of the places.
+/// The first flaw of what a claim says of a right division and right names: of the bytes, and then of the places.
 pub(crate) fn flaw_told(moved: u64, count: usize, claim: &Claim<'_>) -> Option<Flaw>
     requires some_block { 0 < blocks_between claim.now.cuts }
     requires divides { IsDivision 0 count (blocks_between claim.now.cuts) claim.now.cuts }

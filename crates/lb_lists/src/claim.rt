@@ -42,7 +42,7 @@ impl<'a> Model for Claim<'a> {
     } };
 }
 
-// The first entries of a list, at most so many.
+// The first entries of a list, at most this number of them.
 fn front<T>(list: &[T], most: usize) -> &[T]
     ensures { result.now ≡ take most list.now }
 {

@@ -17,7 +17,7 @@ use chare_index::Limits;
 use lb_certificates::Floor;
 use std::alloc::Allocator;
 
-/// Room for what is told of a decision for `pes` PEs.
+/// Room for what is written of a decision for `pes` PEs.
 #[derive(Drop)]
 pub struct Room<'a> {
     /// The PE on which each element is to run.
@@ -63,7 +63,7 @@ fn write_stops<A: Allocator>(floor: &Floor<A>, stops: &mut [u32]) -> usize
     }
 }
 
-/// Whether there is the room for a decision on so many elements.
+/// Whether there is the room for a decision on this number of elements.
 pub(crate) fn has_room(room: &Room<'_>, elements: usize, pes: u32) -> bool
     ensures { IsTrue result ↔ HasRoom elements pes (lists_in room.now) }
 {

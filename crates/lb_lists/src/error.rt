@@ -1,7 +1,6 @@
 ghost use Rattle.std.specs.Prelude.{◌≡◌};
 ghost use Rattle.lb_lists.specs.declared.error.RunError.TheVariants.{OutOfMemory};
 
-use block_assignment::NameError;
 use lb_strategy::PlanError;
 use std::alloc::{AllocError, AllocFailed};
 use thiserror::Error;
@@ -45,16 +44,6 @@ impl From<PlanError> for RunError {
     fn from(error: PlanError) -> RunError {
         match error {
             PlanError::OutOfMemory => RunError::OutOfMemory,
-        }
-    }
-}
-
-impl From<NameError> for RunError {
-    ghost from_gives = { λ _ e. e ≡ OutOfMemory };
-
-    fn from(error: NameError) -> RunError {
-        match error {
-            NameError::OutOfMemory => RunError::OutOfMemory,
         }
     }
 }

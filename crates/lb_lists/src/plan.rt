@@ -3,7 +3,7 @@
 ghost use Rattle.std.specs.Prelude.{◌≡◌, ◌<◌, ◌≤◌, length, IfOk, IfErr, OnOk};
 ghost use Rattle.chain_partition.specs.Chosen.{IsChosen};
 ghost use Rattle.lb_certificates.specs.Certificate.{IsCertified};
-ghost use Rattle.lb_certificates.specs.Naming.{blocks_between, bytes_moved, AreBlocks, IsLeastNaming, IsNamed};
+ghost use Rattle.lb_certificates.specs.Naming.{bytes_moved, IsLeastNaming, IsNamed};
 ghost use Rattle.lb_strategy.specs.Decisions.{ArePricesBounded};
 ghost use Rattle.lb_lists.specs.Runs.{sizes_of, AreSmall, IsAsked, IsRefusal};
 ghost use Rattle.lb_lists.specs.declared.error.RunError.TheVariants.{OutOfMemory};
@@ -11,39 +11,20 @@ ghost use Rattle.lb_lists.specs.declared.error.RunError.TheVariants.{OutOfMemory
 use crate::error::RunError;
 use crate::measured::{Measured, measure};
 use crate::run::Run;
-use block_assignment::{CostTable, name_blocks};
 use chain_partition::divide;
 use chare_index::Limits;
-use lb_certificates::{Cuts, Division, Loads, Naming, Prices, Sizes};
+use lb_certificates::{Division, Loads, Naming, Prices, Sizes};
+use lb_strategy::name_cuts;
 use std::alloc::Allocator;
 
-/// What is decided of a run: what a [`Decision`](lb_strategy::Decision) has but the list of its moves, since the caller is
-/// told the place of each element.
+/// What is decided of a run: what a [`Decision`](lb_strategy::Decision) has but the list of its moves, since the caller
+/// gets the place of each element.
 #[derive(Drop)]
 pub(crate) struct Plan<A: Allocator> {
     pub(crate) division: Division<A>,
     pub(crate) naming: Naming<A>,
     pub(crate) prices: Prices<A>,
     pub(crate) moved: u64,
-}
-
-// The least naming of these blocks, with its prices, and the bytes that it moves.
-fn named<A: Allocator + Copy>(
-    alloc: A,
-    sizes: &Sizes<A>,
-    cuts: &Cuts<A>,
-) -> Result<(Naming<A>, Prices<A>, u64), RunError>
-    requires blocks { AreBlocks sizes.now cuts.now }
-    ensures named { IfOk result (λ found. IsNamed sizes.now cuts.now found.0 found.1.u found.1.v) }
-    ensures least_naming { IfOk result (λ found. IsLeastNaming sizes.now cuts.now (blocks_between cuts.now) found.0) }
-    ensures moved { IfOk result (λ found. found.2 ≡ bytes_moved sizes.now cuts.now found.0) }
-    ensures bounded { IfOk result (λ found. ArePricesBounded sizes.now cuts.now found.1.u found.1.v) }
-    ensures only_memory { IfErr result (λ error. error ≡ OutOfMemory) }
-{
-    let table = CostTable::of(alloc, sizes, cuts)?;
-    let (naming, prices) = name_blocks(alloc, &table)?;
-    let moved = table.cost_of(naming.as_slice());
-    Ok((naming, prices, moved))
 }
 
 // What is decided of these loads and sizes.
@@ -66,7 +47,7 @@ fn decided<A: Allocator + Copy>(
     ensures only_memory { IfErr result (λ error. error ≡ OutOfMemory) }
 {
     let division = divide(alloc, loads, pes)?;
-    let (naming, prices, moved) = named(alloc, sizes, &division.cuts)?;
+    let (naming, prices, moved) = name_cuts(alloc, sizes, &division.cuts)?;
     Ok(Plan {
         division,
         naming,

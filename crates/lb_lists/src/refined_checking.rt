@@ -5,7 +5,8 @@ ghost use Rattle.std.specs.List.{between, zip};
 ghost use Rattle.lb_certificates.specs.Flaws.{flaw_number, flaw_place};
 ghost use Rattle.chain_refinement.specs.Flaws.{refinement_flaw_number, refinement_flaw_place};
 ghost use Rattle.lb_lists.specs.Claims.{division_of};
-ghost use Rattle.lb_lists.specs.RefinedClaims.{refined_flaw_number, refined_flaw_place, refinement_of, AreNamesRight, IsBestWithin, IsFirstRefinedFlaw, IsNamesFlaw, IsRightRefined};
+ghost use Rattle.lb_lists.specs.RefinedClaims.{refined_flaw_number, refined_flaw_place, refinement_of, AreNamesRight, IsBestWithin};
+ghost use Rattle.lb_lists.specs.RefinedClaims.{IsFirstRefinedFlaw, IsNamesFlaw, IsRightRefined};
 ghost use Rattle.lb_lists.specs.Runs.{sizes_of, AreSmall, IsAsked, IsRefineRefusal, Listed};
 ghost use Rattle.lb_lists.specs.Steps.{heights_in};
 
@@ -176,7 +177,7 @@ fn first_refined_flaw<A: Allocator>(
     }
 }
 
-/// Checks what somebody claims to be a decision for a run and `pes` PEs within a tolerance, so many thousandths, whose cuts are
+/// Checks what somebody claims to be a decision for a run and `pes` PEs within a tolerance, a number of thousandths, whose cuts are
 /// near the present ones: `None` exactly where every part of the claim is right, and otherwise its first flaw. `None` means that
 /// no division of the elements into `pes` consecutive blocks has a lighter heaviest block than the claim's bottleneck, that no
 /// cuts within the tolerance move fewer bytes in its order of the PEs, that no naming of the blocks does, and that the claim

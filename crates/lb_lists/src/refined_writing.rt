@@ -69,7 +69,7 @@ pub(crate) fn write_planned<A: Allocator>(
     numbers(decided, bottleneck, false, 0)
 }
 
-// The numbers of a decision whose bottleneck was written as the least possible one, with what is told beside it.
+// The numbers of a decision whose bottleneck was written as the least possible one, with what is written beside it.
 fn numbers(decided: Decided, bottleneck: u64, near: bool, steps: usize) -> RefinedNumbers
     ensures least { result.least ≡ decided.bottleneck }
     ensures bottleneck { result.bottleneck ≡ bottleneck }

@@ -27,7 +27,7 @@ use chain_refinement::Tolerance;
 use lb_refinement::{Refined, refine};
 use std::alloc::Allocator;
 
-/// Room for what is told of how elements stand, and of the heights that prove that no cuts within a tolerance move fewer
+/// Room for what is written of the order of the elements, and of the heights that prove that no cuts within a tolerance move fewer
 /// bytes, for `pes` PEs.
 #[derive(Drop)]
 pub struct StandingRoom<'a> {
@@ -111,14 +111,14 @@ fn has_standing_room(room: &StandingRoom<'_>, pes: u32) -> bool
         && room.step_rises.len() == room.step_places.len()
 }
 
-// The same, and for a decision on so many elements.
+// The same, and for a decision on this number of elements.
 fn has_refined_room(room: &Room<'_>, standing: &StandingRoom<'_>, elements: usize, pes: u32) -> bool
     ensures { IsTrue result ↔ HasRefinedRoom elements pes (lists_in room.now) (standing_lists_in standing.now) }
 {
     has_room(room, elements, pes) && has_standing_room(standing, pes)
 }
 
-/// Decides within a tolerance, so many thousandths, and writes the decision with all that proves it: what is told of a decision
+/// Decides within a tolerance, a number of thousandths, and writes the decision with all that proves it: what is written of a decision
 /// as [`decide_into`](crate::decide_into) does, and the least cuts; and where the cuts are near the present ones, the order of
 /// the PEs, the present cuts and the heights. Of these the steps are written where there is room for all of them. Where it is
 /// the plan, order, present cuts and steps are left as they were. The stops are those of the least division.
@@ -138,7 +138,8 @@ pub fn refine_into<A: Allocator + Copy>(
     ensures same_lists { HasListsOf room.old room.new }
     ensures same_standing { HasStandingListsOf standing.old standing.new }
     ensures refined { IfOk result (λ d. (heights : List (List (ℕ × ℕ)))
-        × IsRefinedRun run.now pes thousandths d.near (told_in d.least d.moved d.stops (lists_in room.new) (standing_lists_in standing.new)) (standing_in heights (standing_lists_in standing.new))
+        × IsRefinedRun run.now pes thousandths d.near (told_in d.least d.moved d.stops (lists_in room.new) (standing_lists_in standing.new))
+        (standing_in heights (standing_lists_in standing.new))
         × IsStandingIn d.near heights d.steps (standing_lists_in standing.old) (standing_lists_in standing.new)) }
     ensures placed { IfOk result (λ _. ArePlaces room.new.cuts.now room.new.names.now (length run.now.loads) room.new.new_places.now) }
     ensures peak { IfOk result (λ d. d.bottleneck ≡ peak run.now.loads room.new.cuts.now) }
@@ -152,7 +153,9 @@ pub fn refine_into<A: Allocator + Copy>(
     ensures small_tolerance { OnOk result (thousandths ≤ 1000) }
     ensures asked { OnOk result (IsAsked run.now pes × HasRefinedRoom (length run.now.loads) pes (lists_in room.old) (standing_lists_in standing.old)) }
     ensures small { OnOk result (AreSmall run.now.loads) }
-    ensures refused { IfErr result (IsRefineRefusal thousandths (IsAsked run.now pes × HasRefinedRoom (length run.now.loads) pes (lists_in room.old) (standing_lists_in standing.old)) (AreSmall run.now.loads)) }
+    ensures refused { IfErr result (IsRefineRefusal thousandths
+        (IsAsked run.now pes × HasRefinedRoom (length run.now.loads) pes (lists_in room.old) (standing_lists_in standing.old))
+        (AreSmall run.now.loads)) }
     ensures kept { OnErr result (lists_in room.new ≡ lists_in room.old) }
     ensures standing_kept { OnErr result (standing_lists_in standing.new ≡ standing_lists_in standing.old) }
 {

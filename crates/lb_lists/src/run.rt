@@ -12,7 +12,7 @@ pub struct Run<'a> {
     pub loads: &'a [Units],
     /// The packed size of each element, 0 to [`Limits::STATE_BYTES`] bytes.
     pub bytes: &'a [u32],
-    /// The PE on which each element stands, below `procs`.
+    /// The PE on which each element is, below `procs`.
     pub places: &'a [u32],
     /// How many PEs the run has, 1 to [`Limits::PES`].
     pub procs: u32,
@@ -26,7 +26,7 @@ impl<'a> Model for Run<'a> {
     ghost view = { λ r. record { loads = r.loads.now; bytes = r.bytes.now; places = r.places.now; procs = r.procs } };
 }
 
-/// Whether the lists describe a run, which is to go on with so many PEs.
+/// Whether the lists describe a run, which is to go on with this number of PEs.
 pub(crate) fn is_asked(run: &Run<'_>, pes: u32) -> bool
     ensures { IsTrue result ↔ IsAsked run.now pes }
 {

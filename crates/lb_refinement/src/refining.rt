@@ -9,7 +9,8 @@ ghost use Rattle.lb_strategy.specs.declared.decision.Decision.{Decision};
 ghost use Rattle.chain_refinement.specs.Orders.{IsPresentOrder};
 ghost use Rattle.chain_refinement.specs.Refinement.{AreWithin};
 ghost use Rattle.chain_refinement.specs.Tolerances.{limit_of};
-ghost use Rattle.lb_refinement.specs.Refined.{ArePricesSmall, HasNames, IsCheaper, IsKept, IsPlanned, IsRefined, least_load, refined_bottleneck, refined_cuts, refined_moved, refined_names};
+ghost use Rattle.lb_refinement.specs.Refined.{ArePricesSmall, HasNames, IsCheaper, IsKept, IsPlanned, IsRefined, least_load};
+ghost use Rattle.lb_refinement.specs.Refined.{refined_bottleneck, refined_cuts, refined_moved, refined_names};
 
 use crate::heaviest::greatest_load;
 use crate::refined::{Kept, Refined};

@@ -70,12 +70,12 @@ block_lines loads cuts names blocks = flat_map (line_of loads cuts names) (range
 abbrev pub moved_line : ℕ → List ℕ
 moved_line moved = codes "moved " ++ decimal moved ++ newline
 
--- the whole text of a decision on a snapshot, for so many PEs
+-- the whole text of a decision on a snapshot, for this number of PEs
 abbrev pub decision_text : {A : Type 0} → Taken → ℕ → Decision A → List ℕ
 decision_text s pes d =
     head_line s.step pes (length s.loads) ++ bottleneck_line d.division.bottleneck ++ floor_line d.division.floor ++ block_lines s.loads d.division.cuts d.naming pes ++ moved_line d.moved
 
--- The whole text of a decision within a tolerance on a snapshot, for so many PEs: the bottleneck and the floor are those of the
+-- The whole text of a decision within a tolerance on a snapshot, for this number of PEs: the bottleneck and the floor are those of the
 -- least division, and the blocks and the bytes that move those of the decision.
 abbrev pub refined_text : {A : Type 0} → Taken → ℕ → ℕ → Refined A → List ℕ
 refined_text s pes tolerance r =
@@ -104,6 +104,13 @@ dump_line DumpError.Floor = codes "dump: floor is not 0 or 1" ++ newline
 dump_line MoveCount = codes "dump: more moves than elements" ++ newline
 dump_line (Move k) = codes "dump: move " ++ decimal k ++ codes " is out of range" ++ newline
 dump_line (Wide i) = codes "dump: write failed" ++ newline
+
+-- what is to be done about a fault in the bytes of a dump
+abbrev pub dump_advice : DumpError → List ℕ
+dump_advice Magic = codes "a dump begins with LBD1 or LBD2: give one that charm_run --dump wrote, or see docs/FORMATS.md"
+dump_advice (Short n) = codes "a dump goes on here: copy it whole, or write it again"
+dump_advice Trailing = codes "a dump ends here: give one dump in a file"
+dump_advice _ = codes "see docs/FORMATS.md for what is expected there, and write the dump again"
 
 -- the line where the decision of a dump is right, and the one where it has none
 abbrev pub right_line : List ℕ

@@ -1,7 +1,7 @@
 ghost use Rattle.std.specs.Prelude.{◌≡◌, [], OnOk, IfOk};
 ghost use Rattle.std.specs.String.{string_bytes};
 ghost use Rattle.lb_replay.specs.Internal.{without_memory};
-ghost use Rattle.lb_replay.specs.Text.{dump_line, fault_line, flaw_line, flaw_name};
+ghost use Rattle.lb_replay.specs.Text.{dump_advice, dump_line, fault_line, flaw_line, flaw_name};
 
 use lb_certificates::Flaw;
 use lb_dump::DumpError;
@@ -76,6 +76,21 @@ fn dump_line<A: Allocator>(alloc: A, fault: DumpError) -> Result<String<A>, Allo
         DumpError::Floor => String::from_str(alloc, "dump: floor is not 0 or 1\n"),
         DumpError::MoveCount => String::from_str(alloc, "dump: more moves than elements\n"),
         DumpError::Move(k) => format!(in alloc; "dump: move {k} is out of range\n"),
+    }
+}
+
+/// What is to be done about a fault in the bytes of a dump. A read that failed and memory that ran out are no such faults: about
+/// them each program says what to do.
+pub fn dump_advice(fault: DumpError) -> &'static str
+    ensures value { result.now ≡ dump_advice fault }
+{
+    match fault {
+        DumpError::Magic => {
+            "a dump begins with LBD1 or LBD2: give one that charm_run --dump wrote, or see docs/FORMATS.md"
+        }
+        DumpError::Short(_) => "a dump goes on here: copy it whole, or write it again",
+        DumpError::Trailing => "a dump ends here: give one dump in a file",
+        _ => "see docs/FORMATS.md for what is expected there, and write the dump again",
     }
 }
 

@@ -4,7 +4,7 @@
 //!
 //! - [`simulate`]: the replay, from the bytes of a reader to the bytes of a writer; [`replay_file`]: that of a file.
 //! - [`verify`]: the check of the decision that was recorded in a dump; [`verify_file`]: that of a file.
-//! - [`Ended`]: how a replay or a check ended, and the status for it.
+//! - [`Ended`]: how a replay or a check ended, and the status for it; [`dump_advice`]: what is to be done about a fault of a dump.
 //! - [`run`]: what a program does, by the [`Task`] that it was [`Asked`] for, if that has no [`Clash`].
 //!
 //! ```
@@ -31,6 +31,7 @@ mod text;
 mod verifying;
 
 pub use ended::Ended;
+pub use fault::dump_advice;
 pub use request::{Asked, Clash, Task, run};
 pub use simulation::{replay_file, simulate};
 pub use verifying::{verify, verify_file};

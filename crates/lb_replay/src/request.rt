@@ -2,8 +2,6 @@ ghost use Rattle.std.specs.Option.{ForSome};
 ghost use Rattle.std.specs.Prelude.{◌≡◌, ◌≤◌, ℕ, List, Option, Some, IfOk, IfErr, IfSome};
 ghost use Rattle.lb_replay.specs.Requests.{EndsTask, MayRun, task_of};
 ghost use Rattle.lb_replay.specs.Simulation.{ReportsUnread};
-ghost use Rattle.lb_replay.specs.Statuses.{status_of};
-ghost use Rattle.lb_replay.specs.declared.ended.Ended.{Ended};
 
 use crate::ended::Ended;
 use crate::simulation::replay_file;
@@ -68,26 +66,9 @@ impl Asked<'_> {
     }
 }
 
-/// Replays the dump in a file, within a tolerance or not, or checks its decision, as [`replay_file`] and [`verify_file`] do, and returns the status
-/// of the end, with the system's reason where a read failed.
+/// Replays the dump in a file, within a tolerance or not, or checks its decision, as [`replay_file`] and [`verify_file`] do, and
+/// returns the end, with the system's reason where a read failed.
 pub fn run<A: Allocator + Copy, R: Read + Drop, W: Write>(
-    alloc: A,
-    task: Task,
-    file: io::Result<R>,
-    writer: &mut W,
-) -> (u8, Option<io::Error>)
-    requires { MayRun task }
-    ensures status { (ended : Ended) × (result.0 ≡ status_of ended)
-        × IfOk file (λ file. (rest : Option (List ℕ)) × EndsTask A (R.remaining file) rest task (W.contents writer.old) (W.contents writer.new) ended)
-        × IfErr file (λ _. ReportsUnread (W.contents writer.old) (W.contents writer.new) ended) }
-    ensures reason { IfErr file (λ reason. result.1 ≡ Some reason) }
-{
-    let (ended, reason) = done(alloc, task, file, writer);
-    (ended.status(), reason)
-}
-
-// The same, with the end in place of its status.
-fn done<A: Allocator + Copy, R: Read + Drop, W: Write>(
     alloc: A,
     task: Task,
     file: io::Result<R>,
@@ -107,7 +88,7 @@ fn done<A: Allocator + Copy, R: Read + Drop, W: Write>(
     }
 }
 
-// The tolerance of so many thousandths.
+// The tolerance of this number of thousandths.
 fn tolerance_of(thousandths: u32) -> Option<Tolerance>
     requires { thousandths ≤ Tolerance.MOST }
     ensures { result ≡ Some thousandths }

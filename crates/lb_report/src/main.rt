@@ -2,8 +2,9 @@
 //! are at present, and after the least division into consecutive blocks, and what moves; and with `--tolerance` the same of the
 //! decision within a tolerance of that.
 //!
-//! - `report_command_line::asked`: what the words of the command line ask for, and `numbers` the numbers of PEs in them;
-//!   `refuse_numbers`: what is told where there are none.
+//! - `program_words::on_words`: the words of the command line, and the status. `report_command_line::asked`: what the words ask for,
+//!   and `numbers` the numbers of PEs in them; `refuse_numbers`: what is printed where there are none; `program_words::refused`: the
+//!   status where the words ask for no report.
 //! - `dump_report::report_file`: the report on one dump, and how it ended; `Ended::status` is the status for it, and
 //!   `dump_report::tell` says what was wrong.
 #![tactic(auto)]
@@ -15,35 +16,18 @@ use chain_refinement::Tolerance;
 use dump_report::{report_dump, report_file, tell};
 use lb_replay::Ended;
 use load_report::Style;
-use report_command_line::{
-    Asked, NO_WORDS, NumbersError, asked, numbers, refuse_numbers, words_status,
-};
+use program_words::{on_words, refused};
+use report_command_line::{Asked, NumbersError, asked, numbers, refuse_numbers};
 use std::fs::File;
+use std::io;
 use std::process::ExitCode;
-use std::{env, io};
 use streams::{Noted, write_out};
 
 fn main(rt: HostRuntime) -> ExitCode {
-    let Ok(args) = env::args(&rt) else {
-        return ExitCode::from(NO_WORDS);
-    };
-    let Ok(words) = args.collect::<Vec<String>>(rt.alloc()) else {
-        return ExitCode::from(NO_WORDS);
-    };
-    let Ok(words) = words
-        .iter()
-        .map(|word| word.as_str())
-        .collect::<Vec<&str>>(rt.alloc())
-    else {
-        return ExitCode::from(NO_WORDS);
-    };
-    match asked(rt.alloc(), &words) {
-        Ok(asked) => ExitCode::from(done(&rt, &asked)),
-        Err(error) => {
-            let _ = error.print(&rt);
-            ExitCode::from(words_status(&error))
-        }
-    }
+    on_words(&rt, |words| match asked(rt.alloc(), words) {
+        Ok(asked) => done(&rt, &asked),
+        Err(error) => refused(&rt, &error),
+    })
 }
 
 // Does what is asked for, and returns the status.
@@ -93,7 +77,7 @@ fn all(rt: &HostRuntime, asked: &Asked<'_>, procs: &[u32], style: Style) -> u8
     status
 }
 
-// Prints the report on a file, or tells its fault on the standard error.
+// Prints the report on a file, or its fault to the standard error.
 fn one(rt: &HostRuntime, name: &str, procs: &[u32], thousandths: Option<u32>, style: Style) -> Ended
     requires { All IsNumber procs.now }
 {

@@ -3,11 +3,12 @@
 //! move. With `--tolerance` the blocks may weigh up to a limit above the least load, and fewer bytes move. With `--check` it
 //! prints instead whether the decision in the dump is right.
 //!
-//! - `command_line::asked`: what the words of the command line ask for, and the status where they ask for nothing to be
-//!   done.
-//! - `lb_replay::Asked::task`: which task that is, if the options go together; `command_line::refuse_both`: what is told if they
-//!   do not.
-//! - `lb_replay::run`: the task, and the status for its end; `file_faults::Advice`: what is told of a file with a fault.
+//! - `program_words::on_words`: the words of the command line, and the status. `sim_command_line::asked`: what the words ask for;
+//!   `program_words::refused`: the status where they ask for nothing to be done.
+//! - `lb_replay::Asked::task`: which task that is, if the options go together; `sim_command_line::refuse_both`: what is printed if
+//!   they do not.
+//! - `lb_replay::run`: the task, and its end with the status for that; `lb_replay::dump_advice`: what to do about a fault of the
+//!   dump; `file_faults::Advice`: what is printed about a file with a fault.
 #![tactic(auto)]
 
 ghost use Rattle.lb_replay.specs.Requests.{MayRun};
@@ -16,17 +17,15 @@ ghost use Rattle.std.specs.Option.{ForSome};
 
 use chain_refinement::Tolerance;
 use chare_index::Limits;
-use command_line::{NO_WORDS, asked, refuse_both, words_status};
 use file_faults::Advice;
-use lb_replay::{Asked, Task, run};
+use lb_replay::{Asked, Ended, Task, dump_advice, run};
+use program_words::{BAD_FILE, on_words, refused};
+use sim_command_line::{asked, refuse_both};
 use std::fs::File;
+use std::io;
 use std::process::ExitCode;
-use std::{env, io};
 
-/// The status where the file cannot be read, or its dump has a fault.
-const FAULT: u8 = 3;
-
-/// What to do about a file with a fault.
+/// What to do about a file that cannot be read, and in general about one with a fault.
 const ADVICE: Advice<'static> = Advice {
     program: "lb_sim",
     unread: "give a file with a dump that you may read, or /dev/stdin for the standard input",
@@ -34,26 +33,10 @@ const ADVICE: Advice<'static> = Advice {
 };
 
 fn main(rt: HostRuntime) -> ExitCode {
-    let Ok(args) = env::args(&rt) else {
-        return ExitCode::from(NO_WORDS);
-    };
-    let Ok(words) = args.collect::<Vec<String>>(rt.alloc()) else {
-        return ExitCode::from(NO_WORDS);
-    };
-    let Ok(words) = words
-        .iter()
-        .map(|word| word.as_str())
-        .collect::<Vec<&str>>(rt.alloc())
-    else {
-        return ExitCode::from(NO_WORDS);
-    };
-    match asked(rt.alloc(), &words) {
-        Ok(asked) => ExitCode::from(done(&rt, asked)),
-        Err(error) => {
-            let _ = error.print(&rt);
-            ExitCode::from(words_status(&error))
-        }
-    }
+    on_words(&rt, |words| match asked(rt.alloc(), words) {
+        Ok(asked) => done(&rt, asked),
+        Err(error) => refused(&rt, &error),
+    })
 }
 
 // Does what is asked for, and returns the status. No file is opened where that is not a task.
@@ -74,7 +57,30 @@ fn ran(rt: &HostRuntime, name: &str, task: Task) -> u8
     requires { MayRun task }
 {
     let file = File::open(rt, name);
-    let (status, reason) = run(rt.alloc(), task, file, &mut io::writer(rt));
-    let _told = ADVICE.tell(rt.alloc(), &mut rt.stderr(), name, reason, status == FAULT);
+    let (ended, reason) = run(rt.alloc(), task, file, &mut io::writer(rt));
+    let status = ended.status();
+    let advice = advice_on(ended);
+    let _told = advice.tell(
+        rt.alloc(),
+        &mut rt.stderr(),
+        name,
+        reason,
+        status == BAD_FILE,
+    );
     status
+}
+
+// What to do about a file whose replay or check ended so.
+fn advice_on(ended: Ended) -> Advice<'static> {
+    match ended {
+        Ended::Dump(fault) => Advice {
+            wrong: dump_advice(fault),
+            ..ADVICE
+        },
+        Ended::Printed
+        | Ended::Plan(_)
+        | Ended::Flawed(_)
+        | Ended::NoDecision
+        | Ended::WriteFailed => ADVICE,
+    }
 }

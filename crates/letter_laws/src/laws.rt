@@ -25,5 +25,6 @@ pub fn chase_law<C: Chare<A>, A: Allocator>()
 /// them. Every letter in the journal of an element was posted to that element, in a room, in a hand, in an outbox or in a
 /// queue: no element executed the letter of another.
 pub fn journal_law<C: Chare<A>, A: Allocator>()
-    ensures own { (pes : ℕ) (chares : List C) (strategy : Strategy) (events : List Event) (last : After C A) → RunsTo C.step C.pack C.unpack pes chares strategy events last → AreOwn last.0 }
+    ensures own { (pes : ℕ) (chares : List C) (strategy : Strategy) (events : List Event) (last : After C A)
+        → RunsTo C.step C.pack C.unpack pes chares strategy events last → AreOwn last.0 }
 {}

@@ -13,11 +13,11 @@ use Rattle.load_report.specs.declared.figures.Spread.{Spread}
 use Rattle.load_report.specs.declared.figures.Change.{Change}
 use Rattle.load_report.specs.declared.traffic.Traffic.{Traffic}
 
--- the PE on which each element stands
+-- the PE on which each element is
 abbrev pub present_places : List (ℕ × ℕ) → List ℕ
 present_places sizes = map (λ size. size.1) sizes
 
--- the PE on which each of so many elements is to run: the name of its block
+-- the PE on which each of this number of elements is to run: the name of its block
 abbrev pub planned_places : List ℕ → List ℕ → ℕ → List ℕ
 planned_places cuts names n = map (planned_pe cuts names) (range_with_len 0 n)
 
@@ -75,13 +75,13 @@ squares_of pes sum loads = total pes (λ p. square_apart (billionths pes sum (lo
 unfoldable pub root : ℕ → ℕ
 root n = total n (λ k. if nat_le ((k + 1) * (k + 1)) n then 1 else 0)
 
--- The standard deviation of the loads of so many PEs over their average, in thousandths, rounded to the nearest: half the
+-- The standard deviation of the loads of this number of PEs over their average, in thousandths, rounded to the nearest: half the
 -- root of four times its square, and rounded up.
 unfoldable pub deviation_of : ℕ → ℕ → (ℕ → ℕ) → ℕ
 deviation_of pes sum loads =
     if pes == 0 then 0 else (root (4 * squares_of pes sum loads / (pes * (billion * 1000))) + 1) / 2
 
--- how elements with these loads, placed so on so many PEs, spread their load
+-- how elements with these loads, placed so on this number of PEs, spread their load
 abbrev pub spread_of : List ℕ → List ℕ → ℕ → Spread
 spread_of loads places pes = record {
   pes = pes;
@@ -99,7 +99,7 @@ spread_of loads places pes = record {
 abbrev pub moving : List (ℕ × ℕ) → List ℕ → List ℕ
 moving sizes places = map (λ i. moved_bytes (slice_index_or sizes i (0, 0)) (slice_index places i)) (range_with_len 0 (length sizes))
 
--- the most bytes that leave a PE where the elements of a snapshot move to these places on so many PEs, and the most that
+-- the most bytes that leave a PE where the elements of a snapshot move to these places on this number of PEs, and the most that
 -- enter one
 abbrev pub traffic_of : Taken → List ℕ → ℕ → Traffic
 traffic_of s places pes = record {
@@ -120,7 +120,7 @@ change_by s least cuts names = record {
 abbrev pub change_of : {A : Type 0} → Taken → Decision A → Change
 change_of s d = change_by s d.division.bottleneck d.division.cuts d.naming
 
--- this is the decision for so many PEs within some tolerance
+-- this is the decision for this number of PEs within some tolerance
 abbrev pub IsRefinedFor : {A : Type 0} → List ℕ → List (ℕ × ℕ) → ℕ → Refined A → Type 0
 IsRefinedFor loads sizes pes r = (tolerance : ℕ) × IsRefined loads sizes pes tolerance r
 
@@ -128,7 +128,7 @@ IsRefinedFor loads sizes pes r = (tolerance : ℕ) × IsRefined loads sizes pes 
 abbrev pub refined_change : {A : Type 0} → Taken → Refined A → Change
 refined_change s r = change_by s (refined_least r).bottleneck (refined_cuts r) (refined_names r)
 
--- each of the elements with these loads is placed on one of so many PEs
+-- each of the elements with these loads is placed on one of this number of PEs
 pub record IsPlacement (loads places : List ℕ) (pes : ℕ) : Type 0 where
   pub paired : length places ≡ length loads
   pub placed : All (λ place. place < pes) places

@@ -42,7 +42,7 @@ abbrev pub value_text : Cell → List ℕ
 value_text Nothing = []
 value_text cell = cell_text cell
 
--- a cell of a table, at the right end of so many columns, and a blank
+-- a cell of a table, at the right end of this number of columns, and a blank
 abbrev pub aligned : ℕ × Cell → List ℕ
 aligned column =
     repeat (column.0 - length (cell_text column.1)) (codes " ") ++ cell_text column.1 ++ codes " "
@@ -123,12 +123,12 @@ abbrev pub move_lines : Bool → List ℕ → List (ℕ × ℕ) → ℕ → List
 move_lines csv name sizes pes moves =
     flat_map (λ move. line csv name (move_columns sizes pes move)) moves
 
--- the line of a placement on so many PEs, with what a decision for it changes
+-- the line of a placement on this number of PEs, with what a decision for it changes
 abbrev pub changed_line : Cell → Bool → List ℕ → Taken → ℕ → List ℕ → Change → List ℕ
 changed_line word csv name s pes places change =
     line csv name (placement_columns word s.step (spread_of s.loads places pes) (changes_of (spread_of s.loads places pes) change (traffic_of s places pes)))
 
--- the line of a decision for so many PEs
+-- the line of a decision for this number of PEs
 abbrev pub decision_line : {A : Type 0} → Cell → Bool → List ℕ → Taken → ℕ → Decision A → List ℕ
 decision_line word csv name s pes d =
     changed_line word csv name s pes (planned_places d.division.cuts d.naming (length s.sizes)) (change_of s d)
@@ -138,7 +138,7 @@ abbrev pub planned_text : {A : Type 0} → Style → List ℕ → Taken → ℕ 
 planned_text style name s pes d =
     if style.moves then move_lines style.csv name s.sizes pes d.moves else decision_line Planned style.csv name s pes d
 
--- the line of a decision for so many PEs within a tolerance
+-- the line of a decision for this number of PEs within a tolerance
 abbrev pub refined_line : {A : Type 0} → Bool → List ℕ → Taken → ℕ → Refined A → List ℕ
 refined_line csv name s pes r =
     changed_line Within csv name s pes (planned_places (refined_cuts r) (refined_names r) (length s.sizes)) (refined_change s r)

@@ -1,4 +1,4 @@
-//! What stands in a column of a report, and its text.
+//! What is in a column of a report, and its text.
 
 ghost use Rattle.std.specs.Prelude.{◌≡◌, ◌<◌, ◌^◌, IfOk};
 ghost use Rattle.std.specs.String.{string_bytes};
@@ -7,7 +7,7 @@ ghost use Rattle.load_report.specs.declared.cell.Cell.TheVariants.{Thousandths};
 
 use std::alloc::{AllocError, Allocator};
 
-/// What stands in a column of a report.
+/// What is in a column of a report.
 #[derive(Clone, Copy, Debug, PartialEq, Eq)]
 pub(crate) enum Cell {
     /// Nothing: the column does not apply.
@@ -24,7 +24,7 @@ pub(crate) enum Cell {
     Flawed,
     /// A number.
     Number(u64),
-    /// A number with three decimals, as so many thousandths.
+    /// A number with three decimals, in thousandths.
     Thousandths(u128),
 }
 

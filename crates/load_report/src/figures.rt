@@ -51,7 +51,7 @@ pub struct Change {
 }
 
 impl Spread {
-    /// How these elements spread their load over so many PEs: `places` has the PE of each, in order of index.
+    /// How these elements spread their load over this number of PEs: `places` has the PE of each, in order of index.
     pub fn of<A: Allocator>(loads: &Loads<A>, places: &[u32], pes: u32) -> Spread
         requires { IsPlacement loads.now places.now pes }
         ensures value { result ≡ spread_of loads.now places.now pes }
@@ -181,7 +181,7 @@ fn zeros_of(counts: &[u32], pes: u32) -> u32
 }
 
 impl Change {
-    /// What this decision changes, which is right for so many PEs.
+    /// What this decision changes, which is right for this number of PEs.
     pub fn of<A: Allocator, B: Allocator>(
         snapshot: &Snapshot<A>,
         decision: &Decision<B>,
@@ -198,7 +198,7 @@ impl Change {
         }
     }
 
-    /// What this decision changes, which is one for so many PEs within some tolerance.
+    /// What this decision changes, which is one for this number of PEs within some tolerance.
     #[tactic(auto, using(crate::proofs::RefinedPlaces::moves_are, crate::proofs::RefinedPlaces::moved_is))]
     pub fn of_refined<A: Allocator, B: Allocator>(
         snapshot: &Snapshot<A>,

@@ -7,7 +7,7 @@ ghost use Rattle.load_report.specs.Text.{aligned, line, quoted, quoted_byte, sep
 use crate::cell::{Cell, cell_text, value_text};
 use std::alloc::{AllocError, Allocator};
 
-/// The width of a column in a table, and what stands in it.
+/// The width of a column in a table, and what is in it.
 pub(crate) type Column = (usize, Cell);
 
 /// Adds a line about a file of this name.

@@ -1,4 +1,4 @@
-//! On which PE each element stands, and on which it is to run.
+//! On which PE each element is, and on which it is to run.
 
 ghost use Rattle.std.specs.Prelude.{◌≡◌, ◌<◌, ◌≤◌, All, IfOk, length};
 ghost use Rattle.lb_strategy.specs.Decisions.{IsRight};
@@ -12,7 +12,7 @@ use lb_refinement::Refined;
 use lb_strategy::Decision;
 use std::alloc::{AllocError, Allocator};
 
-/// The PE on which each element stands, in order of index.
+/// The PE on which each element is, in order of index.
 ///
 /// # Errors
 ///
@@ -31,7 +31,7 @@ pub fn present_places<A: Allocator, B: Allocator>(
     Ok(places)
 }
 
-/// The PE on which each element is to run, in order of index, by a decision that is right for so many PEs: the name of its
+/// The PE on which each element is to run, in order of index, by a decision that is right for this number of PEs: the name of its
 /// block.
 ///
 /// # Errors
@@ -56,7 +56,7 @@ pub fn planned_places<A: Allocator, B: Allocator, C: Allocator>(
     Ok(places)
 }
 
-/// The same by a decision for so many PEs within some tolerance.
+/// The same by a decision for this number of PEs within some tolerance.
 ///
 /// # Errors
 ///

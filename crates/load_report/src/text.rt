@@ -65,7 +65,7 @@ fn present_spread<A: Allocator, B: Allocator>(
     Ok(Spread::of(snapshot.loads(), &places, snapshot.procs()))
 }
 
-/// Adds what is said of a planned decision for so many PEs: its line, or those of the elements that it moves.
+/// Adds what is said of a planned decision for this number of PEs: its line, or those of the elements that it moves.
 ///
 /// # Errors
 ///
@@ -96,7 +96,7 @@ pub fn push_planned<A: Allocator + Copy, B: Allocator, C: Allocator>(
     )
 }
 
-/// Adds what is said of a decision for so many PEs within some tolerance: its line, or those of the elements that it moves.
+/// Adds what is said of a decision for this number of PEs within some tolerance: its line, or those of the elements that it moves.
 ///
 /// # Errors
 ///
@@ -126,7 +126,7 @@ pub fn push_refined<A: Allocator + Copy, B: Allocator, C: Allocator>(
     push_refined_line(text, style.csv, name, snapshot, pes, decision)
 }
 
-/// Adds the line of a decision that was recorded for so many PEs, where no moves are asked for: its figures if it is right,
+/// Adds the line of a decision that was recorded for this number of PEs, where no moves are asked for: its figures if it is right,
 /// and that it is flawed if it is not.
 ///
 /// # Errors
@@ -217,7 +217,7 @@ fn push_refined_line<A: Allocator + Copy, B: Allocator, C: Allocator>(
     )
 }
 
-// The line of a placement on so many PEs, with what a decision for it changes.
+// The line of a placement on this number of PEs, with what a decision for it changes.
 fn push_changed<A: Allocator + Copy, B: Allocator>(
     text: &mut Vec<u8, A>,
     word: Cell,

@@ -20,7 +20,7 @@ pub struct Traffic {
 }
 
 impl Traffic {
-    /// The traffic where the elements of a snapshot move to these places on so many PEs.
+    /// The traffic where the elements of a snapshot move to these places on this number of PEs.
     ///
     /// # Errors
     ///
@@ -60,7 +60,7 @@ fn moving<A: Allocator>(
     Ok(bytes)
 }
 
-// The bytes of an element that moves to this PE, and 0 where it stands there.
+// The bytes of an element that moves to this PE, and 0 where it is there.
 fn moved_bytes(size: (u32, Pe), place: u32) -> u64
     ensures { result ≡ moved_bytes size place }
 {

@@ -28,6 +28,7 @@ mod request;
 mod spelled;
 mod words;
 
+pub use program_words::{NO_WORDS, words_status};
 pub use request::Asked;
 pub use spelled::{NumbersError, numbers, refuse_numbers};
-pub use words::{NO_WORDS, asked, words_status};
+pub use words::asked;

@@ -3,8 +3,8 @@ ghost use Rattle.std.specs.String.{string_bytes};
 ghost use Rattle.report_command_line.specs.Numbers.{IsNumber, no_numbers_line, numerals, numerals_after};
 ghost use Rattle.streams.specs.Writing.{WritesPrefix};
 
-use crate::words::NO_WORDS;
 use chare_index::Limits;
+use program_words::NO_WORDS;
 use std::alloc::{AllocError, AllocFailed, Allocator};
 use std::io::Write;
 use streams::write_out;
@@ -47,8 +47,8 @@ pub fn numbers<A: Allocator + Copy>(alloc: A, text: &str) -> Result<Vec<u32, A>,
     Err(NumbersError::Spelling)
 }
 
-/// Tells that this text spells no numbers of PEs, and returns the status for that, [`NO_WORDS`]. Where memory is refused nothing
-/// is told.
+/// Writes that this text spells no numbers of PEs, and returns the status for that, [`NO_WORDS`]. Where memory is refused nothing
+/// is written.
 pub fn refuse_numbers<A: Allocator, W: Write>(alloc: A, writer: &mut W, text: &str) -> u8
     ensures told { WritesPrefix (W.contents writer.old) (W.contents writer.new) (no_numbers_line text.now) }
     ensures status { result ≡ NO_WORDS }

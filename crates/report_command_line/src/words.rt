@@ -1,31 +1,18 @@
 ghost use Rattle.std.specs.Option.{ForSome};
-ghost use Rattle.std.specs.Prelude.{◌≡◌, ◌≢◌, ◌≤◌, ◌⊎◌, ◌↔◌, ℕ, [], IfOk, IsTrue, Some, codes, map, option_map, pos, unwrap_or};
+ghost use Rattle.std.specs.Prelude.{◌≡◌, ◌≤◌, ◌↔◌, ℕ, [], IfOk, IsTrue, Some, codes, map, option_map, unwrap_or};
 ghost use Rattle.clap.specs.Built.{FitsChain};
-ghost use Rattle.clap.specs.Values.{kind_of};
 ghost use Rattle.clap.specs.Walk.{texts};
 ghost use Rattle.clap.specs.Words.{FailsBy, app_of, fault_of, first_value, found_of, matched_of, one_text, raw_values, rule_of};
-ghost use Rattle.clap.specs.declared.builder.value_parser.ValueParser.TheVariants.{Signed};
-ghost use Rattle.report_command_line.specs.CommandLine.{AsksCsv, AsksMoves, Spells, csv_rule, files_in, files_rule, moves_rule, procs_in};
-ghost use Rattle.report_command_line.specs.CommandLine.{procs_rule, program, tolerance_in, tolerance_rule};
-ghost use Rattle.clap.specs.declared.error.kind.ErrorKind.TheVariants.{DisplayHelp, DisplayVersion};
+ghost use Rattle.program_words.specs.Arguments.{SpellsTolerance, tolerance_rule};
+ghost use Rattle.report_command_line.specs.CommandLine.{AsksCsv, AsksMoves, csv_rule, files_in, files_rule, moves_rule, procs_in};
+ghost use Rattle.report_command_line.specs.CommandLine.{procs_rule, program, tolerance_in};
 
 use crate::help::{ABOUT, HOW_TO};
 use crate::request::Asked;
 use chain_refinement::Tolerance;
-use clap::builder::ValueParser;
-use clap::{Arg, ArgAction, ArgMatches, Command, Error, value_parser};
+use clap::{Arg, ArgAction, ArgMatches, Command, Error};
+use program_words::{flag, new_program, tolerance_in, word};
 use std::alloc::{AllocError, Global};
-
-/// The status where the words of the command line cannot be had, or are refused.
-pub const NO_WORDS: u8 = 2;
-
-/// The status where the words ask for no report: 0 for help or the version, and else [`NO_WORDS`].
-pub fn words_status(error: &Error) -> u8
-    ensures shown { (kind_of error.now ≡ DisplayHelp) ⊎ (kind_of error.now ≡ DisplayVersion) → result ≡ 0 }
-    ensures refused { (kind_of error.now ≢ DisplayHelp) → (kind_of error.now ≢ DisplayVersion) → result ≡ NO_WORDS }
-{
-    if error.use_stderr() { NO_WORDS } else { 0 }
-}
 
 /// Reads the words of a command line, the program's name first.
 ///
@@ -37,7 +24,7 @@ pub fn asked<'a>(alloc: Global, words: &'a [&'a str]) -> Result<Asked<'a>, Error
     ensures faults { FailsBy (fault_of program (texts words.now)) result }
     ensures files { IfOk result (λ asked. files_in (texts words.now) ≡ texts asked.files.items) }
     ensures procs { IfOk result (λ asked. procs_in (texts words.now) ≡ option_map (λ text. text.now) asked.procs) }
-    ensures tolerance { IfOk result (λ asked. (n : ℕ) → (asked.tolerance ≡ Some n) ↔ Spells (tolerance_in (texts words.now)) n) }
+    ensures tolerance { IfOk result (λ asked. (n : ℕ) → (asked.tolerance ≡ Some n) ↔ SpellsTolerance (tolerance_in (texts words.now)) n) }
     ensures most { IfOk result (λ asked. ForSome asked.tolerance (λ t. t ≤ Tolerance.MOST)) }
     ensures csv { IfOk result (λ asked. IsTrue asked.csv ↔ AsksCsv (texts words.now)) }
     ensures moves { IfOk result (λ asked. IsTrue asked.moves ↔ AsksMoves (texts words.now)) }
@@ -53,10 +40,7 @@ pub fn asked<'a>(alloc: Global, words: &'a [&'a str]) -> Result<Asked<'a>, Error
 fn command<'a>(alloc: Global) -> Result<Command<'a>, AllocError>
     ensures program { IfOk result (λ command. app_of command ≡ program) }
 {
-    let command = Command::new(alloc, "lb_report")
-        .version("0.2.0")
-        .about(ABOUT)
-        .after_help(HOW_TO);
+    let command = new_program(alloc, "lb_report", ABOUT, HOW_TO);
     let command = command.arg(files(alloc))?;
     let command = command.arg(procs(alloc))?;
     let command = command.arg(tolerance(alloc))?;
@@ -79,62 +63,49 @@ fn procs<'a>(alloc: Global) -> Arg<'a>
     ensures rule { rule_of result ≡ procs_rule }
     ensures fits { FitsChain result }
 {
-    Arg::new(alloc, "procs")
-        .long("procs")
-        .value_name("P[,P..]")
-        .help(
-            "Plans for each of these numbers of PEs, 1 to 256, in place{n}of the dump's own number",
-        )
-        .action(ArgAction::Set)
+    let help =
+        "Plans for each of these numbers of PEs, 1 to 256, in place{n}of the dump's own number";
+    word(alloc, "procs", "P[,P..]", help)
 }
 
 fn tolerance<'a>(alloc: Global) -> Arg<'a>
     ensures rule { rule_of result ≡ tolerance_rule }
     ensures fits { FitsChain result }
 {
-    Arg::new(alloc, "tolerance")
-        .long("tolerance")
-        .value_name("T")
-        .help(
-            "Reports also on the decision that moves fewer bytes where no{n}\
-             load is then above the least by more than T thousandths",
-        )
-        .action(ArgAction::Set)
-        .value_parser(thousandths())
+    program_words::tolerance(
+        alloc,
+        "Reports also on the decision that moves fewer bytes where no{n}\
+         load is then above the least by more than T thousandths",
+    )
 }
 
 fn csv<'a>(alloc: Global) -> Arg<'a>
     ensures rule { rule_of result ≡ csv_rule }
     ensures fits { FitsChain result }
 {
-    Arg::new(alloc, "csv")
-        .long("csv")
-        .help("Prints comma-separated values in place of a table")
-        .action(ArgAction::SetTrue)
+    flag(
+        alloc,
+        "csv",
+        "Prints comma-separated values in place of a table",
+    )
 }
 
 fn moves<'a>(alloc: Global) -> Arg<'a>
     ensures rule { rule_of result ≡ moves_rule }
     ensures fits { FitsChain result }
 {
-    Arg::new(alloc, "moves")
-        .long("moves")
-        .help("Lists the elements that move in place of the figures")
-        .action(ArgAction::SetTrue)
-}
-
-// A tolerance.
-fn thousandths<'a>() -> ValueParser<'a>
-    ensures { result ≡ Signed (pos 0) (pos Tolerance.MOST) }
-{
-    value_parser!(u32).range(0..=i64::from(Tolerance::MOST))
+    flag(
+        alloc,
+        "moves",
+        "Lists the elements that move in place of the figures",
+    )
 }
 
 // What the words ask for.
 fn found<'a>(alloc: Global, matches: &ArgMatches<'a>) -> Result<Asked<'a>, AllocError>
     ensures files { IfOk result (λ asked. unwrap_or (option_map raw_values (matched_of (found_of matches.now) (codes "file"))) [] ≡ texts asked.files.items) }
     ensures procs { IfOk result (λ asked. first_value (found_of matches.now) (codes "procs") ≡ option_map (λ text. text.now) asked.procs) }
-    ensures tolerance { IfOk result (λ asked. (n : ℕ) → (asked.tolerance ≡ Some n) ↔ Spells (one_text (found_of matches.now) (codes "tolerance")) n) }
+    ensures tolerance { IfOk result (λ asked. (n : ℕ) → (asked.tolerance ≡ Some n) ↔ SpellsTolerance (one_text (found_of matches.now) (codes "tolerance")) n) }
     ensures most { IfOk result (λ asked. ForSome asked.tolerance (λ t. t ≤ Tolerance.MOST)) }
     ensures csv { IfOk result (λ asked. IsTrue asked.csv ↔ (one_text (found_of matches.now) (codes "csv") ≡ Some (codes "true"))) }
     ensures moves { IfOk result (λ asked. IsTrue asked.moves ↔ (one_text (found_of matches.now) (codes "moves") ≡ Some (codes "true"))) }
@@ -143,7 +114,7 @@ fn found<'a>(alloc: Global, matches: &ArgMatches<'a>) -> Result<Asked<'a>, Alloc
     Ok(Asked {
         files,
         procs: matches.get_str("procs"),
-        tolerance: thousandths_in(matches),
+        tolerance: tolerance_in(matches),
         csv: matches.get_one("csv") == Some(true),
         moves: matches.get_one("moves") == Some(true),
     })
@@ -157,13 +128,4 @@ fn files_of<'a>(alloc: Global, matches: &ArgMatches<'a>) -> Result<Vec<&'a str>,
         Some(files) => Vec::from_slice(alloc, files),
         None => Ok(Vec::new(alloc)),
     }
-}
-
-// The tolerance asked for. clap refuses one out of range; here it would count as none.
-fn thousandths_in<'a>(matches: &ArgMatches<'a>) -> Option<u32>
-    ensures tolerance { (n : ℕ) → (result ≡ Some n) ↔ Spells (one_text (found_of matches.now) (codes "tolerance")) n }
-    ensures most { ForSome result (λ t. t ≤ Tolerance.MOST) }
-{
-    let number = matches.get_one::<u32>("tolerance");
-    number.filter(|&t| t <= Tolerance::MOST)
 }

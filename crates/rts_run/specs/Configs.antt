@@ -37,7 +37,7 @@ IsFirstOutside config n Of.ProbeWorkers =
     × ¬ (IsOneTo PROBE_WORKERS config.probe_workers)
 IsFirstOutside config n Of.Elements = IsWithin config × ¬ (n ≤ ELEMENTS)
 
--- a run of n elements does not begin where a number is out of its limits, and else only for want of memory
+-- a run of n elements does not begin where a number is out of its limits, and otherwise only where memory runs out
 abbrev pub RefusesRun : Config → ℕ → RunError → Type 0
 RefusesRun config n (Why.Config setting) = IsFirstOutside config n setting
 RefusesRun config n Why.OutOfMemory = MayBegin config n

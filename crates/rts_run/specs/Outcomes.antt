@@ -27,7 +27,7 @@ abbrev pub first_fault : List (Option Fault) → Option Fault
 first_fault [] = None
 first_fault (fault ∷ faults) = option_or fault (first_fault faults)
 
--- The outcome of a run of these chares on so many PEs. There is an end and a queue of each PE. The account holds, and every
+-- The outcome of a run of these chares on this number of PEs. There is an end and a queue of each PE. The account holds, and every
 -- element is what its journal says. The board is one of these chares on these PEs: each round was decided for a snapshot of
 -- all of them, by the strategy. The marks of the elements agree with the rounds exactly where the fault does
 -- not say otherwise; what was packed was unpacked; and without a fault the board has of every element that it has finished.

@@ -29,7 +29,7 @@ pub struct Config {
 }
 
 impl Config {
-    /// The usual numbers of a run on so many PEs, 1 to [`Limits::PES`]: queues with room for 1,024 parcels, up to 4 workers that
+    /// The usual numbers of a run on this number of PEs, 1 to [`Limits::PES`]: queues with room for 1,024 parcels, up to 4 workers that
     /// decide a round, by [`Strategy::Least`], and workers that give up after 1,000,000,000 idle turns in a row, so after some
     /// five minutes: a program whose handlers take as long sets [`turns`](Config::turns) higher.
     pub fn usual(pes: u32) -> Self
@@ -58,7 +58,7 @@ impl Config {
             && 1 <= self.probe_workers
             && self.probe_workers <= Limits::PROBE_WORKERS
     }
-    /// The first number that is out of its limits in a run of so many elements, of which there may be up to
+    /// The first number that is out of its limits in a run of this number of elements, of which there may be up to
     /// [`Limits::ELEMENTS`]; or `None` where each is within.
     pub fn first_outside(&self, elements: usize) -> Option<Setting>
         ensures answer { MatchOption result (MayBegin self.now elements) (IsFirstOutside self.now elements) }

@@ -30,9 +30,9 @@ mod config;
 mod counting;
 mod error;
 mod gathering;
-mod opening;
 mod outcome;
 mod running;
+mod workers;
 
 pub use at_sync::Strategy;
 pub use chain_refinement::Tolerance;

@@ -81,7 +81,7 @@ impl<C: Chare<A>, A: Allocator> Outcome<C, A> {
         &self.ends
     }
 
-    /// The element with this index, on the PE where it stands; `None` where there is none, or it is on its way, packed: as a
+    /// The element with this index, on the PE where it is; `None` where there is none, or it is on its way, packed: as a
     /// fault ended the run, or as the last element finished. It is looked for on one PE after another.
     pub fn element(&self, index: Index) -> Option<&Element<C, A>>
         ensures value { option_copied result ≡ element_on index self.now.ends }
@@ -180,7 +180,7 @@ impl<C: Chare<A>, A: Allocator> Outcome<C, A> {
     }
 }
 
-// The element with this index, on the first of these PEs where one stands.
+// The element with this index, on the first of these PEs that has it.
 fn element_on<C: Chare<A>, A: Allocator>(
     ends: &[PeEnd<C, A>],
     index: Index,

@@ -6,7 +6,7 @@ pub record BufferView : Type 0 where
   pub queues : ℕ
   pub capacity : ℕ
 
--- an empty list for each queue, with capacity for so many parcels, and an empty one with capacity for all of these
+-- an empty list for each queue, with this capacity, and an empty one with capacity for all of these
 pub record AreBuffers {X A B : Type 0} (capacity : ℕ) (buffers : List (Vec X A)) (left : Vec (Vec X A) B) : Type 0 where
   pub each : All (λ (room : Vec X A). (room.items ≡ []) × (capacity ≤ vec_capacity room)) buffers
   pub empty : left.items ≡ []

@@ -7,7 +7,7 @@ ghost use Rattle.rts_core.specs.Histories.{AreHistories};
 ghost use Rattle.rts_core.specs.Worlds.{opening_pes};
 ghost use Rattle.run_account.specs.RunAccounts.{IsRunAccount, left_world};
 
-use crate::left::LeftBuffers;
+use crate::left_buffers::LeftBuffers;
 use chares::{Chare, Openings};
 use pe_queues::{Post, Seat};
 use pe_state::{HeldParcel, Parcel, PeEnd};

@@ -6,9 +6,9 @@
 #![tactic(auto)]
 
 mod gathered;
-mod left;
-mod taking;
+mod left_buffers;
+mod next_owner;
 
 pub use gathered::Gathered;
-pub use left::LeftBuffers;
-pub use taking::take_next;
+pub use left_buffers::LeftBuffers;
+pub use next_owner::take_next;

@@ -2,87 +2,40 @@
 -- [--seeds N] [--events FILE] [--replay FILE] [--trace FILE] FILE`.
 use Rattle.std.specs.Prelude.{ℕ, ◌≡◌, ◌≤◌, List, [], ◌∷◌, ◌++◌, Option, None, Some, codes, pos, true}
 use Rattle.std.specs.Str.Parse.{IsNumeral, digits_value, without_leading_plus}
-use Rattle.clap.specs.Words.{App, Rule, Text, first_of, matches_of, new_app, new_rule, one_of, with_rule}
-use Rattle.clap.specs.declared.builder.action.ArgAction.TheVariants.{Set, SetTrue}
+use Rattle.clap.specs.Words.{App, Rule, Text, first_of, matches_of, one_of, with_rule}
 use Rattle.clap.specs.declared.builder.value_parser.ValueParser.TheVariants.{Signed, Unsigned}
+use Rattle.program_words.specs.Arguments.{file_rule, flag_rule, tolerance_rule, versioned, word_rule}
 use Rattle.run_command_line.specs.declared.request.Clash.{Clash}
 use Rattle.run_command_line.specs.declared.request.Clash.TheVariants.{SeedAndSeeds, SeedAndReplay, SeedsAndReplay, EventsWithoutSeed, SeedsAndDump, SeedsAndTrace}
 
--- the workload, which has to be named
-abbrev pub file_rule : Rule
-file_rule = record (new_rule (codes "file")) {
-  action = Some Set;
-  value_names = 1;
-  required = true;
-}
-
 -- how the names of the files begin to which the dumps go
 abbrev pub dump_rule : Rule
-dump_rule = record (new_rule (codes "dump")) {
-  long = Some (codes "dump");
-  action = Some Set;
-  value_names = 1;
-}
+dump_rule = word_rule (codes "dump")
 
 -- two flags, which take no word
 abbrev pub lbd1_rule : Rule
-lbd1_rule = record (new_rule (codes "lbd1")) { long = Some (codes "lbd1"); action = Some SetTrue }
+lbd1_rule = flag_rule (codes "lbd1")
 
 abbrev pub progress_rule : Rule
-progress_rule = record (new_rule (codes "progress")) { long = Some (codes "progress"); action = Some SetTrue }
-
--- thousandths by which the greatest load of a PE may lie above the least possible one
-abbrev pub tolerance_rule : Rule
-tolerance_rule = record (new_rule (codes "tolerance")) {
-  long = Some (codes "tolerance");
-  action = Some Set;
-  value_names = 1;
-  parser = Some (Signed (pos 0) (pos 1000));
-}
+progress_rule = flag_rule (codes "progress")
 
 -- the seed of a run on one thread
 abbrev pub seed_rule : Rule
-seed_rule = record (new_rule (codes "seed")) {
-  long = Some (codes "seed");
-  action = Some Set;
-  value_names = 1;
-  parser = Some (Unsigned 0 18446744073709551615);
-}
+seed_rule = record (word_rule (codes "seed")) { parser = Some (Unsigned 0 18446744073709551615) }
 
 -- how many seeds are run
 abbrev pub seeds_rule : Rule
-seeds_rule = record (new_rule (codes "seeds")) {
-  long = Some (codes "seeds");
-  action = Some Set;
-  value_names = 1;
-  parser = Some (Signed (pos 1) (pos 1000000));
-}
+seeds_rule = record (word_rule (codes "seeds")) { parser = Some (Signed (pos 1) (pos 1000000)) }
 
 -- the file that a list of events goes to, that which has one, and the file that a trace goes to
 abbrev pub events_rule : Rule
-events_rule = record (new_rule (codes "events")) {
-  long = Some (codes "events");
-  action = Some Set;
-  value_names = 1;
-}
+events_rule = word_rule (codes "events")
 
 abbrev pub replay_rule : Rule
-replay_rule = record (new_rule (codes "replay")) {
-  long = Some (codes "replay");
-  action = Some Set;
-  value_names = 1;
-}
+replay_rule = word_rule (codes "replay")
 
 abbrev pub trace_rule : Rule
-trace_rule = record (new_rule (codes "trace")) {
-  long = Some (codes "trace");
-  action = Some Set;
-  value_names = 1;
-}
-
--- the program before its words are declared: it has a version
-abbrev pub versioned : App
-versioned = let plain = new_app (codes "charm_run") in record plain { top = record plain.top { has_version = true } }
+trace_rule = word_rule (codes "trace")
 
 -- with the words for runs on one thread
 abbrev pub with_schedules : App → App
@@ -91,7 +44,7 @@ with_schedules app =
 
 -- the program with its words, to which clap adds those that ask for help and for the version
 abbrev pub program : App
-program = with_schedules (with_rule (with_rule (with_rule (with_rule (with_rule versioned file_rule) dump_rule) lbd1_rule) progress_rule) tolerance_rule)
+program = with_schedules (with_rule (with_rule (with_rule (with_rule (with_rule (versioned (codes "charm_run")) file_rule) dump_rule) lbd1_rule) progress_rule) tolerance_rule)
 
 -- the word that names the file
 abbrev pub file_in : List Text → Option Text
@@ -132,11 +85,6 @@ abbrev pub SpellsSeeds : Option Text → ℕ → Type 0
 SpellsSeeds None n = ⊥
 SpellsSeeds (Some word) n = IsNumeral 10 (without_leading_plus word) × (n ≡ digits_value 10 (without_leading_plus word)) × (1 ≤ n) × (n ≤ 1000000)
 
--- the word spells a tolerance that there may be
-abbrev pub SpellsTolerance : Option Text → ℕ → Type 0
-SpellsTolerance None n = ⊥
-SpellsTolerance (Some word) n = IsNumeral 10 (without_leading_plus word) × (n ≡ digits_value 10 (without_leading_plus word)) × (n ≤ 1000)
-
 -- the words have this flag, which clap reads as the text `true`, and a flag that is not there as `false`
 abbrev pub AsksLbd1 : List Text → Type 0
 AsksLbd1 words = one_of (codes "lbd1") (matches_of program words) ≡ Some (codes "true")
@@ -144,7 +92,7 @@ AsksLbd1 words = one_of (codes "lbd1") (matches_of program words) ≡ Some (code
 abbrev pub TellsProgress : List Text → Type 0
 TellsProgress words = one_of (codes "progress") (matches_of program words) ≡ Some (codes "true")
 
--- the line that tells which options do not go together, or which one is lacking
+-- the line for options that do not go together, or of which one is missing
 abbrev pub clash_line : Clash → List ℕ
 clash_line SeedAndSeeds = codes "charm_run: --seed and --seeds" ++ 10 ∷ []
 clash_line SeedAndReplay = codes "charm_run: --seed and --replay" ++ 10 ∷ []

@@ -24,5 +24,6 @@ mod help;
 mod request;
 mod words;
 
+pub use program_words::{NO_WORDS, words_status};
 pub use request::{Asked, Clash, Task};
-pub use words::{NO_WORDS, asked, refuse, words_status};
+pub use words::{asked, refuse};

@@ -33,7 +33,7 @@ pub enum Task<'a> {
     Threads,
     /// On one thread, in the order of events that this seed decides.
     Seed(u64),
-    /// The same by each of so many seeds, from 1 on.
+    /// The same by each of the seeds from 1 to this number.
     Seeds(u32),
     /// On one thread, by the list of events in the file of this name.
     Replay(&'a str),

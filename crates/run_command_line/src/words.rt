@@ -1,37 +1,25 @@
-ghost use Rattle.std.specs.Prelude.{◌≡◌, ◌≢◌, ◌≤◌, ◌⊎◌, ◌↔◌, ℕ, IfOk, IsTrue, Some, codes, is_some, option_map, pos, true};
+ghost use Rattle.std.specs.Prelude.{◌≡◌, ◌≤◌, ◌↔◌, ℕ, IfOk, IsTrue, Some, codes, is_some, option_map, pos, true};
 ghost use Rattle.std.specs.Option.{ForSome};
 ghost use Rattle.clap.specs.Built.{FitsChain, TakesValue};
-ghost use Rattle.clap.specs.Values.{kind_of};
 ghost use Rattle.clap.specs.Walk.{texts};
 ghost use Rattle.clap.specs.Words.{FailsBy, app_of, fault_of, first_value, found_of, one_text, rule_of};
-ghost use Rattle.streams.specs.Writing.{WritesPrefix};
-ghost use Rattle.run_command_line.specs.CommandLine.{AsksLbd1, SpellsSeed, SpellsSeeds, SpellsTolerance, TellsProgress, clash_line, dump_in, events_in, file_in, lbd1_rule};
-ghost use Rattle.run_command_line.specs.CommandLine.{dump_rule, events_rule, file_rule, program, progress_rule, replay_in, replay_rule, seed_in, seed_rule, seeds_in, seeds_rule};
-ghost use Rattle.run_command_line.specs.CommandLine.{tolerance_in, tolerance_rule, trace_in, trace_rule, with_schedules};
-ghost use Rattle.run_command_line.specs.Internal.{IsBare, NamesFile};
 ghost use Rattle.clap.specs.declared.builder.value_parser.ValueParser.TheVariants.{Signed, Unsigned};
-ghost use Rattle.clap.specs.declared.error.kind.ErrorKind.TheVariants.{DisplayHelp, DisplayVersion};
+ghost use Rattle.program_words.specs.Arguments.{NamesFile, SpellsTolerance, file_rule, tolerance_rule};
+ghost use Rattle.streams.specs.Writing.{WritesPrefix};
+ghost use Rattle.run_command_line.specs.CommandLine.{AsksLbd1, SpellsSeed, SpellsSeeds, TellsProgress, clash_line, dump_in, events_in, file_in, lbd1_rule};
+ghost use Rattle.run_command_line.specs.CommandLine.{dump_rule, events_rule, program, progress_rule, replay_in, replay_rule, seed_in, seed_rule, seeds_in, seeds_rule};
+ghost use Rattle.run_command_line.specs.CommandLine.{tolerance_in, trace_in, trace_rule, with_schedules};
 
 use crate::help::{ABOUT, HOW_TO};
 use crate::request::{Asked, Clash};
 use clap::builder::ValueParser;
-use clap::{Arg, ArgAction, ArgMatches, Command, Error, value_parser};
+use clap::{Arg, ArgMatches, Command, Error, value_parser};
+use program_words::{NO_WORDS, flag, new_program, tolerance_in, word};
 use std::alloc::{AllocError, Global};
 use std::io::Write;
 use streams::write_out;
 
-/// The status where the words of the command line cannot be had, or are refused.
-pub const NO_WORDS: u8 = 2;
-
-/// The status where the words ask for no run: 0 for help or the version, and else [`NO_WORDS`].
-pub fn words_status(error: &Error) -> u8
-    ensures shown { (kind_of error.now ≡ DisplayHelp) ⊎ (kind_of error.now ≡ DisplayVersion) → result ≡ 0 }
-    ensures refused { (kind_of error.now ≢ DisplayHelp) → (kind_of error.now ≢ DisplayVersion) → result ≡ NO_WORDS }
-{
-    if error.use_stderr() { NO_WORDS } else { 0 }
-}
-
-/// Tells which options do not go together, and returns the status for that, [`NO_WORDS`].
+/// Writes which options do not go together, and returns the status for that, [`NO_WORDS`].
 pub fn refuse<W: Write>(writer: &mut W, clash: Clash) -> u8
     ensures told { WritesPrefix (W.contents writer.old) (W.contents writer.new) (clash_line clash) }
     ensures status { result ≡ NO_WORDS }
@@ -40,7 +28,7 @@ pub fn refuse<W: Write>(writer: &mut W, clash: Clash) -> u8
     NO_WORDS
 }
 
-// The line that tells of these options.
+// The line for these options.
 fn line_of(clash: Clash) -> &'static str
     ensures { result.now ≡ clash_line clash }
 {
@@ -90,7 +78,8 @@ fn command<'a>(alloc: Global) -> Result<Command<'a>, AllocError>
     ensures program { IfOk result (λ command. app_of command ≡ program) }
     ensures named { IfOk result NamesFile }
 {
-    let command = bare(alloc).arg(file(alloc))?;
+    let command = new_program(alloc, "charm_run", ABOUT, HOW_TO);
+    let command = command.arg(file(alloc))?;
     let command = command.arg(dump(alloc))?;
     let command = command.arg(lbd1(alloc))?;
     let command = command.arg(progress(alloc))?;
@@ -102,147 +91,120 @@ fn command<'a>(alloc: Global) -> Result<Command<'a>, AllocError>
     command.arg(trace(alloc))
 }
 
-// The program before its words are declared.
-fn bare<'a>(alloc: Global) -> Command<'a>
-    ensures { IsBare result }
-{
-    Command::new(alloc, "charm_run")
-        .version("0.2.0")
-        .about(ABOUT)
-        .after_help(HOW_TO)
-}
-
 fn file<'a>(alloc: Global) -> Arg<'a>
     ensures rule { rule_of result ≡ file_rule }
     ensures fits { FitsChain result }
     ensures takes { TakesValue result }
 {
-    Arg::new(alloc, "file")
-        .value_name("FILE")
-        .help("A workload: its lines are pes, rounds, pad, chares,{n}and amounts for each round")
-        .required(true)
-        .action(ArgAction::Set)
+    program_words::file(
+        alloc,
+        "A workload: its lines are pes, rounds, pad, chares,{n}and amounts for each round",
+    )
 }
 
 fn dump<'a>(alloc: Global) -> Arg<'a>
     ensures rule { rule_of result ≡ dump_rule }
     ensures fits { FitsChain result }
 {
-    Arg::new(alloc, "dump")
-        .long("dump")
-        .value_name("PREFIX")
-        .help(
-            "Writes the dump of round r to the file PREFIX.r: its{n}\
-             snapshot, and the decision with its certificates.{n}\
-             lb_sim PREFIX.r replays the snapshot, and{n}\
-             lb_sim --check PREFIX.r checks the decision",
-        )
-        .action(ArgAction::Set)
+    word(
+        alloc,
+        "dump",
+        "PREFIX",
+        "Writes the dump of round r to the file PREFIX.r: its{n}\
+         snapshot, and the decision with its certificates.{n}\
+         lb_sim PREFIX.r replays the snapshot, and{n}\
+         lb_sim --check PREFIX.r checks the decision",
+    )
 }
 
 fn lbd1<'a>(alloc: Global) -> Arg<'a>
     ensures rule { rule_of result ≡ lbd1_rule }
     ensures fits { FitsChain result }
 {
-    Arg::new(alloc, "lbd1")
-        .long("lbd1")
-        .help(
-            "With --dump, writes the snapshots alone, in the format{n}LBD1, whose loads are below 2^32",
-        )
-        .action(ArgAction::SetTrue)
+    flag(
+        alloc,
+        "lbd1",
+        "With --dump, writes the snapshots alone, in the format{n}LBD1, whose loads are below 2^32",
+    )
 }
 
 fn progress<'a>(alloc: Global) -> Arg<'a>
     ensures rule { rule_of result ≡ progress_rule }
     ensures fits { FitsChain result }
 {
-    Arg::new(alloc, "progress")
-        .long("progress")
-        .help("Tells the progress of the run on standard error,{n}also where that is no terminal")
-        .action(ArgAction::SetTrue)
+    flag(
+        alloc,
+        "progress",
+        "Tells the progress of the run on standard error,{n}also where that is no terminal",
+    )
 }
 
 fn tolerance<'a>(alloc: Global) -> Arg<'a>
     ensures rule { rule_of result ≡ tolerance_rule }
     ensures fits { FitsChain result }
 {
-    Arg::new(alloc, "tolerance")
-        .long("tolerance")
-        .value_name("T")
-        .help(
-            "Lets the greatest load of a PE lie up to T thousandths{n}\
+    program_words::tolerance(
+        alloc,
+        "Lets the greatest load of a PE lie up to T thousandths{n}\
              above the least possible one, so that fewer bytes{n}\
              move; 0 to 1000",
-        )
-        .action(ArgAction::Set)
-        .value_parser(thousandths())
+    )
 }
 
 fn seed<'a>(alloc: Global) -> Arg<'a>
     ensures rule { rule_of result ≡ seed_rule }
     ensures fits { FitsChain result }
 {
-    Arg::new(alloc, "seed")
-        .long("seed")
-        .value_name("S")
-        .help(
-            "Runs the chares on one thread, in the order of events{n}\
-             that the seed S decides, and so as often as wanted",
-        )
-        .action(ArgAction::Set)
-        .value_parser(any_number())
+    let help = "Runs the chares on one thread, in the order of events{n}\
+                that the seed S decides, and so as often as wanted";
+    word(alloc, "seed", "S", help).value_parser(any_number())
 }
 
 fn seeds<'a>(alloc: Global) -> Arg<'a>
     ensures rule { rule_of result ≡ seeds_rule }
     ensures fits { FitsChain result }
 {
-    Arg::new(alloc, "seeds")
-        .long("seeds")
-        .value_name("N")
-        .help(
-            "Runs the chares so by each of the seeds 1 to N, and{n}\
-             prints those whose run ends in a fault or leaves{n}\
-             letters, and how many there are; N is 1 to 1000000",
-        )
-        .action(ArgAction::Set)
-        .value_parser(number_of_seeds())
+    let help = "Runs the chares so by each of the seeds 1 to N, and{n}\
+                prints those whose run ends in a fault or leaves{n}\
+                letters, and how many there are; N is 1 to 1000000";
+    word(alloc, "seeds", "N", help).value_parser(number_of_seeds())
 }
 
 fn events<'a>(alloc: Global) -> Arg<'a>
     ensures rule { rule_of result ≡ events_rule }
     ensures fits { FitsChain result }
 {
-    Arg::new(alloc, "events")
-        .long("events")
-        .value_name("LIST")
-        .help("With --seed, writes the events of the run to the file{n}LIST, a line each")
-        .action(ArgAction::Set)
+    word(
+        alloc,
+        "events",
+        "LIST",
+        "With --seed, writes the events of the run to the file{n}LIST, a line each",
+    )
 }
 
 fn replay<'a>(alloc: Global) -> Arg<'a>
     ensures rule { rule_of result ≡ replay_rule }
     ensures fits { FitsChain result }
 {
-    Arg::new(alloc, "replay")
-        .long("replay")
-        .value_name("LIST")
-        .help("Runs the chares on one thread by the events in the{n}file LIST")
-        .action(ArgAction::Set)
+    word(
+        alloc,
+        "replay",
+        "LIST",
+        "Runs the chares on one thread by the events in the{n}file LIST",
+    )
 }
 
 fn trace<'a>(alloc: Global) -> Arg<'a>
     ensures rule { rule_of result ≡ trace_rule }
     ensures fits { FitsChain result }
 {
-    Arg::new(alloc, "trace")
-        .long("trace")
-        .value_name("TRACE")
-        .help(
-            "Writes what happened to the file TRACE, in the Trace{n}\
-             Event Format that viewers show",
-        )
-        .action(ArgAction::Set)
+    word(
+        alloc,
+        "trace",
+        "TRACE",
+        "Writes what happened to the file TRACE, in the Trace{n}\
+         Event Format that viewers show",
+    )
 }
 
 // Any number of 64 bits.
@@ -257,13 +219,6 @@ fn number_of_seeds<'a>() -> ValueParser<'a>
     ensures { result ≡ Signed (pos 1) (pos 1000000) }
 {
     value_parser!(u32).range(1..=1_000_000)
-}
-
-// A number of thousandths.
-fn thousandths<'a>() -> ValueParser<'a>
-    ensures { result ≡ Signed (pos 0) (pos 1000) }
-{
-    value_parser!(u32).range(0..=1_000)
 }
 
 // What the words ask for.
@@ -295,15 +250,6 @@ fn found<'a>(matches: &ArgMatches<'a>) -> Asked<'a>
         replay: matches.get_str("replay"),
         trace: matches.get_str("trace"),
     }
-}
-
-// The tolerance asked for. clap refuses one out of range; here it would count as none.
-fn tolerance_in<'a>(matches: &ArgMatches<'a>) -> Option<u32>
-    ensures tolerance { (n : ℕ) → (result ≡ Some n) ↔ SpellsTolerance (one_text (found_of matches.now) (codes "tolerance")) n }
-    ensures range { ForSome result (λ t. t ≤ 1000) }
-{
-    let number = matches.get_one::<u32>("tolerance");
-    number.filter(|&t| t <= 1_000)
 }
 
 // The seed asked for.

@@ -35,7 +35,7 @@ impl<A: Allocator> Row<A> {
         self.began = now.unwrap_or(self.began);
     }
 
-    /// The PE made this step, after which it has posted so many letters.
+    /// The PE made this step, after which it has posted this number of letters.
     pub(crate) fn end(&mut self, pe: Pe, step: PeStep, posted: u64, now: Option<u64>) {
         let now = now.unwrap_or(self.began);
         let at = match step {
@@ -66,7 +66,8 @@ impl<A: Allocator> Row<A> {
 
     /// Keeps what happened, behind the rest; or notes that it is missing.
     pub(crate) fn note(&mut self, happening: Happening)
-        ensures kept { MatchBool self.new.is_short (self.new.happenings.items ≡ self.old.happenings.items) (self.new.happenings.items ≡ self.old.happenings.items ++ happening ∷ []) }
+        ensures kept { MatchBool self.new.is_short (self.new.happenings.items ≡ self.old.happenings.items)
+            (self.new.happenings.items ≡ self.old.happenings.items ++ happening ∷ []) }
     {
         if self.is_short || self.happenings.push(happening).is_err() {
             self.is_short = true;

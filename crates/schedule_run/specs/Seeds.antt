@@ -25,7 +25,7 @@ IsVerdict {C} A step fits pack unpack chares pes strategy v =
     (x : ExploredView C A) × IsExplored step fits pack unpack chares pes strategy x × (v.fault ≡ x.outcome.fault)
     × (v.held ≡ held_count (left_by x))
 
--- the line of a run by this seed that a fault ended, with so many letters left; there is none of another
+-- the line of a run by this seed that a fault ended, with this number of letters left; there is none of another
 abbrev pub fault_line : ℕ → ℕ → Option Fault → List ℕ
 fault_line seed held None = []
 fault_line seed held (Some fault) =
@@ -57,7 +57,7 @@ seeds_text verdicts = fault_lines 1 verdicts ++ count_line (length verdicts) (fa
 abbrev pub fault_of_first : List Verdict → Option Fault
 fault_of_first verdicts = first_fault (map (λ v. v.fault) verdicts)
 
--- The workload was run by each of so many seeds, and the text of that was written, or a prefix of it; or memory was refused, and
+-- The workload was run by each of the seeds from 1 to this number, and the text of that was written, or a prefix of it; or memory was refused, and
 -- the line for that was written, or a prefix of it.
 abbrev pub TriesSeeds : (A : Type 0) → (TallyView → Type 0) → Unpack → WorkloadView → Strategy → ℕ → Option (List ℕ) → Option (List ℕ) → Ended → Type 0
 TriesSeeds A fits unpack w strategy seeds old new ended =

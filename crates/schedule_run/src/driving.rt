@@ -66,7 +66,7 @@ pub fn drive_events<W: Write, A: Allocator + Copy>(
     }
 }
 
-// Writes the text of what a run of so many chares left.
+// Writes the text of what a run of this number of chares left.
 fn told<W: Write, A: Allocator + Copy>(
     alloc: A,
     chares: usize,

@@ -28,15 +28,15 @@ mod driving;
 mod list_fault;
 mod lists;
 mod on_one;
-mod opening;
 mod running;
 mod seeds;
 mod verdict;
+mod workload_file;
 
 pub use driving::{drive_events, drive_seed};
 pub use list_fault::{ListFault, report_list};
 pub use lists::{read_list, write_list};
 pub use on_one::DrivenOnOne;
-pub use opening::read_workload;
 pub use running::{follow, search};
 pub use seeds::drive_seeds;
+pub use workload_file::read_workload;

@@ -2,11 +2,26 @@
 
 use std::test::Fail;
 
-// command_line
+// program_words
+#[test]
+fn words_of_a_program(rt: HostRuntime) -> Result<(), Fail> {
+    let alloc = rt.alloc();
+    use program_words::{flag, new_program, tolerance, tolerance_in};
+
+    let command = new_program(alloc, "count", "Counts lines", "See count(1).");
+    let command = command.arg(flag(alloc, "all", "Counts empty lines too"))?;
+    let command = command.arg(tolerance(alloc, "How many may be missing"))?;
+    let words = ["count", "--all", "--tolerance", "20"];
+    let found = command.try_get_matches_from(&words).ok().ok_or("refused")?;
+    assert!(rt; tolerance_in(&found) == Some(20));
+    Ok(())
+}
+
+// sim_command_line
 #[test]
 fn words_of_lb_sim(rt: HostRuntime) -> Result<(), Fail> {
     let alloc = rt.alloc();
-    use command_line::{NO_WORDS, asked, words_status};
+    use sim_command_line::{NO_WORDS, asked, words_status};
 
     let words = ["lb_sim", "--procs", "2", "steps.lbd1"];
     let asked_for = asked(alloc, &words).ok().ok_or("refused")?;

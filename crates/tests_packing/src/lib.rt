@@ -5,6 +5,6 @@
 #[cfg(test)]
 mod fixtures;
 #[cfg(test)]
-mod opening;
+mod opening_pes;
 #[cfg(test)]
 mod packing;

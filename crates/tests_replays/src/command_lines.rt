@@ -1,8 +1,8 @@
 //! Command lines: what their words ask for, what is to be done, and the status where they ask for nothing.
 
 use crate::fixtures::{assert_for, same};
-use command_line::{asked, refuse_both, words_status};
 use lb_replay::{Clash, Task};
+use sim_command_line::{asked, refuse_both, words_status};
 use std::alloc::Global;
 
 // Words that ask for a replay.

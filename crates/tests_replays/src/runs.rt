@@ -10,9 +10,9 @@ use lb_strategy::PlanError;
 use std::io::{self, ErrorKind, Read};
 use tests_fixtures::{EXAMPLE_DUMP, Sink, Source};
 
-// Whether a run had this status and no reason, and wrote this text.
-fn is_status(found: (u8, Option<io::Error>), written: &[u8], status: u8, text: &str) -> bool {
-    found.0 == status && found.1.is_none() && same(written, text)
+// Whether a run had an end of this status and no reason, and wrote this text.
+fn is_status(found: (Ended, Option<io::Error>), written: &[u8], status: u8, text: &str) -> bool {
+    found.0.status() == status && found.1.is_none() && same(written, text)
 }
 
 // Whether a run on these bytes writes this text and has this status and no reason.
@@ -81,10 +81,10 @@ fn is_unwritten(rt: &impl AllocGlobal, task: Task, bytes: &[u8]) -> bool
     requires { MayRun task }
 {
     let mut writer = Sink::new(rt, 1, 0, None);
-    let (status, reason) = run(rt.alloc(), task, Ok(bytes), &mut writer);
+    let (ended, reason) = run(rt.alloc(), task, Ok(bytes), &mut writer);
     let taken = writer.taken.len();
     drop(writer);
-    status == 5 && reason.is_none() && taken == 0
+    ended.status() == 5 && reason.is_none() && taken == 0
 }
 
 #[test]
@@ -103,8 +103,8 @@ fn tells_failure<R: Read + Drop>(
     requires { MayRun task }
 {
     let mut written = Vec::new(rt.alloc());
-    let (status, reason) = run(rt.alloc(), task, file, &mut written);
-    let told = status == 3 && same(&written, "dump: read failed\n");
+    let (ended, reason) = run(rt.alloc(), task, file, &mut written);
+    let told = ended == Ended::Dump(DumpError::Read) && same(&written, "dump: read failed\n");
     drop(written);
     told && kind(reason) == Some(expected)
 }

@@ -13,7 +13,7 @@ mod example;
 #[cfg(test)]
 mod fixtures;
 #[cfg(test)]
-mod opening;
+mod open_worlds;
 #[cfg(test)]
 mod random;
 #[cfg(test)]

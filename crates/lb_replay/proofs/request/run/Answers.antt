@@ -1,5 +1,4 @@
 use Rattle.lb_replay.proofs.request.run.Goals as goal
 
-pub returns-clause-status : goal.returns-clause-status
-returns-clause-status g c =
-    (c.done-ended.result.0, c.status.ensures.value, c.done-ended.ensures.opened, c.done-ended.ensures.unopened)
+pub returns-in-Replay-clause-opened : goal.returns-in-Replay-clause-opened
+returns-in-Replay-clause-opened g c = rw c.in-Replay.is c.replay_file.ensures.opened

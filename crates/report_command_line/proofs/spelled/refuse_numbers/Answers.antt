@@ -4,7 +4,7 @@ use Rattle.std.specs.Io.KnownBytes.{Appends}
 use Rattle.std.specs.String.{string_bytes}
 use Rattle.streams.specs.Writing.{WritesPrefix}
 use Rattle.report_command_line.specs.Numbers.{no_numbers_line}
-use Rattle.report_command_line.proofs.Tellings.{at_most_written}
+use Rattle.program_words.proofs.Tellings.{at_most_written}
 use Rattle.report_command_line.proofs.spelled.refuse_numbers.Goals as goal
 
 -- a text between two others, in one piece or in several

@@ -1,12 +1,13 @@
-use Rattle.std.proofs.Common.{◌≡◌, ◌∙◌, ap, subst, refl, sym, true, List, [], Result, Ok, Err, codes}
+use Rattle.std.proofs.Common.{◌≡◌, ◌∙◌, refl, sym, true, Ok, Err, codes, Some, ap, []}
 use Rattle.std.specs.Prelude.{unwrap_or}
 use Rattle.clap.specs.Walk.{texts}
-use Rattle.clap.specs.Words.{App, FailsBy, HasMatchesOf, Text, all_of, fault_of, first_of, found_of, is_simple, is_simple_and_free, matches_of, one_of, rows_of}
-use Rattle.clap.specs.declared.error.Error.{Error}
+use Rattle.clap.specs.Words.{all_of, found_of, is_simple, is_simple_and_free}
 use Rattle.clap.specs.declared.parser.matches.ArgMatches.{ArgMatches}
 use Rattle.clap.proofs.OnLiterals.{clap_on_literals}
-use Rattle.clap.proofs.WalkLemmas.{first_value-rows, one_text-rows, raw_values-rows}
-use Rattle.report_command_line.specs.CommandLine.{Spells, program}
+use Rattle.clap.proofs.WalkLemmas.{raw_values-rows}
+use Rattle.program_words.proofs.Chains.{by_word, first_word, found_by, one_word, refused_by}
+use Rattle.program_words.specs.Arguments.{SpellsTolerance}
+use Rattle.report_command_line.specs.CommandLine.{program}
 use Rattle.report_command_line.proofs.words.asked.Goals as goal
 
 simple : is_simple program ≡ true
@@ -17,53 +18,36 @@ free : is_simple_and_free program ≡ true
 unfolding clap_on_literals
 free = refl
 
--- what the words are refused for is what the program refuses them for
-refused : {T : Type 0} (app : App) (words : List Text) (r : Result T Error) → app ≡ program → (is_simple_and_free app ≡ true → FailsBy (fault_of app words) r) → FailsBy (fault_of program words) r
-refused app words r is fails = subst (λ a. FailsBy (fault_of a words) r) is (fails (ap is_simple_and_free is ∙ free))
-
--- what was found is what the program's words are read as
-found : (app : App) (words : List Text) (m : ArgMatches) → app ≡ program → HasMatchesOf app words m → rows_of (found_of m) ≡ matches_of program words
-found app words m is matches = (matches (ap is_simple is ∙ simple)).0 ∙ ap (λ a. matches_of a words) is
-
 pub returns-in_ok-found-in-Ok-clause-files : goal.returns-in_ok-found-in-Ok-clause-files
 returns-in_ok-found-in-Ok-clause-files c =
-    let m = c.in-Ok.matches in
-    let rows = found _ (texts c.args.words.now) m c.in_ok-command.ensures.program c.in-Ok.ensures.matches in
-    let same = raw_values-rows (found_of m) (codes "file") ∙ ap (all_of (codes "file")) rows in
+    let rows = found_by program _ (texts c.args.words.now) c.in-Ok.matches simple c.in_ok-command.ensures.program c.in-Ok.ensures.matches in
+    let same = raw_values-rows (found_of c.in-Ok.matches) (codes "file") ∙ ap (all_of (codes "file")) rows in
     sym (ap (λ found. unwrap_or found []) same) ∙ c.in_ok-found-in-Ok.ensures.files
 
 pub returns-in_ok-found-in-Ok-clause-procs : goal.returns-in_ok-found-in-Ok-clause-procs
 returns-in_ok-found-in-Ok-clause-procs c =
-    let m = c.in-Ok.matches in
-    let rows = found _ (texts c.args.words.now) m c.in_ok-command.ensures.program c.in-Ok.ensures.matches in
-    sym (first_value-rows (found_of m) (codes "procs") ∙ ap (first_of (codes "procs")) rows) ∙ c.in_ok-found-in-Ok.ensures.procs
+    let rows = found_by program _ (texts c.args.words.now) c.in-Ok.matches simple c.in_ok-command.ensures.program c.in-Ok.ensures.matches in
+    sym (first_word program (texts c.args.words.now) c.in-Ok.matches (codes "procs") rows) ∙ c.in_ok-found-in-Ok.ensures.procs
 
 pub returns-in_ok-found-in-Ok-clause-tolerance : goal.returns-in_ok-found-in-Ok-clause-tolerance
 returns-in_ok-found-in-Ok-clause-tolerance c n =
-    let m = c.in-Ok.matches in
-    let rows = found _ (texts c.args.words.now) m c.in_ok-command.ensures.program c.in-Ok.ensures.matches in
-    let same = one_text-rows (found_of m) (codes "tolerance") ∙ ap (one_of (codes "tolerance")) rows in
-    let spelled = c.in_ok-found-in-Ok.ensures.tolerance n in
-    (λ e. subst (λ word. Spells word n) same (spelled.0 e), λ h. spelled.1 (subst (λ word. Spells word n) (sym same) h))
+    let rows = found_by program _ (texts c.args.words.now) c.in-Ok.matches simple c.in_ok-command.ensures.program c.in-Ok.ensures.matches in
+    by_word _ (λ word. SpellsTolerance word n) _ _ (one_word program (texts c.args.words.now) c.in-Ok.matches (codes "tolerance") rows) (c.in_ok-found-in-Ok.ensures.tolerance n)
 
 pub returns-in_ok-found-in-Ok-clause-csv : goal.returns-in_ok-found-in-Ok-clause-csv
 returns-in_ok-found-in-Ok-clause-csv c =
-    let m = c.in-Ok.matches in
-    let rows = found _ (texts c.args.words.now) m c.in_ok-command.ensures.program c.in-Ok.ensures.matches in
-    let same = one_text-rows (found_of m) (codes "csv") ∙ ap (one_of (codes "csv")) rows in
-    (λ told. sym same ∙ c.in_ok-found-in-Ok.ensures.csv.0 told, λ is. c.in_ok-found-in-Ok.ensures.csv.1 (same ∙ is))
+    let rows = found_by program _ (texts c.args.words.now) c.in-Ok.matches simple c.in_ok-command.ensures.program c.in-Ok.ensures.matches in
+    by_word _ (λ word. word ≡ Some (codes "true")) _ _ (one_word program (texts c.args.words.now) c.in-Ok.matches (codes "csv") rows) c.in_ok-found-in-Ok.ensures.csv
 
 pub returns-in_ok-found-in-Ok-clause-moves : goal.returns-in_ok-found-in-Ok-clause-moves
 returns-in_ok-found-in-Ok-clause-moves c =
-    let m = c.in-Ok.matches in
-    let rows = found _ (texts c.args.words.now) m c.in_ok-command.ensures.program c.in-Ok.ensures.matches in
-    let same = one_text-rows (found_of m) (codes "moves") ∙ ap (one_of (codes "moves")) rows in
-    (λ told. sym same ∙ c.in_ok-found-in-Ok.ensures.moves.0 told, λ is. c.in_ok-found-in-Ok.ensures.moves.1 (same ∙ is))
+    let rows = found_by program _ (texts c.args.words.now) c.in-Ok.matches simple c.in_ok-command.ensures.program c.in-Ok.ensures.matches in
+    by_word _ (λ word. word ≡ Some (codes "true")) _ _ (one_word program (texts c.args.words.now) c.in-Ok.matches (codes "moves") rows) c.in_ok-found-in-Ok.ensures.moves
 
 pub returns-in_ok-found-in-Ok-clause-faults : goal.returns-in_ok-found-in-Ok-clause-faults
 returns-in_ok-found-in-Ok-clause-faults c =
-    refused {T = ArgMatches} _ (texts c.args.words.now) (Ok c.in-Ok.matches) c.in_ok-command.ensures.program c.in-Ok.ensures.kinds
+    refused_by {T = ArgMatches} program _ (texts c.args.words.now) (Ok c.in-Ok.matches) free c.in_ok-command.ensures.program c.in-Ok.ensures.kinds
 
 pub returns-in-Err-clause-faults : goal.returns-in-Err-clause-faults
 returns-in-Err-clause-faults c =
-    refused {T = ArgMatches} _ (texts c.args.words.now) (Err c.in-Err.error) c.in_ok-command.ensures.program c.in-Err.ensures.kinds
+    refused_by {T = ArgMatches} program _ (texts c.args.words.now) (Err c.in-Err.error) free c.in_ok-command.ensures.program c.in-Err.ensures.kinds

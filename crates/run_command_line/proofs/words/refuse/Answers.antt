@@ -1,5 +1,5 @@
 use Rattle.run_command_line.specs.CommandLine.{clash_line}
-use Rattle.run_command_line.proofs.Tellings.{at_most_written}
+use Rattle.program_words.proofs.Tellings.{at_most_written}
 use Rattle.run_command_line.proofs.words.refuse.Goals as goal
 
 pub returns-clause-told : goal.returns-clause-told

@@ -1,10 +1,9 @@
-use Rattle.std.proofs.Common.{◌≡◌, ap, codes, rules, Some}
+use Rattle.std.proofs.Common.{◌≡◌, ap, rules, Some}
 use Rattle.clap.specs.Words.{Rule}
-use Rattle.clap.specs.declared.builder.action.ArgAction.TheVariants.{Set}
 use Rattle.clap.specs.declared.builder.value_parser.ValueParser.TheVariants.{Unsigned}
 use Rattle.run_command_line.proofs.words.seed.Goals as goal
 
 pub returns-clause-rule : goal.returns-clause-rule
 returns-clause-rule c =
     let parser : c.value_parser.result.value_parser ≡ Some (Unsigned 0 18446744073709551615) = search rules in
-    rw (c.value_parser.ensures.others, parser, c.action.ensures, c.help.ensures, c.value_name.ensures, c.long.ensures) (ap (λ (rule : Rule). record rule { long = Some (codes "seed"); action = Some Set; value_names = 1; parser = Some (Unsigned 0 18446744073709551615) }) c.new.ensures.rule)
+    rw (c.value_parser.ensures.others, parser) (ap (λ (rule : Rule). record rule { parser = Some (Unsigned 0 18446744073709551615) }) c.word.ensures.rule)

@@ -1,4 +1,0 @@
-use Rattle.lb_replay.proofs.request.done.Goals as goal
-
-pub returns-in-Replay-clause-opened : goal.returns-in-Replay-clause-opened
-returns-in-Replay-clause-opened g c = rw c.in-Replay.is c.replay_file.ensures.opened

@@ -1,0 +1,93 @@
+//! Arguments, for clap.
+
+ghost use Rattle.std.specs.Option.{ForSome};
+ghost use Rattle.std.specs.Prelude.{◌≡◌, ◌≤◌, ◌↔◌, ℕ, Some, codes, pos};
+ghost use Rattle.clap.specs.Built.{FitsChain, TakesValue};
+ghost use Rattle.clap.specs.Words.{found_of, one_text, rule_of};
+ghost use Rattle.clap.specs.declared.builder.value_parser.ValueParser.TheVariants.{Signed};
+ghost use Rattle.program_words.specs.Arguments.{IsBare, IsOptionName, SpellsTolerance, file_rule, flag_rule, tolerance_rule, word_rule};
+
+use chain_refinement::Tolerance;
+use clap::builder::ValueParser;
+use clap::{Arg, ArgAction, ArgMatches, Command, value_parser};
+use std::alloc::Global;
+
+/// The version of the programs.
+const VERSION: &str = "0.2.0";
+
+/// A program before its arguments are declared: its name, what it does, in a line, and what `--help` says behind the arguments.
+pub fn new_program<'a>(
+    alloc: Global,
+    name: &'a str,
+    about: &'a str,
+    after_help: &'a str,
+) -> Command<'a>
+    ensures bare { IsBare name.now result }
+{
+    Command::new(alloc, name)
+        .version(VERSION)
+        .about(about)
+        .after_help(after_help)
+}
+
+/// The file that a program is given, which has to be named.
+pub fn file<'a>(alloc: Global, help: &'a str) -> Arg<'a>
+    ensures rule { rule_of result ≡ file_rule }
+    ensures fits { FitsChain result }
+    ensures takes { TakesValue result }
+{
+    Arg::new(alloc, "file")
+        .value_name("FILE")
+        .help(help)
+        .required(true)
+        .action(ArgAction::Set)
+}
+
+/// An option of this name that takes a word, which help calls by the name of its value.
+pub fn word<'a>(alloc: Global, name: &'a str, value: &'a str, help: &'a str) -> Arg<'a>
+    requires { IsOptionName name.now }
+    ensures rule { rule_of result ≡ word_rule name.now }
+    ensures fits { FitsChain result }
+{
+    Arg::new(alloc, name)
+        .long(name)
+        .value_name(value)
+        .help(help)
+        .action(ArgAction::Set)
+}
+
+/// A flag of this name, which takes no word.
+pub fn flag<'a>(alloc: Global, name: &'a str, help: &'a str) -> Arg<'a>
+    requires { IsOptionName name.now }
+    ensures rule { rule_of result ≡ flag_rule name.now }
+    ensures fits { FitsChain result }
+{
+    Arg::new(alloc, name)
+        .long(name)
+        .help(help)
+        .action(ArgAction::SetTrue)
+}
+
+/// The option `--tolerance`, which takes thousandths of 0 to 1,000 (`Tolerance::MOST`).
+pub fn tolerance<'a>(alloc: Global, help: &'a str) -> Arg<'a>
+    ensures rule { rule_of result ≡ tolerance_rule }
+    ensures fits { FitsChain result }
+{
+    word(alloc, "tolerance", "T", help).value_parser(thousandths())
+}
+
+// A number of thousandths.
+fn thousandths<'a>() -> ValueParser<'a>
+    ensures { result ≡ Signed (pos 0) (pos Tolerance.MOST) }
+{
+    value_parser!(u32).range(0..=i64::from(Tolerance::MOST))
+}
+
+/// The tolerance that was found, in thousandths. clap refuses one out of range; here it would count as none.
+pub fn tolerance_in(matches: &ArgMatches<'_>) -> Option<u32>
+    ensures tolerance { (n : ℕ) → (result ≡ Some n) ↔ SpellsTolerance (one_text (found_of matches.now) (codes "tolerance")) n }
+    ensures most { ForSome result (λ t. t ≤ Tolerance.MOST) }
+{
+    let number = matches.get_one::<u32>("tolerance");
+    number.filter(|&t| t <= Tolerance::MOST)
+}

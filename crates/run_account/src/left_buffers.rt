@@ -1,0 +1,111 @@
+//! What is left in the queues of a run.
+
+ghost use Rattle.std.specs.Prelude.{◌≡◌, ◌≤◌, [], All, IfOk, length, map, vec_capacity};
+ghost use Rattle.pe_state.specs.Histories.{IsParcelHistory};
+
+use crate::next_owner::take_next;
+use chares::{Chare, Openings};
+use pe_state::{HeldParcel, Parcel, into_held};
+use std::alloc::{AllocError, Allocator, Global};
+use std::collections::VecDeque;
+use std::marker::Model;
+
+/// Room for the parcels that a run leaves in its queues. It is made before the run, so that a run that runs out of
+/// memory loses nothing. Contracts see the number of queues, and for how many parcels of each they have capacity.
+#[derive(Drop)]
+pub struct LeftBuffers<A: Allocator = Global> {
+    // An empty list for each queue.
+    buffers: VecDeque<Vec<HeldParcel<A>, A>, A>,
+    // Where they go once they are full. It is empty until the end.
+    left: Vec<Vec<HeldParcel<A>, A>, A>,
+    capacity: usize,
+}
+
+impl<A: Allocator> Model for LeftBuffers<A> {
+    ghost use Rattle.run_account.specs.Buffers.{AreBuffers, BufferView};
+    ghost use Rattle.std.specs.Prelude.{length};
+
+    ghost Value = { BufferView };
+
+    ghost view = { λ r. record { queues = length r.buffers.items; capacity = r.capacity } };
+
+    ghost invariant = { λ r. AreBuffers r.capacity r.buffers.items r.left };
+}
+
+impl<A: Allocator> LeftBuffers<A> {
+    /// Room for this number of queues, and for `capacity` parcels of each. The only error is that memory was refused.
+    pub fn new(alloc: A, queues: usize, capacity: usize) -> Result<Self, AllocError>
+    where
+        A: Copy,
+        ensures queues { IfOk result (λ room. room.queues ≡ queues) }
+        ensures capacity { IfOk result (λ room. room.capacity ≡ capacity) }
+    {
+        let left = Vec::with_capacity(alloc, queues)?;
+        let buffers = empty_buffers(alloc, queues, capacity)?;
+        Ok(LeftBuffers {
+            buffers,
+            left,
+            capacity,
+        })
+    }
+
+    /// The parcels of these queues, which there has to be room for, free of the marker of their run. The clause
+    /// `histories` says what their types said. This takes no memory.
+    pub fn release<C: Chare<A>, H: Openings<C>>(
+        self,
+        queues: Vec<Vec<Parcel<C, H, A>, A>, A>,
+    ) -> Vec<Vec<HeldParcel<A>, A>, A>
+        requires one_each { length queues.items ≡ self.queues }
+        requires few { All (λ queue. length queue.items ≤ self.capacity) queues.items }
+        ensures parcels { map (λ queue. queue.items) result.items ≡ map (λ queue. queue.items) queues.items }
+        ensures histories { All (λ queue. All (IsParcelHistory C.step C.fits C.pack H.opened) queue.items) result.items }
+    {
+        let LeftBuffers {
+            mut buffers,
+            mut left,
+            capacity: _,
+        } = self;
+        let mut queues = VecDeque::from_vec(queues);
+        while let Some(queue) = take_next(&mut queues) {
+            let Some(room) = take_next(&mut buffers) else {
+                unreachable!()
+            };
+            left.push_reserved(release_queue(queue, room));
+        }
+        left
+    }
+}
+
+// This number of empty lists, each with room for `capacity` parcels.
+fn empty_buffers<A: Allocator + Copy>(
+    alloc: A,
+    queues: usize,
+    capacity: usize,
+) -> Result<VecDeque<Vec<HeldParcel<A>, A>, A>, AllocError>
+    ensures one_each { IfOk result (λ buffers. length buffers.items ≡ queues) }
+    ensures empty { IfOk result (λ buffers. All (λ room. (room.items ≡ []) × (capacity ≤ vec_capacity room)) buffers.items) }
+{
+    let mut buffers = VecDeque::with_capacity(alloc, queues)?;
+    for _queue in 0..queues {
+        let room = Vec::with_capacity(alloc, capacity)?;
+        buffers.push_back_reserved(room);
+    }
+    Ok(buffers)
+}
+
+// The parcels of one queue, in the room that was made for them.
+fn release_queue<C: Chare<A>, H: Openings<C>, A: Allocator>(
+    queue: Vec<Parcel<C, H, A>, A>,
+    mut room: Vec<HeldParcel<A>, A>,
+) -> Vec<HeldParcel<A>, A>
+    requires empty { room.items ≡ [] }
+    requires wide { length queue.items ≤ vec_capacity room }
+    ensures parcels { result.items ≡ queue.items }
+    ensures histories { All (IsParcelHistory C.step C.fits C.pack H.opened) result.items }
+{
+    let mut queue = VecDeque::from_vec(queue);
+    while let Some(parcel) = take_next(&mut queue) {
+        room.push_reserved(into_held(parcel));
+    }
+    room
+}

@@ -1,5 +1,0 @@
-use Rattle.schedule_run.proofs.opening.read_workload.Goals as goal
-
-pub returns-in-Ok-clause-opened : goal.returns-in-Ok-clause-opened
-returns-in-Ok-clause-opened g c =
-    rw c.in-Ok.is (g.R.Read.remaining c.read_from-workload.new.reader.inner, rw c.new-noted.ensures.inner at c.read_from-workload.ensures.reads)

@@ -1,0 +1,158 @@
+ghost use Rattle.std.specs.Prelude.{◌≡◌, ◌≤◌, ◌↔◌, ℕ, IfOk, IsTrue, Some, codes, is_some, pos, true};
+ghost use Rattle.std.specs.Option.{ForSome};
+ghost use Rattle.clap.specs.Built.{FitsChain, TakesValue};
+ghost use Rattle.clap.specs.Walk.{texts};
+ghost use Rattle.clap.specs.Words.{FailsBy, app_of, fault_of, first_value, found_of, one_text, rule_of};
+ghost use Rattle.clap.specs.declared.builder.value_parser.ValueParser.TheVariants.{Signed};
+ghost use Rattle.program_words.specs.Arguments.{NamesFile, SpellsTolerance, file_rule, tolerance_rule};
+ghost use Rattle.streams.specs.Writing.{WritesPrefix};
+ghost use Rattle.sim_command_line.specs.CommandLine.{AsksCheck, Spells, both_line, check_rule, file_in, procs_in, procs_rule};
+ghost use Rattle.sim_command_line.specs.CommandLine.{program, tolerance_in};
+
+use crate::help::{ABOUT, HOW_TO};
+use chain_refinement::Tolerance;
+use chare_index::Limits;
+use clap::builder::ValueParser;
+use clap::{Arg, ArgMatches, Command, Error, value_parser};
+use lb_replay::{Asked, Clash};
+use program_words::{NO_WORDS, flag, new_program, tolerance_in, word};
+use std::alloc::{AllocError, Global};
+use std::io::Write;
+use streams::write_out;
+
+/// What is printed where a check is asked for, and a number of PEs too.
+const PROCS_AND_CHECK: &str = "lb_sim: --procs and --check\n";
+
+/// What is printed where a check is asked for, and a tolerance too.
+const TOLERANCE_AND_CHECK: &str = "lb_sim: --tolerance and --check\n";
+
+/// Writes which two options do not go together, and returns the status for that, [`NO_WORDS`].
+pub fn refuse_both<W: Write>(writer: &mut W, clash: Clash) -> u8
+    ensures told { WritesPrefix (W.contents writer.old) (W.contents writer.new) (both_line clash) }
+    ensures status { result ≡ NO_WORDS }
+{
+    let _told = write_out(writer, line_of(clash).as_bytes());
+    NO_WORDS
+}
+
+// The line for two such options.
+fn line_of(clash: Clash) -> &'static str
+    ensures { result.now ≡ both_line clash }
+{
+    match clash {
+        Clash::ProcsAndCheck => PROCS_AND_CHECK,
+        Clash::ToleranceAndCheck => TOLERANCE_AND_CHECK,
+    }
+}
+
+/// Reads the words of a command line, the program's name first.
+///
+/// # Errors
+///
+/// The words are not `[--procs P] [--tolerance T] [--check] FILE` with a P of 1 to 256 (`Limits::PES`) and a T of 0 to 1,000
+/// (`Tolerance::MOST`), help or the version is asked for, or memory ran out. The error has the text to print; [`words_status`] is
+/// the status for it. Words that ask for a check and for a number of PEs or a tolerance too are no error here: [`Asked::task`]
+/// returns the [`Clash`].
+pub fn asked<'a>(alloc: Global, words: &'a [&'a str]) -> Result<Asked<'a>, Error>
+    ensures faults { FailsBy (fault_of program (texts words.now)) result }
+    ensures file { IfOk result (λ asked. file_in (texts words.now) ≡ Some asked.file.now) }
+    ensures procs { IfOk result (λ asked. (n : ℕ) → (asked.procs ≡ Some n) ↔ Spells (procs_in (texts words.now)) n) }
+    ensures tolerance { IfOk result (λ asked. (n : ℕ) → (asked.tolerance ≡ Some n) ↔ SpellsTolerance (tolerance_in (texts words.now)) n) }
+    ensures check { IfOk result (λ asked. IsTrue asked.check ↔ AsksCheck (texts words.now)) }
+    ensures some_pe { IfOk result (λ asked. ForSome asked.procs (λ p. 1 ≤ p)) }
+    ensures few_pes { IfOk result (λ asked. ForSome asked.procs (λ p. p ≤ Limits.PES)) }
+    ensures most { IfOk result (λ asked. ForSome asked.tolerance (λ t. t ≤ Tolerance.MOST)) }
+{
+    match command(alloc)?.try_get_matches_from(words) {
+        Ok(matches) => Ok(found(&matches)),
+        Err(error) => Err(error),
+    }
+}
+
+// The words that are understood: `lb_sim [--procs P] [--tolerance T] [--check] FILE`, and those for help and for the version,
+// which clap adds.
+fn command<'a>(alloc: Global) -> Result<Command<'a>, AllocError>
+    ensures program { IfOk result (λ command. app_of command ≡ program) }
+    ensures named { IfOk result NamesFile }
+{
+    let command = new_program(alloc, "lb_sim", ABOUT, HOW_TO);
+    let command = command.arg(file(alloc))?;
+    let command = command.arg(procs(alloc))?;
+    let command = command.arg(tolerance(alloc))?;
+    command.arg(check(alloc))
+}
+
+fn file<'a>(alloc: Global) -> Arg<'a>
+    ensures rule { rule_of result ≡ file_rule }
+    ensures fits { FitsChain result }
+    ensures takes { TakesValue result }
+{
+    program_words::file(alloc, "A dump of the load database")
+}
+
+fn procs<'a>(alloc: Global) -> Arg<'a>
+    ensures rule { rule_of result ≡ procs_rule }
+    ensures fits { FitsChain result }
+{
+    let help = "Plans for P processors in place of the dump's own number";
+    word(alloc, "procs", "P", help).value_parser(number_of_pes())
+}
+
+fn tolerance<'a>(alloc: Global) -> Arg<'a>
+    ensures rule { rule_of result ≡ tolerance_rule }
+    ensures fits { FitsChain result }
+{
+    program_words::tolerance(
+        alloc,
+        "Moves fewer bytes where no load is then above the least by{n}\
+         more than T thousandths. It does not go with --check",
+    )
+}
+
+fn check<'a>(alloc: Global) -> Arg<'a>
+    ensures rule { rule_of result ≡ check_rule }
+    ensures fits { FitsChain result }
+{
+    flag(
+        alloc,
+        "check",
+        "Checks the decision that the dump has, and prints its first{n}\
+         flaw, or that it is right. It does not go with --procs",
+    )
+}
+
+// A number of PEs.
+fn number_of_pes<'a>() -> ValueParser<'a>
+    ensures { result ≡ Signed (pos 1) (pos Limits.PES) }
+{
+    value_parser!(u32).range(1..=i64::from(Limits::PES))
+}
+
+// What the words ask for.
+fn found<'a>(matches: &ArgMatches<'a>) -> Asked<'a>
+    requires named { is_some (first_value (found_of matches.now) (codes "file")) ≡ true }
+    ensures file { first_value (found_of matches.now) (codes "file") ≡ Some result.file.now }
+    ensures procs { (n : ℕ) → (result.procs ≡ Some n) ↔ Spells (one_text (found_of matches.now) (codes "procs")) n }
+    ensures tolerance { (n : ℕ) → (result.tolerance ≡ Some n) ↔ SpellsTolerance (one_text (found_of matches.now) (codes "tolerance")) n }
+    ensures check { IsTrue result.check ↔ (one_text (found_of matches.now) (codes "check") ≡ Some (codes "true")) }
+    ensures some_pe { ForSome result.procs (λ p. 1 ≤ p) }
+    ensures few_pes { ForSome result.procs (λ p. p ≤ Limits.PES) }
+    ensures most { ForSome result.tolerance (λ t. t ≤ Tolerance.MOST) }
+{
+    Asked {
+        file: matches.get_str("file").unwrap(),
+        procs: number_in(matches),
+        tolerance: tolerance_in(matches),
+        check: matches.get_one("check") == Some(true),
+    }
+}
+
+// The number of PEs asked for. clap refuses one out of range; here it would count as none.
+fn number_in<'a>(matches: &ArgMatches<'a>) -> Option<u32>
+    ensures procs { (n : ℕ) → (result ≡ Some n) ↔ Spells (one_text (found_of matches.now) (codes "procs")) n }
+    ensures some_pe { ForSome result (λ p. 1 ≤ p) }
+    ensures few_pes { ForSome result (λ p. p ≤ Limits.PES) }
+{
+    let number = matches.get_one::<u32>("procs");
+    number.filter(|&p| 1 <= p && p <= Limits::PES)
+}
