@@ -1,4 +1,4 @@
--- Where a reader stands: which fields are left after the parts that are whole, and what is found in the text so far.
+-- Where a reader is in its text: which fields are left after the parts that are whole, and what is found in the text so far.
 use Rattle.std.proofs.Common.{◌≡◌, ◌⊎◌, inl, inr, ℕ, zero, suc, ◌+◌, ◌-◌, ◌<◌, ◌≤◌, List, [], ◌++◌, length, Option, Some, None, refl, ap, sym, ◌∙◌, subst, append_assoc, arith}
 use Rattle.std.specs.Prelude.{Bool, true, false, MatchBool, nat_le}
 use Rattle.std.proofs.lemmas.Bool.{cases_lt, le-leb, lt-leb}
@@ -277,6 +277,6 @@ held_good A (Some h) loads sizes (Made r all) list begun at =
       | inr enough ↦ inl (all_found A h loads sizes r all list begun at (omega (arith, enough, at.few_moves)))
     ]
 
--- nor with no bytes
+-- nothing is wrong with an empty text
 pub none_good : IsGood []
 none_good = inr (field_short w8 _ _ [] (omega arith))
