@@ -1,8 +1,8 @@
-//! What the programs have in common: the words of their command lines, and the arguments that several of them take. clap reads the
-//! words, and writes the texts of what it refuses, of help and of the version.
+//! What the programs have in common: the arguments of their command lines, and the options that several of them take. clap
+//! reads the arguments, and writes the texts for what it refuses, for help and for the version.
 //!
-//! - [`on_words`]: runs a program on its words; [`refused`]: prints why there is nothing to run; [`NO_WORDS`] and [`words_status`]:
-//!   the status then.
+//! - [`on_words`]: runs a program on its arguments; [`refused`]: prints why there is nothing to run; [`NO_WORDS`] and
+//!   [`words_status`]: the status then.
 //! - [`new_program`]: a program before its arguments are declared; [`file`], [`word`], [`flag`] and [`tolerance`]: arguments;
 //!   [`tolerance_in`]: the tolerance that was found.
 //!
