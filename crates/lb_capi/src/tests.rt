@@ -138,7 +138,7 @@ const TEN_BYTES: [u32; 10] = [10, 10, 10, 20, 60, 90, 70, 20, 10, 10];
 
 const TEN_PLACES: [u32; 10] = [2, 2, 2, 2, 0, 0, 0, 1, 1, 1];
 
-// No decision here has as many steps.
+// More steps than any decision here has.
 const STEPS: usize = 40;
 
 // What is written of a decision within a tolerance.

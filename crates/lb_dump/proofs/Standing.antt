@@ -121,7 +121,7 @@ pub plan_left : (format : Format) (count : ℕ) (begun : List ℕ) → format �
 plan_left Lbd1 count begun wide is = cc
 plan_left Lbd2 count begun wide is = is.1
 
--- What is found in the text so far, by where the reader stands.
+-- What is found in the text so far, by where the reader is in it.
 module _ (A : Type 0) where
   pub head_found : (loads : List ℕ) (sizes : List (ℕ × ℕ)) (plan : Plan A) (list : List (ℕ × ℕ × ℕ)) (begun : List ℕ) → IsAt None loads sizes plan list begun
       → judge dump (front_text None loads sizes plan list ++ begun) ≡ Unfinished

@@ -55,7 +55,7 @@ told_near run pes tolerance k kept =
       nearest = subst (λ t. AreNearest run.loads (sizes_of run) k.refinement.order k.refinement.present (limit_of k.refinement.least.bottleneck t) k.refinement.cuts) kept.tolerance_is kept.nearest;
     }
 
--- two plans of one run move as many bytes
+-- two plans of one run move the same number of bytes
 same_moved : (sizes : List (ℕ × ℕ)) (pes : ℕ) (cuts others names more : List ℕ) → cuts ≡ others → IsLeastNaming sizes cuts pes names → IsLeastNaming sizes others pes more → bytes_moved sizes cuts names ≡ bytes_moved sizes others more
 same_moved sizes pes cuts others names more same this that =
     let called : names ≡ more = one_least pes (bytes_moved sizes cuts) names more this (subst (λ c. IsLeastNaming sizes c pes more) (sym same) that) in

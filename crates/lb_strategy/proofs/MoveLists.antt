@@ -34,7 +34,7 @@ not_the_moves sizes cuts names n i moves taken step inside so_far next other sam
     let both : taken ++ step ≡ moves_below sizes cuts names (i + 1) = ap (λ t. t ++ step) so_far ∙ ap (λ s. moves_below sizes cuts names i ++ s) next ∙ sym here in
     other behind.0 (same ∙ all ∙ ap (λ l. l ++ behind.0) (sym both))
 
--- the whole list was taken exactly where nothing is left of it
+-- the whole list was taken exactly where none of its moves is left
 pub all_taken : (moves wanted : List (ℕ × ℕ × ℕ)) (next : ℕ) → take next moves ≡ wanted → next ≤ length moves → MatchBool (eqb next (length moves)) (moves ≡ wanted) (moves ≢ wanted)
 all_taken moves wanted next so_far inside =
     elim (eqb_tells next (length moves)) [

@@ -13,7 +13,7 @@ use std::alloc::Allocator;
 /// consecutive blocks has a lighter heaviest block, that no naming of the blocks moves fewer bytes, and that the decision
 /// states these bytes and the moves; so [`place_of`](Decision::place_of) may be called for each element.
 ///
-/// Any number of PEs and any lists may be passed. No memory is taken.
+/// Any number of PEs and any lists may be passed. It takes no memory.
 ///
 /// # Errors
 ///

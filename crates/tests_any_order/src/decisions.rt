@@ -94,7 +94,7 @@ fn each_row_is_decided_so(rt: HostRuntime) {
     }
 }
 
-// As many elements as there may be, of load 0 and one byte each, on the first PE.
+// The most elements that are allowed, of load 0 and one byte each, on the first PE.
 fn is_full_array_kept(rt: &(impl Abort + AllocGlobal)) -> bool {
     let loads = vec![in rt.alloc(); 0; 65_536].expect(rt, "out of memory");
     let mut elements = Vec::new(rt.alloc());

@@ -333,7 +333,7 @@ fn no_elements_are_planned(rt: HostRuntime) {
     assert_for(&rt, plans(&rt, 3, &[], 3, row), "no elements");
 }
 
-// As many sizes of 8 bytes as there may be, in blocks of 256, each on the PE after its own.
+// The most sizes that are allowed, of 8 bytes each, in blocks of 256, each on the PE after its own.
 fn full_sizes(rt: &(impl Abort + AllocGlobal)) -> Sizes {
     let mut pairs = Vec::new(rt.alloc());
     for i in 0..65_536u32 {
@@ -343,7 +343,7 @@ fn full_sizes(rt: &(impl Abort + AllocGlobal)) -> Sizes {
     Sizes::new(pairs).expect(rt, "past a limit")
 }
 
-// As many elements as there may be, with these sizes, and each with this load.
+// The most elements that are allowed, with these sizes, and each with this load.
 fn full(rt: &(impl Abort + AllocGlobal), load: Units) -> Snapshot {
     let loads = full_loads(rt, load);
     let sizes = full_sizes(rt);

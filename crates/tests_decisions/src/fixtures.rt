@@ -52,7 +52,7 @@ pub(crate) fn loads(rt: &(impl Abort + AllocGlobal), units: &[Units]) -> Loads {
     Loads::new(list(rt, units)).expect(rt, "past a limit")
 }
 
-/// As many loads as there may be, each of them this one.
+/// The most loads that are allowed, each of them this one.
 pub(crate) fn full_loads(rt: &(impl Abort + AllocGlobal), load: Units) -> Loads {
     let units = vec![in rt.alloc(); load; 65_536].expect(rt, "out of memory");
     Loads::new(units).expect(rt, "refused a full array")

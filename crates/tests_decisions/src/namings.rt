@@ -130,7 +130,7 @@ fn blocks_that_keep_their_numbers_move_more(rt: HostRuntime) {
     assert_for(&rt, swapped == Some(32), ("swapped", swapped));
 }
 
-// As many elements as there may be, with as many bytes as there may be.
+// The most elements that are allowed, each with the most bytes that are allowed.
 fn full_pairs(rt: &(impl Abort + AllocGlobal)) -> Vec<(u32, u32)> {
     let mut pairs = Vec::new(rt.alloc());
     for i in 0..65_536u32 {

@@ -41,7 +41,7 @@ fn any_number_of_workers_divides_the_same(rt: HostRuntime) {
     drop(five);
 }
 
-// Whether as many workers as there may be divide a full array into one block.
+// Whether the most workers that are allowed divide a full array into one block.
 fn is_full_divided<R: Threads + Sync + Abort + AllocGlobal>(rt: &R, row: &FullArray) -> bool {
     let full = full_loads(rt, row.0);
     let division = divided(rt, &full, 1, 64);

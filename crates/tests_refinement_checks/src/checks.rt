@@ -57,7 +57,7 @@ fn each_row_is_judged_so(rt: HostRuntime) {
     }
 }
 
-// As many elements as there may be, of 10 bytes each: 356 on the first PE, 256 on each PE after it, and the rest on the last.
+// The most elements that are allowed, of 10 bytes each: 356 on the first PE, 256 on each PE after it, and the rest on the last.
 fn full_elements(rt: &(impl Abort + AllocGlobal)) -> Vec<(u32, u32)> {
     let mut elements = Vec::new(rt.alloc());
     for i in 0..65_536_u32 {

@@ -166,7 +166,7 @@ fn sum_of_chains(rt: &(impl Abort + AllocGlobal), pes: u32) -> u64
     sum
 }
 
-// The places of as many elements as there may be, 256 on each PE, from the last PE to the first.
+// The places of the most elements that are allowed, 256 on each PE, from the last PE to the first.
 fn full_places(rt: &(impl Abort + AllocGlobal)) -> Vec<u32> {
     let mut places = Vec::new(rt.alloc());
     for i in 0..65_536u32 {
