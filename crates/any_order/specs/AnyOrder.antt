@@ -13,8 +13,7 @@ use Rattle.lb_certificates.specs.Naming.{IsNaming, bytes_moved, moved_bytes}
 use Rattle.chain_refinement.specs.Tolerances.{limit_of}
 use Rattle.any_order.specs.declared.reordered.Reordered.{Reordered}
 
--- a plan: the cuts divide all elements into this number of blocks, none of them is above the limit, and each has a PE of its
--- own
+-- a plan: the cuts divide all elements into this number of blocks, none is above the limit, and each has a PE of its own
 pub record IsPlan (loads : List ℕ) (blocks limit : ℕ) (cuts names : List ℕ) : Type 0 where
   pub divides : IsDivision 0 (length loads) blocks cuts
   pub within : NoneAbove loads blocks limit cuts

@@ -156,7 +156,7 @@ pub record IsFirstSteep (c : Chain) (blocks : ℕ) (place : ℕ × ℕ × ℕ) :
   pub first : IsFirstBlock (claim_at c place.0) (place.1, place.2)
   pub earlier : RisesUpTo c place.0
 
--- the first steps, this number of them, are before or at place x, and this is the level of the last of them
+-- the first `at.next` steps are before or at place x, and `at.level` is the level of the last of them
 pub record IsReached (steps : List (ℕ × ℕ)) (x : ℕ) (at : Reached) : Type 0 where
   pub inside : at.next ≤ length steps
   pub left : (z : ℕ) → x ≤ z → level_at steps 0 z ≡ level_at (drop at.next steps) at.level z

@@ -2,8 +2,8 @@
 //!
 //! A block y..x brings to a PE all its bytes except those that are on it already. Only four PEs come into question: that of its
 //! first element, that of the element at x, the one that has most of the block, and one that has nothing of it. Where the
-//! elements of each PE are consecutive, PEs that keep something are in their present order. So a block has to know one thing of
-//! those before it: whether the PE of its first element is used.
+//! elements of each PE are consecutive, the PEs that keep something stay in their present order. So a block has to know one
+//! thing of those before it: whether the PE of its first element is used.
 
 use crate::chain::{Chain, begin_of, bytes_of, farthest, run_at, run_bytes, start_of};
 use crate::row::{NONE, Row, any_at, free_at};
@@ -27,7 +27,8 @@ const NOWHERE: Way = Way {
     free: true,
 };
 
-// The run with the most bytes of those between the beginning of a block and a place, and the run of that place.
+// Of the runs that are wholly between the beginning of a block and a place, the one with the most bytes; and the run of that
+// place.
 #[derive(Clone, Copy)]
 struct Inside {
     bytes: u64,

@@ -15,8 +15,7 @@ use lb_certificates::Units;
 pub(crate) enum Bound {
     /// It places all elements, and this is the load of its heaviest block.
     Fits(u64),
-    /// It does not, and neither does a walk within any limit below this one, the least within which a block would take one
-    /// more.
+    /// It does not, and nor does a walk within a limit below this one, the least within which a block would take one more.
     Stops(u64),
 }
 

@@ -15,7 +15,7 @@ use lb_certificates::{Division, Loads, Units};
 use std::alloc::{AllocError, Allocator};
 use std::thread::{self, Threads};
 
-// One place for each worker at most.
+// A place for each worker, of the most that are allowed.
 const MOST_WORKERS: usize = Limits::PROBE_WORKERS as usize;
 
 /// The same division as that of [`divide`](crate::divide), found by 1 to 64 workers: each round of the search gives each of

@@ -53,7 +53,6 @@ pub(crate) fn greedy_ends<A: Allocator>(
 /// The greatest block within the limit that begins at `first`, where `before` is the load of the elements before it. The load
 /// of a block grows with its end, so the end is found by binary search over the running sums that are kept, and then load by
 /// load.
-/// load.
 pub(crate) fn end_of_block(
     loads: &[Units],
     samples: &[u64],

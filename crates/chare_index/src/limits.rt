@@ -1,4 +1,4 @@
-/// The limits of the runtime. Each quantity ranges from the lowest value given here up to the constant, which is included.
+/// The limits of the runtime. Each quantity ranges from the lowest value given here to the constant, both included.
 #[derive(Clone, Copy, Debug, PartialEq, Eq)]
 pub struct Limits;
 

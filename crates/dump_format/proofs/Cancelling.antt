@@ -13,7 +13,7 @@ use Rattle.dump_format.specs.Text.{word, long, price, element_text, elements_tex
 use Rattle.dump_format.proofs.Judging.{front_number}
 use Rattle.dump_format.proofs.Spelling.{number_length}
 
--- each number of this number of bits is determined by its bytes
+-- each number of this width is determined by its bytes
 abbrev pub Spells : Width → Type 0
 Spells w = (n : ℕ) → n < 2 ^ bits w → from_be_bytes w (to_be_bytes w n) ≡ n
 

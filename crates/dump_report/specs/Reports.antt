@@ -73,8 +73,7 @@ pub record IsSaid {A : Type 0} (style : Style) (name : List ℕ) (procs : List �
   pub planned : ArePlans A style name d.snapshot tolerance (numbers_of procs d.snapshot.procs) plans
   pub printed : text ≡ present_text style name d.snapshot ++ (past ++ plans)
 
--- This is the report on the dump that the bytes are a text of. Where the reader does not report its bytes, it is so for some
--- dump.
+-- This is the report on the dump that the bytes are a text of; on some dump, where the reader does not report its bytes.
 pub record IsReport (A : Type 0) (bytes : Option (List ℕ)) (style : Style) (name : List ℕ) (procs : List ℕ) (tolerance : Option ℕ) (text : List ℕ) : Type 0 where
   pub dump : Dumped A
   pub read : IfSome bytes (IsText dump)
@@ -88,7 +87,7 @@ IsFoundFault A bytes rest (Ended.Plan e) =
 IsFoundFault A bytes rest _ = ⊥
 
 -- What the writer has after each end: the whole report, or nothing of it where there is a fault, or a prefix where the writer
--- failed. The reader had the first bytes, and the rest is left.
+-- failed. The reader had `bytes` before, and has `rest` after.
 abbrev pub EndsReport : (A : Type 0) → Option (List ℕ) → Option (List ℕ) → Style → List ℕ → List ℕ → Option ℕ → Option (List ℕ) → Option (List ℕ) → Ended → Type 0
 EndsReport A bytes rest style name procs tolerance old new Printed =
     (text : List ℕ) × IsReport A bytes style name procs tolerance text × Appends old new text

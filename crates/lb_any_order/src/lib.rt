@@ -1,5 +1,5 @@
-//! Decisions within a tolerance where the PEs may change their order: as balanced as it asks for, with the fewest bytes moved
-//! of all.
+//! Decisions within a tolerance where the PEs may change their order: as balanced as the tolerance asks, with the fewest bytes
+//! moved of all.
 //!
 //! - [`refine_in_any_order`]: decides, as [`refine`](lb_refinement::refine) does, or returns that memory was refused.
 //! - [`Reordering`]: what it decides: cuts and names with the proof that no others move fewer bytes ([`Fewest`]), or the decision

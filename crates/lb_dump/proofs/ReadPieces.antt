@@ -27,7 +27,7 @@ fed_fault A text e start new fresh feeds =
       | inr broken ↦ inr (fault_by text e broken)
     ]
 
--- a fault of a piece is the fault of all bytes of the reader
+-- a fault of a piece is the fault of all bytes that the reader had, or memory was refused
 pub fed_broken : (old now after : Option (List ℕ)) (text piece : List ℕ) (dump new : Progress) (e : DumpError) → dump ≡ Ok text → Consumes old now text → Consumes now after piece → Feeds dump piece (Err e) new → IfSome old (λ bytes. (e ≡ OutOfMemory) ⊎ IsFault bytes e)
 fed_broken None now after text piece dump new e is_text so_far came fed = tt
 fed_broken (Some bytes) now after text piece dump new e is_text so_far came fed =

@@ -62,7 +62,7 @@ IsRefinedRun run pes tolerance true told standing =
 IsRefinedRun run pes tolerance false told standing =
     IsToldPlan run pes told × (HasNoOrder (sizes_of run) pes ⊎ ((near : Told) × (stood : Standing) × IsToldNear run pes tolerance near stood × (told.moved ≤ near.moved)))
 
--- the elements of each PE are consecutive, and the present cuts between them keep the blocks within the tolerance
+-- the elements of each PE are consecutive, and the present cuts between them keep the blocks within the limit
 abbrev pub KeepWithin : Listed → ℕ → ℕ → Type 0
 KeepWithin run pes limit =
     (order : List ℕ) × (present : List ℕ) × IsPresentOrder (sizes_of run) pes order present × AreWithin run.loads order limit present

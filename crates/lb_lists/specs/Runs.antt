@@ -39,8 +39,7 @@ pub record IsAsked (run : Listed) (pes : ℕ) : Type 0 where
 abbrev pub AreSmall : List ℕ → Type 0
 AreSmall loads = All (λ units. units ≤ LOAD) loads
 
--- Why a call was refused: its input was not in order; or it was, and a load is too great; or both were right, and memory was
--- refused.
+-- Why a call was refused: its input was not in order; or it was, and a load is too great; or neither, and memory was refused.
 abbrev pub IsRefusal : Type 0 → Type 0 → RunError → Type 0
 IsRefusal in_order small BadInput = ¬ in_order
 IsRefusal in_order small BadLoad = in_order × ¬ small

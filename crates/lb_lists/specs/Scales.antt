@@ -36,8 +36,8 @@ pub record IsFirstScaleFault (loads : List Float) (error : ScaleError) : Type 0 
 abbrev pub IsRoomFor : ℕ → List Float → Type 0
 IsRoomFor room loads = (room ≡ length loads) × (length loads ≤ ELEMENTS)
 
--- Why loads were refused: the numbers of loads are not so; or they are, and this is the fault of the first load that is not a
--- measured one.
+-- Why loads were refused: there is not one scaled load for each, or there are too many; or the lengths are right, and this is
+-- the fault of the first load that is not a measured one.
 abbrev pub IsScaleRefusal : List Float → ℕ → ScaleError → Type 0
 IsScaleRefusal loads room BadInput = ¬ (IsRoomFor room loads)
 IsScaleRefusal loads room error = IsRoomFor room loads × IsFirstScaleFault loads error

@@ -143,8 +143,8 @@ fn first_flaw<A: Allocator>(
 
 /// Checks what somebody claims of a run and `pes` PEs: `None` exactly where every part of the claim is right, and otherwise its
 /// first flaw. `None` means that no division of the elements into `pes` consecutive blocks has a lighter heaviest block, that
-/// no naming of the blocks moves fewer bytes, and that the claim states this number of bytes, and for each element the name of
-/// its block.
+/// no naming of the blocks moves fewer bytes, and that the claim states the bytes that its own naming moves, and for each
+/// element the name of its block.
 ///
 /// Any claim may be passed. Its flaws are looked for in the order of [`Flaw`], where [`MovesWrong`](Flaw::MovesWrong) means a
 /// wrong place. Of a list that is too long, only as much is copied as shows that it is.

@@ -42,7 +42,7 @@ impl<'a> Model for Claim<'a> {
     } };
 }
 
-// The first entries of a list, at most this number of them.
+// The first entries of a list, at most `most` of them.
 fn front<T>(list: &[T], most: usize) -> &[T]
     ensures { result.now ≡ take most list.now }
 {

@@ -181,7 +181,7 @@ fn first_refined_flaw<A: Allocator>(
 /// the present ones: `None` exactly where every part of the claim is right, and otherwise its first flaw. `None` means that no
 /// division of the elements into `pes` consecutive blocks has a lighter heaviest block than the claim's bottleneck, that no
 /// cuts within the tolerance move fewer bytes in the claim's order of the PEs, that no naming of the blocks does, and that the
-/// claim states this number of bytes, and for each element the name of its block.
+/// claim states the bytes that its own naming moves, and for each element the name of its block.
 ///
 /// Any claim may be passed. Flaws are looked for in the order of [`RefinementFlaw`], and then in that of [`Flaw`]. The check
 /// takes memory in proportion to the claim's lists and the steps of all blocks.

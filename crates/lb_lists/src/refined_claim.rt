@@ -18,7 +18,7 @@ pub struct RefinedClaim<'a> {
     pub step_starts: &'a [usize],
     /// The place of each step of the heights.
     pub step_places: &'a [u32],
-    /// How much higher the height is from there on, in bytes.
+    /// By how much the height rises there, in bytes.
     pub step_rises: &'a [u64],
 }
 

@@ -41,7 +41,7 @@ pub struct StandingRoom<'a> {
     pub step_starts: &'a mut [usize],
     /// Capacity for the place of each step.
     pub step_places: &'a mut [u32],
-    /// The same capacity: how much higher the height is from there on, in bytes.
+    /// The same capacity for the number of bytes by which the height rises at each.
     pub step_rises: &'a mut [u64],
 }
 

@@ -1,4 +1,4 @@
-//! Decisions within a tolerance: as balanced as it asks for, with as few bytes moved as the order of the PEs allows.
+//! Decisions within a tolerance: as balanced as the tolerance asks, with as few bytes moved as the order of the PEs allows.
 //!
 //! - [`refine`]: decides, as [`plan`](lb_strategy::plan) does, or returns that memory was refused; [`refine_with`] does so with
 //!   several threads.

@@ -77,8 +77,8 @@ ReportsFault old new fault (Ended.Flawed flaw) = (fault ≡ Flawed flaw) × Appe
 ReportsFault old new fault Ended.NoDecision = (fault ≡ NoDecision) × Appends old new (fault_line fault)
 ReportsFault old new fault WriteFailed = WritesPrefix old new (fault_line fault)
 
--- What the writer has after each end: the whole text, the line of the fault, or a prefix of one of these. The reader had the
--- first bytes, and the rest is left.
+-- What the writer has after each end: the whole text, the line of the fault, or a prefix of one of these. The reader had
+-- `bytes` before, and has `rest` after.
 abbrev pub EndsReplay : (A : Type 0) → Option (List ℕ) → Option (List ℕ) → Option ℕ → Option ℕ → Option (List ℕ) → Option (List ℕ) → Ended → Type 0
 EndsReplay A bytes rest procs tolerance old new Printed = (text : List ℕ) × IsReplay A bytes procs tolerance text × Appends old new text
 EndsReplay A bytes rest procs tolerance old new (Ended.Dump e) =

@@ -28,8 +28,8 @@ check_line (Flawed flaw) = flaw_line flaw
 check_line NoDecision = no_decision_line
 check_line _ = memory_line
 
--- What is found in a reader that had the first bytes, with the rest left: a fault, or the judgement of the decision of the dump
--- that the bytes are a text of. Where the reader does not report its bytes, it is so for some dump.
+-- What is found in a reader that had `bytes` before, and has `rest` after: a fault, or the judgement of the decision of the
+-- dump that the bytes are a text of. Where the reader does not report its bytes, it is so for some dump.
 abbrev pub Finds : (A : Type 0) → Option (List ℕ) → Option (List ℕ) → Ended → Type 0
 Finds A bytes rest (Dump e) = IsReadFault bytes rest e
 Finds A bytes rest ended = IsAtEnd rest × ((d : Dumped A) × IfSome bytes (IsText d) × IsJudged d ended)

@@ -38,8 +38,7 @@ pub record IsGreatestCost (blocks : ℕ) (cost : ℕ → ℕ → ℕ) (most : �
   pub reached : cost block pe ≡ most
   pub greatest : (b p : ℕ) → b < blocks → p < blocks → cost b p ≤ most
 
--- Each price of a block is between 0 and the greatest cost of a block on a PE, and each price of a PE is between 0 and minus
--- that.
+-- Each price of a block is between 0 and the greatest cost of a block on a PE, and each price of a PE between minus that and 0.
 pub record ArePricesBounded (sizes : List (ℕ × ℕ)) (cuts : List ℕ) (u v : List ℤ) : Type 0 where
   pub most : ℕ
   pub is_greatest : IsGreatestCost (blocks_between cuts) (block_cost sizes cuts) most

@@ -96,8 +96,7 @@ pub fn push_planned<A: Allocator + Copy, B: Allocator, C: Allocator>(
     )
 }
 
-/// Adds what is reported of a decision for this number of PEs within some tolerance: its line, or those of the elements that it
-/// moves.
+/// Adds what is reported of a decision for this number of PEs within some tolerance: its line, or those of its moves.
 ///
 /// # Errors
 ///

@@ -9,8 +9,8 @@ use Rattle.chain_refinement.specs.Orders.{place_of, IsPresentOrder}
 use Rattle.present_order.specs.Runs.{AreRuns}
 use Rattle.present_order.proofs.Counts.{covers, few}
 
--- After the busy PEs, this number of them, come idle ones in ascending order, each at the end; of the PEs before pe none is
--- left out, and none from pe on is an idle one.
+-- After the `busy` PEs with elements come idle ones in ascending order, each at the end; of the PEs before pe none is left out,
+-- and none from pe on is an idle one.
 pub record AreListed (sizes : List (ℕ × ℕ)) (pes end busy pe : ℕ) (names starts : List ℕ) : Type 0 where
   pub counted : length starts ≡ length names
   pub few : busy ≤ length names

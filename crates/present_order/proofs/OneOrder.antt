@@ -124,7 +124,7 @@ no_lesser sizes pes names present others cuts h o b inside idle before less =
           omega (arith, less, at.2, idle_ascend sizes pes others cuts o b (at.0 - b) (omega (arith, at.1)) idle, ap (λ n. slice_index others n) place)
     ]
 
--- two orders have the same PEs at the first places, this number of them
+-- two orders have the same PEs at the first n places
 same_names : (sizes : List (ℕ × ℕ)) (pes : ℕ) (names present others cuts : List ℕ) → IsPresentOrder sizes pes names present → IsPresentOrder sizes pes others cuts → (n b : ℕ) → b < n → b < pes → slice_index names b ≡ slice_index others b
 same_names sizes pes names present others cuts h o zero b before inside = absurd (omega arith)
 same_names sizes pes names present others cuts h o (suc n) b before inside =

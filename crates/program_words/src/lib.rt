@@ -1,5 +1,5 @@
-//! What the programs have in common: the arguments of their command lines, and the options that several of them take. clap
-//! reads the arguments, and writes the texts for what it refuses, for help and for the version.
+//! What the programs have in common: the arguments of their command lines, and how those that several of them take are
+//! declared. clap reads the arguments, and writes the texts for what it refuses, for help and for the version.
 //!
 //! - [`on_words`]: runs a program on its arguments; [`refused`]: prints why there is nothing to run; [`NO_WORDS`] and
 //!   [`words_status`]: the status then.

@@ -98,7 +98,7 @@ pub trait Pup<A: Allocator>: Sized {
     /// # Errors
     ///
     /// - [`Short`](PupError::Short): the bytes end before the value does.
-    /// - [`Bad`](PupError::Bad): the bytes are no value of the type.
+    /// - [`Bad`](PupError::Bad): the bytes are not a value of the type.
     /// - [`TooLong`](PupError::TooLong): a list has more than 1,048,576 items, or the value would pack into more
     ///   than 1,048,576 bytes.
     /// - [`OutOfMemory`](PupError::OutOfMemory): memory was refused. It may be reported in place of a refusal that only later

@@ -199,7 +199,7 @@ block_starts s cuts (suc b) h read begins inside =
     ] in
     subst (λ n. (s.start (slice_index cuts (n + 1)) ≤ slice_index cuts n) × (slice_index cuts n ≤ slice_index cuts (n + 1))) (add-one b) (level.from, ordered)
 
--- what the first cuts between blocks cost, this number of them
+-- what the first b cuts between blocks cost
 abbrev pub cost_to : Searched → List ℕ → ℕ → ℕ
 cost_to s cuts b = total b (λ k. cut_cost s.sizes s.names k (slice_index cuts (k + 1)))
 

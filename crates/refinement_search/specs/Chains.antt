@@ -21,7 +21,7 @@ pub record IsSpanned (c : Chain) : Type 0 where
   pub fars : length c.far.now ≡ length c.names.now
   pub spans : AreSpans c.present.now (length c.names.now) (length c.sizes.now) (slice_index c.starts.now) (slice_index c.near.now) (slice_index c.far.now)
 
--- the rows of the first blocks, this number of them
+-- the rows of the first `blocks` blocks
 abbrev pub ArePiledOn : Chain → ℕ → (ℕ → ℕ → ℕ) → Type 0
 ArePiledOn c blocks at =
     ArePiled c.sizes.now c.names.now (2 ^ 62) (slice_index c.starts.now) (slice_index c.near.now) (slice_index c.far.now) blocks at

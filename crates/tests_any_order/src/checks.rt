@@ -30,7 +30,7 @@ impl Numbers {
     }
 }
 
-// The next numbers, this number of them.
+// The next `count` numbers.
 fn places(rt: &(impl Abort + AllocGlobal), numbers: &mut Numbers, count: u32) -> Vec<u32> {
     let mut places = Vec::new(rt.alloc());
     for _ in 0..count {
@@ -39,7 +39,7 @@ fn places(rt: &(impl Abort + AllocGlobal), numbers: &mut Numbers, count: u32) ->
     places
 }
 
-// The next steps, this number of them.
+// The next `count` steps.
 fn steps(rt: &(impl Abort + AllocGlobal), numbers: &mut Numbers, count: u32) -> Levels {
     let mut steps = Vec::new(rt.alloc());
     for _ in 0..count {

@@ -92,7 +92,7 @@ pub(crate) fn has_fault(alloc: Global, text: &[u8], from: usize, fault: DumpErro
     decodes_to(alloc, text, Some(fault)) && keeps_fault(alloc, text, from, fault)
 }
 
-// Whether the first bytes of a text, this number of them, end too soon.
+// Whether the first `len` bytes of a text end too soon.
 fn is_short(alloc: Global, text: &[u8], len: usize) -> bool {
     let start = &text[..len.min(text.len())];
     let Ok(bytes) = u32::try_from(start.len()) else {

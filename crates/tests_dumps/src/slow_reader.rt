@@ -70,7 +70,7 @@ fn read_letters(reading: &mut Reading<'_>) -> Result<usize, DumpError> {
     Ok(if last == 49 { 4 } else { 8 })
 }
 
-// The elements, this number of them, on this number of PEs.
+// The `count` elements, on `procs` PEs.
 fn read_elements(
     reading: &mut Reading<'_>,
     load_len: usize,
@@ -108,7 +108,7 @@ fn read_plan(reading: &mut Reading<'_>, count: u32) -> Result<u64, DumpError> {
     next_in(reading, 4, (0, u64::from(count)), DumpError::MoveCount)
 }
 
-// The moves, this number of them, of elements below a count.
+// The moves, of elements below a count.
 fn read_moves(reading: &mut Reading<'_>, moves: u64, count: u32) -> Result<(), DumpError> {
     let last = u64::from(count).saturating_sub(1);
     for k in 0..u32::try_from(moves).unwrap_or(u32::MAX) {

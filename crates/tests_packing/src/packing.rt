@@ -120,7 +120,7 @@ fn each_prefix_of_a_state_is_short(rt: HostRuntime) {
     expect_short::<State>(&rt, &STATE);
 }
 
-/// A share in percent. Bytes with a number above a hundred are no share.
+/// A share in percent. Bytes with a number above a hundred are not a share.
 #[derive(Drop)]
 struct Share {
     percent: u32,

@@ -89,7 +89,7 @@ fn a_changed_byte_is_reported(rt: HostRuntime) {
     }
 }
 
-// Whether these first bytes of the example, this number of them, are reported as too few.
+// Whether these first `len` bytes of the example are reported as too few.
 fn is_short(rt: &(impl Abort + AllocGlobal), start: &[u8], len: u32) -> bool {
     let line = format!(in rt.alloc(); "dump: ends at byte {len}\n").expect(rt, "out of memory");
     let short = replays(rt, start, &line, Ended::Dump(DumpError::Short(len)));
