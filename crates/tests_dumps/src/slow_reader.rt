@@ -53,7 +53,7 @@ fn next_in(
     Ok(number)
 }
 
-// This number of numbers, of any value.
+// The next `count` numbers, of any value.
 fn pass(reading: &mut Reading<'_>, len: usize, count: u64) -> Result<(), DumpError> {
     for _ in 0..count {
         next(reading, len)?;

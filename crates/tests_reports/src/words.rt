@@ -4,7 +4,7 @@ use crate::fixtures::assert_for;
 use report_command_line::{NumbersError, asked, numbers, refuse_numbers, words_status};
 use std::alloc::Global;
 
-// Whether this text is read as this number of numbers, the last of them this one; or as none.
+// Whether this text is read as `count` numbers, the last of them this one; or as none.
 fn reads(alloc: Global, text: &str, count: usize, last: Option<u32>) -> bool {
     let Ok(found) = numbers(alloc, text) else {
         return count == 0;
