@@ -1,4 +1,4 @@
--- Where bounds stay on a level, they rise by no more than blocks bring if they do so at its ends.
+-- Bounds that stay on a level rise everywhere by no more than blocks bring, if they do so at the ends of the level.
 use Rattle.std.proofs.Common.{◌≡◌, ◌≢◌, ℕ, zero, suc, ◌+◌, ◌-◌, ◌≤◌, Bool, true, false, inl, inr, eqb, cond, ◌||◌, ◌&&◌, List, length, arith, refl, subst, sym, add-zero}
 use Rattle.std.proofs.lemmas.Bool.{eq-eqb, ne_eqb}
 use Rattle.std.proofs.lemmas.Bool.Decides.{nat_tests}
@@ -20,7 +20,7 @@ brought_wider sizes a b c d pe low onward high =
       sum_after (λ size. moved_bytes size pe) sizes b d high,
     )
 
--- what a test of a level says
+-- what a test of a level shows
 pub record IsLevel (sizes : List (ℕ × ℕ)) (any free : ℕ → ℕ) (x : ℕ) : Type 0 where
   pub home_same : home sizes x ≡ home sizes (x + 1)
   pub any_same : any x ≡ any (x + 1)

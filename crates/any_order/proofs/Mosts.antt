@@ -1,4 +1,4 @@
--- The most that a PE holds, where one of them holds more.
+-- The most bytes on any PE, where one of the PEs gets more.
 use Rattle.std.proofs.Common.{◌≡◌, ◌≢◌, ℕ, ◌+◌, ◌<◌, ◌≤◌, max, inl, inr, List, slice_index, arith, subst, sym, ◌∙◌}
 use Rattle.std.proofs.lemmas.Bool.{cases_eq, cases_lt}
 use Rattle.std.proofs.lemmas.Bool.Decides.{nat_tests}
@@ -8,7 +8,7 @@ use Rattle.chain_refinement.specs.Refinement.{held_bytes}
 use Rattle.any_order.specs.Internal.{held_between, IsMost}
 use Rattle.any_order.specs.declared.most.Most.{Most}
 
--- no elements
+-- without elements
 pub nothing_held : (sizes : List (ℕ × ℕ)) (y own : ℕ) → own < PES → ((pe : ℕ) → held_between sizes y y pe ≡ 0) → IsMost (held_between sizes y y) own (record { pe = PES; bytes = 0; others = 0 })
 nothing_held sizes y own low none =
     record {
@@ -87,7 +87,7 @@ held_here element = grind (arith, nat_tests)
 held_elsewhere : (element : ℕ × ℕ) (pe : ℕ) → pe ≢ element.1 → held_bytes element pe ≡ 0
 held_elsewhere element pe apart = grind (arith, nat_tests)
 
--- an element joins that stands on the PE that is left out
+-- an element joins that is on the PE that is left out
 pub joins_own : (held next : ℕ → ℕ) (own : ℕ) (element : ℕ × ℕ) (most : Most) → IsMost held own most → ((pe : ℕ) → next pe ≡ held pe + held_bytes element pe) → element.1 ≡ own → IsMost next own most
 joins_own held next own element most before more here =
     let (other, away, below, there) = before.others_reached in
@@ -99,7 +99,7 @@ joins_own held next own element most before more here =
       others_above = λ pe apart away. omega (arith, before.others_above pe apart away, more pe, held_elsewhere element pe (λ e. apart (e ∙ here)));
     }
 
--- an element joins that stands on another PE
+-- an element joins that is on another PE
 pub joins_other : (held next : ℕ → ℕ) (own : ℕ) (element : ℕ × ℕ) (most result : Most) (place bytes : ℕ) (kept : List ℕ) → ((held next : ℕ → ℕ) (own : ℕ) → IsMost held own most → place ≢ own → next place ≡ slice_index kept place + bytes → ((other : ℕ) → other ≢ place → next other ≡ held other) → held place ≤ slice_index kept place + bytes → IsMost next own result) → place ≢ own → place ≡ element.1 → bytes ≡ element.0 → IsMost held own most → held element.1 ≡ slice_index kept element.1 → ((pe : ℕ) → next pe ≡ held pe + held_bytes element pe) → IsMost next own result
 joins_other held next own element most result place bytes kept raises foreign at size before here more =
     let there : held place ≡ slice_index kept place = subst (λ p. held p ≡ slice_index kept p) (sym at) here in

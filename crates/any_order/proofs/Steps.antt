@@ -37,6 +37,6 @@ reached_there steps x next level d h behind =
 pub none_reached : (steps : List (ℕ × ℕ)) (x : ℕ) → IsReached steps x (record { next = 0; level = 0 })
 none_reached steps x = record { inside = omega arith; left = λ z above. refl }
 
--- what is followed to a place is so for the next
+-- steps that are followed to a place are followed to the next
 pub reached_next : (steps : List (ℕ × ℕ)) (x : ℕ) (at : Reached) → IsReached steps x at → IsReached steps (x + 1) at
 reached_next steps x at h = record { inside = h.inside; left = λ z above. h.left z (omega arith) }

@@ -1,4 +1,4 @@
--- What an answer of the check says.
+-- What an answer of the check implies.
 use Rattle.std.proofs.Common.{◌≡◌, ℕ, ◌≤◌, ◌↔◌, ◌+◌, List, length, Result, Ok, Err, IsOk, OnOk, IfErr, arith, refl}
 use Rattle.lb_certificates.specs.Certificate.{IsCertified}
 use Rattle.lb_certificates.specs.Chain.{peak}

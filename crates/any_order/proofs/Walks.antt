@@ -25,7 +25,7 @@ pub between_more : {X : Type 0} (f : X → ℕ) (xs : List X) (y x : ℕ) (d : X
 between_more f xs y x d onward inside =
     omega (arith, sum_after f xs y (x + 1) (omega arith), sum_after f xs y x onward, sum_by_more f xs x d inside)
 
--- what a block brings to a PE, and what stands there, are its bytes
+-- what a block brings to a PE, and what is on that PE already, are its bytes
 pub block_whole : (sizes : List (ℕ × ℕ)) (y x pe : ℕ) → brought sizes y x pe + held_between sizes y x pe ≡ bytes_between sizes y x
 block_whole sizes y x pe = elements_whole (slice_range sizes y x) pe
 
@@ -166,7 +166,7 @@ next_risen claim y x before here onward z low high within light corner =
     at_end z back ahead (inl same) = absurd (omega (arith, same, ahead))
     at_end z back ahead (inr (edge, ends)) = subst (λ n. IsFalse (is_high_level claim n)) back ends
 
--- behind a block that is too heavy all are
+-- behind a block that is too heavy all blocks are too heavy
 pub too_heavy : (claim : Claimed) (y x weight : ℕ) → y ≤ x → x < length claim.loads → RisesFrom claim y (x + 1) → weight ≡ load claim.loads y x → claim.limit < weight + get_or claim.loads x 0 → RisesFrom claim y (length claim.loads + 1)
 too_heavy claim y x weight onward inside before weighed heavy z low high within light corner =
     elim (leb_tells z x) [
@@ -207,7 +207,7 @@ next_walk claim y x own bytes weight units own_bytes kept most next onward insid
       high_is = there;
     }
 
--- the first end of a block by which bounds rise by more
+-- the first end of a block at which bounds rise by more
 pub steep_end : (claim : Claimed) (y x own bytes weight units own_bytes : ℕ) (kept : List ℕ) (most : Most) → y ≤ x → x < length claim.loads → IsFalse (is_low_level claim y)
     → weight ≡ load claim.loads y x → RisesFrom claim y (x + 1) → units ≡ get_or claim.loads x 0 → weight + units ≤ claim.limit
     → IsHolding claim.sizes y (x + 1) own kept most bytes → own ≡ home claim.sizes y → own < PES → own_bytes ≡ slice_index kept own
@@ -247,7 +247,7 @@ begin_walk claim y own kept high counted zeros low here there =
       high_is = there;
     }
 
--- the bounds where they are followed to
+-- the bounds at the place to which they are followed
 pub pair_of : (any free : List (ℕ × ℕ)) (x : ℕ) (at : At) (pair : Pair) → IsAt any free x at → pair ≡ record { any = at.any.level; free = at.free.level } → pair ≡ record { any = level_at any 0 x; free = level_at free 0 x }
 pair_of any free x at pair there same = rw (← there.any_is, ← there.free_is) same
 

@@ -13,7 +13,7 @@ use Rattle.lb_certificates.specs.Naming.{IsNaming, bytes_moved, moved_bytes}
 use Rattle.chain_refinement.specs.Tolerances.{limit_of}
 use Rattle.any_order.specs.declared.reordered.Reordered.{Reordered}
 
--- a plan: the cuts divide all elements into so many blocks, none of them is above the limit, and each has a PE of its own
+-- a plan: the cuts divide all elements into this number of blocks, none is above the limit, and each has a PE of its own
 pub record IsPlan (loads : List ℕ) (blocks limit : ℕ) (cuts names : List ℕ) : Type 0 where
   pub divides : IsDivision 0 (length loads) blocks cuts
   pub within : NoneAbove loads blocks limit cuts
@@ -24,7 +24,7 @@ pub record AreFewestOfAll (loads : List ℕ) (sizes : List (ℕ × ℕ)) (blocks
   pub plan : IsPlan loads blocks limit cuts names
   pub fewest : (other_cuts other_names : List ℕ) → IsPlan loads blocks limit other_cuts other_names → bytes_moved sizes cuts names ≤ bytes_moved sizes other_cuts other_names
 
--- the home of a place: the PE on which the element there stands; behind the last element any number will do
+-- the home of a place: the PE that the element there is on; behind the last element any number will do
 abbrev pub home : List (ℕ × ℕ) → ℕ → ℕ
 home sizes x = (slice_index_or sizes x (0, 0)).1
 
@@ -32,11 +32,11 @@ home sizes x = (slice_index_or sizes x (0, 0)).1
 abbrev pub brought : List (ℕ × ℕ) → ℕ → ℕ → ℕ → ℕ
 brought sizes y x pe = sum_by (λ size. moved_bytes size pe) (slice_range sizes y x)
 
--- Two bounds from below on the bytes that a number of blocks move which end at x: `any x` whatever their PEs are, and
--- `free x` where none of them is the home of x. One more block y..x moves what it brings to its PE, and none of those
--- before it is on that PE: so these move at least `free y` where it is the home of y, and `any y` else. And a home of x
--- that is to stay free behind the block is free before it too. From the bounds for a number of blocks to the next ones
--- at x, bounds rise by no more than that, for each PE.
+-- Two lower bounds on the bytes that a number of blocks move which end at x: `any x` whatever their PEs are, and `free x` where
+-- none of them is the home of x. One more block y..x moves what it brings to its PE, and none of those before it is on that PE.
+-- So these move at least `free y` where it is the home of y, and otherwise `any y`. And a home of x that is to stay free behind
+-- the block is free before it too. From the bounds for a number of blocks to the next ones at x, bounds rise by no more than
+-- that, for each PE.
 pub record RisesTo (sizes : List (ℕ × ℕ)) (any free next_any next_free : ℕ → ℕ) (y x : ℕ) : Type 0 where
   pub of_any : (pe : ℕ) → next_any x ≤ (if home sizes y == pe then free y else any y) + brought sizes y x pe
   pub of_free : (pe : ℕ) → home sizes x ≢ pe → next_free x ≤ (if (home sizes y == pe) || (home sizes y == home sizes x) then free y else any y) + brought sizes y x pe
@@ -46,7 +46,7 @@ abbrev pub IsRise : List ℕ → List (ℕ × ℕ) → ℕ → (ℕ → ℕ) →
 IsRise loads sizes limit any free next_any next_free =
     (y x : ℕ) → y ≤ x → x ≤ length loads → load loads y x ≤ limit → RisesTo sizes any free next_any next_free y x
 
--- bounds for each number of blocks that show that no plan moves fewer than so many bytes
+-- bounds for each number of blocks that show that no plan moves fewer than this number of bytes
 pub record AreBounds (loads : List ℕ) (sizes : List (ℕ × ℕ)) (blocks limit : ℕ) (any free : ℕ → ℕ → ℕ) (bytes : ℕ) : Type 0 where
   pub any_starts : any 0 0 ≡ 0
   pub free_starts : free 0 0 ≡ 0
@@ -68,7 +68,7 @@ abbrev pub IsRiseAtCorners : List ℕ → List (ℕ × ℕ) → ℕ → (ℕ →
 IsRiseAtCorners loads sizes limit any free next_any next_free =
     (y x : ℕ) → y ≤ x → x ≤ length loads → load loads y x ≤ limit → IsCorner sizes any free next_any next_free y x → RisesTo sizes any free next_any next_free y x
 
--- the level at place x of steps (place, level): that of the last of the first ones that are not behind x, or else `before`
+-- the level at place x of steps (place, level): that of the last of the leading steps that are not behind x, or else `before`
 abbrev pub level_at : List (ℕ × ℕ) → ℕ → ℕ → ℕ
 level_at [] before x = before
 level_at (step ∷ steps) before x = if nat_le step.0 x then level_at steps step.1 x else before
@@ -81,7 +81,7 @@ bound_at rows b x = level_at (slice_index_or rows b []) 0 x
 abbrev pub reordered_limit : {A : Type 0} → Reordered A → ℕ
 reordered_limit r = limit_of r.least.bottleneck r.tolerance
 
--- Every part of a reordered division for so many PEs is right: its least division is certified, its cuts and names are a
+-- Every part of a reordered division for this number of PEs is right: its least division is certified, its cuts and names are a
 -- plan within the limit, and its bounds show that none moves fewer bytes.
 pub record IsReordered {A : Type 0} (loads : List ℕ) (sizes : List (ℕ × ℕ)) (pes : ℕ) (r : Reordered A) : Type 0 where
   pub least : IsCertified loads pes r.least

@@ -1,4 +1,4 @@
--- Words of this crate's own code, which no public contract has.
+-- Definitions for this crate's own code, which no public contract uses.
 use Rattle.std.specs.Prelude.{Bool, ◌≡◌, ◌≢◌, ℕ, ◌+◌, ◌-◌, ◌<◌, ◌≤◌, List, [], length, drop, slice_index, slice_index_or, slice_range, sum_by}
 use Rattle.chare_index.specs.declared.limits.TheConstants.Limits.{PES}
 use Rattle.lb_snapshot.specs.Measured.{IsLoads, IsSizes, load}
@@ -57,26 +57,26 @@ pub record AreMeasured (loads : List ℕ) (sizes : List (ℕ × ℕ)) : Type 0 w
   pub packed : IsSizes sizes
   pub paired : length loads ≡ length sizes
 
--- so many PEs, at least one, and an order of them
+-- this number of PEs, at least one, and an order of them
 pub record AreOrdered (pes : ℕ) (names : List ℕ) : Type 0 where
   pub some_pe : 0 < pes
   pub few_pes : pes ≤ PES
   pub naming : IsNaming pes names
 
--- the first of so many blocks that is above the limit
+-- the first of this number of blocks that is above the limit
 pub record IsFirstHeavy (loads : List ℕ) (blocks limit : ℕ) (cuts : List ℕ) (b : ℕ) : Type 0 where
   pub inside : b < blocks
   pub heavy : limit < block_load loads cuts b
   pub earlier : NoneAbove loads b limit cuts
 
--- the bytes of the elements y..x that stand on this PE, and all of them
+-- the bytes of the elements y..x that are on this PE, and all of them
 abbrev pub held_between : List (ℕ × ℕ) → ℕ → ℕ → ℕ → ℕ
 held_between sizes y x pe = sum_by (λ size. held_bytes size pe) (slice_range sizes y x)
 
 abbrev pub bytes_between : List (ℕ × ℕ) → ℕ → ℕ → ℕ
 bytes_between sizes y x = sum_by (λ size. size.0) (slice_range sizes y x)
 
--- the most that any PE but one holds, and on which it stands; and the most that any other holds
+-- the most bytes on any PE but one, and that PE; and the most on any other
 pub record IsMost (held : ℕ → ℕ) (own : ℕ) (most : Most) : Type 0 where
   pub apart : most.pe ≢ own
   pub reached : most.bytes ≤ held most.pe
@@ -84,7 +84,7 @@ pub record IsMost (held : ℕ → ℕ) (own : ℕ) (most : Most) : Type 0 where
   pub above : (pe : ℕ) → pe ≢ own → held pe ≤ most.bytes
   pub others_above : (pe : ℕ) → pe ≢ own → pe ≢ most.pe → held pe ≤ most.others
 
--- what the PEs hold of the elements y..x
+-- the bytes of the elements y..x on each PE
 pub record IsHolding (sizes : List (ℕ × ℕ)) (y x own : ℕ) (kept : List ℕ) (most : Most) (bytes : ℕ) : Type 0 where
   pub counted : length kept ≡ PES
   pub kept_is : (pe : ℕ) → pe < PES → slice_index kept pe ≡ held_between sizes y x pe
@@ -146,7 +146,7 @@ pub record IsFirstBlock (claim : Claimed) (block : ℕ × ℕ) : Type 0 where
   pub first : IsFirstEnd claim block.0 block.1
   pub earlier : RisesBelow claim block.0
 
--- they rise by no more up to those for so many blocks
+-- they rise by no more up to the bounds for this number of blocks
 abbrev pub RisesUpTo : Chain → ℕ → Type 0
 RisesUpTo c blocks = (b : ℕ) → b < blocks → RisesBelow (claim_at c b) (length c.loads + 1)
 
@@ -156,7 +156,7 @@ pub record IsFirstSteep (c : Chain) (blocks : ℕ) (place : ℕ × ℕ × ℕ) :
   pub first : IsFirstBlock (claim_at c place.0) (place.1, place.2)
   pub earlier : RisesUpTo c place.0
 
--- the first so many steps are behind or at place x, and this is the level of the last of them
+-- the first `at.next` steps are before or at place x, and `at.level` is the level of the last of them
 pub record IsReached (steps : List (ℕ × ℕ)) (x : ℕ) (at : Reached) : Type 0 where
   pub inside : at.next ≤ length steps
   pub left : (z : ℕ) → x ≤ z → level_at steps 0 z ≡ level_at (drop at.next steps) at.level z

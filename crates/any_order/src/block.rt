@@ -12,7 +12,7 @@ pub(crate) struct Pair {
     pub(crate) free: u64,
 }
 
-/// The bytes of a block, those that stand on the PE of its first element, and the most on another.
+/// The bytes of a block, those on the PE of its first element, and the most on another PE.
 #[derive(Clone, Copy)]
 pub(crate) struct Block {
     pub(crate) bytes: u64,

@@ -15,9 +15,9 @@ use crate::steep::first_steep;
 use lb_certificates::Snapshot;
 use std::alloc::Allocator;
 
-/// Checks cuts and names for `pes` PEs, whoever made them. `Ok` means that no block is above the limit, that the limit lies as
-/// far above the least possible load as the tolerance says, and that no cuts within the limit and no names of their blocks
-/// move fewer bytes, wherever the elements stand.
+/// Checks cuts and names for `pes` PEs, whoever made them. `Ok` means that no block is above the limit, that the limit is as
+/// far above the least possible load as the tolerance says, and that no cuts within the limit and no names of their blocks move
+/// fewer bytes, wherever the elements are.
 ///
 /// Any number of PEs and any lists may be passed. It takes no memory, and time in proportion to the elements times the PEs,
 /// and to the steps and the places at which the PE of the elements changes, each times the elements of a block that begins
@@ -25,9 +25,9 @@ use std::alloc::Allocator;
 ///
 /// # Errors
 ///
-/// The first [`ReorderedFlaw`] that applies, in their order, and of those of a kind the first by block and place.
+/// The first [`ReorderedFlaw`] that applies, in their order, and of those of one kind the first by block and place.
 ///
-/// That bounds are bounds on what plans move is the duality of shortest paths: R. K. Ahuja, T. L. Magnanti and J. B. Orlin,
+/// That the bounds limit what plans move is the duality of shortest paths: R. K. Ahuja, T. L. Magnanti and J. B. Orlin,
 /// "Network Flows", 1993, chapter 4.
 pub fn check_reordered<A: Allocator, B: Allocator>(
     snapshot: &Snapshot<A>,

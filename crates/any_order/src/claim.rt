@@ -38,14 +38,14 @@ impl<'a> Model for Claim<'a> {
     } };
 }
 
-/// How many elements there are.
+/// The number of elements.
 pub(crate) fn elements(claim: &Claim<'_>) -> usize
     ensures { result ≡ length claim.now.loads }
 {
     claim.loads.len()
 }
 
-/// The most that a block may weigh.
+/// The greatest load that a block may have.
 pub(crate) fn limit_of(claim: &Claim<'_>) -> u64
     ensures { result ≡ claim.now.limit }
 {
@@ -61,7 +61,7 @@ pub(crate) fn load_at(claim: &Claim<'_>, x: usize) -> u64
     claim.loads[x]
 }
 
-/// The size of an element, and where it stands.
+/// The size of an element, and the PE that it is on.
 pub(crate) fn element_at(claim: &Claim<'_>, x: usize) -> (u32, u32)
     requires measured { AreMeasured claim.now.loads claim.now.sizes }
     requires inside { x < length claim.now.loads }
@@ -72,7 +72,7 @@ pub(crate) fn element_at(claim: &Claim<'_>, x: usize) -> (u32, u32)
     (bytes, pe.get())
 }
 
-/// The PE on which the element at a place stands, and 0 behind the last one.
+/// The PE that the element at a place is on, and 0 behind the last one.
 pub(crate) fn home_at(claim: &Claim<'_>, x: usize) -> u32
     ensures value { result ≡ home claim.now.sizes x }
     ensures in_range { result < PES }

@@ -7,7 +7,7 @@ ghost use Rattle.any_order.specs.Internal.{IsReached};
 use crate::levels::Levels;
 use std::alloc::Allocator;
 
-/// How many steps are not behind a place, and the level of the last of them.
+/// The number of steps that are not behind a place, and the level of the last of them.
 #[derive(Clone, Copy)]
 pub(crate) struct Reached {
     pub(crate) next: usize,

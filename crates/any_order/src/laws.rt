@@ -4,7 +4,7 @@ ghost use Rattle.std.specs.Prelude.{◌≡◌, ◌≤◌, ℕ, List, length};
 ghost use Rattle.lb_certificates.specs.Naming.{bytes_moved};
 ghost use Rattle.any_order.specs.AnyOrder.{AreBounds, AreFewestOfAll, IsPlan, IsRise, IsRiseAtCorners};
 
-/// No plan within the limit moves fewer bytes than bounds say, wherever the elements stand.
+/// No plan within the limit moves fewer bytes than the bounds say, wherever the elements are.
 pub fn none_below_bounds()
     ensures none_below_bounds { (loads : List ℕ) (sizes : List (ℕ × ℕ)) (blocks limit : ℕ) (any free : ℕ → ℕ → ℕ) (bytes : ℕ) (cuts names : List ℕ)
         → length loads ≡ length sizes → AreBounds loads sizes blocks limit any free bytes → IsPlan loads blocks limit cuts names

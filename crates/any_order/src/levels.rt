@@ -6,7 +6,7 @@ use std::alloc::{Allocator, Global};
 use std::marker::Model;
 
 /// A bound along the chain, in bytes, as steps: a place, and the bound from it on, up to the next step; before the first step
-/// it is 0. It is a plain list, under no condition, and contracts see it as that list.
+/// the bound is 0. It is a plain list that may hold anything, and contracts see it as that list.
 #[derive(Drop)]
 #[derive_where(Debug)]
 pub struct Levels<A: Allocator = Global> {
@@ -35,7 +35,7 @@ impl<A: Allocator> Levels<A> {
     }
 }
 
-/// A bound for each number of blocks, from 0 on. It is a plain list, under no condition, and contracts see it as the list of
+/// A bound for each number of blocks, from 0 on. It is a plain list that may hold anything, and contracts see it as the list of
 /// the lists of steps.
 #[derive(Drop)]
 #[derive_where(Debug)]

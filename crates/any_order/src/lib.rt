@@ -1,5 +1,5 @@
-//! Balance within a tolerance where the PEs may change their order: of all divisions whose greatest load lies within a limit,
-//! and all namings of their blocks, one that moves the fewest bytes, and a checker for it.
+//! Balance within a tolerance where the PEs may change their order: of all divisions whose greatest load is within a limit, and
+//! all namings of their blocks, one that moves the fewest bytes, and a checker for it.
 //!
 //! - [`Reordered`]: the cuts and the names, with the division that the limit is measured from and the [`Bounds`] that prove
 //!   that no others move fewer bytes.

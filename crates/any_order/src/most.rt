@@ -1,4 +1,4 @@
-//! The PE that holds most of a block.
+//! The PE that has most of a block.
 
 ghost use Rattle.std.specs.Prelude.{◌≡◌, ◌≢◌, ℕ, ◌+◌, ◌<◌, ◌≤◌, ◌^◌, length, slice_index, slice_set};
 ghost use Rattle.chare_index.specs.declared.limits.TheConstants.Limits.{PES};
@@ -7,7 +7,7 @@ ghost use Rattle.any_order.specs.Internal.{IsMost};
 
 use chare_index::Limits;
 
-/// The most bytes that any PE but one holds of a block, on which PE, and the most that any other holds.
+/// The most bytes of a block on any PE but one, that PE, and the most on any other.
 #[derive(Clone, Copy)]
 pub(crate) struct Most {
     pub(crate) pe: u32,
@@ -16,7 +16,7 @@ pub(crate) struct Most {
 }
 
 impl Most {
-    /// Where no PE holds anything: it is on none.
+    /// Where no PE has any bytes, and the most is on none.
     pub(crate) const NOTHING: Most = Most {
         pe: Limits::PES,
         bytes: 0,
@@ -24,7 +24,7 @@ impl Most {
     };
 }
 
-/// The most, where this PE now holds so many bytes.
+/// The most, where this PE now has this number of bytes.
 #[tactic(auto, using(crate::proofs::Mosts::more_on_most, crate::proofs::Mosts::more_than_most, crate::proofs::Mosts::more_on_other))]
 pub(crate) fn raised(most: Most, pe: u32, bytes: u64) -> Most
     ensures { (held next : ℕ → ℕ) (own : ℕ) → IsMost held own most → pe ≢ own → next pe ≡ bytes

@@ -3,20 +3,20 @@ use chain_refinement::Tolerance;
 use lb_certificates::{Cuts, Division, Naming};
 use std::alloc::{Allocator, Global};
 
-/// Cuts within a limit and names of their blocks that move the fewest bytes of all, with all that proves it. It is plain
-/// data, under no condition: [`check_reordered`](crate::check_reordered) says whether every part of it is right.
+/// Cuts within a limit and names of their blocks that move the fewest bytes of all, with all that proves it. It is plain data
+/// that may hold anything: [`check_reordered`](crate::check_reordered) says whether every part of it is right.
 #[derive(Drop)]
 #[derive_where(Debug)]
 pub struct Reordered<A: Allocator = Global> {
-    /// A least division. Its bottleneck is what the limit is measured from.
+    /// A least division. The limit is measured from its bottleneck.
     pub least: Division<A>,
-    /// How far the limit lies above the bottleneck.
+    /// How far the limit is above the bottleneck.
     pub tolerance: Tolerance,
     /// Where the blocks begin and end.
     pub cuts: Cuts<A>,
-    /// On which PE each block runs.
+    /// The PE on which each block runs.
     pub names: Naming<A>,
-    /// For 0 to as many blocks as there are PEs: at each place a bound from below on the bytes that so many blocks move which
+    /// For 0 to as many blocks as there are PEs: at each place a lower bound on the bytes that this number of blocks move which
     /// end there.
     pub any: Bounds<A>,
     /// The same where none of these blocks runs on the PE of the element behind them.

@@ -38,7 +38,7 @@ pub(crate) fn moved_on(any: &[(u32, u64)], free: &[(u32, u64)], at: At, x: usize
     }
 }
 
-/// The bounds where they are followed to.
+/// The bounds at the place to which they are followed.
 pub(crate) fn pair_at(at: At) -> Pair
     ensures { result ≡ record { any = at.any.level; free = at.free.level } }
 {

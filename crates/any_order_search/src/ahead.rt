@@ -1,15 +1,15 @@
-//! What the blocks cost that are still to come, from a place on: a shortest path from the end of the chain.
+//! What the blocks that are still to come cost, from a place on: a shortest path from the end of the chain.
 //!
-//! A block y..x brings to a PE all its bytes but those that stand there. Only four PEs come into question: that of its first
-//! element, that of the element at x, the one of which the block contains most, and one of which it contains nothing. Where the
-//! elements of each PE stand together, PEs that keep something stand in their order, so a block has to know one thing of those
-//! before it: whether the PE of its first element is used.
+//! A block y..x brings to a PE all its bytes except those that are on it already. Only four PEs come into question: that of its
+//! first element, that of the element at x, the one that has most of the block, and one that has nothing of it. Where the
+//! elements of each PE are consecutive, the PEs that keep something stay in their present order. So a block has to know one
+//! thing of those before it: whether the PE of its first element is used.
 
 use crate::chain::{Chain, begin_of, bytes_of, farthest, run_at, run_bytes, start_of};
 use crate::row::{NONE, Row, any_at, free_at};
 use std::alloc::{AllocError, Allocator};
 
-/// The cheapest known way to go on: what it costs, the run whose PE the next block runs on, where that block ends, and
+/// The cheapest known way to continue: what it costs, the run whose PE the next block runs on, where that block ends, and
 /// whether the PE of the element there is still free.
 #[derive(Clone, Copy)]
 pub(crate) struct Way {
@@ -19,7 +19,7 @@ pub(crate) struct Way {
     pub(crate) free: bool,
 }
 
-/// No way.
+/// There is no way.
 const NOWHERE: Way = Way {
     cost: NONE,
     kept: None,
@@ -27,7 +27,8 @@ const NOWHERE: Way = Way {
     free: true,
 };
 
-// The greatest run that lies wholly between the beginning of a block and a place, and the run of that place.
+// Of the runs that are wholly between the beginning of a block and a place, the one with the most bytes; and the run of that
+// place.
 #[derive(Clone, Copy)]
 struct Inside {
     bytes: u64,
@@ -35,7 +36,7 @@ struct Inside {
     run: u32,
 }
 
-// Both ways to go on from a place: where the PE of its element is free, and where it is used.
+// Both ways to continue from a place: where the PE of its element is free, and where it is used.
 #[derive(Clone, Copy)]
 pub(crate) struct Ways {
     pub(crate) free: Way,
@@ -47,7 +48,7 @@ fn cheaper(one: Way, other: Way) -> Way {
     if other.cost < one.cost { other } else { one }
 }
 
-// The same where the block goes on to place x. The run before that of x is inside once the block reaches behind it.
+// The same where the block extends to place x. The run before that of x is inside once the block reaches past its end.
 fn reached<A: Allocator>(chain: &Chain<'_, A>, own: u32, inside: Inside, x: u32) -> Inside {
     let run = run_at(chain, x);
     if run == inside.run || inside.run == own {
@@ -97,8 +98,8 @@ fn ways_within<A: Allocator>(
     }
 }
 
-// The ways by a block y..x that ends in another run: on the PE of its first element, on that of the element at x, on that of the
-// greatest run inside, or on one of which it contains nothing.
+// The ways by a block y..x that ends in another run: on the PE of its first element, on that of the element at x, on that of
+// the greatest run inside, or on one that has nothing of it.
 fn ways_across<A: Allocator>(
     chain: &Chain<'_, A>,
     next: &Row<A>,
@@ -184,7 +185,7 @@ pub(crate) fn ways_from<A: Allocator>(
 ///
 /// # Errors
 ///
-/// Out of memory.
+/// Memory was refused.
 fn row_before<A: Allocator + Copy>(
     alloc: A,
     chain: &Chain<'_, A>,
@@ -207,7 +208,7 @@ fn row_before<A: Allocator + Copy>(
 ///
 /// # Errors
 ///
-/// Out of memory.
+/// Memory was refused.
 pub(crate) fn rows_ahead<A: Allocator + Copy>(
     alloc: A,
     chain: &Chain<'_, A>,
@@ -235,12 +236,12 @@ pub(crate) fn rows_ahead<A: Allocator + Copy>(
     Ok(rows)
 }
 
-/// For each number of blocks, from 0 on, the first and the last place at which so many may end, where the others are to contain
-/// the rest.
+/// For each number of blocks, from 0 on, the first and the last place at which this number of blocks may end, where the others
+/// are to contain the rest.
 ///
 /// # Errors
 ///
-/// Out of memory.
+/// Memory was refused.
 pub(crate) fn spans_of<A: Allocator>(
     alloc: A,
     chain: &Chain<'_, A>,

@@ -1,4 +1,4 @@
-//! A chain, with all that a search asks of it at a place. What lies outside is 0, so that every call has an answer.
+//! A chain, with all that a search needs to know of a place. Values outside the chain are 0, so that every call has an answer.
 
 ghost use Rattle.std.specs.Prelude.{◌<◌, ◌^◌, length};
 
@@ -6,14 +6,14 @@ use chare_index::Pe;
 use lb_certificates::Units;
 use std::alloc::{AllocError, Allocator};
 
-/// A chain of elements, the runs in which they stand on PEs, and the widest blocks within a limit.
+/// A chain of elements, the runs of them on each PE, and the widest blocks within a limit.
 #[derive(Drop)]
 pub(crate) struct Chain<'a, A: Allocator> {
     /// The place behind the last element.
     pub(crate) end: u32,
     /// The bytes of the elements before each place.
     pub(crate) before: Vec<u64, A>,
-    /// The first place at which a block within the limit may begin that ends at each place.
+    /// For each place the first place at which a block within the limit may begin that ends there.
     pub(crate) starts: Vec<u32, A>,
     /// The run of the element at each place; behind the last element, the number of runs.
     pub(crate) runs: Vec<u32, A>,
@@ -82,7 +82,7 @@ pub(crate) fn farthest<A: Allocator>(chain: &Chain<'_, A>, y: u32) -> u32 {
 ///
 /// # Errors
 ///
-/// Out of memory.
+/// Memory was refused.
 pub(crate) fn chain_of<'a, A: Allocator + Copy>(
     alloc: A,
     loads: &[Units],
@@ -134,7 +134,7 @@ fn widened(loads: &[Units], widest: Widest, load: u64, limit: u64) -> Widest {
     Widest { start, weight }
 }
 
-// The first place at which a block within the limit may begin that ends at each place.
+// For each place the first place at which a block within the limit may begin that ends there.
 fn starts_within<A: Allocator>(
     alloc: A,
     loads: &[Units],

@@ -1,7 +1,8 @@
-//! Bounds that prove what a search has found: at each place as few different ones as are high enough.
+//! Bounds that prove what a search has found, with as few steps as possible among those that are high enough.
 //!
-//! At a place a bound has to be at least what the whole costs less what is still to come, and it may be at most what the bounds
-//! before the last block and that block allow. Between the two it stays as it is as long as it can, so that there are few steps.
+//! At a place a bound has to be at least the whole cost less the cost that is still to come, and it may be at most what the
+//! bounds before the last block and that block allow. Between the two it keeps its level as long as it can, so that there are
+//! few steps.
 
 use crate::chain::{Chain, begin_of, bytes_of, run_at, run_bytes, start_of};
 use crate::row::{NONE, Row, any_at, free_at};
@@ -60,7 +61,7 @@ fn with_block<A: Allocator>(
     }
 }
 
-// What the bounds before the last block and all blocks within the limit that end at x allow.
+// What is allowed by the bounds before the last block and all blocks within the limit that end at x.
 fn caps_at<A: Allocator>(chain: &Chain<'_, A>, low: &Row<A>, x: u32) -> Caps {
     let mut caps = Caps {
         any: NONE,
@@ -77,8 +78,8 @@ fn caps_at<A: Allocator>(chain: &Chain<'_, A>, low: &Row<A>, x: u32) -> Caps {
     }
 }
 
-// The same at each of the places first..=last, lowered to what the places behind allow, since a bound for any PEs never falls,
-// and one for a free PE does not within a run.
+// The same at each of the places first..=last, lowered to what the places behind them allow, since a bound for any PEs never
+// falls, and one for a free PE never falls within a run.
 fn caps_of<A: Allocator + Copy>(
     alloc: A,
     chain: &Chain<'_, A>,
@@ -108,7 +109,7 @@ fn caps_of<A: Allocator + Copy>(
     Ok(Row { first, any, free })
 }
 
-// The level that goes on, or the cap where what is needed is above it.
+// The same level as before, or the cap where what is needed is above that level.
 fn raised(level: u64, needed: u64, cap: u64) -> u64 {
     if needed > level { cap } else { level }
 }
@@ -148,7 +149,7 @@ fn bounds_between<A: Allocator + Copy>(
     Ok(Row { first, any, free })
 }
 
-// These levels as steps: 0 before the first place, and the whole behind the last.
+// These levels as steps: 0 before the first place, and the whole cost behind the last.
 fn steps_of<A: Allocator>(
     alloc: A,
     first: u32,
@@ -193,11 +194,12 @@ fn with_row<A: Allocator + Copy>(
     Ok(Both { any, free })
 }
 
-/// Bounds for each number of blocks, for a whole of so many bytes, by the costs ahead, from the last row to the first.
+/// Bounds for each number of blocks, for a whole cost of this number of bytes, by the costs ahead, from the last row to the
+/// first.
 ///
 /// # Errors
 ///
-/// Out of memory.
+/// Memory was refused.
 pub(crate) fn bounds_of<A: Allocator + Copy>(
     alloc: A,
     chain: &Chain<'_, A>,

@@ -6,7 +6,7 @@ use crate::row::Row;
 use lb_certificates::{Cuts, Naming};
 use std::alloc::{AllocError, Allocator};
 
-// The cuts of a plan, and the run whose PE each block runs on, where it keeps something.
+// The cuts of a plan, and for each block the run whose PE it runs on, where it keeps something.
 #[derive(Drop)]
 struct Blocks<A: Allocator> {
     cuts: Vec<u32, A>,
@@ -38,7 +38,7 @@ fn blocks_of<A: Allocator + Copy>(
     Ok(Blocks { cuts, kept })
 }
 
-// The cheapest way on from a place, whose PE is free or used.
+// The cheapest way to continue from a place, whose PE is free or used.
 fn next_way<A: Allocator>(
     chain: &Chain<'_, A>,
     costs: &Row<A>,
@@ -58,7 +58,7 @@ fn pe_of(order: &[u32], run: u32) -> Option<u32> {
     }
 }
 
-// Whether some block keeps what stands on this PE.
+// Whether some block keeps what is on this PE.
 fn is_kept(order: &[u32], kept: &[Option<u32>], pe: u32) -> bool {
     for &run in kept {
         if let Some(run) = run {
@@ -70,7 +70,7 @@ fn is_kept(order: &[u32], kept: &[Option<u32>], pe: u32) -> bool {
     false
 }
 
-// The PEs of which no block keeps anything, in descending order.
+// The PEs from which no block keeps anything, in descending order.
 fn others_of<A: Allocator>(
     alloc: A,
     order: &[u32],
@@ -86,7 +86,7 @@ fn others_of<A: Allocator>(
     Ok(others)
 }
 
-// The names of these blocks: the PE of which a block keeps something, and for the others the rest in ascending order.
+// The names of these blocks: the PE from which a block keeps something, and for the other blocks the rest in ascending order.
 fn names_of<A: Allocator + Copy>(
     alloc: A,
     order: &[u32],
@@ -109,7 +109,7 @@ fn names_of<A: Allocator + Copy>(
 ///
 /// # Errors
 ///
-/// Out of memory.
+/// Memory was refused.
 pub(crate) fn plan_of<A: Allocator + Copy>(
     alloc: A,
     chain: &Chain<'_, A>,

@@ -11,7 +11,7 @@ pub(crate) struct Row<A: Allocator> {
     pub(crate) free: Vec<u64, A>,
 }
 
-/// No cost: the place can't be reached.
+/// No cost: the place cannot be reached.
 pub(crate) const NONE: u64 = u64::MAX;
 
 // The item of a place in a list that begins at another, and `NONE` outside.

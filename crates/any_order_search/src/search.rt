@@ -14,16 +14,17 @@ use lb_certificates::{Cuts, Division, Naming, Sizes, Snapshot, Units};
 use present_order::PresentOrder;
 use std::alloc::{AllocError, Allocator};
 
-/// Cuts of this snapshot's elements within a tolerance above the least division, and names of their blocks, that move the fewest
-/// bytes of all, where the search finds them with their proof. It does not search where its table would be larger than
-/// [`TABLE`](crate::TABLE), which depends on the loads, the sizes, the places, `pes` and the tolerance alone.
+/// Cuts of this snapshot's elements within a tolerance above the least division, and names of their blocks, that move the
+/// fewest bytes of all, where the search finds them with their proof. It does not search where its table would be larger than
+/// [`TABLE`](crate::TABLE). The size of the table depends on nothing but the loads, the sizes, the places, `pes` and the
+/// tolerance.
 ///
-/// The search is a shortest path through the cuts, layer by layer, with two states for each place: it is exact where the elements
-/// of each PE stand together. That the answer is right does not rest on it, but on the check.
+/// The search is a shortest path through the cuts, layer by layer, with two states for each place: it is exact where the
+/// elements of each PE are consecutive. The answer is right because of the check, not because of the search.
 ///
 /// # Errors
 ///
-/// Out of memory.
+/// Memory was refused.
 pub fn reorder<A: Allocator + Copy, B: Allocator>(
     alloc: A,
     snapshot: &Snapshot<B>,
@@ -99,7 +100,7 @@ fn search<A: Allocator + Copy, B: Allocator>(
     Ok(Some(with_bounds(alloc, &chain, &spans, order.names.as_slice(), pes)?))
 }
 
-// The plan and the bounds, where so many blocks end between these places.
+// The plan and the bounds, where each number of blocks ends between these places.
 fn with_bounds<A: Allocator + Copy>(
     alloc: A,
     chain: &Chain<'_, A>,

@@ -1,10 +1,10 @@
-//! How large the table of a search is.
+//! The size of the table of a search.
 
 use crate::chain::{Chain, start_of};
 use std::alloc::Allocator;
 
-/// The greatest table of a search: how many blocks within the limit it may go through, counted for each number of blocks before
-/// them.
+/// The greatest table of a search: the number of blocks within the limit that it may go through, counted for each number of
+/// blocks before them.
 pub const TABLE: u64 = 134_217_728;
 
 // The blocks that end at the places first..=last.

@@ -95,7 +95,7 @@ some_ends xs limit (suc k) =
     let next = some_end xs before.0 limit (ends_inside xs k limit before.0 before.1) in
     (next.0, rw (← add-one k) (ends_more xs k limit before.0 next.0 before.1 next.1))
 
--- i ranges of a fence above an even share and the greatest load weigh more than i shares
+-- i ranges of a fence above an even share and the greatest load have more load than i shares
 fence_weight : (xs stops : List ℕ) (p share greatest : ℕ) → All (λ w. w ≤ greatest) xs → IsFence xs p (share + greatest + 1) stops → (i : ℕ) → i ≤ p → i * (share + 1) ≤ load xs 0 (slice_index stops i)
 fence_weight xs stops p share greatest small fence zero inside = omega arith
 fence_weight xs stops p share greatest small fence (suc i) inside =
@@ -129,7 +129,7 @@ pub all_within_sum : (xs : List ℕ) → All (λ w. w ≤ sum xs) xs
 all_within_sum xs i d inside =
     omega (arith, sum_by_more_le (λ x. x) xs i d inside)
 
--- that limit is below 2^16
+-- that limit is below 2^64
 pub share_small : (xs : List ℕ) (p greatest : ℕ) → sum xs < 2 ^ 63 → greatest ≤ sum xs → load xs 0 (length xs) / p + greatest < 2 ^ 64
 share_small xs p greatest small low =
     omega (arith, load_after xs 0 (length xs) (omega arith), sum_by-take-le (λ x. x) xs (length xs), div-le_self (load xs 0 (length xs)) p)
@@ -170,7 +170,7 @@ greater_stops xs p a b h k limit below =
       | inr behind ↦ k limit (omega arith)
     ]
 
--- up to each cut, the element stands behind it, or a block has it
+-- for each cut, element i is behind it, or its load is at most the peak
 behind_cut : (xs : List ℕ) (p i : ℕ) (cuts : List ℕ) → IsDivision 0 (length xs) p cuts → i < length xs → (k : ℕ) → k ≤ p → (slice_index cuts k ≤ i) ⊎ (get_or xs i 0 ≤ peak xs cuts)
 behind_cut xs p i cuts division within zero inside = inl (omega (arith, division.starts))
 behind_cut xs p i cuts division within (suc k) inside =
@@ -193,7 +193,7 @@ each_fits xs p limit fit i d inside =
       | inr heavy ↦ omega (arith, heavy, fit.2, get_or_default xs i d 0 inside)
     ]
 
--- so many blocks weigh at most so many peaks
+-- the first k blocks weigh at most k peaks
 blocks_weight : (xs : List ℕ) (p : ℕ) (cuts : List ℕ) → IsDivision 0 (length xs) p cuts → (k : ℕ) → k ≤ p → load xs 0 (slice_index cuts k) ≤ k * peak xs cuts
 blocks_weight xs p cuts division zero inside =
     omega (arith, ap (λ n. load xs 0 n) division.starts, load_nothing xs 0)
@@ -206,7 +206,7 @@ blocks_weight xs p cuts division (suc k) inside =
     let last = load_after xs (slice_index cuts k) (slice_index cuts (suc k)) rises in
     omega (arith, before, block, whole, front, last)
 
--- so many limits that can hold all elements are no less than their total
+-- a limit that holds all elements, times the number of blocks, is at least their total
 total_fits : (xs : List ℕ) (p limit : ℕ) → CanFit xs p limit → load xs 0 (length xs) ≤ p * limit
 total_fits xs p limit fit =
     omega (arith, subst (λ n. load xs 0 n ≤ p * peak xs fit.0) fit.1.ends (blocks_weight xs p fit.0 fit.1 p (omega arith)), mul-le-mul_left p fit.2)

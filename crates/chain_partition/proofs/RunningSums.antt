@@ -25,7 +25,7 @@ pub load_within : (xs : List ℕ) (a b : ℕ) → a ≤ b → load xs a b ≤ su
 load_within xs a b onward =
     omega (arith, load_after xs a b onward, sum_by-take-le (λ x. x) xs b)
 
--- the load of a range fits
+-- the load of a range is below 2^63
 pub load_fits : (xs samples : List ℕ) (a b : ℕ) → IsSampled xs samples → a ≤ b → load xs a b < 2 ^ 63
 load_fits xs samples a b h onward =
     omega (arith, load_within xs a b onward, h.chain.light)

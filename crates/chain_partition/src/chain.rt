@@ -7,12 +7,12 @@ use lb_certificates::{Loads, Units, total};
 use std::alloc::{AllocError, Allocator, Global};
 use std::marker::Model;
 
-// How many elements there are between two running sums that are kept.
+// The number of elements from one running sum that is kept to the next.
 pub(crate) const STRIDE: usize = 16;
 
-/// The loads of a chain of up to 4,294,967,295 elements, which are borrowed, and its running sums, by which the load of
-/// any range of elements is two short sums. One running sum in 16 is kept: half a byte an element. Contracts see a chain
-/// as the list of its loads.
+/// The loads of a chain of up to 4,294,967,295 elements, which are borrowed, and its running sums, by which the load of any
+/// range of elements is two short sums. One running sum in 16 is kept: half a byte for each element. Contracts see a chain as
+/// the list of its loads.
 #[derive(Drop)]
 #[derive_where(Debug)]
 pub struct Chain<'a, A: Allocator = Global> {
@@ -38,7 +38,7 @@ impl<'a, A: Allocator> Chain<'a, A> {
     /// # Errors
     ///
     /// [`ChainError::TooLong`] for 2^32 loads or more, then [`ChainError::TooHeavy`] where their sum is 2^63 or more, then
-    /// [`ChainError::OutOfMemory`] where the list of the sums that are kept was refused.
+    /// [`ChainError::OutOfMemory`] where memory for the running sums was refused.
     pub fn new(alloc: A, loads: &'a [Units]) -> Result<Self, ChainError>
         ensures made { IfOk result (λ chain. chain ≡ loads.now) }
         ensures chain { OnOk result (IsChain loads.now) }
@@ -57,7 +57,7 @@ impl<'a, A: Allocator> Chain<'a, A> {
     ///
     /// # Errors
     ///
-    /// Out of memory, where the list of the sums that are kept was refused.
+    /// Memory for the running sums was refused.
     pub(crate) fn of<B: Allocator>(alloc: A, loads: &'a Loads<B>) -> Result<Self, AllocError>
         ensures made { IfOk result (λ chain. chain ≡ loads.now) }
     {
@@ -114,7 +114,7 @@ impl<'a, A: Allocator> Chain<'a, A> {
     }
 }
 
-/// How many running sums are kept for this many elements.
+/// The number of running sums that are kept for this number of elements.
 pub(crate) fn samples_of(elements: usize) -> usize
     ensures value { result ≡ elements / 16 + 1 }
 {

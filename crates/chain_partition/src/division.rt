@@ -17,7 +17,7 @@ use std::alloc::{AllocError, Allocator};
 ///
 /// # Errors
 ///
-/// Out of memory, where the running sums or one of the two lists of `pes + 1` numbers were refused.
+/// Memory for the running sums or for one of the two lists of `pes + 1` numbers was refused.
 pub fn divide<A: Allocator + Copy, B: Allocator>(
     alloc: A,
     loads: &Loads<B>,
@@ -37,7 +37,7 @@ pub fn divide<A: Allocator + Copy, B: Allocator>(
 ///
 /// # Errors
 ///
-/// Out of memory, where one of the two lists of `pes + 1` numbers was refused.
+/// Memory for one of the two lists of `pes + 1` numbers was refused.
 pub fn divide_chain<A: Allocator + Copy, B: Allocator>(
     alloc: A,
     chain: &Chain<'_, B>,

@@ -13,7 +13,7 @@ pub enum ChainError {
     /// The sum of the loads is 2^63 or more.
     #[error("the loads add up to more than 9223372036854775807")]
     TooHeavy,
-    /// No memory was left.
+    /// Memory was refused.
     #[error("out of memory")]
     OutOfMemory,
 }

@@ -1,5 +1,5 @@
-//! The least division of a chain: of all ways to cut the elements into at most so many consecutive blocks, one
-//! whose heaviest block is lightest, with the certificate that a checker accepts.
+//! The least division of a chain: of all ways to cut the elements into a given number of consecutive blocks, which may be
+//! empty, one whose heaviest block is lightest, with the certificate that a checker accepts.
 //!
 //! - [`divide`]: the least division; [`divide_with`] finds it with several threads.
 //! - [`probe`]: whether blocks within a limit can hold all elements, as a [`Probe`]; [`probe_on`] takes the running sums of

@@ -36,7 +36,7 @@ impl<A: Allocator> Prefix<A> {
     ///
     /// # Errors
     ///
-    /// Out of memory, where the one list of the loads and their running sums was refused.
+    /// Memory for the one list of the loads and their running sums was refused.
     pub fn of<B: Allocator>(alloc: A, loads: &Loads<B>) -> Result<Self, AllocError>
         ensures made { IfOk result (λ prefix. prefix ≡ loads.now) }
     {

@@ -10,13 +10,13 @@ use chare_index::Limits;
 use lb_certificates::{Cuts, Loads, Stops, Units};
 use std::alloc::{AllocError, Allocator};
 
-/// Fills `pes` blocks in order, each with as many elements as fit within the limit: the probe of A. Pinar and
-/// C. Aykanat, JPDC 64(8), 2004. `pes` is 1 to 256, and the limit any number. Who tries several limits makes the
-/// running sums once and calls [`probe_on`].
+/// Fills `pes` blocks in order, each with as many elements as fit within the limit: the probe of A. Pinar and C. Aykanat, JPDC
+/// 64(8), 2004. `pes` is 1 to 256, and the limit any number. A caller that tries several limits makes the running sums once and
+/// calls [`probe_on`].
 ///
 /// # Errors
 ///
-/// Out of memory, where the running sums or the list of `pes + 1` numbers were refused.
+/// Memory for the running sums or for the list of `pes + 1` numbers was refused.
 pub fn probe<A: Allocator + Copy, B: Allocator>(
     alloc: A,
     loads: &Loads<B>,
@@ -35,7 +35,7 @@ pub fn probe<A: Allocator + Copy, B: Allocator>(
 ///
 /// # Errors
 ///
-/// Out of memory, where the one list of `pes + 1` numbers was refused.
+/// Memory for the one list of `pes + 1` numbers was refused.
 pub fn probe_on<A: Allocator, B: Allocator>(
     alloc: A,
     prefix: &Prefix<B>,
@@ -53,7 +53,7 @@ pub fn probe_on<A: Allocator, B: Allocator>(
 ///
 /// # Errors
 ///
-/// Out of memory, where the one list of `pes + 1` numbers was refused.
+/// Memory for the one list of `pes + 1` numbers was refused.
 pub fn probe_chain<A: Allocator, B: Allocator>(
     alloc: A,
     chain: &Chain<'_, B>,

@@ -15,7 +15,7 @@ use lb_certificates::Units;
 pub(crate) enum Bound {
     /// It places all elements, and this is the load of its heaviest block.
     Fits(u64),
-    /// It does not, nor does a walk within any limit below this one, the least at which a block would take one more.
+    /// It does not, and nor does a walk within a limit below this one, the least within which a block would take one more.
     Stops(u64),
 }
 
@@ -26,7 +26,7 @@ pub(crate) struct Bounds {
     pub(crate) high: u64,
 }
 
-/// The least limit within which `pes` blocks can hold all elements, which lies within these bounds.
+/// The least limit within which `pes` blocks can hold all elements. It is within these bounds.
 pub(crate) fn least_bottleneck(loads: &[Units], samples: &[u64], pes: u32, bounds: Bounds) -> u64
     requires valid { IsSampled loads.now samples.now }
     requires some_pe { 1 ≤ pes }

@@ -15,17 +15,17 @@ use lb_certificates::{Division, Loads, Units};
 use std::alloc::{AllocError, Allocator};
 use std::thread::{self, Threads};
 
-// One place for each worker that there may be.
+// A place for each worker, of the most that are allowed.
 const MOST_WORKERS: usize = Limits::PROBE_WORKERS as usize;
 
-/// The same division as that of [`divide`](crate::divide), found by 1 to 64 workers: each round of the search gives
-/// each of them a limit of its own, and keeps what lies between the greatest limit that stops and the least that
-/// fits. Inside each probe a worker calls the gate's [`pass`](Gate::pass) with its number, from 0. If a
-/// thread cannot be started, the others do its work.
+/// The same division as that of [`divide`](crate::divide), found by 1 to 64 workers: each round of the search gives each of
+/// them a limit of its own, and keeps the range between the greatest limit that stops and the least that fits. Inside each
+/// probe a worker calls the gate's [`pass`](Gate::pass) with its number, from 0. If a thread cannot be started, the others do
+/// its work.
 ///
 /// # Errors
 ///
-/// Out of memory, where the running sums or one of the two lists of `pes + 1` numbers were refused.
+/// Memory for the running sums or for one of the two lists of `pes + 1` numbers was refused.
 pub fn divide_with<R: Threads + Sync, G: Gate + Sync, A: Allocator + Copy, B: Allocator>(
     rt: &R,
     alloc: A,
@@ -51,7 +51,7 @@ pub fn divide_with<R: Threads + Sync, G: Gate + Sync, A: Allocator + Copy, B: Al
 ///
 /// # Errors
 ///
-/// Out of memory, where one of the two lists of `pes + 1` numbers was refused.
+/// Memory for one of the two lists of `pes + 1` numbers was refused.
 pub fn divide_chain_with<R: Threads + Sync, G: Gate + Sync, A: Allocator + Copy, B: Allocator>(
     rt: &R,
     alloc: A,
@@ -81,7 +81,7 @@ pub fn divide_chain_with<R: Threads + Sync, G: Gate + Sync, A: Allocator + Copy,
     division_at(alloc, chain.loads(), chain.samples(), pes, bottleneck)
 }
 
-// The least limit within which `pes` blocks can hold all elements, which lies within these bounds.
+// The least limit within which `pes` blocks can hold all elements. It is within these bounds.
 fn least_tried<R: Threads + Sync, G: Gate + Sync>(
     rt: &R,
     loads: &[Units],
@@ -159,7 +159,7 @@ fn try_limit<G: Gate>(
     )
 }
 
-// The limit of one of so many workers. In 128 bits the product is in range, however far apart the bounds are.
+// The limit of one of these workers. In 128 bits the product is in range, however far apart the bounds are.
 #[tactic(auto, using(crate::proofs::Limits::share_inside, crate::proofs::Limits::product_fits))]
 fn limit_of(bounds: Bounds, worker: u64, workers: u64) -> u64
     requires one_of { worker < workers }

@@ -9,14 +9,14 @@ use crate::chain::STRIDE;
 use lb_certificates::Units;
 use std::alloc::{AllocError, Allocator};
 
-/// How far a block reaches, and the load of its elements.
+/// Where a block ends, and the load of its elements.
 #[derive(Clone, Copy)]
 pub(crate) struct Block {
     pub(crate) end: usize,
     pub(crate) load: u64,
 }
 
-// The end of a block lies at `fits`, up to which the block weighs `load`, or behind it, and before `beyond`.
+// The end of a block is at least `fits`, up to which the block weighs `load`, and is before `beyond`.
 #[derive(Clone, Copy)]
 struct Bracket {
     fits: usize,
@@ -50,8 +50,9 @@ pub(crate) fn greedy_ends<A: Allocator>(
     Ok(ends)
 }
 
-/// How far a block that begins at `first` reaches within the limit, where `before` is the load of the elements before it:
-/// its load grows with its end, so by binary search over the running sums that are kept, and then load by load.
+/// The greatest block within the limit that begins at `first`, where `before` is the load of the elements before it. The load
+/// of a block grows with its end, so the end is found by binary search over the running sums that are kept, and then load by
+/// load.
 pub(crate) fn end_of_block(
     loads: &[Units],
     samples: &[u64],
@@ -84,7 +85,7 @@ pub(crate) fn end_of_block(
     block
 }
 
-// Where that end lies, by the running sums that are kept: within two strides.
+// A range of two strides in which that end is, by the running sums that are kept.
 fn narrowed_end(loads: &[Units], samples: &[u64], first: usize, before: u64, limit: u64) -> Bracket
     requires valid { IsSampled loads.now samples.now }
     requires inside { first ≤ length loads.now }

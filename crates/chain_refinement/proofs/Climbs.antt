@@ -11,14 +11,14 @@ rises_by_case true true rise low high onward below = omega arith
 rises_by_case true false rise low high onward below = absurd (false≢true (onward refl))
 rises_by_case false later rise low high onward below = omega arith
 
--- a step function does not fall
+-- a step function never falls
 pub height_rises : (steps : List (ℕ × ℕ)) (x y : ℕ) → x ≤ y → height steps x ≤ height steps y
 height_rises [] x y onward = omega arith
 height_rises (step ∷ steps) x y onward =
     let reached : nat_le step.0 x ≡ true → nat_le step.0 y ≡ true = λ at_x. le-leb step.0 y (omega (arith, leb-true step.0 x at_x, onward)) in
     rises_by_case (nat_le step.0 x) (nat_le step.0 y) step.1 (height steps x) (height steps y) reached (height_rises steps x y onward)
 
--- what is left to climb from a step on: the step and what is left behind it, or nothing where the step lies behind the place
+-- what is left to climb from a step on: the step and what is left behind it, or nothing where the step is behind the place
 step_taken : (steps : List (ℕ × ℕ)) (next x : ℕ) (d : ℕ × ℕ) → next < length steps → (get_or steps next d).0 ≤ x → height (drop next steps) x ≡ (get_or steps next d).1 + height (drop (next + 1) steps) x
 step_taken steps next x d inside reached =
     let test : nat_le (get_or steps next d).0 x ≡ true = le-leb (get_or steps next d).0 x reached in
@@ -42,7 +42,7 @@ climbed_one steps place next reached d climb inside taken small =
       left = λ x onward. omega (arith, climb.left x onward, step_taken steps next x d inside (omega (arith, taken, onward)));
     }
 
--- where the next step lies behind the place, or there is none, the climb is at the height of the place
+-- where the next step is behind the place, or there is none, the climb is at the height of the place
 pub climbed_all : (steps : List (ℕ × ℕ)) (place next reached : ℕ) (d : ℕ × ℕ) → IsClimbed steps place next reached → (next < length steps → place < (get_or steps next d).0) → reached ≡ height steps place
 climbed_all steps place next reached d climb behind =
     elim (cases_lt next (length steps)) [
@@ -50,7 +50,7 @@ climbed_all steps place next reached d climb behind =
       | inr ended ↦ omega (arith, climb.left place (omega arith), all_taken steps next place ended)
     ]
 
--- behind a place by which all steps are climbed, the height stays
+-- behind a place by which all steps are climbed, the height stays the same
 pub level_behind : (steps : List (ℕ × ℕ)) (place next reached x : ℕ) → IsClimbed steps place next reached → length steps ≤ next → place ≤ x → height steps x ≤ height steps place
 level_behind steps place next reached x climb ended onward =
     omega (arith, climb.left x onward, climb.left place (omega arith), all_taken steps next x ended, all_taken steps next place ended)

@@ -1,4 +1,4 @@
--- Where elements stand in order, the places around the present cut show that no place is steep.
+-- Where elements are in order, the places around the present cut show that no place is steep.
 use Rattle.std.proofs.Common.{ℕ, ◌+◌, ◌<◌, ◌≡◌, ◌≤◌, List, length, slice_index, arith, inl, inr}
 use Rattle.std.proofs.lemmas.Bool.{cases_lt}
 use Rattle.lb_snapshot.specs.Measured.{load}
@@ -12,8 +12,8 @@ use Rattle.chain_refinement.proofs.Orders.{apart_from_order, cost_falls, cost_ri
 use Rattle.chain_refinement.proofs.Steeps.{at_rises}
 use Rattle.chain_refinement.proofs.Windows.{empty_load}
 
--- a place before the first one that was looked at: the height there is no greater, the cut costs no less, and the heights
--- from which it rises are as low at the beginning of the chain
+-- A place before the first one that was looked at: the height there is no greater, the cut costs no less, and the heights from
+-- which it rises are as low as at the beginning of the chain.
 before_walk : (claim : Claimed) (present : List ℕ) (b from start x : ℕ) → AreApartAt claim.sizes claim.names present b → slice_index present (b + 1) ≤ length claim.sizes → from ≤ slice_index present (b + 1) → IsGentle claim b from → start ≤ from → load claim.loads start from ≤ claim.limit → height_at claim.heights b start ≤ height_at claim.heights b 0 → x ≤ from → IsGentle claim b x
 before_walk claim present b from start x apart within early gentle inside light level before y below _ =
     omega (
@@ -51,7 +51,7 @@ walk_is_enough claim present b from to start paired apart within early late insi
       ]
     ]
 
--- the same, by what the test knows
+-- the same, from what the test knows
 pub few_are_enough : (claim : Claimed) (present : List ℕ) (b to bottom : ℕ) (base : Base) (low : Climb) → IsClaim claim → StandInOrder claim.sizes claim.names present → b + 1 < length claim.names → IsBase claim base → low.height ≡ height_at claim.heights b base.window.start → bottom ≡ height_at claim.heights b 0 → low.height ≤ bottom → base.end ≤ slice_index present (b + 1) → slice_index present (b + 1) ≤ to → IsWalked claim b base.end to → AllGentle claim b (length claim.loads + 1)
 few_are_enough claim present b to bottom base low claimed order inside found low_is bottom_is level early late walked =
     let apart : AreApartAt claim.sizes claim.names present b = apart_from_order claim.sizes claim.names present b claimed.order order inside in

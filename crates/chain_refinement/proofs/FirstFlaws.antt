@@ -1,4 +1,4 @@
--- Which flaw of a refinement is the first, and that a refinement that is right has none.
+-- Which flaw of a refinement is the first, and that a right refinement has none.
 use Rattle.std.proofs.Common.{◌≡◌, ◌≢◌, ◌⊎◌, inl, inr, ℕ, ◌+◌, ◌-◌, ◌<◌, ◌≤◌, List, length, slice_index, arith, refl, subst, sym, ◌∙◌}
 use Rattle.chare_index.specs.declared.limits.TheConstants.Limits.{PES}
 use Rattle.lb_certificates.specs.declared.flaw.Flaw.{Flaw}

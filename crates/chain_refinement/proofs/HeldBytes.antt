@@ -1,4 +1,4 @@
--- The bytes that stand on a PE: how many they can be, and how they change from place to place.
+-- The bytes on a PE: how many there can be, and how they change from place to place.
 use Rattle.std.proofs.Common.{◌≡◌, ℕ, ◌+◌, ◌*◌, ◌^◌, ◌<◌, ◌≤◌, Bool, true, false, cond, List, length, get_or, slice_index, arith}
 use Rattle.std.proofs.lemmas.List.Sums.{sum_by-le, sum_by_more, sum_by_more_le, sum_by-drop_more}
 use Rattle.std.proofs.Math.Nat.{mul-le-mul_right}
@@ -31,6 +31,6 @@ cost_moves_on sizes from to x d inside =
     let leaves = sum_by-drop_more (λ size. held_bytes size from) sizes x d inside in
     omega (arith, joins, leaves)
 
--- at the beginning of the chain it costs all that stands on the PE of the block before it
+-- at the beginning of the chain a cut costs all bytes on the PE of the block before it
 pub first_cost : (sizes : List (ℕ × ℕ)) (names : List ℕ) (b : ℕ) → held sizes (slice_index names b) ≡ cut_cost sizes names b 0
 first_cost sizes names b = omega arith

@@ -4,14 +4,14 @@ use Rattle.std.proofs.lemmas.Bool.{cases_lt}
 use Rattle.std.proofs.lemmas.List.{ext_get_or}
 use Rattle.chain_refinement.specs.Refinement.{AreNearest, LiesBetween}
 
--- two places that each lie between a third and the other are one
+-- two places that are each between a third and the other are the same
 same_place : (present one other : ℕ) → LiesBetween present one other → LiesBetween present other one → one ≡ other
 same_place present one other (inl a) (inl b) = omega (arith, a.0, a.1, b.0, b.1)
 same_place present one other (inl a) (inr b) = omega (arith, a.0, a.1, b.0, b.1)
 same_place present one other (inr a) (inl b) = omega (arith, a.0, a.1, b.0, b.1)
 same_place present one other (inr a) (inr b) = omega (arith, a.0, a.1, b.0, b.1)
 
--- the last so many cuts agree
+-- two such lists agree in the last cut and in the `left` cuts before it
 agree_from : (loads : List ℕ) (sizes : List (ℕ × ℕ)) (names present : List ℕ) (limit : ℕ) (cuts others : List ℕ) (left : ℕ) → AreNearest loads sizes names present limit cuts → AreNearest loads sizes names present limit others → (k : ℕ) → length names ≤ k + left → k ≤ length names → slice_index others k ≡ slice_index cuts k
 agree_from loads sizes names present limit cuts others zero one other k from inside =
     let last : length names ≡ k = omega arith in

@@ -1,4 +1,4 @@
--- Where elements stand in the order of the PEs, what a cut costs falls up to the present cut and rises behind it.
+-- Where elements are in the order of the PEs, what a cut costs falls up to the present cut and rises behind it.
 use Rattle.std.proofs.Common.{◌≡◌, ◌≢◌, ℕ, zero, suc, ◌+◌, ◌-◌, ◌<◌, ◌≤◌, List, length, slice_index, slice_index_or, slice_range, arith, refl, ap, sym, ◌∙◌, subst, add-zero, add-one, inl, inr}
 use Rattle.std.proofs.lemmas.Bool.{cases_lt}
 use Rattle.std.proofs.lemmas.Bool.Decides.{nat_tests}
@@ -17,7 +17,7 @@ held_elsewhere size pe elsewhere = grind (arith, nat_tests)
 held_with_next : (sizes : List (ℕ × ℕ)) (pe x : ℕ) → x < length sizes → held_before sizes pe (x + 1) ≡ held_before sizes pe x + held_bytes (slice_index_or sizes x (0, 0)) pe
 held_with_next sizes pe x inside = sum_by_more (λ size. held_bytes size pe) sizes x (0, 0) inside
 
--- what stands before a place is no more than what stands before a later one
+-- no more bytes of a PE are before a place than before a later one
 before_rises_by : (sizes : List (ℕ × ℕ)) (pe x more : ℕ) → x + more ≤ length sizes → held_before sizes pe x ≤ held_before sizes pe (x + more)
 before_rises_by sizes pe x zero within = subst (λ n. held_before sizes pe x ≤ held_before sizes pe n) (sym (add-zero x)) (omega arith)
 before_rises_by sizes pe x (suc more) within =
@@ -29,7 +29,7 @@ pub before_rises : (sizes : List (ℕ × ℕ)) (pe x y : ℕ) → x ≤ y → y 
 before_rises sizes pe x y onward within =
     subst (λ n. held_before sizes pe x ≤ held_before sizes pe n) (omega arith) (before_rises_by sizes pe x (y - x) (omega arith))
 
--- and as much, where no element between them stands on the PE
+-- and as many, where no element between them is on the PE
 none_between_by : (sizes : List (ℕ × ℕ)) (pe x more : ℕ) → x + more ≤ length sizes → ((i : ℕ) → x ≤ i → i < x + more → place_of sizes i ≢ pe) → held_before sizes pe x ≡ held_before sizes pe (x + more)
 none_between_by sizes pe x zero within none = ap (held_before sizes pe) (sym (add-zero x))
 none_between_by sizes pe x (suc more) within none =
@@ -76,7 +76,7 @@ all_before sizes pe = ap (λ all. held all pe) (take-length sizes)
 none_before : (sizes : List (ℕ × ℕ)) (pe : ℕ) → held_before sizes pe 0 ≡ 0
 none_before sizes pe = refl
 
--- before the present cut it costs what stands between on the PE of the block before it
+-- before the present cut it costs the bytes between the two that are on the PE of the block before it
 pub cost_before : (sizes : List (ℕ × ℕ)) (names present : List ℕ) (b x cut : ℕ) → AreApartAt sizes names present b → slice_index present (b + 1) ≡ cut → x ≤ cut → cut ≤ length sizes → held (slice_range sizes x cut) (slice_index names b) ≡ cut_cost sizes names b x
 cost_before sizes names present b x cut apart same before within =
     let from : ℕ = slice_index names b in
@@ -93,7 +93,7 @@ cost_before sizes names present b x cut apart same before within =
       held_whole sizes from x,
     )
 
--- and behind it what stands between on the PE of the next block
+-- and behind it the bytes between the two that are on the PE of the next block
 pub cost_behind : (sizes : List (ℕ × ℕ)) (names present : List ℕ) (b x cut : ℕ) → AreApartAt sizes names present b → slice_index present (b + 1) ≡ cut → cut ≤ x → x ≤ length sizes → held (slice_range sizes cut x) (slice_index names (b + 1)) ≡ cut_cost sizes names b x
 cost_behind sizes names present b x cut apart same behind within =
     let from : ℕ = slice_index names b in
@@ -121,7 +121,7 @@ block_around cuts (suc blocks) i from to =
       | inr behind ↦ (blocks, omega arith, behind, rw add-one to)
     ]
 
--- where elements stand in the order of different names, they are apart at each cut
+-- where elements are in the order of different names, they are apart at each cut
 pub apart_from_order : (sizes : List (ℕ × ℕ)) (names present : List ℕ) (b : ℕ) → IsNaming (length names) names → StandInOrder sizes names present → b + 1 < length names → AreApartAt sizes names present b
 apart_from_order sizes names present b naming order inside =
     record {

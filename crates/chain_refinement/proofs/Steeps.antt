@@ -6,7 +6,7 @@ use Rattle.chain_refinement.specs.Internal.{AllGentle, Claimed, IsGentle, IsPlac
 use Rattle.chain_refinement.specs.Refinement.{height_at}
 use Rattle.chain_refinement.proofs.Climbs.{height_rises}
 
--- the heights of a block do not fall
+-- the heights of a block never fall
 pub at_rises : (claim : Claimed) (b x y : ℕ) → x ≤ y → height_at claim.heights b x ≤ height_at claim.heights b y
 at_rises claim b x y onward = height_rises (slice_index_or claim.heights b []) x y onward
 

@@ -1,4 +1,4 @@
--- What an answer of the check says.
+-- What an answer of the check implies.
 use Rattle.std.proofs.Common.{◌≡◌, ℕ, ◌-◌, ◌<◌, ◌≤◌, ◌↔◌, List, [], length, slice_index_or, Result, Ok, Err, IsOk, OnOk, IfErr, arith, refl, sym, ◌∙◌}
 use Rattle.lb_snapshot.specs.Measured.{load}
 use Rattle.lb_certificates.specs.Certificate.{IsCertified}

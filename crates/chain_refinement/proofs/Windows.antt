@@ -7,7 +7,7 @@ use Rattle.lb_snapshot.proofs.LoadSums.{sum_small}
 use Rattle.lb_certificates.proofs.Chains.{load_after, load_wider}
 use Rattle.chain_refinement.specs.Walks.{IsWindow}
 
--- no elements weigh nothing
+-- an empty range weighs nothing
 pub empty_load : (loads : List ℕ) (x : ℕ) → load loads x x ≡ 0
 empty_load loads x = omega (arith, load_after loads x x (omega arith))
 

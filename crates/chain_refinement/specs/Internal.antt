@@ -1,4 +1,4 @@
--- Words of this crate's own code, which no public contract has.
+-- Definitions for this crate's own code, which no public contract uses.
 use Rattle.std.specs.Prelude.{◌≡◌, ℕ, ◌+◌, ◌<◌, ◌≤◌, List, [], length, slice_index_or}
 use Rattle.chare_index.specs.declared.limits.TheConstants.Limits.{PES}
 use Rattle.lb_snapshot.specs.Measured.{IsLoads, IsSizes, load}
@@ -25,19 +25,19 @@ abbrev pub claim_of : {A : Type 0} → List ℕ → List (ℕ × ℕ) → Refine
 claim_of loads sizes r =
     record { loads = loads; sizes = sizes; names = r.order; limit = refined_limit r; heights = r.heights }
 
--- so many PEs, at least one, and an order of them
+-- this number of PEs, at least one, and an order of them
 pub record AreOrdered (pes : ℕ) (names : List ℕ) : Type 0 where
   pub some_pe : 0 < pes
   pub few_pes : pes ≤ PES
   pub naming : IsNaming pes names
 
--- the first of so many blocks that is above the limit
+-- the first of this number of blocks that is above the limit
 pub record IsFirstHeavy (loads : List ℕ) (blocks limit : ℕ) (cuts : List ℕ) (b : ℕ) : Type 0 where
   pub inside : b < blocks
   pub heavy : limit < block_load loads cuts b
   pub earlier : NoneAbove loads b limit cuts
 
--- loads and sizes are measured, the names are those of so many PEs, and each has heights
+-- loads and sizes are measured, there is a name for each PE, and each has heights
 pub record IsClaim (claim : Claimed) : Type 0 where
   pub loads : IsLoads claim.loads
   pub sizes : IsSizes claim.sizes
@@ -56,7 +56,7 @@ IsGentle claim b x =
 abbrev pub AllGentle : Claimed → ℕ → ℕ → Type 0
 AllGentle claim b places = (x : ℕ) → x < places → x ≤ length claim.loads → IsGentle claim b x
 
--- the same to each place of the chain, for the cuts behind the first so many blocks
+-- the same to each place of the chain, for the cuts behind the first `blocks` blocks
 abbrev pub AreGentle : Claimed → ℕ → Type 0
 AreGentle claim blocks = (b : ℕ) → b < blocks → AllGentle claim b (length claim.loads + 1)
 

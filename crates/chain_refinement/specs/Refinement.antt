@@ -21,11 +21,11 @@ pub record AreFewest (loads : List ℕ) (sizes : List (ℕ × ℕ)) (names : Lis
   pub within : AreWithin loads names limit cuts
   pub fewest : (others : List ℕ) → AreWithin loads names limit others → bytes_moved sizes cuts names ≤ bytes_moved sizes others names
 
--- the bytes of an element that stand on this PE
+-- the bytes of an element that are on this PE
 abbrev pub held_bytes : ℕ × ℕ → ℕ → ℕ
 held_bytes size pe = if size.1 == pe then size.0 else 0
 
--- the bytes that stand on this PE, of the elements before element x, of those from it on, and of all
+-- the bytes on this PE, of the elements before element x, of those from it on, and of all
 abbrev pub held_before : List (ℕ × ℕ) → ℕ → ℕ → ℕ
 held_before sizes pe x = sum_by (λ size. held_bytes size pe) (take x sizes)
 
@@ -35,8 +35,8 @@ held_from sizes pe x = sum_by (λ size. held_bytes size pe) (drop x sizes)
 abbrev pub held : List (ℕ × ℕ) → ℕ → ℕ
 held sizes pe = sum_by (λ size. held_bytes size pe) sizes
 
--- The bytes that a cut between block b and block b + 1 moves where it is made at x: those of block b's PE that stand
--- at x or behind it, and those of the next block's PE that stand before x.
+-- The bytes that a cut between block b and block b + 1 moves where it is made at x: those on block b's PE that are at x or
+-- behind it, and those on the next block's PE that are before x.
 abbrev pub cut_cost : List (ℕ × ℕ) → List ℕ → ℕ → ℕ → ℕ
 cut_cost sizes names b x = held_from sizes (slice_index names b) x + held_before sizes (slice_index names (b + 1)) x
 
@@ -45,8 +45,8 @@ abbrev pub cuts_cost : List (ℕ × ℕ) → List ℕ → List ℕ → ℕ
 cuts_cost sizes names cuts =
     total (length names - 1) (λ b. cut_cost sizes names b (slice_index cuts (b + 1)))
 
--- A step function of the places along the chain: from each step's place on it is higher by the step's rise, up to the
--- first step behind that place. So it never falls, whatever the list.
+-- A step function of the places along the chain: from each step's place on it is higher by the step's rise, up to the first
+-- step that is behind that place. So it never falls, whatever the list.
 abbrev pub height : List (ℕ × ℕ) → ℕ → ℕ
 height [] x = 0
 height (step ∷ steps) x = if nat_le step.0 x then step.1 + height steps x else 0
@@ -75,7 +75,7 @@ pub record AreProved (loads : List ℕ) (sizes : List (ℕ × ℕ)) (names : Lis
 abbrev pub refined_limit : {A : Type 0} → Refinement A → ℕ
 refined_limit r = limit_of r.least.bottleneck r.tolerance
 
--- Every part of a refinement for so many PEs is right: its division is certified, its order names each PE once, and its
+-- Every part of a refinement for this number of PEs is right: its division is certified, its order names each PE once, and its
 -- heights prove its cuts.
 pub record IsRefinement {A : Type 0} (loads : List ℕ) (sizes : List (ℕ × ℕ)) (pes : ℕ) (r : Refinement A) : Type 0 where
   pub least : IsCertified loads pes r.least
@@ -84,12 +84,12 @@ pub record IsRefinement {A : Type 0} (loads : List ℕ) (sizes : List (ℕ × �
   pub order : IsNaming pes r.order
   pub proved : AreProved loads sizes r.order (refined_limit r) r.cuts r.heights
 
--- a place lies between two others, or is one of them
+-- a place is between two others, or is one of them
 abbrev pub LiesBetween : ℕ → ℕ → ℕ → Type 0
 LiesBetween one middle other = ((one ≤ middle) × (middle ≤ other)) ⊎ ((other ≤ middle) × (middle ≤ one))
 
--- Of all cuts that move the fewest bytes, those nearest the present ones, chosen from the end of the chain: where others
--- have the same cuts behind cut b, this one lies between their cut b and the present one. So there is one such list.
+-- Of all cuts that move the fewest bytes, those nearest to the present ones, chosen from the end of the chain: where others
+-- have the same cuts behind cut b, this one is between their cut b and the present one. So there is one such list.
 pub record AreNearest (loads : List ℕ) (sizes : List (ℕ × ℕ)) (names present : List ℕ) (limit : ℕ) (cuts : List ℕ) : Type 0 where
   pub fewest : AreFewest loads sizes names limit cuts
   pub nearest : (others : List ℕ) (b : ℕ) → AreFewest loads sizes names limit others → b < length names → ((k : ℕ) → b < k → k ≤ length names → slice_index others k ≡ slice_index cuts k) → LiesBetween (slice_index present b) (slice_index cuts b) (slice_index others b)

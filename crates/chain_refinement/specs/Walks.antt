@@ -14,7 +14,7 @@ pub record IsWindow (loads : List ℕ) (end limit start weight : ℕ) : Type 0 w
   pub weighed : weight ≡ load loads start end
   pub start_is : IsLeastStart loads end limit start
 
--- so many steps are climbed by a place, to this height; what is left rises from there at this place and behind it
+-- this number of steps is climbed by a place, to this height; the other steps rise from there, at this place and behind it
 pub record IsClimbed (steps : List (ℕ × ℕ)) (place next reached : ℕ) : Type 0 where
   pub inside : next ≤ length steps
   pub small : reached ≤ next * 2 ^ 64

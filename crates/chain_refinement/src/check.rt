@@ -20,17 +20,17 @@ use chare_index::Limits;
 use lb_certificates::{Loads, Snapshot, Units, check_division};
 use std::alloc::Allocator;
 
-/// Checks a refinement for `pes` PEs, whoever made it. `Ok` means that no block is above the limit, that the limit lies as
-/// far above the least possible load as the tolerance says, and that no cuts within the limit move fewer bytes where the PEs
-/// keep this order.
+/// Checks a refinement for `pes` PEs, whoever made it. `Ok` means that no block is above the limit, that the limit is as far
+/// above the least possible load as the tolerance says, and that no cuts within the limit move fewer bytes where the PEs keep
+/// this order.
 ///
-/// Any number of PEs and any lists may be passed. It takes no memory. Where the elements stand in the order of the PEs by
-/// the present cuts, it takes time in proportion to the elements, the PEs, the steps, and the places around each present cut
-/// at which the heights rise; and otherwise in proportion to the elements times the PEs.
+/// Any number of PEs and any lists may be passed. It takes no memory. Where the elements are in the order of the PEs by the
+/// present cuts, it takes time in proportion to the elements, the PEs, the steps, and the places around each present cut at
+/// which the heights rise; otherwise in proportion to the elements times the PEs.
 ///
 /// # Errors
 ///
-/// The first [`RefinementFlaw`] that applies, in their order, and of those of a kind the one at the first block and place.
+/// The first [`RefinementFlaw`] that applies, in their order, and of those of one kind the one at the first block and place.
 ///
 /// That heights bound what cuts cost is the duality of shortest paths: R. K. Ahuja, T. L. Magnanti and J. B. Orlin,
 /// "Network Flows", 1993, chapter 4.
@@ -215,7 +215,7 @@ fn check_heights<A: Allocator, B: Allocator>(
     Ok(())
 }
 
-// The flaws of the bound that the heights are.
+// The flaws of the bound that the heights give.
 fn check_bound<A: Allocator, B: Allocator>(
     snapshot: &Snapshot<A>,
     pes: u32,

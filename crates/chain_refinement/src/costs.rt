@@ -52,7 +52,7 @@ fn cost_of_cut<A: Allocator>(
     behind + held_by(&claim.sizes[..x], claim.names[b + 1])
 }
 
-/// The same, where elements stand in order: it is what stands between the cut and the present one.
+/// The same, where elements are in order: the bytes between the cut and the present one.
 pub(crate) fn cost_nearby<A: Allocator>(
     claim: &Claim<'_, A>,
     present: &[u32],

@@ -1,6 +1,6 @@
-//! A test of few places, where elements stand in the order of the PEs: those around the present cut. The cost of the cut
-//! falls up to there and rises behind it, so no other place has to be looked at, as long as the heights of the block before
-//! it have not risen where the test begins, and those of the block behind it no longer rise where it ends.
+//! A test of few places, where elements are in the order of the PEs: those around the present cut. The cost of the cut falls up
+//! to there and rises behind it. So no other place has to be looked at, as long as the heights of the block before it have not
+//! risen where the test begins, and those of the block behind it no longer rise where it ends.
 
 ghost use Rattle.std.specs.Prelude.{◌+◌, ◌<◌, ◌≤◌, length};
 ghost use Rattle.std.specs.Bool.{OnTrue};
@@ -20,8 +20,8 @@ pub(crate) struct Base {
     pub(crate) window: Window,
 }
 
-/// The base for the cut between block b and the next: the last place up to the present cut, up to which a block begins
-/// where the heights of block b have not risen. Where that lies behind, the base stays.
+/// The base for the cut between block b and the next: the last place up to the present cut, up to which a block begins where
+/// the heights of block b have not risen. Where that place is behind the base, the base stays.
 pub(crate) fn moved_on<A: Allocator>(claim: &Claim<'_, A>, b: u32, cut: usize, base: Base) -> Base
     requires claimed { IsClaim claim.now }
     requires inside { b < length claim.now.names }
@@ -57,8 +57,8 @@ fn slid_to<A: Allocator>(claim: &Claim<'_, A>, cut: usize, rise: usize, base: Ba
     Base { end, window }
 }
 
-/// Whether the places around the present cut show that the cut between block b and the next has no steep place. `false`
-/// says nothing.
+/// Whether the places around the present cut show that the cut between block b and the next has no steep place. `false` leaves
+/// that open.
 pub(crate) fn is_gentle_nearby<A: Allocator>(
     claim: &Claim<'_, A>,
     present: &[u32],

@@ -7,11 +7,11 @@ pub enum RefinementFlaw {
     Least(Flaw),
     /// There is no PE, or there are more than [`Limits::PES`](chare_index::Limits::PES).
     PeCount,
-    /// The order does not have a name for each PE.
+    /// The number of names in the order is not the number of PEs.
     NameCount,
-    /// A name is no PE.
+    /// A name is not the number of a PE.
     NameRange,
-    /// A name stands twice.
+    /// A name occurs twice.
     NameTwice,
     /// The number of cuts is not the number of PEs plus one.
     CutCount,
@@ -23,8 +23,8 @@ pub enum RefinementFlaw {
     HeightCount,
     /// The height of the first block at the beginning of the chain is not 0.
     HeightStart,
-    /// Between this block and the next, the height at this place is above that of a place from which a block within the
-    /// limit ends there, by more than the cut costs.
+    /// Between this block and the next, the height at this place is above that of a place from which a block within the limit
+    /// ends there, by more than the cut costs.
     Steep(u32, u32),
     /// The height of the last block is below what the cuts cost.
     HeightLow,

@@ -3,8 +3,8 @@ ghost use Rattle.std.specs.Prelude.{◌≡◌, ℕ, List};
 use std::alloc::{Allocator, Global};
 use std::marker::Model;
 
-/// A step function of the places along the chain: from the place of each step on it is higher by the step's rise. It is a
-/// plain list of places and rises, under no condition, and contracts see it as that list.
+/// A step function of the places along the chain: from the place of each step on it is higher by the step's rise. It is a plain
+/// list of places and rises that may hold anything, and contracts see it as that list.
 #[derive(Drop)]
 #[derive_where(Debug)]
 pub struct Steps<A: Allocator = Global> {
@@ -33,7 +33,7 @@ impl<A: Allocator> Steps<A> {
     }
 }
 
-/// A step function for each block: the proof that cuts move the fewest bytes. It is a plain list, under no condition, and
+/// A step function for each block: the proof that cuts move the fewest bytes. It is a plain list that may hold anything, and
 /// contracts see it as the list of the lists of steps.
 #[derive(Drop)]
 #[derive_where(Debug)]

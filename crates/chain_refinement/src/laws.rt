@@ -5,7 +5,7 @@ ghost use Rattle.lb_certificates.specs.Chain.{IsDivision};
 ghost use Rattle.lb_certificates.specs.Naming.{bytes_moved, total};
 ghost use Rattle.chain_refinement.specs.Refinement.{AreFewest, AreNearest, AreProved, cuts_cost, held};
 
-/// The bytes that move are what the cuts between blocks cost, but for what no cut changes.
+/// The bytes that move are what the cuts between blocks cost, except for what no cut changes.
 pub fn moved_by_cuts()
     ensures moved_by_cuts { (sizes : List (ℕ × ℕ)) (names cuts : List ℕ) → 0 < length names → IsDivision 0 (length sizes) (length names) cuts
         → bytes_moved sizes cuts names + total (length names) (λ b. held sizes (slice_index names b)) ≡ sum_by (λ size. size.0) sizes + cuts_cost sizes names cuts }
@@ -17,7 +17,7 @@ pub fn fewest_where_proved()
         → length loads ≡ length sizes → AreProved loads sizes names limit cuts heights → AreFewest loads sizes names limit cuts }
 {}
 
-/// There is one list of cuts nearest the present ones.
+/// There is one list of cuts nearest to the present ones.
 pub fn one_is_nearest()
     ensures one_is_nearest { (loads : List ℕ) (sizes : List (ℕ × ℕ)) (names present : List ℕ) (limit : ℕ) (cuts others : List ℕ)
         → AreNearest loads sizes names present limit cuts → AreNearest loads sizes names present limit others → cuts ≡ others }

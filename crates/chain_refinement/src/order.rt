@@ -1,4 +1,4 @@
-//! Whether elements stand in the order of the PEs.
+//! Whether elements are in the order of the PEs.
 
 ghost use Rattle.std.specs.Prelude.{◌≡◌, ℕ, ◌+◌, ◌<◌, ◌≤◌, length, slice_index};
 ghost use Rattle.std.specs.Bool.{OnTrue};
@@ -9,7 +9,7 @@ use chare_index::Pe;
 use lb_certificates::Cuts;
 use std::alloc::Allocator;
 
-/// Whether the present cuts divide the elements into a block for each name, and each element stands on the PE of its block.
+/// Whether the present cuts divide the elements into a block for each name, and each element is on the PE of its block.
 pub(crate) fn stand_in_order<A: Allocator>(
     sizes: &[(u32, Pe)],
     names: &[u32],
@@ -24,7 +24,7 @@ pub(crate) fn stand_in_order<A: Allocator>(
     all_in_place(sizes, names, cuts)
 }
 
-// Whether each element stands on the PE of its block, where the cuts divide the elements so.
+// Whether each element is on the PE of its block, where the cuts divide the elements so.
 fn all_in_place(sizes: &[(u32, Pe)], names: &[u32], cuts: &[u32]) -> bool
     requires divides { IsDivision 0 (length sizes.now) (length names.now) cuts.now }
     ensures stands { OnTrue result ((b i : ℕ) → b < length names.now → slice_index cuts.now b ≤ i → i < slice_index cuts.now (b + 1)
@@ -38,7 +38,7 @@ fn all_in_place(sizes: &[(u32, Pe)], names: &[u32], cuts: &[u32]) -> bool
     true
 }
 
-// Whether each of the elements first..end stands on this PE.
+// Whether each of the elements first..end is on this PE.
 fn all_on(sizes: &[(u32, Pe)], first: usize, end: usize, pe: u32) -> bool
     requires within { end ≤ length sizes.now }
     ensures on { OnTrue result ((i : ℕ) → first ≤ i → i < end → place_of sizes.now i ≡ pe) }

@@ -11,7 +11,7 @@ use crate::place::{first_place, is_steep, next_place};
 use crate::walk::Window;
 use std::alloc::Allocator;
 
-/// The first steep place of all cuts, by block and then place. It is found fast where the elements stand in the order of the
+/// The first steep place of all cuts, by block and then place. It is found fast where the elements are in the order of the
 /// names.
 pub(crate) fn first_steep<A: Allocator>(
     claim: &Claim<'_, A>,
@@ -28,7 +28,7 @@ pub(crate) fn first_steep<A: Allocator>(
     first_steep_anywhere(claim)
 }
 
-// The same, where elements stand in order.
+// The same, where elements are in order.
 fn first_steep_in_order<A: Allocator>(claim: &Claim<'_, A>, present: &[u32]) -> Option<(u32, u32)>
     requires claimed { IsClaim claim.now }
     requires order { StandInOrder claim.now.sizes claim.now.names present.now }
@@ -67,7 +67,7 @@ fn first_steep_from<A: Allocator>(
     first_steep_place(claim, b)
 }
 
-// The same, wherever elements stand.
+// The same, wherever elements are.
 fn first_steep_anywhere<A: Allocator>(claim: &Claim<'_, A>) -> Option<(u32, u32)>
     requires claimed { IsClaim claim.now }
     ensures first { MatchOption result (AreGentle claim.now (length claim.now.names - 1)) (IsFirstSteep claim.now) }

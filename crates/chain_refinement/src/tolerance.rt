@@ -3,7 +3,7 @@ ghost use Rattle.chain_refinement.specs.Tolerances.{limit_of};
 
 use std::marker::Model;
 
-/// How far the greatest load of a block may lie above the least possible one: thousandths of it, 0 to 1,000. Contracts see
+/// How far the greatest load of a block may be above the least possible one, in thousandths of that: 0 to 1,000. Contracts see
 /// it as its number.
 #[derive(Clone, Copy, Debug)]
 pub struct Tolerance {
@@ -21,10 +21,10 @@ impl Model for Tolerance {
 }
 
 impl Tolerance {
-    /// The greatest tolerance: twice the least load.
+    /// The greatest tolerance, by which the limit is twice the least load.
     pub const MOST: u32 = 1_000;
 
-    /// So many thousandths, or `None` past [`Tolerance::MOST`].
+    /// This number of thousandths, or `None` where it is above [`Tolerance::MOST`].
     pub fn new(thousandths: u32) -> Option<Tolerance>
         ensures some { IfSome result (λ t. t ≡ thousandths) }
         ensures when { IsSome result ↔ (thousandths ≤ 1000) }

@@ -22,13 +22,13 @@ pub struct Window {
 /// How far a step function is climbed.
 #[derive(Clone, Copy, Debug)]
 pub struct Climb {
-    /// How many of its steps.
+    /// The number of its steps that are climbed.
     pub next: usize,
     /// The height that they reach, in bytes.
     pub height: u128,
 }
 
-// The bytes of this element that stand on this PE.
+// The bytes of this element that are on this PE.
 fn held_on(element: (u32, Pe), pe: u32) -> u32
     ensures { result ≡ held_bytes element pe }
 {
@@ -36,7 +36,7 @@ fn held_on(element: (u32, Pe), pe: u32) -> u32
     if place.get() == pe { bytes } else { 0 }
 }
 
-/// The bytes of these elements that stand on this PE.
+/// The bytes of these elements that are on this PE.
 #[tactic(auto, using(crate::proofs::HeldBytes::next_held_fits, crate::proofs::HeldBytes::held_small))]
 pub fn held_by(elements: &[(u32, Pe)], pe: u32) -> u64
     requires measured { IsSizes elements.now }
@@ -50,7 +50,7 @@ pub fn held_by(elements: &[(u32, Pe)], pe: u32) -> u64
     bytes
 }
 
-/// What the cut between a block on PE `from` and a block on PE `to` costs behind this element, by what it costs before it.
+/// What the cut between a block on PE `from` and a block on PE `to` costs behind this element, from what it costs before it.
 #[tactic(auto, using(crate::proofs::HeldBytes::cost_moves_on))]
 pub fn cost_after(elements: &[(u32, Pe)], element: usize, cost: u64, from: u32, to: u32) -> u64
     requires measured { IsSizes elements.now }
@@ -61,7 +61,7 @@ pub fn cost_after(elements: &[(u32, Pe)], element: usize, cost: u64, from: u32, 
     cost - u64::from(held_on(elements[element], from)) + u64::from(held_on(elements[element], to))
 }
 
-/// The widest block within a limit that ends behind this element, by the one that ends before it. It never begins earlier.
+/// The widest block within a limit that ends behind this element, from the one that ends before it. It never begins earlier.
 pub fn slid(loads: &[Units], window: Window, element: usize, limit: u64) -> Window
     requires measured { IsLoads loads.now }
     requires before { IsWindow loads.now element limit window.start window.weight }
@@ -78,7 +78,7 @@ pub fn slid(loads: &[Units], window: Window, element: usize, limit: u64) -> Wind
     Window { start, weight }
 }
 
-/// The climb of these steps on from one place to another.
+/// The climb of these steps continued from one place to another.
 #[tactic(auto, using(crate::proofs::Climbs::climbed_one, crate::proofs::Climbs::climbed_all))]
 pub fn climbed(steps: &[(u32, u64)], climb: Climb, from: usize, to: usize) -> Climb
     requires before { IsClimbed steps.now from climb.next climb.height }

@@ -1,5 +1,5 @@
-/// A call that a handler or a search makes with a number of its own. It returns nothing, so no state and no
-/// result depends on it. Tests wait inside it to see that two calls overlap.
+/// A call that a handler or a search makes with a number of its own. It returns nothing, so no state and no result depends on
+/// it. Tests wait inside it, to see that two calls overlap.
 pub trait Gate {
     /// Called by `who`, a number that the caller chooses.
     fn pass(&self, who: u32);

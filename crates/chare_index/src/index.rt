@@ -21,7 +21,7 @@ impl Model for Index {
 }
 
 impl Index {
-    /// The index of the element at `place`, or `None` where no array reaches that far.
+    /// The index of the element at `place`, or `None` where `place` is above 65,535.
     pub fn new(place: u32) -> Option<Self>
         ensures made { SomeIff result (place < Limits.ELEMENTS) place }
     {

@@ -6,7 +6,7 @@
 //! - [`Round`] names a round of load balancing.
 //! - [`opening_pe`] is the PE on which an element begins.
 //! - [`Limits`] has every limit of the runtime, in this one place.
-//! - [`Gate`] is a call that returns nothing, in which tests may wait, and [`NoGate`] the one that returns at once.
+//! - [`Gate`] is a call that returns nothing, in which tests may wait, and [`NoGate`] is one that returns at once.
 #![tactic(auto)]
 
 mod gate;

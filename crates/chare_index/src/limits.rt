@@ -1,5 +1,4 @@
-/// The limits of the runtime. Each quantity goes from the lowest value given here up to the constant,
-/// both included.
+/// The limits of the runtime. Each quantity ranges from the lowest value given here to the constant, both included.
 #[derive(Clone, Copy, Debug, PartialEq, Eq)]
 pub struct Limits;
 
@@ -10,7 +9,7 @@ impl Limits {
     /// PEs, from 1.
     pub const PES: u32 = 256;
 
-    /// Work units of one element in one round, from 0. A count of units stops here.
+    /// Work units of one element in one round, from 0. Units above this are not counted.
     pub const LOAD: u64 = 140_737_488_355_327;
 
     /// Bytes of one packed element, from 0.

@@ -13,7 +13,7 @@ use Rattle.dump_format.specs.Text.{word, long, price, element_text, elements_tex
 use Rattle.dump_format.proofs.Judging.{front_number}
 use Rattle.dump_format.proofs.Spelling.{number_length}
 
--- each number of so many bits is determined by its bytes
+-- each number of this width is determined by its bytes
 abbrev pub Spells : Width → Type 0
 Spells w = (n : ℕ) → n < 2 ^ bits w → from_be_bytes w (to_be_bytes w n) ≡ n
 
@@ -53,7 +53,7 @@ same_move m n a b fits fits' same =
     let (planned, rest) = same_word m.2 n.2 a b fits.2 fits'.2 last in
     (rw (index, present, planned) refl, rest)
 
--- as many pieces, one after another
+-- the same number of pieces, one after another
 same_pieces : {X : Type 0} (f : X → List ℕ) (P : X → Type 0) → ((x y : X) (a b : List ℕ) → P x → P y → f x ++ a ≡ f y ++ b → (x ≡ y) × (a ≡ b))
     → (xs ys : List X) (a b : List ℕ) → length xs ≡ length ys → All P xs → All P ys → flat_map f xs ++ a ≡ flat_map f ys ++ b → (xs ≡ ys) × (a ≡ b)
 same_pieces f P one [] [] a b len fits fits' same = (refl, same)
@@ -110,7 +110,7 @@ same_element w spells load load' size size' a b fits fits' same =
     let (place, rest) = same_word size.1 size'.1 a b fits.2 fits'.2 last in
     (first, rw (bytes, place) refl, rest)
 
--- as many elements, one after another
+-- the same number of elements, one after another
 pub same_elements : (w : Width) (spells : Spells w) (loads loads' : List ℕ) (sizes sizes' : List (ℕ × ℕ)) (a b : List ℕ) → length loads ≡ length loads' → AreSpelled w loads sizes → AreSpelled w loads' sizes'
     → elements_text w loads sizes ++ a ≡ elements_text w loads' sizes' ++ b → (loads ≡ loads') × (sizes ≡ sizes') × (a ≡ b)
 unfolding elements_text

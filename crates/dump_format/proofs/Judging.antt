@@ -181,7 +181,7 @@ kept_tail w procs load loads size sizes kept =
       places_fit = All-tail (λ (size : ℕ × ℕ). size.1 < procs) size sizes kept.places_fit;
     }
 
--- some elements, and then more, where each number of so many bits is determined by its bytes
+-- some elements, and then more, where each number of this width is determined by its bytes
 elements_taken : (w : Width) → ((n : ℕ) → n < 2 ^ bits w → from_be_bytes w (to_be_bytes w n) ≡ n) → (procs i n : ℕ) (next : Layout) (loads : List ℕ) (sizes : List (ℕ × ℕ)) (more : List ℕ) → procs ≤ PES → AreKept w procs loads sizes
     → judge (elements w procs i (length loads + n) next) (elements_text w loads sizes ++ more) ≡ judge (elements w procs (i + length loads) n next) more
 unfolding elements_text elements

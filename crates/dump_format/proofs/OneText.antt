@@ -30,7 +30,7 @@ kept w s is spelled =
       places_fit = is.placed.placed;
     }
 
--- a load has eight bytes at most
+-- a load has at most eight bytes
 pub long_loads : (s : Taken) → IsSnapshot s → All (λ load. load < 2 ^ bits w64) s.loads
 long_loads s is = All-weaker (λ load. load ≤ LOAD) (λ load. load < 2 ^ bits w64) (λ load small. omega arith) s.loads is.loads.small
 
@@ -91,11 +91,11 @@ pub whole : {A : Type 0} (d : Dumped A) (text : List ℕ) → IsText d text → 
 whole d text (inl (none, is)) = whole_lbd1 d.snapshot text is
 whole d text (inr is) = whole_lbd2 d text is
 
--- and has no fault
+-- the text of a dump has no fault
 pub no_fault : {A : Type 0} (d : Dumped A) (text : List ℕ) (e : DumpError) → IsText d text → IsFault text e → ⊥
 no_fault d text e is fault = let found = sym (ap (λ v. fault_found v (length text)) (whole d text is)) ∙ fault in cc
 
--- bytes have one first fault at most
+-- bytes have at most one first fault
 pub one_fault : (text : List ℕ) (e f : DumpError) → IsFault text e → IsFault text f → e ≡ f
 one_fault text e f first second = let same = sym first ∙ second in cc
 
@@ -118,13 +118,13 @@ one_lbd2 d a b first second = first.spelled ∙ sym second.spelled
 abbrev dumped : {A : Type 0} → Taken → Option (Recorded A) → Dumped A
 dumped snapshot recorded = record { snapshot = snapshot; recorded = recorded }
 
--- two dumps with the same parts are one
+-- two dumps with the same parts are the same
 same_dumps : {A : Type 0} (d e : Dumped A) → d.snapshot ≡ e.snapshot → d.recorded ≡ e.recorded → d ≡ e
 same_dumps d e snapshots recorded =
     let parts : dumped d.snapshot d.recorded ≡ dumped e.snapshot e.recorded = rw (snapshots, recorded) refl in
     parts
 
--- a text of LBD1 is none of LBD2
+-- a text of LBD1 is not a text of LBD2
 apart : {A : Type 0} (s : Taken) (e : Dumped A) (text : List ℕ) → IsLbd1 s text → IsLbd2 e text → ⊥
 apart s e text first second = let fourth : ◌≡◌ {A = ℕ} 49 50 = ap (λ (bytes : List ℕ). get_or bytes 3 0) (sym first.spelled ∙ second.spelled) in omega arith
 

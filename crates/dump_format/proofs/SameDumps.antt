@@ -27,7 +27,7 @@ same_floor target (Fence xs) (Fence ys) a b fits fits' same =
     let (stops, rest) = same_words xs ys a b (fits.0 ∙ sym fits'.0) fits.1 fits'.1 behind in
     (ap Fence stops, rest)
 
--- the moves of a decision that can be written down fit their fields
+-- the moves of a decision that can be written fit their fields
 moves_fit : {A : Type 0} (count : ℕ) (r : Recorded A) → IsRecorded count r → AreFields r → count ≤ ELEMENTS → All FitsMove r.decision.moves
 moves_fit count r is fits few k d inside = (omega (arith, is.moved_elements k d inside), omega (arith, fits.present k d inside), omega (arith, fits.planned k d inside))
 

@@ -1,4 +1,4 @@
--- The parts of a text: how they grow, and how long they are.
+-- The parts of a text: how they grow, and their lengths.
 use Rattle.std.proofs.Common.{◌≡◌, ℕ, zero, suc, ◌+◌, ◌*◌, List, [], ◌∷◌, ◌++◌, length, append_assoc, ℤ, refl, ap, sym, ◌∙◌, arith}
 use Rattle.std.specs.Prelude.{flat_map}
 use Rattle.std.specs.Int.{Width, w32, w64, byte_len, bytes_high_first, to_be_bytes}
@@ -51,7 +51,7 @@ elements_length_word loads sizes paired = elements_length w32 loads sizes paired
 pub elements_length_long : (loads : List ℕ) (sizes : List (ℕ × ℕ)) → length loads ≡ length sizes → length (elements_text w64 loads sizes) ≡ 16 * length loads
 elements_length_long loads sizes paired = elements_length w64 loads sizes paired
 
--- pieces of one length
+-- pieces of the same length
 pieces_length : {X : Type 0} (f : X → List ℕ) (n : ℕ) → ((x : X) → length (f x) ≡ n) → (xs : List X) → length (flat_map f xs) ≡ n * length xs
 pieces_length f n each [] = sym (mul-zero n)
 pieces_length f n each (x ∷ xs) =
@@ -70,7 +70,7 @@ moves_length moves = pieces_length move_text 12 (λ move. refl) moves
 pub head_length : (s : Taken) → length (head_text s) ≡ 12
 head_length s = refl
 
--- the bytes of the stops of a fence, and none of a floor that is 0
+-- the bytes of the stops of a fence, which are none for a floor that is 0
 abbrev pub stops_bytes : {A : Type 0} → Floor A → ℕ → ℕ
 stops_bytes Zero target = 0
 stops_bytes (Fence stops) target = 4 * (target + 1)

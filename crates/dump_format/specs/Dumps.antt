@@ -1,4 +1,4 @@
--- What a dump holds: a snapshot and, where one was recorded, a decision with the number of PEs that it is for.
+-- What a dump contains: a snapshot and, where one was recorded, a decision with the number of PEs that it is for.
 use Rattle.std.specs.Prelude.{◌≡◌, ℕ, ◌+◌, ◌^◌, ◌<◌, ◌≤◌, List, length, All, ℤ, Option, Some, None, FitsSigned}
 use Rattle.std.specs.Int.{w64}
 use Rattle.chare_index.specs.declared.limits.TheConstants.Limits.{PES}
@@ -17,8 +17,8 @@ pub record IsSnapshot (s : Taken) : Type 0 where
   pub loads : IsLoads s.loads
   pub sizes : IsSizes s.sizes
 
--- The lists of a recorded decision are as long as its target says, and there are no more moves than elements, each of
--- an element that there is.
+-- The lists of a recorded decision have the lengths that follow from its target, and there are no more moves than elements,
+-- each of an element that exists.
 pub record IsRecorded {A : Type 0} (elements : ℕ) (r : Recorded A) : Type 0 where
   pub some_target : 0 < r.target
   pub few_targets : r.target ≤ PES

@@ -17,7 +17,7 @@ IsGood text = IsWhole text ⊎ (judge dump text ≡ Unfinished)
 abbrev pub IsBroken : List ℕ → DumpError → Type 0
 IsBroken text e = judge dump text ≡ Broken e
 
--- the first fault of a text of n bytes that goes no further, by what was found in it
+-- the first fault of a text of n bytes that ends here, by what was found in it
 abbrev pub fault_found : Verdict → ℕ → Option DumpError
 fault_found Whole n = None
 fault_found Unfinished n = Some (Short n)
@@ -27,7 +27,7 @@ fault_found (Broken e) n = Some e
 abbrev pub IsFault : List ℕ → DumpError → Type 0
 IsFault text e = fault_found (judge dump text) (length text) ≡ Some e
 
--- a fault that a text may have, whole as it is: of a field, or a byte after the last one
+-- a fault that the text itself may have: of a field, or a byte after the last one
 abbrev pub IsTextFault : DumpError → Type 0
 IsTextFault (Short n) = ⊥
 IsTextFault Read = ⊥

@@ -10,7 +10,7 @@ use Rattle.dump_format.specs.declared.error.DumpError.TheVariants.{Magic, Procs,
 abbrev pub unless : Bool → DumpError → Option DumpError
 unless kept fault = if kept then None else Some fault
 
--- a field without a rule, and so many of them
+-- a field without a rule, and this number of them
 abbrev pub any : Width → (ℕ → Layout) → Layout
 any w next = Field w (λ _. None) next
 
@@ -26,7 +26,7 @@ magic_byte code next = Field w8 (λ byte. unless (byte == code) Magic) (λ _. ne
 abbrev pub pes : DumpError → (ℕ → Layout) → Layout
 pes fault next = Field w32 (λ n. unless (nat_lt 0 n && nat_le n PES) fault) next
 
--- the load of element i, in a number of this width, its packed size, and its PE, one of so many
+-- the load of element i, in a number of this width, its packed size, and its PE, which is one of this number of PEs
 abbrev pub element : Width → ℕ → ℕ → Layout → Layout
 element w procs i next =
     Field w (λ load. unless (nat_le load LOAD) (Load i)) (λ _.
@@ -57,7 +57,7 @@ after_floor count target kind =
     (numbers w32 target (numbers w64 target (numbers w64 target
     (any w64 (λ _. Field w32 (λ n. unless (nat_le n count) MoveCount) (λ n. moves count 0 n))))))
 
--- a decision on so many elements: its target, its bottleneck, its cuts, its floor, and what follows it
+-- a decision on this number of elements: its target, its bottleneck, its cuts, its floor, and what follows it
 abbrev pub decision : ℕ → Layout
 decision count =
     pes Target (λ target. any w64 (λ _. numbers w32 (target + 1)

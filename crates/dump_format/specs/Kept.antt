@@ -4,7 +4,7 @@ use Rattle.std.specs.Int.{Width}
 use mir.Val.{bits}
 use Rattle.chare_index.specs.declared.limits.TheConstants.Limits.{LOAD, STATE_BYTES}
 
--- as many sizes as loads, each number within its limit, each load one that a number of this width holds
+-- as many sizes as loads, each number within its limit, each load a number of this width
 pub record AreKept (w : Width) (procs : ℕ) (loads : List ℕ) (sizes : List (ℕ × ℕ)) : Type 0 where
   pub paired : length sizes ≡ length loads
   pub loads_fit : All (λ load. load ≤ LOAD) loads

@@ -1,11 +1,11 @@
--- How a text of fields is laid out, and how it is judged from left to right.
+-- The layout of a text of fields, and how a text is judged from left to right.
 use Rattle.std.specs.Prelude.{ℕ, List, [], ◌∷◌, length, drop, Option, Some, None, true, false, nat_lt}
 use Rattle.std.specs.Int.{Width, byte_len, from_be_bytes}
 use Rattle.dump_format.specs.declared.error.DumpError.{DumpError}
 use Rattle.dump_format.specs.declared.error.DumpError.TheVariants.{Trailing}
 
--- Fields one after another: of each its width, the fault of a number in it, if that breaks its rule, and the fields that
--- follow it, which may depend on the number.
+-- Fields one after another: for each its width, the fault of a number in it that breaks its rule, and the fields that follow
+-- it, which may depend on the number.
 pub data Layout : Type 0 where
   End : Layout
   Field : Width → (ℕ → Option DumpError) → (ℕ → Layout) → Layout

@@ -44,7 +44,7 @@ abbrev pub floor_text : {A : Type 0} → Floor A → List ℕ
 floor_text Zero = word 0
 floor_text (Fence stops) = word 1 ++ flat_map word stops
 
--- a move: the index of the element, the PE on which it stands and the one on which it is to run
+-- a move: the index of the element, the PE that it is on and the one on which it is to run
 abbrev pub move_text : ℕ × ℕ × ℕ → List ℕ
 move_text move = word move.0 ++ (word move.1 ++ word move.2)
 
@@ -83,6 +83,6 @@ pub record IsLbd2 {A : Type 0} (d : Dumped A) (text : List ℕ) : Type 0 where
   pub dump : IsDump d
   pub spelled : text ≡ lbd2_text d
 
--- These bytes are a text of this dump, in either format. LBD1 holds a snapshot alone.
+-- These bytes are a text of this dump, in either format. A text of LBD1 has only a snapshot.
 abbrev pub IsText : {A : Type 0} → Dumped A → List ℕ → Type 0
 IsText d text = ((d.recorded ≡ None) × IsLbd1 d.snapshot text) ⊎ IsLbd2 d text

@@ -11,10 +11,10 @@ use lb_strategy::Decision;
 use std::alloc::{AllocError, Allocator, Global};
 use std::marker::Model;
 
-/// A snapshot and, where one was recorded, a decision. Contracts see it as a record of the two parts. Whether the decision
-/// is right is for [`check`](lb_strategy::check) to say; a dump requires only that it can be written: the target is 1 to
-/// [`Limits::PES`], the lengths of the lists follow from the target, and there are no more moves than elements, each with
-/// an index below the number of elements.
+/// A snapshot and, where one was recorded, a decision. Contracts see it as a record of the two parts. Whether the decision is
+/// right is a question for [`check`](lb_strategy::check); a dump requires only that it can be written: the target is 1 to
+/// [`Limits::PES`], the lengths of the lists follow from the target, and there are no more moves than elements, each with an
+/// index below the number of elements.
 #[derive(Drop)]
 #[derive_where(Debug, PartialEq)]
 pub struct Dump<A: Allocator = Global> {
@@ -54,7 +54,7 @@ impl<A: Allocator> Dump<A> {
         &self.snapshot
     }
 
-    /// The decision that was recorded beside it, if one was.
+    /// The decision that was recorded with it, if any.
     pub fn recorded(&self) -> Option<&Recorded<A>>
         ensures value { option_copied result ≡ self.now.recorded }
         ensures consistent { IsDump self.now }
@@ -83,7 +83,7 @@ impl<A: Allocator + Copy> Clone for Dump<A> {
     }
 }
 
-// A copy of the decision that was recorded, if one was.
+// A copy of the decision that was recorded, if any.
 fn clone_recorded<A: Allocator + Copy>(
     recorded: &Option<Recorded<A>>,
 ) -> Result<Option<Recorded<A>>, AllocError>
@@ -95,7 +95,7 @@ fn clone_recorded<A: Allocator + Copy>(
     }
 }
 
-// Whether a decision on so many elements can be written, or there is none.
+// Whether a decision on this number of elements can be written, or there is none.
 fn may_record<A: Allocator>(elements: usize, recorded: &Option<Recorded<A>>) -> bool
     ensures exact { IsTrue result ↔ MayRecord elements recorded.now }
     ensures fields { MayFit recorded.now }
@@ -109,7 +109,7 @@ fn may_record<A: Allocator>(elements: usize, recorded: &Option<Recorded<A>>) -> 
     }
 }
 
-// Whether a decision on so many elements can be written.
+// Whether a decision on this number of elements can be written.
 fn is_recorded<A: Allocator>(elements: usize, recorded: &Recorded<A>) -> bool
     ensures { IsTrue result ↔ IsRecorded elements recorded.now }
 {
@@ -121,7 +121,7 @@ fn is_recorded<A: Allocator>(elements: usize, recorded: &Recorded<A>) -> bool
         && are_moves(elements, recorded.decision.moves.as_slice())
 }
 
-// Whether the lists of a decision have the lengths that so many blocks require.
+// Whether the lists of a decision have the lengths that this number of blocks requires.
 fn have_lengths<A: Allocator>(blocks: usize, decision: &Decision<A>) -> bool
     requires { blocks ≤ Limits.PES }
     ensures { IsTrue result ↔ ((length decision.now.division.cuts ≡ blocks + 1)

@@ -13,7 +13,7 @@ pub enum DumpError {
     /// A byte of the first four is neither that of `LBD1` nor that of `LBD2`.
     #[error("not a dump")]
     Magic,
-    /// The text ends after so many bytes, before its last field does.
+    /// The text ends after this number of bytes, before its last field does.
     #[error("the dump ends after {0} bytes")]
     Short(u32),
     /// The number of PEs is 0 or above 256 (`Limits::PES`).
@@ -34,10 +34,10 @@ pub enum DumpError {
     /// The reader failed, or was called more often than any dump has bytes.
     #[error("reading failed")]
     Read,
-    /// The writer failed, or took nothing.
+    /// The writer failed, or took no byte.
     #[error("writing failed")]
     Write,
-    /// No memory was left.
+    /// Memory was refused.
     #[error("out of memory")]
     OutOfMemory,
     /// The load of this element is above 140,737,488,355,327 (`Limits::LOAD`).
@@ -55,10 +55,10 @@ pub enum DumpError {
     /// There are more moves than elements.
     #[error("too many moves")]
     MoveCount,
-    /// A number of this move is out of range: its index is that of no element, or a PE is above 255.
+    /// A number of this move is out of range: no element has its index, or a PE is above 255.
     #[error("move {0} is out of range")]
     Move(u32),
-    /// The load of this element, the first such, is above 4,294,967,295, so LBD1 cannot hold it.
+    /// This element is the first whose load is above 4,294,967,295, so LBD1 cannot represent it.
     #[error("the load of element {0} is too great for the format")]
     Wide(u32),
 }

@@ -8,7 +8,7 @@ use lb_certificates::{Division, Floor};
 use lb_snapshot::Snapshot;
 use std::alloc::Allocator;
 
-// The functions of this file only prove facts that follow from types: that each number fits its field in a dump.
+// The functions of this file do nothing but prove facts that follow from types: that each number fits its field in a dump.
 
 // The number of elements of a snapshot.
 pub(crate) fn elements<A: Allocator>(snapshot: &Snapshot<A>) -> usize

@@ -8,9 +8,9 @@ ghost use Rattle.dump_format.specs.Faults.{IsBroken, IsFault, IsGood, IsTextFaul
 use std::alloc::Allocator;
 
 /// Laws of the formats. The function does nothing: its clauses are the laws. Bytes are the text of at most one dump, in
-/// whichever format; a snapshot has at most one text of LBD1, and a dump at most one of LBD2. A text is whole and has no
-/// fault, and bytes have at most one first fault; so what was written is read again. A fault that shows in some bytes is one
-/// of a text, and not of reading or writing; every longer text has it, and good bytes have none.
+/// whichever format; a snapshot has at most one text of LBD1, and a dump at most one of LBD2. A text is whole and has no fault,
+/// and bytes have at most one first fault; so what was written can be read back. A fault that shows in some bytes is a fault of
+/// the text, and not of reading or writing; every longer text has it, and good bytes have none.
 pub fn format_laws<A: Allocator>()
     ensures one_dump { (d e : Dumped A) (text : List ℕ) → IsText d text → IsText e text → d ≡ e }
     ensures one_lbd1 { (s : Taken) (a b : List ℕ) → IsLbd1 s a → IsLbd1 s b → a ≡ b }

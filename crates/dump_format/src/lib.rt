@@ -1,7 +1,6 @@
-//! What a dump is: a snapshot of a load database and, where it has one, a decision on it with every certificate. This
-//! crate has the definitions that reading and writing are proved by: `specs/Text.antt` says which bytes are the text of
-//! a dump, in the formats LBD1 and LBD2, and `specs/Fields.antt` which fields a text has, in order, and which fault
-//! each is judged by.
+//! What a dump is: a snapshot of a load database and, where it has one, a decision on it with every certificate. This crate has
+//! the definitions by which reading and writing are proved: `specs/Text.antt` says which bytes are the text of a dump, in the
+//! formats LBD1 and LBD2, and `specs/Fields.antt` which fields a text has, in order, and which fault each may have.
 //!
 //! - [`Dump`], with [`Recorded`]: the values.
 //! - [`DumpError`]: the faults of a text, and why a dump was not read or written.

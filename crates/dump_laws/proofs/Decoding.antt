@@ -118,7 +118,7 @@ unfolding judge
 at_end [] whole = refl
 at_end (byte ∷ bytes) whole = absurd (let h = whole in cc)
 
--- so many numbers
+-- `count` numbers
 pub record Numbers (w : Width) (count : ℕ) (next : Layout) (text : List ℕ) : Type 0 where
   pub numbers : List ℕ
   pub rest : List ℕ
@@ -166,7 +166,7 @@ prices_spelled (n ∷ numbers) fit =
     ap (λ (m : ℕ). long m ++ flat_map long numbers) (sym (of_z-to_z w64 n (All-head (λ (n : ℕ). n < 2 ^ 64) n numbers fit)))
     ∙ ap (λ (rest : List ℕ). price (cast_signed w64 n) ++ rest) (prices_spelled numbers (All-tail (λ (n : ℕ). n < 2 ^ 64) n numbers fit))
 
--- so many elements
+-- `count` elements
 pub record Elements (w : Width) (procs count : ℕ) (next : Layout) (text : List ℕ) : Type 0 where
   pub loads : List ℕ
   pub sizes : List (ℕ × ℕ)
@@ -257,7 +257,7 @@ read_elements w reads procs i (suc count) next text are whole =
 abbrev pub IsMove : ℕ → ℕ × ℕ × ℕ → Type 0
 IsMove count m = (m.0 < count) × (m.1 < PES) × (m.2 < PES)
 
--- so many moves, and nothing behind them
+-- n moves, and nothing behind them
 pub record Moves (count n : ℕ) (text : List ℕ) : Type 0 where
   pub moves : List (ℕ × ℕ × ℕ)
   pub counted : length moves ≡ n

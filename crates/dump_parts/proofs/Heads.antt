@@ -96,7 +96,7 @@ fourth_wrong (a ∷ b ∷ c ∷ d ∷ rest) inside before not_1 not_2 =
     magic_byte_taken 76 second a (b ∷ c ∷ d ∷ rest) (before 0 (lit< tt)) ∙ magic_byte_taken 66 third b (c ∷ d ∷ rest) (before 1 (lit< tt)) ∙ magic_byte_taken 68 fourth c (d ∷ rest) (before 2 (lit< tt))
     ∙ fourth_broken d rest not_1 not_2
 
--- a number of PEs that there may be, and one that there may not
+-- a number of PEs within the limits, and one that is not
 pes_kept : (n : ℕ) → 0 < n → n ≤ PES → unless (ltb 0 n && leb n PES) Procs ≡ None
 pes_kept n some few = kept (ltb 0 n && leb n PES) Procs (and_from (ltb 0 n) (leb n PES) (lt-ltb 0 n some) (le-leb n PES few))
 

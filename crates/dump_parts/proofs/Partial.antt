@@ -1,4 +1,4 @@
--- Elements and moves of which only some bytes have come.
+-- Elements and moves of which only the first bytes have come.
 use Rattle.std.proofs.Common.{◌≡◌, ℕ, ◌+◌, ◌-◌, ◌<◌, ◌≤◌, List, length, drop, take, refl, ap, ◌∙◌, Option, Some, None, Bool, true, false, inl, inr, ltb, leb, lit<, arith}
 use Rattle.std.specs.Int.{Width, w32, byte_len, from_be_bytes}
 use Rattle.std.proofs.lemmas.Bool.{cases_lt, le-leb, le-ltb, lt-leb, lt-ltb}
@@ -15,14 +15,14 @@ use Rattle.dump_parts.specs.Heads.{element_len, load_width}
 use Rattle.dump_parts.specs.Elements.{BreaksElement}
 use Rattle.dump_parts.specs.Moves.{BreaksMove}
 
--- a rule that is kept brings no fault, and one that is broken brings its own
+-- a rule that is kept gives no fault, and one that is broken gives its own
 pub kept : (b : Bool) (e : DumpError) → b ≡ true → unless b e ≡ None
 kept b e holds = ap (λ t. unless t e) holds
 
 pub broken : (b : Bool) (e : DumpError) → b ≡ false → unless b e ≡ Some e
 broken b e fails = ap (λ t. unless t e) fails
 
--- three fields, of which the second and the third are words
+-- three fields, of which the second and the third have four bytes each
 abbrev three : Width → (ℕ → Option DumpError) → (ℕ → Option DumpError) → (ℕ → Option DumpError) → Layout → Layout
 three w f g h next = Field w f (λ _. Field w32 g (λ _. Field w32 h (λ _. next)))
 
@@ -61,7 +61,7 @@ module _ (w : Width) (f g h : ℕ → Option DumpError) (next : Layout) (bytes :
         ]
       ]
 
--- an element is a load and two words
+-- an element is a load and two numbers of four bytes
 pub len_of : (format : Format) → byte_len (load_width format) + 8 ≡ element_len format
 len_of Lbd1 = refl
 len_of Lbd2 = refl

@@ -4,7 +4,7 @@ use Rattle.std.specs.Int.{w8, w32, w64, from_be_bytes, to_be_bytes}
 use Rattle.std.proofs.lemmas.List.{drop-drop, get_or-drop, length-drop}
 use Rattle.std.proofs.lemmas.Nat.{be_bytes_4, be_bytes_8}
 
--- each is a byte
+-- each number is a byte
 abbrev pub AreBytes : List ℕ → Type 0
 AreBytes bytes = (i : ℕ) → get_or bytes i 0 < 256
 
@@ -53,11 +53,11 @@ long_and_rest (a ∷ b ∷ c ∷ d ∷ e ∷ f ∷ g ∷ []) long are = absurd (
 long_and_rest (a ∷ b ∷ c ∷ d ∷ e ∷ f ∷ g ∷ h ∷ rest) long are =
     sym (ap (λ front. front ++ rest) (be_bytes_8 (a ∷ b ∷ c ∷ d ∷ e ∷ f ∷ g ∷ h ∷ []) (from_be_bytes w64 (a ∷ b ∷ c ∷ d ∷ e ∷ f ∷ g ∷ h ∷ [])) refl (eight_are a b c d e f g h rest are) refl))
 
--- the last word
+-- the last number of four bytes
 last_word : (bytes : List ℕ) (n : ℕ) → length bytes ≡ 4 → AreBytes bytes → n ≡ from_be_bytes w32 bytes → bytes ≡ to_be_bytes w32 n
 last_word bytes n len are is = sym (be_bytes_4 bytes n len are is)
 
--- two words
+-- two numbers of four bytes
 pub two_words : (bytes : List ℕ) (m n : ℕ) → length bytes ≡ 8 → AreBytes bytes → m ≡ from_be_bytes w32 bytes → n ≡ from_be_bytes w32 (drop 4 bytes) → bytes ≡ to_be_bytes w32 m ++ to_be_bytes w32 n
 two_words bytes m n len are first second =
     word_and_rest bytes (omega arith) are

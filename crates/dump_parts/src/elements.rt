@@ -16,12 +16,12 @@ use dump_format::DumpError;
 use lb_snapshot::Units;
 use std::alloc::Allocator;
 
-/// Appends the whole elements with which these bytes begin to the lists, at most as many as are missing, and returns the
-/// bytes after them. First it reserves room in the lists for all elements of the text.
+/// Appends the whole elements with which these bytes begin to the lists, at most as many as are missing, and returns the bytes
+/// after them. First it reserves capacity in the lists for all elements of the text.
 ///
 /// # Errors
 ///
-/// Out of memory, or else the first fault.
+/// Memory was refused, or else the first fault.
 pub fn take_elements<'a, A: Allocator>(
     head: &Head,
     loads: &mut Vec<Units, A>,
@@ -47,7 +47,7 @@ pub fn take_elements<'a, A: Allocator>(
     let missing = count as usize - loads.len();
     loads.reserve_exact(missing)?;
     sizes.reserve_exact(missing)?;
-    // It is within this limit already. With this line the compiler knows, and tests each place once.
+    // The number is within this limit already. The line lets the compiler know, so that each place is tested once.
     let procs = procs.min(Limits::PES);
     let len = format.element_len();
     let end = loads.len() + missing.min(bytes.len() / len);
@@ -62,7 +62,7 @@ pub fn take_elements<'a, A: Allocator>(
     Ok(rest)
 }
 
-/// Judges the fields of element `i` that are whole, except its place, where only these bytes of it have come.
+/// Judges the fields of element `i` that are whole, except its place, where only these first bytes of it have come.
 ///
 /// # Errors
 ///

@@ -13,15 +13,15 @@ use chare_index::{Index, Limits, Pe};
 use dump_format::DumpError;
 use std::alloc::Allocator;
 
-/// The length of a move: its index, the PE on which the element stands, and the one on which it is to run.
+/// The length of a move: its index, the PE that the element is on, and the one on which it is to run.
 pub const MOVE_LEN: usize = 12;
 
-/// Appends the whole moves with which these bytes begin to the list, at most as many as are missing of `all`, and returns
-/// the bytes after them. First it reserves room in the list for all moves.
+/// Appends the whole moves with which these bytes begin to the list, at most as many as are missing of `all`, and returns the
+/// bytes after them. First it reserves capacity in the list for all moves.
 ///
 /// # Errors
 ///
-/// Out of memory, or else the first fault.
+/// Memory was refused, or else the first fault.
 pub fn take_moves<'a, A: Allocator>(
     count: u32,
     all: u32,
@@ -40,7 +40,7 @@ pub fn take_moves<'a, A: Allocator>(
 {
     let missing = all as usize - moves.len();
     moves.reserve_exact(missing)?;
-    // It is within this limit already. With this line the compiler knows, and tests each index once.
+    // The number is within this limit already. The line lets the compiler know, so that each index is tested once.
     let count = count.min(Limits::ELEMENTS);
     let end = moves.len() + missing.min(bytes.len() / MOVE_LEN);
     let mut rest = bytes;
@@ -53,7 +53,7 @@ pub fn take_moves<'a, A: Allocator>(
     Ok(rest)
 }
 
-/// Judges the fields of move `k` that are whole, except its last, where only these bytes of it have come.
+/// Judges the fields of move `k` that are whole, except its last, where only these first bytes of it have come.
 ///
 /// # Errors
 ///

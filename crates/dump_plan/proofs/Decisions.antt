@@ -1,4 +1,4 @@
--- How what follows the elements is judged, as far as it has come.
+-- How what follows the elements is judged, as far as its bytes have come.
 use Rattle.std.proofs.Common.{◌≡◌, ℕ, ◌+◌, ◌-◌, ◌*◌, ◌<◌, ◌≤◌, List, length, drop, refl, ap, sym, subst, ◌∙◌, Some, None, Bool, true, false, inl, inr, ◌⊎◌, arith}
 use Rattle.std.specs.Prelude.{◌==◌, ◌&&◌, nat_le, nat_lt, if◌then◌else◌}
 use Rattle.std.specs.Int.{w32, w64, from_be_bytes}
@@ -109,7 +109,7 @@ floored count text target kind is =
     to_floor count text target is.opened (omega arith)
     ∙ field_at w32 (λ k. unless (nat_le k 1) Floor) (λ k. after_floor count target k) text (kind_at target) (kind_at target + 4) kind refl long is.kind_is (kept (nat_le kind 1) Floor (le-leb kind 1 is.good))
 
--- how many stops there are, and their bytes
+-- the number of stops, and their bytes
 abbrev stops : ℕ → ℕ → ℕ
 stops kind target = if kind == 0 then 0 else target + 1
 

@@ -27,7 +27,7 @@ made_by bytes count r m end spelled recorded fields none whole is few =
       few_moves = few;
     }
 
--- The same decision with as many moves as are to follow: how the text up to them is judged does not depend on them.
+-- The same decision with the number of moves that are to follow: the judgement of the text up to them does not depend on them.
 abbrev filled : {A : Type 0} → Recorded A → ℕ → Recorded A
 filled r m = record r { decision = record r.decision { moves = replicate m (0, 0, 0) } }
 
@@ -72,7 +72,7 @@ filled_fields r m fields =
       planned = All-replicate (λ (move : ℕ × ℕ × ℕ). move.2 < PES) m (0, 0, 0) (lit< tt);
     }
 
--- after the bytes of a decision stand its moves
+-- the moves of a decision follow its bytes
 pub made_judged : {A : Type 0} (count : ℕ) (r : Recorded A) (m : ℕ) (bytes more : List ℕ) → count ≤ ELEMENTS → IsMade bytes count r m → judge (ending count) (bytes ++ more) ≡ judge (moves count 0 m) more
 made_judged count r m bytes more few made =
     ap (λ it. judge (ending count) (it ++ more)) made.spelled
@@ -90,7 +90,7 @@ stops_are : {A : Type 0} (floor : Floor A) (target : ℕ) → 36 + 24 * target +
 stops_are Zero target = omega arith
 stops_are (Fence stops) target = omega arith
 
--- how long the bytes of a decision are, up to its moves
+-- the length of the bytes of a decision, up to its moves
 pub made_length : {A : Type 0} (bytes : List ℕ) (count : ℕ) (r : Recorded A) (m : ℕ) → IsMade bytes count r m → length bytes ≡ plan_len r.target (floor_kind r.decision.division.floor)
 made_length bytes count r m made =
     let recorded : IsRecorded count (filled r m) = filled_recorded count r m made.recorded made.few_moves in

@@ -11,7 +11,7 @@ use Rattle.dump_format.proofs.Judging.{front_number}
 use Rattle.dump_format.proofs.Spelling.{flat_map_push}
 use Rattle.dump_plan.specs.Plans.{word_at}
 
--- each element is a byte
+-- each item of the list is a byte
 pub record AreBytes (xs : List ℕ) : Type 0 where
   pub small : (i : ℕ) → get_or xs i 0 < 256
 
@@ -49,7 +49,7 @@ word_at-append xs ys at long =
 pub word_read : (xs : List ℕ) (at n : ℕ) → n ≡ from_be_bytes w32 (take (length xs - at) (drop at xs)) → n ≡ word_at xs at
 word_read xs at n e = e ∙ ap (from_be_bytes w32) (take_rest xs at)
 
--- the rest after so many bytes of a part that begins at an offset
+-- the rest after n bytes of a part that begins at an offset
 pub behind_part : (xs : List ℕ) (at n : ℕ) (rest : List ℕ) → rest ≡ drop n (take (length xs - at) (drop at xs)) → rest ≡ drop (at + n) xs
 behind_part xs at n rest e = e ∙ (ap (drop n) (take_rest xs at) ∙ drop-drop n at xs)
 

@@ -11,7 +11,7 @@ use Rattle.dump_plan.specs.Lists.{floor_len, AreNamedIn, ArePricesIn, IsDivision
 use Rattle.dump_plan.specs.Plans.{flag_in, kind_at, kind_in, plan_bytes, plan_len, target_in, word_at}
 use Rattle.dump_plan.proofs.Numbers.{AreBytes, behind_part, bytes_left, bytes_right, long_first, word-append, word_at-append, word_first}
 
--- the length of the floor after so many bytes
+-- the length of the floor that begins at an offset
 pub floor_whole : (bytes rest : List ℕ) (at count : ℕ) → rest ≡ drop at bytes → length bytes ≡ at + floor_len (word_at bytes at) count → length rest ≡ floor_len (word_at rest 0) count
 floor_whole bytes rest at count is whole =
     let here : length (drop at bytes) ≡ floor_len (word_at bytes at) count = rw length-drop (omega arith) in
@@ -103,7 +103,7 @@ last_is numbers moved known twelve is =
     long_first numbers moved known (omega arith) is ∙ ap (λ it. long moved ++ it)
     (word_first (drop 8 numbers) (word_at numbers 8) rest_are (omega arith) refl ∙ (ap (λ it. word (word_at numbers 8) ++ it) (nil_from_length (drop 4 (drop 8 numbers)) none) ∙ append-nil (word (word_at numbers 8))))
 
--- where the number of moves stands
+-- where the number of moves begins
 last_at : (bytes back numbers : List ℕ) (from behind : ℕ) → back ≡ drop from bytes → numbers ≡ drop behind back → from + behind + 12 ≡ length bytes → word_at numbers 8 ≡ word_at bytes (length bytes - 4)
 last_at bytes back numbers from behind back_is numbers_is end =
     let there : from + (behind + 8) ≡ length bytes - 4 = omega arith in

@@ -1,4 +1,4 @@
--- The numbers and lists of a decision that bytes spell.
+-- The numbers and lists of a decision that are read from bytes.
 use Rattle.std.specs.Prelude.{◌≡◌, ℕ, ◌+◌, ◌*◌, ◌^◌, ◌<◌, ◌==◌, if◌then◌else◌, List, length, ◌++◌, flat_map}
 use Rattle.lb_certificates.specs.Certificate.{MatchFloor}
 use Rattle.lb_certificates.specs.declared.division.Division.{Division}
@@ -7,17 +7,17 @@ use Rattle.lb_certificates.specs.declared.prices.Prices.{Prices}
 use Rattle.dump_format.specs.Dumps.{AreWords, ArePrices}
 use Rattle.dump_format.specs.Text.{word, long, price, floor_text}
 
--- the length of a floor of this kind, whose fence has so many stops
+-- the length of a floor of this kind, whose fence has this number of stops
 abbrev pub floor_len : ℕ → ℕ → ℕ
 floor_len kind stops = 4 + (if kind == 0 then 0 else 4 * stops)
 
--- a floor, whose fence has so many stops
+-- a floor, whose fence has this number of stops
 pub record IsFloorIn {A : Type 0} (bytes : List ℕ) (count : ℕ) (floor : Floor A) : Type 0 where
   pub spelled : bytes ≡ floor_text floor
   pub stops : MatchFloor floor (Unit {0}) (λ it. length it ≡ count)
   pub words : MatchFloor floor (Unit {0}) AreWords
 
--- a division into so many blocks
+-- a division into this number of blocks
 pub record IsDivisionIn {A : Type 0} (bytes : List ℕ) (blocks : ℕ) (division : Division A) : Type 0 where
   pub spelled : bytes ≡ long division.bottleneck ++ (flat_map word division.cuts ++ floor_text division.floor)
   pub bottleneck : division.bottleneck < 2 ^ 64
@@ -26,7 +26,7 @@ pub record IsDivisionIn {A : Type 0} (bytes : List ℕ) (blocks : ℕ) (division
   pub stops : MatchFloor division.floor (Unit {0}) (λ it. length it ≡ blocks + 1)
   pub stop_words : MatchFloor division.floor (Unit {0}) AreWords
 
--- prices of so many blocks, and then of as many PEs
+-- prices of this number of blocks, and then of as many PEs
 pub record ArePricesIn {A : Type 0} (bytes : List ℕ) (blocks : ℕ) (prices : Prices A) : Type 0 where
   pub spelled : bytes ≡ flat_map price prices.u ++ flat_map price prices.v
   pub block_prices : length prices.u ≡ blocks
@@ -34,7 +34,7 @@ pub record ArePricesIn {A : Type 0} (bytes : List ℕ) (blocks : ℕ) (prices : 
   pub pe_prices : length prices.v ≡ blocks
   pub pe_range : ArePrices prices.v
 
--- names of so many blocks, and then their prices
+-- names of this number of blocks, and then their prices
 pub record AreNamedIn {A : Type 0} (bytes : List ℕ) (blocks : ℕ) (naming : List ℕ) (prices : Prices A) : Type 0 where
   pub spelled : bytes ≡ flat_map word naming ++ (flat_map price prices.u ++ flat_map price prices.v)
   pub names : length naming ≡ blocks

@@ -29,8 +29,8 @@ kind_at target = 16 + 4 * (target + 1)
 abbrev pub kind_in : List ℕ → ℕ
 kind_in bytes = word_at bytes (kind_at (target_in bytes))
 
--- The length up to the moves, by the target and the kind of the floor: after the kind stand the stops, if there is a
--- fence, the names, the prices of blocks and of PEs, the bytes moved and the number of moves.
+-- The length up to the moves, by the target and the kind of the floor: after the kind come the stops, if there is a fence, the
+-- names, the prices of blocks and of PEs, the bytes moved and the number of moves.
 abbrev pub plan_len : ℕ → ℕ → ℕ
 plan_len target kind = kind_at target + 4 + (if kind == 0 then 0 else 4 * (target + 1)) + 20 * target + 12
 
@@ -55,7 +55,7 @@ pub record MayBegin (bytes : List ℕ) : Type 0 where
   pub kind : kind_at (target_in bytes) + 4 < length bytes → kind_in bytes ≤ 1
   pub within : kind_at (target_in bytes) + 4 < length bytes → length bytes ≤ plan_len (target_in bytes) (kind_in bytes)
 
--- the bytes of a decision with so many moves, up to them, after the flag
+-- the bytes of a decision with this number of moves, up to them, after the flag
 abbrev pub plan_bytes : {A : Type 0} → Recorded A → ℕ → List ℕ
 plan_bytes r moves =
     word r.target ++ (long r.decision.division.bottleneck ++ (flat_map word r.decision.division.cuts
@@ -71,7 +71,7 @@ pub record IsMade {A : Type 0} (bytes : List ℕ) (count : ℕ) (r : Recorded A)
   pub no_moves : r.decision.moves ≡ []
   pub few_moves : moves ≤ count
 
--- what these bytes are, which follow so many elements
+-- what these bytes are, which follow this number of elements
 abbrev pub IsPlan : {A : Type 0} → List ℕ → ℕ → Plan A → Type 0
 IsPlan bytes count Begun = IsBegun bytes × (judge (ending count) bytes ≡ Unfinished)
 IsPlan bytes count Nothing = bytes ≡ word 0

@@ -13,11 +13,11 @@ use lb_certificates::{Cuts, Division, Floor, Naming, PriceList, Prices, Stops};
 use lb_strategy::{Decision, Moves};
 use std::alloc::{AllocError, Allocator};
 
-/// The decision, without its moves, that these bytes are. The memory of each list is requested once, with its exact length.
+/// The decision, without its moves, in these bytes. The memory of each list is requested once, with its exact length.
 ///
 /// # Errors
 ///
-/// Out of memory, where a list was refused.
+/// Memory for a list was refused.
 pub(crate) fn recorded_of<A: Allocator + Copy>(
     alloc: A,
     bytes: &[u8],
@@ -87,7 +87,7 @@ fn division_of<A: Allocator + Copy>(
     })
 }
 
-// A floor, whose fence has so many stops.
+// A floor, whose fence has this number of stops.
 fn floor_of<A: Allocator>(alloc: A, bytes: &[u8], stops: usize) -> Result<Floor<A>, AllocError>
     requires kind { word_at bytes.now 0 ≤ 1 }
     requires whole { length bytes.now ≡ floor_len (word_at bytes.now 0) stops }
@@ -135,7 +135,7 @@ fn prices_of<A: Allocator + Copy>(
     })
 }
 
-// The `count` numbers of four bytes that these bytes are.
+// The `count` numbers of four bytes in these bytes.
 fn words_in<A: Allocator>(alloc: A, bytes: &[u8], count: usize) -> Result<Vec<u32, A>, AllocError>
     requires { length bytes.now ≡ 4 * count }
     ensures spelled { IfOk result (λ words. flat_map word_text words.items ≡ bytes.now) }
@@ -152,7 +152,7 @@ fn words_in<A: Allocator>(alloc: A, bytes: &[u8], count: usize) -> Result<Vec<u3
     Ok(words)
 }
 
-// The `count` prices that these bytes are.
+// The `count` prices in these bytes.
 fn prices_in<A: Allocator>(alloc: A, bytes: &[u8], count: usize) -> Result<Vec<i64, A>, AllocError>
     requires { length bytes.now ≡ 8 * count }
     ensures spelled { IfOk result (λ prices. flat_map price prices.items ≡ bytes.now) }

@@ -9,6 +9,6 @@ pub enum Plan<A: Allocator = Global> {
     Begun,
     /// The flag 0: the text ends here.
     Nothing,
-    /// A decision up to its moves, of which there are so many. Its list of moves is empty.
+    /// A decision up to its moves, and the number of these. Its list of moves is empty.
     Made(Recorded<A>, u32),
 }

@@ -16,7 +16,7 @@ const TARGET_AT: usize = 4;
 /// Where the cuts begin, after the target and the bottleneck.
 const CUTS_AT: usize = 16;
 
-/// How many bytes there have to be before more can be judged: up to the end of the next field that has a rule.
+/// The number of bytes that are needed before more can be judged: up to the end of the next field that has a rule.
 pub fn plan_end(begun: &[u8]) -> usize
     requires { IsBegun begun.now }
     ensures more { length begun.now < result }
@@ -36,11 +36,11 @@ pub fn plan_end(begun: &[u8]) -> usize
     plan_len(target, word(&begun[kind_at..]))
 }
 
-/// The plan that these bytes are, or [`Plan::Begun`] where more have to come. No memory is requested before all have come.
+/// The plan in these bytes, or [`Plan::Begun`] where more have to come. No memory is requested before all have come.
 ///
 /// # Errors
 ///
-/// The first fault of the fields that are whole, or out of memory, where the lists were refused.
+/// The first fault of the fields that are whole, or else memory for a list was refused.
 pub fn read_plan<A: Allocator + Copy>(
     alloc: A,
     bytes: &[u8],
@@ -108,7 +108,7 @@ fn read_lists<A: Allocator + Copy>(
     Ok(Plan::Made(recorded, moves))
 }
 
-// Whether so many PEs are 1 to [`Limits::PES`].
+// Whether this number of PEs is 1 to [`Limits::PES`].
 fn is_target(target: u32) -> bool
     ensures { MatchBool result ((0 < target) × (target ≤ Limits.PES)) ((target ≡ 0) ⊎ (Limits.PES < target)) }
 {

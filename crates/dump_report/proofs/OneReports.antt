@@ -1,4 +1,4 @@
--- What is reported is one function of the bytes read, the name, the numbers of PEs, the tolerance and the style.
+-- What is reported is a function of the bytes read, the name, the numbers of PEs, the tolerance and the style.
 use Rattle.std.proofs.Common.{◌≡◌, ℕ, List, [], ◌∷◌, ◌++◌, Option, None, Some, ap, sym, ◌∙◌, subst, inl, inr}
 use Rattle.chain_partition.proofs.ChosenOnce.{only_from_chosen}
 use Rattle.dump_format.specs.Dumps.{Dumped}
@@ -18,7 +18,7 @@ use Rattle.load_report.specs.declared.style.Style.{Style}
 use Rattle.dump_report.specs.Reports.{ArePlans, IsBeside, IsDecided, IsPast, IsPlan, IsReport, IsSaid, IsWithin, numbers_of}
 
 module _ (A : Type 0) (style : Style) (name : List ℕ) (s : Taken) where
-  -- a decision with other parts, but those that no text depends on
+  -- a decision with other parts, except for those that no text depends on
   abbrev with_parts : Decision A → ℕ → List (ℕ × ℕ × ℕ) → List ℕ → List ℕ → Decision A
   with_parts d least moves cuts names = record {
     division = record { bottleneck = least; cuts = cuts; floor = d.division.floor };
@@ -28,11 +28,11 @@ module _ (A : Type 0) (style : Style) (name : List ℕ) (s : Taken) where
     moves = moves;
   }
 
-  -- what is told of it
+  -- what is reported of it
   abbrev told : ℕ → Decision A → ℕ → List (ℕ × ℕ × ℕ) → List ℕ → List ℕ → List ℕ
   told pes d least moves cuts names = planned_text style name s pes (with_parts d least moves cuts names)
 
-  -- decisions that have these in common have one text
+  -- decisions that agree in this have one text
   same_text : (pes : ℕ) (d e : Decision A) → IsSame d e → planned_text style name s pes d ≡ planned_text style name s pes e
   same_text pes d e same =
       ap (λ moves. told pes d d.division.bottleneck moves d.division.cuts d.naming) same.moves
@@ -45,7 +45,7 @@ module _ (A : Type 0) (style : Style) (name : List ℕ) (s : Taken) where
       let same : IsSame this.decision that.decision = one_decision s.loads s.sizes pes this.decision that.decision this.chosen that.chosen this.least that.least this.right that.right in
       this.printed ∙ same_text pes this.decision that.decision same ∙ sym that.printed
 
-  -- a decision within a tolerance with other parts, but those that no text depends on
+  -- a decision within a tolerance with other parts, except for those that no text depends on
   abbrev refined_with : Refined A → ℕ → List (ℕ × ℕ × ℕ) → List ℕ → List ℕ → Refined A
   refined_with r least moves cuts names = Planned (record {
     division = record { bottleneck = least; cuts = cuts; floor = (refined_least r).floor };
@@ -55,11 +55,11 @@ module _ (A : Type 0) (style : Style) (name : List ℕ) (s : Taken) where
     moves = moves;
   })
 
-  -- what is told of it
+  -- what is reported of it
   abbrev told_within : ℕ → Refined A → ℕ → List (ℕ × ℕ × ℕ) → List ℕ → List ℕ → List ℕ
   told_within pes r least moves cuts names = refined_text style name s pes (refined_with r least moves cuts names)
 
-  -- decisions that have these in common have one text
+  -- decisions that agree in this have one text
   same_within : (pes : ℕ) (d e : Refined A) → refined_least d ≡ refined_least e → AreSame d e → refined_text style name s pes d ≡ refined_text style name s pes e
   same_within pes d e least same =
       ap (λ (division : Division A). told_within pes d division.bottleneck (refined_moves d) (refined_cuts d) (refined_names d)) least

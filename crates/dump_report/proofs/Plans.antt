@@ -1,4 +1,4 @@
--- What is said of decisions, one beside another, and one after another.
+-- What is reported of decisions, one beside another, and one after another.
 use Rattle.std.proofs.Common.{◌≡◌, ℕ, List, [], ◌∷◌, ◌++◌, Option, Some, ap, refl, sym, ◌∙◌, append_assoc}
 use Rattle.std.proofs.lemmas.List.{append-nil}
 use Rattle.lb_snapshot.specs.Measured.{Taken}

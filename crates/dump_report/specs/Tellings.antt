@@ -28,7 +28,7 @@ fault_words MoveCount = codes "too many moves"
 fault_words (Move k) = codes "move " ++ decimal k ++ codes " is out of range"
 fault_words (Wide i) = codes "the load of element " ++ decimal i ++ codes " is too great for the format"
 
--- what is to be done about it
+-- what to do about it
 abbrev pub advice : DumpError → List ℕ
 advice Read = codes "give a file with a dump that you may read, or - for the standard input"
 advice OutOfMemory = codes "free some, or report on a smaller dump"
@@ -38,18 +38,18 @@ advice e = dump_advice e
 abbrev pub line_about : List ℕ → List ℕ → List ℕ → List ℕ
 line_about name what todo = fault_line (codes "lb_report") name (what ++ codes "; " ++ todo)
 
--- what is said of a fault, with the system's reason behind it where there is one
+-- what is said of a fault, followed by the system's reason where there is one
 abbrev pub fault_said : DumpError → Option (List ℕ) → List ℕ
 fault_said e None = fault_words e
 fault_said e (Some reason) = fault_words e ++ (codes ": " ++ reason)
 
--- why an output failed: the system's reason, or that it takes nothing
+-- why an output failed: the system's reason, or that it takes no byte
 abbrev pub output_words : Option (List ℕ) → List ℕ
 output_words None = codes "it takes nothing"
 output_words (Some reason) = reason
 
--- What is printed at the end of a report on a file of this name, with the system's reason in these words, if there is one: for a
--- fault of the dump, where memory ran out, and where the output failed. At another end nothing is printed.
+-- What is printed at the end of a report on a file of this name, with the system's reason in these words, if there is one: for
+-- a fault of the dump, where memory ran out, and where the output failed. At any other end nothing is printed.
 abbrev pub IsTold : List ℕ → Ended → Option (List ℕ) → Option (List ℕ) → Option (List ℕ) → Bool → Type 0
 IsTold name (Ended.Dump e) reason old new told =
     Tells (line_about name (fault_said e reason) (advice e)) old new told

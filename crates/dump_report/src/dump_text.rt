@@ -1,4 +1,4 @@
-//! What is said of a dump. It is made whole before any of it goes out.
+//! What is reported of a dump. The whole text is made before any of it is written.
 
 ghost use Rattle.std.specs.Prelude.{◌≡◌, ◌≤◌, ◌++◌, All, List, ℕ, Some, OnOk, IfOk, IfErr};
 ghost use Rattle.dump_report.specs.Reports.{ArePlans, IsBeside, IsDecided, IsNumber, IsPast, IsPlan, IsSaid, IsWithin, numbers_of};
@@ -59,7 +59,7 @@ fn said_of<A: Allocator + Copy>(
     Ok(text)
 }
 
-// What is said of the decision that a dump records, if there is one.
+// What is reported of the decision that a dump records, if there is one.
 fn push_past<A: Allocator + Copy, B: Allocator>(
     text: &mut Vec<u8, A>,
     dump: &Dump<B>,
@@ -81,7 +81,7 @@ fn push_past<A: Allocator + Copy, B: Allocator>(
     )
 }
 
-// What is said for these numbers of PEs, or for that of the snapshot where none is given.
+// What is reported for these numbers of PEs, or for that of the snapshot where none is given.
 fn push_numbers<A: Allocator + Copy, B: Allocator>(
     text: &mut Vec<u8, A>,
     snapshot: &Snapshot<B>,
@@ -102,7 +102,7 @@ fn push_numbers<A: Allocator + Copy, B: Allocator>(
     push_plans(text, snapshot, name, procs, tolerance, style)
 }
 
-// What is said for each of these numbers of PEs.
+// What is reported for each of these numbers of PEs.
 fn push_plans<A: Allocator + Copy, B: Allocator>(
     text: &mut Vec<u8, A>,
     snapshot: &Snapshot<B>,
@@ -121,7 +121,7 @@ fn push_plans<A: Allocator + Copy, B: Allocator>(
     Ok(())
 }
 
-// What is said for this number of PEs.
+// What is reported for this number of PEs.
 fn push_decided<A: Allocator + Copy, B: Allocator>(
     text: &mut Vec<u8, A>,
     snapshot: &Snapshot<B>,
@@ -141,7 +141,7 @@ fn push_decided<A: Allocator + Copy, B: Allocator>(
     }
 }
 
-// What is said of the plan, and of the decision within a tolerance.
+// What is reported of the plan, and of the decision within a tolerance.
 fn push_both<A: Allocator + Copy, B: Allocator>(
     text: &mut Vec<u8, A>,
     snapshot: &Snapshot<B>,
@@ -159,7 +159,7 @@ fn push_both<A: Allocator + Copy, B: Allocator>(
     push_within(text, snapshot, name, pes, tolerance, style)
 }
 
-// What is said of the plan beside a decision within a tolerance.
+// What is reported of the plan beside a decision within a tolerance.
 fn push_beside<A: Allocator + Copy, B: Allocator>(
     text: &mut Vec<u8, A>,
     snapshot: &Snapshot<B>,
@@ -178,7 +178,7 @@ fn push_beside<A: Allocator + Copy, B: Allocator>(
     push_plan(text, snapshot, name, pes, style)
 }
 
-// What is said of the decision within a tolerance.
+// What is reported of the decision within a tolerance.
 fn push_within<A: Allocator + Copy, B: Allocator>(
     text: &mut Vec<u8, A>,
     snapshot: &Snapshot<B>,
@@ -197,7 +197,7 @@ fn push_within<A: Allocator + Copy, B: Allocator>(
     Ok(())
 }
 
-// What is said of the plan for this number of PEs.
+// What is reported of the plan for this number of PEs.
 fn push_plan<A: Allocator + Copy, B: Allocator>(
     text: &mut Vec<u8, A>,
     snapshot: &Snapshot<B>,

@@ -12,12 +12,12 @@ use std::alloc::Allocator;
 use std::io::{self, Read, Write};
 use streams::{Noted, write_out};
 
-/// Reports on a dump: reads it, plans its balancing step for each of these numbers of PEs (each 1 to 256), or for as many
-/// as the dump has where none is given, and writes the report, with this name in it. Where there is a tolerance, the decision
-/// within it is reported beside each plan, or its moves in place of those of the plan. Nothing is written where there is a
-/// fault: it is returned. A decision that the dump records is reported too, where it is right, or as flawed.
+/// Reports on a dump: reads it, plans its balancing step for each of these numbers of PEs (each 1 to 256), or for the number of
+/// PEs of the dump where none is given, and writes the report, with this name in it. Where there is a tolerance, the decision
+/// within it is reported beside each plan, or its moves in place of those of the plan. Where there is a fault, nothing is
+/// written, and the fault is returned. A decision that the dump records is reported too, where it is right, or as flawed.
 ///
-/// What is written is one function of the bytes read, the name, the numbers, the tolerance and the style: the clause `one_text`.
+/// What is written is a function of the bytes read, the name, the numbers, the tolerance and the style: the clause `one_text`.
 pub fn report_dump<A: Allocator + Copy, R: Read, W: Write>(
     alloc: A,
     reader: &mut R,
@@ -66,7 +66,7 @@ pub fn report_file<A: Allocator + Copy, R: Read + Drop, W: Write>(
     }
 }
 
-// The report on a dump, made whole, or the fault that kept it from being made.
+// The report on a dump, made whole, or the fault because of which there is none.
 fn report_text<A: Allocator + Copy, R: Read>(
     alloc: A,
     reader: &mut R,

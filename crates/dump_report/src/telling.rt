@@ -18,7 +18,7 @@ const PLACE: &str = "give it a place that takes all of the report";
 /// one, and what to do about it. Where the output failed, the line is about the output. Where a report was written, nothing is
 /// written here.
 ///
-/// Returns whether the whole line was written: not where memory was refused or the writer failed.
+/// Returns whether the whole line was written, which it is not where memory was refused or the writer failed.
 pub fn tell<A: Allocator + Copy, W: io::Write>(
     alloc: A,
     writer: &mut W,
@@ -75,7 +75,7 @@ fn tell_because<A: Allocator + Copy, W: io::Write>(
     }
 }
 
-// Writes that no memory was left for a decision.
+// Writes that memory for a decision was refused.
 fn tell_memory<A: Allocator, W: io::Write>(alloc: A, writer: &mut W, name: &str) -> bool
     ensures { Tells (line_about name.now (codes "out of memory") (codes "report on fewer numbers of PEs at a time")) (W.contents writer.old) (W.contents writer.new) result }
 {
@@ -162,7 +162,7 @@ impl Display for Words {
     }
 }
 
-// What is to be done about a fault of a dump.
+// What to do about a fault of a dump.
 fn advice(fault: DumpError) -> &'static str
     ensures { result.now ≡ advice fault }
 {

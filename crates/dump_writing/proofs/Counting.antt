@@ -1,4 +1,4 @@
--- How many bytes the text of a dump has.
+-- The number of bytes in the text of a dump.
 use Rattle.std.proofs.Common.{◌≡◌, ℕ, ◌+◌, ◌*◌, ◌≤◌, length, length-append, Some, None, sym, ap, subst, arith}
 use Rattle.std.specs.Prelude.{flat_map}
 use Rattle.std.specs.Int.{w64}
@@ -8,7 +8,7 @@ use Rattle.dump_format.specs.Dumps.{Dumped, IsDump, IsRecorded, MayRecord}
 use Rattle.dump_format.specs.Text.{move_text, elements_text, plan_text, ending_text, lbd2_text}
 use Rattle.dump_format.proofs.Spelling.{stops_bytes, elements_length_long, moves_length, plan_length}
 
--- a decision up to its moves, with so many stops
+-- a decision up to its moves, with this number of stops
 pub length_plan : {A : Type 0} (elements stops : ℕ) (r : Recorded A) → IsRecorded elements r → stops_bytes r.decision.division.floor r.target ≡ 4 * stops
     → 4 * (1 + (r.target + 1) + (1 + stops) + r.target + 1) + 8 * (1 + 2 * r.target + 1) ≡ length (plan_text r)
 length_plan elements stops r kept floor = omega (arith, plan_length elements r kept, floor)
@@ -29,7 +29,7 @@ length_with d r n plan moves is counted some plan_is moves_are =
     let ending : length (ending_text (Some r)) ≡ length (ending_text d.recorded) = ap (λ o. length (ending_text o)) some in
     omega (arith, length_dump d is, ending, length-append (plan_text r) (flat_map move_text r.decision.moves), moves_length r.decision.moves)
 
--- there are no more moves than there may be elements
+-- the moves are no more than the most elements that there may be
 pub few_recorded : {A : Type 0} (d : Dumped A) (r : Recorded A) → IsDump d → Some r ≡ d.recorded → length r.decision.moves ≤ ELEMENTS
 few_recorded d r is some =
     let kept : IsRecorded (length d.snapshot.loads) r = subst (MayRecord (length d.snapshot.loads)) (sym some) is.recorded in

@@ -26,7 +26,7 @@ joined_more item n = joined_split item n 1 ∙ ap (λ last. joined item n ++ las
 none : (first : ℕ) → first - first ≡ 0
 none first = omega arith
 
--- a block in which no item stands yet
+-- a block that has no item yet
 pub place_first : (len first : ℕ) → 0 ≡ len * (first - first)
 place_first len first = rw (none first, mul-zero) refl
 
@@ -37,20 +37,20 @@ filled_none item first = rw (none first) refl
 next : (first i : ℕ) → first ≤ i → (i + 1) - first ≡ (i - first) + 1
 next first i above = omega arith
 
--- where the item after item i stands in a block
+-- where the item after item i begins in a block
 pub place_next : (len first i at : ℕ) → first ≤ i → at ≡ len * (i - first) → at + len ≡ len * ((i + 1) - first)
 place_next len first i at above is = rw (next first i above, mul-add, mul-one, is) refl
 
--- an item stands within a block that has room for all
+-- an item is inside a block that has the capacity for all items
 pub place_inside : (len first i end at room : ℕ) → first ≤ i → i < end → at ≡ len * (i - first) → len * (end - first) ≤ room → at + len ≤ room
 place_inside len first i end at room above below is fits =
     omega (arith, mul-le-mul_left {m = (i + 1) - first} {n = end - first} len (omega arith), place_next len first i at above is)
 
--- what stands for an item has its length
+-- the bytes that replace an item have its length
 pub item_length : (len at : ℕ) (block new : List ℕ) → length new ≡ length (take (at + len - at) (drop at block)) → at + len ≤ length block → length new ≡ len
 item_length len at block new same inside = omega (arith, simp (length-take, length-drop) at same)
 
--- a block in which one item more stands
+-- a block with one item more
 pub filled_more : (item : ℕ → List ℕ) (len first i at : ℕ) (block new : List ℕ) → first ≤ i → at + len ≤ length block → length new ≡ length (take (at + len - at) (drop at block)) → new ≡ item i
     → take at block ≡ joined (λ k. item (first + k)) (i - first) → take (at + len) (put_mid at (at + len - at) block new) ≡ joined (λ k. item (first + k)) ((i + 1) - first)
 filled_more item len first i at block new above inside same is before =
@@ -60,7 +60,7 @@ filled_more item len first i at block new above inside same is before =
     ∙ ap (λ last. joined (λ k. item (first + k)) (i - first) ++ last) (is ∙ ap item (sym here))
     ∙ sym (joined_more (λ k. item (first + k)) (i - first)) ∙ ap (joined (λ k. item (first + k))) (sym (next first i above))
 
--- a block in which all items stand
+-- a block with all items
 pub filled_all : (item : ℕ → List ℕ) (len first i end at : ℕ) (block : List ℕ) → i ≡ end → at ≡ len * (i - first) → take at block ≡ joined (λ k. item (first + k)) (i - first)
     → take (len * (end - first)) block ≡ joined (λ k. item (first + k)) (end - first)
 filled_all item len first i end at block all is before =

@@ -8,7 +8,7 @@ use Rattle.dump_format.specs.declared.error.DumpError.TheVariants.{Wide}
 use Rattle.dump_writing.specs.Narrow.{IsNarrow}
 use Rattle.dump_writing.specs.Writing.{Puts, PutsLbd1}
 
--- a snapshot that the format can hold has a text
+-- a snapshot that the format can represent has a text
 pub has_text : (s : Taken) → IsNarrow s → IsLbd1 s (lbd1_text s)
 has_text s narrow = record { snapshot = narrow.snapshot; step = narrow.step; narrow = narrow.narrow; spelled = refl }
 
@@ -18,6 +18,6 @@ put_text s old new (Ok done) narrow puts = (lbd1_text s, has_text s narrow, puts
 put_text s old new (Err (Wide i)) narrow puts = cc puts.0
 put_text s old new (Err e) narrow puts = (lbd1_text s, has_text s narrow, puts)
 
--- the same of the snapshot that another one is
+-- the same of an equal snapshot
 pub put_same : (s t : Taken) (old new : Option (List ℕ)) (result : Result ⊤ DumpError) → s ≡ t → IsNarrow s → Puts old new (lbd1_text s) result → PutsLbd1 t old new result
 put_same s t old new result same narrow puts = subst (λ u. PutsLbd1 u old new result) same (put_text s old new result narrow puts)

@@ -1,4 +1,4 @@
--- Which snapshots the format LBD1 can hold, and why no text is made of others.
+-- Which snapshots the format LBD1 can represent, and why no text is made of others.
 use Rattle.std.specs.Prelude.{ℕ, ◌^◌, ◌<◌, ◌≤◌, List, length, slice_index, All}
 use Rattle.lb_snapshot.specs.Measured.{Taken}
 use Rattle.dump_format.specs.Dumps.{IsSnapshot}
@@ -27,7 +27,7 @@ IsWideAt loads (Wide i) = IsFirstWide loads i
 IsWideAt loads e = ⊥
 
 -- Why the text of a snapshot with these loads was not made: the first load that is too great is reported, and memory is
--- asked for only where there is none.
+-- requested only where there is none.
 abbrev pub RefusesLbd1 : List ℕ → DumpError → Type 0
 RefusesLbd1 loads (Wide i) = IsFirstWide loads i
 RefusesLbd1 loads OutOfMemory = All (λ load. load < 2 ^ 32) loads

@@ -13,7 +13,7 @@ use std::alloc::{AllocError, Allocator};
 ///
 /// # Errors
 ///
-/// Out of memory.
+/// Memory was refused.
 pub fn encode_dump<A: Allocator, B: Allocator>(
     alloc: A,
     dump: &Dump<B>,
@@ -31,7 +31,7 @@ pub fn encode_dump<A: Allocator, B: Allocator>(
 ///
 /// In this order:
 /// - [`Wide`](DumpError::Wide) with the first element whose load is above 4,294,967,295.
-/// - [`OutOfMemory`](DumpError::OutOfMemory).
+/// - [`OutOfMemory`](DumpError::OutOfMemory) where memory was refused.
 pub fn encode<A: Allocator, B: Allocator>(
     alloc: A,
     snapshot: &Snapshot<B>,

@@ -4,9 +4,9 @@ ghost use Rattle.dump_writing.specs.Joined.{joined, joined_list};
 
 use chare_index::{Index, Pe};
 
-/// A list that is written item by item, each as so many bytes.
+/// A list that is written item by item, each as `N` bytes.
 pub(crate) trait Items<const N: usize> {
-    // how many items there are
+    // the number of items
     ghost count: { Self → ℕ };
 
     // the text of the item at an index
@@ -15,7 +15,7 @@ pub(crate) trait Items<const N: usize> {
     // the text of the list
     ghost text: { Self → List ℕ };
 
-    /// How many items there are.
+    /// The number of items.
     fn count(&self) -> usize
         ensures { result ≡ count self.now };
 

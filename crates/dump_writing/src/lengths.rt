@@ -24,7 +24,7 @@ const ELEMENT_LEN: usize = 16;
 /// The length of a move.
 const MOVE_LEN: usize = 12;
 
-/// How many bytes the text of a dump has in the format LBD2.
+/// The number of bytes in the text of a dump in the format LBD2.
 pub(crate) fn dump_len<A: Allocator>(dump: &Dump<A>) -> usize
     ensures { result ≡ length (lbd2_text dump.now) }
 {
@@ -38,7 +38,7 @@ pub(crate) fn dump_len<A: Allocator>(dump: &Dump<A>) -> usize
     }
 }
 
-// How many bytes the text of a decision has, without its moves.
+// The number of bytes in the text of a decision, without its moves.
 fn plan_len<A: Allocator>(recorded: &Recorded<A>) -> usize
     requires { (elements : ℕ) × IsRecorded elements recorded.now }
     ensures value { result ≡ length (plan_text recorded.now) }

@@ -15,7 +15,7 @@ use lb_snapshot::{Snapshot, Units};
 use std::alloc::Allocator;
 use std::io::Write;
 
-/// A snapshot that the format LBD1 can hold: none of its loads needs more than 32 bits.
+/// A snapshot that the format LBD1 can represent: none of its loads needs more than 32 bits.
 #[derive(Drop)]
 pub(crate) struct NarrowSnapshot<'a> {
     step: u32,
@@ -75,7 +75,7 @@ impl Items<12> for NarrowSnapshot<'_> {
     }
 }
 
-/// How many bytes the text of a snapshot has in the format LBD1.
+/// The number of bytes in the text of a snapshot in the format LBD1.
 pub(crate) fn narrow_len(snapshot: &NarrowSnapshot<'_>) -> usize
     ensures { result ≡ length (lbd1_text (taken snapshot.now.step snapshot.now.procs snapshot.now.loads.now snapshot.now.sizes.now)) }
 {

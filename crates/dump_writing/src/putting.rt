@@ -7,10 +7,10 @@ use crate::items::Items;
 use dump_format::DumpError;
 use std::io::Write;
 
-/// How many items are written at a time.
+/// The number of items that are written at a time.
 const BLOCK: usize = 512;
 
-/// How many bytes an item has at most.
+/// The most bytes of an item.
 const ITEM_LEN: usize = 16;
 
 /// Writes these bytes.

@@ -14,8 +14,8 @@ use std::io::Write;
 ///
 /// # Errors
 ///
-/// [`Write`](DumpError::Write) where the writer fails, with any error, or takes nothing. A prefix of the text has
-/// then been written.
+/// [`Write`](DumpError::Write) where the writer fails, with any error, or takes no byte. A prefix of the text has then been
+/// written.
 pub fn write_dump<W: Write, A: Allocator>(writer: &mut W, dump: &Dump<A>) -> Result<(), DumpError>
     ensures written { (text : List ℕ) × IsLbd2 dump.now text × Puts (W.contents writer.old) (W.contents writer.new) text result }
 {
@@ -29,8 +29,8 @@ pub fn write_dump<W: Write, A: Allocator>(writer: &mut W, dump: &Dump<A>) -> Res
 ///
 /// In this order:
 /// - [`Wide`](DumpError::Wide) with the first element whose load is above 4,294,967,295. Nothing has then been written.
-/// - [`Write`](DumpError::Write) where the writer fails, with any error, or takes nothing. A prefix of the text has
-///   then been written.
+/// - [`Write`](DumpError::Write) where the writer fails, with any error, or takes no byte. A prefix of the text has then been
+///   written.
 pub fn write_to<W: Write, A: Allocator>(
     writer: &mut W,
     snapshot: &Snapshot<A>,

@@ -1,4 +1,4 @@
--- What is written about a file, and what a writer holds then.
+-- What is written about a file, and what a writer has then.
 use Rattle.std.specs.Prelude.{◌≡◌, ℕ, List, [], ◌∷◌, ◌++◌, codes, Bool, Option, MatchBool, IsTrue}
 use Rattle.std.specs.Io.KnownBytes.{Appends}
 use Rattle.streams.specs.Writing.{WritesPrefix}

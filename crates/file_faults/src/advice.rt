@@ -12,16 +12,16 @@ pub struct Advice<'a> {
     pub program: &'a str,
     /// What to do about a file that was not opened, or not read.
     pub unread: &'a str,
-    /// What to do about a file that has not what it should have.
+    /// What to do about a file whose contents are wrong.
     pub wrong: &'a str,
 }
 
 impl Advice<'_> {
-    /// Writes what is wrong with the file of this name, in one line. Where it was not opened or a read failed, the line has the system's
-    /// reason and what to do about that; otherwise, where the file is faulty, what to do about that. Of a file that was read
-    /// and is not faulty nothing is written.
+    /// Writes what is wrong with the file of this name, in one line. Where it was not opened or a read failed, the line has the
+    /// system's reason and what to do about that; otherwise, where the file is faulty, what to do about that. Where a file was
+    /// read and is not faulty, nothing is written.
     ///
-    /// Returns whether the whole line was written: not where memory was refused or the writer failed.
+    /// Returns whether the whole line was written, which it is not where memory was refused or the writer failed.
     pub fn tell<A: Allocator + Copy, W: Write>(
         self,
         alloc: A,

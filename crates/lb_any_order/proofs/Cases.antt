@@ -1,4 +1,4 @@
--- What follows of a decision in any order, whichever of the two it is.
+-- What follows from a decision in any order, whichever of the two it is.
 use Rattle.std.proofs.Common.{◌≡◌, ℕ, ◌+◌, ◌-◌, ◌<◌, ◌≤◌, List, length, slice_index, arith, ap, sym, ◌∙◌, subst}
 use Rattle.chare_index.specs.declared.limits.TheConstants.Limits.{PES}
 use Rattle.lb_certificates.specs.Certificate.{IsCertified}
@@ -47,7 +47,7 @@ pub division_of_plan : {A : Type 0} (loads : List ℕ) (sizes : List (ℕ × ℕ
 division_of_plan loads sizes pes r paired right =
     subst (λ n. IsDivision 0 n (length r.names) r.cuts) paired (subst (λ b. IsDivision 0 (length loads) b r.cuts) (sym right.plan.naming.counted) right.plan.divides)
 
--- an element of so many blocks has a place below their number
+-- an element in this number of blocks has a place below that number
 pub place_below : (n pes : ℕ) (cuts names : List ℕ) → IsDivision 0 n pes cuts → IsNaming pes names → pes ≤ PES → (i : ℕ) → i < n → HasPlaceBelow pes cuts names i
 place_below n pes cuts names divides naming few i inside =
     let around = block_around cuts pes i (omega (arith, divides.starts)) (omega (arith, divides.ends, inside)) in
@@ -72,7 +72,7 @@ lesser_is loads sizes pes tolerance refined fewest (InOrder r) one other same =
 lesser_is loads sizes pes tolerance refined fewest (InAnyOrder f) one other (same, no_more) =
     subst (IsFewest loads sizes pes tolerance) (sym same) other
 
--- and moves no more bytes than what moves as many as the one that it is the lesser of
+-- and it moves no more bytes than the decision in the present order
 pub lesser_moves : {A : Type 0} (refined : Refined A) (fewest : Fewest A) (r : Reordering A) (most : ℕ) → refined_moved refined ≡ most → IsLesser refined fewest r → reordering_moved r ≤ most
 lesser_moves refined fewest (InOrder r) most as_many same = omega (arith, ap refined_moved same, as_many)
 lesser_moves refined fewest (InAnyOrder f) most as_many (same, no_more) =

@@ -48,12 +48,12 @@ abbrev pub reordering_least : {A : Type 0} → Reordering A → ℕ
 reordering_least (InOrder r) = least_load r
 reordering_least (InAnyOrder f) = f.reordered.least.bottleneck
 
--- the one in any order where it moves no more bytes, and else the other
+-- the one in any order where it moves no more bytes, and otherwise the other
 abbrev pub IsLesser : {A : Type 0} → Refined A → Fewest A → Reordering A → Type 0
 IsLesser refined fewest (InOrder r) = r ≡ refined
 IsLesser refined fewest (InAnyOrder f) = (f ≡ fewest) × (fewest.moved ≤ refined_moved refined)
 
--- an element has a place, and the PE is one of so many
+-- an element has a place, and the PE is one of this number of PEs
 pub record HasPlaceBelow (pes : ℕ) (cuts names : List ℕ) (i : ℕ) : Type 0 where
   pub place : HasPlace cuts names i
   pub below : planned_pe cuts names i < pes

@@ -1,7 +1,7 @@
-//! Decisions within a tolerance where the PEs may change their order: as balanced as is asked for, with the fewest bytes moved of
-//! all.
+//! Decisions within a tolerance where the PEs may change their order: as balanced as the tolerance asks, with the fewest bytes
+//! moved of all.
 //!
-//! - [`refine_in_any_order`]: decides, as [`refine`](lb_refinement::refine) does, or out of memory.
+//! - [`refine_in_any_order`]: decides, as [`refine`](lb_refinement::refine) does, or returns that memory was refused.
 //! - [`Reordering`]: what it decides: cuts and names with the proof that no others move fewer bytes ([`Fewest`]), or the decision
 //!   in the present order.
 #![tactic(auto)]

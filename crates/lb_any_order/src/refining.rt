@@ -18,17 +18,17 @@ use lb_strategy::moves_of;
 use present_order::present_order;
 use std::alloc::{AllocError, Allocator};
 
-/// Decides where each element of this snapshot runs next, on `pes` PEs, 1 to 256, so that the greatest load of a PE lies
-/// within a tolerance above the least possible one.
+/// Decides where each element of this snapshot runs next, on `pes` PEs, 1 to 256, so that the greatest load of a PE is within a
+/// tolerance above the least possible one.
 ///
-/// Where the elements of each PE stand together, all below `pes`, it searches all cuts within the tolerance, with all names of
-/// their blocks, for some that move the fewest bytes. It answers these only with the proof that none move fewer, which the
-/// checker has accepted. Otherwise, and where the search would be too large ([`TABLE`](any_order_search::TABLE)), it is the
-/// decision of [`refine`], and it never moves more bytes than that.
+/// Where the elements of each PE are consecutive and these PEs are all below `pes`, it searches all cuts within the tolerance,
+/// with all names of their blocks, for some that move the fewest bytes. It returns these only with the proof that none move
+/// fewer, which the checker has accepted. Otherwise, and where the search would be too large
+/// ([`TABLE`](any_order_search::TABLE)), it returns the decision of [`refine`]. It never moves more bytes than that.
 ///
 /// # Errors
 ///
-/// Out of memory, where a list was refused.
+/// Memory for a list was refused.
 pub fn refine_in_any_order<A: Allocator + Copy, B: Allocator>(
     alloc: A,
     snapshot: &Snapshot<B>,
@@ -105,7 +105,7 @@ fn with_moves<A: Allocator + Copy, B: Allocator>(
     })
 }
 
-// The fewest, where they are no more bytes than those of the other.
+// The fewest, where they move no more bytes than the other.
 fn lesser<A: Allocator>(refined: Refined<A>, fewest: Fewest<A>) -> Reordering<A>
     ensures { IsLesser refined fewest result }
 {

@@ -22,7 +22,7 @@ pub struct Fewest<A: Allocator = Global> {
 #[derive(Drop)]
 #[derive_where(Debug)]
 pub enum Reordering<A: Allocator = Global> {
-    /// The decision of [`refine`](lb_refinement::refine): the elements of some PE do not stand together, or the search for
+    /// The decision of [`refine`](lb_refinement::refine): the elements of some PE are not consecutive, or the search for
     /// another was too large or found none with its proof.
     InOrder(Refined<A>),
     /// Cuts and names that move the fewest bytes of all.

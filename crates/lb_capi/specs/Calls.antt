@@ -1,4 +1,4 @@
--- What a caller of the library passes: lists, as a run, a claim, or room for a decision.
+-- What a caller of the library passes: lists, as a run, as a claim, or as buffers for a decision.
 use Rattle.std.specs.Prelude.{ℕ, List, ℤ, negsuc}
 use Rattle.lb_lists.specs.Claims.{Claimed}
 use Rattle.lb_lists.specs.RefinedClaims.{RefinedClaimed}
@@ -28,7 +28,7 @@ room_of new_places cuts stops names block_prices pe_prices =
       pe_prices = pe_prices;
     }
 
--- the lists that tell how elements stand
+-- the lists of the order, the present cuts, the least cuts and the steps
 abbrev pub standing_room_of : List ℕ → List ℕ → List ℕ → List ℕ → List ℕ → List ℕ → StandingLists
 standing_room_of least_cuts order present step_starts step_places step_rises =
     record {
@@ -67,18 +67,18 @@ refined_claim_of decision standing =
       step_rises = standing.step_rises;
     }
 
--- the status that tells why a call was refused
+-- the status that says why a call was refused
 abbrev pub refusal_status : RunError → ℤ
 refusal_status BadInput = negsuc 0
 refusal_status OutOfMemory = negsuc 1
 refusal_status BadLoad = negsuc 2
 
--- the status that tells why nothing was decided within a tolerance
+-- the status that says why nothing was decided within a tolerance
 abbrev pub refine_status : RefineError → ℤ
 refine_status BadTolerance = negsuc 6
 refine_status (Run error) = refusal_status error
 
--- the status that tells why loads were not scaled
+-- the status that says why loads were not scaled
 abbrev pub scale_status : ScaleError → ℤ
 scale_status Scale.BadInput = negsuc 0
 scale_status Scale.NotANumber = negsuc 3

@@ -44,7 +44,7 @@ use std::alloc::Global;
 // The number of this interface.
 const ABI: u32 = 1;
 
-/// The number of this interface: it changes where a call's arguments or their meaning do.
+/// The number of this interface. It changes where the arguments of a call or their meaning change.
 #[unsafe(no_mangle)]
 pub extern "C" fn tezgumi_abi() -> u32
     ensures value { result ≡ 1 }
@@ -63,9 +63,9 @@ fn status_of(error: RunError) -> i32
     }
 }
 
-/// Plans a run for `pes` PEs, and writes the place of each element, the bottleneck and the bytes that move: 0. Or -1 where
-/// the lists are no run, `pes` is not 1 to 256 or there is not one new place for each element; -3 where only a load is
-/// too great; -2 where memory was refused. Then nothing is written.
+/// Plans a run for `pes` PEs, writes the PE on which each element is to run, the bottleneck and the bytes that move, and
+/// returns 0. It returns -1 where the lists are no run, `pes` is not 1 to 256 or there is not one new place for each element;
+/// -3 where only a load is too great; -2 where memory was refused. Then nothing was written.
 #[unsafe(no_mangle)]
 pub extern "C" fn tezgumi_plan(
     alloc: Global,
@@ -101,11 +101,11 @@ pub extern "C" fn tezgumi_plan(
     }
 }
 
-/// Plans as [`tezgumi_plan`] does, and writes the certificates too: `pes + 1` cuts; as many stops, or none where the
-/// bottleneck is 0, and how many; `pes` names, and `pes` prices of blocks and of PEs. The input is bad unless there is one
-/// new place for each element, `cuts` and `stops` have `pes + 1` entries, and names and prices `pes` each. Each price of a
-/// block is 0 to the greatest number of bytes that a block moves on some PE, and each price of a PE is 0 down to as much
-/// below 0.
+/// Plans as [`tezgumi_plan`] does, and writes the certificates too: `pes + 1` cuts; as many stops, or none where the bottleneck
+/// is 0, and their number; `pes` names, and `pes` prices of blocks and of PEs. The input is bad unless there is one new place
+/// for each element, `cuts` and `stops` have `pes + 1` entries, and names and prices `pes` each. Each price of a block is
+/// between 0 and the greatest number of bytes that a block moves on some PE, and each price of a PE is between 0 and minus that
+/// number.
 #[unsafe(no_mangle)]
 pub extern "C" fn tezgumi_decide(
     alloc: Global,
@@ -172,10 +172,10 @@ pub extern "C" fn tezgumi_decide(
     }
 }
 
-/// Checks what somebody claims of a run and `pes` PEs: 0 where every part is right, and otherwise the number of its first
-/// flaw. Or -1 where the lists are no run, or `pes` is not 1 to 256; -3 where only a load is too great; -2 where memory
-/// was refused. A list of the claim may have any length: one that is wrong is a flaw of the claim, and of a list that is
-/// too long no more is copied than shows that.
+/// Checks what somebody claims of a run and `pes` PEs: returns 0 where every part is right, and otherwise the number of its
+/// first flaw. It returns -1 where the lists are no run, or `pes` is not 1 to 256; -3 where only a load is too great; -2 where
+/// memory was refused. A list of the claim may have any length: a wrong length is a flaw of the claim, and of a list that is
+/// too long only as much is copied as shows that it is.
 #[unsafe(no_mangle)]
 pub extern "C" fn tezgumi_check(
     alloc: Global,
@@ -245,14 +245,14 @@ fn flag_of(near: bool) -> u32
     u32::from(near)
 }
 
-/// Decides a run for `pes` PEs within a tolerance, so many thousandths above the least possible load of the heaviest block, and
+/// Decides for a run and `pes` PEs within a tolerance, in thousandths above the least possible load of the heaviest block. It
 /// writes what [`tezgumi_decide`] does, and in `least` the least possible load, which the stops prove. `least_cuts` are those
-/// of the least division. `near` is 1 where the cuts are near the present ones: of all cuts within the tolerance, in the order
-/// in which the PEs stand, those that move the fewest bytes. Then `order` and `present` have that order and the present cuts,
-/// and the steps prove that no such cuts move fewer, where there is room for all `steps_count` of them. Where `near` is 0 the
-/// decision is the plan, and these lists are left as they were. -7 where the tolerance is above 1,000, before all else;
-/// otherwise as [`tezgumi_decide`], where also `least_cuts`, `present` and `step_starts` have `pes + 1` entries, `order` has
-/// `pes`, and `step_rises` as many as `step_places`.
+/// of the least division. `near` is 1 where the cuts are near the present ones: of all cuts within the tolerance, in the
+/// present order of the PEs, those that move the fewest bytes. Then `order` and `present` have that order and the present cuts,
+/// and the steps prove that no such cuts move fewer bytes, where their lists have the capacity for all `steps_count` of them.
+/// Where `near` is 0 the decision is the plan, and these lists are left unchanged. It returns -7 where the tolerance is above
+/// 1,000, before all else; otherwise as [`tezgumi_decide`], where also `least_cuts`, `present` and `step_starts` have `pes + 1`
+/// entries, `order` has `pes`, and `step_rises` as many as `step_places`.
 #[unsafe(no_mangle)]
 pub extern "C" fn tezgumi_refine(
     alloc: Global,
@@ -356,10 +356,10 @@ pub extern "C" fn tezgumi_refine(
     }
 }
 
-/// Checks what somebody claims to be a decision for a run and `pes` PEs within a tolerance whose cuts are near the present ones:
-/// 0 where every part is right, and otherwise the number of its first flaw, where the block, the stop, the block and the PE, or
-/// the block and the place that it names are written. -7 where the tolerance is above 1,000, before all else; otherwise as
-/// [`tezgumi_check`]. A list of the claim may have any length.
+/// Checks what somebody claims to be a decision for a run and `pes` PEs within a tolerance whose cuts are near the present
+/// ones. It returns 0 where every part is right, and otherwise the number of its first flaw, and writes the block, the stop,
+/// the block and the PE, or the block and the place that this flaw names. It returns -7 where the tolerance is above 1,000,
+/// before all else; otherwise as [`tezgumi_check`]. A list of the claim may have any length.
 #[unsafe(no_mangle)]
 pub extern "C" fn tezgumi_check_refined<'a>(
     alloc: Global,
@@ -453,10 +453,10 @@ fn scale_status_of(error: ScaleError) -> i32
     }
 }
 
-/// Counts loads that were measured in the finest unit of a power of two that keeps their limit, each rounded down, and writes
-/// the counts and the unit: 0. Or -1 where there is not one count for each load, or there are more than 65,536; otherwise, of
-/// the first load that is wrong, -4 where it is no number, -5 where it is below 0 and -6 where it is infinite. Then nothing is
-/// written.
+/// Counts measured loads in the finest unit of a power of two in which none is above the limit of a load, each rounded down,
+/// writes the counts and the unit, and returns 0. It returns -1 where there is not one count for each load, or there are more
+/// than 65,536; otherwise, for the first load that is wrong, -4 where it is not a number, -5 where it is below 0 and -6 where
+/// it is infinite. Then nothing was written.
 #[unsafe(no_mangle)]
 pub extern "C" fn tezgumi_scale(loads: &[f64], scaled: &mut [u64], unit: &mut f64) -> i32
     ensures scaled { result ≡ pos 0 → IsScaled loads.now unit.new scaled.new }

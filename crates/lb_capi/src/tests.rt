@@ -1,4 +1,4 @@
-//! Each export where it succeeds, which no clause promises: memory may be refused. They stand here and not in a crate of
+//! Each export where it succeeds, which no clause promises: memory may be refused. These tests are here and not in a crate of
 //! tests, since no crate can depend on a static library. The answers were worked out by hand.
 
 use crate::{
@@ -7,8 +7,8 @@ use crate::{
 };
 use std::alloc::Global;
 
-// Three elements on two PEs. The first two are one block, on PE 1, to which the first moves: 10 bytes. On PE 0 that block
-// would move 9 bytes, and the other, which stands on PE 0, would move 8 to PE 1.
+// Three elements on two PEs. The first two are one block, on PE 1, to which the first moves: 10 bytes. On PE 0 that block would
+// move 9 bytes, and the other block, whose element is on PE 0, would move 8 to PE 1.
 const LOADS: [u64; 3] = [1, 1, 2];
 
 const BYTES: [u32; 3] = [10, 9, 8];
@@ -32,7 +32,7 @@ fn same(some: &[u32], others: &[u32]) -> bool {
     some == others
 }
 
-// What a check of the decision with these numbers comes to.
+// The status of a check of the decision with these numbers.
 fn status_with(alloc: Global, bottleneck: u64, moved: u64, pe_prices: &[i64]) -> i32 {
     tezgumi_check(
         alloc,
@@ -111,7 +111,7 @@ fn a_claim_is_checked(rt: HostRuntime) {
     assert!(rt; status_with(alloc, 2, 10, &[0, 8, 0]) == 15);
 }
 
-// What scaling these loads comes to: the status, the counts and the unit.
+// The result of scaling these loads: the status, the counts and the unit.
 fn scaled(loads: &[f64]) -> (i32, [u64; 2], f64) {
     let (mut counts, mut unit) = ([7; 2], 7.0);
     let status = tezgumi_scale(loads, &mut counts, &mut unit);
@@ -130,7 +130,7 @@ fn loads_are_scaled(rt: HostRuntime) {
     assert!(rt; status == -5 && counts[0] == 7 && counts[1] == 7 && unit == 7.0);
 }
 
-// Ten elements on three PEs, whose work has gathered in the middle. The least possible load is 12, and 12 + 12 * 167 / 1000 is
+// Ten elements on three PEs, with most of the work in the middle. The least possible load is 12, and 12 + 12 * 167 / 1000 is
 // 14. Of the cuts within 14, in the order of the PEs 2, 0, 1, those at 5 and 7 move element 4, of 60 bytes, and none fewer.
 const TEN_LOADS: [u64; 10] = [1, 1, 1, 2, 7, 8, 6, 2, 1, 1];
 
@@ -138,7 +138,7 @@ const TEN_BYTES: [u32; 10] = [10, 10, 10, 20, 60, 90, 70, 20, 10, 10];
 
 const TEN_PLACES: [u32; 10] = [2, 2, 2, 2, 0, 0, 0, 1, 1, 1];
 
-// No decision here has as many steps.
+// More steps than any decision here has.
 const STEPS: usize = 40;
 
 // What is written of a decision within a tolerance.
@@ -160,7 +160,7 @@ struct Refined {
     step_rises: [u64; STEPS],
 }
 
-// What decides within a tolerance of so many thousandths comes to, and what is written.
+// The status of a decision within a tolerance in thousandths, and what is written.
 fn written_within(alloc: Global, tolerance: u32) -> (i32, Refined) {
     let (mut new_places, mut near, mut cuts, mut stops) = ([7; 10], 7, [7; 4], [7; 4]);
     let (mut least, mut bottleneck, mut moved) = (7, 7, 7);
@@ -239,7 +239,7 @@ fn the_plan_and_too_great_a_tolerance(rt: HostRuntime) {
     assert!(rt; same(&told.cuts, &[7; 4]) && same(&told.present, &[7; 4]));
 }
 
-// What a check of this decision within a tolerance comes to: the status, and the place that is written.
+// The result of a check of this decision within a tolerance: the status, and the place that is written.
 fn status_of_refined(alloc: Global, tolerance: u32, told: &Refined) -> (i32, u32, u32) {
     let (mut first, mut second) = (7, 7);
     let status = tezgumi_check_refined(

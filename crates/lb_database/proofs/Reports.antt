@@ -9,7 +9,7 @@ use Rattle.chare_index.specs.declared.limits.TheConstants.Limits.{ELEMENTS, LOAD
 use Rattle.lb_snapshot.specs.Measured.{IsSizes, IsTaken}
 use Rattle.lb_database.specs.Measuring.{Measured, IsMeasured, AreReports, StandBelow, opening, with_report}
 
--- how many are missing, report by report
+-- the number of missing reports, report by report
 count_there : {X : Type 0} (x : X) (reports : List (Option X)) → count_by is_none (Some x ∷ reports) ≡ 0 + count_by is_none reports
 count_there x reports = sum_by-cons (λ r. cond (is_none r) 1 0) (Some x) reports
 
@@ -39,7 +39,7 @@ all_missing n =
     let counted : count_by (is_none {T = ℕ × ℕ}) (replicate n None) ≡ n * 1 = sum_by-replicate (λ r. cond (is_none r) 1 0) n None in
     omega arith
 
--- and it keeps the limits
+-- a round as it begins keeps the limits
 pub opening_measured : (round n : ℕ) → 0 < round → round ≤ ROUND → n ≤ ELEMENTS → IsMeasured (opening round n)
 opening_measured round n started numbered few = record {
   started = started;
@@ -55,11 +55,11 @@ opening_measured round n started numbered few = record {
   paired = length-replicate {A = ℕ} n 0 ∙ sym (length-replicate {A = Option (ℕ × ℕ)} n None);
 }
 
--- a report that is put where it stood changes nothing
+-- a report that is put where the same one was changes nothing
 pub same_reports : {X : Type 0} (reports : List (Option X)) (i : ℕ) (report : Option X) → report ≡ get_or reports i report → slice_set reports i report ≡ reports
 same_reports reports i report stood = ap (λ r. slice_set reports i r) stood ∙ set-get_or reports i report
 
--- with the report of one that was missing, one less is counted
+-- with the report of an element that had none, one less is missing
 count_less : {X : Type 0} (reports : List (Option X)) (i : ℕ) (x : X) (report : Option X) → i < length reports → report ≡ get_or reports i report → false ≡ is_some report → count_by is_none (slice_set reports i (Some x)) + 1 ≡ count_by is_none reports
 count_less reports i x None inside stood none =
     let counted = sum_by-set (λ r. cond (is_none r) 1 0) reports i (Some x) None inside in
@@ -67,11 +67,11 @@ count_less reports i x None inside stood none =
     omega (arith, more)
 count_less reports i x (Some y) inside stood none = cc
 
--- where it was missing, their number is not 0
+-- where a report was missing, the number of missing ones is not 0
 pub some_missing : {X : Type 0} (reports : List (Option X)) (i : ℕ) (x : X) (report : Option X) (missing : ℕ) → i < length reports → report ≡ get_or reports i report → false ≡ is_some report → missing ≡ count_by is_none reports → 1 ≤ missing
 some_missing reports i x report missing inside stood none counted = omega (arith, counted, count_less reports i x report inside stood none)
 
--- and with its report their number is one less
+-- with its report this number is one less
 pub missing_less : {X : Type 0} (reports : List (Option X)) (i : ℕ) (x : X) (report : Option X) (missing : ℕ) → i < length reports → report ≡ get_or reports i report → false ≡ is_some report → missing ≡ count_by is_none reports → missing - 1 ≡ count_by is_none (slice_set reports i (Some x))
 missing_less reports i x report missing inside stood none counted = omega (arith, counted, count_less reports i x report inside stood none)
 
@@ -101,7 +101,7 @@ sizes_there sizes reports same within = record {
   small = each_there (λ size. size.0 ≤ STATE_BYTES) sizes reports same within.small;
 }
 
--- loads and sizes of elements that have all reported, on PEs below pes, make a snapshot
+-- loads and sizes of elements that have all reported, and are on PEs below pes, make a snapshot
 pub placed_there : (m : Measured) (pes : ℕ) (loads : List ℕ) (sizes : List (ℕ × ℕ)) → loads ≡ m.loads → map Some sizes ≡ m.reports → length m.loads ≡ length m.reports → 0 < pes → pes ≤ PES → StandBelow pes m → IsTaken pes loads sizes
 placed_there m pes loads sizes kept same paired some few below = record {
   some_pe = some;

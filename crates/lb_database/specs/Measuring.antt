@@ -1,19 +1,18 @@
--- What the load database of a chare array holds while a round lasts. Source: the Charm++ manual on
--- measurement-based load balancing. The runtime measures the work of each element; an element that reaches
--- AtSync reports its size and its place and waits; once all have, there is what a strategy decides on.
--- That a load stops at a limit is this project's choice.
+-- What the load database of a chare array holds during a round. Source: the Charm++ manual on measurement-based load balancing.
+-- The runtime measures the work of each element; an element that reaches AtSync reports its size and its place and waits; once
+-- all have done so, there is what a strategy decides on. That a load does not grow past a limit is this project's choice.
 use Rattle.std.specs.Prelude.{◌≡◌, ℕ, ◌+◌, ◌<◌, ◌≤◌, min, List, length, All, map, replicate, slice_index, slice_index_or, slice_set, Option, None, Some, IsSome, IfSome}
 use Rattle.chare_index.specs.declared.limits.TheConstants.Limits.{ELEMENTS, ROUND, LOAD, STATE_BYTES}
 use Rattle.lb_snapshot.specs.Measured.{Taken, IsLoads}
 
--- What was measured so far in the round: the units charged to each element, and of each element that has
--- reported the packed size in bytes and the PE on which it stands
+-- What was measured so far in the round: the units charged to each element, and for each element that has reported its packed
+-- size in bytes and the PE that it is on
 pub record Measured : Type 0 where
   pub round : ℕ
   pub loads : List ℕ
   pub reports : List (Option (ℕ × ℕ))
 
--- how many elements there are
+-- the number of elements
 abbrev pub elements : Measured → ℕ
 elements m = length m.loads
 
@@ -33,7 +32,7 @@ report_of m i = slice_index_or m.reports i None
 abbrev pub IsComplete : Measured → Type 0
 IsComplete m = All IsSome m.reports
 
--- each element that has reported stands on one of the PEs 0..pes
+-- each element that has reported is on one of the PEs 0..pes
 abbrev pub StandBelow : ℕ → Measured → Type 0
 StandBelow pes m = All (λ report. IfSome report (λ size. size.1 < pes)) m.reports
 

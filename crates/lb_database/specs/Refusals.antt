@@ -5,24 +5,24 @@ use Rattle.lb_database.specs.declared.error.DbError.{DbError}
 use Rattle.lb_database.specs.declared.error.DbError.TheVariants.{Stranger, WrongRound, Twice, TooLarge, Incomplete, OutOfMemory, Worn}
 use Rattle.lb_database.specs.Measuring.{Measured, elements, report_of, IsComplete}
 
--- out of memory, only where there is an element
+-- memory may be refused, but only where there is an element
 abbrev pub RefusesNew : ℕ → DbError → Type 0
 RefusesNew n OutOfMemory = 0 < n
 RefusesNew n _ = ⊥
 
--- nothing is charged to an index without an element
+-- nothing is charged to an index that has no element
 abbrev pub RefusesCharge : Measured → ℕ → DbError → Type 0
 RefusesCharge m i Stranger = elements m ≤ i
 RefusesCharge m i _ = ⊥
 
--- a report that is taken: of an element, for this round, the first of that element, and of a size within the limit
+-- a report that is taken: it is of an element, for this round, the first of that element, and of a size within the limit
 pub record IsReport (m : Measured) (i round bytes : ℕ) : Type 0 where
   pub known : i < elements m
   pub for_round : round ≡ m.round
   pub first : IsNone (report_of m i)
   pub fits : bytes ≤ STATE_BYTES
 
--- any other is refused for the first of these that does not hold
+-- any other report is refused for the first of these conditions that does not hold
 abbrev pub RefusesReport : Measured → ℕ → ℕ → ℕ → DbError → Type 0
 RefusesReport m i round bytes Stranger = elements m ≤ i
 RefusesReport m i round bytes WrongRound = (i < elements m) × (round ≢ m.round)
@@ -30,7 +30,7 @@ RefusesReport m i round bytes Twice = (i < elements m) × (round ≡ m.round) ×
 RefusesReport m i round bytes TooLarge = (i < elements m) × (round ≡ m.round) × IsNone (report_of m i) × (STATE_BYTES < bytes)
 RefusesReport m i round bytes _ = ⊥
 
--- a snapshot needs every report; then it may be out of memory, only where there is an element
+-- a snapshot needs every report; then memory may be refused, but only where there is an element
 abbrev pub RefusesSnapshot : Measured → DbError → Type 0
 RefusesSnapshot m Incomplete = ¬ (IsComplete m)
 RefusesSnapshot m OutOfMemory = IsComplete m × (0 < elements m)

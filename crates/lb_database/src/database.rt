@@ -26,7 +26,7 @@ pub struct LoadDb<A: Allocator = Global> {
     loads: Vec<Units, A>,
     // The size and the place of each element that has reported in the round.
     reports: Vec<Option<(u32, Pe)>, A>,
-    // How many elements have not reported, counted so that `is_complete` need not search the list.
+    // The number of elements that have not reported. It is kept so that `is_complete` need not search the list.
     missing: usize,
 }
 
@@ -48,7 +48,7 @@ impl<A: Allocator> LoadDb<A> {
     ///
     /// # Errors
     ///
-    /// [`DbError::OutOfMemory`] where a list was refused.
+    /// [`DbError::OutOfMemory`] where memory was refused.
     pub fn new(alloc: A, n: u32) -> Result<Self, DbError>
     where
         A: Copy,
@@ -63,7 +63,7 @@ impl<A: Allocator> LoadDb<A> {
     ///
     /// # Errors
     ///
-    /// [`DbError::OutOfMemory`] where a list was refused.
+    /// [`DbError::OutOfMemory`] where memory was refused.
     pub fn at(alloc: A, n: u32, round: Round) -> Result<Self, DbError>
     where
         A: Copy,
@@ -100,12 +100,12 @@ impl<A: Allocator> LoadDb<A> {
         }
     }
 
-    /// Records that element `i` waits on `pe` for the end of `round`, and how many bytes it packs into.
+    /// Records that element `i` waits on `pe` for the end of `round`, and the number of bytes that it packs into.
     ///
     /// # Errors
     ///
-    /// The first that applies: [`DbError::Stranger`] where there is no such element, [`DbError::WrongRound`] where the
-    /// database is in another round, [`DbError::Twice`] where the element has reported, and [`DbError::TooLarge`] above
+    /// The first that applies: [`DbError::Stranger`] where there is no such element, [`DbError::WrongRound`] where the database
+    /// is in another round, [`DbError::Twice`] where the element has already reported, and [`DbError::TooLarge`] above
     /// [`Limits::STATE_BYTES`].
     pub fn report(&mut self, i: u32, round: Round, bytes: u32, pe: Pe) -> Result<(), DbError>
         ensures answer { MatchResult result (λ _. IsReport self.old i round bytes) (RefusesReport self.old i round bytes) }
@@ -129,7 +129,7 @@ impl<A: Allocator> LoadDb<A> {
         Ok(())
     }
 
-    /// Whether every element has reported in the round. It holds at once where there is no element.
+    /// Whether every element has reported in the round. With no elements it is so at once.
     #[tactic(auto, using(crate::proofs::Reports::all_there, crate::proofs::Reports::none_missing))]
     pub fn is_complete(&self) -> bool
         ensures complete { IsTrue result ↔ IsComplete self.now }
@@ -137,7 +137,7 @@ impl<A: Allocator> LoadDb<A> {
         self.missing == 0
     }
 
-    /// Whether each element that has reported stands on one of the PEs `0..pes`.
+    /// Whether each element that has reported is on one of the PEs `0..pes`.
     pub fn stands_on(&self, pes: u32) -> bool
         ensures below { IsTrue result ↔ StandBelow pes self.now }
     {
@@ -146,12 +146,12 @@ impl<A: Allocator> LoadDb<A> {
             .all(|report| report.is_none_or(|(_, place)| place.get() < pes))
     }
 
-    /// What a load balancer decides on, taken at `step` of a run on `pes` PEs. All elements have to stand on these PEs,
-    /// which [`stands_on`](LoadDb::stands_on) tests.
+    /// What a load balancer decides on, taken at `step` of a run on `pes` PEs. All elements have to be on these PEs, which
+    /// [`stands_on`](LoadDb::stands_on) tests.
     ///
     /// # Errors
     ///
-    /// [`DbError::Incomplete`] where an element has not reported, then [`DbError::OutOfMemory`] where a list was refused.
+    /// [`DbError::Incomplete`] where an element has not reported, then [`DbError::OutOfMemory`] where memory was refused.
     pub fn snapshot(&self, step: u32, pes: u32) -> Result<Snapshot<A>, DbError>
     where
         A: Copy,
@@ -216,7 +216,7 @@ impl<A: Allocator> LoadDb<A> {
         self.round
     }
 
-    /// How many elements there are.
+    /// The number of elements.
     pub fn len(&self) -> usize
         ensures value { result ≡ elements self.now }
         ensures within_limits { IsMeasured self.now }

@@ -14,7 +14,7 @@ pub enum DbError {
     /// The report is not for the round that the database is in.
     #[error("the report is for another round")]
     WrongRound = 2,
-    /// The element has reported in this round.
+    /// The element has already reported in this round.
     #[error("the element has reported already")]
     Twice = 3,
     /// The packed size is above 1,048,576 bytes (`Limits::STATE_BYTES`).
@@ -23,7 +23,7 @@ pub enum DbError {
     /// An element has not reported in this round.
     #[error("an element has not reported")]
     Incomplete = 5,
-    /// No memory was left.
+    /// Memory was refused.
     #[error("out of memory")]
     OutOfMemory = 6,
     /// There is no round after the last one.

@@ -1,8 +1,8 @@
 //! The load database of a chare array: what the runtime measures in a round, kept until every element has
 //! reported.
 //!
-//! - [`LoadDb`]: the work units charged to each element, and the size and the place that it reported, from
-//!   which each snapshot is taken.
+//! - [`LoadDb`]: the work units charged to each element, and the size and the place that it reported. Snapshots are taken from
+//!   it.
 //! - [`DbError`]: why a call was refused.
 //!
 //! ```

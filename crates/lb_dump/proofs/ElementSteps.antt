@@ -1,4 +1,4 @@
--- What bytes of elements make of where a reader stands.
+-- How bytes of elements move a reader forward in its text.
 use Rattle.std.proofs.Common.{◌≡◌, inl, inr, ℕ, ◌+◌, ◌*◌, ◌-◌, ◌<◌, ◌≤◌, List, [], ◌∷◌, ◌++◌, length, length-append, Option, Some, None, refl, ap, sym, ◌∙◌, subst, arith}
 use Rattle.std.proofs.lemmas.Bool.{cases_lt}
 use Rattle.std.proofs.lemmas.List.{append-nil}
@@ -35,7 +35,7 @@ at_elements (Some k) loads sizes (Made r all) list begun h at is missing =
     let same : k ≡ h = cc in
     absurd (omega (arith, at.all, ap (λ (x : Head). x.count) same))
 
--- as many bytes as an element has are one element more
+-- bytes of the length of an element are one more element
 one_of : (format : Format) (loads next : List ℕ) (sizes next_sizes : List (ℕ × ℕ)) (count : ℕ) (rest element : List ℕ) → length sizes ≡ length loads → length next_sizes ≡ length next
     → elements_text (load_width format) next next_sizes ++ rest ≡ elements_text (load_width format) loads sizes ++ element → length element ≡ element_len format
     → (length next < count → length rest < element_len format) → length loads < count → length next ≤ count → length rest ≡ 0
@@ -123,7 +123,7 @@ module _ (A : Type 0) (head : Option Head) (loads : List ℕ) (sizes : List (ℕ
         fresh_elements h next next_sizes (record { head = old.some.head; kept = kept; few = few }),
       )
 
-  -- more of the element that had begun has come
+  -- more bytes of the element that had begun
   pub one_goes_on : (start rest next_begun : List ℕ) → bytes ≡ start ++ rest → next_begun ≡ begun ++ start → HasBegunElement h.format next_begun
       → ((front_text head loads sizes plan list ++ next_begun) ++ rest ≡ (front_text head loads sizes plan list ++ begun) ++ bytes) × IsAt head loads sizes plan list next_begun
   one_goes_on start rest next_begun parts grown has = (

@@ -34,7 +34,7 @@ starts_with_head A h loads sizes plan list begun bytes =
     rw (append_assoc (head_text h ++ behind) begun bytes, append_assoc (head_text h) behind (begun ++ bytes))
     (ap (λ n. take n (head_text h ++ (behind ++ (begun ++ bytes)))) (sym (magic_length h.format h.step h.procs h.count)) ∙ take-append_seam (head_text h) (behind ++ (begun ++ bytes)))
 
--- the numbers of a head that is there keep their rules
+-- the numbers of a head that is whole keep their rules
 head_kept : {A : Type 0} (h : Head) (loads : List ℕ) (sizes : List (ℕ × ℕ)) (plan : Plan A) (list : List (ℕ × ℕ × ℕ)) (begun : List ℕ) → IsAt (Some h) loads sizes plan list begun → IsHead h
 head_kept h loads sizes Begun list begun at = at.some.head
 head_kept h loads sizes Nothing list begun at = at.some.head
@@ -54,7 +54,7 @@ no_front None loads sizes Nothing list begun at none = absurd at
 no_front None loads sizes (Made r all) list begun at none = absurd at
 no_front (Some h) loads sizes plan list begun at none = absurd (let e = none in cc)
 
--- while more of the head has to come
+-- before the head is whole
 pub good_in_head : (A : Type 0) (head : Option Head) (loads : List ℕ) (sizes : List (ℕ × ℕ)) (plan : Plan A) (list : List (ℕ × ℕ × ℕ)) (begun bytes start rest : List ℕ) → IsAt head loads sizes plan list begun → head ≡ None
     → bytes ≡ start ++ rest → length start ≡ min (length bytes) (16 - length begun) → length (begun ++ start) < 16 → judge dump (begun ++ start) ≡ Unfinished → HasGoodHead ((front_text head loads sizes plan list ++ begun) ++ bytes)
 good_in_head A head loads sizes plan list begun bytes start rest held headless parts most short unfinished =

@@ -1,4 +1,4 @@
--- How long the text so far is.
+-- The length of the text so far.
 use Rattle.std.proofs.Common.{◌≡◌, ℕ, ◌+◌, ◌*◌, ◌≤◌, List, ◌++◌, length, length-append, Option, Some, None, refl, ap, sym, subst, arith}
 use Rattle.chare_index.specs.declared.limits.TheConstants.Limits.{ELEMENTS}
 use Rattle.dump_format.specs.Text.{elements_text, word}

@@ -1,4 +1,4 @@
--- What bytes of moves make of where a reader stands.
+-- How bytes of moves move a reader forward in its text.
 use Rattle.std.proofs.Common.{◌≡◌, inl, inr, ℕ, ◌+◌, ◌*◌, ◌-◌, ◌<◌, ◌≤◌, List, [], ◌++◌, length, length-append, Option, Some, None, refl, ap, sym, ◌∙◌, subst, arith}
 use Rattle.std.proofs.lemmas.Bool.{cases_lt}
 use Rattle.std.proofs.lemmas.List.{append-nil}
@@ -53,7 +53,7 @@ break_at A head loads sizes plan list begun bytes count all e at broken =
     (subst (λ (x : Option Head). IsBroken (front_text x loads sizes (Made at.r all) list ++ bytes) e) (sym at.headed)
     (moves_break A at.h loads sizes at.r all list begun bytes e at.stands (subst (λ n. judge (moves n 0 all) (moves_text list ++ bytes) ≡ Broken e) (sym at.counted) broken)))
 
--- as many bytes as a move has are one move more
+-- bytes of the length of a move are one more move
 one_more : (list next : List (ℕ × ℕ × ℕ)) (all : ℕ) (rest step : List ℕ) → moves_text next ++ rest ≡ moves_text list ++ step → length step ≡ 12 → (length next < all → length rest < 12) → length list < all → length next ≤ all → length rest ≡ 0
 one_more list next all rest step joined full short missing few =
     let same : length (moves_text next) + length rest ≡ length (moves_text list) + length step = sym (length-append (moves_text next) rest) ∙ ap length joined ∙ length-append (moves_text list) step in
@@ -121,7 +121,7 @@ module _ (A : Type 0) (head : Option Head) (loads : List ℕ) (sizes : List (ℕ
         stands_with next [] kept few (λ _. no_move_begun count) (λ _. refl),
       )
 
-  -- more of the move that had begun has come
+  -- more bytes of the move that had begun
   pub one_goes_on : (start rest next_begun : List ℕ) → bytes ≡ start ++ rest → next_begun ≡ begun ++ start → HasBegunMove count next_begun
       → ((front_text head loads sizes plan list ++ next_begun) ++ rest ≡ (front_text head loads sizes plan list ++ begun) ++ bytes) × IsAt head loads sizes plan list next_begun
   one_goes_on start rest next_begun parts grown has = (

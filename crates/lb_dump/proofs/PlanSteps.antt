@@ -1,4 +1,4 @@
--- What bytes of the head and of a plan make of where a reader stands.
+-- How bytes of the head and of a plan move a reader forward in its text.
 use Rattle.std.proofs.Common.{◌≡◌, ℕ, ◌-◌, ◌<◌, ◌≤◌, List, [], ◌++◌, length, Option, Some, None, refl, ap, sym, ◌∙◌, subst, arith}
 use Rattle.std.specs.Prelude.{◌≢◌}
 use Rattle.chare_index.specs.declared.limits.TheConstants.Limits.{ELEMENTS}
@@ -38,7 +38,7 @@ module _ (A : Type 0) (head : Option Head) (loads : List ℕ) (sizes : List (ℕ
   pub head_short : length begun < 16
   head_short = old.short
 
-  -- more of the head has come
+  -- more bytes of the head
   pub head_goes_on : (start rest next_begun : List ℕ) → bytes ≡ start ++ rest → next_begun ≡ begun ++ start → length (begun ++ start) < 16 → judge dump (begun ++ start) ≡ Unfinished
       → ((front_text head loads sizes plan list ++ next_begun) ++ rest ≡ (front_text head loads sizes plan list ++ begun) ++ bytes) × IsAt head loads sizes plan list next_begun
   head_goes_on start rest next_begun parts grown short unfinished = (
@@ -96,7 +96,7 @@ module _ (A : Type 0) (head : Option Head) (loads : List ℕ) (sizes : List (ℕ
   pub few_elements : h.count ≤ ELEMENTS
   few_elements = at.some.head.few
 
-  -- more of the plan has come
+  -- more bytes of the plan
   pub plan_goes_on : (next : Plan A) (start rest next_begun : List ℕ) → bytes ≡ start ++ rest → next_begun ≡ begun ++ start → next ≡ Begun → IsPlan next_begun h.count next
       → ((front_text head loads sizes next list ++ next_begun) ++ rest ≡ (front_text head loads sizes plan list ++ begun) ++ bytes) × IsAt head loads sizes next list next_begun
   plan_goes_on next start rest next_begun parts grown more is =

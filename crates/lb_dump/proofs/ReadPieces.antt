@@ -18,7 +18,7 @@ use Rattle.lb_dump.specs.Reading.{Progress, Feeds, EndsReading, EndsText, IsAnsw
 pub fault_by : (text : List ℕ) (e : DumpError) → IsBroken text e → IsFault text e
 fault_by text e broken = ap (λ v. fault_found v (length text)) broken
 
--- a first piece that is refused is answered by its fault
+-- the answer to a first piece that is refused is its fault
 pub fed_fault : (A : Type 0) (text : List ℕ) (e : DumpError) (start new : Progress) → start ≡ Ok [] → Feeds start text (Err e) new → IsAnswer {A = A} text (Err e)
 fed_fault A text e start new fresh feeds =
     let fed_first : Feeds (Ok []) text (Err e) new = subst (λ p. Feeds p text (Err e) new) fresh feeds in
@@ -27,7 +27,7 @@ fed_fault A text e start new fresh feeds =
       | inr broken ↦ inr (fault_by text e broken)
     ]
 
--- what a piece with a fault says of all that the reader has
+-- a fault of a piece is the fault of all bytes that the reader had, or memory was refused
 pub fed_broken : (old now after : Option (List ℕ)) (text piece : List ℕ) (dump new : Progress) (e : DumpError) → dump ≡ Ok text → Consumes old now text → Consumes now after piece → Feeds dump piece (Err e) new → IfSome old (λ bytes. (e ≡ OutOfMemory) ⊎ IsFault bytes e)
 fed_broken None now after text piece dump new e is_text so_far came fed = tt
 fed_broken (Some bytes) now after text piece dump new e is_text so_far came fed =
@@ -81,7 +81,7 @@ all_answered (Some bytes) (Some rest) text result came end ends =
     let all : bytes ≡ text = came ∙ ap (λ r. text ++ r) end ∙ append-nil text in
     inr (subst (λ t. IsAnswer t result) (sym all) (answer_at_end text result ends))
 
--- nothing is owed for an answer that does not come
+-- nothing has to hold of an answer where there is none
 module _ {T E : Type 0} where
   pub no_answer : (r : Result T E) (P : Type 0) → IsErr r → OnOk r P
   no_answer (Ok x) P h = cc

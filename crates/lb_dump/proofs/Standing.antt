@@ -1,4 +1,4 @@
--- Where a reader stands: which fields are left after the parts that are whole, and what is found in the text so far.
+-- Where a reader is in its text: which fields are left after the parts that are whole, and what is found in the text so far.
 use Rattle.std.proofs.Common.{◌≡◌, ◌⊎◌, inl, inr, ℕ, zero, suc, ◌+◌, ◌-◌, ◌<◌, ◌≤◌, List, [], ◌++◌, length, Option, Some, None, refl, ap, sym, ◌∙◌, subst, append_assoc, arith}
 use Rattle.std.specs.Prelude.{Bool, true, false, MatchBool, nat_le}
 use Rattle.std.proofs.lemmas.Bool.{cases_lt, le-leb, lt-leb}
@@ -121,7 +121,7 @@ pub plan_left : (format : Format) (count : ℕ) (begun : List ℕ) → format �
 plan_left Lbd1 count begun wide is = cc
 plan_left Lbd2 count begun wide is = is.1
 
--- What is found in the text so far, by where the reader stands.
+-- What is found in the text so far, by where the reader is in it.
 module _ (A : Type 0) where
   pub head_found : (loads : List ℕ) (sizes : List (ℕ × ℕ)) (plan : Plan A) (list : List (ℕ × ℕ × ℕ)) (begun : List ℕ) → IsAt None loads sizes plan list begun
       → judge dump (front_text None loads sizes plan list ++ begun) ≡ Unfinished
@@ -277,6 +277,6 @@ held_good A (Some h) loads sizes (Made r all) list begun at =
       | inr enough ↦ inl (all_found A h loads sizes r all list begun at (omega (arith, enough, at.few_moves)))
     ]
 
--- nor with no bytes
+-- nothing is wrong with an empty text
 pub none_good : IsGood []
 none_good = inr (field_short w8 _ _ [] (omega arith))

@@ -1,4 +1,4 @@
--- What a part that comes makes of the text so far, and of where a reader stands.
+-- How a part that follows extends the text so far, and where the reader is after it.
 use Rattle.std.proofs.Common.{◌≡◌, inl, inr, ℕ, ◌+◌, ◌<◌, ◌≤◌, List, [], ◌∷◌, ◌++◌, length, drop, take, Option, Some, None, refl, ap, sym, ◌∙◌, subst, append_assoc, arith}
 use Rattle.std.proofs.Math.Seq.{take-append-add, take-append_seam}
 use Rattle.std.proofs.lemmas.List.{append-nil}
@@ -60,12 +60,12 @@ narrow_bytes Lbd2 count begun narrow is = cc
 behind_front : (a b c d e : List ℕ) → (a ++ (b ++ (c ++ d))) ++ e ≡ a ++ (b ++ (c ++ (d ++ e)))
 behind_front a b c d e = simp append_assoc
 
--- A part that comes follows what has begun of it.
+-- Bytes that follow come after those of the part that has begun.
 pub comes_behind : (front begun start rest bytes : List ℕ) → bytes ≡ start ++ rest → (front ++ (begun ++ start)) ++ rest ≡ (front ++ begun) ++ bytes
 comes_behind front begun start rest bytes e =
     rw (e, append_assoc front (begun ++ start) rest, append_assoc begun start rest, append_assoc front begun (start ++ rest)) refl
 
--- so is a fault that it brings
+-- a fault that they bring is the fault of all bytes
 pub broken_behind : (front begun start rest bytes : List ℕ) (e : DumpError) → bytes ≡ start ++ rest → IsBroken (front ++ (begun ++ start)) e → IsBroken ((front ++ begun) ++ bytes) e
 broken_behind front begun start rest bytes e parts broken =
     subst (λ t. IsBroken t e) (comes_behind front begun start rest bytes parts) (broken_stays dump (front ++ (begun ++ start)) rest e broken)

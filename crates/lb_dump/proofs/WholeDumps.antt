@@ -32,7 +32,7 @@ snapshot_kept h loads sizes some =
     }
 
 module _ {A : Type 0} where
-  -- a decision with its moves may stand beside its snapshot
+  -- a decision with its moves may be recorded beside its snapshot
   pub moves_recorded : (h : Head) (loads : List ℕ) (sizes : List (ℕ × ℕ)) (r : Recorded A) (all : ℕ) (list : List (ℕ × ℕ × ℕ)) (begun : List ℕ) → IsAtMoves h loads sizes r all list begun
       → IsRecorded (length loads) (with_moves r list)
   moves_recorded h loads sizes r all list begun at =

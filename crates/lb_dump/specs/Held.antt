@@ -1,5 +1,5 @@
--- What a reader holds of a text: the values of each part that is whole, and the bytes of the part that has begun. Of all
--- public items only the model of the reader uses these words.
+-- What a reader holds of a text: the values of each part that is whole, and the bytes of the part that has begun. Of all public
+-- items only the model of the reader uses these definitions.
 use Rattle.std.specs.Prelude.{◌≡◌, ℕ, ◌+◌, ◌<◌, ◌≤◌, List, [], ◌++◌, drop, length, Option, Some, None}
 use Rattle.std.specs.Int.{byte_len, from_be_bytes, w32}
 use Rattle.chare_index.specs.declared.limits.TheConstants.Limits.{LOAD, PES, STATE_BYTES}
@@ -48,7 +48,7 @@ pub record HasBegunElement (format : Format) (bytes : List ℕ) : Type 0 where
   pub load : byte_len (load_width format) ≤ length bytes → from_be_bytes (load_width format) bytes ≤ LOAD
   pub size : byte_len (load_width format) + 4 ≤ length bytes → from_be_bytes w32 (drop (byte_len (load_width format)) bytes) ≤ STATE_BYTES
 
--- these bytes have begun a move of one of so many elements, and nothing is wrong with them
+-- these bytes have begun a move of one of this number of elements, and nothing is wrong with them
 pub record HasBegunMove (count : ℕ) (bytes : List ℕ) : Type 0 where
   pub short : length bytes < 12
   pub index : 4 ≤ length bytes → from_be_bytes w32 bytes < count
@@ -62,7 +62,7 @@ pub record IsAtHead (loads : List ℕ) (sizes : List (ℕ × ℕ)) (moves : List
   pub short : length begun < 16
   pub unfinished : judge dump begun ≡ Unfinished
 
--- what has begun after so many elements: nothing in LBD1, a plan in LBD2
+-- what has begun after this number of elements: nothing in LBD1, a plan in LBD2
 abbrev pub HasBegunPlan : Format → ℕ → List ℕ → Type 0
 HasBegunPlan Lbd1 count begun = begun ≡ []
 HasBegunPlan Lbd2 count begun = IsBegun begun × (judge (ending count) begun ≡ Unfinished)
@@ -114,7 +114,7 @@ IsAt (Some h) loads sizes (Made r all) moves begun = IsAtMoves h loads sizes r a
 abbrev pub IsHeld : {A : Type 0} → Held A → Type 0
 IsHeld held = IsAt held.head held.loads.items held.sizes.items held.plan held.moves.items held.begun.items
 
--- the plan is whole, and says that so many moves follow
+-- the plan is whole, and says that this number of moves follow
 abbrev pub HasMoves : {A : Type 0} → Plan A → ℕ → Type 0
 HasMoves Begun all = ⊥
 HasMoves Nothing all = ⊥

@@ -1,4 +1,4 @@
--- What is made of the parts of a text that is whole. No public clause uses these words.
+-- What is made of the parts of a text that is whole. No public clause uses these definitions.
 use Rattle.std.specs.Prelude.{ℕ, ◌≤◌, List, Option, Some, None}
 use Rattle.chare_index.specs.declared.limits.TheConstants.Limits.{PES}
 use Rattle.lb_snapshot.specs.Measured.{Taken}

@@ -31,7 +31,7 @@ abbrev pub EndsReading : {A : Type 0} → Progress → Result (Dumped A) DumpErr
 EndsReading (Ok text) answer = EndsText text answer
 EndsReading (Err e) answer = answer ≡ Err e
 
--- a piece that came: the text so far is good, or the result is its first fault or out of memory, and every later one too
+-- the result for a piece: the text so far is good, or the result is its first fault or out of memory, and so is every later one
 abbrev pub Feeds : Progress → List ℕ → Result ⊤ DumpError → Progress → Type 0
 Feeds (Ok text) piece (Ok _) new = IsGood (text ++ piece) × (new ≡ Ok (text ++ piece))
 Feeds (Ok text) piece (Err e) new = ((e ≡ OutOfMemory) ⊎ IsBroken (text ++ piece) e) × (new ≡ Err e)

@@ -11,10 +11,10 @@ use dump_format::{Dump, DumpError};
 use std::alloc::Allocator;
 use std::io::Read;
 
-/// How many bytes are requested at a time. This is no limit of the format.
+/// The number of bytes that are requested at a time. This is no limit of the format.
 const PIECE_LEN: usize = 65_536;
 
-/// How often a reader is called at most: more often than any dump has bytes, so that the call ends.
+/// The most calls of a reader: more than any dump has bytes, so that the function ends.
 const CALLS: u32 = 16_777_216;
 
 /// The dump of this text, which is in either format.

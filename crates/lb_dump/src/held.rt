@@ -88,7 +88,7 @@ fn take_next<'a, A: Allocator + Copy>(
     }
 }
 
-// Takes in bytes of the head. The head is judged first, so that its fault is reported also where no memory is left.
+// Takes in bytes of the head. The head is judged first, so that its fault is reported also where memory is refused.
 fn take_head<'a, A: Allocator>(held: &mut Held<A>, bytes: &'a [u8]) -> Result<&'a [u8], DumpError>
     requires held { IsHeld held.old }
     requires headless { held.old.head ≡ None }
@@ -108,7 +108,7 @@ fn take_head<'a, A: Allocator>(held: &mut Held<A>, bytes: &'a [u8]) -> Result<&'
     Ok(rest)
 }
 
-// The head, where these bytes come after the ones that are there.
+// The head, where it is whole with these bytes after those that have begun.
 #[tactic(auto, using(std::proofs::lemmas::Slice::overwrites, crate::proofs::Steps::take_two))]
 fn head_with(begun: &[u8], more: &[u8]) -> Result<Option<Head>, DumpError>
     requires { length begun.now + length more.now ≤ HEAD_LEN }
@@ -207,7 +207,7 @@ fn take_plan<'a, A: Allocator + Copy>(
     Ok(rest)
 }
 
-// Takes in bytes of moves, of which there are to be `all`.
+// Takes in bytes of moves, of which there will be `all`.
 fn take_move_bytes<'a, A: Allocator>(
     held: &mut Held<A>,
     count: u32,

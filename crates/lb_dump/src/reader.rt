@@ -8,10 +8,10 @@ use dump_plan::Plan;
 use std::alloc::{Allocator, Global};
 use std::marker::Model;
 
-/// Reads a dump that comes in pieces. It puts elements and moves into their lists as they come, and keeps the bytes of one
-/// part at most. With the first byte after the head it reserves room for as many elements as the head says, at most 65,536,
-/// and with the first byte of a move for as many moves as the decision says, at most as many as there are elements.
-/// Contracts see the reader as the text so far or, after a fault, as that fault.
+/// Reads a dump that comes in pieces. It puts elements and moves into their lists as they come, and keeps the bytes of one part
+/// at most. With the first byte after the head it reserves memory for as many elements as the head says, at most 65,536, and
+/// with the first byte of a move for as many moves as the decision says, at most as many as there are elements. Contracts see
+/// the reader as the text so far or, after a fault, as that fault.
 #[derive(Drop)]
 #[derive_where(Debug)]
 pub struct DumpReader<A: Allocator = Global> {

@@ -21,14 +21,14 @@ stays n blocks cuts b division inside = omega (arith, division.ends, division.or
 planned_in : (n blocks : ℕ) (cuts names : List ℕ) (b k : ℕ) → IsDivision 0 n blocks cuts → b < blocks → slice_index cuts b ≤ k → k < slice_index cuts (b + 1) → planned_pe cuts names k ≡ slice_index names b
 planned_in n blocks cuts names b k division inside low high = ap (slice_index names) (block_of_is n blocks cuts b k division inside low high)
 
--- how many places there are in a block
+-- the number of places in a block
 width : (n blocks : ℕ) (cuts names places filled : List ℕ) (b : ℕ) → IsDivision 0 n blocks cuts → b < blocks → length places ≡ n → filled ≡ replicate (length (between (slice_index cuts b) (slice_index cuts (b + 1)) places)) (slice_index names b) → length filled ≡ slice_index cuts (b + 1) - slice_index cuts b
 width n blocks cuts names places filled b division inside counted is_filled =
     ap length is_filled
     ∙ length-replicate (length (between (slice_index cuts b) (slice_index cuts (b + 1)) places)) (slice_index names b)
     ∙ length-between places (slice_index cuts b) (slice_index cuts (b + 1)) (omega (arith, stays n blocks cuts b division inside, counted))
 
--- a block that was filled is as long as it was
+-- a block that was filled keeps its length
 pub same_count : (n blocks : ℕ) (cuts names places filled : List ℕ) (b : ℕ) → IsDivision 0 n blocks cuts → b < blocks → length places ≡ n → filled ≡ replicate (length (between (slice_index cuts b) (slice_index cuts (b + 1)) places)) (slice_index names b) → length (put_mid (slice_index cuts b) (slice_index cuts (b + 1) - slice_index cuts b) places filled) ≡ n
 same_count n blocks cuts names places filled b division inside counted is_filled =
     let first : ℕ = slice_index cuts b in

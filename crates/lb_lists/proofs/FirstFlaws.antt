@@ -54,7 +54,7 @@ pub in_naming : {A : Type 0} (run : Listed) (pes : ℕ) (claim : Claimed) (loads
 in_naming run pes claim loads sizes d names u v flaw parts holds first =
     inr (inl (certified run pes claim loads sizes d names u v parts holds, of_naming run claim loads sizes d names u v (λ s c n x y. IsFirst (HasNamingFlaw s c n x y) flaw) parts first))
 
--- the first flaw of what is told of a right division and right names
+-- the first flaw in the bytes and places that a claim states beside a right division and right names
 pub in_telling : {A : Type 0} (run : Listed) (pes : ℕ) (claim : Claimed) (loads : List ℕ) (sizes : List (ℕ × ℕ)) (d : Division A) (names : List ℕ) (u v : List ℤ) (moved count : ℕ) (result : Option Flaw) → ArePartsOf run claim loads sizes d names u v → IsCertified loads pes d → IsNamed sizes d.cuts names u v → moved ≡ bytes_moved sizes d.cuts names → count ≡ length loads → MatchOption result (IsToldRight moved count claim) (IsFlawTold moved count claim) → MatchOption result (IsRightClaim run pes claim) (IsFirstFlaw run pes claim)
 in_telling run pes claim loads sizes d names u v moved count None parts holds right moves counted told =
     record {

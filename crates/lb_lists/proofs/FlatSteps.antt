@@ -1,4 +1,4 @@
--- Steps one behind the other.
+-- The steps of all blocks in one list, block after block.
 use Rattle.std.proofs.Common.{◌≡◌, ℕ, ◌+◌, ◌<◌, ◌≤◌, List, [], ◌∷◌, ◌++◌, length, take, drop, map, ap, refl, sym, arith, ◌∙◌}
 use Rattle.std.proofs.lemmas.List.{append_assoc, length-append, length-map, map-append}
 use Rattle.lb_lists.specs.RefinedRooms.{AreStepsIn, StandingLists}
@@ -15,7 +15,7 @@ first_steps-more at (row ∷ rows) steps =
     let same : at + length row + length (all_steps rows ++ steps) ≡ at + length (row ++ all_steps rows ++ steps) = omega (arith, length-append (row ++ all_steps rows) steps, length-append row (all_steps rows), length-append (all_steps rows) steps) in
     ap (λ more. at ∷ more) (first_steps-more (at + length row) rows steps ∙ ap (λ n. first_steps (at + length row) rows ++ n ∷ []) same)
 
--- there is a first step for each block, and one number more
+-- a first step for each block, and one number more
 pub first_steps-length : (at : ℕ) (rows : List (List (ℕ × ℕ))) → length (first_steps at rows) ≡ length rows + 1
 first_steps-length at [] = refl
 first_steps-length at (row ∷ rows) = omega (arith, first_steps-length (at + length row) rows)
@@ -35,7 +35,7 @@ starts-more rows steps starts count is counted =
     let total : count ≡ 0 + length (all_steps rows ++ steps) = omega (arith, counted, ap length (all_steps-more rows steps)) in
     ap (λ front. front ++ count ∷ []) is ∙ ap (λ n. first_steps 0 rows ++ n ∷ []) total ∙ sym (first_steps-more 0 rows steps)
 
--- what was written of the steps of these heights
+-- the steps of these heights, as they were written to the lists
 pub steps_in : (heights : List (List (ℕ × ℕ))) (count : ℕ) (starts places rises : List ℕ) (old new : StandingLists) → starts ≡ first_steps 0 heights → places ≡ places_of (all_steps heights) → rises ≡ rises_of (all_steps heights) → count ≡ length places → (count ≤ length old.step_places → new.step_starts ≡ starts) → (count ≤ length old.step_places → take count new.step_places ≡ places) → (count ≤ length old.step_places → take count new.step_rises ≡ rises) → (length old.step_places < count → new.step_starts ≡ old.step_starts) → drop count new.step_places ≡ drop count old.step_places → drop count new.step_rises ≡ drop count old.step_rises → AreStepsIn heights count old new
 steps_in heights count starts places rises old new starts_are places_are rises_are counted starts_in places_in rises_in starts_left places_left rises_left =
     record {

@@ -62,7 +62,7 @@ one_more_row starts steps (suc b) rows row some inside is row_is =
     ∙ ap (λ it. rows_between (take (suc b) starts) steps ++ it ∷ []) (row_is ∙ ap (λ n. between (slice_index starts n) (slice_index starts (suc b)) steps) before)
     ∙ sym (ap (λ n. rows_between (take n starts) steps) next ∙ rows-more starts steps b inside)
 
--- none before the second start
+-- one start alone gives no rows
 pub no_rows : (starts : List ℕ) (steps : List (ℕ × ℕ)) → [] ≡ rows_between (take 1 starts) steps
 no_rows [] steps = refl
 no_rows (x ∷ starts) steps = refl

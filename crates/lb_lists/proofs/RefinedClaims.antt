@@ -76,7 +76,7 @@ pub in_names : (run : Listed) (claim : Claimed) (sizes : List (ℕ × ℕ)) (cut
 in_names run claim sizes cuts names u v flaw parts first =
     inl (of_names run claim sizes cuts names u v (λ s c n x y. IsFirst (HasNamingFlaw s c n x y) flaw) parts first)
 
--- what is told of right names
+-- the first flaw in the bytes and places that a claim states beside right names
 pub in_told : (run : Listed) (claim : Claimed) (sizes : List (ℕ × ℕ)) (cuts names : List ℕ) (u v : List ℤ) (moved count : ℕ) (result : Option Flaw) → AreNamesOf run claim sizes cuts names u v → IsNamed sizes cuts names u v → moved ≡ bytes_moved sizes cuts names → count ≡ length run.loads → MatchOption result (IsToldRight moved count claim) (IsFlawTold moved count claim) → MatchOption result (AreNamesRight run claim) (IsNamesFlaw run claim)
 in_told run claim sizes cuts names u v moved count result parts right moves counted told =
     let named : IsNamedRight run claim = of_names run claim sizes cuts names u v IsNamed parts right in

@@ -23,7 +23,7 @@ use Rattle.lb_lists.specs.Refinings.{told_division, IsRefinedRun, IsToldNear, Is
 use Rattle.lb_lists.specs.Runs.{sizes_of, Listed}
 use Rattle.lb_lists.proofs.Plans.{certified_by_stops, chosen_by_stops}
 
--- how the elements stand, of kept cuts
+-- the order, the present cuts and the heights of kept cuts
 abbrev pub standing_of : {A : Type 0} → Kept A → Standing
 standing_of k = record { order = k.refinement.order; present = k.refinement.present; heights = k.refinement.heights }
 
@@ -55,7 +55,7 @@ told_near run pes tolerance k kept =
       nearest = subst (λ t. AreNearest run.loads (sizes_of run) k.refinement.order k.refinement.present (limit_of k.refinement.least.bottleneck t) k.refinement.cuts) kept.tolerance_is kept.nearest;
     }
 
--- two plans of one run move as many bytes
+-- two plans of one run move the same number of bytes
 same_moved : (sizes : List (ℕ × ℕ)) (pes : ℕ) (cuts others names more : List ℕ) → cuts ≡ others → IsLeastNaming sizes cuts pes names → IsLeastNaming sizes others pes more → bytes_moved sizes cuts names ≡ bytes_moved sizes others more
 same_moved sizes pes cuts others names more same this that =
     let called : names ≡ more = one_least pes (bytes_moved sizes cuts) names more this (subst (λ c. IsLeastNaming sizes c pes more) (sym same) that) in
@@ -81,23 +81,23 @@ no_more_than_plan run pes tolerance (Planned d) places bottleneck moved refined 
 no_more_than_plan run pes tolerance (Near k) places bottleneck moved (kept, (d, planned, less)) plan =
     omega (arith, less, plan_moves run pes d places bottleneck moved planned plan)
 
--- the decision of the plan, told
+-- the decision of the plan, as plain lists
 pub refined_plan : {A : Type 0} (run : Listed) (pes tolerance : ℕ) (d : Decision A) (standing : Standing) → IsRefined run.loads (sizes_of run) pes tolerance (Planned d) → IsRefinedRun run pes tolerance false (told_of_plan d) standing
 refined_plan run pes tolerance d standing (planned, inl none) = (told_plan run pes d planned, inl none)
 refined_plan run pes tolerance d standing (planned, inr (k, kept, no_more)) =
     (told_plan run pes d planned, inr (told_of_kept k, standing_of k, told_near run pes tolerance k kept, no_more))
 
--- kept cuts, told
+-- kept cuts, as plain lists
 pub refined_near : {A : Type 0} (run : Listed) (pes tolerance : ℕ) (k : Kept A) → IsRefined run.loads (sizes_of run) pes tolerance (Near k) → IsRefinedRun run pes tolerance true (told_of_kept k) (standing_of k)
 refined_near run pes tolerance k (kept, (d, planned, less)) =
     (told_near run pes tolerance k kept, λ plan is. subst (λ n. k.moved < n) (plans_move_once run pes (told_of_plan d) plan (told_plan run pes d planned) is) less)
 
--- there is room for the stops of a floor that holds
+-- a floor that holds has at most one stop more than there are PEs
 pub few_stops : {A : Type 0} (loads : List ℕ) (pes bottleneck : ℕ) (floor : Floor A) → HoldsFor loads pes bottleneck floor → length (stops_in floor) ≤ pes + 1
 few_stops loads pes bottleneck Zero holds = omega arith
 few_stops loads pes bottleneck (Fence stops) holds = omega (arith, holds.counted)
 
--- what was decided, told of one case of it
+-- a decision as plain lists, where it is that of the plan
 pub told_as_plan : {A : Type 0} (run : Listed) (pes tolerance thousandths : ℕ) (r : Refined A) (d : Decision A) (near : Bool) (told : Told) (standing : Standing) → r ≡ Planned d → tolerance ≡ thousandths → near ≡ false → told ≡ told_of_plan d → IsRefined run.loads (sizes_of run) pes tolerance r → IsRefinedRun run pes thousandths near told standing
 told_as_plan run pes tolerance thousandths r d near told standing is same near_is told_is refined =
     let planned = refined_plan run pes tolerance d standing (subst (IsRefined run.loads (sizes_of run) pes tolerance) is refined) in
@@ -119,7 +119,7 @@ same_standing k order present order_is present_is = rw (order_is, present_is) re
 pub left_in : (near : Bool) (steps : ℕ) (old new : StandingLists) → near ≡ false → steps ≡ 0 → IsStandingLeft old new → IsStandingIn near [] steps old new
 left_in near steps old new near_is steps_are left = subst (λ b. IsStandingIn b [] steps old new) (sym near_is) (steps_are, left)
 
--- what holds of what was decided holds of what is told
+-- the bytes that are reported are those of the decision, and no more than those of the plan
 pub no_more_told : {A : Type 0} (run : Listed) (pes tolerance : ℕ) (r other : Refined A) (told : ℕ) → r ≡ other → told ≡ refined_moved other → IsRefined run.loads (sizes_of run) pes tolerance r → (places : List ℕ) (bottleneck moved : ℕ) → IsPlan run pes places bottleneck moved → told ≤ moved
 no_more_told run pes tolerance r other told is told_is refined places bottleneck moved plan =
     omega (arith, told_is, no_more_than_plan run pes tolerance other places bottleneck moved (subst (IsRefined run.loads (sizes_of run) pes tolerance) is refined) plan)

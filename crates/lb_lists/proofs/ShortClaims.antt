@@ -1,5 +1,5 @@
--- A claim that was cut off one entry past the lengths that its lists are to have is right where the whole claim is, and
--- has the same first flaw where it is not.
+-- A claim whose lists were each cut off one entry past their proper length is right where the whole claim is, and has the same
+-- first flaw where it is not.
 use Rattle.std.proofs.Common.{◌≡◌, ◌≢◌, ◌⊎◌, ℕ, ℤ, ◌+◌, ◌<◌, ◌≤◌, inl, inr, List, [], ◌∷◌, Option, None, Some, length, take, arith, ap, refl, subst, sym, ◌∙◌}
 use Rattle.std.proofs.lemmas.Bool.{cases_lt}
 use Rattle.std.proofs.lemmas.List.{length-take, take_all}
@@ -23,7 +23,7 @@ same_first these those shared holds to back flaw first = elim (cases_lt (flaw_nu
   }
 ]
 
--- a list that was cut off past n entries is whole where no more than n are left, and longer than n where it was
+-- a list that was cut off past n entries is whole where no more than n are left; where it was longer, more than n are left
 whole : {T : Type 0} (xs : List T) (n m : ℕ) → n < m → length (take m xs) ≤ n → take m xs ≡ xs
 whole xs n m past short = take_all m xs (omega (arith, past, short, length-take m xs))
 
@@ -120,7 +120,7 @@ prices_as_whole sizes cuts names u v pes flaw blocks first = elim (cases_lt pes 
   ]
 ]
 
--- a floor that holds has no more stops than it is to have
+-- a floor that holds has at most pes + 1 stops
 few_stops : (loads : List ℕ) (pes bottleneck : ℕ) (stops : List ℕ) → HoldsFor {A = Unit {0}} loads pes bottleneck (floor_of stops) → length stops ≤ pes + 1
 few_stops loads pes bottleneck [] holds = omega arith
 few_stops loads pes bottleneck (stop ∷ stops) holds = omega (arith, holds.counted)

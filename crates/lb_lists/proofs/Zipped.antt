@@ -32,14 +32,14 @@ one_more_block pairs zipped block first end ordered before more =
     ∙ sym (take-add first (end - first) zipped)
     ∙ ap (λ n. take n zipped) (omega (arith, ordered))
 
--- what holds of each first
+-- what holds of each number of the first list holds of the first of each pair
 pub all_firsts : (P : ℕ → Type 0) (xs ys : List ℕ) → length ys ≡ length xs → All P xs → All (λ (pair : ℕ × ℕ). P pair.0) (zip xs ys)
 all_firsts P xs ys same all =
     All-from_get_or (λ (pair : ℕ × ℕ). P pair.0) (zip xs ys) (0, 0) (λ i inside.
     let there : i < length xs = omega (arith, inside, zip_length xs ys same) in
     subst P (sym (ap (λ (pair : ℕ × ℕ). pair.0) (get_or-zip xs ys i (0, 0) there (omega (arith, there, same))))) (All-get_or P xs i 0 there all))
 
--- what holds of each second
+-- what holds of each number of the second list holds of the second of each pair
 pub all_seconds : (P : ℕ → Type 0) (xs ys : List ℕ) → length ys ≡ length xs → All P ys → All (λ (pair : ℕ × ℕ). P pair.1) (zip xs ys)
 all_seconds P xs ys same all =
     All-from_get_or (λ (pair : ℕ × ℕ). P pair.1) (zip xs ys) (0, 0) (λ i inside.

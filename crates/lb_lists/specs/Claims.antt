@@ -12,7 +12,7 @@ use Rattle.lb_certificates.specs.declared.flaw.Flaw.TheVariants.{MovedWrong, Mov
 use Rattle.lb_lists.specs.Places.{ArePlaces}
 use Rattle.lb_lists.specs.Runs.{Listed, sizes_of}
 
--- a decision as plain lists: no stops mean a bottleneck of 0
+-- a decision as plain lists: no stops stand for a bottleneck of 0
 pub record Claimed : Type 0 where
   pub bottleneck : ℕ
   pub moved : ℕ
@@ -23,7 +23,7 @@ pub record Claimed : Type 0 where
   pub block_prices : List ℤ
   pub pe_prices : List ℤ
 
--- the floor that these stops are
+-- the floor with these stops
 abbrev pub floor_of : {A : Type 0} → List ℕ → Floor A
 floor_of [] = Zero
 floor_of (stop ∷ stops) = Fence (stop ∷ stops)
@@ -36,8 +36,8 @@ division_of bottleneck cuts stops = record { bottleneck = bottleneck; cuts = cut
 abbrev pub claimed_division : Claimed → Division (Unit {0})
 claimed_division claim = division_of claim.bottleneck claim.cuts claim.stops
 
--- The claim with each list of the certificates cut off one entry past the length that it is to have. A list that is too
--- long still is, and one that is right is whole.
+-- The claim with each list of its certificates cut off one entry past its proper length: a list that is too long is still too
+-- long, and one that is right is whole.
 abbrev pub shortened : ℕ → Claimed → Claimed
 shortened pes claim =
     record {
@@ -83,7 +83,7 @@ pub record IsBest (run : Listed) (pes : ℕ) (claim : Claimed) : Type 0 where
 abbrev pub IsToldRight : ℕ → ℕ → Claimed → Type 0
 IsToldRight moved count claim = (claim.moved ≡ moved) × ArePlaces claim.cuts claim.names count claim.new_places
 
--- the claim states other bytes; or these, and a wrong place
+-- the claim states another number of bytes; or this one, and a wrong place
 abbrev pub IsFlawTold : ℕ → ℕ → Claimed → Flaw → Type 0
 IsFlawTold moved count claim flaw =
     ((flaw ≡ MovedWrong) × (claim.moved ≢ moved)) ⊎ ((flaw ≡ MovesWrong) × (claim.moved ≡ moved) × ¬ (ArePlaces claim.cuts claim.names count claim.new_places))
@@ -97,7 +97,7 @@ abbrev pub IsNamingFlaw : Listed → ℕ → Claimed → Flaw → Type 0
 IsNamingFlaw run pes claim flaw =
     IsCertified run.loads pes (claimed_division claim) × IsFirst (HasNamingFlaw (sizes_of run) claim.cuts claim.names claim.block_prices claim.pe_prices) flaw
 
--- a wrong number of bytes moved, where division and names are right
+-- a wrong number of bytes moved, where the division and the names are right
 abbrev pub IsMovedFlaw : Listed → ℕ → Claimed → Flaw → Type 0
 IsMovedFlaw run pes claim flaw =
     IsCertified run.loads pes (claimed_division claim) × IsNamedRight run claim × (flaw ≡ MovedWrong) × (claim.moved ≢ right_moved run claim)

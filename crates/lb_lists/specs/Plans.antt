@@ -1,4 +1,4 @@
--- What is written of a plan.
+-- What a plan reports.
 use Rattle.std.specs.Prelude.{◌≡◌, ℕ, List, [], length}
 use Rattle.chain_partition.specs.Chosen.{IsChosen}
 use Rattle.lb_certificates.specs.Chain.{IsLeastDivision}

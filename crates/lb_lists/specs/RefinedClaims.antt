@@ -67,7 +67,7 @@ pub record IsBestWithin (run : Listed) (pes thousandths : ℕ) (claim : RefinedC
   pub moved : claim.decision.moved ≡ right_moved run claim.decision
   pub placed : IsPlacedRight run claim.decision
 
--- the first flaw of the names and prices; or of what is said of right ones
+-- the first flaw of the names and prices; or, where these are right, of the bytes and the places
 abbrev pub IsNamesFlaw : Listed → Claimed → Flaw → Type 0
 IsNamesFlaw run claim flaw =
     IsFirst (HasNamingFlaw (sizes_of run) claim.cuts claim.names claim.block_prices claim.pe_prices) flaw

@@ -8,7 +8,7 @@ use Rattle.lb_lists.specs.Rooms.{HasRoom, Lists}
 use Rattle.lb_lists.specs.Steps.{all_steps, first_steps, places_of, rises_of}
 use Rattle.lb_lists.specs.declared.refining.StandingRoom.{StandingRoom}
 
--- what is in the lists of the order, the present cuts, the least cuts and the steps
+-- the contents of the lists of the order, the present cuts, the least cuts and the steps
 pub record StandingLists : Type 0 where
   pub least_cuts : List ℕ
   pub order : List ℕ
@@ -28,7 +28,7 @@ standing_lists_in room =
       step_rises = room.step_rises.now;
     }
 
--- the lists of a room are those of another, whatever is in them
+-- the lists of one room are those of the other, whatever they hold
 pub record HasStandingListsOf (other room : StandingRoom) : Type 0 where
   pub least_cuts : room.least_cuts.ghost_name ≡ other.least_cuts.ghost_name
   pub order : room.order.ghost_name ≡ other.order.ghost_name
@@ -45,12 +45,12 @@ pub record HasStandingRoom (pes : ℕ) (lists : StandingLists) : Type 0 where
   pub step_starts : length lists.step_starts ≡ pes + 1
   pub step_rises : length lists.step_rises ≡ length lists.step_places
 
--- room for a decision on this number of elements, and for what proves it
+-- buffers for a decision on this number of elements, and for what proves it
 pub record HasRefinedRoom (elements pes : ℕ) (decision : Lists) (standing : StandingLists) : Type 0 where
   pub decision_room : HasRoom elements pes decision
   pub standing_room : HasStandingRoom pes standing
 
--- what these lists say, with the first stops, of this number
+-- the decision in these lists, with the first `stops` stops
 abbrev pub told_in : ℕ → ℕ → ℕ → Lists → StandingLists → Told
 told_in least moved stops decision standing =
     record {
@@ -64,7 +64,7 @@ told_in least moved stops decision standing =
       stops = take stops decision.stops;
     }
 
--- what is to be written of a plan, and of cuts near the present ones
+-- what is to be reported of a plan, and of cuts near the present ones
 abbrev pub told_of_plan : {A : Type 0} → Decision A → Told
 told_of_plan d =
     record {
@@ -91,8 +91,9 @@ told_of_kept k =
       stops = stops_in k.refinement.least.floor;
     }
 
--- The heights have this number of steps. These are written where there is room for all of them: of each block the number of its
--- first step, and of each step the place and the rise. Otherwise, and behind them, all is as it was.
+-- The heights have this number of steps. They are written where the lists have the capacity for all of them: for each block the
+-- number of its first step, and for each step the place and the rise. Past their end, or where there is no such capacity, the
+-- lists are unchanged.
 pub record AreStepsIn (heights : List (List (ℕ × ℕ))) (steps : ℕ) (old new : StandingLists) : Type 0 where
   pub counted : steps ≡ length (all_steps heights)
   pub starts : steps ≤ length old.step_places → new.step_starts ≡ first_steps 0 heights
@@ -102,7 +103,7 @@ pub record AreStepsIn (heights : List (List (ℕ × ℕ))) (steps : ℕ) (old ne
   pub places_left : drop steps new.step_places ≡ drop steps old.step_places
   pub rises_left : drop steps new.step_rises ≡ drop steps old.step_rises
 
--- order, present cuts and steps are as they were
+-- the order, the present cuts and the steps are unchanged
 pub record IsStandingLeft (old new : StandingLists) : Type 0 where
   pub order : new.order ≡ old.order
   pub present : new.present ≡ old.present

@@ -22,13 +22,13 @@ pub record Told : Type 0 where
   pub least_cuts : List ℕ
   pub stops : List ℕ
 
--- the order in which the PEs stand, with the present cuts, and the heights of each block
+-- the order of the PEs, with the present cuts, and the heights of each block
 pub record Standing : Type 0 where
   pub order : List ℕ
   pub present : List ℕ
   pub heights : List (List (ℕ × ℕ))
 
--- the least division that is written
+-- the least division that is reported
 abbrev pub told_division : Told → Division (Unit {0})
 told_division told = division_of told.least told.least_cuts told.stops
 
@@ -46,8 +46,8 @@ pub record IsToldPlan (run : Listed) (pes : ℕ) (told : Told) : Type 0 where
   pub right : IsToldRight run pes told
   pub cuts_are : told.cuts ≡ told.least_cuts
 
--- Cuts near the present ones: in the order in which the PEs stand, of all cuts within the tolerance those that move the
--- fewest bytes, which the heights prove, and of these the nearest.
+-- Cuts near the present ones: in the present order of the PEs, of all cuts within the tolerance those that move the fewest
+-- bytes, which the heights prove, and of these the nearest.
 pub record IsToldNear (run : Listed) (pes tolerance : ℕ) (told : Told) (standing : Standing) : Type 0 where
   pub right : IsToldRight run pes told
   pub order : IsPresentOrder (sizes_of run) pes standing.order standing.present
@@ -62,7 +62,7 @@ IsRefinedRun run pes tolerance true told standing =
 IsRefinedRun run pes tolerance false told standing =
     IsToldPlan run pes told × (HasNoOrder (sizes_of run) pes ⊎ ((near : Told) × (stood : Standing) × IsToldNear run pes tolerance near stood × (told.moved ≤ near.moved)))
 
--- the present cuts, where the PEs stand in an order, keep the blocks within the tolerance
+-- the elements of each PE are consecutive, and the present cuts between them keep the blocks within the limit
 abbrev pub KeepWithin : Listed → ℕ → ℕ → Type 0
 KeepWithin run pes limit =
     (order : List ℕ) × (present : List ℕ) × IsPresentOrder (sizes_of run) pes order present × AreWithin run.loads order limit present

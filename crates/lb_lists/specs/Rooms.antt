@@ -3,7 +3,7 @@ use Rattle.std.specs.Prelude.{◌≡◌, ℕ, ◌+◌, List, length, take, ℤ}
 use Rattle.lb_lists.specs.Claims.{Claimed}
 use Rattle.lb_lists.specs.declared.deciding.Room.{Room}
 
--- what is in them
+-- the contents of these lists
 pub record Lists : Type 0 where
   pub new_places : List ℕ
   pub cuts : List ℕ
@@ -12,7 +12,7 @@ pub record Lists : Type 0 where
   pub block_prices : List ℤ
   pub pe_prices : List ℤ
 
--- what is in a room
+-- the contents of the lists of a room
 abbrev pub lists_in : Room → Lists
 lists_in room =
     record {
@@ -24,7 +24,7 @@ lists_in room =
       pe_prices = room.pe_prices.now;
     }
 
--- the lists of a room are those of another, whatever is in them
+-- the lists of one room are those of the other, whatever they hold
 pub record HasListsOf (other room : Room) : Type 0 where
   pub new_places : room.new_places.ghost_name ≡ other.new_places.ghost_name
   pub cuts : room.cuts.ghost_name ≡ other.cuts.ghost_name
@@ -42,7 +42,7 @@ pub record HasRoom (elements pes : ℕ) (lists : Lists) : Type 0 where
   pub block_prices : length lists.block_prices ≡ pes
   pub pe_prices : length lists.pe_prices ≡ pes
 
--- the claim that these lists are, with the first stops, of this number
+-- the claim that these lists hold, with the first `stops` stops
 abbrev pub claim_in : ℕ → ℕ → ℕ → Lists → Claimed
 claim_in bottleneck moved stops lists =
     record {

@@ -7,7 +7,7 @@ use Rattle.lb_lists.specs.declared.error.RunError.TheVariants.{BadInput, BadLoad
 use Rattle.lb_lists.specs.declared.error.RefineError.{RefineError}
 use Rattle.lb_lists.specs.declared.error.RefineError.TheVariants.{BadTolerance, Run}
 
--- of each element the load, the packed size in bytes and the PE on which it is, and how many PEs there are
+-- for each element its load, its packed size in bytes and the PE that it is on; and the number of PEs
 pub record Listed : Type 0 where
   pub loads : List ℕ
   pub bytes : List ℕ
@@ -18,8 +18,8 @@ pub record Listed : Type 0 where
 abbrev pub sizes_of : Listed → List (ℕ × ℕ)
 sizes_of run = zip run.bytes run.places
 
--- The lists speak of the same elements, of which there are not too many, the sizes are not too great, and each element
--- is on one of the PEs. How great the loads are is not asked.
+-- The lists are of the same elements, of which there are not too many, no size is too great, and each element is on one of the
+-- PEs. The loads may be of any size.
 pub record IsRun (run : Listed) : Type 0 where
   pub some_pe : 0 < run.procs
   pub few_pes : run.procs ≤ PES
@@ -29,7 +29,7 @@ pub record IsRun (run : Listed) : Type 0 where
   pub small : All (λ size. size ≤ STATE_BYTES) run.bytes
   pub placed : All (λ place. place < run.procs) run.places
 
--- a run, and the number of PEs on which it is to go on
+-- a run, and the number of PEs on which it is to continue
 pub record IsAsked (run : Listed) (pes : ℕ) : Type 0 where
   pub is_run : IsRun run
   pub some_pe : 1 ≤ pes
@@ -39,13 +39,13 @@ pub record IsAsked (run : Listed) (pes : ℕ) : Type 0 where
 abbrev pub AreSmall : List ℕ → Type 0
 AreSmall loads = All (λ units. units ≤ LOAD) loads
 
--- Why a call was refused: what is in order was not; or it was, and a load is too great; or neither, and there was no memory.
+-- Why a call was refused: its input was not in order; or it was, and a load is too great; or neither, and memory was refused.
 abbrev pub IsRefusal : Type 0 → Type 0 → RunError → Type 0
 IsRefusal in_order small BadInput = ¬ in_order
 IsRefusal in_order small BadLoad = in_order × ¬ small
 IsRefusal in_order small OutOfMemory = in_order × small
 
--- Why nothing was decided within a tolerance: its thousandths are too many; or they are not, and why else.
+-- Why nothing was decided within a tolerance, in thousandths: it is too great; or it is not, and the run was refused.
 abbrev pub IsRefineRefusal : ℕ → Type 0 → Type 0 → RefineError → Type 0
 IsRefineRefusal thousandths in_order small BadTolerance = 1000 < thousandths
 IsRefineRefusal thousandths in_order small (Run error) = (thousandths ≤ 1000) × IsRefusal in_order small error

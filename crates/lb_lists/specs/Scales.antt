@@ -12,7 +12,7 @@ IsMeasured nan = ⊥
 IsMeasured (inf below) = ⊥
 IsMeasured (fin below m e) = (below ≡ false) ⊎ (m ≡ 0)
 
--- such a number in units of the least number above 0 that there is, 2^-1074, of which each is a multiple
+-- such a number in units of 2^-1074, the least number above 0: each is a multiple of it
 abbrev pub ticks : Float → ℕ
 ticks nan = 0
 ticks (inf below) = 0
@@ -32,11 +32,12 @@ pub record IsFirstScaleFault (loads : List Float) (error : ScaleError) : Type 0 
   pub before : All IsMeasured (take at loads)
   pub wrong : IsLoadFault (slice_index_or loads at float_zero) error
 
--- there is one scaled load for each, and there are not too many
+-- there is one scaled load for each load, and there are not too many
 abbrev pub IsRoomFor : ℕ → List Float → Type 0
 IsRoomFor room loads = (room ≡ length loads) × (length loads ≤ ELEMENTS)
 
--- why loads were refused: that is not so; or it is, and some load was not measured
+-- Why loads were refused: there is not one scaled load for each, or there are too many; or the lengths are right, and this is
+-- the fault of the first load that is not a measured one.
 abbrev pub IsScaleRefusal : List Float → ℕ → ScaleError → Type 0
 IsScaleRefusal loads room BadInput = ¬ (IsRoomFor room loads)
 IsScaleRefusal loads room error = IsRoomFor room loads × IsFirstScaleFault loads error
@@ -45,7 +46,7 @@ IsScaleRefusal loads room error = IsRoomFor room loads × IsFirstScaleFault load
 abbrev pub in_ticks : List Float → List ℕ
 in_ticks loads = map ticks loads
 
--- how many units of 2^power ticks each load is, rounded down
+-- the number of units of 2^power ticks in each load, rounded down
 abbrev pub counts : ℕ → List Float → List ℕ
 counts power loads = map (λ load. ticks load / 2 ^ power) loads
 

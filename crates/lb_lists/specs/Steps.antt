@@ -1,4 +1,4 @@
--- Lists of steps, one for each block, as plain lists one behind the other.
+-- The steps of all blocks as plain lists, block after block.
 use Rattle.std.specs.Prelude.{ℕ, ◌+◌, List, [], ◌∷◌, ◌++◌, length, map}
 use Rattle.std.specs.List.{between, zip}
 
@@ -7,7 +7,8 @@ abbrev pub all_steps : List (List (ℕ × ℕ)) → List (ℕ × ℕ)
 all_steps [] = []
 all_steps (steps ∷ rows) = steps ++ all_steps rows
 
--- the number of the first step of each block, counted from this one, and behind them how many there are
+-- the number of the first step of each block, where that of the first block is `at`, and behind them where the last block's
+-- steps end
 abbrev pub first_steps : ℕ → List (List (ℕ × ℕ)) → List ℕ
 first_steps at [] = at ∷ []
 first_steps at (steps ∷ rows) = at ∷ first_steps (at + length steps) rows
@@ -24,6 +25,6 @@ abbrev pub rows_between : List ℕ → List (ℕ × ℕ) → List (List (ℕ × 
 rows_between (first ∷ next ∷ starts) steps = between first next steps ∷ rows_between (next ∷ starts) steps
 rows_between _ steps = []
 
--- the steps that plain lists give for each block
+-- the steps of each block, by plain lists of them
 abbrev pub heights_in : List ℕ → List ℕ → List ℕ → List (List (ℕ × ℕ))
 heights_in starts places rises = rows_between starts (zip places rises)

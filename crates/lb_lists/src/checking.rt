@@ -17,7 +17,7 @@ use lb_certificates::{
 };
 use std::alloc::{AllocError, Allocator};
 
-/// The floor that these stops are.
+/// The floor with these stops.
 pub(crate) fn floor_from<A: Allocator>(alloc: A, stops: &[u32]) -> Result<Floor<A>, AllocError>
     ensures { IfOk result (λ f. f ≡ floor_of stops.now) }
 {
@@ -55,7 +55,7 @@ pub(crate) fn prices_from<A: Allocator + Copy>(
     })
 }
 
-// The lists of a claim, as the checkers take them.
+// The lists of a claim, in the form that the checkers take.
 #[derive(Drop)]
 struct Parts<A: Allocator> {
     division: Division<A>,
@@ -94,7 +94,7 @@ fn is_placed(count: usize, claim: &Claim<'_>) -> bool
     are_places(claim.cuts, claim.names, claim.new_places)
 }
 
-/// The first flaw of what a claim says of a right division and right names: of the bytes, and then of the places.
+/// The first flaw in what a claim states beside a right division and right names: in the bytes, and then in the places.
 pub(crate) fn flaw_told(moved: u64, count: usize, claim: &Claim<'_>) -> Option<Flaw>
     requires some_block { 0 < blocks_between claim.now.cuts }
     requires divides { IsDivision 0 count (blocks_between claim.now.cuts) claim.now.cuts }
@@ -141,19 +141,19 @@ fn first_flaw<A: Allocator>(
     }
 }
 
-/// Checks what somebody claims of a run and `pes` PEs: `None` exactly where every part of the claim is right, and
-/// otherwise its first flaw. `None` means that no division of the elements into `pes` consecutive blocks has a lighter
-/// heaviest block, that no naming of the blocks moves fewer bytes, and that the claim states these bytes and of each
+/// Checks what somebody claims of a run and `pes` PEs: `None` exactly where every part of the claim is right, and otherwise its
+/// first flaw. `None` means that no division of the elements into `pes` consecutive blocks has a lighter heaviest block, that
+/// no naming of the blocks moves fewer bytes, and that the claim states the bytes that its own naming moves, and for each
 /// element the name of its block.
 ///
-/// Any claim may be passed. Its flaws are looked for in the order of [`Flaw`]; there
-/// [`MovesWrong`](Flaw::MovesWrong) means a wrong place. Of a list that is too long no more is copied than shows that.
+/// Any claim may be passed. Its flaws are looked for in the order of [`Flaw`], where [`MovesWrong`](Flaw::MovesWrong) means a
+/// wrong place. Of a list that is too long, only as much is copied as shows that it is.
 ///
 /// # Errors
 ///
 /// [`BadInput`](RunError::BadInput) where the lists describe no run, or `pes` is not 1 to
 /// [`Limits::PES`](chare_index::Limits::PES); [`BadLoad`](RunError::BadLoad) where a load is too great;
-/// [`OutOfMemory`](RunError::OutOfMemory) where a list was refused.
+/// [`OutOfMemory`](RunError::OutOfMemory) where memory was refused.
 pub fn check_claim<A: Allocator + Copy>(
     alloc: A,
     run: &Run<'_>,

@@ -4,7 +4,7 @@ ghost use Rattle.chare_index.specs.declared.limits.TheConstants.Limits.{PES};
 
 use std::marker::Model;
 
-/// What somebody claims to be a decision for a run, as plain lists. Contracts see it as the record of them.
+/// What somebody claims to be a decision for a run, as plain lists. Contracts see it as the record of its lists.
 #[derive(Drop)]
 pub struct Claim<'a> {
     /// The load of the heaviest block, in work units.
@@ -15,9 +15,9 @@ pub struct Claim<'a> {
     pub new_places: &'a [u32],
     /// Where the blocks begin and end.
     pub cuts: &'a [u32],
-    /// The fence that proves the bottleneck least, or none for a bottleneck of 0.
+    /// The fence that proves that the bottleneck is the least possible; empty for a bottleneck of 0.
     pub stops: &'a [u32],
-    /// On which PE each block runs.
+    /// The PE on which each block runs.
     pub names: &'a [u32],
     /// The prices of the blocks, which with those of the PEs prove that no naming moves fewer bytes.
     pub block_prices: &'a [i64],
@@ -42,15 +42,15 @@ impl<'a> Model for Claim<'a> {
     } };
 }
 
-// The first entries of a list, at most this number of them.
+// The first entries of a list, at most `most` of them.
 fn front<T>(list: &[T], most: usize) -> &[T]
     ensures { result.now ≡ take most list.now }
 {
     list.get(..most).unwrap_or(list)
 }
 
-/// A claim with each list of the certificates cut off one entry past the length that it is to have for `pes` PEs: where a
-/// list is too long it still is, so the claim has the same first flaw, however much memory its lists take.
+/// A claim with each list of the certificates cut off one entry past its proper length for `pes` PEs. A list that is too long
+/// is still too long, so the claim has the same first flaw, however long its lists are.
 pub(crate) fn shorten<'a>(claim: &Claim<'a>, pes: u32) -> Claim<'a>
     requires few_pes { pes ≤ PES }
     ensures { result ≡ shortened pes claim.now }

@@ -17,16 +17,16 @@ use chare_index::Limits;
 use lb_certificates::Floor;
 use std::alloc::Allocator;
 
-/// Room for what is written of a decision for `pes` PEs.
+/// Buffers of the caller for a decision on `pes` PEs.
 #[derive(Drop)]
 pub struct Room<'a> {
     /// The PE on which each element is to run.
     pub new_places: &'a mut [u32],
     /// `pes + 1`: where the blocks begin and end.
     pub cuts: &'a mut [u32],
-    /// Room for `pes + 1` stops of the fence that proves the bottleneck least.
+    /// Capacity for the `pes + 1` stops of the fence that proves that the bottleneck is the least possible.
     pub stops: &'a mut [u32],
-    /// `pes`: on which PE each block runs.
+    /// `pes`: the PE on which each block runs.
     pub names: &'a mut [u32],
     /// `pes`: the prices of the blocks.
     pub block_prices: &'a mut [i64],
@@ -41,11 +41,11 @@ pub struct Decided {
     pub bottleneck: u64,
     /// The packed bytes of all elements that move.
     pub moved: u64,
-    /// How many stops there are: `pes + 1`, or 0 where the bottleneck is 0.
+    /// The number of stops: `pes + 1`, or 0 where the bottleneck is 0.
     pub stops: usize,
 }
 
-// Writes the stops of a floor, and returns how many there are.
+// Writes the stops of a floor, and returns their number.
 fn write_stops<A: Allocator>(floor: &Floor<A>, stops: &mut [u32]) -> usize
     requires room { length (stops_in floor.now) ≤ length stops.old }
     ensures counted { result ≡ length (stops_in floor.now) }
@@ -63,7 +63,7 @@ fn write_stops<A: Allocator>(floor: &Floor<A>, stops: &mut [u32]) -> usize
     }
 }
 
-/// Whether there is the room for a decision on this number of elements.
+/// Whether the lists of the room have the lengths that a decision on this number of elements needs.
 pub(crate) fn has_room(room: &Room<'_>, elements: usize, pes: u32) -> bool
     ensures { IsTrue result ↔ HasRoom elements pes (lists_in room.now) }
 {
@@ -111,13 +111,13 @@ pub(crate) fn write_decision<A: Allocator>(plan: &Plan<A>, room: &mut Room<'_>) 
     }
 }
 
-/// Plans a run for `pes` PEs, and writes the decision with its certificates: each list of the room, but of the stops the
-/// first [`Decided::stops`] alone. Its prices are within the bounds that [`plan_run`](crate::plan_run) gives.
+/// Plans a run for `pes` PEs, and writes the decision with its certificates: each list of the room whole, but of the stops only
+/// the first [`Decided::stops`]. The prices are within the bounds that [`plan_run`](crate::plan_run) gives.
 ///
 /// # Errors
 ///
-/// As [`plan_run`], and [`BadInput`](RunError::BadInput) where a list of the room does not have the length that it needs.
-/// Then nothing is written.
+/// As [`plan_run`], and [`BadInput`](RunError::BadInput) where a list of the room does not have the length that it needs. After
+/// an error nothing was written.
 pub fn decide_into<A: Allocator + Copy>(
     alloc: A,
     run: &Run<'_>,

@@ -8,13 +8,14 @@ use thiserror::Error;
 /// Why a run was not planned, or a claim not checked. Of several reasons the first in this order is given.
 #[derive(Clone, Copy, Debug, PartialEq, Eq, Error)]
 pub enum RunError {
-    /// The lists describe no run, the number of PEs is not 1 to 256, or the room for the answer is not what it needs.
+    /// The lists describe no run, the number of PEs is not 1 to 256, or a list for the answer does not have the length that it
+    /// needs.
     #[error("bad input")]
     BadInput,
     /// A load is above [`Limits::LOAD`](chare_index::Limits::LOAD).
     #[error("a load is too great")]
     BadLoad,
-    /// No memory was left.
+    /// Memory was refused.
     #[error("out of memory")]
     OutOfMemory,
 }
@@ -25,7 +26,7 @@ pub enum RefineError {
     /// The tolerance is above [`Tolerance::MOST`](chain_refinement::Tolerance::MOST).
     #[error("the tolerance is too great")]
     BadTolerance,
-    /// The tolerance is in order, and the run was not planned.
+    /// The tolerance is not too great, and the run was not planned for this reason.
     #[error("{0}")]
     Run(RunError),
 }

@@ -2,16 +2,16 @@
 //! interface calls it, and a program in Rattle may.
 //!
 //! - [`Run`]: the elements of a run, as lists.
-//! - [`plan_run`]: decides; [`plan_into`] writes the place of each element, and [`decide_into`] the whole decision, into
+//! - [`plan_run`]: decides; [`plan_into`] writes the place of each element, and [`decide_into`] the whole decision, into a
 //!   [`Room`] of the caller.
 //! - [`refine_run`]: decides within a tolerance; [`refine_into`] writes the decision into a [`Room`] and a [`StandingRoom`],
 //!   or returns a [`RefineError`].
-//! - [`check_claim`]: whether a [`Claim`] is right, whoever made it, or its first flaw; [`number_of`] a flaw.
+//! - [`check_claim`]: whether a [`Claim`] is right, whoever made it, or its first flaw; [`number_of`]: the number of a flaw.
 //! - [`check_refined`]: whether a [`RefinedClaim`] of a decision within a tolerance is right, or its first [`RefinedFlaw`], with
 //!   its [number](number_of_refined) and its [place](place_of_refined).
 //! - [`scale_loads`]: loads in seconds as whole numbers, or a [`ScaleError`].
 //! - [`RunError`]: why a run was not planned, or a claim not checked.
-//! - [`one_plan`]: the law that a run has one plan; [`near_least`]: that one of scaled loads is nearly least.
+//! - [`one_plan`]: the law that a run has one plan; [`near_least`]: the law that a plan of scaled loads is nearly least.
 //!
 //! ```
 //! use lb_lists::{Run, plan_into};

@@ -1,4 +1,4 @@
-//! The lists of a run, as the planner and the checkers take them.
+//! The lists of a run, in the form that the planner and the checkers take.
 
 ghost use Rattle.std.specs.Prelude.{◌≡◌, ◌-◌, ◌<◌, ◌≤◌, All, IfOk, IfErr, OnOk, length, take};
 ghost use Rattle.std.specs.List.{between, zip};
@@ -17,11 +17,11 @@ pub(crate) struct Measured<A: Allocator> {
     pub(crate) sizes: Sizes<A>,
 }
 
-// How many pairs are made at a time.
+// The number of pairs that are made at a time.
 const BLOCK: usize = 256;
 
-// The PE with this number. The remainder is the number; the compiler sees by it that the number is in range, and makes
-// several pairs at a time.
+// The PE with this number. The remainder is the number itself, and lets the compiler see that the number is in range, so that
+// it makes several pairs at a time.
 #[tactic(auto, using(lb_snapshot::proofs::Made::made_where))]
 fn pe(number: u32) -> Pe
     requires { number < Limits.PES }
@@ -100,13 +100,12 @@ fn lists_of<A: Allocator + Copy>(alloc: A, run: &Run<'_>) -> Result<Measured<A>,
     })
 }
 
-/// The lists of a run that is to go on with `pes` PEs.
+/// The lists of a run that is to continue on `pes` PEs.
 ///
 /// # Errors
 ///
 /// [`BadInput`](RunError::BadInput) where the lists describe no run, or `pes` is not 1 to [`Limits::PES`];
-/// [`BadLoad`](RunError::BadLoad) where a load is too great; [`OutOfMemory`](RunError::OutOfMemory) where a list was
-/// refused.
+/// [`BadLoad`](RunError::BadLoad) where a load is too great; [`OutOfMemory`](RunError::OutOfMemory) where memory was refused.
 pub(crate) fn measure<A: Allocator + Copy>(
     alloc: A,
     run: &Run<'_>,

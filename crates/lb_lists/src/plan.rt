@@ -1,4 +1,4 @@
-//! What is decided of a run.
+//! What is decided for a run.
 
 ghost use Rattle.std.specs.Prelude.{◌≡◌, ◌<◌, ◌≤◌, length, IfOk, IfErr, OnOk};
 ghost use Rattle.chain_partition.specs.Chosen.{IsChosen};
@@ -17,8 +17,8 @@ use lb_certificates::{Division, Loads, Naming, Prices, Sizes};
 use lb_strategy::name_cuts;
 use std::alloc::Allocator;
 
-/// What is decided of a run: what a [`Decision`](lb_strategy::Decision) has but the list of its moves, since the caller
-/// gets the place of each element.
+/// What is decided for a run: a [`Decision`](lb_strategy::Decision) without the list of its moves, since the caller gets the
+/// place of each element.
 #[derive(Drop)]
 pub(crate) struct Plan<A: Allocator> {
     pub(crate) division: Division<A>,
@@ -27,7 +27,7 @@ pub(crate) struct Plan<A: Allocator> {
     pub(crate) moved: u64,
 }
 
-// What is decided of these loads and sizes.
+// What is decided for these loads and sizes.
 #[tactic(auto, using(lb_strategy::proofs::RightDecisions::blocks_from_certified))]
 fn decided<A: Allocator + Copy>(
     alloc: A,

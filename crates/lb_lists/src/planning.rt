@@ -17,7 +17,7 @@ use lb_certificates::Snapshot;
 use lb_strategy::{Decision, plan};
 use std::alloc::Allocator;
 
-/// The snapshot of a run that is to go on with `pes` PEs, at step 0.
+/// The snapshot of a run that is to continue on `pes` PEs, at step 0.
 pub(crate) fn snapshot_of<A: Allocator + Copy>(
     alloc: A,
     run: &Run<'_>,
@@ -35,14 +35,14 @@ pub(crate) fn snapshot_of<A: Allocator + Copy>(
     }
 }
 
-/// Decides where each element of a run goes on, on `pes` PEs, as [`plan`] does: so each price of a block is 0 to the
-/// greatest number of bytes that a block moves on some PE, and each price of a PE is 0 down to as much below 0.
+/// Decides on which of `pes` PEs each element of a run continues, as [`plan`] does. So each price of a block is between 0 and
+/// the greatest number of bytes that a block moves on some PE, and each price of a PE is between 0 and minus that number.
 ///
 /// # Errors
 ///
 /// [`BadInput`](RunError::BadInput) where the lists describe no run, or `pes` is not 1 to
 /// [`Limits::PES`](chare_index::Limits::PES); [`BadLoad`](RunError::BadLoad) where a load is too great;
-/// [`OutOfMemory`](RunError::OutOfMemory) where a list was refused.
+/// [`OutOfMemory`](RunError::OutOfMemory) where memory was refused.
 pub fn plan_run<A: Allocator + Copy>(
     alloc: A,
     run: &Run<'_>,
@@ -83,8 +83,8 @@ pub struct Planned {
 ///
 /// # Errors
 ///
-/// As [`plan_run`], and [`BadInput`](RunError::BadInput) where there is not one new place for each element. Then nothing
-/// is written.
+/// As [`plan_run`], and [`BadInput`](RunError::BadInput) where there is not one new place for each element. After an error
+/// nothing was written.
 pub fn plan_into<A: Allocator + Copy>(
     alloc: A,
     run: &Run<'_>,

@@ -28,7 +28,7 @@ pub enum RefinedFlaw {
     OfDecision(Flaw),
 }
 
-// The steps first..end of these lists, as far as there are such.
+// The steps first..end of these lists, without those past the end of the lists.
 fn row_of<A: Allocator>(
     alloc: A,
     places: &[u32],
@@ -99,7 +99,7 @@ fn refinement_from<A: Allocator + Copy>(
     })
 }
 
-// The lists of a claim, as the checkers take them.
+// The lists of a claim, in the form that the checkers take.
 #[derive(Drop)]
 struct RefinedParts<A: Allocator> {
     refinement: Refinement<A>,
@@ -177,18 +177,19 @@ fn first_refined_flaw<A: Allocator>(
     }
 }
 
-/// Checks what somebody claims to be a decision for a run and `pes` PEs within a tolerance, a number of thousandths, whose cuts are
-/// near the present ones: `None` exactly where every part of the claim is right, and otherwise its first flaw. `None` means that
-/// no division of the elements into `pes` consecutive blocks has a lighter heaviest block than the claim's bottleneck, that no
-/// cuts within the tolerance move fewer bytes in its order of the PEs, that no naming of the blocks does, and that the claim
-/// states these bytes and of each element the name of its block.
+/// Checks what somebody claims to be a decision for a run and `pes` PEs within a tolerance in thousandths, whose cuts are near
+/// the present ones: `None` exactly where every part of the claim is right, and otherwise its first flaw. `None` means that no
+/// division of the elements into `pes` consecutive blocks has a lighter heaviest block than the claim's bottleneck, that no
+/// cuts within the tolerance move fewer bytes in the claim's order of the PEs, that no naming of the blocks does, and that the
+/// claim states the bytes that its own naming moves, and for each element the name of its block.
 ///
-/// Any claim may be passed. Flaws are looked for in the order of [`RefinementFlaw`], and then in that of [`Flaw`]. It takes
-/// memory in proportion to the claim's lists and the steps of all blocks.
+/// Any claim may be passed. Flaws are looked for in the order of [`RefinementFlaw`], and then in that of [`Flaw`]. The check
+/// takes memory in proportion to the claim's lists and the steps of all blocks.
 ///
 /// # Errors
 ///
-/// [`BadTolerance`](RefineError::BadTolerance) above [`Tolerance::MOST`]; then as [`check_claim`](crate::check_claim).
+/// [`BadTolerance`](RefineError::BadTolerance) where it is above [`Tolerance::MOST`]; then as
+/// [`check_claim`](crate::check_claim).
 pub fn check_refined<A: Allocator + Copy>(
     alloc: A,
     run: &Run<'_>,
@@ -251,8 +252,8 @@ fn number_of_refinement(flaw: RefinementFlaw) -> u8
     }
 }
 
-/// The block, the stop (from 1), the block and the PE, or the block and the place that a flaw names, and 0 where it names
-/// nothing.
+/// The block, the stop (from 1), the block and the PE, or the block and the place that a flaw names, and 0 for each that it
+/// does not name.
 pub fn place_of_refined(flaw: RefinedFlaw) -> (u32, u32)
     ensures value { result ≡ refined_flaw_place flaw }
 {

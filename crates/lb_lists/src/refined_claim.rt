@@ -2,22 +2,23 @@ use crate::claim::Claim;
 use std::marker::Model;
 
 /// What somebody claims to be a decision within a tolerance whose cuts are near the present ones, as plain lists. Contracts see
-/// it as the record of them.
+/// it as the record of its lists.
 #[derive(Drop)]
 pub struct RefinedClaim<'a> {
     /// The decision. Its bottleneck and its stops are those of the least division.
     pub decision: Claim<'a>,
     /// Where the blocks of the least division begin and end.
     pub least_cuts: &'a [u32],
-    /// The PEs, in the order in which they stand.
+    /// The PEs, in the present order of their elements.
     pub order: &'a [u32],
-    /// Where the elements of each begin and end today. The check is fast where that is so; it takes nothing else from it.
+    /// Where the elements of each of these begin and end today. The check is fast where that is so, and relies on it for
+    /// nothing else.
     pub present: &'a [u32],
-    /// Of each block the number of its first step, and behind them where the steps of the last one end.
+    /// For each block the number of its first step, and behind them where the steps of the last block end.
     pub step_starts: &'a [usize],
     /// The place of each step of the heights.
     pub step_places: &'a [u32],
-    /// How much higher it is from there on, in bytes.
+    /// By how much the height rises there, in bytes.
     pub step_rises: &'a [u64],
 }
 

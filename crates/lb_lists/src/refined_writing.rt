@@ -69,7 +69,7 @@ pub(crate) fn write_planned<A: Allocator>(
     numbers(decided, bottleneck, false, 0)
 }
 
-// The numbers of a decision whose bottleneck was written as the least possible one, with what is written beside it.
+// The numbers of a decision whose bottleneck was written as the least possible one, with what is reported beside it.
 fn numbers(decided: Decided, bottleneck: u64, near: bool, steps: usize) -> RefinedNumbers
     ensures least { result.least ≡ decided.bottleneck }
     ensures bottleneck { result.bottleneck ≡ bottleneck }
@@ -88,8 +88,8 @@ fn numbers(decided: Decided, bottleneck: u64, near: bool, steps: usize) -> Refin
     }
 }
 
-/// Writes cuts near the present ones, with what proves them: the order of the PEs, the present cuts and the heights, whose steps
-/// these are.
+/// Writes cuts near the present ones, with what proves them: the order of the PEs, the present cuts and the heights, which have
+/// these steps.
 pub(crate) fn write_near<A: Allocator>(
     kept: Kept<A>,
     steps: FlatSteps<A>,
@@ -181,7 +181,7 @@ fn write_front<T: Copy>(list: &mut [T], front: &[T])
     list[..front.len()].copy_from_slice(front);
 }
 
-// Writes the steps where there is room for all of them, and returns how many there are.
+// Writes the steps where the lists have the capacity for all of them, and returns their number.
 fn write_steps<A: Allocator>(steps: &FlatSteps<A>, room: &mut StandingRoom<'_>) -> usize
     requires starts { length room.old.step_starts.now ≡ length steps.now.starts.items }
     requires pairs { length steps.now.rises.items ≡ length steps.now.places.items }

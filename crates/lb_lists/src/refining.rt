@@ -27,21 +27,21 @@ use chain_refinement::Tolerance;
 use lb_refinement::{Refined, refine};
 use std::alloc::Allocator;
 
-/// Room for what is written of the order of the elements, and of the heights that prove that no cuts within a tolerance move fewer
-/// bytes, for `pes` PEs.
+/// Buffers of the caller for the order of the PEs and the present cuts, and for the heights that prove that no cuts within a
+/// tolerance move fewer bytes, for `pes` PEs.
 #[derive(Drop)]
 pub struct StandingRoom<'a> {
     /// `pes + 1`: where the blocks of the least division begin and end.
     pub least_cuts: &'a mut [u32],
-    /// `pes`: the PEs, in the order in which they stand.
+    /// `pes`: the PEs, in the present order of their elements.
     pub order: &'a mut [u32],
-    /// `pes + 1`: where the elements of each begin and end today.
+    /// `pes + 1`: where the elements of each of these begin and end today.
     pub present: &'a mut [u32],
-    /// `pes + 1`: of each block the number of its first step, and behind them how many steps there are.
+    /// `pes + 1`: for each block the number of its first step, and behind them the number of all steps.
     pub step_starts: &'a mut [usize],
-    /// Room for the place of each step.
+    /// Capacity for the place of each step.
     pub step_places: &'a mut [u32],
-    /// As much room: how much higher it is from there on, in bytes.
+    /// The same capacity for the number of bytes by which the height rises at each.
     pub step_rises: &'a mut [u64],
 }
 
@@ -54,15 +54,15 @@ pub struct RefinedNumbers {
     pub bottleneck: u64,
     /// The packed bytes of all elements that move.
     pub moved: u64,
-    /// How many stops there are: `pes + 1`, or 0 where the least possible load is 0.
+    /// The number of stops: `pes + 1`, or 0 where the least possible load is 0.
     pub stops: usize,
     /// Whether the cuts are near the present ones; otherwise the decision is that of the plan.
     pub near: bool,
-    /// How many steps the heights have; 0 for the plan.
+    /// The number of steps of the heights; 0 for the plan.
     pub steps: usize,
 }
 
-/// Decides where each element of a run goes on, on `pes` PEs, within a tolerance, as [`refine`] does.
+/// Decides on which of `pes` PEs each element of a run continues, within a tolerance, as [`refine`] does.
 ///
 /// # Errors
 ///
@@ -99,7 +99,7 @@ pub fn refine_run<A: Allocator + Copy>(
     }
 }
 
-// Whether there is the room for the order, the present cuts and the heights of `pes` PEs.
+// Whether the lists for the order, the present cuts and the heights have the lengths that `pes` PEs need.
 fn has_standing_room(room: &StandingRoom<'_>, pes: u32) -> bool
     ensures { IsTrue result ↔ HasStandingRoom pes (standing_lists_in room.now) }
 {
@@ -111,22 +111,23 @@ fn has_standing_room(room: &StandingRoom<'_>, pes: u32) -> bool
         && room.step_rises.len() == room.step_places.len()
 }
 
-// The same, and for a decision on this number of elements.
+// The same, and whether those of the decision have the lengths that this number of elements needs.
 fn has_refined_room(room: &Room<'_>, standing: &StandingRoom<'_>, elements: usize, pes: u32) -> bool
     ensures { IsTrue result ↔ HasRefinedRoom elements pes (lists_in room.now) (standing_lists_in standing.now) }
 {
     has_room(room, elements, pes) && has_standing_room(standing, pes)
 }
 
-/// Decides within a tolerance, a number of thousandths, and writes the decision with all that proves it: what is written of a decision
-/// as [`decide_into`](crate::decide_into) does, and the least cuts; and where the cuts are near the present ones, the order of
-/// the PEs, the present cuts and the heights. Of these the steps are written where there is room for all of them. Where it is
-/// the plan, order, present cuts and steps are left as they were. The stops are those of the least division.
+/// Decides within a tolerance in thousandths, and writes the decision with all that proves it: what
+/// [`decide_into`](crate::decide_into) writes of a decision, and the least cuts; and where the cuts are near the present ones,
+/// the order of the PEs, the present cuts and the heights. The steps of the heights are written only where the lists have the
+/// capacity for all of them. Where the decision is that of the plan, the order, the present cuts and the steps are left
+/// unchanged. The stops are those of the least division.
 ///
 /// # Errors
 ///
-/// [`BadTolerance`](RefineError::BadTolerance) above [`Tolerance::MOST`]; then as [`refine_run`], and
-/// [`BadInput`](RunError::BadInput) where a list of the room does not have the length that it needs. Then nothing is written.
+/// [`BadTolerance`](RefineError::BadTolerance) where it is above [`Tolerance::MOST`]; then as [`refine_run`], and
+/// [`BadInput`](RunError::BadInput) where a list does not have the length that it needs. After an error nothing was written.
 pub fn refine_into<A: Allocator + Copy>(
     alloc: A,
     run: &Run<'_>,

@@ -5,16 +5,16 @@ use chare_index::Limits;
 use lb_certificates::Units;
 use std::marker::Model;
 
-/// The elements of a run, as plain lists of the same length. Contracts see it as the record of the lists.
+/// The elements of a run, as plain lists of the same length. Contracts see it as the record of its lists.
 #[derive(Drop)]
 pub struct Run<'a> {
     /// The load of each element, 0 to [`Limits::LOAD`] work units.
     pub loads: &'a [Units],
     /// The packed size of each element, 0 to [`Limits::STATE_BYTES`] bytes.
     pub bytes: &'a [u32],
-    /// The PE on which each element is, below `procs`.
+    /// The PE that each element is on, below `procs`.
     pub places: &'a [u32],
-    /// How many PEs the run has, 1 to [`Limits::PES`].
+    /// The number of PEs of the run, 1 to [`Limits::PES`].
     pub procs: u32,
 }
 
@@ -26,7 +26,7 @@ impl<'a> Model for Run<'a> {
     ghost view = { λ r. record { loads = r.loads.now; bytes = r.bytes.now; places = r.places.now; procs = r.procs } };
 }
 
-/// Whether the lists describe a run, which is to go on with this number of PEs.
+/// Whether the lists describe a run, which may continue on this number of PEs.
 pub(crate) fn is_asked(run: &Run<'_>, pes: u32) -> bool
     ensures { IsTrue result ↔ IsAsked run.now pes }
 {
@@ -62,8 +62,8 @@ fn stand_below(procs: u32, places: &[u32]) -> bool
     greatest(places) < procs
 }
 
-// The greatest of these numbers, and 0 where there is none. No branch leaves the loop, so that it takes several numbers at
-// a time.
+// The greatest of these numbers, and 0 where there are none. No branch leaves the loop, so that the compiler can take several
+// numbers at a time.
 fn greatest(numbers: &[u32]) -> u32
     ensures bounds { All (λ number. number ≤ result) numbers.now }
     ensures least { (limit : ℕ) → All (λ number. number ≤ limit) numbers.now → result ≤ limit }
@@ -71,7 +71,7 @@ fn greatest(numbers: &[u32]) -> u32
     numbers.iter().copied().max().unwrap_or(0)
 }
 
-/// Whether no load is above the limit, which is all ones: so that is seen from the bits of all loads together.
+/// Whether no load is above the limit. The limit has all its bits set, so the bits of all loads together show it.
 pub(crate) fn are_small(loads: &[Units]) -> bool
     ensures { IsTrue result ↔ AreSmall loads.now }
 {

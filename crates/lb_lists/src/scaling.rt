@@ -8,14 +8,14 @@ use chare_index::Limits;
 use lb_certificates::Units;
 use thiserror::Error;
 
-/// Why loads were not scaled. Of several reasons the first in this order is given, and of several loads that are wrong the
-/// first one's.
+/// Why loads were not scaled. Of several reasons, the first in this order is given; of several bad loads, the fault of the
+/// first.
 #[derive(Clone, Copy, Debug, PartialEq, Eq, Error)]
 pub enum ScaleError {
     /// There is not one scaled load for each load, or there are more than [`Limits::ELEMENTS`].
     #[error("bad input")]
     BadInput,
-    /// A load is no number.
+    /// A load is not a number.
     #[error("a load is not a number")]
     NotANumber,
     /// A load is below 0; it may be minus infinity.
@@ -26,7 +26,7 @@ pub enum ScaleError {
     Infinite,
 }
 
-// The weight of a double's sign, and that of its exponent.
+// The sign bit of a double, and the lowest bit of its exponent.
 const SIGN: u64 = 1 << 63;
 
 const HIDDEN: u64 = 1 << 52;
@@ -59,7 +59,7 @@ fn first_fault(loads: &[f64]) -> Option<ScaleError>
     None
 }
 
-// The digits of a load, and how many places they are shifted.
+// The digits of a load, and the number of places by which they are shifted.
 fn parts_of(load: f64) -> (u64, u32)
     requires { IsMeasured load }
     ensures ticks { ticks load ≡ result.0 * 2 ^ result.1 }
@@ -110,7 +110,7 @@ fn power_of(loads: &[f64]) -> u32
     power
 }
 
-// How many units of this power a load is, rounded down.
+// The number of units of this power in a load, rounded down.
 fn count_of(load: f64, power: u32) -> u64
     requires measured { IsMeasured load }
     requires small { ticks load / 2 ^ power ≤ Limits.LOAD }
@@ -123,7 +123,7 @@ fn count_of(load: f64, power: u32) -> u64
     digits << (shift - power)
 }
 
-// Writes how many units of this power each load is.
+// Writes the number of units of this power in each load.
 fn write_counts(loads: &[f64], power: u32, scaled: &mut [u64])
     requires counted { length scaled.old ≡ length loads.now }
     requires measured { All IsMeasured loads.now }
@@ -147,17 +147,17 @@ fn unit_of(power: u32) -> f64
     f64::from_bits(u64::from(power - 51) << 52)
 }
 
-/// Counts loads that were measured, as in seconds, in a unit that it chooses: the least power of two in which no count is
-/// above [`Limits::LOAD`](chare_index::Limits::LOAD), so that the counts can be planned. Each is rounded down. The unit is
+/// Counts measured loads, for example in seconds, in a unit that it chooses: the least power of two in which no count is above
+/// [`Limits::LOAD`](chare_index::Limits::LOAD), so that the counts can be planned. Each count is rounded down. The unit is
 /// returned; a bottleneck times the unit is in seconds again.
 ///
-/// Less than a unit an element was rounded away. So a division that is least for the counts is, in seconds, nearly least
-/// for the loads: no other has a heaviest block that is lighter by more than as many units as there are elements
+/// Rounding takes less than one unit from each element. So a division that is least for the counts is, in seconds, nearly least
+/// for the loads: the heaviest block of any other is lighter by at most one unit for each element
 /// ([`near_least`](crate::near_least)).
 ///
 /// # Errors
 ///
-/// A [`ScaleError`], in its order. Then nothing is written.
+/// A [`ScaleError`], in its order. After an error nothing was written.
 pub fn scale_loads(loads: &[f64], scaled: &mut [Units]) -> Result<f64, ScaleError>
     ensures scaled { IfOk result (λ unit. IsScaled loads.now unit scaled.new) }
     ensures measured { OnOk result (IsRoomFor (length scaled.old) loads.now × All IsMeasured loads.now) }

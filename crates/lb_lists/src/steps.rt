@@ -1,4 +1,4 @@
-//! The steps of heights, one behind the other.
+//! The steps of heights in plain lists, block after block.
 
 ghost use Rattle.std.specs.Prelude.{◌≡◌, ◌++◌, OnOk, IfOk};
 ghost use Rattle.lb_lists.specs.Steps.{all_steps, first_steps, places_of, rises_of};
@@ -6,7 +6,7 @@ ghost use Rattle.lb_lists.specs.Steps.{all_steps, first_steps, places_of, rises_
 use chain_refinement::Steps;
 use std::alloc::{AllocError, Allocator};
 
-/// The steps of each block, as plain lists: the number of the first step of each block and of all steps, and of each step the
+/// The steps of each block, as plain lists: the number of the first step of each block and of all steps, and for each step the
 /// place and the rise.
 #[derive(Drop)]
 pub(crate) struct FlatSteps<A: Allocator> {
@@ -43,7 +43,7 @@ pub(crate) fn flat_steps<A: Allocator + Copy>(
     })
 }
 
-// Puts these steps behind the others.
+// Appends these steps to the others.
 fn push_steps<A: Allocator>(
     places: &mut Vec<u32, A>,
     rises: &mut Vec<u64, A>,

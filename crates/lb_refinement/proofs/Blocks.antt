@@ -14,7 +14,7 @@ above cut i beyond =
       | inr past ↦ past.1
     ]
 
--- where the cuts that are at most i end, the first cut above i stands
+-- the first cut above i is where the cuts that are at most i end
 pub first_above : (cuts : List ℕ) (i k : ℕ) → k ≤ length cuts → IsPartitionPoint (λ cut. leb cut i ≡ true) (λ cut. leb cut i ≡ false) cuts k → position_or_len (λ cut. nat_lt i cut) cuts ≡ k
 first_above cuts i k inside point =
     position_or_len_is (λ cut. nat_lt i cut) cuts k 0 inside

@@ -1,4 +1,4 @@
--- Places that keep to the limit are kept whole.
+-- Where the present blocks are within the limit, nothing moves.
 use Rattle.std.proofs.Common.{◌≡◌, ℕ, ◌≤◌, List, length, slice_index, slice_index_or, arith, ap, sym, ◌∙◌, subst, inl, inr}
 use Rattle.std.proofs.lemmas.Bool.Decides.{nat_tests}
 use Rattle.chain_partition.proofs.ChosenOnce.{only_from_chosen}
@@ -19,7 +19,7 @@ use Rattle.lb_refinement.specs.declared.refined.Refined.TheVariants.{Near, Plann
 stays : (size : ℕ × ℕ) (pe : ℕ) → size.1 ≡ pe → moved_bytes size pe ≡ 0
 stays size pe same = grind (arith, nat_tests)
 
--- where each block runs where its elements stand nothing moves
+-- nothing moves where each block runs on the PE that its elements are on
 none_moves : (sizes : List (ℕ × ℕ)) (names present : List ℕ) → StandInOrder sizes names present → bytes_moved sizes present names ≡ 0
 none_moves sizes names present order =
     total_same (length sizes) (λ i. moved_bytes (slice_index_or sizes i (0, 0)) (slice_index names (block_of present i))) (λ _. 0) (λ i inside.

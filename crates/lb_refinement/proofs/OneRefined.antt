@@ -1,4 +1,4 @@
--- The snapshot, the number of PEs and the tolerance determine the refined decision, but for heights and prices.
+-- The snapshot, the number of PEs and the tolerance determine the refined decision, except for heights and prices.
 use Rattle.std.proofs.Common.{◌≡◌, ℕ, List, length, arith, ap, sym, ◌∙◌, subst, inl, inr}
 use Rattle.chain_partition.proofs.ChosenOnce.{only_from_chosen}
 use Rattle.lb_certificates.specs.Chain.{peak}
@@ -57,7 +57,7 @@ pub one_planned : {A : Type 0} (loads : List ℕ) (sizes : List (ℕ × ℕ)) (p
 one_planned loads sizes pes d e one other =
     one_decision loads sizes pes d e one.chosen other.chosen one.least_naming other.least_naming one.right other.right
 
--- a plan that moves no more bytes than the kept cuts is not refined by them
+-- where the plan is the decision, since it moves no more bytes than the kept cuts, these are not the decision
 not_both : {A : Type 0} (loads : List ℕ) (sizes : List (ℕ × ℕ)) (pes tolerance : ℕ) (d : Decision A) (k : Kept A) → IsRefined loads sizes pes tolerance (Planned d) → IsRefined loads sizes pes tolerance (Near k) → ⊥
 not_both loads sizes pes tolerance d k (planned, inl none) (kept, (e, also, less)) =
     none k.refinement.order k.refinement.present kept.order.naming kept.order.in_order

@@ -1,4 +1,4 @@
--- What follows of a refined decision, whichever of the two it is.
+-- What follows from a refined decision, whichever of the two it is.
 use Rattle.std.proofs.Common.{◌≡◌, ℕ, ◌<◌, ◌≤◌, List, length, arith, sym, subst, inr}
 use Rattle.lb_certificates.specs.Chain.{IsDivision, peak}
 use Rattle.lb_certificates.specs.Naming.{IsNaming}

@@ -15,8 +15,8 @@ use Rattle.lb_refinement.specs.declared.refined.Kept.{Kept}
 use Rattle.lb_refinement.specs.declared.refined.Refined.{Refined}
 use Rattle.lb_refinement.specs.declared.refined.Refined.TheVariants.{Near, Planned}
 
--- Cuts near the present ones: in the order in which the PEs stand, of all cuts within the tolerance those that move the
--- fewest bytes and of these the nearest; then the least naming of the blocks between them.
+-- Cuts near the present ones: in the present order of the PEs, of all cuts within the tolerance those that move the fewest
+-- bytes and of these the nearest; then the least naming of the blocks between them.
 pub record IsKept {A : Type 0} (loads : List ℕ) (sizes : List (ℕ × ℕ)) (pes tolerance : ℕ) (k : Kept A) : Type 0 where
   pub order : IsPresentOrder sizes pes k.refinement.order k.refinement.present
   pub chosen : IsChosen loads pes k.refinement.least
@@ -38,21 +38,21 @@ pub record HasNames {A : Type 0} (sizes : List (ℕ × ℕ)) (k : Kept A) : Type
   pub moved_is : k.moved ≡ bytes_moved sizes k.refinement.cuts k.naming
   pub moves_are : k.moves ≡ moves_below sizes k.refinement.cuts k.naming (length sizes)
 
--- the decision of a plan, which the loads, the sizes and the number of PEs determine but for its prices
+-- the decision of a plan, which the loads, the sizes and the number of PEs determine, except for its prices
 pub record IsPlanned {A : Type 0} (loads : List ℕ) (sizes : List (ℕ × ℕ)) (pes : ℕ) (d : Decision A) : Type 0 where
   pub right : IsRight loads sizes pes d
   pub chosen : IsChosen loads pes d.division
   pub least_naming : IsLeastNaming sizes d.division.cuts pes d.naming
 
--- The refined decision: where the PEs stand in an order and the cuts near the present ones move fewer bytes than the plan,
--- these, and otherwise the plan.
+-- The refined decision: the cuts near the present ones, where the elements of each PE are consecutive and these cuts move fewer
+-- bytes than the plan, and otherwise the plan.
 abbrev pub IsRefined : {A : Type 0} → List ℕ → List (ℕ × ℕ) → ℕ → ℕ → Refined A → Type 0
 IsRefined {A} loads sizes pes tolerance (Planned d) =
     IsPlanned loads sizes pes d × (HasNoOrder sizes pes ⊎ ((k : Kept A) × IsKept loads sizes pes tolerance k × (d.moved ≤ k.moved)))
 IsRefined {A} loads sizes pes tolerance (Near k) =
     IsKept loads sizes pes tolerance k × ((d : Decision A) × IsPlanned loads sizes pes d × (k.moved < d.moved))
 
--- the plan where the kept cuts do not move fewer bytes, and else these
+-- the plan where the kept cuts do not move fewer bytes, and otherwise the kept cuts
 abbrev pub IsCheaper : {A : Type 0} → Decision A → Kept A → Refined A → Type 0
 IsCheaper planned kept (Planned d) = (d ≡ planned) × (planned.moved ≤ kept.moved)
 IsCheaper planned kept (Near k) = (k ≡ kept) × (kept.moved < planned.moved)
@@ -87,7 +87,7 @@ refined_least (Near k) = k.refinement.least
 abbrev pub least_load : {A : Type 0} → Refined A → ℕ
 least_load r = (refined_least r).bottleneck
 
--- the prices, which lie in the range of those of a plan
+-- the prices, which are in the range of those of a plan
 abbrev pub refined_prices : {A : Type 0} → Refined A → Prices A
 refined_prices (Planned d) = d.prices
 refined_prices (Near k) = k.prices
@@ -95,7 +95,7 @@ refined_prices (Near k) = k.prices
 abbrev pub ArePricesSmall : {A : Type 0} → List (ℕ × ℕ) → Refined A → Type 0
 ArePricesSmall sizes r = ArePricesBounded sizes (refined_cuts r) (refined_prices r).u (refined_prices r).v
 
--- what two refined decisions have in common that are all that is said of one
+-- what two refined decisions have in common: all but heights and prices
 pub record AreSame {A : Type 0} (one other : Refined A) : Type 0 where
   pub cuts : refined_cuts one ≡ refined_cuts other
   pub names : refined_names one ≡ refined_names other

@@ -6,7 +6,7 @@ ghost use Rattle.lb_refinement.specs.Refined.{AreSame, IsRefined};
 
 use std::alloc::Allocator;
 
-/// The loads, the sizes, the number of PEs and the tolerance determine the refined decision, but for heights and prices.
+/// The loads, the sizes, the number of PEs and the tolerance determine the refined decision, except for heights and prices.
 pub fn one_refined<A: Allocator>()
     ensures one_refined { (loads : List ℕ) (sizes : List (ℕ × ℕ)) (pes tolerance : ℕ) (one other : Refined A)
         → IsRefined loads sizes pes tolerance one → IsRefined loads sizes pes tolerance other → AreSame one other }

@@ -1,7 +1,8 @@
-//! Decisions within a tolerance: as balanced as is asked for, with as few bytes moved as the order of the PEs allows.
+//! Decisions within a tolerance: as balanced as the tolerance asks, with as few bytes moved as the order of the PEs allows.
 //!
-//! - [`refine`]: decides, as [`plan`](lb_strategy::plan) does, or out of memory; [`refine_with`] does so with several threads.
-//! - [`Refined`]: what it decides: cuts near the present ones, with their proofs ([`Kept`]), or the plan.
+//! - [`refine`]: decides, as [`plan`](lb_strategy::plan) does, or returns that memory was refused; [`refine_with`] does so with
+//!   several threads.
+//! - [`Refined`]: what they decide: cuts near the present ones, with their proofs ([`Kept`]), or the plan.
 //! - [`block_around`]: the block that contains an element.
 //! - [`laws`]: what the definitions imply.
 //!

@@ -13,11 +13,11 @@ use std::alloc::{Allocator, Global};
 #[derive(Drop)]
 #[derive_where(Debug)]
 pub struct Kept<A: Allocator = Global> {
-    /// The cuts, and the proof that in the order in which the PEs stand none within the tolerance move fewer bytes.
+    /// The cuts, and the proof that in the present order of the PEs no cuts within the tolerance move fewer bytes.
     pub refinement: Refinement<A>,
     /// The greatest load of a block between these cuts.
     pub bottleneck: u64,
-    /// On which PE each block runs.
+    /// The PE on which each block runs.
     pub naming: Naming<A>,
     /// The proof that no naming of these blocks moves fewer bytes.
     pub prices: Prices<A>,
@@ -31,7 +31,7 @@ pub struct Kept<A: Allocator = Global> {
 #[derive(Drop)]
 #[derive_where(Debug)]
 pub enum Refined<A: Allocator = Global> {
-    /// The decision of [`plan`](lb_strategy::plan): the elements of some PE do not stand together, or nothing within the
+    /// The decision of [`plan`](lb_strategy::plan): the elements of some PE are not consecutive, or nothing within the
     /// tolerance that keeps the order of the PEs moves fewer bytes.
     Planned(Decision<A>),
     /// Cuts near the present ones.
@@ -109,8 +109,8 @@ impl<A: Allocator> Refined<A> {
         }
     }
 
-    /// The PE on which an element is to run, in time that grows with the logarithm of the number of blocks. It may be asked of
-    /// each element of a snapshot that was decided on.
+    /// The PE on which an element is to run, in time that grows with the logarithm of the number of blocks. It may be called
+    /// for each element of the snapshot of the decision.
     pub fn place_of(&self, index: Index) -> Pe
         requires placed { HasPlace (refined_cuts self.now) (refined_names self.now) index }
         ensures value { result ≡ planned_pe (refined_cuts self.now) (refined_names self.now) index }

@@ -23,19 +23,19 @@ use refinement_search::refine_in_order;
 use std::alloc::{AllocError, Allocator};
 use std::thread::Threads;
 
-/// Decides where each element of this snapshot runs next, on `pes` PEs, 1 to 256, so that the greatest load of a PE lies
-/// within a tolerance above the least possible one.
+/// Decides where each element of this snapshot runs next, on `pes` PEs, 1 to 256, so that the greatest load of a PE is within a
+/// tolerance above the least possible one.
 ///
-/// Where the elements of each PE stand together, all below `pes`, the PEs keep the order in which they stand, and those
-/// without elements come behind, in ascending order. Of all cuts within the tolerance it takes those that move the fewest
-/// bytes, and of these the nearest to the present ones, chosen from the end of the chain; then the cheapest names for these
-/// blocks, as [`plan`] does. Where the decision of [`plan`] moves no more bytes, and where the elements of some PE do not
-/// stand together, it is that decision. So snapshot, `pes` and tolerance determine all but heights and prices, and where the
-/// present places keep to the tolerance nothing moves. Prices lie in the range of those of [`plan`].
+/// Where the elements of each PE are consecutive and these PEs are all below `pes`, the PEs keep their present order, and those
+/// without elements follow, in ascending order. Of all cuts within the tolerance it takes those that move the fewest bytes, and
+/// of these the nearest to the present ones, chosen from the end of the chain; then the cheapest names for these blocks, as
+/// [`plan`] does. Where the decision of [`plan`] moves no more bytes, or the elements of some PE are not consecutive, the
+/// result is the decision of [`plan`]. So snapshot, `pes` and tolerance determine all but heights and prices. Where the present
+/// places are within the tolerance nothing moves. Prices are in the range of those of [`plan`].
 ///
 /// # Errors
 ///
-/// Out of memory, where a list was refused.
+/// Memory for a list was refused.
 pub fn refine<A: Allocator + Copy, B: Allocator>(
     alloc: A,
     snapshot: &Snapshot<B>,
@@ -65,7 +65,7 @@ pub fn refine<A: Allocator + Copy, B: Allocator>(
 ///
 /// # Errors
 ///
-/// Out of memory, where a list was refused.
+/// Memory for a list was refused.
 pub fn refine_with<R: Threads + Sync, G: Gate + Sync, A: Allocator + Copy, B: Allocator>(
     rt: &R,
     alloc: A,
@@ -133,7 +133,7 @@ fn planned_with<R: Threads + Sync, G: Gate + Sync, A: Allocator + Copy, B: Alloc
     }
 }
 
-// The cuts nearest the present ones, where there is a present order and they move fewer bytes than the plan.
+// The cuts nearest to the present ones, where there is a present order and they move fewer bytes than the plan.
 fn nearer<A: Allocator + Copy, B: Allocator>(
     alloc: A,
     snapshot: &Snapshot<B>,
@@ -171,7 +171,7 @@ fn least_of<A: Allocator + Copy>(planned: &Decision<A>) -> Result<Division<A>, A
     planned.division.clone()
 }
 
-// Which of the two moves fewer bytes; the plan, where neither does.
+// The one that moves fewer bytes; the plan, where neither does.
 fn cheaper<A: Allocator>(planned: Decision<A>, kept: Kept<A>) -> Refined<A>
     ensures { IsCheaper planned kept result }
 {
@@ -181,7 +181,7 @@ fn cheaper<A: Allocator>(planned: Decision<A>, kept: Kept<A>) -> Refined<A>
     Refined::Near(kept)
 }
 
-// The cuts nearest the present ones, with their names.
+// The cuts nearest to the present ones, with their names.
 fn keep<A: Allocator + Copy, B: Allocator>(
     alloc: A,
     snapshot: &Snapshot<B>,

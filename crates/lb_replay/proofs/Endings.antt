@@ -1,4 +1,4 @@
--- How a replay or a check ends that reports a fault.
+-- How a replay or a check that reports a fault ends.
 use Rattle.std.proofs.Common.{◌≡◌, ℕ, ◌⊎◌, inl, inr, List, refl, subst, Option, None, Some}
 use Rattle.std.specs.Io.KnownBytes.{Appends}
 use Rattle.dump_format.specs.declared.error.DumpError.{DumpError}

@@ -1,4 +1,4 @@
--- What a check finds is one function of the bytes.
+-- What a check finds is a function of the bytes.
 use Rattle.std.proofs.Common.{◌≡◌, ℕ, ◌⊎◌, inl, inr, List, Option, None, Some, refl, sym, ap, ◌∙◌, subst}
 use Rattle.std.specs.Prelude.{IfSome}
 use Rattle.dump_format.specs.Dumps.{Dumped}
@@ -17,7 +17,7 @@ use Rattle.lb_replay.proofs.OneFlaws.{one_flaw, right_flawless}
 abbrev held : {A : Type 0} → Taken → Option (Recorded A) → Dumped A
 held s recorded = record { snapshot = s; recorded = recorded }
 
--- what is said of a decision is one thing
+-- there is one judgement of a decision
 judged_right : {A : Type 0} (s : Taken) (r : Recorded A) (other : Ended) → IsJudged (held s (Some r)) Printed → IsJudged (held s (Some r)) other → Printed ≡ other
 judged_right s r Printed right that = refl
 judged_right s r (Flawed flaw) right that = absurd (right_flawless s.loads s.sizes r.target r.decision flaw right that)
@@ -43,7 +43,7 @@ judged_once s (Some r) (Flawed flaw) other this that = judged_flawed s r flaw ot
 judged_once s (Some r) NoDecision other this that = absurd cc
 judged_once s (Some r) _ other this that = absurd this
 
--- an end is a fault of the bytes, or what is said of the dump that they are a text of
+-- an end is a fault of the bytes, or the judgement of the dump that they are a text of
 kinds : (A : Type 0) (bytes : List ℕ) (ended : Ended) → IsEnd A bytes ended → ((e : DumpError) × (ended ≡ Dump e) × IsFault bytes e) ⊎ ((d : Dumped A) × IsText d bytes × IsJudged d ended)
 kinds A bytes (Dump e) is = inl (e, refl, is)
 kinds A bytes _ is = inr is
@@ -63,7 +63,7 @@ one_end A bytes one other this that =
       ]
     ]
 
--- where the bytes are known, a check ends as they say, unless memory, the reader or the writer fails
+-- where the bytes are known, a check ends as they determine, unless memory, the reader or the writer fails
 ends_so : (A : Type 0) (bytes : List ℕ) (rest old new : Option (List ℕ)) (result ended : Ended) → EndsCheck A (Some bytes) rest old new result → IsEnd A bytes ended → (result ≡ ended) ⊎ IsFailure result
 ends_so A bytes rest old new WriteFailed ended ends is = inr (inr (inr refl))
 ends_so A bytes rest old new (Dump e) ended ends is =

@@ -1,4 +1,4 @@
--- A decision has no more than one first flaw, and one that is right has none.
+-- A decision has at most one first flaw, and a right one has none.
 use Rattle.std.proofs.Common.{◌≡◌, ℕ, inl, inr, List, Err, refl, sym, ap, ◌∙◌}
 use Rattle.std.specs.Prelude.{◌==◌, if◌then◌else◌}
 use Rattle.std.proofs.lemmas.Bool.{cases_order}

@@ -1,4 +1,4 @@
--- What is printed is one function of the bytes read, the number of PEs and the tolerance.
+-- What is printed is a function of the bytes read, the number of PEs and the tolerance.
 use Rattle.std.proofs.Common.{◌≡◌, ℕ, List, ◌++◌, length, Option, None, Some, ap, sym, ◌∙◌, subst}
 use Rattle.chain_partition.proofs.ChosenOnce.{only_from_chosen}
 use Rattle.chain_refinement.specs.Tolerances.{limit_of}
@@ -15,7 +15,7 @@ use Rattle.lb_replay.specs.Simulation.{blocks_of, IsDecided, IsPlanned, IsReplay
 use Rattle.lb_replay.specs.Text.{head_line, bottleneck_line, floor_line, limit_line, block_lines, moved_line, decision_text, refined_text}
 use Rattle.lb_replay.proofs.RefinedTexts.{chosen_from_refined}
 
--- decisions that have in common what is printed have one text
+-- decisions that agree in what is printed have one text
 same_text : {A : Type 0} (s : Taken) (pes : ℕ) (d e : Decision A) → IsSame d e → decision_text s pes d ≡ decision_text s pes e
 same_text s pes d e same =
     ap (λ n. head_line s.step pes (length s.loads) ++ bottleneck_line n ++ floor_line d.division.floor ++ block_lines s.loads d.division.cuts d.naming pes ++ moved_line d.moved) same.bottleneck
@@ -35,7 +35,7 @@ module _ {A : Type 0} (s : Taken) (pes tolerance : ℕ) where
   printed least cuts names moved =
       head_line s.step pes (length s.loads) ++ bottleneck_line least.bottleneck ++ floor_line least.floor ++ limit_line (limit_of least.bottleneck tolerance) ++ block_lines s.loads cuts names pes ++ moved_line moved
 
-  -- decisions that have these in common have one text
+  -- decisions that agree in this have one text
   same_refined : (d e : Refined A) → refined_least d ≡ refined_least e → AreSame d e → refined_text s pes tolerance d ≡ refined_text s pes tolerance e
   same_refined d e least same =
       ap (λ division. printed division (refined_cuts d) (refined_names d) (refined_moved d)) least

@@ -1,11 +1,11 @@
--- What a fault leads to inside a replay or a check. The clauses of `simulate` and `verify` do not use these words.
+-- What a fault leads to inside a replay or a check. The clauses of `simulate` and `verify` do not use these definitions.
 use Rattle.dump_format.specs.declared.error.DumpError.{DumpError}
 use Rattle.lb_strategy.specs.declared.error.PlanError.{PlanError}
 use Rattle.lb_replay.specs.declared.ended.Ended.{Ended}
 use Rattle.lb_replay.specs.declared.fault.Fault.{Fault}
 use Rattle.lb_replay.specs.declared.fault.Fault.TheVariants.{Dump, Plan, Flawed, NoDecision}
 
--- the fault that is reported where no memory is left for the line of another
+-- the fault that is reported where memory for the line of another is refused
 abbrev pub without_memory : Fault → Fault
 without_memory (Dump e) = Dump DumpError.OutOfMemory
 without_memory (Plan e) = Plan PlanError.OutOfMemory

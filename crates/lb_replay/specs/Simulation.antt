@@ -1,4 +1,4 @@
--- How a replay of a dump ends, and what its writer holds then.
+-- How a replay of a dump ends, and what its writer has then.
 use Rattle.std.specs.Prelude.{◌≡◌, ℕ, ◌⊎◌, List, Option, Some, None, IfSome, unwrap_or}
 use Rattle.std.specs.Io.KnownBytes.{Appends, Consumes, IsAtEnd}
 use Rattle.lb_snapshot.specs.Measured.{Taken}
@@ -21,7 +21,7 @@ use Rattle.lb_replay.specs.declared.ended.Ended.TheVariants.{Printed, WriteFaile
 use Rattle.lb_replay.specs.declared.fault.Fault.{Fault}
 use Rattle.lb_replay.specs.declared.fault.Fault.TheVariants.{Dump, Plan, Flawed, NoDecision}
 
--- the number of blocks: the one asked for, or else that of the dump
+-- the number of blocks: the one asked for, or otherwise that of the dump
 abbrev pub blocks_of : Option ℕ → Taken → ℕ
 blocks_of procs s = unwrap_or procs s.procs
 
@@ -44,8 +44,8 @@ abbrev pub IsDecided : (A : Type 0) → Taken → ℕ → Option ℕ → List �
 IsDecided A s blocks None text = IsPlanned A s blocks text
 IsDecided A s blocks (Some tolerance) text = IsWithin A s blocks tolerance text
 
--- This is such a text for the snapshot of the dump that the bytes are a text of. A decision that it has does not matter.
--- Where the reader does not report its bytes, the dump is any.
+-- This is such a text for the snapshot of the dump that the bytes are a text of. A decision in the dump does not matter. Where
+-- the reader does not report its bytes, it is so for some dump.
 pub record IsReplay (A : Type 0) (bytes : Option (List ℕ)) (procs tolerance : Option ℕ) (text : List ℕ) : Type 0 where
   pub dump : Dumped A
   pub read : IfSome bytes (IsText dump)
@@ -77,8 +77,8 @@ ReportsFault old new fault (Ended.Flawed flaw) = (fault ≡ Flawed flaw) × Appe
 ReportsFault old new fault Ended.NoDecision = (fault ≡ NoDecision) × Appends old new (fault_line fault)
 ReportsFault old new fault WriteFailed = WritesPrefix old new (fault_line fault)
 
--- What the writer holds after each end: the whole text, the line of the fault, or a prefix of one of these. The
--- reader had these bytes, and has the rest.
+-- What the writer has after each end: the whole text, the line of the fault, or a prefix of one of these. The reader had
+-- `bytes` before, and has `rest` after.
 abbrev pub EndsReplay : (A : Type 0) → Option (List ℕ) → Option (List ℕ) → Option ℕ → Option ℕ → Option (List ℕ) → Option (List ℕ) → Ended → Type 0
 EndsReplay A bytes rest procs tolerance old new Printed = (text : List ℕ) × IsReplay A bytes procs tolerance text × Appends old new text
 EndsReplay A bytes rest procs tolerance old new (Ended.Dump e) =

@@ -1,4 +1,4 @@
--- The status that a program exits with for the end of its replay or its check.
+-- The exit status of a program for the end of its replay or its check.
 use Rattle.std.specs.Prelude.{ℕ}
 use Rattle.dump_format.specs.declared.error.DumpError.{DumpError}
 use Rattle.lb_strategy.specs.declared.error.PlanError.{PlanError}

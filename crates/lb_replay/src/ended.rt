@@ -12,21 +12,21 @@ use lb_strategy::PlanError;
 pub enum Ended {
     /// The text of the decision was written whole, or the line that the recorded decision is right.
     Printed,
-    /// The line of this fault was written: the dump's first fault, or that its reader failed, or out of memory.
+    /// The line of this fault was written: the dump's first fault, a failure of its reader, or out of memory.
     Dump(DumpError),
-    /// The line of this fault was written: the dump was read, and then it was out of memory.
+    /// The line of this fault was written: the dump was read, and then memory was refused.
     Plan(PlanError),
     /// The line of this flaw was written: the first of the recorded decision.
     Flawed(Flaw),
     /// The line was written that the dump has no decision.
     NoDecision,
-    /// The writer failed, or took nothing. A prefix of what was to be written has been written.
+    /// The writer failed, or took no byte. A prefix of what was to be written has been written.
     WriteFailed,
 }
 
 impl Ended {
-    /// The status that a program exits with: 0 where the text was printed or the decision is right, 3 for a fault of
-    /// the dump, 4 for a flaw of its decision or where it has none, and 5 where memory or the output failed.
+    /// The status that a program exits with: 0 where the text was printed or the decision is right, 3 for a fault of the dump,
+    /// 4 for a flaw of its decision or where it has none, and 5 where memory was refused or the output failed.
     pub fn status(self) -> u8
         ensures value { result ≡ status_of self }
     {

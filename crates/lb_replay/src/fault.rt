@@ -22,7 +22,7 @@ pub(crate) enum Fault {
 }
 
 impl Fault {
-    /// The fault that is reported in place of this one where no memory is left for its line.
+    /// The fault that is reported in place of this one where memory for its line is refused.
     pub(crate) fn without_memory(self) -> Fault
         ensures value { result ≡ without_memory self }
     {
@@ -79,8 +79,8 @@ fn dump_line<A: Allocator>(alloc: A, fault: DumpError) -> Result<String<A>, Allo
     }
 }
 
-/// What is to be done about a fault in the bytes of a dump. A read that failed and memory that ran out are no such faults: about
-/// them each program says what to do.
+/// What to do about a fault in the bytes of a dump. A read that failed and memory that ran out are no such faults: for them
+/// each program has advice of its own.
 pub fn dump_advice(fault: DumpError) -> &'static str
     ensures value { result.now ≡ dump_advice fault }
 {

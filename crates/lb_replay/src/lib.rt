@@ -1,10 +1,10 @@
-//! Replays a dump of the load database offline: from the bytes of a reader, the text of the least division of its
-//! elements into consecutive blocks, with the fence that proves it, the PE of each block and the bytes that move; or of the
-//! decision within a tolerance of that.
+//! Replays a dump of the load database offline: from the bytes of a reader, the text of the least division of its elements into
+//! consecutive blocks, with the fence that proves it, the PE of each block and the bytes that move; or of the decision within a
+//! tolerance of that division.
 //!
 //! - [`simulate`]: the replay, from the bytes of a reader to the bytes of a writer; [`replay_file`]: that of a file.
 //! - [`verify`]: the check of the decision that was recorded in a dump; [`verify_file`]: that of a file.
-//! - [`Ended`]: how a replay or a check ended, and the status for it; [`dump_advice`]: what is to be done about a fault of a dump.
+//! - [`Ended`]: how a replay or a check ended, and the status for it; [`dump_advice`]: what to do about a fault of a dump.
 //! - [`run`]: what a program does, by the [`Task`] that it was [`Asked`] for, if that has no [`Clash`].
 //!
 //! ```

@@ -11,15 +11,15 @@ use chare_index::Limits;
 use std::alloc::Allocator;
 use std::io::{self, Read, Write};
 
-/// What a run is asked for.
+/// What a run is asked to do.
 #[derive(Clone, Copy, Debug, PartialEq, Eq)]
 pub struct Asked<'a> {
     /// The file with the dump.
     pub file: &'a str,
-    /// The number of blocks, 1 to 256 (`Limits::PES`), where one is asked for.
+    /// The number of blocks, 1 to 256 (`Limits::PES`), if one is given.
     pub procs: Option<u32>,
-    /// How far the greatest load may lie above the least possible one, in thousandths of it, 0 to 1,000 (`Tolerance::MOST`),
-    /// where that is said.
+    /// How far the greatest load may be above the least possible one, in thousandths of that, 0 to 1,000 (`Tolerance::MOST`),
+    /// if it is given.
     pub tolerance: Option<u32>,
     /// Whether the recorded decision is to be checked.
     pub check: bool,
@@ -28,7 +28,7 @@ pub struct Asked<'a> {
 /// What is to be done with a dump.
 #[derive(Clone, Copy, Debug, PartialEq, Eq)]
 pub enum Task {
-    /// It is replayed, for this number of PEs, 1 to 256 (`Limits::PES`), or as many as it has.
+    /// It is replayed, for this number of PEs, 1 to 256 (`Limits::PES`), or for that of the dump.
     Replay(Option<u32>),
     /// The same, within this tolerance, in thousandths, 0 to 1,000 (`Tolerance::MOST`).
     Refine(Option<u32>, u32),
@@ -36,10 +36,10 @@ pub enum Task {
     Check,
 }
 
-/// Two options that do not go together.
+/// Two options that cannot be combined.
 #[derive(Clone, Copy, Debug, PartialEq, Eq)]
 pub enum Clash {
-    /// A number of PEs, and a check, which is for the decision's own.
+    /// A number of PEs, and a check, which is for the decision's own number.
     ProcsAndCheck,
     /// A tolerance, and a check, which decides nothing.
     ToleranceAndCheck,
@@ -66,8 +66,8 @@ impl Asked<'_> {
     }
 }
 
-/// Replays the dump in a file, within a tolerance or not, or checks its decision, as [`replay_file`] and [`verify_file`] do, and
-/// returns the end, with the system's reason where a read failed.
+/// Replays the dump in a file, within a tolerance or not, or checks its decision, as [`replay_file`] and [`verify_file`] do,
+/// and returns the end, with the system's reason where a read failed.
 pub fn run<A: Allocator + Copy, R: Read + Drop, W: Write>(
     alloc: A,
     task: Task,

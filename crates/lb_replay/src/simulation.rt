@@ -20,14 +20,14 @@ use std::alloc::Allocator;
 use std::io::{self, Read, Write};
 use streams::{Noted, write_out};
 
-/// Replays a dump offline: reads it, decides its balancing step for `procs` PEs (1 to 256), or as many as the
-/// dump has, and writes the text of the decision, or the one line of a fault, and nothing else. It is the least decision, that
-/// of [`plan`], or, where there is a tolerance, the one within it, that of [`refine`]. A decision that the dump has is read, and
+/// Replays a dump offline: reads it, decides its balancing step for `procs` PEs (1 to 256), or for the number of PEs of the
+/// dump, and writes the text of the decision, or the one line of a fault, and nothing else. The decision is the least one, that
+/// of [`plan`], or, where there is a tolerance, the one within it, that of [`refine`]. A decision in the dump is read, and
 /// ignored.
 ///
-/// Out of memory is a fault of the dump while that is read, and then one of the plan. The line is the same.
+/// Out of memory is a fault of the dump while that is read, and a fault of the plan after that. The line is the same.
 ///
-/// What is printed is one function of the bytes read, the number of PEs and the tolerance: the clause `one_text`.
+/// What is printed is a function of the bytes read, the number of PEs and the tolerance: the clause `one_text`.
 pub fn simulate<A: Allocator + Copy, R: Read, W: Write>(
     alloc: A,
     reader: &mut R,
@@ -76,7 +76,7 @@ pub fn replay_file<A: Allocator + Copy, R: Read + Drop, W: Write>(
     }
 }
 
-// The whole text of the decision, or the fault for which there is none.
+// The whole text of the decision, or the fault because of which there is none.
 fn replay<A: Allocator + Copy, R: Read>(
     alloc: A,
     reader: &mut R,

@@ -1,4 +1,4 @@
-//! The printed text of a decision, of the plan or within a tolerance. All of it is made before any of it is written.
+//! The printed text of a decision, of the plan or within a tolerance. The whole text is made before any of it is written.
 
 ghost use Rattle.std.specs.Prelude.{◌≡◌, ◌++◌, [], OnOk, IfOk, IfErr, length};
 ghost use Rattle.std.specs.List.{flat_map};

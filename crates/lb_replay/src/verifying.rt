@@ -23,8 +23,7 @@ const RIGHT: &str = "check: ok\n";
 ///
 /// Out of memory, also for the line itself, is a fault of the dump. The line `check: ok` takes no memory.
 ///
-/// The end is one function of the bytes, unless memory, the reader or the writer fails: the clauses `exact` and
-/// `one_end`.
+/// The end is a function of the bytes, unless memory, the reader or the writer fails: the clauses `exact` and `one_end`.
 pub fn verify<A: Allocator + Copy, R: Read, W: Write>(
     alloc: A,
     reader: &mut R,

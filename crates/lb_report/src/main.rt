@@ -1,12 +1,12 @@
-//! `lb_report [--procs P[,P..]] [--tolerance T] [--csv] [--moves] FILE..` reports on dumps of load databases: how balanced the loads
-//! are at present, and after the least division into consecutive blocks, and what moves; and with `--tolerance` the same of the
-//! decision within a tolerance of that.
+//! `lb_report [--procs P[,P..]] [--tolerance T] [--csv] [--moves] FILE..` reports on dumps of load databases: how balanced the
+//! loads are at present and after the least division into consecutive blocks, and what moves; and with `--tolerance` the same
+//! for the decision within a tolerance of that.
 //!
-//! - `program_words::on_words`: the words of the command line, and the status. `report_command_line::asked`: what the words ask for,
-//!   and `numbers` the numbers of PEs in them; `refuse_numbers`: what is printed where there are none; `program_words::refused`: the
-//!   status where the words ask for no report.
+//! - `program_words::on_words`: the arguments of the command line, and the status. `report_command_line::asked`: what the
+//!   arguments ask for, and `numbers` the numbers of PEs in them; `refuse_numbers`: what is printed where there are none;
+//!   `program_words::refused`: the status where the arguments ask for no report.
 //! - `dump_report::report_file`: the report on one dump, and how it ended; `Ended::status` is the status for it, and
-//!   `dump_report::tell` says what was wrong.
+//!   `dump_report::tell` writes what was wrong.
 #![tactic(auto)]
 
 ghost use Rattle.std.specs.Prelude.{All};
@@ -59,8 +59,8 @@ fn headed(rt: &HostRuntime, asked: &Asked<'_>, procs: &[u32]) -> u8
     all(rt, asked, procs, style)
 }
 
-// Prints the report on each file, and returns the status of the first that has a fault, or 0. Nothing is done after the
-// output has failed.
+// Prints the report on each file, and returns the status of the first that has a fault, or 0. After the output has failed
+// nothing more is done.
 fn all(rt: &HostRuntime, asked: &Asked<'_>, procs: &[u32], style: Style) -> u8
     requires { All IsNumber procs.now }
 {
@@ -77,7 +77,7 @@ fn all(rt: &HostRuntime, asked: &Asked<'_>, procs: &[u32], style: Style) -> u8
     status
 }
 
-// Prints the report on a file, or its fault to the standard error.
+// Prints the report on a file to the standard output, or its fault to the standard error.
 fn one(rt: &HostRuntime, name: &str, procs: &[u32], thousandths: Option<u32>, style: Style) -> Ended
     requires { All IsNumber procs.now }
 {

@@ -3,10 +3,10 @@
 //! move. With `--tolerance` the blocks may weigh up to a limit above the least load, and fewer bytes move. With `--check` it
 //! prints instead whether the decision in the dump is right.
 //!
-//! - `program_words::on_words`: the words of the command line, and the status. `sim_command_line::asked`: what the words ask for;
-//!   `program_words::refused`: the status where they ask for nothing to be done.
-//! - `lb_replay::Asked::task`: which task that is, if the options go together; `sim_command_line::refuse_both`: what is printed if
-//!   they do not.
+//! - `program_words::on_words`: the arguments of the command line, and the status. `sim_command_line::asked`: what the
+//!   arguments ask for; `program_words::refused`: the status where they ask for nothing to be done.
+//! - `lb_replay::Asked::task`: which task that is, if the options can be combined; `sim_command_line::refuse_both`: what is
+//!   printed if they cannot.
 //! - `lb_replay::run`: the task, and its end with the status for that; `lb_replay::dump_advice`: what to do about a fault of the
 //!   dump; `file_faults::Advice`: what is printed about a file with a fault.
 #![tactic(auto)]
@@ -39,7 +39,7 @@ fn main(rt: HostRuntime) -> ExitCode {
     })
 }
 
-// Does what is asked for, and returns the status. No file is opened where that is not a task.
+// Does what is asked for, and returns the status. Where that is not a task no file is opened.
 fn done(rt: &HostRuntime, asked: Asked<'_>) -> u8
     requires some_pe { ForSome asked.procs (λ p. 1 ≤ p) }
     requires few_pes { ForSome asked.procs (λ p. p ≤ Limits.PES) }
@@ -51,8 +51,8 @@ fn done(rt: &HostRuntime, asked: Asked<'_>) -> u8
     }
 }
 
-// Opens the file, does the task to the standard output, and returns the status. Where a read failed or the file has no
-// whole dump, the standard error has the file's name, the system's reason, and what to do.
+// Opens the file, does the task to the standard output, and returns the status. Where a read failed or the file has no whole
+// dump, the file's name, the system's reason, and what to do are printed to the standard error.
 fn ran(rt: &HostRuntime, name: &str, task: Task) -> u8
     requires { MayRun task }
 {
@@ -70,7 +70,7 @@ fn ran(rt: &HostRuntime, name: &str, task: Task) -> u8
     status
 }
 
-// What to do about a file whose replay or check ended so.
+// What to do about a file, by how its replay or check ended.
 fn advice_on(ended: Ended) -> Advice<'static> {
     match ended {
         Ended::Dump(fault) => Advice {

@@ -9,7 +9,7 @@ pub sum_small : (loads : List ℕ) → IsLoads loads → sum loads ≤ ELEMENTS 
 sum_small loads h =
     omega (arith, sum_by-le (λ x. x) LOAD loads h.small, mul-le-mul_right LOAD h.few)
 
--- one more load fits
+-- the sum with one more load is below 2^64
 pub next_fits : (loads : List ℕ) (i d : ℕ) → IsLoads loads → i < length loads → sum (take i loads) + get_or loads i d < 2 ^ 64
 next_fits loads i d h inside =
     omega (arith, sum_small loads h, sum_by_more_le (λ x. x) loads i d inside)

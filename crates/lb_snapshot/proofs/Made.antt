@@ -1,4 +1,4 @@
--- A value of a type that keeps limits is there where they are kept.
+-- A constructor that tests limits returns a value where they are kept.
 use Rattle.std.proofs.Common.{Option, None, Some, refl}
 use Rattle.std.specs.Prelude.{SomeIff, IsSome}
 

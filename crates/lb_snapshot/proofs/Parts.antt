@@ -1,4 +1,4 @@
--- Some elements in a row keep the limits of all.
+-- Consecutive elements keep the limits of all.
 use Rattle.std.proofs.Common.{ℕ, ◌≤◌, List, take, drop, arith}
 use Rattle.std.proofs.lemmas.List.{length-drop, length-take}
 use Rattle.std.proofs.lemmas.List.Elements.{All-drop, All-take}

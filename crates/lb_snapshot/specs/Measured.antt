@@ -11,7 +11,7 @@ pub record IsLoads (loads : List ℕ) : Type 0 where
 abbrev pub load : List ℕ → ℕ → ℕ → ℕ
 load loads a b = sum (slice_range loads a b)
 
--- a packed size in bytes, and the PE on which the element stands, for each element
+-- for each element its packed size in bytes and the PE that it is on
 pub record IsSizes (sizes : List (ℕ × ℕ)) : Type 0 where
   pub few : length sizes ≤ ELEMENTS
   pub small : All (λ size. size.0 ≤ STATE_BYTES) sizes
@@ -23,7 +23,7 @@ pub record Taken : Type 0 where
   pub loads : List ℕ
   pub sizes : List (ℕ × ℕ)
 
--- there is a load for each size, and each element stands on one of the procs PEs
+-- there is a load for each size, and each element is on one of the procs PEs
 pub record IsTaken (procs : ℕ) (loads : List ℕ) (sizes : List (ℕ × ℕ)) : Type 0 where
   pub some_pe : 0 < procs
   pub few_pes : procs ≤ PES

@@ -1,10 +1,10 @@
-//! What a load balancer is given: the measured load, size and place of every element of a chare array.
+//! What a load balancer decides on: the measured load, size and place of every element of a chare array.
 //!
 //! - [`Loads`]: the work units of each element in one round.
-//! - [`Sizes`]: its packed size in bytes and the PE on which it stands.
-//! - [`Snapshot`]: both, taken at one step of a run on so many PEs.
+//! - [`Sizes`]: its packed size in bytes and the PE that it is on.
+//! - [`Snapshot`]: both, taken at one step of a run on a number of PEs.
 //!
-//! Each keeps its limits, so whoever holds a snapshot need not test them again:
+//! Each keeps its limits, so code that has a snapshot need not test them again:
 //!
 //! ```
 //! use chare_index::Pe;

@@ -47,7 +47,7 @@ impl<A: Allocator> Loads<A> {
         self.units.as_slice()
     }
 
-    /// How many elements there are.
+    /// The number of elements.
     pub fn len(&self) -> usize
         ensures value { result ≡ length self.now }
         ensures few { result ≤ Limits.ELEMENTS }
@@ -93,8 +93,8 @@ fn total(units: &[Units]) -> u64
     total
 }
 
-// Whether each load is within the limit. All bits of the limit are set, so no load is above it exactly where the bitwise
-// or of all loads is not. The loop has no branch, and is compiled for several loads at a time.
+// Whether each load is within the limit. All bits of the limit are set, so no load is above it exactly where the bitwise "or"
+// of all loads is not. The loop has no branch, so the compiler can take several loads at a time.
 #[tactic(auto)]
 fn fit(units: &[Units]) -> bool
     ensures { IsTrue result ↔ All (λ load. load ≤ Limits.LOAD) units.now }

@@ -45,7 +45,7 @@ impl<A: Allocator> Sizes<A> {
         self.pairs.as_slice()
     }
 
-    /// How many elements there are.
+    /// The number of elements.
     pub fn len(&self) -> usize
         ensures value { result ≡ length self.now }
         ensures few { result ≤ Limits.ELEMENTS }

@@ -108,7 +108,7 @@ impl<A: Allocator + Copy> Clone for Snapshot<A> {
     }
 }
 
-// Whether each element stands on one of the first `procs` PEs.
+// Whether each element is on one of the first `procs` PEs.
 fn stand_below(procs: u32, sizes: &[(u32, Pe)]) -> bool
     ensures { IsTrue result ↔ All (λ size. size.1 < procs) sizes.now }
 {

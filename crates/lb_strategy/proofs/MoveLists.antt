@@ -24,7 +24,7 @@ moves_rest sizes cuts names i (suc k) =
       ap (moves_below sizes cuts names) next ∙ moves_more sizes cuts names (i + k) ∙ ap (λ l. l ++ last) before.1 ∙ append_assoc (moves_below sizes cuts names i) before.0 last,
     )
 
--- a list that does not go on with the next move is not the list of moves
+-- a list that does not continue with the next move is not the list of moves
 pub not_the_moves : (sizes : List (ℕ × ℕ)) (cuts names : List ℕ) (n i : ℕ) (moves taken step : List (ℕ × ℕ × ℕ)) → i < n → taken ≡ moves_below sizes cuts names i → step ≡ filter is_move (move_of sizes cuts names i ∷ []) → ((rest : List (ℕ × ℕ × ℕ)) → moves ≢ taken ++ step ++ rest) → moves ≢ moves_below sizes cuts names n
 not_the_moves sizes cuts names n i moves taken step inside so_far next other same =
     let behind = moves_rest sizes cuts names (i + 1) (n - (i + 1)) in
@@ -34,7 +34,7 @@ not_the_moves sizes cuts names n i moves taken step inside so_far next other sam
     let both : taken ++ step ≡ moves_below sizes cuts names (i + 1) = ap (λ t. t ++ step) so_far ∙ ap (λ s. moves_below sizes cuts names i ++ s) next ∙ sym here in
     other behind.0 (same ∙ all ∙ ap (λ l. l ++ behind.0) (sym both))
 
--- the whole list was gone through exactly where nothing is left
+-- the whole list was taken exactly where none of its moves is left
 pub all_taken : (moves wanted : List (ℕ × ℕ × ℕ)) (next : ℕ) → take next moves ≡ wanted → next ≤ length moves → MatchBool (eqb next (length moves)) (moves ≡ wanted) (moves ≢ wanted)
 all_taken moves wanted next so_far inside =
     elim (eqb_tells next (length moves)) [

@@ -1,4 +1,4 @@
--- The snapshot and the number of PEs determine the decision, but for its prices.
+-- The snapshot and the number of PEs determine the decision, except for its prices.
 use Rattle.std.proofs.Common.{◌≡◌, ℕ, List, length, ap, sym, ◌∙◌, subst}
 use Rattle.chain_partition.specs.Chosen.{IsChosen}
 use Rattle.chain_partition.proofs.ChosenOnce.{only_from_chosen}
@@ -9,7 +9,7 @@ use Rattle.lb_strategy.specs.declared.decision.Decision.{Decision}
 use Rattle.lb_strategy.specs.Decisions.{IsRight}
 use Rattle.lb_strategy.specs.Moves.{moves_below}
 
--- what two decisions have in common that are all that this project says of a plan
+-- what two plans have in common: all of a decision but its prices
 pub record IsSame {A : Type 0} (d e : Decision A) : Type 0 where
   pub bottleneck : d.division.bottleneck ≡ e.division.bottleneck
   pub cuts : d.division.cuts ≡ e.division.cuts

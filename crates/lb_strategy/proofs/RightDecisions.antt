@@ -28,7 +28,7 @@ cheapest_from_right loads sizes p d right =
 pub named_from_right : {A : Type 0} (loads : List ℕ) (sizes : List (ℕ × ℕ)) (p : ℕ) (d : Decision A) → IsRight loads sizes p d → IsNamedRight sizes d
 named_from_right loads sizes p d right = right.named
 
--- an element of a division stands in one of its blocks
+-- an element of a division is in one of its blocks
 block_inside : (n blocks : ℕ) (cuts : List ℕ) (i : ℕ) → IsDivision 0 n blocks cuts → i < n → block_of cuts i < blocks
 block_inside n blocks cuts i division inside =
     let above : ltb i (slice_index cuts blocks) ≡ true = lt-ltb i (slice_index cuts blocks) (omega (arith, inside, division.ends)) in
@@ -74,7 +74,7 @@ blocks_from_certified loads sizes p d certified counted some few =
       divides = subst (λ n. IsDivision 0 (length sizes) n d.cuts) blocks divides;
     }
 
--- a naming costs by the table of its blocks what it moves
+-- the cost of a naming by the table of its blocks is the number of bytes that it moves
 pub moved_by_table : (sizes : List (ℕ × ℕ)) (cuts names : List ℕ) (t : Table) → AreBlocks sizes cuts → IsTableOf sizes cuts t → IsNaming t.blocks names → naming_cost t.blocks (cost_at t) names ≡ bytes_moved sizes cuts names
 moved_by_table sizes cuts names t blocks table naming =
     let by_block : naming_cost t.blocks (cost_at t) names ≡ naming_cost t.blocks (block_cost sizes cuts) names = total_same t.blocks (λ b. cost_at t b (slice_index names b)) (λ b. block_cost sizes cuts b (slice_index names b)) (λ b inside. table.exact b (slice_index names b) inside (naming.below b inside)) in

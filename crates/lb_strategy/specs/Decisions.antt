@@ -21,7 +21,7 @@ right_moves sizes d = moves_below sizes d.division.cuts d.naming (length sizes)
 abbrev pub IsNamedRight : {A : Type 0} → List (ℕ × ℕ) → Decision A → Type 0
 IsNamedRight sizes d = IsNamed sizes d.division.cuts d.naming d.prices.u d.prices.v
 
--- Every part of the decision is right for these loads and sizes and so many blocks: its division is certified, its
+-- Every part of the decision is right for these loads and sizes and this number of blocks: its division is certified, its
 -- prices prove its naming, and it states the bytes that this naming moves, and the moves.
 pub record IsRight {A : Type 0} (loads : List ℕ) (sizes : List (ℕ × ℕ)) (blocks : ℕ) (d : Decision A) : Type 0 where
   pub division : IsCertified loads blocks d.division
@@ -29,7 +29,7 @@ pub record IsRight {A : Type 0} (loads : List ℕ) (sizes : List (ℕ × ℕ)) (
   pub moved : d.moved ≡ right_moved sizes d
   pub moves : d.moves ≡ right_moves sizes d
 
--- the greatest cost of a block on a PE, of so many blocks and as many PEs
+-- the greatest cost of a block on a PE, for this number of blocks and as many PEs
 pub record IsGreatestCost (blocks : ℕ) (cost : ℕ → ℕ → ℕ) (most : ℕ) : Type 0 where
   pub block : ℕ
   pub pe : ℕ
@@ -38,7 +38,7 @@ pub record IsGreatestCost (blocks : ℕ) (cost : ℕ → ℕ → ℕ) (most : �
   pub reached : cost block pe ≡ most
   pub greatest : (b p : ℕ) → b < blocks → p < blocks → cost b p ≤ most
 
--- Each price of a block is 0 to the greatest cost of a block on a PE, and each price of a PE is 0 down to as much below 0.
+-- Each price of a block is between 0 and the greatest cost of a block on a PE, and each price of a PE between minus that and 0.
 pub record ArePricesBounded (sizes : List (ℕ × ℕ)) (cuts : List ℕ) (u v : List ℤ) : Type 0 where
   pub most : ℕ
   pub is_greatest : IsGreatestCost (blocks_between cuts) (block_cost sizes cuts) most

@@ -9,11 +9,11 @@ use Rattle.lb_certificates.specs.Naming.{block_of, blocks_between}
 abbrev pub planned_pe : List ℕ → List ℕ → ℕ → ℕ
 planned_pe cuts names i = slice_index names (block_of cuts i)
 
--- element i, the PE on which it stands and the one on which it is to run
+-- element i, the PE that it is on and the one on which it is to run
 abbrev pub move_of : List (ℕ × ℕ) → List ℕ → List ℕ → ℕ → ℕ × ℕ × ℕ
 move_of sizes cuts names i = (i, (slice_index_or sizes i (0, 0)).1, planned_pe cuts names i)
 
--- an element that stands on one PE and is to run on another
+-- an element that is on one PE and is to run on another
 abbrev pub is_move : ℕ × ℕ × ℕ → Bool
 is_move move = not (move.1 == move.2)
 
@@ -21,7 +21,7 @@ is_move move = not (move.1 == move.2)
 abbrev pub moves_below : List (ℕ × ℕ) → List ℕ → List ℕ → ℕ → List (ℕ × ℕ × ℕ)
 moves_below sizes cuts names n = filter is_move (map (move_of sizes cuts names) (range_with_len 0 n))
 
--- the cuts begin with 0 and do not fall, element i is below the last of them, and its block has a name that is a PE
+-- the cuts begin with 0 and do not decrease, element i is below the last of them, and its block has a name that is a PE
 pub record HasPlace (cuts names : List ℕ) (i : ℕ) : Type 0 where
   pub starts : slice_index cuts 0 ≡ 0
   pub ordered : IsNonDecreasing cuts

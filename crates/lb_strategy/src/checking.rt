@@ -9,12 +9,11 @@ use crate::moves::are_moves;
 use lb_certificates::{Flaw, Loads, Sizes, Snapshot, check_division, check_naming};
 use std::alloc::Allocator;
 
-/// Checks a decision for `pes` PEs on this snapshot, whoever made it. `Ok` means that no division of the elements
-/// into `pes` consecutive blocks has a lighter heaviest block, that no naming of the blocks moves fewer bytes, and
-/// that the decision states these bytes and the moves; so [`place_of`](Decision::place_of) may be asked of each
-/// element.
+/// Checks a decision for `pes` PEs on this snapshot, whoever made it. `Ok` means that no division of the elements into `pes`
+/// consecutive blocks has a lighter heaviest block, that no naming of the blocks moves fewer bytes, and that the decision
+/// states these bytes and the moves; so [`place_of`](Decision::place_of) may be called for each element.
 ///
-/// Any number of PEs and any lists may be passed. No memory is taken.
+/// Any number of PEs and any lists may be passed. It takes no memory.
 ///
 /// # Errors
 ///

@@ -8,14 +8,14 @@ use chare_index::{Index, Pe};
 use lb_certificates::{Division, Naming, Prices};
 use std::alloc::{AllocError, Allocator, Global};
 
-/// What a balancing step decides. It is plain data, under no condition: [`check`](crate::check) says whether every
-/// part of it is right.
+/// What a balancing step decides. It is plain data that may hold anything: [`check`](crate::check) says whether every part of
+/// it is right.
 #[derive(Drop)]
 #[derive_where(Debug, PartialEq)]
 pub struct Decision<A: Allocator = Global> {
     /// The elements cut into consecutive blocks.
     pub division: Division<A>,
-    /// On which PE each block runs.
+    /// The PE on which each block runs.
     pub naming: Naming<A>,
     /// The proof that no naming moves fewer bytes.
     pub prices: Prices<A>,
@@ -64,10 +64,10 @@ fn clone_lists<A: Allocator + Copy>(
 }
 
 impl<A: Allocator> Decision<A> {
-    /// The PE on which an element is to run: the name of its block. The cuts have to begin with 0 and not to fall,
-    /// the index to be below the last cut, and its block to have a name below 256, as holds for every element of a
-    /// decision that [`check`](crate::check) accepts. The block is found by binary search, so that the time grows with
-    /// the logarithm of the number of blocks.
+    /// The PE on which an element is to run: the name of its block. The cuts have to begin with 0 and must not decrease, the
+    /// index has to be below the last cut, and its block has to have a name below 256, as holds for every element of a decision
+    /// that [`check`](crate::check) accepts. The block is found by binary search, so the time grows with the logarithm of the
+    /// number of blocks.
     pub fn place_of(&self, index: Index) -> Pe
         requires placed { HasPlace self.now.division.cuts self.now.naming index }
         ensures value { result ≡ planned_pe self.now.division.cuts self.now.naming index }

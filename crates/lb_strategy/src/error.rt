@@ -8,7 +8,7 @@ use thiserror::Error;
 /// Why no decision was made. The number is stable.
 #[derive(Clone, Copy, Debug, PartialEq, Eq, Error)]
 pub enum PlanError {
-    /// No memory was left.
+    /// Memory was refused.
     #[error("out of memory")]
     OutOfMemory = 2,
 }

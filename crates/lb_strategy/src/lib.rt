@@ -1,5 +1,4 @@
-//! The decision of a balancing step: which elements run where, with every certificate in it, and one check that
-//! anyone can run.
+//! The decision of a balancing step: which elements run where, with all its certificates, and one check that anyone can run.
 //!
 //! - [`Decision`], with its [`Moves`]: what a step decides.
 //! - [`check`]: accepts a decision exactly where every part of it is right.

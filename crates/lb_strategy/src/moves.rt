@@ -12,8 +12,8 @@ use chare_index::{Index, Limits, Pe};
 use std::alloc::{AllocError, Allocator, Global};
 use std::marker::Model;
 
-/// The elements that a decision moves, each with the PE on which it stands and the one on which it is to run. It
-/// is a plain list, under no condition, and contracts see it as that list.
+/// The elements that a decision moves, each with the PE that it is on and the one on which it is to run. It is a plain list
+/// that may hold anything, and contracts see it as that list.
 #[derive(Drop)]
 #[derive_where(Debug)]
 pub struct Moves<A: Allocator = Global> {
@@ -70,7 +70,7 @@ impl<A: Allocator + Copy> Clone for Moves<A> {
     }
 }
 
-// The move of an element, where it stands on one PE and is to run on another.
+// The move of an element that is on one PE and is to run on another.
 fn move_of(i: u32, present: Pe, planned: u32) -> Option<(Index, Pe, Pe)>
     requires index { i < Limits.ELEMENTS }
     requires pe { planned < Limits.PES }
@@ -95,7 +95,7 @@ fn push_move<A: Allocator>(
     Ok(())
 }
 
-// The block of an element that stands in this block or a later one.
+// The block of an element that is in this block or a later one.
 #[tactic(auto, using(lb_certificates::proofs::BlockSums::block_of_is))]
 fn block_from(cuts: &[u32], from: usize, i: u32) -> usize
     requires divides { IsDivision 0 (slice_index cuts.now (blocks_between cuts.now)) (blocks_between cuts.now) cuts.now }
@@ -114,7 +114,7 @@ fn block_from(cuts: &[u32], from: usize, i: u32) -> usize
     from
 }
 
-// The index after the next move, where the list goes on with this move; where there is no move to make, the same index.
+// The index after the next move, where the list continues with this move; where there is no move to make, the same index.
 fn place_behind(
     moves: &[(Index, Pe, Pe)],
     next: usize,
@@ -132,7 +132,7 @@ fn place_behind(
     None
 }
 
-// How many elements stand on another PE than this one.
+// The number of elements that are on another PE than this one.
 fn elsewhere(pairs: &[(u32, Pe)], pe: u32) -> usize
     ensures { result ≤ length pairs.now }
 {
@@ -145,7 +145,7 @@ fn elsewhere(pairs: &[(u32, Pe)], pe: u32) -> usize
     count
 }
 
-// How many moves a naming asks for, which is the capacity of their list.
+// The number of moves that a naming asks for, which is the capacity of their list.
 fn count_moves(sizes: &[(u32, Pe)], cuts: &[u32], names: &[u32]) -> usize
     requires blocks { AreBlocks sizes.now cuts.now }
     requires naming { IsNaming (blocks_between cuts.now) names.now }
@@ -162,7 +162,7 @@ fn count_moves(sizes: &[(u32, Pe)], cuts: &[u32], names: &[u32]) -> usize
 ///
 /// # Errors
 ///
-/// Out of memory, where the list was refused.
+/// Memory for the list was refused.
 #[tactic(auto, using(crate::proofs::MoveLists::moves_more))]
 pub fn moves_of<A: Allocator>(
     alloc: A,

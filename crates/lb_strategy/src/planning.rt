@@ -17,15 +17,15 @@ use lb_certificates::{Cuts, Division, Naming, Prices, Sizes, Snapshot};
 use std::alloc::Allocator;
 use std::thread::Threads;
 
-/// Decides where each element of this snapshot runs next, on `pes` PEs, 1 to 256, which may be more or fewer than
-/// those of the run: its blocks are those of [`divide`], named so that the fewest bytes move, and of all such namings it
-/// takes the first in dictionary order. So the snapshot and `pes` determine all of the decision but its prices.
-/// [`check`](crate::check) accepts the decision. Each price of a block is 0 to the greatest number of bytes that a block
-/// moves on some PE, and each price of a PE is 0 down to as much below 0.
+/// Decides where each element of this snapshot runs next, on `pes` PEs, 1 to 256, which may be more or fewer than those of the
+/// run. The blocks are those of [`divide`], named so that the fewest bytes move, by the first of all such namings in dictionary
+/// order. So the snapshot and `pes` determine all of the decision but its prices. [`check`](crate::check) accepts the decision.
+/// Each price of a block is between 0 and the greatest number of bytes that a block moves on some PE, and each price of a PE is
+/// between 0 and minus that number.
 ///
 /// # Errors
 ///
-/// [`OutOfMemory`](PlanError::OutOfMemory) where a list was refused.
+/// [`OutOfMemory`](PlanError::OutOfMemory) where memory was refused.
 pub fn plan<A: Allocator + Copy, B: Allocator>(
     alloc: A,
     snapshot: &Snapshot<B>,
@@ -51,7 +51,7 @@ pub fn plan<A: Allocator + Copy, B: Allocator>(
 ///
 /// # Errors
 ///
-/// [`OutOfMemory`](PlanError::OutOfMemory) where a list was refused.
+/// [`OutOfMemory`](PlanError::OutOfMemory) where memory was refused.
 pub fn plan_with<R: Threads + Sync, G: Gate + Sync, A: Allocator + Copy, B: Allocator>(
     rt: &R,
     alloc: A,
@@ -112,11 +112,11 @@ fn complete<A: Allocator + Copy, B: Allocator>(
 }
 
 /// The names of the blocks between these cuts, with their prices, and the bytes that they move: of the namings that move the
-/// fewest bytes the first in dictionary order. The cuts may be those of any division into 1 to 256 blocks.
+/// fewest bytes, the first in dictionary order. The cuts may be those of any division into 1 to 256 blocks.
 ///
 /// # Errors
 ///
-/// [`OutOfMemory`](PlanError::OutOfMemory) where a list was refused.
+/// [`OutOfMemory`](PlanError::OutOfMemory) where memory was refused.
 // The table of costs is dropped on return, so its memory is free for the longest list of a decision, that of the moves.
 pub fn name_cuts<A: Allocator + Copy, B: Allocator>(
     alloc: A,

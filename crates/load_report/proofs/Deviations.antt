@@ -39,7 +39,7 @@ pub root_is : (n r : ℕ) → r * r ≤ n → n < (r + 1) * (r + 1) → root n �
 unfolding root
 root_is n r low high = counted n n r low high (omega (arith, at_most_square r))
 
--- a load that is part of a sum is at most so many times the average
+-- a load that is part of a sum is at most the average times the number of PEs
 pub billionths_small : (pes load sum : ℕ) → pes ≤ PES → load ≤ sum → (2 * (1000000000 * (load * pes)) + sum) / (2 * sum) ≤ 2 ^ 40
 billionths_small pes load sum few part =
     div-le_of_le-mul (2 * sum) (omega (arith, mul-le-mul {n₁ = load} {m₁ = pes} {n₂ = sum} {m₂ = 256} part few))

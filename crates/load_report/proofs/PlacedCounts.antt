@@ -11,7 +11,7 @@ abbrev pub AreCounted : List ℕ → ℕ → List ℕ → Type 0
 AreCounted places i counts =
     (p : ℕ) → p < length counts → slice_index counts p ≡ elements_of (take i places) p
 
--- one more fits
+-- the number with one more element fits its 32 bits
 pub next_count_fits : (places counts : List ℕ) (i p : ℕ) → AreCounted places i counts → length places ≤ ELEMENTS → i < length places → p < length counts → slice_index counts p + 1 < 2 ^ 32
 next_count_fits places counts i p counted few inside on =
     omega (arith, counted p on, count_by-le-length (λ place. eqb place p) (take i places), length-take-le i places (omega arith))

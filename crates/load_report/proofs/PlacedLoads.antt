@@ -19,7 +19,7 @@ greatest_more n f = rw (add-one n) refl
 pub least_more : (m n : ℕ) (f : ℕ → ℕ) → least m (n + 1) f ≡ min (least m n f) (f n)
 least_more m n f = rw (add-one n) refl
 
--- functions that agree below n have one greatest and one least value there
+-- functions that agree below n have the same greatest and the same least value there
 pub greatest_same : (n : ℕ) (f g : ℕ → ℕ) → ((i : ℕ) → i < n → f i ≡ g i) → greatest n f ≡ greatest n g
 greatest_same zero f g same = refl
 greatest_same (suc n) f g same =
@@ -55,7 +55,7 @@ abbrev pub AreAdded : List ℕ → List ℕ → ℕ → List ℕ → Type 0
 AreAdded loads places n sums =
     (p : ℕ) → p < length sums → slice_index sums p ≡ total n (load_at loads places p)
 
--- one more load fits
+-- the sum with one more load fits its 64 bits
 pub next_load_fits : (loads places sums : List ℕ) (n p : ℕ) → AreAdded loads places n sums → IsLoads loads → n < length loads → p < length sums → slice_index sums p + slice_index loads n < 2 ^ 64
 next_load_fits loads places sums n p added within inside on =
     omega (arith, added p on, sum_small loads places p n within.small (omega arith), within.small n 0 inside, mul-le-mul_right LOAD within.few, mul-le-mul_right LOAD inside)

@@ -24,7 +24,7 @@ pub places_more : (cuts names : List ℕ) (i : ℕ) → planned_places cuts name
 places_more cuts names i =
     map-range_with_len_more (planned_pe cuts names) 0 i i (omega arith)
 
--- elements that are placed as the names of as many blocks as PEs say
+-- elements that are placed by the names of blocks, where there are as many blocks as PEs
 module _ (loads : List ℕ) (sizes : List (ℕ × ℕ)) (p : ℕ) (cuts names : List ℕ) (u v : List ℤ) where
   placed_below : IsNamed sizes cuts names u v → blocks_between cuts ≡ p → (i : ℕ) → HasPlace cuts names i → planned_pe cuts names i < p
   placed_below named counted i place =

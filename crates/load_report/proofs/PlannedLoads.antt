@@ -1,4 +1,4 @@
--- Where the elements are placed as a right decision says, each PE has the load of its block.
+-- Where the elements are placed by a right decision, each PE has the load of its block.
 use Rattle.std.proofs.Common.{◌≡◌, ◌≢◌, ℕ, zero, suc, ◌+◌, ◌-◌, ◌<◌, ◌≤◌, inl, inr, List, length, take, slice_index, sum, arith, ap, refl, subst, sym, ◌∙◌, add-one}
 use Rattle.std.specs.Prelude.{◌==◌, if◌then◌else◌}
 use Rattle.std.proofs.lemmas.Bool.{cases_eq, eq-eqb, ne_eqb}
@@ -14,7 +14,7 @@ use Rattle.lb_strategy.specs.declared.decision.Decision.{Decision}
 use Rattle.lb_strategy.proofs.RightDecisions.{least_from_right}
 use Rattle.load_report.specs.Figures.{greatest, load_at, load_of, planned_places}
 
--- a number where two are the same, and else nothing
+-- a number where two others are the same, and otherwise 0
 abbrev when : ℕ → ℕ → ℕ → ℕ
 when a b n = if a == b then n else 0
 

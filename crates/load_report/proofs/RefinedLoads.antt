@@ -1,4 +1,4 @@
--- Where the elements are placed as a decision within a tolerance says, no PE is above the limit.
+-- Where the elements are placed by a decision within a tolerance, no PE is above the limit.
 use Rattle.std.proofs.Common.{◌≡◌, ◌≤◌, ℕ, List, length, arith, subst, sym}
 use Rattle.chain_refinement.specs.Tolerances.{limit_of}
 use Rattle.lb_certificates.specs.Chain.{IsDivision}

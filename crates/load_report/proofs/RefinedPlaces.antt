@@ -1,4 +1,4 @@
--- What a decision within a tolerance says of places and moves, whichever of the two it is.
+-- The places and moves of a decision within a tolerance, whichever of the two it is.
 use Rattle.std.proofs.Common.{◌≡◌, ℕ, ◌<◌, List, length, arith}
 use Rattle.lb_certificates.specs.Naming.{blocks_between, bytes_moved}
 use Rattle.lb_refinement.specs.Refined.{refined_cuts, refined_moved, refined_moves, refined_names}

@@ -15,7 +15,7 @@ use Rattle.load_report.proofs.PlacedLoads.{greatest_same, least_same, load_elsew
 pub all_loads : (loads : List ℕ) → total (length loads) (slice_index loads) ≡ sum loads
 all_loads loads = total_take (λ x. x) loads 0 (length loads) (omega arith) ∙ ap (sum_by (λ x. x)) (take_all (length loads) loads (omega arith))
 
--- no element has more load on a PE than it has
+-- no element has more load on a PE than its own load
 load_part : (loads places : List ℕ) (p i : ℕ) → load_at loads places p i ≤ slice_index loads i
 load_part loads places p i =
     elim (cases_eq (slice_index places i) p) [
@@ -23,7 +23,7 @@ load_part loads places p i =
       | inr other ↦ omega (arith, load_elsewhere loads places p i other)
     ]
 
--- a PE has no more load than all together
+-- a PE has no more load than all PEs together
 pub part_of_all : (loads places : List ℕ) (p : ℕ) → load_of loads places p ≤ sum loads
 part_of_all loads places p =
     omega (arith, total_le (length loads) (load_at loads places p) (slice_index loads) (λ i _. load_part loads places p i), all_loads loads)

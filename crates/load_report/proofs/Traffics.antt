@@ -33,6 +33,6 @@ moving_loads sizes places is =
           subst (λ units. units ≤ LOAD) (sym (get_or-map-range_with_len f 0 (length sizes) i i e below (omega arith))) (moved_or_none _ _ LOAD bytes);
     }
 
--- other loads of as many elements are placed too
+-- other loads of the same number of elements are placed too
 pub also_placed : (loads others places : List ℕ) (pes : ℕ) → IsPlacement loads places pes → length others ≡ length loads → IsPlacement others places pes
 also_placed loads others places pes is same = record { paired = is.paired ∙ sym same; placed = is.placed; few_pes = is.few_pes }

@@ -21,7 +21,7 @@ present_places sizes = map (λ size. size.1) sizes
 abbrev pub planned_places : List ℕ → List ℕ → ℕ → List ℕ
 planned_places cuts names n = map (planned_pe cuts names) (range_with_len 0 n)
 
--- an element's load where it is placed on the PE, and else nothing
+-- an element's load where it is placed on the PE, and otherwise 0
 abbrev pub load_at : List ℕ → List ℕ → ℕ → ℕ → ℕ
 load_at loads places p i = if slice_index places i == p then slice_index loads i else 0
 
@@ -29,7 +29,7 @@ load_at loads places p i = if slice_index places i == p then slice_index loads i
 abbrev pub load_of : List ℕ → List ℕ → ℕ → ℕ
 load_of loads places p = total (length loads) (load_at loads places p)
 
--- how many elements are placed on a PE
+-- the number of elements that are placed on a PE
 abbrev pub elements_of : List ℕ → ℕ → ℕ
 elements_of places p = count_by (λ place. place == p) places
 
@@ -54,20 +54,20 @@ idle_of pes loads = total pes (λ p. if loads p == 0 then 1 else 0)
 abbrev pub billion : ℕ
 billion = 1000000000
 
--- a quotient, rounded to the nearest number, and up from the middle
+-- a quotient, rounded to the nearest number, and halves rounded up
 abbrev pub nearest : ℕ → ℕ → ℕ
 nearest above below = (2 * above + below) / (2 * below)
 
--- the billionths that a load is of the average of all, which is their sum over the number of PEs
+-- a load in billionths of the average of all loads, which is their sum over the number of PEs
 abbrev pub billionths : ℕ → ℕ → ℕ → ℕ
 billionths pes sum load = if sum == 0 then billion else nearest (billion * (load * pes)) sum
 
--- the square of how far two numbers are apart
+-- the square of the distance of two numbers
 abbrev pub square_apart : ℕ → ℕ → ℕ
 square_apart a b = ((a - b) + (b - a)) * ((a - b) + (b - a))
 
--- The sum of the squares of how far the loads of the PEs are from the average, each in billionths of the average. Over the
--- number of PEs it is the square of the standard deviation.
+-- The sum of the squares of the distances of the loads of the PEs from their average, each in billionths of the average. Over
+-- the number of PEs it is the square of the standard deviation.
 abbrev pub squares_of : ℕ → ℕ → (ℕ → ℕ) → ℕ
 squares_of pes sum loads = total pes (λ p. square_apart (billionths pes sum (loads p)) billion)
 
@@ -81,7 +81,7 @@ unfoldable pub deviation_of : ℕ → ℕ → (ℕ → ℕ) → ℕ
 deviation_of pes sum loads =
     if pes == 0 then 0 else (root (4 * squares_of pes sum loads / (pes * (billion * 1000))) + 1) / 2
 
--- how elements with these loads, placed so on this number of PEs, spread their load
+-- how elements with these loads, at these places on this number of PEs, spread their load
 abbrev pub spread_of : List ℕ → List ℕ → ℕ → Spread
 spread_of loads places pes = record {
   pes = pes;
@@ -107,7 +107,7 @@ traffic_of s places pes = record {
   enter = greatest pes (load_of (moving s.sizes places) places);
 }
 
--- what blocks with these names change, with the least load and what there is to be moved
+-- what blocks with these names change, with the least load and all bytes that there are to move
 abbrev pub change_by : Taken → ℕ → List ℕ → List ℕ → Change
 change_by s least cuts names = record {
   least = least;
@@ -124,7 +124,7 @@ change_of s d = change_by s d.division.bottleneck d.division.cuts d.naming
 abbrev pub IsRefinedFor : {A : Type 0} → List ℕ → List (ℕ × ℕ) → ℕ → Refined A → Type 0
 IsRefinedFor loads sizes pes r = (tolerance : ℕ) × IsRefined loads sizes pes tolerance r
 
--- what it changes
+-- what this decision changes
 abbrev pub refined_change : {A : Type 0} → Taken → Refined A → Change
 refined_change s r = change_by s (refined_least r).bottleneck (refined_cuts r) (refined_names r)
 

@@ -21,11 +21,11 @@ use Rattle.load_report.specs.declared.traffic.Traffic.{Traffic}
 abbrev pub newline : List ℕ
 newline = 10 ∷ []
 
--- a quotient in thousandths, rounded down, and nothing where it is one by 0
+-- a quotient in thousandths, rounded down, and nothing where it is a quotient by 0
 abbrev pub ratio : ℕ → ℕ → Cell
 ratio above below = if below == 0 then Nothing else Thousandths (above * 1000 / below)
 
--- what a cell says: a number, or one with three decimals, or a word
+-- the text of a cell: a number, one with three decimals, or a word
 abbrev pub cell_text : Cell → List ℕ
 cell_text Nothing = codes "-"
 cell_text Present = codes "present"
@@ -37,7 +37,7 @@ cell_text (Number n) = decimal n
 cell_text (Thousandths n) =
     decimal (n / 1000) ++ codes "." ++ decimal (n / 100 % 10) ++ decimal (n / 10 % 10) ++ decimal (n % 10)
 
--- what a value says: nothing where there is none
+-- the text of a value, which is empty where there is none
 abbrev pub value_text : Cell → List ℕ
 value_text Nothing = []
 value_text cell = cell_text cell
@@ -80,7 +80,7 @@ deviation s = if s.total == 0 then Nothing else Thousandths s.deviation
 abbrev pub excess : Spread → Cell
 excess s = if s.total == 0 then Nothing else Thousandths (nearest (100000 * (s.greatest * s.pes - s.total)) s.total)
 
--- what is said of what changes: nothing at present
+-- what is reported of what changes: nothing for the present placement
 abbrev pub unchanged : Changes
 unchanged = record { least = Nothing; moved = Nothing; moved_share = Nothing; bytes = Nothing; bytes_share = Nothing; leave = Nothing; enter = Nothing }
 
@@ -95,12 +95,12 @@ changes_of s c t = record {
   enter = Number t.enter;
 }
 
--- the columns of a placement that goes by this word, in a dump of this step
+-- the columns of a placement of this kind, in a dump of this step
 abbrev pub placement_columns : Cell → ℕ → Spread → Changes → List (ℕ × Cell)
 placement_columns word step s c =
     (9, word) ∷ (5, Number s.pes) ∷ (8, Number s.elements) ∷ (13, Number s.greatest) ∷ (17, ratio s.total s.pes) ∷ (9, ratio (s.greatest * s.pes) s.total) ∷ (13, c.least) ∷ (6, c.moved) ∷ (7, c.moved_share) ∷ (11, c.bytes) ∷ (7, c.bytes_share) ∷ (5, Number s.empty) ∷ (5, Number s.idle) ∷ (13, Number s.least) ∷ (13, Number s.heaviest) ∷ (13, bound s) ∷ (9, deviation s) ∷ (9, excess s) ∷ (11, c.leave) ∷ (11, c.enter) ∷ (10, Number step) ∷ []
 
--- the columns of a decision with a flaw, of which nothing is counted
+-- the columns of a decision with a flaw, for which nothing is counted
 abbrev pub flawed_columns : ℕ → ℕ → ℕ → List (ℕ × Cell)
 flawed_columns step pes elements =
     (9, Flawed) ∷ (5, Number pes) ∷ (8, Number elements) ∷ (13, Nothing) ∷ (17, Nothing) ∷ (9, Nothing) ∷ (13, Nothing) ∷ (6, Nothing) ∷ (7, Nothing) ∷ (11, Nothing) ∷ (7, Nothing) ∷ (5, Nothing) ∷ (5, Nothing) ∷ (13, Nothing) ∷ (13, Nothing) ∷ (13, Nothing) ∷ (9, Nothing) ∷ (9, Nothing) ∷ (11, Nothing) ∷ (11, Nothing) ∷ (10, Number step) ∷ []
@@ -110,7 +110,7 @@ abbrev pub move_columns : List (ℕ × ℕ) → ℕ → ℕ × ℕ × ℕ → Li
 move_columns sizes pes move =
     (5, Number pes) ∷ (7, Number move.0) ∷ (5, Number move.1) ∷ (5, Number move.2) ∷ (8, Number (slice_index_or sizes move.0 (0, 0)).0) ∷ []
 
--- the line of the present placement, which is there where no moves are asked for
+-- the line of the present placement, which is written where no moves are asked for
 abbrev pub present_line : Bool → List ℕ → Taken → List ℕ
 present_line csv name s =
     line csv name (placement_columns Present s.step (spread_of s.loads (present_places s.sizes) s.procs) unchanged)
@@ -133,7 +133,7 @@ abbrev pub decision_line : {A : Type 0} → Cell → Bool → List ℕ → Taken
 decision_line word csv name s pes d =
     changed_line word csv name s pes (planned_places d.division.cuts d.naming (length s.sizes)) (change_of s d)
 
--- what is said of a planned decision: its line, or those of its moves
+-- what is reported of a planned decision: its line, or those of its moves
 abbrev pub planned_text : {A : Type 0} → Style → List ℕ → Taken → ℕ → Decision A → List ℕ
 planned_text style name s pes d =
     if style.moves then move_lines style.csv name s.sizes pes d.moves else decision_line Planned style.csv name s pes d
@@ -143,7 +143,7 @@ abbrev pub refined_line : {A : Type 0} → Bool → List ℕ → Taken → ℕ �
 refined_line csv name s pes r =
     changed_line Within csv name s pes (planned_places (refined_cuts r) (refined_names r) (length s.sizes)) (refined_change s r)
 
--- what is said of a decision within a tolerance: its line, or those of its moves
+-- what is reported of a decision within a tolerance: its line, or those of its moves
 abbrev pub refined_text : {A : Type 0} → Style → List ℕ → Taken → ℕ → Refined A → List ℕ
 refined_text style name s pes r =
     if style.moves then move_lines style.csv name s.sizes pes (refined_moves r) else refined_line style.csv name s pes r
@@ -152,8 +152,8 @@ refined_text style name s pes r =
 abbrev pub flawed_line : Bool → List ℕ → Taken → ℕ → List ℕ
 flawed_line csv name s pes = line csv name (flawed_columns s.step pes (length s.loads))
 
--- This is what is said of a recorded decision: where no moves are asked for, its line if it is right, and if it is not, that
--- it has a flaw.
+-- This is what is reported of a recorded decision, where no moves are asked for: its line if it is right, and if it is not,
+-- that it has a flaw.
 abbrev pub IsRecordedText : {A : Type 0} → Style → List ℕ → Taken → ℕ → Decision A → List ℕ → Type 0
 IsRecordedText style name s pes d text =
     (IsTrue style.moves × (text ≡ []))

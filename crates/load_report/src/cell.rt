@@ -28,7 +28,7 @@ pub(crate) enum Cell {
     Thousandths(u128),
 }
 
-/// A quotient with three decimals, rounded down, or nothing where it is one by 0.
+/// A quotient with three decimals, rounded down, or nothing where it is a quotient by 0.
 pub(crate) fn ratio(above: u128, below: u64) -> Cell
     requires { above < 2 ^ 100 }
     ensures { result ≡ ratio above below }
@@ -68,7 +68,7 @@ fn thousandths_text<A: Allocator>(alloc: A, n: u128) -> Result<String<A>, AllocE
     format!(in alloc; "{whole}.{tenths}{hundredths}{thousandths}")
 }
 
-/// The text of a value: nothing where there is none.
+/// The text of a value, which is empty where there is none.
 ///
 /// # Errors
 ///

@@ -1,4 +1,4 @@
-//! What the columns say of what a decision changes.
+//! What the columns report of what a decision changes.
 
 ghost use Rattle.std.specs.Prelude.{◌≡◌, ◌*◌};
 ghost use Rattle.load_report.specs.Text.{changes_of, ratio, unchanged};
@@ -20,7 +20,7 @@ pub(crate) struct Changes {
 }
 
 impl Changes {
-    /// Where nothing is decided.
+    /// The cells where nothing is decided.
     pub(crate) fn none() -> Changes
         ensures { result ≡ unchanged }
     {
@@ -35,7 +35,7 @@ impl Changes {
         }
     }
 
-    /// What a decision changes.
+    /// The cells for this change.
     pub(crate) fn of(spread: Spread, change: Change, traffic: Traffic) -> Changes
         ensures { result ≡ changes_of spread change traffic }
     {

@@ -8,7 +8,7 @@ use crate::changes::Changes;
 use crate::figures::Spread;
 use crate::line::Column;
 
-/// The columns of a placement that goes by this word, in a dump of this step.
+/// The columns of a placement of this kind, in a dump of this step.
 pub(crate) fn placement_columns(
     word: Cell,
     step: u32,
@@ -42,7 +42,7 @@ pub(crate) fn placement_columns(
     ]
 }
 
-/// The columns of a decision with a flaw, of which nothing is counted.
+/// The columns of a decision with a flaw, for which nothing is counted.
 pub(crate) fn flawed_columns(step: u32, pes: u32, elements: usize) -> [Column; 21]
     ensures { result ≡ flawed_columns step pes elements }
 {
@@ -88,7 +88,7 @@ fn imbalance(spread: Spread) -> Cell
     )
 }
 
-// The least that the greatest load can be, as far as the average and the heaviest element show.
+// The least that the greatest load can be, by the average and the heaviest element.
 fn bound(spread: Spread) -> Cell
     ensures { result ≡ bound spread }
 {
@@ -109,7 +109,7 @@ fn deviation(spread: Spread) -> Cell
     Cell::Thousandths(u128::from(spread.deviation))
 }
 
-// How far the greatest load is above the average, in per cent of it.
+// How far the greatest load is above the average, in per cent of the average.
 fn excess(spread: Spread) -> Cell
     ensures { result ≡ excess spread }
 {

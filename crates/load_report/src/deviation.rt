@@ -24,7 +24,7 @@ pub(crate) fn deviation_of(sums: &[u64], pes: u32, total: u64) -> u64
     ((doubled + 1) / 2) as u64
 }
 
-// The sum of the squares of how far the first of these loads are from their average.
+// The sum of the squares of the distances of the first of these loads from their average.
 #[tactic(auto, using(crate::proofs::PlacedLoads::total_more))]
 fn squares_of(sums: &[u64], pes: u32, total: u64) -> u128
     requires room { pes ≤ length sums.now }
@@ -40,7 +40,7 @@ fn squares_of(sums: &[u64], pes: u32, total: u64) -> u128
     squares
 }
 
-// The billionths that a load is of the average.
+// A load in billionths of the average.
 fn billionths(pes: u32, total: u64, load: u64) -> u128
     requires few { pes ≤ Limits.PES }
     requires part { load ≤ total }
@@ -54,7 +54,7 @@ fn billionths(pes: u32, total: u64, load: u64) -> u128
     (2 * (BILLION * (u128::from(load) * u128::from(pes))) + total) / (2 * total)
 }
 
-// The square of how far this is from a billion.
+// The square of the distance of this number from a billion.
 fn square_apart(billionths: u128) -> u128
     requires { billionths ≤ 2 ^ 40 }
     ensures value { result ≡ square_apart billionths billion }

@@ -140,7 +140,7 @@ fn idle_pes(sums: &[u64], pes: u32) -> u32
     idle
 }
 
-// How many PEs have no element.
+// The number of PEs that have no element.
 fn empty_pes(places: &[u32], pes: u32) -> u32
     requires few { length places.now ≤ Limits.ELEMENTS }
     requires placed { All (λ place. place < pes) places.now }
@@ -152,7 +152,7 @@ fn empty_pes(places: &[u32], pes: u32) -> u32
     zeros_of(&counts, pes)
 }
 
-// Writes how many elements each PE has.
+// Writes the number of elements of each PE.
 fn count_elements(counts: &mut [u32], places: &[u32])
     requires few { length places.now ≤ Limits.ELEMENTS }
     requires placed { All (λ place. place < length counts.old) places.now }

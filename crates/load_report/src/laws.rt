@@ -8,9 +8,9 @@ ghost use Rattle.load_report.specs.Figures.{greatest, load_of, planned_places};
 
 use std::alloc::Allocator;
 
-/// Laws of the figures. The function does nothing: its clauses are the laws. Where the elements are placed as a right decision
-/// says, the greatest load of a PE is its bottleneck, the least that it can be for consecutive blocks; and where they are placed as
-/// a decision within a tolerance says, it is at most that much above the least.
+/// Laws of the figures. The function does nothing: its clauses are the laws. Where the elements are placed by a right decision,
+/// the greatest load of a PE is its bottleneck, the least that it can be for consecutive blocks; and where they are placed by a
+/// decision within a tolerance, the greatest load is above the least one by at most the tolerance.
 pub fn report_laws<A: Allocator>()
     ensures planned_greatest { (loads : List ℕ) (sizes : List (ℕ × ℕ)) (pes : ℕ) (d : Decision A) → length loads ≡ length sizes → IsRight loads sizes pes d
         → greatest pes (load_of loads (planned_places d.division.cuts d.naming (length sizes))) ≡ d.division.bottleneck }

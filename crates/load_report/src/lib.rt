@@ -1,5 +1,5 @@
-//! What a load balancing step makes of the loads: the figures of a placement and of a decision, and the text of a report
-//! on them.
+//! What a load balancing step does to the loads: the figures of a placement and of a decision, and the text of a report on
+//! them.
 #![tactic(auto)]
 
 mod cell;

@@ -1,4 +1,4 @@
-//! What a report says of a file.
+//! What a report writes about a file.
 
 ghost use Rattle.std.specs.Prelude.{◌≡◌, ◌++◌, ℕ, List, IfOk, OnOk, slice_index_or};
 ghost use Rattle.lb_strategy.specs.Decisions.{IsRight};
@@ -53,7 +53,7 @@ fn push_present_line<A: Allocator + Copy, B: Allocator>(
     push_line(text, csv, name, &columns)
 }
 
-// How the elements are spread at present.
+// How the elements spread their load at present.
 #[tactic(auto, using(crate::proofs::Placements::present_placed))]
 fn present_spread<A: Allocator, B: Allocator>(
     alloc: A,
@@ -65,7 +65,7 @@ fn present_spread<A: Allocator, B: Allocator>(
     Ok(Spread::of(snapshot.loads(), &places, snapshot.procs()))
 }
 
-/// Adds what is said of a planned decision for this number of PEs: its line, or those of the elements that it moves.
+/// Adds what is reported of a planned decision for this number of PEs: its line, or those of the elements that it moves.
 ///
 /// # Errors
 ///
@@ -96,7 +96,7 @@ pub fn push_planned<A: Allocator + Copy, B: Allocator, C: Allocator>(
     )
 }
 
-/// Adds what is said of a decision for this number of PEs within some tolerance: its line, or those of the elements that it moves.
+/// Adds what is reported of a decision for this number of PEs within some tolerance: its line, or those of its moves.
 ///
 /// # Errors
 ///
@@ -126,8 +126,8 @@ pub fn push_refined<A: Allocator + Copy, B: Allocator, C: Allocator>(
     push_refined_line(text, style.csv, name, snapshot, pes, decision)
 }
 
-/// Adds the line of a decision that was recorded for this number of PEs, where no moves are asked for: its figures if it is right,
-/// and that it is flawed if it is not.
+/// Adds the line of a decision that was recorded for this number of PEs, where no moves are asked for: its figures if it is
+/// right, and that it is flawed if it is not.
 ///
 /// # Errors
 ///
@@ -173,7 +173,7 @@ fn push_flawed<A: Allocator + Copy, B: Allocator>(
     push_line(text, csv, name, &columns)
 }
 
-// The line of a right decision, which goes by this word.
+// The line of a right decision of this kind.
 fn push_decision<A: Allocator + Copy, B: Allocator, C: Allocator>(
     text: &mut Vec<u8, A>,
     word: Cell,

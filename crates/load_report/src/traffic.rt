@@ -10,7 +10,7 @@ use chare_index::Pe;
 use lb_certificates::Snapshot;
 use std::alloc::{AllocError, Allocator};
 
-/// What the PEs with the most to send and to receive have to, where elements move.
+/// The traffic of the PEs with the most bytes to send and to receive, where elements move.
 #[derive(Clone, Copy, Debug, PartialEq, Eq)]
 pub struct Traffic {
     /// The most packed bytes that leave a PE.
@@ -60,7 +60,7 @@ fn moving<A: Allocator>(
     Ok(bytes)
 }
 
-// The bytes of an element that moves to this PE, and 0 where it is there.
+// The bytes of an element that moves to this PE, and 0 where it is on it already.
 fn moved_bytes(size: (u32, Pe), place: u32) -> u64
     ensures { result ≡ moved_bytes size place }
 {

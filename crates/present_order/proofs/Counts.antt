@@ -1,4 +1,4 @@
--- How many different numbers a list has, and that a naming has each of them.
+-- The number of different numbers in a list; and a naming has each of its numbers.
 use Rattle.std.proofs.Common.{◌≡◌, ◌≢◌, ℕ, ◌<◌, ◌≤◌, eqb, eqb-true, inl, inr, List, [], ◌∷◌, ◌++◌, length, slice_index, arith, sym, ◌∙◌}
 use Rattle.std.proofs.lemmas.Bool.{both_ways, cases_lt, cases_Bool, eq-eqb}
 use Rattle.std.proofs.lemmas.Bool.Decides.{Decides-eqb}
@@ -9,14 +9,14 @@ use Rattle.std.proofs.lemmas.Map.Steps.{length-le_from_distinct_below, le-length
 use Rattle.std.specs.List.{list_any, AllPairs, Contains}
 use Rattle.lb_certificates.specs.Naming.{IsNaming}
 
--- a list that has each number below a bound is no shorter
+-- a list that has each number below a bound has at least as many numbers as the bound
 pub covers : (names : List ℕ) (n : ℕ) → ((q : ℕ) → q < n → Contains names q) → n ≤ length names
 covers names n held =
     le-length_from_below names n (λ q inside.
     let found = held q inside in
     list_any_at (eqb q) names found.0 q found.1 (eq-eqb q _ (sym found.2)))
 
--- different numbers below a bound are no more than it
+-- there are no more different numbers below a bound than the bound
 pub few : (names : List ℕ) (n : ℕ) → ((b : ℕ) → b < length names → slice_index names b < n) → ((a b : ℕ) → a < b → b < length names → slice_index names a ≢ slice_index names b) → length names ≤ n
 few names n below apart =
     let pairs : AllPairs (λ x y. x ≢ y) names = λ i j d before inside same. apart i j before inside (get_or_default names i 0 d (omega arith) ∙ same ∙ get_or_default names j d 0 inside) in

@@ -1,4 +1,4 @@
--- The PEs without elements, behind those with elements.
+-- The PEs without elements, which follow those with elements.
 use Rattle.std.proofs.Common.{◌≡◌, ◌≢◌, ℕ, ◌+◌, ◌<◌, ◌≤◌, inl, inr, List, [], ◌∷◌, ◌++◌, length, slice_index, slice_index_or, arith, sym, ◌∙◌, subst}
 use Rattle.std.proofs.lemmas.Bool.{cases_lt, cases_eq}
 use Rattle.std.proofs.lemmas.List.{get_or_append_left, get_or_default, get_or_past, get_or_push, length_push}
@@ -9,8 +9,8 @@ use Rattle.chain_refinement.specs.Orders.{place_of, IsPresentOrder}
 use Rattle.present_order.specs.Runs.{AreRuns}
 use Rattle.present_order.proofs.Counts.{covers, few}
 
--- Behind so many busy PEs with elements come idle ones in ascending order, each at the end; of the PEs before pe none is
--- left out, and none from pe on is an idle one.
+-- After the `busy` PEs with elements come idle ones in ascending order, each at the end; of the PEs before pe none is left out,
+-- and none from pe on is an idle one.
 pub record AreListed (sizes : List (ℕ × ℕ)) (pes end busy pe : ℕ) (names starts : List ℕ) : Type 0 where
   pub counted : length starts ≡ length names
   pub few : busy ≤ length names
@@ -63,7 +63,7 @@ listed_skip sizes pes end busy pe names starts h found =
       ];
     }
 
--- an end that is added is what a reader past the list took already
+-- an end that is added is what a read past the list gave already
 end_added : (starts : List ℕ) (b end : ℕ) → slice_index_or (starts ++ end ∷ []) b end ≡ slice_index_or starts b end
 end_added starts b end =
     elim (cases_lt b (length starts)) [

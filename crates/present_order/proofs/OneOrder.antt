@@ -1,4 +1,4 @@
--- There is one order in which PEs stand.
+-- There is one present order of the PEs.
 use Rattle.std.proofs.Common.{◌≡◌, ℕ, zero, suc, ◌+◌, ◌-◌, ◌<◌, ◌≤◌, inl, inr, List, length, slice_index, arith, ap, sym, ◌∙◌, subst, add-one}
 use Rattle.std.proofs.lemmas.Bool.{cases_lt, cases_order}
 use Rattle.std.proofs.lemmas.List.{ext_get_or}
@@ -6,7 +6,7 @@ use Rattle.chain_refinement.specs.Orders.{place_of, IsPresentOrder}
 use Rattle.present_order.proofs.Counts.{held}
 use Rattle.present_order.proofs.Orders.{block_at, same_block}
 
--- what is said of an order, at its cuts
+-- what an order says, at its cuts
 cut_ordered : (sizes : List (ℕ × ℕ)) (pes : ℕ) (names present : List ℕ) → IsPresentOrder sizes pes names present → (a b : ℕ) → a ≤ b → b ≤ pes → slice_index present a ≤ slice_index present b
 cut_ordered sizes pes names present h a b before inside =
     h.in_order.divides.ordered a b 0 before (omega (arith, h.in_order.divides.counted, h.naming.counted))
@@ -25,7 +25,7 @@ idle_onward sizes pes names present h b (suc k) inside same =
     let here : b + k + 1 ≡ b + suc k = omega arith in
     subst (λ n. slice_index present n ≡ slice_index present (n + 1)) here next
 
--- and the end of the chain
+-- and is the end of the chain
 idle_at_end : (sizes : List (ℕ × ℕ)) (pes : ℕ) (names present : List ℕ) → IsPresentOrder sizes pes names present → (b k : ℕ) → b + k ≤ pes → slice_index present b ≡ slice_index present (b + 1) → slice_index present (b + k) ≡ slice_index present b
 idle_at_end sizes pes names present h b zero inside same =
     let here : b + 0 ≡ b = omega arith in
@@ -45,12 +45,12 @@ busy_rises sizes pes names present h b inside before =
           absurd (omega (arith, before, last_cut sizes pes names present h, idle_at_end sizes pes names present h b (pes - b) (omega arith) same, ap (λ n. slice_index present n) all))
     ]
 
--- its first element stands on it
+-- its first element is on it
 busy_name : (sizes : List (ℕ × ℕ)) (pes : ℕ) (names present : List ℕ) → IsPresentOrder sizes pes names present → (b : ℕ) → b < pes → slice_index present b < length sizes → place_of sizes (slice_index present b) ≡ slice_index names b
 busy_name sizes pes names present h b inside before =
     h.in_order.stands b (slice_index present b) (omega (arith, h.naming.counted)) (omega arith) (busy_rises sizes pes names present h b inside before)
 
--- where the elements of a PE begin at one place in two orders, the PE is one
+-- where the elements of a PE begin at the same place in two orders, it is the same PE
 same_name : (sizes : List (ℕ × ℕ)) (pes : ℕ) (names present others cuts : List ℕ) → IsPresentOrder sizes pes names present → IsPresentOrder sizes pes others cuts → (b : ℕ) → b < pes → slice_index present b ≡ slice_index cuts b → slice_index present b < length sizes → slice_index names b ≡ slice_index others b
 same_name sizes pes names present others cuts h o b inside same before =
     sym (busy_name sizes pes names present h b inside before) ∙ ap (λ i. place_of sizes i) same ∙ busy_name sizes pes others cuts o b inside (omega (arith, same, before))
@@ -111,7 +111,7 @@ idle_ascend sizes pes names present h b (suc k) inside idle =
     ) in
     omega (arith, ap (λ n. slice_index names n) next, h.idle_rise (b + k) (omega arith) flat, idle_ascend sizes pes names present h b k (omega arith) idle)
 
--- a PE without elements is no lesser one in another order with the same PEs before it
+-- a PE without elements is not less in another order with the same PEs before it
 no_lesser : (sizes : List (ℕ × ℕ)) (pes : ℕ) (names present others cuts : List ℕ) → IsPresentOrder sizes pes names present → IsPresentOrder sizes pes others cuts → (b : ℕ) → b < pes → length sizes ≤ slice_index cuts b → ((k : ℕ) → k < b → slice_index names k ≡ slice_index others k) → slice_index names b < slice_index others b → ⊥
 no_lesser sizes pes names present others cuts h o b inside idle before less =
     let at = held pes others (slice_index names b) o.naming (h.naming.below b inside) in
@@ -124,7 +124,7 @@ no_lesser sizes pes names present others cuts h o b inside idle before less =
           omega (arith, less, at.2, idle_ascend sizes pes others cuts o b (at.0 - b) (omega (arith, at.1)) idle, ap (λ n. slice_index others n) place)
     ]
 
--- two orders have the same PEs at the first so many places
+-- two orders have the same PEs at the first n places
 same_names : (sizes : List (ℕ × ℕ)) (pes : ℕ) (names present others cuts : List ℕ) → IsPresentOrder sizes pes names present → IsPresentOrder sizes pes others cuts → (n b : ℕ) → b < n → b < pes → slice_index names b ≡ slice_index others b
 same_names sizes pes names present others cuts h o zero b before inside = absurd (omega arith)
 same_names sizes pes names present others cuts h o (suc n) b before inside =

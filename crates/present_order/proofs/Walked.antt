@@ -90,7 +90,7 @@ runs_push sizes pes end names starts place h here below new =
       | inr none ↦ get_or_push starts end (end + 1) 0 (omega arith) ∙ sym (get_or_past starts 0 end none) ∙ h.first
     ]
 
--- a run begins before the end; at most so many runs are behind it
+-- a run begins before the end; at most this number of runs are behind it
 start_before : (sizes : List (ℕ × ℕ)) (pes end : ℕ) (names starts : List ℕ) (left b : ℕ) → AreRuns sizes pes end names starts → length names ≤ b + left → b < length names → slice_index starts b < end
 start_before sizes pes end names starts zero b h few inside = absurd (omega arith)
 start_before sizes pes end names starts (suc left) b h few inside =
@@ -99,7 +99,7 @@ start_before sizes pes end names starts (suc left) b h few inside =
       | inr last ↦ omega (arith, h.rises b inside, get_or_past starts (b + 1) end (omega (arith, h.counted)))
     ]
 
--- a second run of a PE leaves no order
+-- where a PE has a second run, there is no order
 pub no_order_twice : (sizes : List (ℕ × ℕ)) (pes end : ℕ) (names starts : List ℕ) → AreRuns sizes pes end names starts → end < length sizes → (IsLast names (place_of sizes end) → ⊥) → Contains names (place_of sizes end) → HasNoOrder sizes pes
 no_order_twice sizes pes end names starts h inside other found =
     let place : ℕ = place_of sizes end in

@@ -3,7 +3,7 @@
 ghost use Rattle.std.specs.Prelude.{◌≡◌, ℕ, List};
 ghost use Rattle.chain_refinement.specs.Orders.{IsPresentOrder};
 
-/// There is one order in which the PEs stand, with one list of cuts.
+/// There is one present order of the PEs, with one list of cuts.
 pub fn one_order()
     ensures one_order { (sizes : List (ℕ × ℕ)) (pes : ℕ) (names present others cuts : List ℕ)
         → IsPresentOrder sizes pes names present → IsPresentOrder sizes pes others cuts

@@ -1,6 +1,6 @@
-//! The order in which the PEs stand along a chain, where the elements of each PE stand together.
+//! The order of the PEs along a chain, where the elements of each PE are consecutive.
 //!
-//! - [`present_order`]: finds that order, or says that there is none.
+//! - [`present_order`]: finds that order, or reports that there is none.
 //! - [`PresentOrder`]: the PEs in that order, with the cuts between their elements.
 //! - [`laws`]: what the definitions imply.
 //!

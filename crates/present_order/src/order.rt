@@ -7,24 +7,22 @@ use chare_index::Limits;
 use lb_certificates::{Cuts, Naming, Sizes};
 use std::alloc::{AllocError, Allocator, Global};
 
-/// The PEs in the order in which they stand along a chain, with the cuts between their elements.
+/// The PEs in the order of their elements along a chain, with the cuts between these elements.
 #[derive(Drop)]
 #[derive_where(Debug, PartialEq)]
 pub struct PresentOrder<A: Allocator = Global> {
-    /// The PEs: those with elements in the order in which their elements stand, and behind them those without, in ascending
-    /// order.
+    /// The PEs: those with elements in the order of their elements, and behind them those without, in ascending order.
     pub names: Naming<A>,
     /// Where the elements of each PE begin and end.
     pub present: Cuts<A>,
 }
 
-/// The order in which `pes` PEs, 1 to 256, stand along these elements, or `None` where they stand in no order: where the
-/// elements of a PE do not stand together, or one stands on a PE that is not below `pes`. So the places and `pes` determine
-/// the answer.
+/// The order of `pes` PEs, 1 to 256, along these elements, or `None` where they have none: where the elements of a PE are not
+/// consecutive, or one is on a PE that is not below `pes`. So the places and `pes` determine the answer.
 ///
 /// # Errors
 ///
-/// Out of memory, where one of the two lists of at most `pes + 1` numbers was refused.
+/// Memory for one of the two lists of at most `pes + 1` numbers was refused.
 pub fn present_order<A: Allocator + Copy, B: Allocator>(
     alloc: A,
     sizes: &Sizes<B>,

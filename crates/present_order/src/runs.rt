@@ -1,4 +1,4 @@
-//! The runs of elements that stand on one PE, and the PEs without elements behind them.
+//! The runs of elements that are on one PE, and behind them the PEs without elements.
 
 ghost use Rattle.std.specs.Prelude.{◌↔◌, IsTrue, length, IfOk, MatchOption};
 ghost use Rattle.std.specs.List.{Contains};
@@ -12,7 +12,7 @@ use chare_index::Pe;
 use lb_certificates::{Cuts, Naming};
 use std::alloc::{AllocError, Allocator};
 
-/// The runs of elements that stand on one PE, in order: the PE of each, and where its elements begin.
+/// The runs of elements that are on one PE, in order: the PE of each, and where its elements begin.
 #[derive(Drop)]
 pub(crate) struct Runs<A: Allocator> {
     pub(crate) names: Vec<u32, A>,
@@ -23,7 +23,7 @@ pub(crate) struct Runs<A: Allocator> {
 ///
 /// # Errors
 ///
-/// Out of memory, where a list was refused.
+/// Memory for a list was refused.
 pub(crate) fn runs_of<A: Allocator + Copy>(
     alloc: A,
     pairs: &[(u32, Pe)],
@@ -63,11 +63,11 @@ fn has(names: &[u32], pe: u32) -> bool
     names.contains(&pe)
 }
 
-/// These runs, with the PEs that have no elements behind them.
+/// These runs, and behind them the PEs without elements.
 ///
 /// # Errors
 ///
-/// Out of memory, where a list was refused more room.
+/// Memory for a longer list was refused.
 pub(crate) fn with_idle<A: Allocator>(
     runs: Runs<A>,
     pairs: &[(u32, Pe)],

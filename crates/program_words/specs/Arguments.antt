@@ -22,7 +22,7 @@ pub record IsBare (name : Text) (command : Command) : Type 0 where
   pub globals : (out-Command command).has_globals ≡ false
   pub negates : (out-Command command).subcommand_negates_reqs ≡ false
 
--- whatever words the command takes, they name a file
+-- whatever arguments the command accepts, they name a file
 abbrev pub NamesFile : Command → Type 0
 NamesFile command = (m : ArgMatches) → IsParsedFrom command m → is_some (first_value (found_of m) (codes "file")) ≡ true
 
@@ -38,7 +38,7 @@ file_rule = record (new_rule (codes "file")) {
   required = true;
 }
 
--- an option that takes a word
+-- an option that takes a value
 abbrev pub word_rule : Text → Rule
 word_rule name = record (new_rule name) {
   long = Some name;
@@ -46,7 +46,7 @@ word_rule name = record (new_rule name) {
   value_names = 1;
 }
 
--- a flag, which takes no word
+-- a flag, which takes no value
 abbrev pub flag_rule : Text → Rule
 flag_rule name = record (new_rule name) { long = Some name; action = Some SetTrue }
 
@@ -54,7 +54,7 @@ flag_rule name = record (new_rule name) { long = Some name; action = Some SetTru
 abbrev pub tolerance_rule : Rule
 tolerance_rule = record (word_rule (codes "tolerance")) { parser = Some (Signed (pos 0) (pos MOST)) }
 
--- the word spells a tolerance
+-- the value spells a tolerance
 abbrev pub SpellsTolerance : Option Text → ℕ → Type 0
 SpellsTolerance None n = ⊥
 SpellsTolerance (Some word) n = IsNumeral 10 (without_leading_plus word) × (n ≡ digits_value 10 (without_leading_plus word)) × (n ≤ MOST)

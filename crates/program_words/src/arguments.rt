@@ -15,7 +15,8 @@ use std::alloc::Global;
 /// The version of the programs.
 const VERSION: &str = "0.2.0";
 
-/// A program before its arguments are declared: its name, what it does, in a line, and what `--help` says behind the arguments.
+/// A program before its arguments are declared: its name, what it does, in one line, and what `--help` says after the
+/// arguments.
 pub fn new_program<'a>(
     alloc: Global,
     name: &'a str,
@@ -30,7 +31,7 @@ pub fn new_program<'a>(
         .after_help(after_help)
 }
 
-/// The file that a program is given, which has to be named.
+/// The file that a program works on, which has to be named.
 pub fn file<'a>(alloc: Global, help: &'a str) -> Arg<'a>
     ensures rule { rule_of result ≡ file_rule }
     ensures fits { FitsChain result }
@@ -43,7 +44,7 @@ pub fn file<'a>(alloc: Global, help: &'a str) -> Arg<'a>
         .action(ArgAction::Set)
 }
 
-/// An option of this name that takes a word, which help calls by the name of its value.
+/// An option of this name that takes a value, with the name of that value in the help.
 pub fn word<'a>(alloc: Global, name: &'a str, value: &'a str, help: &'a str) -> Arg<'a>
     requires { IsOptionName name.now }
     ensures rule { rule_of result ≡ word_rule name.now }
@@ -56,7 +57,7 @@ pub fn word<'a>(alloc: Global, name: &'a str, value: &'a str, help: &'a str) -> 
         .action(ArgAction::Set)
 }
 
-/// A flag of this name, which takes no word.
+/// A flag of this name, which takes no value.
 pub fn flag<'a>(alloc: Global, name: &'a str, help: &'a str) -> Arg<'a>
     requires { IsOptionName name.now }
     ensures rule { rule_of result ≡ flag_rule name.now }
@@ -68,7 +69,7 @@ pub fn flag<'a>(alloc: Global, name: &'a str, help: &'a str) -> Arg<'a>
         .action(ArgAction::SetTrue)
 }
 
-/// The option `--tolerance`, which takes thousandths of 0 to 1,000 (`Tolerance::MOST`).
+/// The option `--tolerance`, which takes thousandths, 0 to 1,000 (`Tolerance::MOST`).
 pub fn tolerance<'a>(alloc: Global, help: &'a str) -> Arg<'a>
     ensures rule { rule_of result ≡ tolerance_rule }
     ensures fits { FitsChain result }

@@ -1,4 +1,4 @@
--- Lists: how many items in four bytes, then the items one after another.
+-- Lists: the number of items in four bytes, then the items one after another.
 use Rattle.std.specs.Prelude.{ℕ, zero, suc, ◌+◌, ◌≤◌, List, [], ◌∷◌, ◌++◌, length, take, drop, flat_map, Result, Ok, Err, nat_lt, cond}
 use Rattle.std.specs.Int.{w32, to_be_bytes}
 use Rattle.chare_index.specs.declared.limits.TheConstants.Limits.{STATE_BYTES}
@@ -18,7 +18,7 @@ IsCounted xs = length xs ≤ STATE_BYTES
 abbrev pub unpack_count : List ℕ → Result ℕ PupError
 unpack_count bytes = and_then (unpack_u32 bytes) (λ c. cond (nat_lt STATE_BYTES c.0) (Err TooLong) (Ok c.0))
 
--- so many items one after another, or the first refusal of one
+-- this number of items one after another, or the first refusal of one
 abbrev pub unpack_items : {T : Type 0} → (List ℕ → Result (T × ℕ) PupError) → ℕ → List ℕ → Result (List T × ℕ) PupError
 unpack_items item zero bytes = Ok ([], 0)
 unpack_items item (suc n) bytes = and_then (item bytes) (λ x. and_then (unpack_items item n (drop x.1 bytes)) (λ xs. Ok (x.0 ∷ xs.0, x.1 + xs.1)))
@@ -26,7 +26,7 @@ unpack_items item (suc n) bytes = and_then (item bytes) (λ x. and_then (unpack_
 abbrev pub unpack_list : {T : Type 0} → (List ℕ → Result (T × ℕ) PupError) → List ℕ → Result (List T × ℕ) PupError
 unpack_list item bytes = and_then (unpack_count bytes) (λ n. and_then (unpack_items item n (drop 4 bytes)) (λ xs. within xs.0 (4 + xs.1)))
 
--- Byte lists: how many bytes in four bytes, then the bytes.
+-- Byte lists: the number of bytes in four bytes, then the bytes.
 
 abbrev pub pack_bytes : List ℕ → List ℕ
 pack_bytes bytes = to_be_bytes w32 (length bytes) ++ bytes

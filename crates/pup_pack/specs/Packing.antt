@@ -21,7 +21,7 @@ UnpackAnswer expected (Err Bad) = expected ≡ Err Bad
 UnpackAnswer expected (Err TooLong) = expected ≡ Err TooLong
 UnpackAnswer expected (Err OutOfMemory) = Unit {0}
 
--- the first refusal of two steps, or what the second makes of the result of the first
+-- the first refusal of two steps, or the result of the second on that of the first
 abbrev pub and_then : {T U : Type 0} → Result T PupError → (T → Result U PupError) → Result U PupError
 and_then (Ok x) next = next x
 and_then (Err e) next = Err e
@@ -34,7 +34,7 @@ within x n = cond (nat_lt STATE_BYTES n) (Err TooLong) (Ok (x, n))
 pub record RoundTrip {T : Type 0} (fits counted : T → Type 0) (pack : T → List ℕ) (unpack : List ℕ → Result (T × ℕ) PupError) : Type 0 where
   pub trip : (x : T) (rest : List ℕ) → fits x → counted x → length (pack x) ≤ STATE_BYTES → unpack (pack x ++ rest) ≡ Ok (x, length (pack x))
 
--- the law as a trait has it
+-- the law in the form that a trait has
 abbrev pub trips_by : {T : Type 0} (fits counted : T → Type 0) (pack : T → List ℕ) (unpack : List ℕ → Result (T × ℕ) PupError)
     → ((x : T) (rest : List ℕ) → fits x → counted x → length (pack x) ≤ STATE_BYTES → unpack (pack x ++ rest) ≡ Ok (x, length (pack x)))
     → RoundTrip fits counted pack unpack

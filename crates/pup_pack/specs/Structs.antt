@@ -17,6 +17,6 @@ judged test value = and_then value (λ x. cond (test x.0) (Ok x) (Err Bad))
 pub made_round_trip : {F S : Type 0} (make : F → S) (fields : Result (F × ℕ) PupError) (x : F) (n : ℕ) → fields ≡ Ok (x, n) → made make fields ≡ Ok (make x, n)
 made_round_trip make fields x n unpacked = rw unpacked refl
 
--- and a value that passes the test is
+-- a value that passes the test is unpacked
 pub judged_round_trip : {S : Type 0} (test : S → Bool) (value : Result (S × ℕ) PupError) (s : S) (n : ℕ) → test s ≡ true → value ≡ Ok (s, n) → judged test value ≡ Ok (s, n)
 judged_round_trip test value s n passes unpacked = rw (unpacked, passes) refl

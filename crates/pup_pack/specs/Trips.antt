@@ -30,7 +30,7 @@ pub pair_trips : {T U : Type 0} {f c : T → Type 0} {p : T → List ℕ} {u : L
 pair_trips {p = p} {u = u} {q = q} {v = v} first second =
     record { trip = λ s rest fit count few. pair_round_trip p q u v s.0 s.1 rest (λ r. first.trip s.0 r fit.0 count.0 (le_first (p s.0) (q s.1) few)) (λ r. second.trip s.1 r fit.1 count.1 (le_second (p s.0) (q s.1) few)) few }
 
--- of a struct that is made from its fields again
+-- of a struct that is made again from its fields
 pub struct_trips : {F S : Type 0} {f c : F → Type 0} {p : F → List ℕ} {u : List ℕ → Result (F × ℕ) PupError} (fields : S → F) (make : F → S) → ((s : S) → make (fields s) ≡ s)
     → RoundTrip f c p u → RoundTrip (λ s. f (fields s)) (λ s. c (fields s)) (λ s. p (fields s)) (λ bytes. made make (u bytes))
 struct_trips {p = p} {u = u} fields make same whole =

@@ -10,13 +10,13 @@ pub enum PupError {
     /// The bytes end before the value does.
     #[error("the packed bytes are too short")]
     Short = 1,
-    /// The bytes are those of no value of the type. No type of this crate returns this.
+    /// The bytes are not a value of the type. No type of this crate returns this.
     #[error("the packed bytes are no value")]
     Bad = 2,
     /// The pack is longer than 1,048,576 bytes, or a list in it has more than 1,048,576 items.
     #[error("the packed value is too long")]
     TooLong = 3,
-    /// No memory was left.
+    /// Memory was refused.
     #[error("out of memory")]
     OutOfMemory = 4,
 }

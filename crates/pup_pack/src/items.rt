@@ -37,7 +37,7 @@ impl<T, A: Allocator> Items<T, A> {
         self.all.as_slice()
     }
 
-    /// Appends an item, which is handed back where no memory is left.
+    /// Appends an item, which is returned in the error where memory is refused.
     pub fn push(&mut self, item: T) -> Result<(), AllocFailed<T>>
         ensures appended { OnOk result (self.new ≡ self.old ++ item ∷ []) }
         ensures err { OnErr result (self.new ≡ self.old) }

@@ -39,7 +39,7 @@ pub fn list_len<A: Allocator, T: Pup<A>>(items: &[T]) -> u32
     len
 }
 
-/// Appends the packs of these items, which are known to be few enough bytes.
+/// Appends the packs of these items, which together are known to be within the limit.
 pub fn pack_items<A: Allocator, T: Pup<A>>(
     items: &[T],
     out: &mut Vec<u8, A>,
@@ -64,8 +64,8 @@ pub fn pack_items<A: Allocator, T: Pup<A>>(
     Ok(())
 }
 
-/// The items whose packs the bytes begin with, and how many bytes these packs have. Memory is requested as items are
-/// found, so a count of more items than the bytes have takes no memory for them.
+/// The items whose packs the bytes begin with, and the length of these packs. Memory is requested as items are found, so a
+/// count of more items than the bytes hold takes no memory for those that are missing.
 pub fn unpack_items<A: Allocator + Copy, T: Pup<A> + Drop>(
     alloc: A,
     count: u32,

@@ -54,11 +54,11 @@ use std::alloc::Allocator;
 /// }
 /// ```
 ///
-/// This needs no proof file. The law is put together as the type is: `pair_trips` of the laws of the fields, and
-/// `struct_trips` of how the struct is made of them. A type for which some fields make no value tests what it unpacked,
-/// returns [`Bad`](PupError::Bad), and has `judged` and `judged_trips` in place of these.
+/// This needs no proof file. The law is put together as the type is: `pair_trips` of the laws of the fields, and `struct_trips`
+/// of how the struct is made of them. Where not all fields make a value of the type, its `unpack` tests them and returns
+/// [`Bad`](PupError::Bad), and its impl has `judged` and `judged_trips` in place of these.
 pub trait Pup<A: Allocator>: Sized {
-    /// Holds of every value of the type: in the law below an integer is any natural number.
+    /// Holds of every value of the type. The law below asks for it, since there an integer is any natural number.
     ghost fits: { Self → Type 0 };
 
     /// Whether each list in the value has at most 1,048,576 items.
@@ -67,7 +67,7 @@ pub trait Pup<A: Allocator>: Sized {
     /// The bytes that the value packs into.
     ghost pack: { Self → List ℕ };
 
-    /// What bytes unpack to: the value and how many bytes it took, or the refusal.
+    /// What bytes unpack to: the value and the number of bytes that it took, or the refusal.
     ghost unpack: { List ℕ → Result (Self × ℕ) PupError };
 
     /// The length of the pack in bytes, or 1,048,577 where it is more than 1,048,576. Takes no memory.
@@ -84,9 +84,8 @@ pub trait Pup<A: Allocator>: Sized {
     ///
     /// - [`TooLong`](PupError::TooLong): the pack is longer than 1,048,576 bytes, or a list in the value has more
     ///   than 1,048,576 items.
-    /// - [`OutOfMemory`](PupError::OutOfMemory): the bytes did not fit in the capacity of `out`, and no memory was
-    ///   left. A pack that is too long is never refused for memory; a list with too many items, whose items pack
-    ///   into nothing, may be.
+    /// - [`OutOfMemory`](PupError::OutOfMemory): the bytes did not fit in the capacity of `out`, and memory was refused. A pack
+    ///   that is too long is never refused for memory; a list with too many items, whose items pack into nothing, may be.
     fn pack_into(&self, out: &mut Vec<u8, A>) -> Result<(), PupError>
         ensures appended { OnOk result (out.new.items ≡ out.old.items ++ pack self.now) }
         ensures answer { PackAnswer (counted self.now) (length (pack self.now)) result }
@@ -94,16 +93,16 @@ pub trait Pup<A: Allocator>: Sized {
         ensures err { OnErr result (out.new.items ≡ out.old.items) }
         ensures capacity { vec_capacity out.old ≤ vec_capacity out.new };
 
-    /// The value whose pack the bytes begin with, and how many bytes that pack has.
+    /// The value whose pack the bytes begin with, and the length of that pack.
     ///
     /// # Errors
     ///
     /// - [`Short`](PupError::Short): the bytes end before the value does.
-    /// - [`Bad`](PupError::Bad): the bytes are those of no value of the type.
+    /// - [`Bad`](PupError::Bad): the bytes are not a value of the type.
     /// - [`TooLong`](PupError::TooLong): a list has more than 1,048,576 items, or the value would pack into more
     ///   than 1,048,576 bytes.
-    /// - [`OutOfMemory`](PupError::OutOfMemory): no memory was left. It may be reported in place of a refusal
-    ///   that only later bytes would show.
+    /// - [`OutOfMemory`](PupError::OutOfMemory): memory was refused. It may be reported in place of a refusal that only later
+    ///   bytes would show.
     fn unpack(alloc: A, bytes: &[u8]) -> Result<(Self, usize), PupError>
         ensures answer { UnpackAnswer (unpack bytes.now) result }
         ensures within { IfOk result (λ r. r.1 ≤ length bytes.now) };

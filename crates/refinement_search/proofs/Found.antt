@@ -16,7 +16,7 @@ use Rattle.refinement_search.specs.Spans.{AreFars, AreNears}
 use Rattle.refinement_search.proofs.RowPlaces.{spans_of}
 use Rattle.refinement_search.proofs.Tables.{read_begins, read_bound, read_within, starts_rise}
 
--- what is searched, with the heights as its table
+-- what is searched, with these heights as its table
 abbrev searched : Chain → List ℕ → ℕ → List (List (ℕ × ℕ)) → Searched
 searched c loads limit heights =
     record {
@@ -87,12 +87,12 @@ pub nearest_where_found : (c : Chain) (loads : List ℕ) (limit : ℕ) (heights 
 nearest_where_found c loads limit heights cuts h =
     read_nearest (searched c loads limit heights) cuts (is_search c loads limit heights cuts h) (reading c loads limit heights cuts h) (begins c loads limit heights cuts h)
 
--- the least starts of a chain rise
+-- the least starts of a chain never fall
 starts_onward : (loads : List ℕ) (limit : ℕ) (starts : List ℕ) (x y : ℕ) → length starts ≡ length loads + 1 → AreStarts loads limit (slice_index starts) → x ≤ y → y < length starts → slice_index starts x ≤ slice_index starts y
 starts_onward loads limit starts x y counted are onward inside =
     starts_rise loads limit (slice_index starts) x y are onward (omega arith)
 
--- the lists of a chain belong together, where each is what its maker says
+-- the lists of a chain fit together, where each is what its maker promises
 pub spanned : (c : Chain) (loads : List ℕ) (limit : ℕ) → IsSizes c.sizes.now → length loads ≡ length c.sizes.now → 0 < length c.names.now → length c.names.now ≤ PES → IsNaming (length c.names.now) c.names.now → StandInOrder c.sizes.now c.names.now c.present.now → length c.starts.now ≡ length loads + 1 → AreStarts loads limit (slice_index c.starts.now) → length c.near.now ≡ length c.names.now → AreNears c.present.now (length c.names.now) (slice_index c.starts.now) (slice_index c.near.now) → length c.far.now ≡ length c.names.now → AreFars c.present.now (length c.names.now) (length c.starts.now - 1) (slice_index c.starts.now) (slice_index c.far.now) → IsSpanned c
 spanned c loads limit sized paired some few naming order counted starts nears near fars far =
     let elements : length c.starts.now - 1 ≡ length c.sizes.now = omega arith in

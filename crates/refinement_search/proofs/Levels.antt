@@ -8,7 +8,7 @@ use Rattle.refinement_search.specs.Rows.{AreStepsOf, with_step}
 use Rattle.refinement_search.specs.Tables.{IsLevelTo}
 use Rattle.chain_refinement.proofs.Climbs.{height_rises}
 
--- a step behind a place changes nothing there
+-- a step behind a place changes nothing at that place
 height_push_behind : (steps : List (ℕ × ℕ)) (at rise x : ℕ) → x < at → height (steps ++ (at, rise) ∷ []) x ≡ height steps x
 height_push_behind [] at rise x behind =
     let test : nat_le at x ≡ false = lt-leb at x behind in rw test refl
@@ -111,7 +111,7 @@ steps_done row near far place steps last h same =
       level = λ x behind. h.behind x (omega arith) ∙ h.last_is ∙ ap (slice_index row) same;
     }
 
--- a level that ends where the height rises
+-- a level up to where the height rises
 pub level_ends : (steps : List (ℕ × ℕ)) (low far cut : ℕ) → low ≤ cut → cut < far → height steps cut ≡ height steps low → height steps cut < height steps (cut + 1) → IsLevelTo (height steps) low far cut
 level_ends steps low far cut from to level higher =
     record {
@@ -121,7 +121,7 @@ level_ends steps low far cut from to level higher =
       last = λ x behind _. omega (arith, higher, height_rises steps (cut + 1) x (omega arith));
     }
 
--- a level that goes all the way
+-- a level up to the last place
 pub level_full : (steps : List (ℕ × ℕ)) (low far cut : ℕ) → low ≤ cut → cut ≡ far → height steps cut ≡ height steps low → IsLevelTo (height steps) low far cut
 level_full steps low far cut from to level =
     record { from = from; to = omega arith; level = level; last = λ x behind within. absurd (omega arith) }

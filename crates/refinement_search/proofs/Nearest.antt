@@ -1,4 +1,4 @@
--- Cuts that are read off a table lie nearest the present ones.
+-- Cuts that are read off a table are nearest to the present ones.
 use Rattle.std.proofs.Common.{◌≡◌, ℕ, zero, suc, ◌+◌, ◌-◌, ◌<◌, ◌≤◌, max, List, length, slice_index, arith, ap, ◌∙◌, subst, add-one, inl, inr}
 use Rattle.std.proofs.lemmas.Bool.{cases_lt}
 use Rattle.lb_snapshot.specs.Measured.{load}
@@ -12,7 +12,7 @@ use Rattle.chain_refinement.proofs.CutCosts.{moved_by_cuts}
 use Rattle.refinement_search.specs.Tables.{IsLevel, IsSearch, Searched}
 use Rattle.refinement_search.proofs.Tables.{cost_to, IsReading, read_bound, read_cost, read_within, rises_at, table_bounds, top}
 
--- a level goes to a place that lies between the present cut and any other place on the level
+-- a level ends at a place between the present cut and any other place on the level
 level_between : (at : ℕ → ℕ) (present low cut other : ℕ) → ((x y : ℕ) → x ≤ y → at x ≤ at y) → IsLevel at present low cut → low ≤ other → at other ≤ at low → LiesBetween present cut other
 level_between at present low cut other rises level behind no_higher =
     elim (cases_lt (max present low) other) [
@@ -38,7 +38,7 @@ rest_same : (sizes : List (ℕ × ℕ)) (names cuts others : List ℕ) (b left :
 rest_same sizes names cuts others b left same =
     total_agree b left (λ k. cut_cost sizes names k (slice_index others (k + 1))) (λ k. cut_cost sizes names k (slice_index cuts (k + 1))) (λ k low high. ap (λ x. cut_cost sizes names k x) (same (k + 1) (omega arith) (omega arith)))
 
--- cuts that move as many bytes cost as much
+-- cuts that move the same number of bytes cost the same
 same_cost : (s : Searched) (cuts others : List ℕ) → IsSearch s → AreFewest s.loads s.sizes s.names s.limit cuts → AreFewest s.loads s.sizes s.names s.limit others → cuts_cost s.sizes s.names others ≡ cuts_cost s.sizes s.names cuts
 same_cost s cuts others h one other =
     omega (
@@ -49,7 +49,7 @@ same_cost s cuts others h one other =
       moved_by_cuts s.sizes s.names others h.some_block (subst (λ n. IsDivision 0 n (length s.names) others) h.paired other.within.divides),
     )
 
--- where other cuts that move the fewest bytes are the same behind a cut, theirs has no greater height
+-- where other cuts that move the fewest bytes are the same behind a cut, the height is no greater at their cut
 no_higher_at : (s : Searched) (cuts others : List ℕ) (b : ℕ) → IsSearch s → IsReading s cuts → s.start (slice_index cuts 1) ≡ 0 → AreFewest s.loads s.sizes s.names s.limit cuts → AreFewest s.loads s.sizes s.names s.limit others → b < length s.names → ((k : ℕ) → b < k → k ≤ length s.names → slice_index others k ≡ slice_index cuts k) → s.at b (slice_index others b) ≤ s.at b (s.start (slice_index cuts (b + 1)))
 no_higher_at s cuts others b h read begins one other inside same =
     let left : ℕ = length s.names - 1 - b in

@@ -23,7 +23,7 @@ row_same near far start cost below above below₂ above₂ lower upper row =
           (there.0, there.1, there.2, omega (arith, there.3, upper x, lower (start there.0)));
     }
 
--- a row behind others leaves them as they are
+-- a row added behind others leaves them unchanged
 height_kept : (rows : List (List (ℕ × ℕ))) (steps : List (ℕ × ℕ)) (b x : ℕ) → b < length rows → height_at (rows ++ steps ∷ []) b x ≡ height_at rows b x
 height_kept rows steps b x inside = ap (λ s. height s x) (get_or_append_left rows (steps ∷ []) [] b inside)
 
@@ -39,7 +39,7 @@ first_heights rise row first elsewhere zero inside = sym first
 first_heights rise row first elsewhere (suc x) inside =
     first_height rise (suc x) (omega arith) ∙ sym (elsewhere (suc x) (omega arith) inside)
 
--- the pile of the first row
+-- the pile that has only the first row
 pub piled_first : (c : Chain) → ArePiledOn c 1 (height_at (((1, 2 ^ 62) ∷ []) ∷ []))
 piled_first c =
     record {
@@ -85,7 +85,7 @@ sum_is c b rows below x h inside piled topped to =
     ] in
     ap (λ n. n + cut_cost c.sizes.now c.names.now b x) there
 
--- the words of a row that is written over the one below it
+-- a row is written over the one below it
 abbrev pub IsWrittenOn : Chain → ℕ → List ℕ → List ℕ → Type 0
 IsWrittenOn c b below above =
     IsWrittenFrom (slice_index c.far.now (b + 1)) (sum_at c.sizes.now c.starts.now below (slice_index c.near.now b) (slice_index c.names.now b) (slice_index c.names.now (b + 1))) below above (slice_index c.near.now (b + 1))
@@ -122,7 +122,7 @@ piled_more c b rows below above steps h inside counted piled topped written step
       ];
     }
 
--- and its last row
+-- the last row of a pile with one more row
 pub topped_more : (c : Chain) (b : ℕ) (rows : List (List (ℕ × ℕ))) (below above : List ℕ) (steps : List (ℕ × ℕ)) → IsSpanned c → b + 1 < length c.names.now → length rows ≡ b + 1 → length below ≡ length c.starts.now → AreTopped (slice_index c.near.now b) (slice_index c.far.now b) b rows below → IsWrittenOn c b below above → AreStepsOf above (slice_index c.near.now (b + 1)) (slice_index c.far.now (b + 1)) steps → AreTopped (slice_index c.near.now (b + 1)) (slice_index c.far.now (b + 1)) (b + 1) (rows ++ steps ∷ []) above
 topped_more c b rows below above steps h inside counted room topped written stepped =
     let near : ℕ = slice_index c.near.now (b + 1) in

@@ -113,7 +113,7 @@ far_one present blocks elements start far b place counted divides small some wit
       last = omega (arith, other (blocks - 1) (omega arith), h.last);
     }
 
--- both together
+-- the first and the last places together
 pub spans_of : (present : List ℕ) (blocks elements : ℕ) (start near far : ℕ → ℕ) → AreNears present blocks start near → AreFars present blocks elements start far → AreSpans present blocks elements start near far
 spans_of present blocks elements start near far nears fars =
     record {

@@ -91,7 +91,7 @@ table_bounds s h =
           rises_at s (length s.names - 1) (s.start (length s.loads)) y h (omega (arith, h.some_block)) ((h.starts (length s.loads) (omega arith)).least y within light);
     }
 
--- what is known of a place that a level ends at
+-- what is known of a place at which a level ends
 pub record IsLevelCut (s : Searched) (b low cut : ℕ) : Type 0 where
   pub near : s.near (b + 1) ≤ cut
   pub far : cut ≤ s.far (b + 1)
@@ -159,7 +159,7 @@ levels_ordered s b low cut next h inside low_in level level_next =
           absurd (omega (arith, higher, low_there, lower, level.level, cheaper, there.cost, level_next.level))
     ]
 
--- the words of what is read, of one search
+-- these cuts are read off the table of a search
 abbrev pub IsReading : Searched → List ℕ → Type 0
 IsReading s cuts = AreRead (length s.names) s.present (length s.loads) s.start s.at cuts
 
@@ -199,7 +199,7 @@ block_starts s cuts (suc b) h read begins inside =
     ] in
     subst (λ n. (s.start (slice_index cuts (n + 1)) ≤ slice_index cuts n) × (slice_index cuts n ≤ slice_index cuts (n + 1))) (add-one b) (level.from, ordered)
 
--- what the first so many cuts between blocks cost
+-- what the first b cuts between blocks cost
 abbrev pub cost_to : Searched → List ℕ → ℕ → ℕ
 cost_to s cuts b = total b (λ k. cut_cost s.sizes s.names k (slice_index cuts (k + 1)))
 
@@ -221,7 +221,7 @@ read_cost_all s cuts h read =
     let end : slice_index cuts (last + 1) ≡ length s.loads = ap (slice_index cuts) same ∙ read.ends in
     read_cost s cuts last h read (omega (arith, h.some_block)) ∙ ap (λ x. s.at last (s.start x)) end
 
--- neighbors in order are all in order
+-- where all neighbors are in order, all are
 rises_by : (f : ℕ → ℕ) (n i k : ℕ) → ((b : ℕ) → b < n → f b ≤ f (b + 1)) → i + k ≤ n → f i ≤ f (i + k)
 rises_by f n i zero steps within = simp add-zero (omega arith)
 rises_by f n i (suc k) steps within =

@@ -1,4 +1,4 @@
--- A least division keeps to every tolerance.
+-- A least division is within every tolerance.
 use Rattle.std.proofs.Common.{ℕ, ◌+◌, ◌-◌, ◌^◌, ◌<◌, ◌≤◌, List, length, slice_index, arith}
 use Rattle.std.proofs.lemmas.List.Sums.{sum_by-take-le}
 use Rattle.lb_snapshot.specs.Measured.{IsLoads, load}

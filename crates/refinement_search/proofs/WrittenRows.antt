@@ -68,7 +68,7 @@ written_one far sum old row x value room h some inside is =
       ];
     }
 
--- the sum of the place before, read off what is left of the old row
+-- the sum of the place before, from what is still there of the old row
 pub sum_read : (far : ℕ) (sizes : List (ℕ × ℕ)) (starts old row : List ℕ) (below from to x : ℕ) (sum : ℕ → ℕ) → IsWrittenFrom far sum old row x → 0 < x → slice_index starts (x - 1) ≤ x - 1 → below ≤ x - 1 → slice_index row (max (slice_index starts (x - 1)) below) + (held_from sizes from (x - 1) + held_before sizes to (x - 1)) ≡ sum_at sizes starts old below from to (x - 1)
 sum_read far sizes starts old row below from to x sum h some before low =
     ap (λ n. n + (held_from sizes from (x - 1) + held_before sizes to (x - 1))) (h.same (max (slice_index starts (x - 1)) below) (omega arith))

@@ -7,7 +7,7 @@ use Rattle.chain_refinement.specs.Orders.{AreApartAt}
 use Rattle.refinement_search.specs.Tables.{ArePiled, AreSpans}
 use Rattle.refinement_search.specs.declared.rows.Chain.{Chain}
 
--- the lists of a chain belong together
+-- the lists of a chain fit together
 pub record IsSpanned (c : Chain) : Type 0 where
   pub sized : IsSizes c.sizes.now
   pub some_block : 0 < length c.names.now
@@ -21,7 +21,7 @@ pub record IsSpanned (c : Chain) : Type 0 where
   pub fars : length c.far.now ≡ length c.names.now
   pub spans : AreSpans c.present.now (length c.names.now) (length c.sizes.now) (slice_index c.starts.now) (slice_index c.near.now) (slice_index c.far.now)
 
--- the rows of so many of its blocks
+-- the rows of the first `blocks` blocks
 abbrev pub ArePiledOn : Chain → ℕ → (ℕ → ℕ → ℕ) → Type 0
 ArePiledOn c blocks at =
     ArePiled c.sizes.now c.names.now (2 ^ 62) (slice_index c.starts.now) (slice_index c.near.now) (slice_index c.far.now) blocks at

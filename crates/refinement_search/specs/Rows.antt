@@ -27,7 +27,7 @@ pub record AreStepsOf (row : List ℕ) (near far : ℕ) (steps : List (ℕ × �
   pub heights : (x : ℕ) → near ≤ x → x ≤ far → height steps x ≡ slice_index row x
   pub level : (x : ℕ) → far ≤ x → height steps x ≡ slice_index row far
 
--- the last row of a pile, between its places, and a bound on all numbers of the list that it stands in
+-- the last row of a pile, between its places, and a bound on all numbers of the list that holds it
 pub record AreTopped (near far b : ℕ) (rows : List (List (ℕ × ℕ))) (top : List ℕ) : Type 0 where
   pub heights : (x : ℕ) → near ≤ x → x ≤ far → height_at rows b x ≡ slice_index top x
   pub small : (x : ℕ) → x < length top → slice_index top x ≤ 2 ^ 62 + b * 2 ^ 37

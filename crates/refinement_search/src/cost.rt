@@ -6,7 +6,7 @@ ghost use Rattle.chain_refinement.specs.Refinement.{held_before, held_bytes, hel
 
 use chare_index::Pe;
 
-// The bytes of this element that stand on this PE.
+// The bytes of this element that are on this PE.
 fn held_on(element: (u32, Pe), pe: u32) -> u32
     ensures { result ≡ held_bytes element pe }
 {
@@ -14,7 +14,7 @@ fn held_on(element: (u32, Pe), pe: u32) -> u32
     if place.get() == pe { bytes } else { 0 }
 }
 
-/// What a cut between a block on one PE and a block on another costs at a place, by what it costs at the next one.
+/// What a cut between a block on one PE and a block on another costs at a place, from what it costs at the next one.
 #[tactic(auto, using(crate::proofs::CostsBack::cost_moves_back))]
 pub(crate) fn cost_before(
     elements: &[(u32, Pe)],

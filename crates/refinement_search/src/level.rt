@@ -13,7 +13,7 @@ use std::alloc::{AllocError, Allocator};
 ///
 /// # Errors
 ///
-/// Out of memory, where the list could not grow.
+/// Memory for the list was refused.
 pub(crate) fn steps_of<A: Allocator>(
     alloc: A,
     row: &[u64],
@@ -36,7 +36,7 @@ pub(crate) fn steps_of<A: Allocator>(
     Ok(Steps::new(steps))
 }
 
-// Puts a step behind the others, unless it does not rise.
+// Appends a step to the others, unless it does not rise.
 fn push_step<A: Allocator>(
     steps: &mut Vec<(u32, u64), A>,
     at: u32,

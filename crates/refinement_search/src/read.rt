@@ -12,7 +12,7 @@ use std::alloc::{AllocError, Allocator};
 ///
 /// # Errors
 ///
-/// Out of memory, where the list was refused.
+/// Memory for the list was refused.
 pub(crate) fn read_cuts<A: Allocator>(
     alloc: A,
     rows: &[Steps<A>],
@@ -33,7 +33,7 @@ pub(crate) fn read_cuts<A: Allocator>(
     Ok(cuts)
 }
 
-// Writes them.
+// Writes these cuts.
 fn write_cuts<A: Allocator>(rows: &[Steps<A>], starts: &[u32], present: &[u32], cuts: &mut [u32])
     requires some_block { 0 < length rows.now }
     requires counted { length cuts.old ≡ length rows.now + 1 }

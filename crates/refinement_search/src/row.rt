@@ -9,7 +9,7 @@ use crate::cost::cost_before;
 use chain_refinement::walk::held_by;
 use chare_index::Pe;
 
-/// The places of a row, of the present cut, and of the first place of the row below.
+/// The first and the last place of a row, the present cut, and the first place of the row below.
 #[derive(Clone, Copy)]
 pub(crate) struct Span {
     pub(crate) below: u32,
@@ -26,8 +26,9 @@ pub(crate) struct Sides {
 }
 
 /// Writes the row of a block over that of the block before it, from its last place to its first: at each the least, over its
-/// places from there on, of the row below at the least start of a block that ends there and of what the cut costs. The list is
-/// that of the row below, and each number is read before it is written over, since no start lies behind its end.
+/// places from there on, of the row below at the least start of a block that ends there and of what the cut costs. The list
+/// holds the row below at first, and each of its numbers is read before it is written over, since no block starts behind its
+/// end.
 pub(crate) fn write_row(
     sizes: &[(u32, Pe)],
     starts: &[u32],

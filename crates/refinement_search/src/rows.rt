@@ -17,7 +17,7 @@ const NONE: u64 = 1 << 62;
 /// What rows are made of.
 #[derive(Clone, Copy)]
 pub(crate) struct Chain<'a> {
-    /// The bytes of each element, and the PE on which it stands.
+    /// The bytes of each element, and the PE that it is on.
     pub(crate) sizes: &'a [(u32, Pe)],
     /// The PEs, in order.
     pub(crate) names: &'a [u32],
@@ -35,7 +35,7 @@ pub(crate) struct Chain<'a> {
 ///
 /// # Errors
 ///
-/// Out of memory.
+/// Memory was refused.
 pub(crate) fn heights_of<A: Allocator + Copy>(
     alloc: A,
     chain: &Chain<'_>,

@@ -21,15 +21,15 @@ use lb_certificates::{Cuts, Division, Naming, Snapshot, Units};
 use std::alloc::{AllocError, Allocator};
 
 /// Cuts of this snapshot's elements within a tolerance above the least division that move the fewest bytes, where the PEs keep
-/// the order in which they stand, and of several such cuts those nearest the present ones, chosen from the end of the chain.
+/// their present order, and of several such cuts those nearest to the present ones, chosen from the end of the chain.
 ///
 /// The cuts are a shortest path, layer by layer: of all cuts up to the beginning of a block only the cheapest is kept, and only
-/// where it lies between two bounds that some best cuts keep to. Source: R. K. Ahuja, T. L. Magnanti and J. B. Orlin, "Network
+/// where it is between two bounds that some best cuts keep to. Source: R. K. Ahuja, T. L. Magnanti and J. B. Orlin, "Network
 /// Flows", 1993, chapter 4.
 ///
 /// # Errors
 ///
-/// Out of memory.
+/// Memory was refused.
 pub fn refine_in_order<A: Allocator + Copy, B: Allocator>(
     alloc: A,
     snapshot: &Snapshot<B>,

@@ -11,7 +11,7 @@ use std::alloc::{AllocError, Allocator};
 ///
 /// # Errors
 ///
-/// Out of memory, where the list was refused.
+/// Memory for the list was refused.
 pub(crate) fn first_places<A: Allocator>(
     alloc: A,
     starts: &[u32],
@@ -30,7 +30,7 @@ pub(crate) fn first_places<A: Allocator>(
     Ok(near)
 }
 
-// Writes them.
+// Writes these places.
 fn write_near(starts: &[u32], present: &[u32], near: &mut [u32])
     requires some_block { 0 < length near.old }
     requires divides { IsDivision 0 (length starts.now - 1) (length near.old) present.now }
@@ -66,7 +66,7 @@ fn reached(starts: &[u32], from: u32, cut: u32) -> u32
 ///
 /// # Errors
 ///
-/// Out of memory, where the list was refused.
+/// Memory for the list was refused.
 pub(crate) fn last_places<A: Allocator>(
     alloc: A,
     starts: &[u32],
@@ -85,7 +85,7 @@ pub(crate) fn last_places<A: Allocator>(
     Ok(far)
 }
 
-// Writes them.
+// Writes these places.
 fn write_far(starts: &[u32], present: &[u32], far: &mut [u32])
     requires some_block { 0 < length far.old }
     requires divides { IsDivision 0 (length starts.now - 1) (length far.old) present.now }

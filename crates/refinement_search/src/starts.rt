@@ -12,7 +12,7 @@ use std::alloc::{AllocError, Allocator};
 ///
 /// # Errors
 ///
-/// Out of memory, where the one list was refused.
+/// Memory for the one list was refused.
 pub(crate) fn least_starts<A: Allocator>(
     alloc: A,
     loads: &[Units],
@@ -27,7 +27,7 @@ pub(crate) fn least_starts<A: Allocator>(
     Ok(starts)
 }
 
-// Writes them.
+// Writes these starts.
 fn write_starts(loads: &[Units], limit: u64, starts: &mut [u32])
     requires valid { IsLoads loads.now }
     requires room { length starts.old ≡ length loads.now + 1 }

@@ -1,6 +1,6 @@
 //! What `--help` says. Its lines have at most 80 characters.
 
-/// What the program does, in a line.
+/// What the program does, in one line.
 pub(crate) const ABOUT: &str =
     "Tells how balanced the loads of dumps are, before and after a balancing step";
 

@@ -1,5 +1,5 @@
-//! The command line of `lb_report`: what its words ask for, and the status where they ask for no report. clap reads them,
-//! and writes the texts of what it refuses, of help and of the version.
+//! The command line of `lb_report`: what its arguments ask for, and the status where they ask for no report. clap reads them,
+//! and writes the texts for what it refuses, for help and for the version.
 //!
 //! ```
 //! use report_command_line::{NO_WORDS, asked, numbers, words_status};

@@ -14,7 +14,7 @@ use streams::write_out;
 pub enum NumbersError {
     /// They are not numbers of 1 to 256 (`Limits::PES`), in decimal digits without leading zeros, with a comma between two.
     Spelling,
-    /// No memory was left.
+    /// Memory was refused.
     OutOfMemory,
 }
 
@@ -47,8 +47,8 @@ pub fn numbers<A: Allocator + Copy>(alloc: A, text: &str) -> Result<Vec<u32, A>,
     Err(NumbersError::Spelling)
 }
 
-/// Writes that this text spells no numbers of PEs, and returns the status for that, [`NO_WORDS`]. Where memory is refused nothing
-/// is written.
+/// Writes that this text is not a list of numbers of PEs, and returns the status for that, [`NO_WORDS`]. Where memory is
+/// refused nothing is written.
 pub fn refuse_numbers<A: Allocator, W: Write>(alloc: A, writer: &mut W, text: &str) -> u8
     ensures told { WritesPrefix (W.contents writer.old) (W.contents writer.new) (no_numbers_line text.now) }
     ensures status { result ≡ NO_WORDS }
@@ -62,7 +62,7 @@ pub fn refuse_numbers<A: Allocator, W: Write>(alloc: A, writer: &mut W, text: &s
     NO_WORDS
 }
 
-// The numbers between the commas, also where they are not spelled as they have to be.
+// The numbers between the commas, also where their spelling is not allowed.
 fn read<A: Allocator>(alloc: A, text: &str) -> Result<Vec<u32, A>, NumbersError>
     ensures { IfOk result (λ numbers. All IsNumber numbers.items) }
 {
@@ -79,7 +79,7 @@ fn read<A: Allocator>(alloc: A, text: &str) -> Result<Vec<u32, A>, NumbersError>
     Ok(found)
 }
 
-// The text that these numbers are spelled by.
+// The text of these numbers.
 fn write<A: Allocator>(alloc: A, numbers: &[u32]) -> Result<String<A>, AllocError>
     ensures { IfOk result (λ text. string_bytes text ≡ numerals numbers.now) }
 {

@@ -14,12 +14,13 @@ use clap::{Arg, ArgAction, ArgMatches, Command, Error};
 use program_words::{flag, new_program, tolerance_in, word};
 use std::alloc::{AllocError, Global};
 
-/// Reads the words of a command line, the program's name first.
+/// Reads the arguments of a command line, the program's name first.
 ///
 /// # Errors
 ///
-/// The words are not `[--procs P[,P..]] [--tolerance T] [--csv] [--moves] FILE..` with a T of 0 to 1,000 (`Tolerance::MOST`), help or
-/// the version is asked for, or it is out of memory. The error has the text to print; [`words_status`] is the status for it.
+/// The arguments are not `[--procs P[,P..]] [--tolerance T] [--csv] [--moves] FILE..` with a T of 0 to 1,000
+/// (`Tolerance::MOST`), help or the version is asked for, or memory ran out. The error has the text to print; [`words_status`]
+/// is the status for it.
 pub fn asked<'a>(alloc: Global, words: &'a [&'a str]) -> Result<Asked<'a>, Error>
     ensures faults { FailsBy (fault_of program (texts words.now)) result }
     ensures files { IfOk result (λ asked. files_in (texts words.now) ≡ texts asked.files.items) }
@@ -35,8 +36,8 @@ pub fn asked<'a>(alloc: Global, words: &'a [&'a str]) -> Result<Asked<'a>, Error
     }
 }
 
-// The words that are understood: `lb_report [--procs P[,P..]] [--tolerance T] [--csv] [--moves] FILE..`, and those for help and
-// for the version, which clap adds.
+// The arguments that are understood: `lb_report [--procs P[,P..]] [--tolerance T] [--csv] [--moves] FILE..`, and those for help
+// and for the version, which clap adds.
 fn command<'a>(alloc: Global) -> Result<Command<'a>, AllocError>
     ensures program { IfOk result (λ command. app_of command ≡ program) }
 {
@@ -101,7 +102,7 @@ fn moves<'a>(alloc: Global) -> Arg<'a>
     )
 }
 
-// What the words ask for.
+// What the arguments ask for.
 fn found<'a>(alloc: Global, matches: &ArgMatches<'a>) -> Result<Asked<'a>, AllocError>
     ensures files { IfOk result (λ asked. unwrap_or (option_map raw_values (matched_of (found_of matches.now) (codes "file"))) [] ≡ texts asked.files.items) }
     ensures procs { IfOk result (λ asked. first_value (found_of matches.now) (codes "procs") ≡ option_map (λ text. text.now) asked.procs) }

@@ -1,4 +1,4 @@
--- What the words of a command line ask for, as clap reads them: `lb_sim [--procs P] [--tolerance T] [--check] FILE`.
+-- What the arguments of a command line ask for, as clap reads them: `lb_sim [--procs P] [--tolerance T] [--check] FILE`.
 use Rattle.std.specs.Prelude.{ℕ, ◌≡◌, ◌≤◌, List, [], ◌∷◌, ◌++◌, Option, None, Some, codes, pos, true}
 use Rattle.std.specs.Str.Parse.{IsNumeral, digits_value, without_leading_plus}
 use Rattle.clap.specs.Words.{App, Rule, Text, first_of, matches_of, one_of, with_rule}
@@ -12,37 +12,37 @@ use Rattle.program_words.specs.Arguments.{file_rule, flag_rule, tolerance_rule, 
 abbrev pub procs_rule : Rule
 procs_rule = record (word_rule (codes "procs")) { parser = Some (Signed (pos 1) (pos PES)) }
 
--- a flag, which takes no word: the decision that the dump has is to be checked
+-- a flag, which takes no value: the decision in the dump is to be checked
 abbrev pub check_rule : Rule
 check_rule = flag_rule (codes "check")
 
--- the program with its words, to which clap adds those that ask for help and for the version
+-- the program with its arguments, to which clap adds those that ask for help and for the version
 abbrev pub program : App
 program =
     with_rule (with_rule (with_rule (with_rule (versioned (codes "lb_sim")) file_rule) procs_rule) tolerance_rule) check_rule
 
--- the word that names the file
+-- the argument that names the file
 abbrev pub file_in : List Text → Option Text
 file_in words = first_of (codes "file") (matches_of program words)
 
--- the word that says how many PEs there are to be
+-- the argument with the number of PEs
 abbrev pub procs_in : List Text → Option Text
 procs_in words = one_of (codes "procs") (matches_of program words)
 
--- the word that says what the tolerance is
+-- the argument with the tolerance
 abbrev pub tolerance_in : List Text → Option Text
 tolerance_in words = one_of (codes "tolerance") (matches_of program words)
 
--- the word spells a number of PEs that there may be
+-- the argument spells a number of PEs within the limits
 abbrev pub Spells : Option Text → ℕ → Type 0
 Spells None n = ⊥
 Spells (Some word) n = IsNumeral 10 (without_leading_plus word) × (n ≡ digits_value 10 (without_leading_plus word)) × (1 ≤ n) × (n ≤ PES)
 
--- the words have the flag, which clap reads as the text `true`, and a flag that is not there as `false`
+-- the arguments have the flag, which clap reads as the text `true`, and a flag that is not there as `false`
 abbrev pub AsksCheck : List Text → Type 0
 AsksCheck words = one_of (codes "check") (matches_of program words) ≡ Some (codes "true")
 
--- the line where a check is asked for, and a number of PEs or a tolerance too
+-- the line where a check is asked for, and also a number of PEs or a tolerance
 abbrev pub both_line : Clash → List ℕ
 both_line ProcsAndCheck = codes "lb_sim: --procs and --check" ++ 10 ∷ []
 both_line ToleranceAndCheck = codes "lb_sim: --tolerance and --check" ++ 10 ∷ []

@@ -1,10 +1,10 @@
 //! What `--help` says. Its lines have at most 80 characters.
 
-/// What the program does, in a line.
+/// What the program does, in one line.
 pub(crate) const ABOUT: &str =
     "Replays a dump of the load database and prints the decision of its balancing step";
 
-/// A dump, what is printed of it, and the statuses.
+/// A dump, what is printed for it, and the statuses.
 pub(crate) const HOW_TO: &str = "\
 A dump has the load, the packed size and the PE of each element, in the format
 LBD1 or LBD2. charm_run --dump PREFIX writes one for each round.

@@ -1,5 +1,5 @@
-//! The command line of `lb_sim`: what its words ask for, and the status where they ask for nothing to be done. clap
-//! reads them, and writes the texts of what it refuses, of help and of the version.
+//! The command line of `lb_sim`: what its arguments ask for, and the status where they ask for nothing to be done. clap reads
+//! them, and writes the texts for what it refuses, for help and for the version.
 //!
 //! ```
 //! use sim_command_line::{NO_WORDS, asked, words_status};

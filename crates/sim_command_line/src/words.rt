@@ -20,13 +20,13 @@ use std::alloc::{AllocError, Global};
 use std::io::Write;
 use streams::write_out;
 
-/// What is printed where a check is asked for, and a number of PEs too.
+/// What is printed where both a check and a number of PEs are asked for.
 const PROCS_AND_CHECK: &str = "lb_sim: --procs and --check\n";
 
-/// What is printed where a check is asked for, and a tolerance too.
+/// What is printed where both a check and a tolerance are asked for.
 const TOLERANCE_AND_CHECK: &str = "lb_sim: --tolerance and --check\n";
 
-/// Writes which two options do not go together, and returns the status for that, [`NO_WORDS`].
+/// Writes which two options cannot be combined, and returns the status for that, [`NO_WORDS`].
 pub fn refuse_both<W: Write>(writer: &mut W, clash: Clash) -> u8
     ensures told { WritesPrefix (W.contents writer.old) (W.contents writer.new) (both_line clash) }
     ensures status { result ≡ NO_WORDS }
@@ -45,14 +45,14 @@ fn line_of(clash: Clash) -> &'static str
     }
 }
 
-/// Reads the words of a command line, the program's name first.
+/// Reads the arguments of a command line, the program's name first.
 ///
 /// # Errors
 ///
-/// The words are not `[--procs P] [--tolerance T] [--check] FILE` with a P of 1 to 256 (`Limits::PES`) and a T of 0 to 1,000
-/// (`Tolerance::MOST`), help or the version is asked for, or memory ran out. The error has the text to print; [`words_status`] is
-/// the status for it. Words that ask for a check and for a number of PEs or a tolerance too are no error here: [`Asked::task`]
-/// returns the [`Clash`].
+/// The arguments are not `[--procs P] [--tolerance T] [--check] FILE` with a P of 1 to 256 (`Limits::PES`) and a T of 0 to
+/// 1,000 (`Tolerance::MOST`), help or the version is asked for, or memory ran out. The error has the text to print;
+/// [`words_status`] is the status for it. Arguments that ask for a check and also for a number of PEs or a tolerance are no
+/// error here: [`Asked::task`] returns the [`Clash`].
 pub fn asked<'a>(alloc: Global, words: &'a [&'a str]) -> Result<Asked<'a>, Error>
     ensures faults { FailsBy (fault_of program (texts words.now)) result }
     ensures file { IfOk result (λ asked. file_in (texts words.now) ≡ Some asked.file.now) }
@@ -69,8 +69,8 @@ pub fn asked<'a>(alloc: Global, words: &'a [&'a str]) -> Result<Asked<'a>, Error
     }
 }
 
-// The words that are understood: `lb_sim [--procs P] [--tolerance T] [--check] FILE`, and those for help and for the version,
-// which clap adds.
+// The arguments that are understood: `lb_sim [--procs P] [--tolerance T] [--check] FILE`, and those for help and for the
+// version, which clap adds.
 fn command<'a>(alloc: Global) -> Result<Command<'a>, AllocError>
     ensures program { IfOk result (λ command. app_of command ≡ program) }
     ensures named { IfOk result NamesFile }
@@ -128,7 +128,7 @@ fn number_of_pes<'a>() -> ValueParser<'a>
     value_parser!(u32).range(1..=i64::from(Limits::PES))
 }
 
-// What the words ask for.
+// What the arguments ask for.
 fn found<'a>(matches: &ArgMatches<'a>) -> Asked<'a>
     requires named { is_some (first_value (found_of matches.now) (codes "file")) ≡ true }
     ensures file { first_value (found_of matches.now) (codes "file") ≡ Some result.file.now }

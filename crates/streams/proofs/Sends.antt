@@ -4,7 +4,7 @@ use Rattle.std.specs.Io.KnownBytes.{Appends}
 use Rattle.std.proofs.lemmas.List.{drop-drop}
 use Rattle.std.proofs.Math.Seq.{take-add}
 
--- the first bytes have gone out, and the rest is to go
+-- the first bytes have gone out, and the rest are still to go
 pub record Sent (old new : Option (List ℕ)) (bytes rest : List ℕ) : Type 0 where
   pub count : ℕ
   pub inside : count ≤ length bytes

@@ -1,4 +1,4 @@
--- What a writer took of a text that was not written whole.
+-- The part of a text that a writer took where the text was not written whole.
 use Rattle.std.specs.Prelude.{ℕ, ◌≤◌, List, length, take, Option}
 use Rattle.std.specs.Io.KnownBytes.{Appends}
 

@@ -4,8 +4,8 @@ ghost use Rattle.streams.specs.Writing.{WritesPrefix};
 
 use std::io::Write;
 
-/// Writes these bytes and flushes the writer, and returns whether that succeeded. It stops at the first call that
-/// fails, with any error, or that takes nothing; a prefix has then been written.
+/// Writes these bytes and flushes the writer, and returns whether that succeeded. It stops at the first call that fails, with
+/// any error, or that takes no byte; a prefix has then been written.
 pub fn write_out<W: Write>(writer: &mut W, bytes: &[u8]) -> bool
     ensures written { MatchBool result (Appends (W.contents writer.old) (W.contents writer.new) bytes.now)
         (WritesPrefix (W.contents writer.old) (W.contents writer.new) bytes.now) }

@@ -1,4 +1,4 @@
-//! Chains that a generator makes which benches/refinement/search_all.py has too.
+//! Chains of a generator that benches/refinement/search_all.py has too.
 
 ghost use Rattle.std.specs.Prelude.{◌<◌, ◌≤◌};
 
@@ -25,7 +25,7 @@ impl Numbers {
     }
 }
 
-/// A chain, for so many PEs and with a tolerance.
+/// A chain, the number of PEs to decide for, and a tolerance.
 #[derive(Drop)]
 pub(crate) struct Case {
     pub(crate) snapshot: Snapshot,
@@ -44,7 +44,7 @@ fn tolerance(rt: &impl Abort, number: u32) -> Tolerance {
     Tolerance::new(thousandths).expect(rt, "past the greatest")
 }
 
-/// The chain of this seed. Where its elements stand together, the PEs stand in an order.
+/// The chain of this seed. Where the elements of each PE are consecutive, the PEs have an order.
 pub(crate) fn chain(rt: &(impl Abort + AllocGlobal), seed: u64) -> Case {
     let mut numbers = Numbers { state: seed };
     let elements = numbers.below(9);
@@ -61,7 +61,7 @@ pub(crate) fn chain(rt: &(impl Abort + AllocGlobal), seed: u64) -> Case {
     }
 }
 
-// The loads, the sizes and the places of so many elements.
+// The loads, the sizes and the places of this number of elements.
 fn lists(
     rt: &(impl Abort + AllocGlobal),
     numbers: &mut Numbers,

@@ -1,4 +1,4 @@
-//! The check of claims that are right, and of others that differ in one number.
+//! The check of right claims, and of others that differ from them in one number.
 
 use crate::fixtures::{assert_for, list, push, snapshot, tolerance};
 use crate::rows::{Claim, HOT, TEN};
@@ -6,7 +6,7 @@ use any_order::{Bounds, Levels, Reordered, ReorderedFlaw, check_reordered};
 use lb_certificates::{Cuts, Division, Flaw, Floor, Naming, Stops};
 use std::process::Abort;
 
-// The numbers of a claim, of which the first so many are read.
+// The numbers of a claim, and how many of them have been read.
 #[derive(Drop)]
 struct Numbers {
     list: Vec<u64>,
@@ -30,7 +30,7 @@ impl Numbers {
     }
 }
 
-// The next so many numbers.
+// The next `count` numbers.
 fn places(rt: &(impl Abort + AllocGlobal), numbers: &mut Numbers, count: u32) -> Vec<u32> {
     let mut places = Vec::new(rt.alloc());
     for _ in 0..count {
@@ -39,7 +39,7 @@ fn places(rt: &(impl Abort + AllocGlobal), numbers: &mut Numbers, count: u32) ->
     places
 }
 
-// The next so many steps.
+// The next `count` steps.
 fn steps(rt: &(impl Abort + AllocGlobal), numbers: &mut Numbers, count: u32) -> Levels {
     let mut steps = Vec::new(rt.alloc());
     for _ in 0..count {
@@ -49,7 +49,7 @@ fn steps(rt: &(impl Abort + AllocGlobal), numbers: &mut Numbers, count: u32) -> 
     Levels::new(steps)
 }
 
-// The next rows, of so many steps each.
+// The next rows, with these numbers of steps.
 fn bounds(rt: &(impl Abort + AllocGlobal), numbers: &mut Numbers, counts: &[u32]) -> Bounds {
     let mut rows = Vec::new(rt.alloc());
     for &count in counts {
@@ -82,7 +82,7 @@ fn claimed(rt: &(impl Abort + AllocGlobal), claim: &Claim, numbers: &mut Numbers
     }
 }
 
-// The number of a flaw with its place, and 0 for none.
+// The number of a flaw with its place, and 0 where there is none.
 fn number_of(answer: Result<(), ReorderedFlaw>) -> u64 {
     let (number, b, y, x) = match answer {
         Ok(()) => (0, 0, 0, 0),
@@ -104,7 +104,7 @@ fn number_of(answer: Result<(), ReorderedFlaw>) -> u64 {
     number * 1_000_000 + u64::from(b) * 10_000 + u64::from(y) * 100 + u64::from(x)
 }
 
-// What the check says of a list of numbers.
+// The result of the check of a list of numbers.
 fn verdict(rt: &(impl Abort + AllocGlobal), claim: &Claim, pes: u32, list: Vec<u64>) -> u64 {
     let snapshot = snapshot(rt, claim.loads, claim.elements);
     let mut numbers = Numbers { list, read: 0 };
@@ -112,7 +112,7 @@ fn verdict(rt: &(impl Abort + AllocGlobal), claim: &Claim, pes: u32, list: Vec<u
     number_of(check_reordered(&snapshot, pes, &reordered))
 }
 
-// The numbers of a claim, with this one changed by so much.
+// The numbers of a claim, with this one changed by this much.
 fn forged(rt: &(impl Abort + AllocGlobal), numbers: &[u64], which: usize, by: u64) -> Vec<u64> {
     let mut list = Vec::new(rt.alloc());
     for i in 0..numbers.len() {
@@ -122,7 +122,7 @@ fn forged(rt: &(impl Abort + AllocGlobal), numbers: &[u64], which: usize, by: u6
     list
 }
 
-// Whether the check says so where this number is one less, and where it is one more.
+// Whether the check has these results where this number is one less, and where it is one more.
 fn is_judged_so(
     rt: &(impl Abort + AllocGlobal),
     claim: &Claim,

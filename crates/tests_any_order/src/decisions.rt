@@ -1,4 +1,4 @@
-//! Decisions in any order of the PEs, beside a search through all cuts and all namings.
+//! Decisions in any order of the PEs, compared with a search through all cuts and all namings.
 
 use crate::chains::{Case, chain};
 use crate::fixtures::{assert_for, push, snapshot, tolerance};
@@ -54,7 +54,7 @@ fn with_batch(rt: &(impl Abort + AllocGlobal), first: u32) -> u64 {
     sum
 }
 
-// What benches/refinement/search_any_order.py found for each thousand chains.
+// The results of benches/refinement/search_any_order.py for each thousand chains.
 const SEARCHED: [(u32, u64); 8] = [
     (0, 10_013_366_091_274_568_498),
     (1000, 2_851_619_850_131_643_415),
@@ -73,7 +73,7 @@ fn eight_thousand_chains(rt: HostRuntime) {
     }
 }
 
-// Whether the decision on a row moves so many bytes, and is of this kind.
+// Whether the decision on a row moves the number of bytes in it, and is of its kind.
 fn is_decided_so(rt: &(impl Abort + AllocGlobal), row: &Row) -> bool {
     let taken = snapshot(rt, row.1, row.2);
     if row.3 == 0 || row.3 > 256 {
@@ -94,7 +94,7 @@ fn each_row_is_decided_so(rt: HostRuntime) {
     }
 }
 
-// As many elements as there may be, of load 0 and one byte each, on the first PE.
+// The most elements that are allowed, of load 0 and one byte each, on the first PE.
 fn is_full_array_kept(rt: &(impl Abort + AllocGlobal)) -> bool {
     let loads = vec![in rt.alloc(); 0; 65_536].expect(rt, "out of memory");
     let mut elements = Vec::new(rt.alloc());

@@ -1,4 +1,4 @@
-//! What the tests are made of. What can't be made ends the test.
+//! What the tests use. What cannot be made ends the test.
 
 ghost use Rattle.std.specs.Prelude.{◌≡◌, true};
 
@@ -8,7 +8,7 @@ use lb_certificates::{Loads, Sizes, Snapshot, Units};
 use std::fmt::Debug;
 use std::process::Abort;
 
-/// Ends the test where this does not hold, with what it was to hold for.
+/// Ends the test where this does not hold, with the row for which it has to hold.
 pub(crate) fn assert_for<R: Debug + Copy>(rt: &impl Abort, holds: bool, row: R)
     ensures held { holds ≡ true }
 {
@@ -25,7 +25,7 @@ pub(crate) fn push<T: Copy>(rt: &impl Abort, items: &mut Vec<T>, item: T) {
     items.push(item).expect(rt, "out of memory");
 }
 
-/// So many thousandths.
+/// This number of thousandths.
 pub(crate) fn tolerance(rt: &impl Abort, thousandths: u32) -> Tolerance {
     Tolerance::new(thousandths).expect(rt, "past the greatest")
 }

@@ -1,5 +1,5 @@
-//! Tests of balance within a tolerance where the PEs may change their order: decisions, beside what a slow search through all cuts
-//! and all namings found, and the check, of bounds that are right and of others that differ in one number.
+//! Tests of balance within a tolerance where the PEs may change their order: decisions, compared with the results of a slow
+//! search through all cuts and all namings, and the check, of right bounds and of others that differ from them in one number.
 #![tactic(auto)]
 
 #[cfg(test)]

@@ -6,7 +6,7 @@ use lb_any_order::{Reordering, refine_in_any_order};
 use std::alloc::{AllocError, Allocator};
 use tests_fixtures::{Outcome, each_refusal};
 
-// What the decision on the ten elements, a fifth above the least load, comes to.
+// The outcome for the decision on the ten elements, a fifth above the least load.
 fn is_decided<A: Allocator>(answer: Result<Reordering<A>, AllocError>) -> Outcome {
     let outcome = match &answer {
         Ok(Reordering::InAnyOrder(fewest)) if fewest.moved == 60 => Outcome::Right,

@@ -2,8 +2,8 @@
 
 use lb_certificates::Units;
 
-/// A chain, its least division, and a claim of it as a list of its numbers: the bottleneck, the tolerance, the cuts, the names, and
-/// the steps of both bounds, which have so many each.
+/// A chain, its least division, and a claim for it as a list of its numbers: the bottleneck, the tolerance, the cuts, the
+/// names, and the steps of both bounds, with their numbers.
 #[derive(Clone, Copy)]
 pub(crate) struct Claim {
     pub(crate) loads: &'static [Units],
@@ -14,8 +14,8 @@ pub(crate) struct Claim {
     pub(crate) numbers: &'static [u64],
     pub(crate) any: &'static [u32],
     pub(crate) free: &'static [u32],
-    /// What the check says where each number is one less, and where it is one more: the number of the flaw with its place, and 0
-    /// where it accepts the claim.
+    /// The result of the check where each number is one less, and where it is one more: the number of the flaw with its place,
+    /// and 0 where it accepts the claim.
     pub(crate) found: &'static [(u64, u64)],
 }
 
@@ -188,8 +188,8 @@ pub(crate) const HOT: Claim = Claim {
     ],
 };
 
-/// A name, loads, bytes and PEs of the elements, the number of PEs and the tolerance; the fewest bytes, and whether any order of the
-/// PEs was tried.
+/// A name, loads, bytes and PEs of the elements, the number of PEs and the tolerance; the fewest bytes, and whether any order
+/// of the PEs was tried.
 pub(crate) type Row = (
     &'static str,
     &'static [Units],

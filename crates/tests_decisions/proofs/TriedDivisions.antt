@@ -7,7 +7,7 @@ use Rattle.std.proofs.lemmas.List.{get_or_default}
 use Rattle.lb_certificates.specs.Chain.{peak, IsDivision, IsLeastPeak, HasNoDivision}
 use Rattle.lb_snapshot.specs.Measured.{load}
 
--- a division less its first block divides the rest, and its peak is that block's load or the rest's peak
+-- a division without its first block divides the rest, and its peak is that block's load or the rest's peak
 pub behind_first : (xs : List ℕ) (first n rest : ℕ) (cuts : List ℕ) → IsDivision first n (rest + 1) cuts → IsDivision (slice_index cuts 1) n rest (drop 1 cuts) × (peak xs cuts ≡ max (load xs first (slice_index cuts 1)) (peak xs (drop 1 cuts)))
 behind_first xs first n rest [] h = absurd (omega (arith, h.counted))
 behind_first xs first n rest (x ∷ []) h = absurd (omega (arith, h.counted))
@@ -68,7 +68,7 @@ at_last xs first end rest cuts h low high =
     let e : slice_index cuts 1 ≡ end = omega arith in
     subst (λ n. IsDivision n (length xs) rest (drop 1 cuts) × (peak xs cuts ≡ max (load xs first n) (peak xs (drop 1 cuts)))) e (behind_first xs first (length xs) rest cuts h)
 
--- one more end, behind which nothing divides the rest
+-- one more end, where nothing divides the rest behind it
 pub tried_more_none : (xs : List ℕ) (first end rest : ℕ) (best : Option ℕ) → HasNoDivision xs end rest → Tried xs first (rest + 1) end best → Tried xs first (rest + 1) (end + 1) best
 tried_more_none xs first end rest None none tried =
     λ cuts h before. elim (cases_lt (slice_index cuts 1) end) [
@@ -83,7 +83,7 @@ tried_more_none xs first end rest (Some m) none tried = (
   ],
 )
 
--- the least peak behind the last end that was tried is reached, and below each other there
+-- the least peak behind the last end that was tried is reached, and no peak there is lower
 reached_last : (xs : List ℕ) (first end rest r : ℕ) → first ≤ end → IsLeastPeak xs end rest r → (cuts : List ℕ) × IsDivision first (length xs) (rest + 1) cuts × (peak xs cuts ≡ max (load xs first end) r)
 reached_last xs first end rest r below least =
     let both = in_front xs first end (length xs) rest least.reached.0 below least.reached.1 in
@@ -94,7 +94,7 @@ below_last xs first end rest r least cuts h low high =
     let both = at_last xs first end rest cuts h low high in
     omega (arith, both.1, least.below (drop 1 cuts) both.0)
 
--- one more end, behind which the rest has a least peak
+-- one more end, where the rest behind it has a least peak
 pub tried_more_some : (xs : List ℕ) (first end rest r : ℕ) (best next : Option ℕ) → first ≤ end → IsLeastPeak xs end rest r → MatchOption best (next ≡ Some (max (load xs first end) r)) (λ m. next ≡ Some (min m (max (load xs first end) r))) → Tried xs first (rest + 1) end best → Tried xs first (rest + 1) (end + 1) next
 tried_more_some xs first end rest r None next below least chosen tried =
     subst (λ o. Tried xs first (rest + 1) (end + 1) o) (sym chosen) (
@@ -151,7 +151,7 @@ nothing_left xs first blocks none e =
       below = λ cuts h. omega arith;
     }
 
--- some task and no block
+-- some elements and no block
 pub none_divides : (xs : List ℕ) (first blocks : ℕ) → blocks ≡ 0 → first ≢ length xs → HasNoDivision xs first blocks
 none_divides xs first blocks none apart cuts h =
     let e : slice_index cuts 0 ≡ length xs = subst (λ n. slice_index cuts n ≡ length xs) none h.ends in

@@ -11,7 +11,7 @@ use lb_certificates::{Cuts, Division, Flaw, Loads, Sizes, Snapshot, Stops, Units
 use lb_strategy::Moves;
 use std::process::Abort;
 
-// What the check says of this division.
+// The result of the check of this division.
 fn judged(
     rt: &(impl Abort + AllocGlobal),
     units: &[Units],
@@ -24,7 +24,7 @@ fn judged(
     found
 }
 
-// What it says of one with a fence.
+// The result of the check of one with a fence.
 fn verdict(
     rt: &(impl Abort + AllocGlobal),
     units: &[Units],
@@ -38,7 +38,7 @@ fn verdict(
     found
 }
 
-// What it says of one with the floor zero.
+// The result of the check of one with the floor zero.
 fn verdict_unfenced(
     rt: &(impl Abort + AllocGlobal),
     units: &[Units],
@@ -71,7 +71,7 @@ fn a_floor_of_zero_for_a_bottleneck_above_0_has_its_flaw(rt: HostRuntime) {
     assert_for(&rt, found == Err(Flaw::ZeroFloor), found);
 }
 
-// What it says of two blocks of five elements, for so many PEs and with this bottleneck.
+// The result of the check of two blocks of five elements, for this number of PEs and with this bottleneck.
 fn halves(rt: &(impl Abort + AllocGlobal), pes: u32, bottleneck: u64) -> Result<(), Flaw> {
     verdict(
         rt,
@@ -107,7 +107,7 @@ fn any_bottleneck_may_be_claimed(rt: HostRuntime) {
     }
 }
 
-// Loads, a number of PEs, cuts, and what it says of these with the bottleneck and the floor zero.
+// Loads, a number of PEs, cuts, and the result of the check of these with the bottleneck and the floor zero.
 type Weightless = (&'static [Units], u32, &'static [u32], Result<(), Flaw>);
 
 fn is_judged_so(rt: &(impl Abort + AllocGlobal), row: &Weightless) -> bool {
@@ -135,7 +135,7 @@ fn a_bottleneck_of_0_may_have_a_fence(rt: HostRuntime) {
     assert_for(&rt, none == Err(Flaw::FenceEnd), "no elements");
 }
 
-// These numbers, and then the last one as often as it takes to have 301 of them.
+// These numbers, and then the last one again and again, up to 301 numbers.
 fn continued(rt: &(impl Abort + AllocGlobal), start: &[u32], last: u32) -> Vec<u32> {
     let mut numbers = list(rt, start);
     for _ in start.len()..301 {
@@ -172,7 +172,7 @@ fn a_full_array_of_full_loads(rt: HostRuntime) {
     }
 }
 
-// Whether there may be these loads.
+// Whether these loads are within the limits.
 fn are_loads(units: Vec<Units>) -> bool {
     let loads = Loads::new(units);
     let found = loads.is_some();
@@ -180,7 +180,7 @@ fn are_loads(units: Vec<Units>) -> bool {
     found
 }
 
-// Whether there may be one load more than these.
+// Whether the loads with one more are within the limits.
 fn takes_one_more(rt: &(impl Abort + AllocGlobal), loads: Loads) -> bool {
     let mut units = loads.into_vec();
     push(rt, &mut units, 0);
@@ -196,7 +196,7 @@ fn a_full_array_takes_no_other_load(rt: HostRuntime) {
     );
 }
 
-// Loads, and whether there may be these.
+// Loads, and whether they are within the limits.
 type Limited = (&'static [Units], bool);
 
 #[test]
@@ -213,7 +213,7 @@ fn loads_within_their_limits(rt: HostRuntime) {
     }
 }
 
-// The snapshot of these loads and sizes at step 5, where they make one.
+// The snapshot of these loads and sizes at step 5, if they make one.
 fn taken(
     rt: &(impl Abort + AllocGlobal),
     procs: u32,
@@ -274,7 +274,7 @@ fn a_snapshot_within_its_limits(rt: HostRuntime) {
     }
 }
 
-// How many sizes come back.
+// The number of sizes that come back.
 fn count_of(sizes: Sizes) -> usize {
     let pairs = sizes.into_vec();
     let count = pairs.len();
@@ -282,7 +282,7 @@ fn count_of(sizes: Sizes) -> usize {
     count
 }
 
-// Whether there may be these sizes.
+// Whether these sizes are within the limits.
 fn are_sizes(pairs: Vec<(u32, Pe)>) -> bool {
     let sizes = Sizes::new(pairs);
     let found = sizes.is_some();
@@ -290,7 +290,7 @@ fn are_sizes(pairs: Vec<(u32, Pe)>) -> bool {
     found
 }
 
-// So many elements, all without bytes.
+// This number of elements, all without bytes.
 fn without_bytes(rt: &(impl Abort + AllocGlobal), elements: usize) -> Vec<(u32, Pe)> {
     vec![in rt.alloc(); (0, pe(rt, 0)); elements].expect(rt, "out of memory")
 }
@@ -305,7 +305,7 @@ fn sizes_within_their_limits(rt: HostRuntime) {
     assert_for(&rt, !are_sizes(too_many), "one element too many");
 }
 
-// Whether these cuts are seen, and come back.
+// Whether these cuts can be read, and come back.
 fn cuts_come_back(rt: &(impl Abort + AllocGlobal), ends: &[u32]) -> bool {
     let cuts = Cuts::new(list(rt, ends));
     let seen = same(cuts.as_slice(), ends);
@@ -313,7 +313,7 @@ fn cuts_come_back(rt: &(impl Abort + AllocGlobal), ends: &[u32]) -> bool {
     seen && back
 }
 
-// Whether these stops do.
+// Whether these stops can be read, and come back.
 fn stops_come_back(rt: &(impl Abort + AllocGlobal), ends: &[u32]) -> bool {
     let stops = Stops::new(list(rt, ends));
     let seen = same(stops.as_slice(), ends);
@@ -321,7 +321,7 @@ fn stops_come_back(rt: &(impl Abort + AllocGlobal), ends: &[u32]) -> bool {
     seen && back
 }
 
-// Whether the move of an element from one PE to another does.
+// Whether the move of an element from one PE to another can be read, and comes back.
 fn moves_come_back(rt: &(impl Abort + AllocGlobal)) -> bool {
     let steps = [(index(rt, 0), pe(rt, 0), pe(rt, 1))];
     let moves = Moves::new(list(rt, &steps));

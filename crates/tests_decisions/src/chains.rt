@@ -1,4 +1,4 @@
-//! Chains past the limits of a snapshot: more elements, more blocks, and loads that need 63 bits together.
+//! Chains past the limits of a snapshot: more elements, more blocks, and loads whose sum needs 63 bits.
 
 use crate::fixtures::{assert_for, ends_of, is_division, is_list};
 use chain_partition::{Chain, ChainError, divide_chain, divide_chain_with, probe_chain};
@@ -59,8 +59,7 @@ fn are_steps(numbers: &[u32], step: u32) -> bool {
     true
 }
 
-// Whether a division of equal loads of 3 has 100 elements in each block, and a fence of 99: 100 weigh 300, and one short
-// of that weighs 297.
+// Whether a division of equal loads of 3 has 100 elements in each block, and a fence of 99: 100 weigh 300, and 99 weigh 297.
 fn is_even(division: &Division) -> bool {
     let Floor::Fence(stops) = &division.floor else {
         return false;

@@ -13,7 +13,7 @@ use lb_certificates::{Division, Flaw, Naming, Sizes, Snapshot, Units};
 use lb_strategy::{Decision, Moves, PlanError, check, plan};
 use std::process::Abort;
 
-// What the check says of the decision with these parts on the example.
+// The result of the check of the decision with these parts on the example.
 fn verdict(
     rt: &(impl Abort + AllocGlobal),
     division: Division,
@@ -96,7 +96,7 @@ fn each_forged_list_of_moves_has_its_flaw(rt: HostRuntime) {
     }
 }
 
-// Where an element of the example is to run by this decision, if it is right.
+// Where an element of the example is to run by this decision, if that is right.
 fn place_by(example: &Snapshot, decision: &Decision, index: Index) -> Option<u32> {
     let accepted = check(example, 2, decision).is_ok();
     if accepted && (index.get() as usize) < example.sizes().len() {
@@ -127,7 +127,7 @@ fn an_element_runs_where_its_block_does(rt: HostRuntime) {
     drop(example);
 }
 
-// What a decision is to say.
+// What a decision has to be.
 #[derive(Clone, Copy)]
 struct Row<'a> {
     bottleneck: u64,
@@ -166,7 +166,7 @@ fn planned(rt: &(impl Abort + AllocGlobal), taken: &Snapshot, pes: u32) -> Decis
     plan(rt.alloc(), taken, pes).expect(rt, "out of memory")
 }
 
-// Whether the plan for the snapshot of these elements says this, and is accepted for as many PEs alone.
+// Whether the plan for the snapshot of these elements is this one, and is accepted for this number of PEs alone.
 fn plans(
     rt: &(impl Abort + AllocGlobal),
     procs: u32,
@@ -333,7 +333,7 @@ fn no_elements_are_planned(rt: HostRuntime) {
     assert_for(&rt, plans(&rt, 3, &[], 3, row), "no elements");
 }
 
-// As many sizes of 8 bytes as there may be, in blocks of 256 that stand each on the PE behind its own.
+// The most sizes that are allowed, of 8 bytes each, in blocks of 256, each on the PE after its own.
 fn full_sizes(rt: &(impl Abort + AllocGlobal)) -> Sizes {
     let mut pairs = Vec::new(rt.alloc());
     for i in 0..65_536u32 {
@@ -343,7 +343,7 @@ fn full_sizes(rt: &(impl Abort + AllocGlobal)) -> Sizes {
     Sizes::new(pairs).expect(rt, "past a limit")
 }
 
-// As many elements as there may be, with these sizes, and each with this load.
+// The most elements that are allowed, with these sizes, and each with this load.
 fn full(rt: &(impl Abort + AllocGlobal), load: Units) -> Snapshot {
     let loads = full_loads(rt, load);
     let sizes = full_sizes(rt);
@@ -362,7 +362,7 @@ fn mixed(rt: &(impl Abort + AllocGlobal)) -> Snapshot {
     mixed
 }
 
-// What the check says of the plan for this snapshot.
+// The result of the check of the plan for this snapshot.
 fn checked(rt: &(impl Abort + AllocGlobal), taken: &Snapshot, pes: u32) -> Result<(), Flaw>
     requires some_pe { 1 ≤ pes }
     requires few_pes { pes ≤ 256 }
@@ -445,7 +445,7 @@ fn a_full_array_on_all_pes_and_on_one(rt: HostRuntime) {
     }
 }
 
-// Each block has the name behind its own number.
+// Each block has the number after its own as its name.
 fn expect_names_behind(rt: &impl Abort, names: &[u32]) {
     for b in 0..256u32 {
         let name = names.get(b as usize).copied();

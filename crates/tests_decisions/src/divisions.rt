@@ -59,7 +59,7 @@ fn blocks_of_equal_counts_are_heavier(rt: HostRuntime) {
     assert_for(&rt, found == Err(Flaw::Heavy(1)), found);
 }
 
-// Whether a probe fits, or does not, with these cuts or stops.
+// Whether the result of a probe, that it fits or that it does not, has these cuts or stops.
 fn is_probe(answer: Probe, fits: bool, expected: &[u32]) -> bool {
     let (fitted, ends) = ends_of(answer);
     let same_ends = is_list(ends, expected);
@@ -69,14 +69,14 @@ fn is_probe(answer: Probe, fits: bool, expected: &[u32]) -> bool {
 // A limit, whether some elements fit into two blocks within it, and the cuts or the stops.
 type Probed = (u64, bool, &'static [u32]);
 
-// Whether a probe of these loads for two PEs comes to this.
+// Whether a probe of these loads for two PEs has this result.
 fn is_probed_so(rt: &(impl Abort + AllocGlobal), loads: &Loads, row: &Probed) -> bool {
     let &(limit, fits, ends) = row;
     let answer = probe(rt.alloc(), loads, 2, limit).expect(rt, "out of memory");
     is_probe(answer, fits, ends)
 }
 
-// Whether a probe on their running sums does.
+// Whether a probe on their running sums has it.
 fn is_probed_on_sums(rt: &(impl Abort + AllocGlobal), five: &Prefix, row: &Probed) -> bool {
     let &(limit, fits, ends) = row;
     let answer = probe_on(rt.alloc(), five, 2, limit).expect(rt, "out of memory");
@@ -117,7 +117,7 @@ fn probes_of_a_full_array_fit_or_stop(rt: HostRuntime) {
     drop(full);
 }
 
-// The load of a range, where the chain has it.
+// The load of a range, if the chain has it.
 fn load_of(prefix: &Prefix, first: usize, end: usize) -> Option<u64> {
     if first <= end && end <= prefix.len() {
         return Some(prefix.load(first, end));
@@ -159,7 +159,7 @@ fn a_full_array_of_full_loads(rt: HostRuntime) {
     }
 }
 
-// The chain of so many loads, each of them 0, 1 or 7, with this number.
+// The chain of this number of loads, each of them 0, 1 or 7, whose number is this one.
 fn chain(rt: &(impl Abort + AllocGlobal), length: u32, number: usize) -> Vec<Units> {
     let choices: [Units; 3] = [0, 1, 7];
     let mut units = Vec::new(rt.alloc());

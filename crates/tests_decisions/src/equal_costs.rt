@@ -1,4 +1,4 @@
-//! Tables with many equal costs: full ones, and small ones beside every naming.
+//! Tables with many equal costs: full ones, and small ones compared with every naming.
 
 ghost use Rattle.std.specs.Prelude.{◌≡◌, ◌≤◌, length};
 ghost use Rattle.lb_certificates.specs.Naming.{IsNaming};
@@ -7,7 +7,7 @@ use crate::fixtures::{assert_for, cost_of, is_list, push, table};
 use block_assignment::{CostTable, name_blocks};
 use std::process::Abort;
 
-// The table of blocks of so many elements each.
+// The table of blocks, each of this number of elements.
 fn table_of(
     rt: &(impl Abort + AllocGlobal),
     pairs: &[(u32, u32)],
@@ -42,7 +42,7 @@ fn are_numbers(names: &[u32]) -> bool {
     true
 }
 
-// What the names cost that are found for blocks of so many elements each, and the names.
+// The cost of the names that are found for blocks of this number of elements each, and these names.
 fn named(
     rt: &(impl Abort + AllocGlobal),
     pairs: &[(u32, u32)],
@@ -118,7 +118,7 @@ fn pairs_of_equal_blocks(rt: HostRuntime) {
     drop(names);
 }
 
-// The naming of this number, in dictionary order of all lists of names of so many blocks, at most five.
+// The naming with this number, in dictionary order of all lists of names of this number of blocks, at most five.
 fn numbered(code: u32, blocks: u32) -> [u32; 5]
     requires { blocks ≤ 5 }
 {
@@ -131,7 +131,7 @@ fn numbered(code: u32, blocks: u32) -> [u32; 5]
     names
 }
 
-// All namings of so many blocks, at most five, in dictionary order.
+// All namings of this number of blocks, at most five, in dictionary order.
 fn all_namings(rt: &(impl Abort + AllocGlobal), blocks: u32) -> Vec<[u32; 5]>
     requires { blocks ≤ 5 }
 {
@@ -172,14 +172,14 @@ fn first_of(table: &CostTable, namings: &[[u32; 5]]) -> [u32; 5]
     first
 }
 
-// Whether the names that are found are the first of all.
+// Whether the names that are found are the first of the cheapest.
 fn is_first(rt: &(impl Abort + AllocGlobal), table: &CostTable, namings: &[[u32; 5]]) -> bool {
     assert_for(rt, table.blocks() <= 5, "too many blocks");
     let first = first_of(table, namings);
     is_list(names_of(rt, table), &first[..table.blocks() as usize])
 }
 
-// A table whose costs differ by 0 or 1, by the bits of a number: an element for each block and PE.
+// A table whose costs differ by 0 or 1, by the bits of a number: one element for each block and PE.
 fn table_of_bits(rt: &(impl Abort + AllocGlobal), blocks: u32, bits: u32) -> CostTable {
     let mut pairs = Vec::new(rt.alloc());
     let mut rest = bits;
@@ -194,7 +194,7 @@ fn table_of_bits(rt: &(impl Abort + AllocGlobal), blocks: u32, bits: u32) -> Cos
     table
 }
 
-// All tables of so many blocks whose costs differ by 0 or 1 have the first of these namings that costs the least.
+// All tables of this number of blocks whose costs differ by 0 or 1 have the first of these namings that costs the least.
 fn expect_first(rt: &(impl Abort + AllocGlobal), blocks: u32, namings: &[[u32; 5]]) {
     for bits in 0..2u32.saturating_pow(blocks.saturating_mul(blocks)) {
         let table = table_of_bits(rt, blocks, bits);
@@ -228,7 +228,7 @@ fn elements(rt: &(impl Abort + AllocGlobal), blocks: u32, number: u32) -> Vec<(u
     pairs
 }
 
-// Two hundred tables of so many blocks of three elements have the first of these namings that costs the least.
+// Two hundred tables of this number of blocks of three elements have the first of these namings that costs the least.
 fn expect_first_of_equals(rt: &(impl Abort + AllocGlobal), blocks: u32, namings: &[[u32; 5]]) {
     for number in 0..200u32 {
         let elements = elements(rt, blocks, number);

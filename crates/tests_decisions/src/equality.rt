@@ -90,7 +90,7 @@ fn another_floor_makes_another_decision(rt: HostRuntime) {
     assert_for(&rt, !is_example(&rt, other, NAMING, MOVING), "floor zero");
 }
 
-// Whether the snapshot of so many PEs and these elements is the example.
+// Whether the snapshot of this number of PEs and these elements is the example.
 fn is_example_of(rt: &(impl Abort + AllocGlobal), procs: u32, elements: &[Element]) -> bool {
     let other = snapshot(rt, procs, elements);
     let example = snapshot(rt, 2, &EXAMPLE);

@@ -1,4 +1,4 @@
-//! What the tests are made of: numbers, lists, snapshots and cost tables. What can't be made ends the test.
+//! What the tests use: numbers, lists, snapshots and cost tables. What cannot be made ends the test.
 
 ghost use Rattle.std.specs.Prelude.{◌≡◌, length, true};
 
@@ -12,7 +12,7 @@ use lb_strategy::{Decision, Moves};
 use std::fmt::Debug;
 use std::process::Abort;
 
-/// Ends the test where this does not hold, with what it was to hold for.
+/// Ends the test where this does not hold, with the row for which it has to hold.
 pub(crate) fn assert_for<R: Debug + Copy>(rt: &impl Abort, holds: bool, row: R)
     ensures held { holds ≡ true }
 {
@@ -52,7 +52,7 @@ pub(crate) fn loads(rt: &(impl Abort + AllocGlobal), units: &[Units]) -> Loads {
     Loads::new(list(rt, units)).expect(rt, "past a limit")
 }
 
-/// As many loads as there may be, all of them this one.
+/// The most loads that are allowed, each of them this one.
 pub(crate) fn full_loads(rt: &(impl Abort + AllocGlobal), load: Units) -> Loads {
     let units = vec![in rt.alloc(); load; 65_536].expect(rt, "out of memory");
     Loads::new(units).expect(rt, "refused a full array")
@@ -129,7 +129,7 @@ pub(crate) fn is_division(
         && same(stops(division), fence)
 }
 
-/// Cuts and stops with the bottleneck 2, and what a check says of these on the example.
+/// Cuts and stops with the bottleneck 2, and the result of a check of these on the example.
 pub(crate) type ForgedDivision = (&'static [u32], &'static [u32], Result<(), Flaw>);
 
 /// The division of the example, and that with one part forged for each flaw.
@@ -235,7 +235,7 @@ pub(crate) fn table(
     table
 }
 
-/// What these names cost, if each is used once.
+/// The cost of these names, if each is used once.
 pub(crate) fn cost_of(table: &CostTable, names: &[u32]) -> Option<u64>
     requires { length names.now ≡ table.now.blocks }
 {

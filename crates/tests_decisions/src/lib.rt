@@ -1,6 +1,6 @@
-//! Tests of how a decision is made and checked: snapshots, certificates, divisions, namings and whole decisions.
-//! They use public calls only, on worked examples whose results come from outside, on full arrays, and beside slow
-//! references: [`reference`] tries every decision.
+//! Tests of how a decision is made and checked: snapshots, certificates, divisions, namings and whole decisions. They use
+//! public calls only, on worked examples whose results come from outside, on full arrays, and compared with slow references:
+//! [`reference`] tries every decision.
 #![tactic(auto)]
 
 #[cfg(test)]

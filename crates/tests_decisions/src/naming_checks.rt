@@ -4,7 +4,7 @@ use crate::fixtures::{assert_for, is_list, list, naming, prices, same, sizes};
 use lb_certificates::{Cuts, Flaw, Naming, PriceList, check_naming};
 use std::process::Abort;
 
-// What the check says of these elements, cuts, names and prices.
+// The result of the check of these elements, cuts, names and prices.
 fn verdict(
     rt: &(impl Abort + AllocGlobal),
     pairs: &[(u32, u32)],
@@ -25,7 +25,7 @@ fn verdict(
     found
 }
 
-// Cuts, names, prices of blocks and of PEs, and what the check says of these on the example.
+// Cuts, names, prices of blocks and of PEs, and the result of the check of these on the example.
 type Forged = (
     &'static [u32],
     &'static [u32],
@@ -96,7 +96,7 @@ fn other_namings_by_hand(rt: HostRuntime) {
     assert_for(&rt, found == Ok(7), ("a PE that is no name", found));
 }
 
-// What it says of no elements in so many blocks, of which 256 have names, where each price is this one.
+// The result of the check of no elements in this number of blocks, of which 256 have names, where each price is this one.
 fn verdict_on_none(
     rt: &(impl Abort + AllocGlobal),
     blocks: usize,
@@ -125,7 +125,7 @@ fn prices_at_the_ends_of_their_range(rt: HostRuntime) {
     }
 }
 
-// Whether these names are seen, and come back.
+// Whether these names can be read, and come back.
 fn names_come_back(rt: &(impl Abort + AllocGlobal), names: &[u32]) -> bool {
     let naming = Naming::new(list(rt, names));
     let seen = same(naming.as_slice(), names);
@@ -133,7 +133,7 @@ fn names_come_back(rt: &(impl Abort + AllocGlobal), names: &[u32]) -> bool {
     seen && back
 }
 
-// Whether these prices do.
+// Whether these prices can be read, and come back.
 fn prices_come_back(rt: &(impl Abort + AllocGlobal), given: &[i64]) -> bool {
     let prices = PriceList::new(list(rt, given));
     let seen = same(prices.as_slice(), given);

@@ -1,4 +1,4 @@
-//! The worked examples, a full array, and small tables against every naming.
+//! The worked examples, a full array, and small tables compared with every naming.
 
 ghost use Rattle.std.specs.Prelude.{◌≡◌, ◌≤◌, length};
 ghost use Rattle.lb_certificates.specs.Naming.{IsNaming};
@@ -41,7 +41,7 @@ fn total(prices: Prices) -> i64 {
     sum(prices.u.as_slice()).saturating_add(sum(&prices.v.into_vec()))
 }
 
-// Whether these are the names that are found, and this is what they and their prices come to.
+// Whether these are the names that are found, and this is their cost and the sum of their prices.
 fn is_named(rt: &(impl Abort + AllocGlobal), table: &CostTable, names: &[u32], cost: i64) -> bool {
     let (naming, prices) = named(rt, table);
     let moved = table.cost_of(naming.as_slice());
@@ -106,7 +106,7 @@ fn the_examples_have_their_names(rt: HostRuntime) {
     }
 }
 
-// What it costs that each of two blocks has its own number, by this table.
+// The cost, by this table, of two blocks that each have their own number as a name.
 fn cost_of_two(table: &CostTable) -> Option<u64> {
     if table.blocks() != 2 {
         return None;
@@ -130,7 +130,7 @@ fn blocks_that_keep_their_numbers_move_more(rt: HostRuntime) {
     assert_for(&rt, swapped == Some(32), ("swapped", swapped));
 }
 
-// As many elements as there may be, with as many bytes as there may be.
+// The most elements that are allowed, each with the most bytes that are allowed.
 fn full_pairs(rt: &(impl Abort + AllocGlobal)) -> Vec<(u32, u32)> {
     let mut pairs = Vec::new(rt.alloc());
     for i in 0..65_536u32 {
@@ -159,7 +159,7 @@ fn full_table(rt: &(impl Abort + AllocGlobal)) -> CostTable {
     table
 }
 
-// How many names are found, and the sum of all prices.
+// The number of names that are found, and the sum of all prices.
 fn named_for(rt: &(impl Abort + AllocGlobal), table: &CostTable) -> (usize, i64) {
     let (naming, prices) = named(rt, table);
     let names = naming.into_vec();
@@ -217,7 +217,7 @@ fn elements(rt: &(impl Abort + AllocGlobal), blocks: u32, number: u32) -> Vec<(u
     pairs
 }
 
-// Whether there are so many blocks, and they are named at the least cost.
+// Whether there is this number of blocks, and they are named at the least cost.
 fn are_cheapest(
     rt: &(impl Abort + AllocGlobal),
     pairs: &[(u32, u32)],

@@ -1,4 +1,4 @@
-//! Plain programs that try every decision. They are slow, and there to compare faster ones with on small inputs.
+//! Plain programs that try every decision. They are slow, and faster ones are compared with them on small inputs.
 
 ghost use Rattle.std.specs.Prelude.{◌≡◌, ◌≤◌, min, max, length, MatchOption};
 ghost use Rattle.std.specs.Option.{option_map_or};
@@ -7,9 +7,8 @@ ghost use Rattle.lb_certificates.specs.Chain.{IsLeastPeak, HasNoDivision};
 use lb_certificates::Loads;
 use std::alloc::Allocator;
 
-/// The least peak of all divisions of these loads into `pes` blocks, or `None` where there is none: some
-/// element and no PE. It tries every division, so its time grows as the number of elements to the power of
-/// `pes`.
+/// The least peak of all divisions of these loads into `pes` blocks, or `None` where there is none: some elements and no PE. It
+/// tries every division, so its time grows as the number of elements to the power of `pes`.
 pub fn least_peak<A: Allocator>(loads: &Loads<A>, pes: u32) -> Option<u64>
     ensures least_peak { MatchOption result (HasNoDivision loads.now 0 pes) (IsLeastPeak loads.now 0 pes) }
 {
@@ -33,7 +32,7 @@ fn least_peak_from<A: Allocator>(loads: &Loads<A>, first: usize, blocks: u32) ->
     least
 }
 
-// The least peak so far, or that of a first block with what the rest allows.
+// The least peak so far, or that of a first block and the rest, where this is less.
 fn lesser(least: Option<u64>, load: u64, rest: Option<u64>) -> Option<u64>
     ensures { MatchOption rest (result ≡ least) (λ rest. result ≡ Some (option_map_or (λ least. min least (max load rest)) least (max load rest))) }
 {

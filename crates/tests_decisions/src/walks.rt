@@ -1,4 +1,4 @@
-//! Probes, which find the end of each block by binary search on running sums, beside a plain walk over the loads.
+//! Probes, which find the end of each block by binary search on running sums, compared with a plain walk over the loads.
 
 ghost use Rattle.std.specs.Prelude.{◌≤◌};
 
@@ -7,7 +7,7 @@ use chain_partition::{Probe, probe_on};
 use lb_certificates::Units;
 use std::process::Abort;
 
-// Where a block ends that begins at `first` and takes as many elements as fit, one after the other.
+// Where a block ends that begins at `first` and takes as many elements as fit, one by one.
 fn plain_end(units: &[Units], first: usize, limit: u64) -> usize {
     let mut load: u64 = 0;
     for end in first..units.len() {
@@ -61,7 +61,7 @@ fn probed_ends(rt: &(impl Abort + AllocGlobal), units: &[Units], pes: u32, limit
     ends
 }
 
-// A number far from those of the seeds beside it.
+// A number far from those of neighboring seeds.
 fn scattered(seed: u64) -> u64 {
     seed.wrapping_add(1).wrapping_mul(0x9e37_79b9_7f4a_7c15) >> 33
 }
@@ -77,7 +77,7 @@ fn some_units(rt: &(impl Abort + AllocGlobal), number: u64) -> Vec<Units> {
     units
 }
 
-// So many blocks of these loads end where a plain walk ends.
+// This number of blocks of these loads end where a plain walk ends.
 fn expect_plain_ends(rt: &(impl Abort + AllocGlobal), units: &[Units], pes: u32, limit: u64)
     requires some_pe { 1 ≤ pes }
     requires few_pes { pes ≤ 256 }

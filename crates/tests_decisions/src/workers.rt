@@ -41,7 +41,7 @@ fn any_number_of_workers_divides_the_same(rt: HostRuntime) {
     drop(five);
 }
 
-// Whether as many workers as there may be divide a full array into one block.
+// Whether the most workers that are allowed divide a full array into one block.
 fn is_full_divided<R: Threads + Sync + Abort + AllocGlobal>(rt: &R, row: &FullArray) -> bool {
     let full = full_loads(rt, row.0);
     let division = divided(rt, &full, 1, 64);
@@ -58,7 +58,7 @@ fn many_workers_divide_a_full_array(rt: HostRuntime) {
     }
 }
 
-// A gate that counts its calls by each of four workers, and those by anybody else.
+// A gate that counts its calls by each of four workers, and those by any other caller.
 #[derive(Drop)]
 struct Counting {
     first: AtomicU64,
@@ -92,7 +92,7 @@ impl Counting {
         }
     }
 
-    // How often each of the four has called it, and last how often anybody else has.
+    // The number of calls by each of the four, and last the number of those by any other caller.
     fn counts(&self) -> [u64; 5] {
         [
             self.first.load(Ordering::SeqCst),
@@ -104,7 +104,8 @@ impl Counting {
     }
 }
 
-// Whether so many workers have called a gate, each as often as any other and at least so often, and nobody else has.
+// Whether this number of workers have called a gate, each as often as any other and at least `least` times, and no other caller
+// has.
 fn are_alike(counts: &[u64; 5], workers: u32, least: u64) -> bool {
     let often = counts[0];
     for who in 0..5u32 {
@@ -116,7 +117,7 @@ fn are_alike(counts: &[u64; 5], workers: u32, least: u64) -> bool {
     often >= least
 }
 
-// How often each number passes where so many workers divide these loads for two PEs.
+// The number of times that each number passes where this number of workers divide these loads for two PEs.
 fn counted<R: Threads + Sync + Abort + AllocGlobal>(rt: &R, loads: &Loads, workers: u32) -> [u64; 5]
     requires some_worker { 1 ≤ workers }
     requires few_workers { workers ≤ 64 }
@@ -132,7 +133,7 @@ fn counted<R: Threads + Sync + Abort + AllocGlobal>(rt: &R, loads: &Loads, worke
     counts
 }
 
-// Where one to four workers divide these loads, each of them passes at least so often, with its own number.
+// Where one to four workers divide these loads, each of them passes at least this number of times, with its own number.
 fn expect_own_numbers<R: Threads + Sync + Abort + AllocGlobal>(
     rt: &R,
     units: &[Units],
@@ -157,7 +158,7 @@ fn each_worker_passes_in_each_round(rt: HostRuntime) {
     expect_own_numbers(&rt, &[5, 1, 1, 1, 1, 1], 2);
 }
 
-// How many turns a worker waits for the other.
+// The number of turns that a worker waits for the other.
 const TURNS: u64 = 1_000_000_000;
 
 // A gate that holds each of two workers until the other was seen.
@@ -247,7 +248,7 @@ fn planned<R: Threads + Sync + Abort + AllocGlobal, G: Gate + Sync>(
     plan_with(rt, rt.alloc(), example, 2, workers, gate).expect(rt, "out of memory")
 }
 
-// Whether so many workers at this gate plan the example, and the check accepts the plan.
+// Whether this number of workers at this gate plan the example, and the check accepts the plan.
 fn is_example_planned<R: Threads + Sync + Abort + AllocGlobal, G: Gate + Sync>(
     rt: &R,
     example: &Snapshot,

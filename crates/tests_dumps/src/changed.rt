@@ -9,7 +9,7 @@ use tests_fixtures::RECORDED_DUMP;
 // An offset, the byte there, the offset of the byte that brings the fault, and the fault.
 type Changed = (usize, u8, usize, DumpError);
 
-// Whether the byte at this offset makes this fault, at once and byte by byte.
+// Whether the byte at this offset makes this fault, in the whole text and byte by byte.
 fn is_fault(rt: &(impl Abort + AllocGlobal), row: &Changed) -> bool {
     let &(offset, byte, from, fault) = row;
     let text = changed(rt, &RECORDED_DUMP, offset, byte);
@@ -176,7 +176,7 @@ fn fault_of_255(offset: usize) -> Option<(usize, DumpError)> {
     }
 }
 
-// Whether byte 255 at this offset makes its fault, or else another dump.
+// Whether byte 255 at this offset makes its fault, or otherwise another dump.
 fn is_told(rt: &(impl Abort + AllocGlobal), offset: usize) -> bool {
     let text = changed(rt, &RECORDED_DUMP, offset, 255);
     let expected = match fault_of_255(offset) {

@@ -12,7 +12,7 @@ use tests_fixtures::{pe, round};
 
 type Element = (Option<Units>, Option<(u32, Pe)>);
 
-// What the readers say of a database and of its first five indexes.
+// What the readers of a database return for it and for its first five indexes.
 #[derive(Clone, Copy, PartialEq, Eq)]
 struct Readings {
     round: Round,
@@ -42,12 +42,12 @@ fn seen(db: &LoadDb) -> Readings {
     }
 }
 
-// Whether an element has so many units and this report.
+// Whether an element has this number of units and this report.
 fn has(db: &LoadDb, i: u32, units: Units, report: Option<(u32, Pe)>) -> bool {
     db.load(i) == Some(units) && db.reported(i) == report
 }
 
-// Whether a database is in this round, has so many elements, and is complete or is not.
+// Whether a database is in this round, has this number of elements, and is complete or is not.
 fn is_in_round(db: &LoadDb, round: Round, len: usize, is_complete: bool) -> bool {
     db.round() == round
         && db.len() == len
@@ -55,7 +55,7 @@ fn is_in_round(db: &LoadDb, round: Round, len: usize, is_complete: bool) -> bool
         && db.is_complete() == is_complete
 }
 
-// A database of so many elements.
+// A database of this number of elements.
 fn made(rt: &(impl Abort + AllocGlobal), len: u32) -> LoadDb
     requires few { len ≤ 65536 }
 {
@@ -75,7 +75,7 @@ fn begun(rt: &(impl Abort + AllocGlobal)) -> LoadDb {
     db
 }
 
-// Whether its elements stand on PE 0 alone, and it refuses a snapshot there, as not all have reported.
+// Whether its elements are on PE 0 alone, and it refuses a snapshot there, since not all have reported.
 fn refuses_a_snapshot(db: &LoadDb) -> bool {
     if db.stands_on(0) || !db.stands_on(1) {
         return false;
@@ -100,7 +100,7 @@ fn four_elements_of_which_one_reported(rt: HostRuntime) {
     drop(db);
 }
 
-// The result of a report of an element that has so many bytes, for the round of this number.
+// The result of a report of an element with this number of bytes, for the round with this number.
 fn report(
     rt: &impl Abort,
     db: &mut LoadDb,
@@ -115,7 +115,7 @@ fn report(
 // The element, the round and the bytes of a report, and why it is refused.
 type Refused = (u32, u32, u32, DbError);
 
-// Whether a database refuses it, and stays as it was.
+// Whether a database refuses it, and stays unchanged.
 fn is_refused(rt: &impl Abort, db: &mut LoadDb, row: &Refused) -> bool {
     let &(i, number, bytes, error) = row;
     let before = seen(db);
@@ -148,7 +148,7 @@ fn report_the_others(rt: &impl Abort, db: &mut LoadDb) {
     assert_for(rt, report(rt, db, 3, 1, 1).is_ok(), "the report of 3");
 }
 
-// The snapshot of a database whose elements stand on so many PEs.
+// The snapshot of a database whose elements are on this number of PEs.
 fn taken(rt: &impl Abort, db: &LoadDb, step: u32, pes: u32) -> Snapshot
     requires some_pe { 1 ≤ pes }
     requires few_pes { pes ≤ 256 }
@@ -166,7 +166,7 @@ fn is_of_four(taken: &Snapshot) -> bool {
         && same(taken.sizes().as_slice(), &sizes)
 }
 
-// Whether that snapshot is taken of a database.
+// Whether a database gives that snapshot.
 fn gives_the_four(rt: &impl Abort, db: &LoadDb) -> bool {
     let taken = taken(rt, db, 1, 1);
     let same = is_of_four(&taken);
@@ -185,7 +185,7 @@ fn a_load_past_32_bits_is_taken(rt: HostRuntime) {
 // The units that an element is charged with, one after the other, and its load.
 type Charged = (Units, Units, Units);
 
-// Whether the load of an element that is charged so is that.
+// Whether an element that is charged with these units has that load.
 fn is_charged_so(rt: &(impl Abort + AllocGlobal), row: &Charged) -> bool {
     let &(first, second, load) = row;
     let mut db = made(rt, 1);
@@ -237,7 +237,7 @@ fn the_last_round_of_no_elements_has_no_next(rt: HostRuntime) {
     drop(db);
 }
 
-// How many elements a snapshot of a database has.
+// The number of elements in a snapshot of a database.
 fn count_taken(rt: &impl Abort, db: &LoadDb) -> usize {
     let taken = taken(rt, db, 9, 256);
     let count = taken.loads().len();
@@ -253,7 +253,7 @@ fn no_elements_are_taken(rt: HostRuntime) {
     assert_for(&rt, count == 0, count);
 }
 
-// What an element of the two does: it works, reports and works on.
+// An element of the two works, reports and works on.
 fn work(rt: &impl Abort, db: &mut LoadDb, i: u32) {
     assert_for(rt, db.charge(i, 7).is_ok(), "before the report");
     let answer = db.report(i, round(1), 1_048_576, pe(255));

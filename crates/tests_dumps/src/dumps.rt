@@ -1,5 +1,5 @@
-//! A snapshot of three elements and its 52 bytes in the format LBD1, cut and changed at each place, and the faults by
-//! their numbers and words.
+//! A snapshot of three elements and its 52 bytes in the format LBD1, cut and changed at each place, and the faults by their
+//! numbers and texts.
 
 use crate::feeding::{
     are_faults_of_two, expect_in_any_pieces, expect_short_starts, expect_with_its_piece,
@@ -21,7 +21,7 @@ fn the_example(rt: HostRuntime) {
     assert_for(&rt, is_example(found), "decoded");
 }
 
-// Whether a list of bytes that a snapshot is written to gets this text.
+// Whether a snapshot that is written to a list of bytes has this text.
 fn is_written(rt: &impl AllocGlobal, snapshot: &Snapshot, text: &[u8]) -> bool {
     let mut out: Vec<u8> = Vec::new(rt.alloc());
     let written = write_to(&mut out, snapshot).is_ok() && same(&out, text);
@@ -73,7 +73,7 @@ fn fault_of_255(offset: usize) -> Option<DumpError> {
     }
 }
 
-// Whether byte 255 at this offset of the example makes its fault, or else another snapshot.
+// Whether byte 255 at this offset of the example makes its fault, or otherwise another snapshot.
 fn is_told(rt: &(impl Abort + AllocGlobal), offset: usize) -> bool {
     let text = changed(rt, &EXAMPLE_DUMP, offset, 255);
     let expected = match fault_of_255(offset) {
@@ -130,14 +130,14 @@ fn expect_fault(rt: &(impl Abort + AllocGlobal), text: &[u8], from: usize, fault
     assert_for(rt, has_fault(rt.alloc(), text, from, fault), (text, fault));
 }
 
-// The example and three bytes more.
+// The example and three more bytes.
 fn surplus() -> [u8; 55] {
     let mut surplus = [7; 55];
     surplus[..52].copy_from_slice(&EXAMPLE_DUMP);
     surplus
 }
 
-// The example with a count of one element more than the most.
+// The example with a count one above the most elements.
 fn one_too_many() -> [u8; 52] {
     let mut count = EXAMPLE_DUMP;
     count[13] = 1;

@@ -6,7 +6,7 @@ use std::alloc::Global;
 use std::process::Abort;
 use tests_fixtures::Source;
 
-/// What a reader gives at the end, or why it gives nothing, where this is how it took the text.
+/// What a reader returns at the end, or why it returns nothing, where this was the result for the text.
 fn ended(reader: DumpReader, fed: Result<(), DumpError>) -> Result<Dump, DumpError> {
     match fed {
         Ok(()) => reader.end(),
@@ -25,7 +25,7 @@ fn feed_bytes(reader: &mut DumpReader, text: &[u8]) -> Result<(), DumpError> {
     Ok(())
 }
 
-/// What a reader gives for a text that comes byte by byte, or why it gives nothing.
+/// What a reader returns for a text that comes byte by byte, or why it returns nothing.
 pub(crate) fn fed_byte_by_byte(alloc: Global, text: &[u8]) -> Result<Dump, DumpError> {
     let mut reader = DumpReader::new(alloc);
     let fed = feed_bytes(&mut reader, text);
@@ -92,7 +92,7 @@ pub(crate) fn has_fault(alloc: Global, text: &[u8], from: usize, fault: DumpErro
     decodes_to(alloc, text, Some(fault)) && keeps_fault(alloc, text, from, fault)
 }
 
-// Whether the start of so many bytes of a text ends too soon.
+// Whether the first `len` bytes of a text end too soon.
 fn is_short(alloc: Global, text: &[u8], len: usize) -> bool {
     let start = &text[..len.min(text.len())];
     let Ok(bytes) = u32::try_from(start.len()) else {
@@ -101,7 +101,7 @@ fn is_short(alloc: Global, text: &[u8], len: usize) -> bool {
     has_fault(alloc, start, start.len(), DumpError::Short(bytes))
 }
 
-/// Each start of a text has to end too soon, at its own length.
+/// Each start of a text has to end too soon, with its own length.
 pub(crate) fn expect_short_starts(rt: &(impl Abort + AllocGlobal), text: &[u8]) {
     for len in 0..text.len() {
         assert_for(rt, is_short(rt.alloc(), text, len), len);
@@ -148,13 +148,13 @@ pub(crate) fn expect_with_its_piece(
     }
 }
 
-/// Whether a text gives its dump by a reader that gives so many bytes a call.
+/// Whether a text gives its dump with a reader that gives this number of bytes per call.
 pub(crate) fn is_read(rt: &(impl Abort + AllocGlobal), text: &[u8], at_once: usize) -> bool {
     let mut source = Source::new(text, at_once, None);
     comes_to(rt, read_from(rt.alloc(), &mut source), Ok(text))
 }
 
-/// Whether a text gives its dump by a reader that gives one byte a call, after a call for each and the one at the end.
+/// Whether a text gives its dump with a reader that gives one byte per call, after a call for each byte and the one at the end.
 pub(crate) fn is_read_by_bytes(rt: &(impl Abort + AllocGlobal), text: &[u8]) -> bool {
     let mut source = Source::new(text, 1, None);
     let read = comes_to(rt, read_from(rt.alloc(), &mut source), Ok(text));
@@ -178,7 +178,7 @@ fn is_short_of_one(alloc: Global, text: &[u8]) -> bool {
     ))
 }
 
-/// Whether a text, which is given a byte more here, ends where it did, and not before.
+/// Whether a text, to which one more byte is added here, ends where it did, and not before.
 pub(crate) fn ends_there(alloc: Global, text: &mut Vec<u8>) -> bool {
     let short = is_short_of_one(alloc, text);
     let pushed = text.push(0).is_ok();

@@ -1,5 +1,5 @@
-//! What the tests are made of: how a result is judged, the parts of a decision, and texts by their numbers. What can't
-//! be made ends the test.
+//! What the tests use: how a result is judged, the parts of a decision, and texts by their numbers. What cannot be made ends
+//! the test.
 
 ghost use Rattle.std.specs.Prelude.{◌≡◌, true};
 
@@ -9,7 +9,7 @@ use std::alloc::Global;
 use std::fmt::Debug;
 use std::process::Abort;
 
-/// Ends the test where this does not hold, with what it was to hold for.
+/// Ends the test where this does not hold, with the row for which it has to hold.
 pub(crate) fn assert_for<R: Debug + Copy>(rt: &impl Abort, holds: bool, row: R)
     ensures held { holds ≡ true }
 {

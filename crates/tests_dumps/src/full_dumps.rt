@@ -95,7 +95,7 @@ fn decoded(rt: HostRuntime) {
     assert_for(&rt, is_full(&rt, found), "another snapshot");
 }
 
-// Whether a writer that takes so many bytes a call has this text of a snapshot.
+// Whether a writer that takes this number of bytes per call has this text of a snapshot.
 fn writes(rt: &impl AllocGlobal, at_once: usize, snapshot: &Snapshot, text: &[u8]) -> bool {
     let mut sink = Sink::new(rt, at_once, usize::MAX, None);
     let written = write_to(&mut sink, snapshot).is_ok() && same(&sink.taken, text);

@@ -151,7 +151,7 @@ fn decoded(rt: HostRuntime) {
     drop(full);
 }
 
-// Whether a writer that takes so many bytes a call has this text of a dump.
+// Whether a writer that takes this number of bytes per call has this text of a dump.
 fn writes(rt: &impl AllocGlobal, at_once: usize, dump: &Dump, text: &[u8]) -> bool {
     let mut sink = Sink::new(rt, at_once, usize::MAX, None);
     let written = write_dump(&mut sink, dump).is_ok() && same(&sink.taken, text);
@@ -257,7 +257,7 @@ fn is_planned_so(found: Result<Dump, DumpError>, dump: &Dump) -> bool {
     same
 }
 
-// Whether a dump is read as it was written, where its reader gives so many bytes a call.
+// Whether a dump can be read back, with a reader that gives this number of bytes per call.
 fn is_read_again(rt: &(impl Abort + AllocGlobal), dump: &Dump, at_once: usize) -> bool {
     let mut text: Vec<u8> = Vec::new(rt.alloc());
     let written = write_dump(&mut text, dump).is_ok();

@@ -1,5 +1,5 @@
-//! Tests of where snapshots come from: dumps, whole and in pieces, and the load database. They use public calls only,
-//! on the worked example, on full arrays, and on readers and writers that fail.
+//! Tests of the sources of snapshots: dumps, whole and in pieces, and the load database. They use public calls only, on the
+//! worked example, on full arrays, and on readers and writers that fail.
 #![tactic(auto)]
 
 #[cfg(test)]

@@ -1,5 +1,5 @@
-//! Which decisions a dump is made of: each list as long as the target says, and no more moves than elements, each of an
-//! element that there is.
+//! Which decisions a dump is made of: each list has the length that follows from the target, and there are no more moves than
+//! elements, each of an element that exists.
 
 use crate::fixtures::assert_for;
 use crate::parts::{
@@ -19,7 +19,7 @@ fn are_parts(snapshot: &Snapshot, found: &Option<Recorded>, decided: Option<&Dec
     same && is_taken_so(snapshot, &EXAMPLE)
 }
 
-// Whether a dump gives back the example and this decision, or none.
+// Whether a dump returns the example and this decision, or none.
 fn gives_back(dump: Dump, decided: Option<&Decided<'_>>) -> bool {
     let (snapshot, found) = dump.into_parts();
     let same = are_parts(&snapshot, &found, decided);
@@ -28,7 +28,7 @@ fn gives_back(dump: Dump, decided: Option<&Decided<'_>>) -> bool {
     same
 }
 
-// Whether a dump is made of the example and this decision, or none, and then gives both back.
+// Whether a dump is made of the example and this decision, or none, and then returns both.
 fn is_made(rt: &(impl Abort + AllocGlobal), decided: Option<&Decided<'_>>) -> bool {
     let recorded = decided.map(|parts| recorded(rt, parts));
     match Dump::new(snapshot(rt, &EXAMPLE), recorded) {
@@ -57,11 +57,11 @@ fn the_example_and_its_decision(rt: HostRuntime) {
     assert_for(&rt, is_made(&rt, Some(&WRONG)), "a wrong one");
 }
 
-// A target, how many cuts, stops, names, prices of blocks and prices of PEs there are, and whether a dump is made of them. With
-// no number of stops the floor is zero.
+// A target, the numbers of cuts, stops, names, prices of blocks and prices of PEs, and whether a dump is made of them. With no
+// number of stops the floor is zero.
 type Lengths = (u32, usize, Option<usize>, usize, usize, usize, bool);
 
-// The first words, of which there are at most 258.
+// The first of these numbers, of which there are at most 258.
 fn first(words: &[u32; 258], len: usize) -> &[u32] {
     &words[..len.min(258)]
 }

@@ -12,7 +12,7 @@ use std::process::Abort;
 /// The load, the size and the place of an element.
 pub(crate) type Element = (Units, u32, u32);
 
-/// An element that moves, the PE on which it stands and the one on which it is to run.
+/// An element that moves, the PE that it is on and the one on which it is to run.
 pub(crate) type Move = (u32, u32, u32);
 
 /// The parts of a snapshot.

@@ -1,5 +1,5 @@
-//! The example with a decision on it and its 172 bytes in the format LBD2, and the same without the decision, whose text
-//! ends with its flag: both ways, and cut at each place.
+//! The example with a decision on it and its 172 bytes in the format LBD2, and the same without the decision, whose text ends
+//! with its flag: written and read, and cut at each place.
 
 use crate::feeding::{
     expect_in_any_pieces, expect_short_starts, fed_byte_by_byte, give, has_fault, is_fed_by_bytes,
@@ -62,7 +62,7 @@ fn is_accepted(dump: &Dump) -> bool {
         && check(dump.snapshot(), 3, decision) == Err(Flaw::CutCount)
 }
 
-// Whether that of a dump that was found is.
+// Whether that of a dump that was found is accepted.
 fn is_right(found: Result<Dump, DumpError>) -> bool {
     let right = match &found {
         Ok(dump) => is_accepted(dump),
@@ -77,7 +77,7 @@ fn the_decision_that_was_read_is_accepted(rt: HostRuntime) {
     assert_for(&rt, is_right(decode(rt.alloc(), &RECORDED_DUMP)), "flaw");
 }
 
-// Whether a list of bytes that a dump is written to gets this text.
+// Whether a dump that is written to a list of bytes has this text.
 fn is_written(rt: &impl AllocGlobal, dump: &Dump, text: &[u8]) -> bool {
     let mut out: Vec<u8> = Vec::new(rt.alloc());
     let written = write_dump(&mut out, dump).is_ok() && same(&out, text);
@@ -100,7 +100,7 @@ fn the_text_of_a_dump(rt: HostRuntime) {
     assert_for(&rt, is_text_of(&rt, None, &plain()), "none");
 }
 
-// The decision with the floor zero, as any bottleneck may be written down.
+// The decision with the floor zero, since any bottleneck may be written down.
 static UNFENCED: Decided<'static> = Decided {
     target: 2,
     bottleneck: 2,
@@ -153,7 +153,7 @@ fn each_prefix_is_short(rt: HostRuntime) {
     expect_short_starts(&rt, &plain());
 }
 
-// Whether one byte more, of this value, is the fault of a text from that byte on.
+// Whether one more byte, with this value, is the fault of a text from that byte on.
 fn has_end(rt: &(impl Abort + AllocGlobal), text: &[u8], byte: u8) -> bool {
     let mut longer = list(rt, text);
     let pushed = longer.push(byte).is_ok();

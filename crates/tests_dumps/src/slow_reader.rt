@@ -26,7 +26,7 @@ fn number_of(bytes: &[u8]) -> u64 {
     number
 }
 
-// The next number, of so many bytes.
+// The next number, of this number of bytes.
 fn next(reading: &mut Reading<'_>, len: usize) -> Result<u64, DumpError> {
     let rest = reading.text.get(reading.at..).unwrap_or(&[]);
     if rest.len() < len {
@@ -39,7 +39,7 @@ fn next(reading: &mut Reading<'_>, len: usize) -> Result<u64, DumpError> {
     Ok(number)
 }
 
-// The next number, which has this fault where it is below or above a range.
+// The next number, which has this fault where it is outside a range.
 fn next_in(
     reading: &mut Reading<'_>,
     len: usize,
@@ -53,7 +53,7 @@ fn next_in(
     Ok(number)
 }
 
-// So many numbers of any value.
+// The next `count` numbers, of any value.
 fn pass(reading: &mut Reading<'_>, len: usize, count: u64) -> Result<(), DumpError> {
     for _ in 0..count {
         next(reading, len)?;
@@ -61,7 +61,7 @@ fn pass(reading: &mut Reading<'_>, len: usize, count: u64) -> Result<(), DumpErr
     Ok(())
 }
 
-// The letters: the length of a load in this format.
+// The letters of the magic, and with them the length of a load in this format.
 fn read_letters(reading: &mut Reading<'_>) -> Result<usize, DumpError> {
     next_in(reading, 1, (76, 76), DumpError::Magic)?;
     next_in(reading, 1, (66, 66), DumpError::Magic)?;
@@ -70,7 +70,7 @@ fn read_letters(reading: &mut Reading<'_>) -> Result<usize, DumpError> {
     Ok(if last == 49 { 4 } else { 8 })
 }
 
-// The elements, of which there are so many on so many PEs.
+// The `count` elements, on `procs` PEs.
 fn read_elements(
     reading: &mut Reading<'_>,
     load_len: usize,
@@ -95,7 +95,7 @@ fn read_elements(
     Ok(())
 }
 
-// What stands before the moves of a decision, up to their number.
+// What comes before the moves of a decision, up to their number.
 fn read_plan(reading: &mut Reading<'_>, count: u32) -> Result<u64, DumpError> {
     let target = next_in(reading, 4, (1, 256), DumpError::Target)?;
     let ends = target.saturating_add(1);
@@ -108,7 +108,7 @@ fn read_plan(reading: &mut Reading<'_>, count: u32) -> Result<u64, DumpError> {
     next_in(reading, 4, (0, u64::from(count)), DumpError::MoveCount)
 }
 
-// The moves, of which there are so many, of elements below a count.
+// The moves, of elements below a count.
 fn read_moves(reading: &mut Reading<'_>, moves: u64, count: u32) -> Result<(), DumpError> {
     let last = u64::from(count).saturating_sub(1);
     for k in 0..u32::try_from(moves).unwrap_or(u32::MAX) {
@@ -119,7 +119,7 @@ fn read_moves(reading: &mut Reading<'_>, moves: u64, count: u32) -> Result<(), D
     Ok(())
 }
 
-// What stands behind the elements of LBD2.
+// What comes after the elements of LBD2.
 fn read_ending(reading: &mut Reading<'_>, count: u32) -> Result<(), DumpError> {
     if next_in(reading, 4, (0, 1), DumpError::Flag)? == 0 {
         return Ok(());
@@ -128,7 +128,7 @@ fn read_ending(reading: &mut Reading<'_>, count: u32) -> Result<(), DumpError> {
     read_moves(reading, moves, count)
 }
 
-// What stands behind the letters, where a load has so many bytes.
+// What comes after the letters, where a load has this number of bytes.
 fn read_numbers(reading: &mut Reading<'_>, load_len: usize) -> Result<(), DumpError> {
     pass(reading, 4, 1)?;
     let procs = next_in(reading, 4, (1, 256), DumpError::Procs)?;
@@ -199,7 +199,7 @@ fn push_floor(rt: &impl Abort, numbers: &mut Vec<u64>, floor: &Floor) {
     }
 }
 
-// Adds the numbers of a decision, behind the flag 1.
+// Adds the numbers of a decision, after the flag 1.
 fn push_recorded(rt: &impl Abort, numbers: &mut Vec<u64>, recorded: &Recorded) {
     let decision = &recorded.decision;
     push_words(rt, numbers, &[1, recorded.target]);
@@ -213,7 +213,7 @@ fn push_recorded(rt: &impl Abort, numbers: &mut Vec<u64>, recorded: &Recorded) {
     push_moves(rt, numbers, decision);
 }
 
-// The numbers of a dump behind letters that end with this one.
+// The numbers of a dump after letters that end with this one.
 fn push_dump(rt: &impl Abort, numbers: &mut Vec<u64>, dump: &Dump, format: u64) {
     push_snapshot(rt, numbers, dump.snapshot());
     match dump.recorded() {
@@ -223,7 +223,7 @@ fn push_dump(rt: &impl Abort, numbers: &mut Vec<u64>, dump: &Dump, format: u64) 
     }
 }
 
-// Whether these are the numbers of a dump, behind the letters.
+// Whether these are the numbers of a dump, after the letters.
 fn has_numbers(rt: &(impl Abort + AllocGlobal), dump: &Dump, numbers: &[u64]) -> bool {
     if numbers.len() < 4 {
         return false;
@@ -235,7 +235,7 @@ fn has_numbers(rt: &(impl Abort + AllocGlobal), dump: &Dump, numbers: &[u64]) ->
     has
 }
 
-// Whether a result is what the slow reader comes to, with these numbers.
+// Whether a result is that of the slow reader, with these numbers.
 fn is_read_so(
     rt: &(impl Abort + AllocGlobal),
     found: Result<Dump, DumpError>,
@@ -251,7 +251,7 @@ fn is_read_so(
     same
 }
 
-// Whether a text is decoded to what the slow reader comes to.
+// Whether the result of decoding a text is that of the slow reader.
 fn agrees(rt: &(impl Abort + AllocGlobal), text: &[u8]) -> bool {
     let mut reading = Reading {
         text,
@@ -264,7 +264,7 @@ fn agrees(rt: &(impl Abort + AllocGlobal), text: &[u8]) -> bool {
     same
 }
 
-// Whether a text with this byte at an offset is.
+// Whether it is so for a text with this byte at an offset.
 fn agrees_with(rt: &(impl Abort + AllocGlobal), text: &[u8], offset: usize, byte: u8) -> bool {
     let text = changed(rt, text, offset, byte);
     let agrees = agrees(rt, &text);
@@ -272,7 +272,7 @@ fn agrees_with(rt: &(impl Abort + AllocGlobal), text: &[u8], offset: usize, byte
     agrees
 }
 
-// A text with any byte at this offset has to be.
+// It has to be so for a text with any byte at this offset.
 fn expect_to_agree(rt: &(impl Abort + AllocGlobal), text: &[u8], offset: usize) {
     for byte in 0..=255u8 {
         let agrees = agrees_with(rt, text, offset, byte);

@@ -10,21 +10,21 @@ use std::io::ErrorKind;
 use std::process::Abort;
 use tests_fixtures::{EXAMPLE_DUMP, RECORDED_DUMP, Sink, Source, example};
 
-// Whether the reading of a text ends with this fault, after so many calls of its reader.
+// Whether the reading of a text ends with this fault, after this number of calls of its reader.
 fn ends_reading(alloc: Global, source: &mut Source<'_>, fault: DumpError, calls: usize) -> bool {
     let found = read_from(alloc, source).err();
     found == Some(fault) && source.calls == calls
 }
 
-// Whether a reader of this text that gives so many bytes a call ends the reading at the call at which it fails in this
+// Whether a reader of this text that gives this number of bytes per call ends the reading at the call at which it fails in this
 // way.
 fn ends_at_call(alloc: Global, text: &[u8], at_once: usize, call: usize, kind: ErrorKind) -> bool {
     let mut source = Source::new(text, at_once, Some((call, kind)));
     ends_reading(alloc, &mut source, DumpError::Read, call.saturating_add(1))
 }
 
-// A reader of this text that gives so many bytes a call, and so has so many calls, has to end the reading at each call at
-// which it fails in this way.
+// A reader of this text that gives this number of bytes per call, and so has this number of calls, has to end the reading at
+// each call at which it fails in this way.
 fn expect_end_of_reading(
     rt: &(impl Abort + AllocGlobal),
     text: &[u8],
@@ -55,7 +55,7 @@ fn a_reader_that_fails_once(rt: HostRuntime) {
     }
 }
 
-// Whether a text is read from a reader that gives so many bytes a call, and fails after so many calls.
+// Whether a text is read with a reader that gives this number of bytes per call, and fails after this number of calls.
 fn reads_all(rt: &(impl Abort + AllocGlobal), text: &[u8], at_once: usize, calls: usize) -> bool {
     let mut source = Source::new(text, at_once, Some((calls, ErrorKind::Other)));
     let found = read_from(rt.alloc(), &mut source);
@@ -87,7 +87,8 @@ const SIZE: Fault<'static> = (&EXAMPLE_DUMP, 20, DumpError::Size(0));
 
 const INDEX: Fault<'static> = (&RECORDED_DUMP, 160, DumpError::Move(0));
 
-// Whether the fault of a text comes first where its reader gives so many bytes a call, and fails after so many calls.
+// Whether the fault of a text comes first where its reader gives this number of bytes per call, and fails after this number of
+// calls.
 fn comes_first(
     rt: &(impl Abort + AllocGlobal),
     row: Fault<'_>,
@@ -135,7 +136,7 @@ fn write(sink: &mut Sink, written: Written<'_>) -> Result<(), DumpError> {
     }
 }
 
-// Whether the writing fails after so many calls of the writer, which then has a start of the text.
+// Whether the writing fails after this number of calls of the writer, which then has a start of the text.
 fn ends_writing(sink: &mut Sink, written: Written<'_>, calls: usize) -> bool {
     let fault = write(sink, written).err();
     fault == Some(DumpError::Write)
@@ -143,7 +144,7 @@ fn ends_writing(sink: &mut Sink, written: Written<'_>, calls: usize) -> bool {
         && text_of(written).starts_with(&sink.taken)
 }
 
-// Whether it does where the writer, which takes so many bytes a call, fails in this way at this call.
+// Whether it fails so where the writer, which takes this number of bytes per call, fails in this way at this call.
 fn ends_at_call_of(
     rt: &impl AllocGlobal,
     written: Written<'_>,
@@ -157,8 +158,8 @@ fn ends_at_call_of(
     ends
 }
 
-// A writer that takes so many bytes a call, and so has so many calls, has to end the writing at each call at which it
-// fails in this way.
+// A writer that takes this number of bytes per call, and so has this number of calls, has to end the writing at each call at
+// which it fails in this way.
 fn expect_end_of_writing(
     rt: &(impl Abort + AllocGlobal),
     written: Written<'_>,
@@ -172,7 +173,7 @@ fn expect_end_of_writing(
     }
 }
 
-// The ways in which a writer fails: it takes nothing, or returns an error.
+// The ways in which a writer fails: it takes no byte, or returns an error.
 const ERRORS: [Option<ErrorKind>; 3] = [None, Some(ErrorKind::Interrupted), Some(ErrorKind::Other)];
 
 #[test]
@@ -200,7 +201,7 @@ fn a_writer_of_a_decision_that_fails_once(rt: HostRuntime) {
     drop(dump);
 }
 
-// Whether a writer that takes so many bytes a call, and fails after so many calls, has the whole text.
+// Whether a writer that takes this number of bytes per call, and fails after this number of calls, has the whole text.
 fn writes_all(rt: &impl AllocGlobal, written: Written<'_>, at_once: usize, calls: usize) -> bool {
     let mut sink = Sink::new(rt, at_once, calls, None);
     let wrote = write(&mut sink, written).is_ok();

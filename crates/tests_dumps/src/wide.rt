@@ -1,4 +1,4 @@
-//! Loads at the limits: the greatest of 47 bits, of a full array, and the greatest that the format LBD1 holds.
+//! Loads at the limits: the greatest of 47 bits, of a full array, and the greatest that the format LBD1 can represent.
 
 use crate::fixtures::{assert_for, has_dump_text, has_text, push};
 use crate::parts::{Decided, Element, Elements, dump, has_parts, snapshot, text_of};
@@ -8,7 +8,7 @@ use lb_strategy::check;
 use std::process::Abort;
 use tests_fixtures::Sink;
 
-// The decision on a full array of the greatest load for one PE, on which all elements stand.
+// The decision on a full array of the greatest load for one PE, which has all elements.
 static WHOLE: Decided<'static> = Decided {
     target: 1,
     bottleneck: 9_223_372_036_854_710_272,
@@ -66,7 +66,7 @@ fn is_encoded(
     same
 }
 
-// Whether it is, both ways, with a text of this length.
+// Whether it has a text of this length, and is read back.
 fn goes_both_ways(
     rt: &(impl Abort + AllocGlobal),
     rows: &[Element],
@@ -107,7 +107,7 @@ fn the_decision_on_a_full_array_is_accepted(rt: HostRuntime) {
     drop(dump);
 }
 
-// Whether LBD1 cannot hold a snapshot because of the load of this element, and nothing is written.
+// Whether LBD1 cannot represent a snapshot because of the load of this element, and nothing is written.
 fn is_too_wide(rt: &impl AllocGlobal, snapshot: &Snapshot, element: u32) -> bool {
     let wide = Some(DumpError::Wide(element));
     let mut sink = Sink::new(rt, 64, usize::MAX, None);
@@ -117,7 +117,7 @@ fn is_too_wide(rt: &impl AllocGlobal, snapshot: &Snapshot, element: u32) -> bool
     written == wide && calls == 0 && encode(rt.alloc(), snapshot).err() == wide
 }
 
-// Whether it cannot hold one with these loads.
+// Whether it cannot represent one with these loads.
 fn are_too_wide(rt: &(impl Abort + AllocGlobal), loads: &[Units], element: u32) -> bool {
     let snapshot = with_loads(rt, loads);
     let wide = is_too_wide(rt, &snapshot, element);

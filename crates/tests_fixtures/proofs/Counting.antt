@@ -1,4 +1,4 @@
--- `refuse_next` at a call: what it is handed, and what a caller has of it. Assumes `Logic`.
+-- A call of `refuse_next`: what it is given, and what its caller gets. Assumes `Logic`.
 use Rattle.std.proofs.Common.{◌≡◌, ℕ, Bool, false, List, [], ◌∷◌, refl, ap}
 use seplogic.Ra.Ura.{Ura}
 use mir.Val.{Val, vbool, vptr}

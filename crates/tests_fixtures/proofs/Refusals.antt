@@ -1,4 +1,4 @@
--- One refusal more was told.
+-- One more refusal was reported.
 use Rattle.std.proofs.Common.{◌≡◌, ℕ, ◌+◌, arith, inl, inr, subst}
 use Rattle.std.proofs.lemmas.Bool.{cases_lt}
 use denote.Ref.{Bor}

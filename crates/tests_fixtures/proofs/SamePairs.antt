@@ -1,4 +1,4 @@
--- What `==` of two lists of pairs of numbers says.
+-- The result of `==` of two lists of pairs of numbers.
 use Rattle.std.proofs.Common.{◌≡◌, ℕ, ◌==◌, Bool, List, ap, ◌∙◌}
 use Rattle.std.specs.Bool.{Decides}
 use Rattle.std.specs.Cmp.Lexicographic.{pointwise}
@@ -18,6 +18,6 @@ each a b = (λ e. same_pair a b (parts.0 e), λ e. parts.1 (same_parts a b e))
     parts : Decides (same_size a b) ((a.0 ≡ b.0) × (a.1 ≡ b.1))
     parts = Decides-and (a.0 == b.0) (a.1 == b.1) (Decides-eqb a.0 b.0) (Decides-eqb a.1 b.1)
 
--- it is true where they are the same list, and there alone
+-- it is true exactly where they are the same list
 pub lists : (xs ys : List (ℕ × ℕ)) (r : Bool) → r ≡ pointwise same_size xs ys → Decides r (xs ≡ ys)
 lists = slice_eq-Decides each

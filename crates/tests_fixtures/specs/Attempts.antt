@@ -1,4 +1,4 @@
--- What an attempt may come to while a request is refused, and what a run over every refusal says of it.
+-- The outcomes that an attempt may have while a request is refused, and what a run over every refusal shows.
 use Rattle.std.specs.Prelude.{◌≡◌, ℕ, ◌+◌, ◌<◌, ◌≤◌, ◌⊎◌, Bool, true, false}
 use Rattle.std.specs.declared.result.Result.{Result}
 use Rattle.std.specs.declared.result.Result.TheVariants.{Ok, Err}
@@ -10,14 +10,15 @@ use Rattle.tests_fixtures.specs.declared.attempts.Outcome.TheVariants.{Right, Re
 use Rattle.tests_fixtures.specs.declared.attempts.Failure.{Failure}
 use Rattle.tests_fixtures.specs.declared.attempts.Failure.TheVariants.{Wrong as WrongAt, Ignored, GaveUp, WrongAfter, GaveUpAfter, TooManyTurns}
 
--- the outcome of a call that answers whether it was right, or has no memory
+-- the outcome of a call that returns whether it was right, or that memory was refused
 abbrev pub outcome_of : Result Bool AllocError → Outcome
 outcome_of (Ok true) = Right
 outcome_of (Ok false) = Wrong
 outcome_of (Err e) = Refused
 
 module _ {B : Type 0} (Answers : Bor (Refusing B) → Outcome → Type 0) (inner : B) where
-  -- the attempt may come to this outcome with an allocator over `inner` that refuses request number `turn`, or none where that is 0
+  -- the attempt may have this outcome with an allocator over `inner` that refuses request number `turn`, or none where that is
+  -- 0
   pub record MayAnswer (turn : ℕ) (outcome : Outcome) : Type 0 where
     pub alloc : Bor (Refusing B)
     pub over : alloc.now.inner ≡ inner

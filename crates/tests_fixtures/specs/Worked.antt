@@ -1,4 +1,4 @@
--- The example that the worked dump holds.
+-- The example in the worked dump.
 use Rattle.std.specs.Prelude.{ℕ, [], ◌∷◌, List}
 use Rattle.lb_snapshot.specs.Measured.{Taken}
 

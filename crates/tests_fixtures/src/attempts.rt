@@ -5,12 +5,12 @@ use crate::refusing::Refusing;
 use std::alloc::{AllocError, Allocator};
 use std::fmt::{self, Display, Formatter, Write};
 
-/// What an attempt came to.
+/// The outcome of an attempt.
 #[derive(Clone, Copy, Debug, PartialEq, Eq)]
 pub enum Outcome {
     /// The right result.
     Right,
-    /// Out of memory, and whatever the attempt may change was as it should be then.
+    /// Out of memory, with everything that the attempt may change as it should be then.
     Refused,
     /// Anything else.
     Wrong,
@@ -34,9 +34,9 @@ impl From<Result<bool, AllocError>> for Outcome {
 pub enum Failure {
     /// It returned a wrong result.
     Wrong(u64),
-    /// A request was refused, and its result was as if none was.
+    /// A request was refused, and the result was as if none was.
     Ignored(u64),
-    /// It reported out of memory, and no request was refused.
+    /// It reported out of memory, though no request was refused.
     GaveUp(u64),
     /// It reported the refusal, and then returned a wrong result with no refusal.
     WrongAfter(u64),
@@ -59,13 +59,13 @@ impl Display for Failure {
     }
 }
 
-/// Runs the attempt with a [`Refusing`] allocator for turn 1, 2 and so on, until a run meets no refusal, and gives
-/// the number of refusals met.
+/// Runs the attempt with a [`Refusing`] allocator for turn 1, 2 and so on, until a run meets no refusal, and returns the number
+/// of refusals met.
 ///
-/// A run that meets a refusal must come to [`Outcome::Refused`], and a run after it, with an allocator that
-/// refuses nothing, to [`Outcome::Right`]. The run that meets no refusal must come to [`Outcome::Right`].
+/// A run that meets a refusal must have the outcome [`Outcome::Refused`], and a run after it, with an allocator that refuses
+/// nothing, [`Outcome::Right`]. The run that meets no refusal must have the outcome [`Outcome::Right`].
 ///
-/// An attempt is mostly a `match` on a call, or [`Outcome::from`] of a `Result<bool, AllocError>`:
+/// Most attempts are a `match` on a call, or [`Outcome::from`] of a `Result<bool, AllocError>`:
 ///
 /// ```text
 /// let refusals = each_refusal(rt.alloc(), 99, |alloc| match sorted(alloc, &[2, 1]) {
@@ -77,8 +77,8 @@ impl Display for Failure {
 ///
 /// # Errors
 ///
-/// The [`Failure`] of the first turn that failed, and [`Failure::TooManyTurns`] where each of `most_turns` turns
-/// met a refusal, as it should be.
+/// The [`Failure`] of the first turn that failed, and [`Failure::TooManyTurns`] where each of `most_turns` turns met a refusal,
+/// and was right.
 pub fn each_refusal<B: Allocator + Copy, F: Fn(&Refusing<B>) -> Outcome>(
     inner: B,
     most_turns: u64,
@@ -97,7 +97,7 @@ pub fn each_refusal<B: Allocator + Copy, F: Fn(&Refusing<B>) -> Outcome>(
     Err(Failure::TooManyTurns(most_turns))
 }
 
-// Whether the run of this turn met a refusal, where it and the run after it were as they should be.
+// Whether the run of this turn met a refusal, where this run and the run after it were as they should be.
 fn meets_refusal<B: Allocator + Copy, F: Fn(&Refusing<B>) -> Outcome>(
     inner: B,
     turn: u64,

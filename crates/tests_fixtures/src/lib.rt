@@ -1,9 +1,9 @@
-//! What the tests of several crates are made of.
+//! What the tests of several crates have in common.
 //!
-//! - [`Refusing`]: an allocator that hands each request on to another one, but for one request, which it refuses.
+//! - [`Refusing`]: an allocator that passes each request on to another one, except one request, which it refuses.
 //! - [`each_refusal`], with [`Outcome`] and [`Failure`]: runs an attempt once for each request that it makes, and
 //!   refuses that request.
-//! - [`Source`] and [`Sink`]: a reader and a writer that fail once, in mid-stream.
+//! - [`Source`] and [`Sink`]: a reader and a writer that fail once, at a given call.
 //! - [`example`] and its dumps, rows of dumps ([`push_element`]), and [`pe`] and [`round`] by their numbers.
 #![tactic(auto)]
 

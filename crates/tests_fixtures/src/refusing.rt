@@ -3,9 +3,9 @@ ghost use Rattle.std.specs.Prelude.{◌≡◌, false};
 use crate::requests::Requests;
 use std::alloc::{AllocError, Allocator};
 
-/// An allocator that refuses one request, and hands each other request on to the allocator inside.
+/// An allocator that refuses one request, and passes each other request on to the allocator inside.
 ///
-/// A request is a call for a block, new or larger. To make a block smaller or to give it back is none.
+/// A request is a call for a block, new or larger. To make a block smaller or to free it is no request.
 #[derive(Drop)]
 pub struct Refusing<B: Allocator> {
     inner: B,
@@ -31,7 +31,7 @@ impl<B: Allocator> Refusing<B> {
         self.requests.has_refused()
     }
 
-    /// The number of requests so far, with the refused one.
+    /// The number of requests so far, including the refused one.
     pub fn requests(&self) -> u64 {
         self.requests.made()
     }

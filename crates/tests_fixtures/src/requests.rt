@@ -21,7 +21,7 @@ impl Requests {
         }
     }
 
-    /// Counts one more request, and says whether it is the one to refuse.
+    /// Counts one more request, and returns whether it is the one to refuse.
     pub(crate) fn refuse_next(&self) -> bool
         ensures none { self.now.turn ≡ 0 → result ≡ false }
     {

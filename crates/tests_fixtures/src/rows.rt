@@ -7,7 +7,7 @@ use std::alloc::AllocError;
 ///
 /// # Errors
 ///
-/// Out of memory. The dump is as it was.
+/// Out of memory. The dump is unchanged then.
 pub fn push_element(dump: &mut Vec<u8>, element: (u32, u32, u32)) -> Result<(), AllocError>
     ensures appended { OnOk result (dump.new.items ≡ dump.old.items ++ row element) }
     ensures err { OnErr result (dump.new.items ≡ dump.old.items) }

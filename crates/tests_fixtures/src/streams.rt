@@ -2,21 +2,21 @@ ghost use Rattle.std.specs.Prelude.{◌≡◌, []};
 
 use std::io::{self, Error, ErrorKind, Read, Write};
 
-/// A reader that gives so many bytes a call, and fails at one call, counted from 0, whatever comes after it.
+/// A reader that gives at most `at_once` bytes per call, and fails at one call, counted from 0, whatever comes after it.
 #[derive(Drop)]
 pub struct Source<'a> {
-    /// What it has yet to give.
+    /// The bytes that it has yet to give.
     pub rest: &'a [u8],
     /// The most bytes that it gives in one call.
     pub at_once: usize,
-    /// How often it was called.
+    /// The number of its calls so far.
     pub calls: usize,
     /// The call at which it fails, and the kind of the error.
     pub fails: Option<(usize, ErrorKind)>,
 }
 
 impl<'a> Source<'a> {
-    /// A reader of these bytes. It fails at the call of this number, if any, with an error of this kind.
+    /// A reader of these bytes. It fails at the call with this number, if any, with an error of this kind.
     pub fn new(rest: &'a [u8], at_once: usize, fails: Option<(usize, ErrorKind)>) -> Source<'a>
         ensures not_called { result.calls ≡ 0 }
         ensures rest { result.rest.now ≡ rest.now }
@@ -49,24 +49,24 @@ impl Read for Source<'_> {
     }
 }
 
-/// A writer that takes so many bytes a call, and fails at one call, counted from 0, whatever comes after it: with an
-/// error, or where there is none by taking nothing.
+/// A writer that takes at most `at_once` bytes per call, and fails at one call, counted from 0, whatever comes after it: with
+/// an error, or where there is none by taking no byte.
 #[derive(Drop)]
 pub struct Sink {
     /// What it has taken.
     pub taken: Vec<u8>,
     /// The most bytes that it takes in one call.
     pub at_once: usize,
-    /// How often it was called.
+    /// The number of its calls so far.
     pub calls: usize,
     /// The call at which it fails.
     pub fails_at: usize,
-    /// The kind of the error.
+    /// The kind of the error, if it fails with one.
     pub error: Option<ErrorKind>,
 }
 
 impl Sink {
-    /// A writer that has taken nothing. It fails at the call of this number, with an error of this kind, if any.
+    /// A writer that has taken nothing. It fails at the call with this number, with an error of this kind, if any.
     pub fn new(
         rt: &impl AllocGlobal,
         at_once: usize,

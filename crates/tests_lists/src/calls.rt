@@ -9,7 +9,7 @@ use lb_lists::{
 };
 use std::alloc::Global;
 
-// The cuts, the names and the bytes of the decision on the example.
+// Whether the decision on the example has its cuts, its names and its bytes.
 fn is_decided(alloc: Global) -> bool {
     let Ok(decision) = plan_run(alloc, &example(), 2) else {
         return false;
@@ -61,7 +61,7 @@ fn the_decision_is_written(rt: HostRuntime) {
     assert!(rt; same(&cuts, &[0, 2, 3]) && same(&stops, &[0, 1, 2]));
 }
 
-// A run, a number of PEs and why it is not planned.
+// A run, a number of PEs and why the run is not planned for it.
 struct Row<'a> {
     loads: &'a [u64],
     bytes: &'a [u32],
@@ -140,7 +140,7 @@ const ROWS: [Row<'static>; 8] = [
     },
 ];
 
-// Whether this run is refused so, planned or checked.
+// Whether this run is refused for this reason, planned or checked.
 fn is_refused(alloc: Global, row: &Row<'_>) -> bool {
     let run = Run {
         loads: row.loads,
@@ -172,7 +172,7 @@ fn a_place_less_to_write(rt: HostRuntime) {
     assert!(rt; planned == Err(RunError::BadInput));
 }
 
-// What a check of the claim with these numbers and places comes to.
+// The result of a check of the claim with these numbers and places.
 fn flaw_with(alloc: Global, bottleneck: u64, moved: u64, new_places: &[u32]) -> Option<Flaw> {
     let right = right_claim();
     let claim = Claim {

@@ -1,4 +1,4 @@
-//! What the tests start from, and how they end where something does not hold.
+//! What the tests start from, and how they end where a condition does not hold.
 
 ghost use Rattle.std.specs.Prelude.{◌≡◌, true};
 
@@ -6,7 +6,7 @@ use lb_lists::{Claim, Run};
 use std::fmt::Debug;
 use std::process::Abort;
 
-/// Ends the test where this does not hold, with what it was to hold for.
+/// Ends the test where this does not hold, with the row for which it has to hold.
 pub(crate) fn assert_for<R: Debug + Copy>(rt: &impl Abort, holds: bool, row: R)
     ensures held { holds ≡ true }
 {
@@ -28,8 +28,8 @@ pub(crate) fn example() -> Run<'static> {
     }
 }
 
-/// A right claim on the example and two PEs. The first two elements are one block, on PE 1, to which the first moves. On
-/// PE 0 that block would move 9 bytes and on PE 1 it moves 10; the other would move none and 8.
+/// A right claim on the example and two PEs. The first two elements are one block, on PE 1, to which the first moves. On PE 0
+/// this block would move 9 bytes, and on PE 1 it moves 10; the other block would move 0 and 8.
 pub(crate) fn right_claim() -> Claim<'static> {
     Claim {
         bottleneck: 2,

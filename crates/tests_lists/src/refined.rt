@@ -11,7 +11,7 @@ use lb_lists::{
 use std::alloc::{Allocator, Global};
 use tests_fixtures::{Outcome, Refusing, each_refusal};
 
-// Ten elements on three PEs, whose work has gathered in the middle. The least possible load is 12, and 12 + 12 * 167 / 1000 is
+// Ten elements on three PEs, with most of the work in the middle. The least possible load is 12, and 12 + 12 * 167 / 1000 is
 // 14. Of the cuts within 14, in the order of the PEs 2, 0, 1, those at 5 and 7 move element 4, of 60 bytes, and none fewer.
 fn ten() -> Run<'static> {
     Run {
@@ -24,7 +24,7 @@ fn ten() -> Run<'static> {
 
 const THOUSANDTHS: u32 = 167;
 
-// No call here has as many steps.
+// More steps than any decision here has.
 const STEPS: usize = 40;
 
 // The lists that a decision on the example is written to.
@@ -59,7 +59,7 @@ const EMPTY: Lists = Lists {
     step_rises: [7; STEPS],
 };
 
-// Decides on a run for three PEs, with room for so many steps.
+// Decides on a run for three PEs, with capacity for this number of steps.
 fn written<A: Allocator + Copy>(
     alloc: A,
     run: &Run<'_>,
@@ -165,7 +165,7 @@ fn loads_of_nothing_and_scattered_elements(rt: HostRuntime) {
     assert!(rt; decided.is_ok_and(|d| d.least == 12 && !d.near));
 }
 
-// Whether a decision is refused so, and nothing written.
+// Whether a decision is refused for this reason, and nothing is written.
 fn is_refused(alloc: Global, run: &Run<'_>, thousandths: u32, error: RefineError) -> bool {
     let mut lists = EMPTY;
     let decided = written(alloc, run, thousandths, STEPS, &mut lists);
@@ -184,7 +184,7 @@ fn is_empty(lists: &Lists) -> bool {
         && is_standing_empty(lists)
 }
 
-// Whether nothing was written of how elements stand.
+// Whether nothing was written to the lists of the order, the present cuts, the least cuts and the steps.
 fn is_standing_empty(lists: &Lists) -> bool {
     same(&lists.order, &[7; 3])
         && same(&lists.present, &[7; 4])
@@ -218,7 +218,7 @@ fn reasons_to_refuse_in_their_order(rt: HostRuntime) {
     assert!(rt; is_refused(alloc, &heavy, 0, RefineError::Run(RunError::BadLoad)));
 }
 
-// A claim of these lists.
+// The claim of these lists.
 fn claim_of<'a>(lists: &'a Lists, least: u64, moved: u64, steps: usize) -> RefinedClaim<'a> {
     RefinedClaim {
         decision: Claim {
@@ -240,7 +240,7 @@ fn claim_of<'a>(lists: &'a Lists, least: u64, moved: u64, steps: usize) -> Refin
     }
 }
 
-// What a check of the decision on the example comes to, where it is changed so: the number and the place of its flaw.
+// The result of a check of the decision on the example with this change: the number and the place of its flaw.
 fn flaw_with<F: Fn(&mut Lists)>(alloc: Global, change: F) -> (u8, (u32, u32))
     requires callable { F.IsAlwaysCallable change }
 {
@@ -300,7 +300,7 @@ fn numbers_and_places_of_flaws(rt: HostRuntime) {
 
 type Lent<'a> = &'a Refusing<Global>;
 
-// What a decision comes to, and the lists that it was to write.
+// The outcome of a decision, with the lists that it was to write.
 fn writes(alloc: Lent<'_>) -> Outcome {
     let mut lists = EMPTY;
     match written(alloc, &ten(), THOUSANDTHS, STEPS, &mut lists) {
@@ -317,7 +317,7 @@ fn each_request_for_memory(rt: HostRuntime) {
     assert_for(&rt, refusals == WRITTEN, refusals);
 }
 
-// The requests of a decision that is written: the lists of the snapshot, the decision, and the steps one behind the other.
+// The requests of a decision that is written: the lists of the snapshot, the decision, and the steps of all blocks.
 const WRITTEN: u64 = 49;
 
 #[test]

@@ -18,12 +18,12 @@ const MOVES: u64 = 1;
 // The cuts, stops, names and both prices of a claim.
 const CLAIM: u64 = 5;
 
-// No call here makes as many requests.
+// More requests than any call here makes.
 const MOST_TURNS: u64 = 40;
 
 type Lent<'a> = &'a Refusing<Global>;
 
-// Asserts that an attempt makes so many requests, each of which is refused and reported.
+// Asserts that an attempt makes this number of requests, each of which is refused and reported.
 fn assert_requests<F: Fn(&Refusing<Global>) -> Outcome>(
     rt: &(impl Abort + AllocGlobal),
     attempt: F,
@@ -36,7 +36,7 @@ fn assert_requests<F: Fn(&Refusing<Global>) -> Outcome>(
     assert_for(rt, refusals == requests, (refusals, requests));
 }
 
-// What a decision on the example comes to.
+// The outcome of a decision on the example.
 fn decides(alloc: Lent<'_>) -> Outcome {
     match plan_run(alloc, &example(), 2) {
         Ok(decision) => {
@@ -53,7 +53,7 @@ fn decides(alloc: Lent<'_>) -> Outcome {
     }
 }
 
-// What a plan for the example comes to, and the places that it was to write.
+// The outcome of a plan for the example, with the places that it was to write.
 fn plans(alloc: Lent<'_>) -> Outcome {
     let mut new_places = [7; 3];
     let expected = Planned {
@@ -67,7 +67,7 @@ fn plans(alloc: Lent<'_>) -> Outcome {
     }
 }
 
-// The same of the whole decision, and the lists that it was to write.
+// The same for the whole decision, with the lists that it was to write.
 fn writes(alloc: Lent<'_>) -> Outcome {
     let (mut new_places, mut cuts, mut stops, mut names) = ([7; 3], [7; 3], [7; 3], [7; 2]);
     let (mut block_prices, mut pe_prices) = ([7; 2], [7; 2]);
@@ -94,7 +94,7 @@ fn writes(alloc: Lent<'_>) -> Outcome {
     }
 }
 
-// What a check of a right claim comes to.
+// The outcome of a check of a right claim.
 fn checks(alloc: Lent<'_>) -> Outcome {
     match check_claim(alloc, &example(), 2, &right_claim()) {
         Ok(None) => Outcome::Right,

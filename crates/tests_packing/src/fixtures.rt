@@ -5,7 +5,7 @@ ghost use Rattle.std.specs.Prelude.{◌≡◌, true};
 use std::fmt::Debug;
 use std::process::Abort;
 
-/// Ends the test where this does not hold, with what it was to hold for.
+/// Ends the test where this does not hold, with the row for which it has to hold.
 pub(crate) fn assert_for<R: Debug + Copy>(rt: &impl Abort, holds: bool, row: R)
     ensures held { holds ≡ true }
 {

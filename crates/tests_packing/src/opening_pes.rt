@@ -12,7 +12,7 @@ fn opening(i: u32, n: u32, p: u32) -> Option<u32> {
     None
 }
 
-// An element, of so many, on so many PEs, and the PE on which it begins.
+// An element, the number of elements, the number of PEs, and the PE on which the element begins.
 type Begins = (u32, u32, u32, u32);
 
 fn begins_there(row: &Begins) -> bool {

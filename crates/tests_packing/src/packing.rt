@@ -50,7 +50,7 @@ const STATE: [u8; 21] = [
     0, 0, 0, 0, 0, 0, 0, 3, 0, 0, 0, 1, 0, 0, 0, 5, 0, 0, 0, 1, 170,
 ];
 
-// A value is packed behind a byte that is there, into just these bytes.
+// A value is packed after a byte that is already there, into exactly these bytes.
 fn expect_pack<T: Pup<Global>>(rt: &(impl Abort + AllocGlobal), value: &T, want: &[u8]) {
     let mut out = Vec::from_slice(rt.alloc(), &[255]).expect(rt, "out of memory");
     let len = value.packed_len() as usize;
@@ -60,7 +60,7 @@ fn expect_pack<T: Pup<Global>>(rt: &(impl Abort + AllocGlobal), value: &T, want:
     assert_for(rt, packed.split_first() == Some((&255, want)), packed);
 }
 
-// A value that is too long tells this length and is refused, which leaves the vector as it was.
+// A value that is too long reports this length and is refused, which leaves the vector unchanged.
 fn expect_too_long<T: Pup<Global>>(rt: &(impl Abort + AllocGlobal), value: &T, len: u32) {
     let mut out = Vec::from_slice(rt.alloc(), &[255]).expect(rt, "out of memory");
     assert_for(rt, value.packed_len() == len, ("the length is not", len));
@@ -81,7 +81,7 @@ fn expect_short<T: Pup<Global> + Drop>(rt: &(impl Abort + AllocGlobal), bytes: &
     }
 }
 
-// How many items the list has that these bytes unpack to, and how many bytes it took.
+// The number of items in the list that these bytes unpack to, and the number of bytes that it took.
 fn items_in<T: Pup<Global> + Drop>(
     alloc: Global,
     bytes: &[u8],
@@ -120,7 +120,7 @@ fn each_prefix_of_a_state_is_short(rt: HostRuntime) {
     expect_short::<State>(&rt, &STATE);
 }
 
-/// A share in percent. Bytes that say more than a hundred are those of no share.
+/// A share in percent. Bytes with a number above a hundred are not a share.
 #[derive(Drop)]
 struct Share {
     percent: u32,
@@ -170,7 +170,7 @@ impl<A: Allocator> Pup<A> for Share {
     }
 }
 
-// Bytes of a list of shares, and how many shares they unpack to and how many bytes these took, or the refusal.
+// Bytes of a list of shares, and the number of shares that they unpack to and of bytes that these took, or the refusal.
 #[derive(Debug)]
 struct Unpacked {
     bytes: &'static [u8],
@@ -240,7 +240,7 @@ impl<A: Allocator> Pup<A> for Nothing {
     }
 }
 
-// A list of so many values that pack into nothing.
+// A list of this number of values that pack into nothing.
 fn nothings(alloc: Global, count: u32) -> Result<Items<Nothing>, AllocError> {
     let mut list = Items::new(Vec::new(alloc));
     for _ in 0..count {
@@ -283,7 +283,7 @@ fn the_list_of_one_and_two(rt: HostRuntime) {
 // The list 1 2 and the bytes 7 8 9.
 const PAIR: [u8; 19] = [0, 0, 0, 2, 0, 0, 0, 1, 0, 0, 0, 2, 0, 0, 0, 3, 7, 8, 9];
 
-// The same, and 1 2 3 4 behind it.
+// The same, followed by 1 2 3 4.
 const FOLLOWED: [u8; 23] = [
     0, 0, 0, 2, 0, 0, 0, 1, 0, 0, 0, 2, 0, 0, 0, 3, 7, 8, 9, 1, 2, 3, 4,
 ];
@@ -336,7 +336,7 @@ fn numbers_and_empty_lists(rt: HostRuntime) {
     assert!(rt; are_the_numbers(rt.alloc(), &NUMBERS));
 }
 
-// A list of so many sevens.
+// A list of this number of sevens.
 fn sevens(rt: &(impl Abort + AllocGlobal), count: usize) -> Items<u32> {
     Items::new(vec![in rt.alloc(); 7_u32; count].expect(rt, "out of memory"))
 }
@@ -387,7 +387,7 @@ fn short_lists_that_are_too_long_together(rt: HostRuntime) {
     expect_too_long(&rt, &halves(&rt), 1_048_577);
 }
 
-// A list of so many bytes tells this packed length, and is refused so, or packed.
+// A list of this number of bytes reports this packed length, and is refused for this reason, or packed.
 fn expect_byte_list(
     rt: &(impl Abort + AllocGlobal),
     count: usize,
@@ -410,7 +410,7 @@ fn the_longest_byte_list(rt: HostRuntime) {
     expect_byte_list(&rt, 1_048_573, 1_048_577, Some(PupError::TooLong));
 }
 
-// This head, and sevens up to so many bytes, are refused so, or unpacked.
+// This head, and sevens up to this number of bytes, are refused for this reason, or unpacked.
 fn expect_bytes(rt: &(impl Abort + AllocGlobal), head: &[u8], len: usize, want: Option<PupError>) {
     let mut bytes = Vec::from_slice(rt.alloc(), head).expect(rt, "out of memory");
     bytes.resize(len, 7).expect(rt, "out of memory");

@@ -6,7 +6,7 @@ use chain_refinement::{Heights, Refinement, RefinementFlaw, Steps, Tolerance, ch
 use lb_certificates::{Cuts, Division, Floor, Naming, Stops, Units};
 use std::process::Abort;
 
-// What the check says of these parts.
+// The result of the check of these parts.
 fn verdict(
     rt: &(impl Abort + AllocGlobal),
     loads: &[Units],
@@ -19,7 +19,7 @@ fn verdict(
     check_refinement(&snapshot, pes, &refinement)
 }
 
-// Whether the check says so of a refinement of the example.
+// Whether the check of a refinement of the example has the result in the row.
 fn is_judged_so(rt: &(impl Abort + AllocGlobal), forged: &Forged) -> bool {
     verdict(rt, &TEN_LOADS, &TEN_ELEMENTS, 3, &forged.1) == forged.2
 }
@@ -45,7 +45,7 @@ fn forged_heights(rt: HostRuntime) {
     }
 }
 
-// What the check says of a row.
+// The result of the check of a row.
 fn verdict_on(rt: &(impl Abort + AllocGlobal), row: &Row) -> Result<(), RefinementFlaw> {
     verdict(rt, row.loads, row.elements, row.pes, &row.parts)
 }
@@ -57,7 +57,7 @@ fn each_row_is_judged_so(rt: HostRuntime) {
     }
 }
 
-// As many elements as there may be, of 10 bytes each: 356 on the first PE, 256 on each PE behind it, and the rest on the last.
+// The most elements that are allowed, of 10 bytes each: 356 on the first PE, 256 on each PE after it, and the rest on the last.
 fn full_elements(rt: &(impl Abort + AllocGlobal)) -> Vec<(u32, u32)> {
     let mut elements = Vec::new(rt.alloc());
     for i in 0..65_536_u32 {
@@ -66,7 +66,7 @@ fn full_elements(rt: &(impl Abort + AllocGlobal)) -> Vec<(u32, u32)> {
     elements
 }
 
-// Cuts between 256 blocks of 256 elements each, or so many elements behind these.
+// Cuts between 256 blocks of 256 elements each, or this number of elements behind these.
 fn full_cuts(rt: &(impl Abort + AllocGlobal), more: u8) -> Cuts {
     let mut cuts = Vec::new(rt.alloc());
     push(rt, &mut cuts, 0);
@@ -95,7 +95,8 @@ fn all_pes(rt: &(impl Abort + AllocGlobal)) -> Naming {
     Naming::new(names)
 }
 
-// Block b begins at 256 b after b cuts of 1,000 bytes, and nowhere behind it. The last block has so many bytes more.
+// The height of block b is 1,000 b at 256 b, the cost of b cuts, and 256,000 behind that. The heights of the last block are
+// higher by this number of bytes.
 fn full_heights(rt: &(impl Abort + AllocGlobal), more: u8) -> Heights {
     let mut rows = Vec::new(rt.alloc());
     for b in 0..256_u32 {
@@ -110,7 +111,7 @@ fn full_heights(rt: &(impl Abort + AllocGlobal), more: u8) -> Heights {
     Heights::new(rows)
 }
 
-// What the check says of a full array, whose present cuts are 100 elements behind those of equal blocks.
+// The result of the check of a full array, whose present cuts are 100 elements behind those of equal blocks.
 fn full_verdict(rt: &(impl Abort + AllocGlobal), more: u8) -> Result<(), RefinementFlaw> {
     let loads = vec![in rt.alloc(); 1; 65_536].expect(rt, "out of memory");
     let snapshot = snapshot(rt, &loads, &full_elements(rt));

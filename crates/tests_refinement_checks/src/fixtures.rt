@@ -1,4 +1,4 @@
-//! What the tests are made of. What can't be made ends the test.
+//! What the tests use. What cannot be made ends the test.
 
 ghost use Rattle.std.specs.Prelude.{◌≡◌, true};
 
@@ -20,7 +20,7 @@ pub(crate) struct Parts<'a> {
     pub(crate) heights: &'a [&'a [(u32, u64)]],
 }
 
-/// Ends the test where this does not hold, with what it was to hold for.
+/// Ends the test where this does not hold, with the name of what has to hold.
 pub(crate) fn assert_for(rt: &impl Abort, holds: bool, name: &str)
     ensures held { holds ≡ true }
 {

@@ -37,7 +37,7 @@ const TEN: Parts<'static> = Parts {
     ],
 };
 
-/// A name, a refinement of the ten elements on three PEs, and what the check says of it.
+/// A name, a refinement of the ten elements on three PEs, and the result of the check of it.
 pub(crate) type Forged = (&'static str, Parts<'static>, Result<(), RefinementFlaw>);
 
 /// Refinements that are right, and others of the least division.
@@ -313,7 +313,7 @@ pub(crate) const FORGED_HEIGHTS: [Forged; 11] = [
     ),
 ];
 
-/// A chain, a refinement of it, and what the check says of it.
+/// A chain, a refinement of it, and the result of the check of it.
 pub(crate) struct Row {
     pub(crate) name: &'static str,
     pub(crate) loads: &'static [Units],

@@ -1,4 +1,4 @@
-//! Decisions within a tolerance, beside a search through all cuts and all namings.
+//! Decisions within a tolerance, compared with a search through all cuts and all namings.
 
 ghost use Rattle.std.specs.Prelude.{◌<◌, ◌≤◌};
 
@@ -28,7 +28,7 @@ impl Numbers {
     }
 }
 
-// A chain, for so many PEs and with a tolerance.
+// A chain, the number of PEs to decide for, and a tolerance.
 #[derive(Drop)]
 struct Case {
     snapshot: Snapshot,
@@ -47,7 +47,7 @@ fn tolerance(rt: &impl Abort, number: u32) -> Tolerance {
     Tolerance::new(thousandths).expect(rt, "past the greatest")
 }
 
-// The chain of this seed. Where its elements stand together, the PEs stand in an order.
+// The chain of this seed. Where the elements of each PE are consecutive, the PEs have an order.
 fn chain(rt: &(impl Abort + AllocGlobal), seed: u64) -> Case {
     let mut numbers = Numbers { state: seed };
     let elements = numbers.below(9);
@@ -64,7 +64,7 @@ fn chain(rt: &(impl Abort + AllocGlobal), seed: u64) -> Case {
     }
 }
 
-// The loads, the sizes and the places of so many elements.
+// The loads, the sizes and the places of this number of elements.
 fn lists(
     rt: &(impl Abort + AllocGlobal),
     numbers: &mut Numbers,
@@ -96,7 +96,7 @@ fn lists(
     (loads, Sizes::new(sizes).expect(rt, "past a limit"))
 }
 
-// A sum of all numbers of a list, each of which counts differently.
+// A sum of all numbers of a list, in which each place counts differently.
 fn mixed(sum: u64, numbers: &[u32]) -> u64 {
     let mut sum = sum;
     for &number in numbers {
@@ -115,7 +115,7 @@ fn mixed_decision(sum: u64, decision: &Refined) -> u64 {
     mixed(sum, &[u32::from(planned)])
 }
 
-// Whether the checker of what it is accepts it.
+// Whether the checker for this kind of decision accepts it.
 fn is_accepted(case: &Case, decision: &Refined) -> bool {
     match decision {
         Refined::Planned(plan) => check(&case.snapshot, case.pes, plan).is_ok(),
@@ -149,7 +149,7 @@ fn with_batch(rt: &(impl Abort + AllocGlobal), first: u32) -> u64 {
     sum
 }
 
-// What benches/refinement/search_all.py found for each thousand chains.
+// The results of benches/refinement/search_all.py for each thousand chains.
 const SEARCHED: [(u32, u64); 20] = [
     (0, 5_303_661_612_026_063_365),
     (1000, 3_829_977_909_696_005_758),

@@ -1,4 +1,4 @@
-//! What the tests are made of: lists and sizes. What can't be made ends the test.
+//! What the tests use: lists and sizes. What cannot be made ends the test.
 
 ghost use Rattle.std.specs.Prelude.{◌≡◌, true};
 
@@ -7,7 +7,7 @@ use lb_certificates::Sizes;
 use std::fmt::Debug;
 use std::process::Abort;
 
-/// Ends the test where this does not hold, with what it was to hold for.
+/// Ends the test where this does not hold, with the row for which it has to hold.
 pub(crate) fn assert_for<R: Debug + Copy>(rt: &impl Abort, holds: bool, row: R)
     ensures held { holds ≡ true }
 {

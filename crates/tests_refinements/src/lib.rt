@@ -1,5 +1,5 @@
-//! Tests of refinements: the orders in which PEs stand along a chain, and decisions within a tolerance, beside worked
-//! examples and slow searches.
+//! Tests of refinements: the orders of the PEs along a chain, and decisions within a tolerance, compared with worked examples
+//! and slow searches.
 #![tactic(auto)]
 
 #[cfg(test)]

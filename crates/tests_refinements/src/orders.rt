@@ -1,4 +1,5 @@
-//! The order in which PEs stand: worked rows, all short chains beside a slow search, a full array, and refused memory.
+//! The order of the PEs along a chain: worked rows, all short chains compared with a slow search, a full array, and refused
+//! memory.
 
 ghost use Rattle.std.specs.Prelude.{◌≤◌};
 
@@ -9,7 +10,7 @@ use std::alloc::{AllocError, Allocator};
 use std::process::Abort;
 use tests_fixtures::{Outcome, each_refusal};
 
-// The places of elements, how many PEs there are, and the PEs in the order in which they stand, with their cuts.
+// The places of elements, the number of PEs, and the PEs in their order, with their cuts.
 type Row = (&'static [u32], u32, &'static [u32], &'static [u32]);
 
 const ROWS: [Row; 9] = [
@@ -34,7 +35,7 @@ const ROWS: [Row; 9] = [
     ),
 ];
 
-// A PE of which the elements are apart, at the ends of the chain or inside it, and places past the last PE.
+// Elements of a PE that are apart, at the ends of the chain or inside it, and places past the last PE.
 const NO_ORDERS: [(&[u32], u32); 6] = [
     (&[0, 1, 0], 2),
     (&[1, 0, 0, 2, 1], 3),
@@ -44,7 +45,7 @@ const NO_ORDERS: [(&[u32], u32); 6] = [
     (&[255], 255),
 ];
 
-// The order of elements that stand on these PEs.
+// The order of the PEs of elements on these PEs.
 fn ordered(rt: &(impl Abort + AllocGlobal), places: &[u32], pes: u32) -> Option<PresentOrder>
     requires some_pe { 1 ≤ pes }
     requires few_pes { pes ≤ 256 }
@@ -88,7 +89,7 @@ fn elements_apart_stand_in_no_order(rt: HostRuntime) {
     }
 }
 
-// A sum of all numbers of a list, each of which counts differently.
+// A sum of all numbers of a list, in which each place counts differently.
 fn mixed(sum: u64, numbers: &[u32]) -> u64 {
     let mut sum = sum;
     for &number in numbers {
@@ -107,7 +108,7 @@ fn mixed_order(sum: u64, found: Option<PresentOrder>) -> u64 {
     sum
 }
 
-// The chain with this number, of so many elements on the PEs 0 to 3: the first one's place is the last digit to base 4.
+// The chain with this number, of this number of elements on the PEs 0 to 3: the first one's place is the last digit to base 4.
 fn chain(rt: &(impl Abort + AllocGlobal), elements: u32, number: u32) -> Vec<u32> {
     let mut places = Vec::new(rt.alloc());
     let mut left = number;
@@ -118,7 +119,7 @@ fn chain(rt: &(impl Abort + AllocGlobal), elements: u32, number: u32) -> Vec<u32
     places
 }
 
-// The sum over all chains of so many elements.
+// The sum over all chains of this number of elements.
 fn mixed_chains(
     rt: &(impl Abort + AllocGlobal),
     sum: u64,
@@ -138,7 +139,7 @@ fn mixed_chains(
     sum
 }
 
-// What a search through all orders and all cuts of all chains of up to 5 elements on 4 PEs found, for 1 to 4 PEs.
+// The results, for 1 to 4 PEs, of a search through all orders and all cuts of all chains of up to 5 elements on 4 PEs.
 const SEARCHED: [(u32, u64); 4] = [
     (1, 2_201_621_630_572_113_434),
     (2, 14_982_467_354_564_008_318),
@@ -165,7 +166,7 @@ fn sum_of_chains(rt: &(impl Abort + AllocGlobal), pes: u32) -> u64
     sum
 }
 
-// The places of as many elements as there may be, 256 on each PE, from the last PE to the first.
+// The places of the most elements that are allowed, 256 on each PE, from the last PE to the first.
 fn full_places(rt: &(impl Abort + AllocGlobal)) -> Vec<u32> {
     let mut places = Vec::new(rt.alloc());
     for i in 0..65_536u32 {
@@ -174,7 +175,7 @@ fn full_places(rt: &(impl Abort + AllocGlobal)) -> Vec<u32> {
     places
 }
 
-// Whether each of these numbers is as far behind the one before it.
+// Whether each of these numbers is one step behind the one before it.
 fn are_even(numbers: &[u32], first: u32, step: u32) -> bool {
     let mut next = first;
     for &number in numbers {
@@ -198,7 +199,7 @@ fn a_full_array(rt: HostRuntime) {
     drop(places);
 }
 
-// What the order of elements on the PEs 2, 2, 0 comes to.
+// The outcome for the order of elements on the PEs 2, 2, 0.
 fn is_found<A: Allocator>(answer: Result<Option<PresentOrder<A>>, AllocError>) -> Outcome {
     let outcome = match &answer {
         Ok(Some(order)) if same(order.names.as_slice(), &[2, 0, 1]) => Outcome::Right,

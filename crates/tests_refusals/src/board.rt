@@ -8,7 +8,7 @@ use std::process::Abort;
 use std::thread::Threads;
 use tests_fixtures::{Outcome, Refusing, pe, round};
 
-// What a board comes to that is to have three elements.
+// The outcome of making a board, which is to have three elements.
 fn opens<A: Allocator>(answer: Result<Board<A>, AllocError>) -> Outcome {
     let Ok(board) = answer else {
         return Outcome::Refused;
@@ -33,8 +33,8 @@ fn new_boards(rt: HostRuntime) {
     assert_requests(&rt, opens_new, 3, things);
 }
 
-// Two elements on two PEs, both of which have reported, or `None` where there is no memory for them. A report that is
-// refused shows in what is decided.
+// Two elements on two PEs, both of which have reported, or `None` where memory for them is refused. A report that is refused
+// shows in the decision.
 fn two_reported<A: Allocator + Copy>(alloc: A) -> Option<Board<A>> {
     let mut board = Board::new(alloc, 2, 2, Strategy::Least).ok()?;
     reports(&mut board, 0, pe(0));
@@ -42,14 +42,14 @@ fn two_reported<A: Allocator + Copy>(alloc: A) -> Option<Board<A>> {
     Some(board)
 }
 
-// An element reports from this PE, where the board has it.
+// An element reports from this PE, if the board has the PE.
 fn reports<A: Allocator>(board: &mut Board<A>, i: u32, place: Pe) {
     if place.get() < board.pes() {
         let _taken = board.report(i, round(1), 3, 5, place).is_ok();
     }
 }
 
-// The same, where no memory for them ends the test.
+// The same; the test ends where memory for them is refused.
 fn two<A: Allocator + Copy>(rt: &impl Abort, alloc: A) -> Board<A> {
     two_reported(alloc).expect(rt, "out of memory")
 }
@@ -64,7 +64,7 @@ fn has_one_round<A: Allocator>(board: &Board<A>) -> bool {
     board.rounds().len() == 1
 }
 
-// What the answer of the first decision comes to: where it is refused, nothing is decided.
+// The outcome of the first decision: where it is refused, nothing is decided.
 fn comes_to<A: Allocator>(board: &Board<A>, answer: Result<Round, BoardError>) -> Outcome {
     match answer {
         Ok(decided) if decided == round(1) && has_one_round(board) => Outcome::Right,
@@ -86,7 +86,7 @@ fn decides_first<A: Allocator + Copy>(board: &mut Board<A>) -> bool {
     board.decide() == Ok(round(1))
 }
 
-// Whether the board decides its first round, and that alone, so that both elements stay.
+// Whether the board decides its first round, and no other, so that both elements stay.
 fn decides<A: Allocator + Copy>(board: &mut Board<A>) -> bool {
     decides_first(board) && has_one_round(board) && all_stay(board)
 }
@@ -99,7 +99,7 @@ fn asked_again<A: Allocator + Copy>(board: &mut Board<A>, outcome: Outcome) -> O
     outcome
 }
 
-// What a decision of a board comes to.
+// The outcome of a decision of a board.
 fn is_decided<A: Allocator + Copy>(board: Option<Board<A>>) -> Outcome {
     let Some(mut board) = board else {
         return Outcome::Refused;
@@ -111,7 +111,7 @@ fn is_decided<A: Allocator + Copy>(board: Option<Board<A>>) -> Outcome {
     outcome
 }
 
-// The same of two elements that have reported.
+// The same for two elements that have reported.
 fn one_decides(alloc: Lent<'_>) -> Outcome {
     is_decided(two_reported(alloc))
 }
@@ -122,7 +122,7 @@ fn decisions_of_a_board(rt: HostRuntime) {
     assert_requests(&rt, one_decides, 22, things);
 }
 
-// The same of a decision by three workers.
+// The same for a decision by three workers.
 fn three_decide<R: Threads + Sync, A: Allocator + Copy>(rt: &R, alloc: A) -> Outcome {
     let Some(mut board) = two_reported(alloc) else {
         return Outcome::Refused;
@@ -144,7 +144,7 @@ fn decisions_by_three_workers(rt: HostRuntime) {
     );
 }
 
-// Whether one of two elements finishes that have reported.
+// Whether one of two elements that have reported finishes.
 fn one_finishes<A: Allocator + Copy>(alloc: A) -> bool {
     let Some(mut board) = two_reported(alloc) else {
         return false;
@@ -161,7 +161,7 @@ fn no_other_call_of_a_new_board_takes_memory(rt: HostRuntime) {
     assert_for(&rt, alloc.requests() == 3, "those of the new board");
 }
 
-// Whether the round that was just decided is handed out.
+// Whether the round that was just decided is returned.
 fn hands_out<A: Allocator>(board: Board<A>) -> bool {
     let decided = board.decision_for(round(1)).is_some();
     let rounds = board.into_rounds();

@@ -6,7 +6,7 @@ use lb_database::{DbError, LoadDb};
 use std::alloc::Allocator;
 use tests_fixtures::{Outcome, pe, round};
 
-// What a database of three elements comes to, which is to be in this round.
+// The outcome of making a database of three elements, which is to be in this round.
 fn opens<A: Allocator>(answer: Result<LoadDb<A>, DbError>, round: Round) -> Outcome {
     let outcome = match &answer {
         Ok(db) if db.len() == 3 && db.round() == round && db.load(2) == Some(0) => Outcome::Right,
@@ -17,7 +17,7 @@ fn opens<A: Allocator>(answer: Result<LoadDb<A>, DbError>, round: Round) -> Outc
     outcome
 }
 
-// What a database comes to that is in the first round.
+// The outcome for a database in the first round.
 fn opens_first(alloc: Lent<'_>) -> Outcome {
     opens(LoadDb::new(alloc, 3), round(1))
 }
@@ -33,7 +33,7 @@ fn none_and_three<A: Allocator + Copy>(alloc: A) -> Result<LoadDb<A>, DbError> {
     LoadDb::new(alloc, 3)
 }
 
-// What the second of the two comes to.
+// The outcome for the second of the two.
 fn opens_after_none(alloc: Lent<'_>) -> Outcome {
     opens(none_and_three(alloc), round(1))
 }
@@ -43,7 +43,7 @@ fn databases_of_no_elements(rt: HostRuntime) {
     assert_requests(&rt, opens_after_none, 2, "none for no elements");
 }
 
-// What a database comes to that begins in round 7.
+// The outcome for a database that begins in round 7.
 fn opens_later(alloc: Lent<'_>) -> Outcome {
     opens(LoadDb::at(alloc, 3, round(7)), round(7))
 }
@@ -58,7 +58,7 @@ fn reports<A: Allocator>(database: &mut LoadDb<A>) -> bool {
     database.charge(0, 7).is_ok() && database.report(0, round(1), 9, pe(0)).is_ok()
 }
 
-// What the snapshot of its one element comes to, which is on PE 0 or 1.
+// The outcome of the snapshot of its one element, which is on PE 0 or 1.
 fn snaps<A: Allocator + Copy>(database: &LoadDb<A>) -> Outcome {
     if !database.stands_on(2) {
         return Outcome::Wrong;
@@ -73,7 +73,7 @@ fn snaps<A: Allocator + Copy>(database: &LoadDb<A>) -> Outcome {
     outcome
 }
 
-// The same of a database that has yet to measure its one element.
+// The same for a database that has yet to measure its one element.
 fn reports_and_snaps<A: Allocator + Copy>(made: Result<LoadDb<A>, DbError>) -> Outcome {
     let Ok(mut database) = made else {
         return Outcome::Refused;
@@ -87,7 +87,7 @@ fn reports_and_snaps<A: Allocator + Copy>(made: Result<LoadDb<A>, DbError>) -> O
     outcome
 }
 
-// The same of a new database of one element.
+// The same for a new database of one element.
 fn makes_and_snaps(alloc: Lent<'_>) -> Outcome {
     reports_and_snaps(LoadDb::new(alloc, 1))
 }

@@ -26,7 +26,7 @@ const NAMING: u64 = 11;
 // The requests of a whole decision: those of a division, of the table of costs and of the naming, and one for all moves.
 const PLANNING: u64 = DIVIDING + 2 + NAMING + 1;
 
-// What running sums come to, which are to be those of five.
+// The outcome of making running sums, which are to be those of five.
 fn are_summed<A: Allocator>(answer: Result<Prefix<A>, AllocError>) -> Outcome {
     let outcome = match &answer {
         Ok(sums) if sums.len() == 5 && sums.load(0, 5) == 15 && sums.load(2, 5) == 12 => {
@@ -39,7 +39,7 @@ fn are_summed<A: Allocator>(answer: Result<Prefix<A>, AllocError>) -> Outcome {
     outcome
 }
 
-// What the running sums of five come to.
+// The outcome of making the running sums of five.
 fn sums_five(alloc: Lent<'_>, five: &Loads) -> Outcome {
     are_summed(Prefix::of(alloc, five))
 }
@@ -51,7 +51,7 @@ fn running_sums(rt: HostRuntime) {
     drop(five);
 }
 
-// What a probe of five comes to, which fit in two blocks within 9 and stop within 8.
+// The outcome of a probe of five, which fit in two blocks within 9 and do not fit within 8.
 fn is_probed<A: Allocator>(answer: Result<Probe<A>, AllocError>, limit: u64) -> Outcome {
     let outcome = match &answer {
         Ok(Probe::Fits(cuts)) if limit == 9 && same(cuts.as_slice(), &[0, 3, 5]) => Outcome::Right,
@@ -65,7 +65,7 @@ fn is_probed<A: Allocator>(answer: Result<Probe<A>, AllocError>, limit: u64) -> 
     outcome
 }
 
-// What a probe of these loads within this limit comes to.
+// The outcome of a probe of these loads within this limit.
 fn probes_within(alloc: Lent<'_>, on: &(&Loads, u64)) -> Outcome {
     is_probed(probe(alloc, on.0, 2, on.1), on.1)
 }
@@ -110,7 +110,7 @@ fn is_division<A: Allocator>(
         && same(division.cuts.as_slice(), cuts)
 }
 
-// What a division comes to, which is to be that of five into two blocks.
+// The outcome of a division, which is to be that of five into two blocks.
 fn is_divided<A: Allocator>(answer: Result<Division<A>, AllocError>) -> Outcome {
     let outcome = match &answer {
         Ok(division) if is_division(division, 9, &[0, 3, 5], &[0, 3, 4]) => Outcome::Right,
@@ -121,7 +121,7 @@ fn is_divided<A: Allocator>(answer: Result<Division<A>, AllocError>) -> Outcome 
     outcome
 }
 
-// What a division of five by one comes to.
+// The outcome of a division of five by one worker.
 fn one_divides(alloc: Lent<'_>, five: &Loads) -> Outcome {
     is_divided(divide(alloc, five, 2))
 }
@@ -134,7 +134,7 @@ fn divisions(rt: HostRuntime) {
     drop(five);
 }
 
-// What a division of five by two workers comes to.
+// The outcome of a division of five by two workers.
 fn two_divide<R: Threads + Sync>(rt: &R, alloc: Lent<'_>, five: &Loads) -> Outcome {
     is_divided(divide_with(rt, alloc, five, 2, 2, &NoGate))
 }
@@ -147,7 +147,7 @@ fn divisions_by_two_workers(rt: HostRuntime) {
     drop(five);
 }
 
-// What a chain of five comes to, with memory of its own.
+// The outcome of making a chain of five, with memory of its own.
 fn chains(alloc: Lent<'_>, units: &[u64]) -> Outcome {
     let answer = Chain::new(alloc, units);
     let outcome = match &answer {
@@ -159,7 +159,7 @@ fn chains(alloc: Lent<'_>, units: &[u64]) -> Outcome {
     outcome
 }
 
-// What a division and a probe of a chain that was made before come to.
+// The outcome of a division and a probe of a chain that was made before.
 fn chain_divides(alloc: Lent<'_>, chain: &Chain<'_>) -> Outcome {
     is_divided(divide_chain(alloc, chain, 2))
 }
@@ -188,7 +188,7 @@ fn has_costs<A: Allocator>(table: &CostTable<A>) -> bool {
         && table.cost(1, 1) == 8
 }
 
-// What a table comes to, which is to be that of the example's two blocks.
+// The outcome of making a table, which is to be that of the example's two blocks.
 fn is_filled<A: Allocator>(answer: Option<Result<CostTable<A>, AllocError>>) -> Outcome {
     let outcome = match &answer {
         Some(Ok(table)) if has_costs(table) => Outcome::Right,
@@ -199,7 +199,7 @@ fn is_filled<A: Allocator>(answer: Option<Result<CostTable<A>, AllocError>>) -> 
     outcome
 }
 
-// What the costs of two blocks come to.
+// The outcome of making the costs of two blocks.
 fn tables(alloc: Lent<'_>, on: &(&Sizes, &Cuts)) -> Outcome {
     is_filled(table_of(alloc, on.0, on.1))
 }
@@ -213,7 +213,7 @@ fn cost_tables(rt: HostRuntime) {
     drop(sizes);
 }
 
-// What a naming of the example's blocks comes to.
+// The outcome of a naming of the example's blocks.
 fn is_named<A: Allocator>(answer: Result<(Naming<A>, Prices<A>), NameError>) -> Outcome {
     let outcome = match &answer {
         Ok((naming, _)) if same(naming.as_slice(), &[1, 0]) => Outcome::Right,
@@ -224,7 +224,7 @@ fn is_named<A: Allocator>(answer: Result<(Naming<A>, Prices<A>), NameError>) -> 
     outcome
 }
 
-// What a naming by these costs comes to.
+// The outcome of a naming by these costs.
 fn names(alloc: Lent<'_>, table: &CostTable) -> Outcome {
     is_named(name_blocks(alloc, table))
 }
@@ -250,7 +250,7 @@ fn is_decided<A: Allocator>(example: &Snapshot, decision: &Decision<A>) -> bool 
         && check(example, 2, decision).is_ok()
 }
 
-// What a plan for the example comes to.
+// The outcome of a plan for the example.
 fn is_planned<A: Allocator>(answer: Result<Decision<A>, PlanError>, example: &Snapshot) -> Outcome {
     let outcome = match &answer {
         Ok(decision) if is_decided(example, decision) => Outcome::Right,
@@ -261,7 +261,7 @@ fn is_planned<A: Allocator>(answer: Result<Decision<A>, PlanError>, example: &Sn
     outcome
 }
 
-// What a plan by one comes to.
+// The outcome of a plan by one worker.
 fn one_plans(alloc: Lent<'_>, example: &Snapshot) -> Outcome {
     is_planned(plan(alloc, example, 2), example)
 }
@@ -274,7 +274,7 @@ fn whole_decisions(rt: HostRuntime) {
     drop(example);
 }
 
-// What a plan by three workers comes to.
+// The outcome of a plan by three workers.
 fn three_plan<R: Threads + Sync>(rt: &R, alloc: Lent<'_>, example: &Snapshot) -> Outcome {
     is_planned(plan_with(rt, alloc, example, 2, 3, &NoGate), example)
 }
@@ -287,7 +287,7 @@ fn whole_decisions_by_three_workers(rt: HostRuntime) {
     drop(example);
 }
 
-// Six elements of 1 unit and 8 bytes, all of which stand on PE 1 of two.
+// Six elements of 1 unit and 8 bytes, all of which are on PE 1 of two.
 fn six(rt: &(impl Abort + AllocGlobal)) -> Snapshot {
     let units = vec![in rt.alloc(); 1; 6].expect(rt, "out of memory");
     let loads = Loads::new(units).expect(rt, "too many loads");
@@ -305,7 +305,7 @@ fn all_move<A: Allocator>(six: &Snapshot, decision: &Decision<A>) -> bool {
         && check(six, 1, decision).is_ok()
 }
 
-// What a plan for these six comes to.
+// The outcome of a plan for these six.
 fn one_plans_six(alloc: Lent<'_>, six: &Snapshot) -> Outcome {
     let answer = plan(alloc, six, 1);
     let outcome = match &answer {
@@ -325,7 +325,7 @@ fn whole_decisions_of_many_moves(rt: HostRuntime) {
     drop(six);
 }
 
-// What a copy of the example comes to, and the example before it.
+// The outcome of a copy of the example, and of the example before it.
 fn copies_example(alloc: Lent<'_>) -> Outcome {
     let Ok(example) = example(alloc) else {
         return Outcome::Refused;
@@ -341,7 +341,7 @@ fn copies_of_a_snapshot(rt: HostRuntime) {
     assert_requests(&rt, copies_example, 2 + 2, things);
 }
 
-// What a copy of the plan for the example comes to, and the plan before it.
+// The outcome of a copy of the plan for the example, and of the plan before it.
 fn copies_plan(alloc: Lent<'_>, example: &Snapshot) -> Outcome {
     let Ok(decision) = plan(alloc, example, 2) else {
         return Outcome::Refused;

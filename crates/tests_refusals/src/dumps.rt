@@ -21,7 +21,7 @@ fn is_of<A: Allocator>(dump: &Dump<A>, text: &[u8]) -> bool {
     }
 }
 
-/// What the reading of a text came to.
+/// The outcome of reading a text.
 pub(crate) fn read<A: Allocator>(answer: Result<Dump<A>, DumpError>, text: &[u8]) -> Outcome {
     let outcome = match &answer {
         Ok(dump) if is_of(dump, text) => Outcome::Right,
@@ -32,10 +32,10 @@ pub(crate) fn read<A: Allocator>(answer: Result<Dump<A>, DumpError>, text: &[u8]
     outcome
 }
 
-// A text, how many bytes of it are fed at once, and the requests, for these things.
+// A text, the number of its bytes that are fed at once, and the requests, for these things.
 type Row = (&'static [u8], usize, u64, &'static str);
 
-// A text at once.
+// The whole text at once.
 fn decodes(alloc: Lent<'_>, row: &Row) -> Outcome {
     read(decode(alloc, row.0), row.0)
 }
@@ -73,7 +73,7 @@ fn read_from_a_reader(rt: HostRuntime) {
     }
 }
 
-// Whether a reader that is fed so many bytes at once, and refuses some, refuses those behind them too.
+// Whether a reader that is fed this number of bytes at once, and refuses some, refuses those behind them too.
 fn stays<A: Allocator + Copy>(reader: &mut DumpReader<A>, text: &[u8], at_once: usize) -> bool {
     let mut last = Ok(());
     for piece in text.chunks(at_once.max(1)) {
@@ -122,7 +122,7 @@ fn read_in_pieces(rt: HostRuntime) {
     }
 }
 
-// What a copy of the dump of a text comes to, and the dump before it.
+// The outcome of a copy of the dump of a text, and of the dump before it.
 fn copies(alloc: Lent<'_>, row: &Row) -> Outcome {
     let Ok(dump) = decode(alloc, row.0) else {
         return Outcome::Refused;
@@ -148,7 +148,7 @@ fn copies_of_a_dump(rt: HostRuntime) {
     }
 }
 
-// What the text of the example comes to.
+// The outcome of making the text of the example.
 fn encodes(alloc: Lent<'_>, example: &Snapshot) -> Outcome {
     let answer = encode(alloc, example);
     let outcome = match &answer {
@@ -167,7 +167,7 @@ fn encoded(rt: HostRuntime) {
     drop(example);
 }
 
-// What the text of a dump comes to, which is to be that of the example with its decision.
+// The outcome of making the text of a dump, which is to be that of the example with its decision.
 fn encodes_dump(alloc: Lent<'_>, dump: &Dump) -> Outcome {
     let answer = encode_dump(alloc, dump);
     let outcome = match &answer {

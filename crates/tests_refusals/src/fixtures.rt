@@ -1,5 +1,4 @@
-//! What the tests start from, whether lists are the same, and how refusals are counted. What can't be made ends the
-//! test.
+//! What the tests start from, whether lists are the same, and how refusals are counted. What cannot be made ends the test.
 
 ghost use Rattle.std.specs.Prelude.{◌≡◌, true};
 
@@ -11,17 +10,17 @@ use std::fmt::Debug;
 use std::process::Abort;
 use tests_fixtures::{Outcome, Refusing, each_refusal, example, example_sizes};
 
-/// Ends the test where this does not hold, with what it was to hold for.
+/// Ends the test where this does not hold, with the row for which it has to hold.
 pub(crate) fn assert_for<R: Debug + Copy>(rt: &impl Abort, holds: bool, row: R)
     ensures held { holds ≡ true }
 {
     assert!(rt; holds, "{row:?}");
 }
 
-/// An allocator that may refuse a request, lent.
+/// An allocator that may refuse a request, as a reference.
 pub(crate) type Lent<'a> = &'a Refusing<Global>;
 
-/// No call here makes as many requests.
+/// More requests than any call here makes.
 pub(crate) const MOST_TURNS: u64 = 40;
 
 /// Five elements.
@@ -48,7 +47,7 @@ pub(crate) fn cuts(rt: &(impl Abort + AllocGlobal)) -> Cuts {
     Cuts::new(Vec::from_slice(rt.alloc(), &[0, 2, 3]).expect(rt, "out of memory"))
 }
 
-/// The table of the costs of two blocks, or `None` where these cuts divide the elements into no two.
+/// The table of the costs of two blocks, or `None` where these cuts do not divide the elements into two.
 pub(crate) fn table_of<A: Allocator + Copy>(
     alloc: A,
     sizes: &Sizes,
@@ -78,7 +77,7 @@ pub(crate) fn same<T: PartialEq>(some: &[T], others: &[T]) -> bool {
     some == others
 }
 
-/// What a copy comes to, which is to be equal to what it was made from.
+/// The outcome of a copy, which is to be equal to what it was made from.
 pub(crate) fn is_copied<T: PartialEq + Drop>(
     answer: Result<T, AllocError>,
     original: &T,
@@ -92,7 +91,7 @@ pub(crate) fn is_copied<T: PartialEq + Drop>(
     outcome
 }
 
-/// Asserts that an attempt makes so many requests, for these things, each of which is refused and reported.
+/// Asserts that an attempt makes this number of requests, for these things, each of which is refused and reported.
 pub(crate) fn assert_requests<F: Fn(&Refusing<Global>) -> Outcome>(
     rt: &(impl Abort + AllocGlobal),
     attempt: F,

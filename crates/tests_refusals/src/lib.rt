@@ -1,6 +1,6 @@
-//! Tests of calls that are out of memory, for each call that allocates: its requests are refused one at a time, in
-//! turn. A run whose request was refused returns out of memory, and the next run of the same call its row. Each new
-//! call that allocates gets its line here; a call that promises to take no memory gets one in `no_memory.rt`.
+//! Tests of calls that run out of memory, for each call that allocates: its requests are refused one at a time, in turn. A run
+//! whose request was refused reports out of memory, and the next run of the same call returns the right result. Each new call
+//! that allocates gets its line here; a call that promises to take no memory gets one in `no_memory.rt`.
 #![tactic(auto)]
 
 #[cfg(test)]

@@ -26,7 +26,7 @@ fn has_whole_round<A: Allocator>(db: &mut LoadDb<A>) -> bool {
     all && db.next_round().is_ok()
 }
 
-// Whether an element that is not there is refused, and a next round too early.
+// Whether an element that does not exist is refused, and a next round that is too early.
 fn refuses<A: Allocator>(db: &mut LoadDb<A>) -> bool {
     let charge = db.charge(3, 1).is_err();
     let report = db.report(3, round(1), 1, pe(0)).is_err();
@@ -66,7 +66,7 @@ fn fed<'a>(rt: &impl Abort, alloc: Lent<'a>, text: &[u8]) -> DumpReader<Lent<'a>
     reader
 }
 
-// Whether a reader that has read a whole text takes no bytes, and refuses more and the end behind them.
+// Whether a reader that has read a whole text takes no bytes, and refuses more, and the end after them.
 fn refuses_more<A: Allocator + Copy>(mut reader: DumpReader<A>) -> bool {
     let no_bytes = reader.feed(&[]).is_ok();
     let once = reader.feed(&EXAMPLE_DUMP).is_err();
@@ -150,7 +150,7 @@ fn is_refused<A: Allocator>(dump: Dump<A>) -> bool {
     Dump::new(snapshot, recorded).is_none()
 }
 
-// A decision for so many PEs.
+// A decision for this number of PEs.
 fn with_target<A: Allocator>(recorded: Recorded<A>, target: u32) -> Recorded<A> {
     let Recorded { decision, .. } = recorded;
     Recorded { target, decision }
@@ -167,7 +167,7 @@ fn a_dump_that_is_made_and_written(rt: HostRuntime) {
     assert_for(&rt, alloc.requests() == made, "those of the dumps");
 }
 
-// Whether LBD1 cannot hold a snapshot, because of the load of its element.
+// Whether LBD1 cannot represent a snapshot, because of the load of its element.
 fn is_too_wide<A: Allocator, B: Allocator>(alloc: A, snapshot: &Snapshot<B>) -> bool {
     encode(alloc, snapshot).err() == Some(DumpError::Wide(0))
 }
@@ -292,7 +292,7 @@ fn a_place_that_is_read(rt: HostRuntime) {
     assert_for(&rt, same, "those of the plan alone");
 }
 
-// Whether running sums tell loads of five.
+// Whether running sums give the loads of five.
 fn are_told<A: Allocator>(sums: Prefix<A>) -> bool {
     let told = sums.len() == 5 && !sums.is_empty() && sums.load(1, 3) == 5;
     drop(sums);

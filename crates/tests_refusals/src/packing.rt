@@ -16,7 +16,7 @@ fn pair<A: Allocator + Copy>(alloc: A) -> Result<Pair<A>, AllocError> {
     Ok((list, Bytes::new(Vec::from_slice(alloc, &[7, 8, 9])?)))
 }
 
-// What the answer of a pack comes to that was put behind one byte. The vector is to be as before where it is refused.
+// The outcome of a pack that was appended to one byte. The vector is to be as before where the pack is refused.
 fn comes_to(answer: Result<(), PupError>, out: &[u8]) -> Outcome {
     match answer {
         Ok(()) if out.len() == 20 && same(&out[1..], &PAIR) => Outcome::Right,
@@ -25,7 +25,7 @@ fn comes_to(answer: Result<(), PupError>, out: &[u8]) -> Outcome {
     }
 }
 
-// What packing into a vector that holds one byte comes to.
+// The outcome of packing into a vector that has one byte.
 fn packs<A: Allocator + Copy>(alloc: A, pair: &Pair<A>) -> Outcome {
     let Ok(mut out) = Vec::from_slice(alloc, &[255]) else {
         return Outcome::Refused;
@@ -36,7 +36,7 @@ fn packs<A: Allocator + Copy>(alloc: A, pair: &Pair<A>) -> Outcome {
     outcome
 }
 
-// The same of a pair that was made for it.
+// The same for a pair that was made for it.
 fn packs_made<A: Allocator + Copy>(alloc: A, made: Result<Pair<A>, AllocError>) -> Outcome {
     let Ok(pair) = made else {
         return Outcome::Refused;
@@ -56,7 +56,7 @@ fn is_pair<A: Allocator>(pair: &Pair<A>) -> bool {
     same(pair.0.as_slice(), &[1, 2]) && same(pair.1.as_slice(), &[7, 8, 9])
 }
 
-// What unpacking comes to.
+// The outcome of unpacking.
 fn unpacks<A: Allocator + Copy>(alloc: A) -> Outcome {
     let answer = <Pair<A> as Pup<A>>::unpack(alloc, &PAIR);
     let outcome = match &answer {
@@ -118,7 +118,7 @@ fn a_list_is_unpacked_into_room_for_what_was_found(rt: HostRuntime) {
     assert_for(&rt, alloc.requests() == 2, things);
 }
 
-// Whether four bytes with a count that nothing confirms are too short for a list, and for bytes.
+// Whether four bytes with a count that no further bytes confirm are too short for a list, and for bytes.
 fn are_short<A: Allocator + Copy>(alloc: A) -> bool {
     let count = [0, 16, 0, 0];
     let list = <Items<u32, A> as Pup<A>>::unpack(alloc, &count).err();
@@ -126,7 +126,7 @@ fn are_short<A: Allocator + Copy>(alloc: A) -> bool {
     list == Some(PupError::Short) && bytes == Some(PupError::Short)
 }
 
-// How long the pack of an empty list and a number is.
+// The length of the pack of an empty list and a number.
 fn empty_len<A: Allocator + Copy>(alloc: A) -> u32 {
     let empty: (Items<u32, A>, u64) = (Items::new(Vec::new(alloc)), 7);
     let len = empty.packed_len();
@@ -150,7 +150,7 @@ fn pack<A: Allocator + Copy>(
     value.pack_into(out)
 }
 
-// Whether an empty list and a number are refused their room, so that nothing is packed, and then packed twice.
+// Whether memory for an empty list and a number is refused, so that nothing is packed, and they are then packed twice.
 fn is_packed_after_a_refusal<A: Allocator + Copy>(alloc: A) -> bool {
     let empty: (Items<u32, A>, u64) = (Items::new(Vec::new(alloc)), 7);
     let mut out = Vec::new(alloc);

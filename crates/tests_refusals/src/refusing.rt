@@ -1,4 +1,4 @@
-//! Which request is refused, and what each way to take a refusal leads to.
+//! Which request is refused, and the results of each way to handle a refusal.
 
 use crate::fixtures::{Lent, assert_for};
 use std::alloc::{AllocError, Allocator, Global};
@@ -16,7 +16,7 @@ fn sum_of(numbers: &[u64]) -> u64 {
     sum
 }
 
-// The sum of two numbers, put into a list that has room for one.
+// The sum of two numbers, put into a list with capacity for one.
 fn sum_in<A: Allocator>(numbers: &mut Vec<u64, A>) -> Result<u64, AllocError> {
     numbers.push(20)?;
     numbers.reserve_exact(5)?;
@@ -25,7 +25,7 @@ fn sum_in<A: Allocator>(numbers: &mut Vec<u64, A>) -> Result<u64, AllocError> {
     Ok(sum_of(numbers.as_slice()))
 }
 
-// Two requests, the second of them to grow. To shrink and to give back are none.
+// Two requests, the second of them to grow. To shrink and to free are no requests.
 fn sum_of_two<A: Allocator>(alloc: A) -> Result<u64, AllocError> {
     let mut numbers = Vec::with_capacity(alloc, 1)?;
     let sum = sum_in(&mut numbers);
@@ -41,10 +41,10 @@ fn sums(alloc: Lent<'_>) -> Outcome {
     }
 }
 
-// The request to refuse, the sum that is made then, and how many requests were made.
+// The request to refuse, the sum that is made then, and the number of requests that were made.
 type SumRow = (u64, Result<u64, AllocError>, u64);
 
-// Whether the sum is made so, and a request was refused where there is none.
+// Whether this is the sum, and a request was refused where there is none.
 fn is_summed(alloc: Global, row: &SumRow) -> bool {
     let (turn, expected, requests) = *row;
     let alloc = Refusing::new(alloc, turn);
@@ -65,7 +65,7 @@ fn one_request_is_refused(rt: HostRuntime) {
     }
 }
 
-// How many of five thousand requests are granted.
+// The number of requests, of five thousand, that are granted.
 fn granted<A: Allocator + Copy>(alloc: A) -> u32 {
     let mut granted = 0u32;
     for n in 0..5000u32 {
@@ -76,7 +76,7 @@ fn granted<A: Allocator + Copy>(alloc: A) -> u32 {
     granted
 }
 
-// How many of the ten thousand requests of two threads are.
+// The number of those, of the ten thousand requests of two threads, that are granted.
 fn granted_to_two<R: Threads>(rt: &R, alloc: Lent<'_>) -> u32 {
     let (mine, theirs) = thread::join(rt, || granted(alloc), || granted(alloc));
     mine.saturating_add(theirs)
@@ -90,7 +90,7 @@ fn two_threads_share_one_refusal(rt: HostRuntime) {
     assert_for(&rt, alloc.has_refused(), "refused");
 }
 
-// An attempt at a sum of two, which comes to these outcomes where it is refused and where it has its sum.
+// An attempt at a sum of two, with these outcomes where it is refused and where it has its sum.
 fn sum_told(alloc: Lent<'_>, refused: Outcome, summed: Outcome) -> Outcome {
     match sum_of_two(alloc) {
         Ok(_) => summed,
@@ -98,12 +98,12 @@ fn sum_told(alloc: Lent<'_>, refused: Outcome, summed: Outcome) -> Outcome {
     }
 }
 
-// Each refusal of such an attempt.
+// The result of refusing each request of such an attempt.
 fn sums_told(alloc: Global, refused: Outcome, summed: Outcome) -> Result<u64, Failure> {
     each_refusal(alloc, 9, |lent| sum_told(lent, refused, summed))
 }
 
-// So many requests.
+// This number of requests.
 fn ask<A: Allocator + Copy>(alloc: A, requests: u32) -> Outcome {
     for n in 0..requests {
         if Box::new(alloc, n).is_err() {
@@ -126,7 +126,7 @@ fn each_of_many_requests_is_refused(rt: HostRuntime) {
     assert_for(&rt, each_refusal(alloc, 30, thirty) == too_few, "30 turns");
 }
 
-// The request of thirty to refuse, what they come to, how many were made, and whether one was refused.
+// The request of thirty to refuse, their outcome, the number that were made, and whether one was refused.
 type ThirtyRow = (u64, Outcome, u64, bool);
 
 fn is_thirty(alloc: Global, row: &ThirtyRow) -> bool {
@@ -150,7 +150,7 @@ fn one_of_many_requests_is_refused(rt: HostRuntime) {
     }
 }
 
-// A sum of two that comes to this outcome where its second request is refused.
+// A sum of two that has this outcome where its second request is refused.
 fn second_refused(alloc: Lent<'_>, outcome: Outcome) -> Outcome {
     match sum_of_two(alloc) {
         Ok(_) => Outcome::Right,
@@ -159,7 +159,7 @@ fn second_refused(alloc: Lent<'_>, outcome: Outcome) -> Outcome {
     }
 }
 
-// Each refusal of such a sum.
+// The result of refusing each request of such a sum.
 fn second_told(alloc: Global, outcome: Outcome) -> Result<u64, Failure> {
     each_refusal(alloc, 9, |lent| second_refused(lent, outcome))
 }
@@ -185,13 +185,13 @@ fn after(runs: &AtomicU64, first: u64, alloc: Lent<'_>, outcome: Outcome) -> Out
     }
 }
 
-// What each refusal of such an attempt comes to.
+// The result of refusing each request of such an attempt.
 fn looked_at(alloc: Global, first: u64, outcome: Outcome) -> Result<u64, Failure> {
     let runs = AtomicU64::new(0);
     each_refusal(alloc, 9, |lent| after(&runs, first, lent, outcome))
 }
 
-// How many runs have their sum, the outcome of those behind them, and what each refusal comes to.
+// The number of runs that have their sum, the outcome of those behind them, and the result of refusing each request.
 type RunsRow = (u64, Outcome, Result<u64, Failure>);
 
 fn are_looked_at(alloc: Global, row: &RunsRow) -> bool {
@@ -222,7 +222,7 @@ fn asks_for_more(alloc: Lent<'_>) -> Outcome {
     ask(alloc, 1000)
 }
 
-// Each refusal of an attempt that comes to this outcome without a request.
+// The result of refusing each request of an attempt that has this outcome without a request.
 fn asks_for_none(alloc: Global, most_turns: u64, outcome: Outcome) -> Result<u64, Failure> {
     each_refusal(alloc, most_turns, |_| outcome)
 }
@@ -235,7 +235,7 @@ fn attempts_without_a_fault(rt: HostRuntime) {
     assert_for(&rt, none == Ok(0), "no requests");
 }
 
-// Asserts that attempts that ask for nothing fail as they should, and those that ask for more than there are turns.
+// Asserts that attempts that make no request fail as they should, and so do those that make more requests than there are turns.
 fn assert_faults_without_a_sum(rt: &(impl Abort + AllocGlobal)) {
     let alloc = rt.alloc();
     let wrong = asks_for_none(alloc, 9, Outcome::Wrong);
@@ -248,7 +248,7 @@ fn assert_faults_without_a_sum(rt: &(impl Abort + AllocGlobal)) {
     assert_for(rt, nine == Err(Failure::TooManyTurns(9)), nine);
 }
 
-// What an attempt comes to where it is refused and where it has its sum, and the way in which it fails.
+// The outcomes of an attempt where it is refused and where it has its sum, and the way in which it fails.
 type FaultRow = (Outcome, Outcome, Failure);
 
 fn fails(alloc: Global, row: &FaultRow) -> bool {

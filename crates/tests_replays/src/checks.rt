@@ -35,7 +35,7 @@ fn heavy(rt: &(impl Abort + AllocGlobal)) -> Snapshot<Global> {
     Snapshot::new(7, 2, loads, sizes).expect(rt, "places below 2")
 }
 
-// The dump of that with the decision on three PEs.
+// The dump of these elements with the decision on three PEs.
 fn recorded(rt: &(impl Abort + AllocGlobal)) -> Vec<u8> {
     let snapshot = heavy(rt);
     let decision = plan(rt.alloc(), &snapshot, 3).expect(rt, "out of memory");
@@ -57,7 +57,7 @@ fn a_decision_on_more_pes_than_the_run_has(rt: HostRuntime) {
     assert_for(&rt, right, RIGHT);
 }
 
-// What stands in the dump in place of its bytes between two places, the line that a check writes then, and its end.
+// The bytes that replace those of the dump between two places, the line that a check writes then, and its end.
 struct Forged {
     places: (usize, usize),
     bytes: &'static [u8],
@@ -75,7 +75,7 @@ fn forge<A: Allocator>(alloc: A, row: &Forged) -> Result<Vec<u8, A>, AllocError>
     Ok(dump)
 }
 
-// Whether a check of it ends so, and a replay prints the decision that is planned, whatever the dump has.
+// Whether a check of it has this end, and a replay prints the planned decision, whatever the dump has.
 fn is_checked(rt: &(impl Abort + AllocGlobal), row: &Forged) -> bool {
     let dump = forge(rt.alloc(), row).expect(rt, "out of memory");
     let checked = checks(rt, &dump, row.line, row.end);
@@ -193,7 +193,7 @@ fn a_forged_naming_and_what_it_moves(rt: HostRuntime) {
             line: "check: PriceGap\n",
             end: Ended::Flawed(Flaw::PriceGap),
         },
-        // 17 bytes moved; no moves, and one of element 2.
+        // The number of bytes moved is 17; no moves, and one of element 2.
         Forged {
             places: (155, 156),
             bytes: b"\x11",

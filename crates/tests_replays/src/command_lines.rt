@@ -1,11 +1,11 @@
-//! Command lines: what their words ask for, what is to be done, and the status where they ask for nothing.
+//! Command lines: what their arguments ask for, what is to be done, and the status where they ask for nothing to be done.
 
 use crate::fixtures::{assert_for, same};
 use lb_replay::{Clash, Task};
 use sim_command_line::{asked, refuse_both, words_status};
 use std::alloc::Global;
 
-// Words that ask for a replay.
+// Arguments that ask for a replay.
 struct Asking {
     words: &'static [&'static str],
     file: &'static str,
@@ -70,7 +70,7 @@ fn words_that_ask(rt: HostRuntime) {
     }
 }
 
-// Words that ask for a replay of the dump `f` within a tolerance.
+// Arguments that ask for a replay of the dump `f` within a tolerance.
 struct Refining {
     words: &'static [&'static str],
     procs: Option<u32>,
@@ -115,7 +115,7 @@ fn words_that_ask_for_a_tolerance(rt: HostRuntime) {
     }
 }
 
-// Words that ask for a check of the dump `f`, and what is to be done, if the options go together.
+// Arguments that ask for a check of the dump `f`, and what is to be done, if the options can be combined.
 struct Checking {
     words: &'static [&'static str],
     procs: Option<u32>,
@@ -178,7 +178,7 @@ fn words_that_ask_for_a_check(rt: HostRuntime) {
     }
 }
 
-// Words that ask for nothing to be done, and the status for them.
+// Arguments that ask for nothing to be done, and the status for them.
 struct Refused {
     words: &'static [&'static str],
     status: u8,
@@ -261,7 +261,7 @@ fn words_that_are_refused(rt: HostRuntime) {
     }
 }
 
-// Whether two options that do not go together are refused with this line.
+// Whether two options that cannot be combined are refused with this line.
 fn is_told(rt: &impl AllocGlobal, clash: Clash, line: &str) -> bool {
     let mut told = Vec::new(rt.alloc());
     let status = refuse_both(&mut told, clash);

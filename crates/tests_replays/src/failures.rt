@@ -1,5 +1,4 @@
-//! Readers and writers that fail at each call and then go on: any error counts as a failure, and no call is tried
-//! again.
+//! Readers and writers that fail at each call and would then go on: any error counts as a failure, and no call is tried again.
 
 ghost use Rattle.lb_replay.specs.Requests.{MayRun};
 
@@ -9,8 +8,8 @@ use lb_replay::{Ended, Task};
 use std::io::{self, ErrorKind, Write};
 use tests_fixtures::{EXAMPLE_DUMP, Sink, Source};
 
-// Whether a reader that gives one byte a call, and fails after so many, is not called again, and its failure is what is
-// written.
+// Whether a reader that gives one byte per call, and fails after this number of bytes, is not called again, and its failure is
+// what is written.
 fn ends_at_failure(rt: &impl AllocGlobal, task: Task, dump: &[u8], bytes: usize) -> bool
     requires { MayRun task }
 {
@@ -20,7 +19,7 @@ fn ends_at_failure(rt: &impl AllocGlobal, task: Task, dump: &[u8], bytes: usize)
     found && reader.calls == bytes.saturating_add(1)
 }
 
-// Whether a reader that gives one byte a call, and would fail after so many, leads to this text.
+// Whether a reader that gives one byte per call, and would fail after this number of bytes, leads to this text.
 fn ends_before_failure(
     rt: &impl AllocGlobal,
     task: Task,
@@ -63,8 +62,8 @@ struct Writing {
     text: &'static str,
 }
 
-// Whether this ends where its writer, which takes so many bytes a call, fails so at this call. The writer has to hold
-// the text that was taken before.
+// Whether this ends where its writer, which takes this number of bytes per call, fails in this way at this call. The writer has
+// to have the text that was taken before.
 fn ends_at_write(
     rt: &impl AllocGlobal,
     writing: Writing,
@@ -83,7 +82,7 @@ fn ends_at_write(
     held && ended == Ended::WriteFailed
 }
 
-// Whether it ends so at an error, and also where nothing is taken.
+// Whether it ends so at an error, and also where no byte is taken.
 fn ends_at_both(rt: &impl AllocGlobal, writing: Writing, step: usize, call: usize) -> bool
     requires { MayRun writing.task }
 {
@@ -140,7 +139,7 @@ fn the_line_of_no_decision_fails_too(rt: HostRuntime) {
     }
 }
 
-// Whether a writer that takes so many bytes a call, and fails after so many calls, has the whole text.
+// Whether a writer that takes this number of bytes per call, and fails after this number of calls, has the whole text.
 fn prints_all(rt: &impl AllocGlobal, writing: Writing, step: usize, calls: usize) -> bool
     requires { MayRun writing.task }
 {
@@ -170,7 +169,7 @@ fn a_writer_that_fails_at_no_call(rt: HostRuntime) {
     assert_for(&rt, prints_all(&rt, check, 1, 10), "a check");
 }
 
-// A writer that holds what it takes back until it is flushed, and then gives it out or fails.
+// A writer that keeps what it takes until it is flushed, and then passes it on or fails.
 #[derive(Drop)]
 struct Held {
     held: Vec<u8>,
@@ -204,7 +203,7 @@ impl Write for Held {
     }
 }
 
-// Whether a replay of the example ends so, where such a writer gives out this text.
+// Whether a replay of the example has this end, where such a writer passes this text on.
 fn gives(rt: &impl AllocGlobal, fails: bool, end: Ended, text: &str) -> bool {
     let mut writer = Held::new(rt, fails);
     let mut reader = EXAMPLE_DUMP.as_slice();

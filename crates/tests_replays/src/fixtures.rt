@@ -11,7 +11,7 @@ use std::io::{self, ErrorKind, Read, Write};
 use std::process::Abort;
 use tests_fixtures::{Sink, Source};
 
-/// Ends the test where this does not hold, with what it was to hold for.
+/// Ends the test where this does not hold, with the row for which it has to hold.
 pub(crate) fn assert_for<R: Debug + Copy>(rt: &impl Abort, holds: bool, row: R)
     ensures held { holds ≡ true }
 {
@@ -51,16 +51,16 @@ pub(crate) const DECIDED: [u8; 172] = *b"LBD2\
 /// The line where the decision is right.
 pub(crate) const RIGHT: &str = "check: ok\n";
 
-/// A replay for as many PEs as the dump has.
+/// A replay for the number of PEs of the dump.
 pub(crate) const REPLAY: Task = Task::Replay(None);
 
-/// Whether a writer was called so often, and has the first bytes of this text, so many.
+/// Whether a writer has had this number of calls, and has the first bytes of this text, `len` of them.
 pub(crate) fn has(sink: &Sink, calls: usize, text: &str, len: usize) -> bool {
     let taken = sink.taken.as_slice();
     sink.calls == calls && taken.len() == len && text.as_bytes().starts_with(taken)
 }
 
-/// How a replay or a check ends from this reader to this writer.
+/// How a replay or a check from this reader to this writer ends.
 pub(crate) fn ended<R: Read, W: Write>(
     alloc: Global,
     task: Task,
@@ -83,12 +83,12 @@ pub(crate) fn same(written: &[u8], text: &str) -> bool {
     written == text.as_bytes()
 }
 
-/// Whether a replay or a check, by how it ended and the bytes that it wrote, ended so with this text.
+/// Whether a replay or a check, by how it ended and the bytes that it wrote, has this end and this text.
 pub(crate) fn is_end(found: Ended, written: &[u8], ended: Ended, text: &str) -> bool {
     found == ended && same(written, text)
 }
 
-/// Whether a replay or a check from this reader writes this text and ends so.
+/// Whether a replay or a check from this reader writes this text and has this end.
 pub(crate) fn ends<R: Read>(
     rt: &impl AllocGlobal,
     task: Task,
@@ -105,12 +105,12 @@ pub(crate) fn ends<R: Read>(
     ends
 }
 
-/// Whether a replay of these bytes, seven at a time, writes this text and ends so.
+/// Whether a replay of these bytes, seven at a time, writes this text and has this end.
 pub(crate) fn replays(rt: &impl AllocGlobal, bytes: &[u8], text: &str, end: Ended) -> bool {
     ends(rt, REPLAY, &mut Source::new(bytes, 7, None), text, end)
 }
 
-/// Whether a check of these bytes, seven at a time, writes this line and ends so.
+/// Whether a check of these bytes, seven at a time, writes this line and has this end.
 pub(crate) fn checks(rt: &impl AllocGlobal, bytes: &[u8], line: &str, end: Ended) -> bool {
     ends(rt, Task::Check, &mut Source::new(bytes, 7, None), line, end)
 }

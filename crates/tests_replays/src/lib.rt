@@ -1,5 +1,6 @@
-//! Tests of whole replays, from the bytes of a dump to the text of a decision, of checks of recorded decisions, and of runs: worked dumps, dumps with a
-//! fault, readers, writers and allocators that fail; and of the words of a command line. They use public calls only.
+//! Tests of whole replays, from the bytes of a dump to the text of a decision, of checks of recorded decisions, and of runs:
+//! worked dumps, dumps with a fault, readers, writers and allocators that fail; and of the arguments of a command line. They
+//! use public calls only.
 #![tactic(auto)]
 
 #[cfg(test)]

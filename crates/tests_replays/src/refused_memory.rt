@@ -11,17 +11,17 @@ use std::alloc::Global;
 use std::test::Fail;
 use tests_fixtures::{EXAMPLE_DUMP, Failure, Outcome, Refusing, each_refusal};
 
-// The requests to read the example: the piece, and the two lists of the snapshot.
+// The requests for reading the example: the piece, and the two lists of the snapshot.
 const TO_READ: u64 = 3;
 
 // The requests of the search for names on two blocks.
 const NAMING: u64 = 11;
 
-// The requests of a whole replay: to read; for the division, the cost table, the names and the moves; and each growth of
+// The requests of a whole replay: for reading; for the division, the cost table, the names and the moves; and each growth of
 // the text.
 const IN_ALL: u64 = TO_READ + (3 + 2 + NAMING + 1) + 5;
 
-// What the end of a replay comes to, over an allocator that may refuse, with what it wrote, where this is its text.
+// The outcome of a replay with this end, over an allocator that may refuse, by what it wrote, where this is its text.
 fn outcome(ended: Ended, written: &[u8], text: &str) -> Outcome {
     match ended {
         Ended::Printed if written == text.as_bytes() => Outcome::Right,
@@ -31,7 +31,7 @@ fn outcome(ended: Ended, written: &[u8], text: &str) -> Outcome {
     }
 }
 
-// What a replay of ten elements within a tolerance comes to, over such an allocator.
+// The outcome of a replay of ten elements within a tolerance, over such an allocator.
 fn attempted_within(rt: &impl AllocGlobal, alloc: &Refusing<Global>) -> Outcome {
     let mut written = Vec::new(rt.alloc());
     let tolerance = Tolerance::new(167);
@@ -41,9 +41,9 @@ fn attempted_within(rt: &impl AllocGlobal, alloc: &Refusing<Global>) -> Outcome 
     outcome
 }
 
-// The requests of a replay of ten elements within a tolerance: to read, and for the plan, as above; for the order of the PEs and
-// its cuts; for the division of the plan once more; for the search; for the cost table, the names and the moves of its blocks; and
-// each growth of the text.
+// The requests of a replay of ten elements within a tolerance: for reading, and for the plan, as above; for the order of the
+// PEs and its cuts; for the division of the plan once more; for the search; for the cost table, the names and the moves of its
+// blocks; and each growth of the text.
 const WITHIN_IN_ALL: u64 = TO_READ + (3 + 2 + NAMING + 1) + 2 + 2 + 9 + (2 + NAMING + 1) + 6;
 
 #[test]
@@ -59,7 +59,7 @@ fn ended(alloc: &Refusing<Global>, written: &mut Vec<u8>) -> Ended {
     simulate(alloc, &mut EXAMPLE_DUMP.as_slice(), written, None, None)
 }
 
-// What such a replay comes to. Its text has memory of its own.
+// The outcome of such a replay. Its text has memory of its own.
 fn attempted(rt: &impl AllocGlobal, alloc: &Refusing<Global>) -> Outcome {
     let mut written = Vec::new(rt.alloc());
     let ended = ended(alloc, &mut written);
@@ -68,7 +68,7 @@ fn attempted(rt: &impl AllocGlobal, alloc: &Refusing<Global>) -> Outcome {
     outcome
 }
 
-// What a reading of the example comes to, over such an allocator.
+// The outcome of reading the example, over such an allocator.
 fn read(alloc: &Refusing<Global>) -> Outcome {
     match read_from(alloc, &mut EXAMPLE_DUMP.as_slice()).err() {
         None => Outcome::Right,
@@ -77,7 +77,7 @@ fn read(alloc: &Refusing<Global>) -> Outcome {
     }
 }
 
-// How many requests of a replay are refused, one in each attempt.
+// The number of requests of a replay that are refused, one in each attempt.
 fn requests_of_a_replay(rt: &impl AllocGlobal) -> Result<u64, Failure> {
     let attempt = |alloc: &Refusing<Global>| attempted(rt, alloc);
     each_refusal(rt.alloc(), 80, attempt)
@@ -92,7 +92,7 @@ fn memory_refused_at_each_request(rt: HostRuntime) -> Result<(), Fail> {
     Ok(())
 }
 
-// How a replay of the example ends whose request of this number is refused.
+// The end of a replay of the example where the request with this number is refused.
 fn ended_at_request(rt: &impl AllocGlobal, number: u64) -> Ended {
     let alloc = Refusing::new(rt.alloc(), number);
     let mut written = Vec::new(rt.alloc());
@@ -113,17 +113,17 @@ fn the_fault_is_that_of_the_dump_or_the_plan(rt: HostRuntime) {
     }
 }
 
-// The requests to check the decision are those to read it: the two lists of the snapshot, its own six, the piece, and
+// The requests for checking the decision are those for reading it: the two lists of the snapshot, its own six, the piece, and
 // three for its bytes as they come. Neither the check nor its line takes memory.
 const TO_CHECK: u64 = 12;
 
-// The requests to find that there is no decision: the two lists of the snapshot, the piece, and the line.
+// The requests for finding that there is no decision: the two lists of the snapshot, the piece, and the line.
 const TO_FIND_NONE: u64 = 4;
 
-// The requests to check a decision with a flaw: the same, and each growth of the line of the flaw.
+// The requests for checking a decision with a flaw: the same, and each growth of the line of the flaw.
 const TO_CHECK_FORGED: u64 = TO_CHECK + 2;
 
-// What a check of the dump comes to, over an allocator that may refuse, where it is to end so with this line.
+// The outcome of a check of the dump, over an allocator that may refuse, where it is to have this end with this line.
 fn checked(
     rt: &impl AllocGlobal,
     alloc: &Refusing<Global>,
@@ -137,7 +137,7 @@ fn checked(
     outcome
 }
 
-// What the end of a check comes to, with what it wrote. Out of memory is always a fault of the dump.
+// The outcome of a check with this end, by what it wrote. Out of memory is always a fault of the dump.
 fn outcome_of_check(ended: Ended, written: &[u8], wanted: (Ended, &str)) -> Outcome {
     if ended == wanted.0 && written == wanted.1.as_bytes() {
         return Outcome::Right;
@@ -149,7 +149,7 @@ fn outcome_of_check(ended: Ended, written: &[u8], wanted: (Ended, &str)) -> Outc
     Outcome::Wrong
 }
 
-// How many requests of a check are refused, one in each attempt.
+// The number of requests of a check that are refused, one in each attempt.
 fn requests_of_a_check(
     rt: &impl AllocGlobal,
     dump: &[u8],

@@ -12,7 +12,7 @@ use std::io::{self, ErrorKind, Read};
 use std::process::Abort;
 use tests_fixtures::{EXAMPLE_DUMP, Source, push_element};
 
-// The example and one byte more.
+// The example and one more byte.
 fn longer() -> [u8; 53] {
     let mut longer = [0; 53];
     longer[..52].copy_from_slice(&EXAMPLE_DUMP);
@@ -40,7 +40,7 @@ fn no_bytes_and_other_letters(rt: HostRuntime) {
     assert_for(&rt, replays(&rt, b"LBD3", other, end), other);
 }
 
-// A byte that the example has at a place, the line that is written then, and its fault.
+// A byte of the example at a place, the line that is written then, and its fault.
 struct Changed {
     place: usize,
     byte: u8,
@@ -89,7 +89,7 @@ fn a_changed_byte_is_reported(rt: HostRuntime) {
     }
 }
 
-// Whether these first bytes of the example, so many, are reported as too few.
+// Whether these first `len` bytes of the example are reported as too few.
 fn is_short(rt: &(impl Abort + AllocGlobal), start: &[u8], len: u32) -> bool {
     let line = format!(in rt.alloc(); "dump: ends at byte {len}\n").expect(rt, "out of memory");
     let short = replays(rt, start, &line, Ended::Dump(DumpError::Short(len)));
@@ -182,7 +182,7 @@ fn moving_front(rt: &(impl Abort + AllocGlobal)) -> Vec<u8> {
     dump
 }
 
-// Its text. Of 720 namings that move as few bytes this is the first in dictionary order.
+// Its text. Of 720 namings that move the same number of bytes this is the first in dictionary order.
 const FRONT: &str = "step 12 procs 16 elements 300\n\
     bottleneck 876\n\
     fence 0 33 67 100 133 166 178 182 186 189 192 195 199 204 223 256 289\n\
@@ -212,7 +212,7 @@ fn the_moving_front(rt: HostRuntime) {
     assert_for(&rt, printed, "another text");
 }
 
-// Whether a replay of this file, for this number of PEs, writes this text and ends so, with a reason of this kind.
+// Whether a replay of this file, for this number of PEs, writes this text and has this end, with a reason of this kind.
 fn ends_file<R: Read + Drop>(
     rt: &impl AllocGlobal,
     file: io::Result<R>,

@@ -10,7 +10,7 @@ use lb_strategy::PlanError;
 use std::io::{self, ErrorKind, Read};
 use tests_fixtures::{EXAMPLE_DUMP, Sink, Source};
 
-// Whether a run had an end of this status and no reason, and wrote this text.
+// Whether a run had an end with this status and no reason, and wrote this text.
 fn is_status(found: (Ended, Option<io::Error>), written: &[u8], status: u8, text: &str) -> bool {
     found.0.status() == status && found.1.is_none() && same(written, text)
 }
@@ -26,7 +26,7 @@ fn runs(rt: &impl AllocGlobal, task: Task, bytes: &[u8], text: &str, status: u8)
     same
 }
 
-// Whether a run on other letters has the status of a fault and its line.
+// Whether a run on a dump with other letters at its start has the status of a fault and its line.
 fn tells_letters(rt: &impl AllocGlobal, task: Task) -> bool
     requires { MayRun task }
 {
@@ -76,7 +76,7 @@ fn runs_of_a_check_and_their_statuses(rt: HostRuntime) {
     assert_for(&rt, tells_letters(&rt, check), "other letters");
 }
 
-// Whether a run whose writer takes nothing has the status for it.
+// Whether a run whose writer takes no byte has the status for it.
 fn is_unwritten(rt: &impl AllocGlobal, task: Task, bytes: &[u8]) -> bool
     requires { MayRun task }
 {
@@ -93,7 +93,7 @@ fn a_run_that_is_not_written(rt: HostRuntime) {
     assert_for(&rt, is_unwritten(&rt, Task::Check, &DECIDED), "a check");
 }
 
-// Whether a run on a file whose reading fails writes so, and has the status of a fault and a reason of this kind.
+// Whether a run on a file whose reading fails writes the line for it, and has the status of a fault and a reason of this kind.
 fn tells_failure<R: Read + Drop>(
     rt: &impl AllocGlobal,
     task: Task,
@@ -109,7 +109,7 @@ fn tells_failure<R: Read + Drop>(
     told && kind(reason) == Some(expected)
 }
 
-// Whether a run hands the reason on where its file is not opened, and where a read fails.
+// Whether a run returns the reason where its file is not opened, and where a read fails.
 fn hands_reason_on(rt: &impl AllocGlobal, task: Task, dump: &[u8]) -> bool
     requires { MayRun task }
 {

@@ -9,7 +9,7 @@ use chare_index::Limits;
 use lb_replay::{Ended, Task};
 use tests_fixtures::{EXAMPLE_DUMP, Source};
 
-/// Ten elements on three PEs, which stand in the order 2, 0, 1.
+/// Ten elements on three PEs, whose order is 2, 0, 1.
 pub(crate) const TEN: [u8; 136] = *b"LBD1\
     \0\0\0\x07\0\0\0\x03\0\0\0\x0a\
     \0\0\0\x01\0\0\0\x0a\0\0\0\x02\
@@ -23,7 +23,7 @@ pub(crate) const TEN: [u8; 136] = *b"LBD1\
     \0\0\0\x01\0\0\0\x0a\0\0\0\x01\
     \0\0\0\x01\0\0\0\x0a\0\0\0\x01";
 
-// Four elements without load on three PEs, which stand in the order 1, 2, 0.
+// Four elements without load on three PEs, whose order is 1, 2, 0.
 const IDLE: [u8; 64] = *b"LBD1\
     \0\0\0\x04\0\0\0\x03\0\0\0\x04\
     \0\0\0\0\0\0\0\x05\0\0\0\x01\
@@ -43,7 +43,7 @@ const WIDE: [u8; 84] = *b"LBD2\
 // No elements on two PEs.
 const NONE: [u8; 16] = *b"LBD1\0\0\0\0\0\0\0\x02\0\0\0\0";
 
-/// The text of that within 14.
+/// The text for the ten elements within 14.
 pub(crate) const WITHIN: &str = "step 7 procs 3 elements 10\n\
     bottleneck 12\n\
     fence 0 4 5 6\n\
@@ -69,13 +69,13 @@ fn task(row: &Row) -> Task
     Task::Refine(procs, row.tolerance.min(Tolerance::MOST))
 }
 
-// Whether a replay prints the text, from a reader that gives seven bytes a call.
+// Whether a replay prints the text, from a reader that gives seven bytes per call.
 fn is_printed(rt: &impl AllocGlobal, row: &Row) -> bool {
     let mut reader = Source::new(row.dump, 7, None);
     ends(rt, task(row), &mut reader, row.text, Ended::Printed)
 }
 
-// PEs that stand in an order: within 14 one element moves, within 12 two, within 24 none.
+// PEs that have an order: within 14 one element moves, within 12 two, within 24 none.
 static ORDERED: [Row; 7] = [
     Row {
         dump: &TEN,
@@ -160,7 +160,7 @@ static ORDERED: [Row; 7] = [
     },
 ];
 
-// The plan: the elements of a PE do not stand together, or a PE is not among those that are asked for, or no cuts within the
+// The plan: the elements of a PE are not consecutive, or a PE is not among those that are asked for, or no cuts within the
 // tolerance move fewer bytes.
 static PLANNED: [Row; 3] = [
     Row {

@@ -1,4 +1,4 @@
-//! A writer that fails in mid-stream, and memory refused at each request.
+//! A writer that fails at a given call, and memory refused at each request.
 
 use crate::fixtures::{THREE, VALUES, assert_for};
 use dump_report::report_dump;
@@ -30,7 +30,7 @@ fn a_writer_that_fails_at_each_call(rt: HostRuntime) {
     }
 }
 
-// What a report on the example comes to, over an allocator that may refuse: nothing is written where it did.
+// The outcome of a report on the example, with an allocator that may refuse: nothing is written where it did.
 fn attempted(rt: &impl AllocGlobal, alloc: &Refusing<Global>) -> Outcome {
     let mut written = Vec::new(rt.alloc());
     let mut reader = EXAMPLE_DUMP.as_slice();

@@ -10,7 +10,7 @@ use load_report::Style;
 use std::fmt::Debug;
 use std::process::Abort;
 
-/// Ends the test where this does not hold, with what it was to hold for.
+/// Ends the test where this does not hold, with the row for which it has to hold.
 pub(crate) fn assert_for<R: Debug + Copy>(rt: &impl Abort, holds: bool, row: R)
     ensures held { holds ≡ true }
 {
@@ -28,7 +28,7 @@ pub(crate) const THREE: &str =
     "\"three\",present,2,3,3,2.000,1.500,,,,,,0,0,1,2,2,0.500,50.000,,,5\n\
     \"three\",planned,2,3,2,2.000,1.000,2,1,33.333,10,37.037,0,0,2,2,2,0.000,0.000,10,10,5\n";
 
-/// Whether a report on these bytes, under the name `three`, is this text and ends so.
+/// Whether a report on these bytes, under the name `three`, has this text and this end.
 pub(crate) fn reports(
     rt: &impl AllocGlobal,
     bytes: &[u8],
@@ -55,7 +55,7 @@ pub(crate) fn reports(
     found
 }
 
-/// Whether a report on these bytes, under the name `three`, within this tolerance, is this text.
+/// Whether a report on these bytes, under the name `three`, within this tolerance, has this text.
 pub(crate) fn reports_within(
     rt: &impl AllocGlobal,
     bytes: &[u8],

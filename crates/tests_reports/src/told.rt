@@ -1,4 +1,4 @@
-//! What is told where no whole report was written.
+//! What is printed where no whole report was written.
 
 use crate::fixtures::assert_for;
 use dump_report::tell;
@@ -46,7 +46,7 @@ const LINES: [(Ended, &str); 10] = [
     (Ended::Flawed(Flaw::CutCount), ""),
 ];
 
-// Whether this is told of an end, without a reason.
+// Whether this line is printed for an end, without a reason.
 fn is_told(rt: &impl AllocGlobal, ended: Ended, line: &str) -> bool {
     let mut told = Vec::new(rt.alloc());
     let all = tell(rt.alloc(), &mut told, "f", ended, None);
@@ -69,7 +69,7 @@ fn displayed(rt: &impl AllocGlobal, fault: DumpError) -> Result<String, AllocErr
     )
 }
 
-// Whether a fault is told in these words.
+// Whether the line of a fault has these words.
 fn is_displayed(rt: &impl AllocGlobal, fault: DumpError) -> bool {
     let Ok(line) = displayed(rt, fault) else {
         return false;
@@ -98,7 +98,7 @@ fn faults_in_their_own_words(rt: HostRuntime) {
     }
 }
 
-// Whether this is told of an end with the system's reason.
+// Whether this line is printed for an end with the system's reason.
 fn is_told_because(rt: &impl AllocGlobal, ended: Ended, line: &str) -> bool {
     let mut told = Vec::new(rt.alloc());
     let reason = io::Error::from(ErrorKind::NotFound);
@@ -127,7 +127,7 @@ fn ends_with_a_reason(rt: HostRuntime) {
     }
 }
 
-// Whether nothing is told where this request for memory is refused.
+// Whether nothing is printed where this request for memory is refused.
 fn is_silent(rt: &impl AllocGlobal, turn: u64) -> bool {
     let alloc = Refusing::new(rt.alloc(), turn);
     let mut told = Vec::new(rt.alloc());

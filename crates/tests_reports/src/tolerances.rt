@@ -6,7 +6,7 @@ use chain_refinement::Tolerance;
 use load_report::Style;
 use tests_fixtures::EXAMPLE_DUMP;
 
-// Ten elements on three PEs, which stand in the order 2, 0, 1.
+// Ten elements on three PEs, whose order is 2, 0, 1.
 const TEN: [u8; 136] = *b"LBD1\
     \0\0\0\x07\0\0\0\x03\0\0\0\x0a\
     \0\0\0\x01\0\0\0\x0a\0\0\0\x02\
@@ -20,7 +20,7 @@ const TEN: [u8; 136] = *b"LBD1\
     \0\0\0\x01\0\0\0\x0a\0\0\0\x01\
     \0\0\0\x01\0\0\0\x0a\0\0\0\x01";
 
-// Four elements without load on three PEs, which stand in the order 1, 2, 0.
+// Four elements without load on three PEs, whose order is 1, 2, 0.
 const IDLE: [u8; 64] = *b"LBD1\
     \0\0\0\x04\0\0\0\x03\0\0\0\x04\
     \0\0\0\0\0\0\0\x05\0\0\0\x01\
@@ -40,7 +40,7 @@ const WIDE: [u8; 84] = *b"LBD2\
 // No elements on two PEs.
 const NONE: [u8; 16] = *b"LBD1\0\0\0\0\0\0\0\x02\0\0\0\0";
 
-// A dump, a tolerance, and the report on it for as many PEs as it has.
+// A dump, a tolerance, and the report on it for the number of PEs of the dump.
 struct Row {
     dump: &'static [u8],
     tolerance: u32,
@@ -52,7 +52,7 @@ fn is_reported(rt: &impl AllocGlobal, row: &Row, style: Style) -> bool {
     reports_within(rt, row.dump, &[], tolerance, style, row.text)
 }
 
-// The plan and the decision within the tolerance, behind the present placement.
+// The lines of the plan and of the decision within the tolerance, after that of the present placement.
 static FIGURES: [Row; 5] = [
     Row {
         dump: &TEN,

@@ -1,10 +1,10 @@
-//! The words of a command line.
+//! The arguments of a command line.
 
 use crate::fixtures::assert_for;
 use report_command_line::{NumbersError, asked, numbers, refuse_numbers, words_status};
 use std::alloc::Global;
 
-// Whether these are read as so many numbers, the last of them this one; or as none.
+// Whether this text is read as `count` numbers, the last of them this one; or as none.
 fn reads(alloc: Global, text: &str, count: usize, last: Option<u32>) -> bool {
     let Ok(found) = numbers(alloc, text) else {
         return count == 0;
@@ -49,7 +49,7 @@ fn words_that_are_read(rt: HostRuntime) {
     assert_for(&rt, right, "two files");
 }
 
-// The tolerance that these words ask for, or the status where they are refused.
+// The tolerance that these arguments ask for, or the status where they are refused.
 fn tolerance_in(alloc: Global, words: &[&str]) -> Result<Option<u32>, u8> {
     match asked(alloc, words) {
         Ok(asked) => Ok(asked.tolerance),

@@ -15,7 +15,7 @@ above cut i not_below =
       | inr beyond ↦ beyond.1
     ]
 
--- the first cut above i stands where the cuts up to i end
+-- the first cut above i is where the cuts up to i end
 first_above : (cuts : List ℕ) (i k : ℕ) → k ≤ length cuts → IsPartitionPoint (λ cut. leb cut i ≡ true) (λ cut. leb cut i ≡ false) cuts k → position_or_len (λ cut. nat_lt i cut) cuts ≡ k
 first_above cuts i k inside point =
     position_or_len_is (λ cut. nat_lt i cut) cuts k 0 inside

@@ -3,7 +3,7 @@ use Rattle.std.specs.List.{filter}
 use Rattle.lb_strategy.specs.Moves.{is_move}
 use Rattle.lb_strategy.proofs.moves.move_of.Goals as goal
 
--- an element that stands where it is to run does not move
+-- an element that is where it is to run does not move
 stays : (i present planned : ℕ) → present ≡ planned → [] ≡ filter is_move ((i, present, planned) ∷ [])
 stays i present planned same = search rules
 

@@ -1,4 +1,4 @@
--- Any thread may give back a block that any thread may give back to the allocator inside.
+-- Any thread may free a block that any thread may free with the allocator inside.
 use mir.Syntax.{Dict}
 use denote.RattleType.{RattleType}
 use denote.Param.Send.{Frees}

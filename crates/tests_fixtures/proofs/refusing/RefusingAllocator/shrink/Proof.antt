@@ -1,4 +1,4 @@
--- It answers what the inner allocator answers. Assumes `Logic`.
+-- It returns what the inner allocator returns. Assumes `Logic`.
 use mathlib.Core.Path.{◌≡◌, refl}
 use Prim.Native.Nat.{ℕ, ◌+◌, ◌<◌, ◌^◌}
 use mathlib.Core.List.{List, [], ◌∷◌}
