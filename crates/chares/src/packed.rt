@@ -15,7 +15,7 @@ use pup_pack::PupError;
 use std::alloc::{AllocError, Allocator, Global};
 use std::marker::{Model, PhantomData};
 
-// What moves.
+// The parts of an element on its way.
 #[derive(Drop)]
 struct Luggage<A: Allocator> {
     index: Index,
@@ -25,8 +25,9 @@ struct Luggage<A: Allocator> {
     marks: Vec<Mark, A>,
 }
 
-/// An element on its way, with its state packed. It is as small as a pointer, since queues move it. Contracts see it
-/// as the record `PackedView`. That its bytes are the pack of what its journal says, its type does not say: that of [`PackedElement`] does.
+/// An element on its way, with its state packed. It is as small as a pointer, since queues move it. Contracts see it as the
+/// record `PackedView`. Its type does not say that its bytes are the pack of what its journal says: the type [`PackedElement`]
+/// does.
 #[derive(Drop)]
 pub struct Packed<A: Allocator = Global> {
     luggage: Box<Luggage<A>, A>,

@@ -23,7 +23,7 @@ pub struct Progress {
     pub load: Units,
 }
 
-/// What the effect of a handler comes to.
+/// What the effect of a handler means for its element.
 #[derive(Clone, Copy, Debug, PartialEq, Eq)]
 pub enum Ending {
     /// The element goes on.
@@ -61,7 +61,7 @@ impl Progress {
         }
     }
 
-    /// With the units of one more handler, which are counted up to the limit of a load.
+    /// With the units of one more handler added, up to the limit of a load.
     pub fn charged(&self, units: Units) -> Self
         ensures value { result ≡ charged self.now units }
     {
@@ -71,7 +71,7 @@ impl Progress {
         }
     }
 
-    /// What this effect of a handler comes to here.
+    /// What this effect of a handler means here.
     pub fn ending(&self, effect: Effect) -> Ending
         ensures value { result ≡ ending self.now effect }
     {
@@ -88,7 +88,7 @@ impl Progress {
         Ending::Runs
     }
 
-    /// After an effect that comes to this.
+    /// After an effect with this meaning.
     pub fn ended(&self, ending: Ending) -> Self
         ensures value { result ≡ ended self.now ending }
     {

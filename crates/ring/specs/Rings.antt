@@ -1,4 +1,5 @@
--- A token that goes around a ring: each member hands it to the next, and it ends where it began, after so many visits.
+-- A token that goes around a ring: each member hands it to the next, and it ends where it began, after a given number
+-- of visits.
 use Rattle.std.specs.Prelude.{◌≡◌, ℕ, ◌+◌, ◌-◌, ◌≤◌, ◌%◌, List, [], ◌∷◌, length, Bool, false, ◌&&◌, ◌||◌, not, ◌==◌, if◌then◌else◌}
 use Rattle.std.specs.Int.{w32, to_be_bytes}
 use Rattle.std.proofs.Common.{arith}
@@ -9,7 +10,7 @@ use Rattle.chares.specs.declared.sends.SendError.{SendError}
 use Rattle.chares.specs.declared.sends.SendError.TheVariants.{Worn}
 use Rattle.chares.specs.Steps.{Outcome}
 
--- so many visits are left after a handler, which posts these letters; it has finished if no visit is left
+-- this number of visits is left after a handler, which posts these letters; it has finished if no visit is left
 abbrev pub leaves : ℕ → List (ℕ × List ℕ) → Outcome ℕ
 leaves left sends = record { state = left; effect = record { units = 1; at_sync = false; finished = left == 0 }; sends = sends }
 
@@ -21,7 +22,7 @@ hands_on stays me n = if stays then [] else ((me + 1) % n, []) ∷ []
 abbrev pub starts : ℕ → ℕ → ℕ → Outcome ℕ
 starts left me n = leaves left (hands_on (left == 0 || not (me == 0)) me n)
 
--- a member hands the token on, but for the last visit to member 0
+-- a member hands the token on, except at the last visit to member 0
 abbrev pub visited : ℕ → ℕ → ℕ → Outcome ℕ
 visited left me n = leaves (left - 1) (hands_on ((left - 1) == 0 && me == 0) me n)
 
@@ -29,7 +30,7 @@ abbrev pub member_step : ℕ → ℕ → ℕ → Entry (List ℕ) → Outcome �
 member_step left me n (Letter body) = visited left me n
 member_step left me n (Resumption round) = starts left me n
 
--- it answers an error only where no letter number is left for the token
+-- it returns an error only where no letter number is left for the token
 abbrev pub MemberRefuses : ℕ → ℕ → ℕ → ℕ → Entry (List ℕ) → SendError → Type 0
 MemberRefuses left me n count entry Worn = count ≡ LETTERS
 MemberRefuses left me n count entry _ = ⊥
