@@ -5,11 +5,11 @@ use Rattle.hot_spot_strip.specs.declared.mode.Mode.{Mode}
 use Rattle.hot_spot_strip.specs.Mixing.{mix}
 use Rattle.hot_spot_strip.specs.Strips.{StripView, opening_strip}
 
--- so many cells from number `first` on: each begins as its number, mixed
+-- this number of cells from number `first` on: each begins as its number, mixed
 abbrev pub opening_cells : ℕ → ℕ → List ℕ
 opening_cells first count = map mix (range_with_len first count)
 
--- the strips with so many cells each, from the one whose first cell has this number on
+-- the strips with these numbers of cells, from the one whose first cell has this number on
 abbrev pub opening_strips : Mode → ℕ → ℕ → ℕ → List ℕ → List StripView
 opening_strips mode rounds work first [] = []
 opening_strips mode rounds work first (count ∷ counts) =

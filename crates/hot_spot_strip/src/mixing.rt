@@ -16,7 +16,7 @@ pub fn mix(x: u64) -> u64
     c ^ (c >> 31)
 }
 
-/// So many rounds of mixing, one after another.
+/// This number of rounds of mixing, one after another.
 pub fn mixed(x: u64, rounds: u64) -> u64
     ensures value { result ≡ mixed x rounds }
 {
