@@ -1,5 +1,5 @@
--- What clap reads from the arguments of a command line:
--- `charm_run [--dump PREFIX] [--lbd1] [--progress] [--tolerance T] [--seed S] [--seeds N] [--events FILE] [--replay FILE] [--trace FILE] FILE`.
+-- What clap reads from the arguments of a command line: `charm_run [--dump PREFIX] [--lbd1] [--progress] [--tolerance T]
+-- [--seed S] [--seeds N] [--events FILE] [--replay FILE] [--trace FILE] FILE`.
 use Rattle.std.specs.Prelude.{ℕ, ◌≡◌, ◌≤◌, List, [], ◌∷◌, ◌++◌, Option, None, Some, codes, pos, true}
 use Rattle.std.specs.Str.Parse.{IsNumeral, digits_value, without_leading_plus}
 use Rattle.clap.specs.Words.{App, Rule, Text, first_of, matches_of, one_of, with_rule}
