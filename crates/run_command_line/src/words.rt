@@ -47,9 +47,9 @@ fn line_of(clash: Clash) -> &'static str
 /// # Errors
 ///
 /// The arguments are not `[--dump PREFIX] [--lbd1] [--progress] [--tolerance T] [--seed S] [--seeds N] [--events FILE]
-/// [--replay FILE] [--trace FILE] FILE` with a T of 0 to 1,000, an S below 2^64 and an N of 1 to 1,000,000; or help or the version
-/// is asked for; or memory ran out. The error has the text to print; [`words_status`] is the status for it. Options that do not go
-/// together are no error here: [`Asked::task`] returns the [`Clash`].
+/// [--replay FILE] [--trace FILE] FILE` with a T of 0 to 1,000, an S below 2^64 and an N of 1 to 1,000,000; or help or the
+/// version is asked for; or memory ran out. The error has the text to print; [`words_status`] is the status for it. Options that
+/// do not go together are no error here: [`Asked::task`] returns the [`Clash`].
 pub fn asked<'a>(alloc: Global, words: &'a [&'a str]) -> Result<Asked<'a>, Error>
     ensures faults { FailsBy (fault_of program (texts words.now)) result }
     ensures file { IfOk result (λ asked. file_in (texts words.now) ≡ Some asked.file.now) }
