@@ -21,8 +21,8 @@ use std::thread::Threads;
 /// most [`Limits::ELEMENTS`] elements, which run on 1 to [`Limits::PES`] PEs. It takes memory where it is made and
 /// where a round is decided, and nowhere else. A call that is refused leaves it unchanged.
 ///
-/// Contracts see it as the record `BoardState`. Whoever holds a board holds only right decisions: of each round that
-/// was decided, the snapshot is one of all elements, and the decision is what the board's [`Strategy`] decides for it.
+/// Contracts see it as the record `BoardState`. The decisions of every board are right: of each round that was decided, the
+/// snapshot is one of all elements, and the decision is what the board's [`Strategy`] decides for it.
 #[derive(Drop)]
 #[derive_where(Debug)]
 pub struct Board<A: Allocator = Global> {

@@ -68,8 +68,8 @@ module _ {C : Type 0} (step : Step C) (pack : C → List ℕ) where
   lived el n [] = el
   lived el n (x ∷ xs) = lived (ran el n x.1 x.0) n xs
 
-  -- the element is the chare that its array opened with, after the entries of its journal, each on some PE: its
-  -- chare is the step folded over the journal, and all else follows from the same journal, but for the PEs in its marks
+  -- the element is the chare that its array opened with, after the entries of its journal, each on some PE: its chare is
+  -- the step folded over the journal, and everything else follows from the same journal, except the PEs in its marks
   pub record IsHistory (opened : List C) (el : ElementView C) : Type 0 where
     pub opening : C
     pub opens : slice_get opened el.index ≡ Some opening

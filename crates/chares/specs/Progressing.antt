@@ -1,4 +1,4 @@
--- How far an element has come, and what each entry of its journal makes of that.
+-- How far an element has come, and how each entry of its journal changes that.
 use Rattle.std.specs.Prelude.{ℕ, ◌+◌, min, List, [], ◌∷◌, Option, None, Some, Bool, true, false, not, ◌&&◌, if◌then◌else◌}
 use Rattle.chare_index.specs.declared.limits.TheConstants.Limits.{LOAD}
 use Rattle.chares.specs.declared.chare.Effect.{Effect}

@@ -36,10 +36,10 @@ pub struct Effect {
     pub finished: bool,
 }
 
-/// An object of the chare array. Its contract is one step: what a handler makes of the state, the index of the
-/// element, the number of elements and what it is given. A handler that returns an error leaves its state unchanged,
-/// and its PE takes back what it had posted. A handler may also pass over a refused send and return Ok, where its
-/// step has no such send.
+/// An object of the chare array. Its contract is one step: the result of a handler, from the state, the index of the
+/// element, the number of elements and what the handler is given. A handler that returns an error leaves its state
+/// unchanged, and its PE takes back what it had posted. A handler may also pass over a refused send and return Ok,
+/// where its step has no such send.
 pub trait Chare<A: Allocator>: Pup<A> + Drop {
     /// The step: from the state, the index of the element, the number of elements, and what it is given.
     ghost step: { Self → ℕ → ℕ → Entry (List ℕ) → Outcome Self };

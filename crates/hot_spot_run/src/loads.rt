@@ -21,7 +21,7 @@ impl Spread {
         }
     }
 
-    /// With one more PE.
+    /// The spread with one more PE.
     pub(crate) fn with(self, load: u64) -> Spread {
         Spread {
             greatest: self.greatest.max(load),

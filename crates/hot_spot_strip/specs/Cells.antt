@@ -15,7 +15,7 @@ abbrev pub stirred : ℕ → ℕ → ℕ → ℕ
 stirred left cell right = bit_xor (bit_xor cell left) (right / 2)
 
 -- the cells after a round with this number of rounds of mixing for each, from what all were before it; `left` is the value
--- before the first one, and `after` that behind the last
+-- before the first cell, and `after` the one after the last
 abbrev pub computed : ℕ → ℕ → List ℕ → ℕ → List ℕ
 computed rounds left [] after = []
 computed rounds left (cell ∷ cells) after = mixed (stirred left cell (first_value cells after)) rounds ∷ computed rounds cell cells after

@@ -34,7 +34,7 @@ impl Came {
         }
     }
 
-    /// With one more value, where `done` rounds are computed. A value of a round other than the next two is ignored.
+    /// The values with one more, where `done` rounds are computed. A value of a round other than the next two is ignored.
     pub(crate) fn kept(self, done: u32, shown: Shown) -> Came
         requires few { done ≤ ROUNDS }
         ensures value { result ≡ kept self done shown }

@@ -54,7 +54,7 @@ impl<A: Allocator> Model for Strip<A> {
 /// The fields of a strip, as they are packed.
 type Parts<A> = (Mode, (u32, (u32, (u32, (u32, SlotParts<A>)))));
 
-/// Those from the slots on.
+/// The fields from the slots on.
 type SlotParts<A> = (Slot, (Slot, (Slot, (Slot, Items<u64, A>))));
 
 impl<A: Allocator> Strip<A> {

@@ -20,7 +20,7 @@ use Rattle.rts_core.specs.Histories.{AreHistories, IsLocalView}
 use Rattle.rts_core.specs.Parts.{or_same}
 use Rattle.rts_core.specs.Worlds.{WorldView, IsWorld}
 
--- what a PE does in an event is what the world does
+-- the step of a PE is the step of the world
 pub enabled_at : {C A : Type 0} (step : Step C) (pack : C → List ℕ) (unpack : List ℕ → Result (C × ℕ) PupError) (w : WorldView C A) (event : Event) (p : ℕ) (pe : PeView C) (d : LocalView C A) (reports : List TraceEntry)
     → slice_get w.pes p ≡ Some pe → slice_set w.pes p pe ≡ w.pes → (d, reports) ≡ or_same (local_view w pe, []) (local_step step pack unpack event (local_view w pe)) → (with_local w p d, reports) ≡ or_nothing w (enabled step pack unpack w event p)
 enabled_at {C} {A} step pack unpack w event p pe d reports at same e =

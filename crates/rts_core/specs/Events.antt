@@ -53,7 +53,7 @@ abbrev pub note_entries : Note → List TraceEntry
 note_entries (Sync e round units bytes pe) = Synced e round ∷ []
 note_entries (Finish e) = []
 
--- What an event makes of a PE, and of what else it reads or changes, where it is enabled.
+-- The result of an event for a PE, and for what else the event reads or changes, where it is enabled.
 module _ {C : Type 0} where
   -- Look: a letter has to be looked up; it gets the PE in the location word of its element
   abbrev pub look_event : PeView C → List ℕ → Option (PeView C)
@@ -133,7 +133,7 @@ pe_of (Depart p e) = Some p
 pe_of (Resume p e) = Some p
 
 module _ {C A : Type 0} (step : Step C) (pack : C → List ℕ) (unpack : List ℕ → Result (C × ℕ) PupError) where
-  -- its step: what that PE makes of the event, with the trace entries, where the event is enabled
+  -- its step: what that PE sees after the event, with the trace entries, where the event is enabled
   abbrev pub local_step : Event → LocalView C A → Option (LocalView C A × List TraceEntry)
   local_step (Start p e) d = do
     after ← start_event step pack d.pe e
@@ -193,14 +193,14 @@ abbrev pub MayDecide : {A : Type 0} → BoardState A → BoardState A → List T
 MayDecide before after reports = IsDecision before after reports ⊎ IsTooEarly before after reports
 
 module _ {C A : Type 0} (step : Step C) (pack : C → List ℕ) (unpack : List ℕ → Result (C × ℕ) PupError) where
-  -- what an event of this PE makes of the world, where it is enabled; there may be no such PE
+  -- the result of an event of this PE for the world, where it is enabled; there may be no such PE
   abbrev pub enabled : WorldView C A → Event → ℕ → Option (After C A)
   enabled w event p = do
     pe ← slice_get w.pes p
     after ← local_step step pack unpack event (local_view w pe)
     Some (with_local w p after.0, after.1)
 
-  -- what an event makes of a world; any of the best decisions may be made
+  -- the result of an event for a world; where a round is decided, any of the best decisions may be made
   abbrev pub Happens : WorldView C A → Event → After C A → Type 0
   Happens w event after =
       MatchOption (pe_of event)

@@ -22,7 +22,8 @@ use std::alloc::Allocator;
 /// that was posted is in exactly one place or was executed once, by the element that it was posted to, and each element
 /// is in exactly one place; as many letters were posted as are held and were executed. The trace has a post for each
 /// letter that is counted as posted, and an execution for each that is in a journal. What the elements have sent is in
-/// places or in journals, with its target and its body: so it is as a world opens, and after an event where it was so
+/// places or in journals, with its target and its body: this holds as a world opens, and after an event if it held
+/// before.
 /// before.
 pub fn account_laws<C: Chare<A>, A: Allocator>()
     ensures account { ForEachRun C.step C.pack C.unpack (λ (chares : List C) (last : After C A). Accounted (length chares) last.0 last.1) }

@@ -12,7 +12,7 @@
 //! let text = outcome_text(alloc, n, &outcome)?;
 //! ```
 //!
-//! Of four tallies with two amounts each the text may be:
+//! For four tallies with two amounts each the text may be:
 //!
 //! ```text
 //! round 1 bottleneck 6 moved 40

@@ -20,7 +20,7 @@ pub(crate) struct Row<A: Allocator> {
 }
 
 impl<A: Allocator> Row<A> {
-    /// Nothing yet.
+    /// An empty row.
     pub(crate) fn new(alloc: A) -> Self {
         Row {
             happenings: Vec::new(alloc),

@@ -15,7 +15,7 @@ use std::alloc::Allocator;
 ///
 /// # Errors
 ///
-/// Those of [`World::step`], on which the world is as it was.
+/// Those of [`World::step`], on which the world is unchanged.
 #[tactic(auto, using(crate::proofs::TriedEvents::was_enabled, crate::proofs::TriedEvents::was_not))]
 pub(crate) fn try_step<C: Chare<A>, H: Openings<C>, A: Allocator + Copy>(
     world: &mut World<C, H, A>,

@@ -50,7 +50,7 @@ fn look<H: Openings<Relay<A>>, A: Allocator + Copy>(
     assert!(rt; at.wants().is_none());
 }
 
-// The front of the outbox is given up and handed back.
+// The front of the outbox is sent, and handed back.
 fn send_in_vain<H: Openings<Relay<A>>, A: Allocator + Copy>(
     rt: &impl Abort,
     at: &mut PeState<Relay<A>, H, A>,

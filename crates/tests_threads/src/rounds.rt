@@ -34,7 +34,7 @@ struct Case<'a> {
     places: [u32; 3],
 }
 
-// Of 2, 9 and 4 the cut behind 9 makes the greater part the least, 11. Of the two namings one moves element 0, of 10 bytes,
+// Of 2, 9 and 4 the cut after 9 makes the greater part the least, 11. Of the two namings one moves element 0, of 10 bytes,
 // and the other elements 1 and 2, of 30 and 5.
 const FIRST: Case<'static> = Case {
     number: 1,
@@ -47,7 +47,7 @@ const FIRST: Case<'static> = Case {
     places: [1, 1, 0],
 };
 
-// Of 5, 3 and 3 it is the cut behind 5, with 6. One naming moves elements 0 and 2, of 10 and 6 bytes, the other element 1, of
+// Of 5, 3 and 3 it is the cut after 5, with 6. One naming moves elements 0 and 2, of 10 and 6 bytes, the other element 1, of
 // 31.
 const SECOND: Case<'static> = Case {
     number: 2,

@@ -129,7 +129,7 @@ fn execute<H: Openings<Relay>>(rt: &(impl Abort + AllocGlobal), world: &mut Worl
     expect_waiting(rt, world, Place::Outbox(p0, None), (p0, 1), e1, 0, &[30]);
 }
 
-// The letter of PE 1 comes to PE 0 before its element, and waits on the shelf.
+// The letter of PE 1 arrives at PE 0 before its element, and waits on the shelf.
 fn shelve<H: Openings<Relay>>(rt: &(impl Abort + AllocGlobal), world: &mut World<Relay, H>) {
     let ((p0, p1, p2), e2) = (pes(rt), index(rt, 2));
     run(
@@ -168,7 +168,7 @@ fn install<H: Openings<Relay>>(rt: &(impl Abort + AllocGlobal), world: &mut Worl
     );
 }
 
-// The letter of PE 0 comes to PE 1 after its element has left, and is forwarded.
+// The letter of PE 0 arrives at PE 1 after its element has left, and is forwarded.
 fn forward<H: Openings<Relay>>(rt: &(impl Abort + AllocGlobal), world: &mut World<Relay, H>) {
     let (p0, p1, e1) = (pe(rt, 0), pe(rt, 1), index(rt, 1));
     run(

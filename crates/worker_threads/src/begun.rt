@@ -15,7 +15,7 @@ impl<D: Work> Promise<D> for Numbered {
     ghost kept_by = { λ promise done. D.number done ≡ promise.0 };
 }
 
-// Where the end of a worker is.
+// Where the end of a worker is to be found.
 #[derive(Drop)]
 enum Place<D: Ended> {
     // In a thread of its own, which returns it once the worker has worked.

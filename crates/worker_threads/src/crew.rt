@@ -17,9 +17,9 @@ use std::thread::{Scope, Threads};
 pub struct Crew<D: Ended, A: Allocator = Global> {
     // How many workers there is capacity for.
     room: usize,
-    // For the workers that have begun. It is empty until the run.
+    // The workers that have begun. It is empty until the run.
     begun: VecDeque<Begun<D>, A>,
-    // For what the workers end as. It is empty until the run.
+    // What the workers ended as. It is empty until the run.
     done: VecDeque<D, A>,
 }
 

@@ -201,7 +201,7 @@ complete lines form (Number value digits) left row part open_ spelled =
 pub completion : (before : List (List ℕ)) (s : State) (text : List ℕ) → Holds before s text → is_whole s.lines ≡ false → Completion s
 completion before s text h open_ = complete s.lines s.form s.spot s.left s.row h.part open_ h.spelled
 
--- no fault stands in bytes that a reader holds
+-- no fault is certain in bytes that a reader holds
 not_both : (s : State) (r : Result State WorkError) (n : ℕ) (bytes : List ℕ) → n ≡ line_number s → (row : Option (List ℕ)) → r ≡ ended s.lines row → Stops [] bytes (Form n) r → ⊥
 unfolding ended
 not_both s (Ok t) n bytes numbered None same told = cc

@@ -7,7 +7,7 @@ use Rattle.workload.specs.declared.form.TheConstants.{TEXT_BYTES}
 use Rattle.workload.specs.Text.{WorkloadView, IsText}
 use Rattle.workload.specs.Faults.{is_whole, AreLines, lines_text, IsFault}
 
--- After four good lines, and maybe more, there has to be the line of a round. Only such bytes need memory.
+-- After four good lines, and perhaps more, there has to be the line of a round. Only such bytes need memory.
 pub record NeedsMemory (bytes : List ℕ) : Type 0 where
   pub lines : List (List ℕ)
   pub rest : List ℕ

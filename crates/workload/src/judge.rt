@@ -14,7 +14,7 @@ use std::mem;
 pub(crate) enum Spot {
     /// After this number of bytes of its word. After the whole word a blank or the newline follows.
     Word(usize),
-    /// In a number, after a blank and digits of this value, of which there are this many.
+    /// After a blank and this many digits, which have this value.
     Number(u64, u32),
 }
 
@@ -39,7 +39,7 @@ pub(crate) struct Judge<A: Allocator = Global> {
 }
 
 impl<A: Allocator + Copy> Judge<A> {
-    /// Before the first byte.
+    /// The judge before the first byte.
     pub(crate) fn new(alloc: A) -> Self
         ensures fresh { state_of result ≡ start [] }
         ensures held { IsHeld result }
