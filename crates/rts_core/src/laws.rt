@@ -24,7 +24,6 @@ use std::alloc::Allocator;
 /// letter that is counted as posted, and an execution for each that is in a journal. What the elements have sent is in
 /// places or in journals, with its target and its body: this holds as a world opens, and after an event if it held
 /// before.
-/// before.
 pub fn account_laws<C: Chare<A>, A: Allocator>()
     ensures account { ForEachRun C.step C.pack C.unpack (λ (chares : List C) (last : After C A). Accounted (length chares) last.0 last.1) }
     ensures counted { ForEachRun C.step C.pack C.unpack (λ (chares : List C) (last : After C A). IsCounted last.0) }

@@ -52,8 +52,8 @@ impl<C: Chare<A>, A: Allocator> Model for Outcome<C, A> {
 
 impl<C: Chare<A>, A: Allocator> Outcome<C, A> {
     /// The outcome of a run that left these PEs, these parcels in the queue of each, this board, and this fault, if it ended
-    /// early. As many letters were posted as are held and were executed. [`into_parts`](Outcome::into_parts) gives the parts
-    /// back.
+    /// early. The letters have to add up: as many were posted as are held and were executed.
+    /// [`into_parts`](Outcome::into_parts) gives the parts back.
     pub fn new(
         ends: Vec<PeEnd<C, A>, A>,
         left: Vec<Vec<HeldParcel<A>, A>, A>,

@@ -64,7 +64,7 @@ impl<A: Allocator> Row<A> {
         });
     }
 
-    /// Adds what happened at the end; or notes that it is missing.
+    /// Adds what happened as the last entry; or notes that it is missing.
     pub(crate) fn note(&mut self, happening: Happening)
         ensures kept { MatchBool self.new.is_short (self.new.happenings.items ≡ self.old.happenings.items)
             (self.new.happenings.items ≡ self.old.happenings.items ++ happening ∷ []) }

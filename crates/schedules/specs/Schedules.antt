@@ -8,7 +8,7 @@ use Rattle.rts_run.specs.declared.error.Setting.TheVariants as Of
 use Rattle.schedules.specs.declared.bias.Bias.{Bias}
 use Rattle.schedules.specs.declared.schedule.Schedule.{Schedule}
 
--- nothing is drawn more often than the rest
+-- nothing is drawn more often than the rest, or less often
 abbrev pub no_bias : Bias
 no_bias = record { letters_first = false; moves_first = false; stale_looks = false; starved = None }
 

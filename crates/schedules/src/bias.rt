@@ -1,6 +1,6 @@
 use chare_index::Pe;
 
-/// What is drawn more often than the rest. Without a bias each enabled event is as likely as every other.
+/// What is drawn more often than the rest, or less often. Without a bias each enabled event is as likely as every other.
 #[derive(Clone, Copy, Debug, Default, PartialEq, Eq)]
 pub struct Bias {
     /// Letters are looked for, sent, delivered and executed 16 times as often.
@@ -9,7 +9,7 @@ pub struct Bias {
     pub moves_first: bool,
     /// Letters are looked up 16 times as often, and so long before they leave that their elements have moved meanwhile.
     pub stale_looks: bool,
-    /// When an event of this PE is drawn, it is drawn again, up to 15 times.
+    /// Where an event of this PE is drawn, the draw is repeated, up to 15 times.
     pub starved: Option<Pe>,
 }
 

@@ -39,8 +39,8 @@ pub struct NotWritten {
 ///
 /// # Errors
 ///
-/// Those of the first dump that was not written, or whose file was not flushed. A prefix of it may have been written. No
-/// later file is made.
+/// The first dump that was not written, or whose file was not flushed. A prefix of it may have been written. No later file
+/// is made.
 pub fn write_dumps<F: DumpFiles, A: Allocator + Copy, B: Allocator + Copy>(
     alloc: A,
     rounds: &[(Snapshot<B>, Refined<B>)],
