@@ -3,7 +3,7 @@ use chare_index::Pe;
 /// What is drawn more often than the rest, or less often. Without a bias each enabled event is as likely as every other.
 #[derive(Clone, Copy, Debug, Default, PartialEq, Eq)]
 pub struct Bias {
-    /// Letters are looked for, sent, delivered and executed 16 times as often.
+    /// Letters are looked up, sent, delivered and executed 16 times as often.
     pub letters_first: bool,
     /// Elements report, depart and go on 16 times as often, and rounds are decided 16 times as often.
     pub moves_first: bool,
