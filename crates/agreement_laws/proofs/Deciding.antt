@@ -18,7 +18,7 @@ use Rattle.agreement_laws.specs.Agreement.{HasReported, IsInSomeState, AgreesWit
 use Rattle.agreement_laws.proofs.Rooms.{of_found}
 use Rattle.agreement_laws.proofs.Handlers.{ItemAgrees}
 
--- nobody has reported in a round that opens
+-- no element has reported in a round that opens
 pub nobody : (n i : ℕ) → get_or {A = Option (ℕ × ℕ)} (replicate n None) i None ≡ None
 nobody zero i = refl
 nobody (suc n) zero = refl

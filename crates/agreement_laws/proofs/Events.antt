@@ -28,7 +28,7 @@ use Rattle.agreement_laws.proofs.Deciding.{may_decide_agrees}
 use Rattle.agreement_laws.proofs.Openings.{opening_agrees}
 use Rattle.at_sync.specs.declared.strategy.Strategy.{Strategy}
 
--- what follows where something is there
+-- what follows where something is present
 pub then_so : {X Y : Type 0} (G : Y → Type 0) (o : Option X) (f : X → Y) (a : Y) → option_and_then (λ x. Some (f x)) o ≡ Some a → ((x : X) → o ≡ Some x → G (f x)) → G a
 then_so G None f a h k = cc
 then_so G (Some x) f a h k = subst G (some_is (f x) a h) (k x refl)
@@ -41,7 +41,7 @@ module _ {C A : Type 0} (step : Step C) (pack : C → List ℕ) (unpack : List �
     here : AgreesAt m pe
     here = got_of_all (AgreesAt m) w.pes p pe h.pes at
 
-    -- what is to be shown of what the PE makes of an event
+    -- what is to be shown of what the PE does in an event
     abbrev pub Good : LocalView C A × List TraceEntry → Type 0
     Good a = Numbered (with_local w p a.0) → Agrees n (with_local w p a.0)
 

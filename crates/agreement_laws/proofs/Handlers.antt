@@ -40,7 +40,7 @@ room_agrees m pe h = record { keyed = h.keyed; each = h.room; owing = h.notes; o
 pub least_left : (a b : ℕ) → min a b ≤ b
 least_left a b = omega arith
 
--- ---- who waits
+-- ---- elements that wait
 
 -- an element whose round is decided owes nothing
 pub owes_none_decided : {C : Type 0} (m : Measured) (me : ℕ) (el : ElementView C) → WaitsForPlace m el.index el.progress → (y : Note) → Owes m me el y → ⊥
@@ -67,7 +67,7 @@ pub kept_below : {A : Type 0} (rounds : List (Kept A)) (r : ℕ) (kept : Kept A)
 kept_below rounds zero kept h = cc
 kept_below rounds (suc r) kept h = omega (arith, slice_get_within rounds r kept h)
 
--- an element that is due stands in the room, and waits for its place
+-- an element that is due is in the room, and waits for its place
 pub record IsDue {C : Type 0} (m : Measured) (pe : PeView C) (e round : ℕ) : Type 0 where
   pub el : ElementView C
   pub stands : found e pe.room ≡ Some el

@@ -1,4 +1,4 @@
--- No event but Decide reports that a round is decided.
+-- No event but Decide has a trace entry that a round is decided.
 use Rattle.std.proofs.Common.{◌≡◌, ℕ, ◌+◌, List, [], ◌∷◌, Option, Some, None, Bool, true, false, Result, Ok, Err, refl, subst, nat_eq}
 use Rattle.std.specs.Prelude.{All, Contains, IfSome, slice_get, slice_set, not, ◌==◌, if◌then◌else◌}
 use Rattle.std.specs.Option.{option_map, option_and_then}
@@ -25,7 +25,7 @@ use Rattle.rts_core.proofs.EventSteps.{where_some}
 use Rattle.agreement_laws.proofs.Turns.{some_is}
 use Rattle.agreement_laws.proofs.Events.{then_so}
 
--- whether a report is that a round is decided
+-- whether a trace entry says that a round is decided
 abbrev pub is_decision : TraceEntry → Bool
 is_decision (Trace.Decided r) = true
 is_decision r = false
@@ -33,7 +33,7 @@ is_decision r = false
 abbrev pub Other : TraceEntry → Type 0
 Other r = is_decision r ≡ false
 
--- no report of a list is
+-- no entry of a list says so
 abbrev pub Others : List TraceEntry → Type 0
 Others reports = All Other reports
 

@@ -1,4 +1,4 @@
--- The board and the elements agree as a world opens: every element is at work in round 1, and nobody has reported.
+-- The board and the elements agree as a world opens: every element is at work in round 1, and none has reported.
 use Rattle.std.proofs.Common.{◌≡◌, ℕ, ◌+◌, ◌<◌, ◌≤◌, List, [], ◌∷◌, length, map, Option, Some, None, arith, refl, sym, ◌∙◌, subst, inl, length-set}
 use Rattle.std.specs.Prelude.{All, IfSome, slice_get}
 use Rattle.std.specs.List.{range_with_len}

@@ -1,4 +1,4 @@
--- A PE and the board still agree after a parcel has come, gone or been looked for.
+-- A PE and the board still agree after a parcel has come, gone or been looked up.
 use Rattle.std.proofs.Common.{◌≡◌, ◌≢◌, ℕ, ◌+◌, List, [], ◌∷◌, ◌++◌, length, map, Option, Some, None, Bool, true, false, Result, Ok, Err, arith, refl, sym, ◌∙◌, subst, inr, nat_eq}
 use Rattle.std.specs.Prelude.{All, IfSome, slice_get, slice_set, is_none, not, ◌==◌, if◌then◌else◌}
 use Rattle.std.specs.Option.{option_map, option_and_then, option_to_list}

@@ -38,7 +38,7 @@ pub first_is : {X : Type 0} (xs : List X) (x : X) → slice_get xs 0 ≡ Some x 
 first_is [] x h = cc
 first_is (y ∷ ys) x h = ap (λ v. v ∷ ys) (some_is y x h)
 
--- what holds of each member that is got holds of all
+-- what holds of each member that can be read holds of all
 pub all_got : {X : Type 0} (P : X → Type 0) (xs : List X) → ((i : ℕ) (x : X) → slice_get xs i ≡ Some x → P x) → All P xs
 all_got P xs f = λ k d lt. f k (slice_index_or xs k d) (slice_get-get_or xs k d lt)
 

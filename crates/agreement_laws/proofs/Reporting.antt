@@ -1,4 +1,4 @@
--- What one report changes: the element that it is of has reported, and all others are as they were.
+-- What one report changes: its element has reported, and all others are unchanged.
 use Rattle.std.proofs.Common.{◌≡◌, ◌≢◌, ℕ, zero, suc, ◌+◌, ◌<◌, ◌≤◌, List, [], ◌∷◌, length, Option, Some, None, Bool, true, false, sum_by, arith, refl, sym, ◌∙◌, ap, subst, inl, inr, nat_eq, length-set, get_or}
 use Rattle.std.specs.Prelude.{All, Contains, IfSome, slice_get, slice_index_or, cond}
 use Rattle.std.specs.Map.{values_of}
@@ -33,7 +33,7 @@ use Rattle.agreement_laws.proofs.Handlers.{ItemAgrees}
 pub all_two : {X : Type 0} (P Q R : X → Type 0) → ((x : X) → P x → Q x → R x) → (xs : List X) → All P xs → All Q xs → All R xs
 all_two P Q R f xs a b = λ k d lt. f (slice_index_or xs k d) (a k d lt) (b k d lt)
 
--- a member that is not the first stands in the rest
+-- a member that is not the first is in the rest
 pub later : {X : Type 0} (x : X) (xs : List X) (y : X) → (x ≡ y → ⊥) → Contains (x ∷ xs) y → Contains xs y
 later x xs y ne (zero, lt, is) = absurd (ne is)
 later x xs y ne (suc k, lt, is) = (k, omega (arith, lt), is)

@@ -83,7 +83,7 @@ module _ {X : Type 0} where
       by None h p = cc
       by (Some y) h p = let s : y ≡ x = cc in subst P s p
 
-  -- what holds of each place of a room still does
+  -- what holds of each entry of a room still does
   module _ (P : ℕ × X → Type 0) where
     pub places_changed : (e : ℕ) (x : X) (room : List (ℕ × X)) → All P room → ((k : ℕ) → e ≡ k → P (k, x)) → All P (changed e x room)
     places_changed e x [] all new = all
@@ -110,7 +110,7 @@ module _ {X : Type 0} where
         by true t later = All-tail P p room all
         by false t later = All-cons P p (without e room) (All-head P p room all) later
 
--- each element stands beside its own index
+-- each element is beside its own index
 abbrev pub AreKeyed : {C : Type 0} → List (ℕ × ElementView C) → Type 0
 AreKeyed {C} room = All (λ (place : ℕ × ElementView C). place.1.index ≡ place.0) room
 

@@ -59,7 +59,7 @@ all_zero {X} f (x ∷ xs) all =
     let b = all_zero f xs (All-tail (λ (y : X). f y ≡ 0) x xs all) in
     omega (arith, c, a, b)
 
--- a size that stands in the reports stands in the snapshot
+-- a size that is in the reports is in the snapshot
 pub size_at : (sizes : List (ℕ × ℕ)) (e : ℕ) (size : ℕ × ℕ) → get_or (map Some sizes) e None ≡ Some size → slice_get sizes e ≡ Some size
 size_at [] e size h = cc
 size_at (x ∷ sizes) zero size h = h
@@ -115,7 +115,7 @@ module _ {C A : Type 0} (n : ℕ) (w : WorldView C A) (h : Agrees n w) (one : On
         all_zero (of_queue no_letter (by_index (one_at e))) w.queues
         (λ k d inside. all_zero (of_parcel no_letter (by_index (one_at e))) _ (λ i x below. parcel_zero _ (h.queues k d inside i x below)))
 
-    -- so the element stands in a room
+    -- so the element is in a room
     on_pe : (p : ℕ) × (pe : PeView C) × (slice_get w.pes p ≡ Some pe) × (1 ≤ of_pe no_letter (by_index (one_at e)) pe)
     on_pe =
         let o : sum_by (of_pe no_letter (by_index (one_at e))) w.pes + sum_by (of_queue no_letter (by_index (one_at e))) w.queues ≡ 1 = one e lt in

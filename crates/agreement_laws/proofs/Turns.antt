@@ -1,4 +1,4 @@
--- What a handler makes of the agreement of its element.
+-- What a handler does to the agreement of its element.
 use Rattle.std.proofs.Common.{◌≡◌, ◌≢◌, ℕ, ◌+◌, ◌<◌, ◌≤◌, List, [], ◌∷◌, ◌++◌, Option, Some, None, Bool, true, false, arith, refl, sym, ◌∙◌, ap, subst, inl, inr}
 use Rattle.std.specs.Prelude.{All, nat_eq, ◌&&◌, not, if◌then◌else◌}
 use Rattle.std.specs.Map.{values_of}

@@ -1,7 +1,7 @@
--- How the reports on the board and the marks of the elements agree: who has reported for the round under way, who is
--- still at work in it, and who waits for the place that the last decision gives it. Source: the Charm++ manual on load
--- balancing, where an element that reaches AtSync waits, and is counted once; that it keeps a mark of what it reported to the
--- board is this project's choice.
+-- How the reports on the board and the marks of the elements agree: which elements have reported for the round under way,
+-- which are still at work in it, and which wait for the place that the last decision gives them. Source: the Charm++ manual
+-- on load balancing, where an element that reaches AtSync waits, and is counted once; that it keeps a mark of what it
+-- reported to the board is this project's choice.
 use Rattle.std.specs.Prelude.{◌≡◌, ℕ, ◌+◌, ◌<◌, ◌≤◌, List, length, All, Contains, Bool, true, false, ◌==◌, ◌⊎◌, None, Some, IfSome, IsSome, slice_get}
 use Rattle.std.specs.Map.{values_of}
 use Rattle.chare_index.specs.declared.limits.TheConstants.Limits.{LOAD}
@@ -45,7 +45,7 @@ pub record Owes {C : Type 0} (m : Measured) (me : ℕ) (el : ElementView C) (not
   pub silent : report_of m el.index ≡ None
   pub marked : Contains el.marks (Synced note)
 
--- an element owes its note: it stands in the list of those that the PE still owes the board
+-- an element owes its note: the note is in the list of those that the PE still owes the board
 pub record OwesItsNote {C : Type 0} (m : Measured) (me : ℕ) (notes : List Note) (el : ElementView C) : Type 0 where
   pub note : Note
   pub owes : Owes m me el note
@@ -69,12 +69,12 @@ pub record WaitsForPlace (m : Measured) (e : ℕ) (p : Progress) : Type 0 where
   pub at_round : m.round ≡ p.round + 2
   pub silent : report_of m e ≡ None
 
--- an element that stands on a PE is in one of these four
+-- an element on a PE is in one of these four
 abbrev pub IsInSomeState : {C : Type 0} → Measured → ℕ → List Note → ElementView C → Type 0
 IsInSomeState m me notes el =
     IsAtWork m el.index el.progress ⊎ (OwesItsNote m me notes el ⊎ (HasReported m me el ⊎ WaitsForPlace m el.index el.progress))
 
--- the board and an element that stands on a PE agree
+-- the board and an element on a PE agree
 pub record AgreesWith {C : Type 0} (m : Measured) (me : ℕ) (notes : List Note) (el : ElementView C) : Type 0 where
   pub known : el.index < elements m
   pub fresh : IsFresh el.progress
@@ -90,18 +90,18 @@ abbrev pub index_of : Note → ℕ
 index_of (Sync e round units bytes pe) = e
 index_of (Finish e) = e
 
--- A note is of an element that the board knows, and where it says that an element waits, one of the room owes it.
+-- A note is of an element that the board knows, and where it says that an element waits, an element in the room owes it.
 abbrev pub IsOwed : {C : Type 0} → Measured → ℕ → List (ℕ × ElementView C) → Note → Type 0
 IsOwed {C} m me room note =
     (index_of note < elements m) × (is_finish note ≡ false → (el : ElementView C) × (found el.index room ≡ Some el) × Owes m me el note)
 
--- whether a note is that this element waits
+-- whether a note says that this element waits
 abbrev pub is_wait_of : ℕ → Note → Bool
 is_wait_of e (Sync i round units bytes pe) = i == e
 is_wait_of e (Finish i) = false
 
--- The board and a PE agree: each element of the room stands beside its own index and agrees, each note is
--- owed, no element has two of them, and each element in the hand or in the outbox waits for its place.
+-- The board and a PE agree: each element of the room is beside its own index and agrees, each note is owed, no element has
+-- two of them, and each element in the hand or in the outbox waits for its place.
 pub record AgreesAt {C : Type 0} (m : Measured) (pe : PeView C) : Type 0 where
   pub keyed : All (λ (place : ℕ × ElementView C). place.1.index ≡ place.0) pe.room
   pub room : All (AgreesWith m pe.me pe.notes) (values_of pe.room)
@@ -110,7 +110,7 @@ pub record AgreesAt {C : Type 0} (m : Measured) (pe : PeView C) : Type 0 where
   pub hand : IfSome pe.hand (λ x. AgreesOn m x.parcel)
   pub outbox : All (λ x. AgreesOn m x.parcel) pe.outbox
 
--- What the board has measured is of n elements, and of one that has not reported it has no load.
+-- What the board has measured is of n elements, and it has no load of an element that has not reported.
 pub record IsOpenFor (n : ℕ) (m : Measured) : Type 0 where
   pub counted : elements m ≡ n
   pub paired : length m.reports ≡ n
@@ -130,8 +130,8 @@ pub record Agrees {C A : Type 0} (n : ℕ) (w : WorldView C A) : Type 0 where
 abbrev pub AllTaken : {C A : Type 0} → WorldView C A → Type 0
 AllTaken w = All (λ pe. All (λ note. IsSome (board_after w.board note)) pe.notes) w.pes
 
--- A snapshot has element e of a world as its mark for the round has it: the element stands on the PE that the snapshot
--- has as its place, and its size and its load are those that it reported as it began to wait.
+-- A snapshot has element e of a world as its mark for the round has it: the element is on the PE that the snapshot has as its
+-- place, and its size and its load are those that it reported as it began to wait.
 pub record IsTakenOf {C A : Type 0} (w : WorldView C A) (snapshot : Taken) (e r : ℕ) : Type 0 where
   pub p : ℕ
   pub pe : PeView C
@@ -144,7 +144,7 @@ pub record IsTakenOf {C A : Type 0} (w : WorldView C A) (snapshot : Taken) (e r 
   pub loaded : slice_get snapshot.loads e ≡ Some load
   pub marked : Contains el.marks (Synced (Sync e r load bytes p))
 
--- an event that decides a round keeps a snapshot of it that has each of n elements so
+-- an event that decides a round keeps a snapshot of it that has each of n elements in this way
 abbrev pub DecidesOfMarks : {C A : Type 0} → ℕ → WorldView C A → After C A → Type 0
 DecidesOfMarks {C} {A} n w next =
     (r : ℕ) → Contains next.1 (Decided r)

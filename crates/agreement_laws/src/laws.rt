@@ -14,11 +14,11 @@ use chares::Chare;
 use std::alloc::Allocator;
 
 /// The agreement of every world that a list of events reaches, from an opening on. The function does nothing: its
-/// clauses are the laws, of whatever chares and however many PEs, in any order of events. In each world the board and
-/// the elements agree on who has reported for the round under way, who is at work in it, and who waits for its place;
-/// the board takes every note that a PE owes, so a report is enabled wherever a note is owed; and where a round is
-/// decided, its snapshot has each element on the PE in whose room it stands then, with the load and the size of its mark
-/// for that round.
+/// clauses are the laws. They hold for any chares and any number of PEs, in any order of events. In each world the board
+/// and the elements agree on which elements have reported for the round under way, which are at work in it, and which
+/// wait for their places; the board takes every note that a PE owes, so a report is enabled wherever a note is owed; and
+/// where a round is decided, its snapshot has each element on the PE in whose room it then is, with the load and the
+/// size of its mark for that round.
 pub fn agreement_laws<C: Chare<A>, A: Allocator>()
     ensures agreement { ForEachRun C.step C.pack C.unpack (λ (chares : List C) (last : After C A). Agrees (length chares) last.0) }
     ensures notes { ForEachRun C.step C.pack C.unpack (λ (chares : List C) (last : After C A). AllTaken last.0) }

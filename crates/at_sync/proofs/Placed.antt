@@ -11,7 +11,7 @@ use Rattle.lb_refinement.specs.declared.refined.Refined.{Refined}
 use Rattle.lb_refinement.specs.declared.refined.Refined.TheVariants.{Near, Planned}
 use Rattle.at_sync.specs.Strategies.{IsBest, PlacesAll}
 
--- cuts that divide the loads into blocks and the sizes too are of as many sizes as loads
+-- cuts that divide both the loads and the sizes into blocks: there are as many sizes as loads
 sized : (loads : List ℕ) (sizes : List (ℕ × ℕ)) (pes : ℕ) (cuts : List ℕ) → IsDivision 0 (length loads) pes cuts → AreBlocks sizes cuts → length sizes ≡ length loads
 sized loads sizes pes cuts division blocks =
     let counted : blocks_between cuts ≡ pes = omega (arith, division.counted) in

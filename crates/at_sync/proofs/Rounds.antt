@@ -43,7 +43,7 @@ decided_more n pes strategy r rounds kept all next decided (suc k) =
     let last : IsDecided n pes strategy (suc (length rounds)) kept = subst (λ s. IsDecided n pes strategy s kept) same decided in
     item_more (λ j. IsDecided n pes strategy (suc j)) rounds kept (λ j. all (suc j)) last k
 
--- nobody has reported as a round begins
+-- no element has reported as a round begins
 none_reported : (pes round n : ℕ) → StandBelow pes (opening round n)
 none_reported pes round n = All-replicate (λ report. IfSome report (λ size. size.1 < pes)) n None tt
 
@@ -94,12 +94,12 @@ lent_at items i (Some item) found =
     let inside : i < length items = found.3.0 in
     sym (slice_get_read items (length items) i item.now refl inside found.1)
 
--- what is kept of a round stands as many places from the front as there are rounds before it
+-- what is kept of a round has as many items before it in the list as there are rounds before it
 kept_at : {A : Type 0} (rounds : List (Kept A)) (r k : ℕ) → r ≡ k + 1 → kept_of rounds r ≡ slice_get rounds k
 kept_at rounds zero k next = absurd (omega (arith, next))
 kept_at rounds (suc r) k next = let same : r ≡ k = omega (arith, next) in ap (slice_get rounds) same
 
--- what `get` lends at that place is what is kept of the round
+-- what `get` lends at this index is what is kept of the round
 pub found_in : {A : Type 0} (rounds : List (Kept A)) (r : ℕ) (lent : Option (Bor (Kept A))) → r ≢ 0 → IsItemAt rounds (r - 1) lent → option_copied lent ≡ kept_of rounds r
 found_in rounds r lent later found =
     lent_at rounds (r - 1) lent found ∙ sym (kept_at rounds r (r - 1) (omega arith))

@@ -53,7 +53,7 @@ after_report b i units bytes pe =
 abbrev pub after_finish : {A : Type 0} → BoardState A → ℕ → BoardState A
 after_finish b i = record b { finished = slice_set b.finished i true }
 
--- after the round is decided: what is kept of it stands last, and the next round begins
+-- after the round is decided: what is kept of it comes last in the list, and the next round begins
 abbrev pub after_decision : {A : Type 0} → BoardState A → Kept A → BoardState A
 after_decision b kept =
     record b { database = opening (b.database.round + 1) (elements b.database); rounds = b.rounds ++ kept ∷ [] }
@@ -77,8 +77,8 @@ pub record IsKeptIn {A : Type 0} (b : BoardState A) (r : ℕ) (decision : Refine
   pub kept : kept_of b.rounds r ≡ Some (snapshot, decision)
   pub decided : IsDecided (elements b.database) b.pes b.strategy r (snapshot, decision)
 
--- What holds of every board: there are 1 to 256 PEs, and on these stand all that have reported; of each element it is
--- known whether it has finished; the present round is the one after those that are kept, and what is kept is right.
+-- What holds of every board: there are 1 to 256 PEs, and the elements that have reported are all on these; of each element
+-- it is known whether it has finished; the present round is the one after those that are kept, and what is kept is right.
 pub record IsBoard {A : Type 0} (b : BoardState A) : Type 0 where
   pub some_pe : 0 < b.pes
   pub few_pes : b.pes ≤ PES

@@ -1,4 +1,4 @@
--- When each call of a board is refused, and for what: the first reason of the errors' order.
+-- When each call of a board is refused, and with which error: the first that applies, in the errors' order.
 use Rattle.std.specs.Prelude.{◌≡◌, ℕ, ◌≤◌}
 use Rattle.chare_index.specs.declared.limits.TheConstants.Limits.{ROUND}
 use Rattle.lb_database.specs.Measuring.{Measured, IsComplete, elements}
@@ -17,7 +17,7 @@ database_error_of Incomplete = DbError.Incomplete
 database_error_of OutOfMemory = DbError.OutOfMemory
 database_error_of Worn = DbError.Worn
 
--- only a complete round is decided, and not the last one; and then memory is needed
+-- only a complete round is decided, and not the last one; otherwise only memory may be refused
 abbrev pub RefusesDecision : Measured → BoardError → Type 0
 RefusesDecision m Incomplete = ¬ (IsComplete m)
 RefusesDecision m Worn = IsComplete m × (m.round ≡ ROUND)

@@ -21,7 +21,7 @@ strategy_number (Refine tolerance) = tolerance + 1
 
 -- A decision is best for these loads and sizes: every part of it is right, its division is the chosen one, and its naming
 -- the first of the cheapest. So no division has a lighter heaviest block, no naming of the blocks moves fewer bytes, and
--- the loads and the sizes determine all of it but its prices.
+-- the loads and the sizes determine all of it except its prices.
 pub record IsBest {A : Type 0} (loads : List ℕ) (sizes : List (ℕ × ℕ)) (pes : ℕ) (d : Decision A) : Type 0 where
   pub right : IsRight loads sizes pes d
   pub chosen : IsChosen loads pes d.division
@@ -36,7 +36,7 @@ IsDecidedBy Least loads sizes pes (Near k) = ⊥
 IsDecidedBy (Refine tolerance) loads sizes pes r = IsRefined loads sizes pes tolerance r
 
 -- What decisions have in common, whatever the strategy: the cuts divide all elements into as many blocks as there are PEs,
--- each block runs on a PE of its own, so each element has a place, and prices lie in their range.
+-- each block runs on a PE of its own, so each element has a place, and prices are within their range.
 pub record PlacesAll {A : Type 0} (loads : List ℕ) (sizes : List (ℕ × ℕ)) (pes : ℕ) (r : Refined A) : Type 0 where
   pub blocks : IsDivision 0 (length loads) pes (refined_cuts r)
   pub naming : IsNaming pes (refined_names r)

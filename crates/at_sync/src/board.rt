@@ -1,4 +1,4 @@
-//! The board, after AtSync of Charm++: nobody is decided on until everybody waits.
+//! The board, after AtSync of Charm++: nothing is decided until every element waits.
 
 ghost use Rattle.std.specs.Prelude.{◌≡◌, ℕ, ◌+◌, ◌++◌, ◌∷◌, [], ◌<◌, ◌≤◌, ◌↔◌, IfOk, IfErr, IfSome, IsTrue, None, false, MatchResult, OnOk, OnErr, replicate, slice_get};
 ghost use Rattle.std.specs.Option.{option_copied};
@@ -21,12 +21,12 @@ use std::thread::Threads;
 /// most [`Limits::ELEMENTS`] elements, which run on 1 to [`Limits::PES`] PEs. It takes memory where it is made and
 /// where a round is decided, and nowhere else. A call that is refused leaves it unchanged.
 ///
-/// Contracts see it as the record `BoardState`. Whoever holds a board holds only right decisions: of each round that
-/// was decided, the snapshot is one of all elements, and the decision is what the board's [`Strategy`] decides for it.
+/// Contracts see it as the record `BoardState`. The decisions of every board are right: of each round that was decided, the
+/// snapshot is one of all elements, and the decision is what the board's [`Strategy`] decides for it.
 #[derive(Drop)]
 #[derive_where(Debug)]
 pub struct Board<A: Allocator = Global> {
-    // On how many PEs the elements run.
+    // How many PEs the elements run on.
     pes: u32,
     // How rounds are decided.
     strategy: Strategy,
@@ -36,7 +36,7 @@ pub struct Board<A: Allocator = Global> {
     rounds: Vec<(Snapshot<A>, Refined<A>), A>,
     // Whether each element has finished.
     finished: Vec<bool, A>,
-    // How many elements have not finished, kept so that nobody has to look for one.
+    // How many elements have not finished, so that no search is needed.
     running: usize,
 }
 
@@ -79,8 +79,8 @@ impl<A: Allocator> Board<A> {
         })
     }
 
-    /// Charges `units` to element `i`, and notes in the same step that it waits at its place `pe` for the end of
-    /// `round`, packed into so many bytes.
+    /// Charges `units` to element `i`, and notes in the same step that it waits at its place `pe` for the end of `round`,
+    /// with a packed state of `bytes` bytes.
     ///
     /// # Errors
     ///
@@ -114,8 +114,8 @@ impl<A: Allocator> Board<A> {
         self.database.is_complete()
     }
 
-    /// Decides the present round, in which every element has to have reported: keeps the snapshot of what was
-    /// reported and what the board's strategy decides for it, begins the next round, and returns the round decided.
+    /// Decides the present round, in which every element has to have reported: keeps the snapshot of what was reported and
+    /// what the board's strategy decides for it, begins the next round, and returns the round that was decided.
     ///
     /// # Errors
     ///
@@ -244,7 +244,7 @@ impl<A: Allocator> Board<A> {
         self.strategy
     }
 
-    /// On how many PEs the elements run.
+    /// How many PEs the elements run on.
     pub fn pes(&self) -> u32
         ensures value { result ≡ self.now.pes }
     {
@@ -299,7 +299,7 @@ impl<A: Allocator> Board<A> {
     }
 }
 
-// The list that says of `n` elements that none has finished.
+// A list that says of each of `n` elements that it has not finished.
 fn all_running<A: Allocator>(alloc: A, n: usize) -> Result<Vec<bool, A>, AllocError>
     ensures items { IfOk result (λ finished. finished.items ≡ replicate n false) }
     ensures refused { OnErr result (0 < n) }

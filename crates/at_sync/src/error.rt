@@ -16,7 +16,7 @@ pub enum BoardError {
     /// The report is not for the round that the board is in.
     #[error("the report is for another round")]
     WrongRound = 2,
-    /// The element has reported in this round.
+    /// The element has already reported in this round.
     #[error("the element has reported already")]
     Twice = 3,
     /// The packed size is above 1,048,576 bytes.

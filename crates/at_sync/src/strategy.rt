@@ -18,11 +18,11 @@ use std::thread::Threads;
 /// How each round of a board is decided.
 #[derive(Clone, Copy, Debug)]
 pub enum Strategy {
-    /// As [`plan`](lb_strategy::plan) decides: the greatest load of a PE is the least possible one, and of the namings of
-    /// these blocks one that moves the fewest bytes is taken.
+    /// As [`plan`](lb_strategy::plan) decides: the greatest load of a PE is the least possible, and of the namings of the
+    /// blocks one that moves the fewest bytes is chosen.
     Least,
-    /// As [`refine`](lb_refinement::refine) decides: the greatest load of a PE lies within this tolerance above the least
-    /// possible one, and of the cuts that keep the order of the PEs those that move the fewest bytes are taken.
+    /// As [`refine`](lb_refinement::refine) decides: the greatest load of a PE is within this tolerance above the least
+    /// possible one, and of the cuts that keep the order of the PEs those that move the fewest bytes are chosen.
     Refine(Tolerance),
 }
 

@@ -11,11 +11,11 @@ pub record PlacesView : Type 0 where
   pub cuts : List ℕ
   pub names : List ℕ
 
--- those of no round yet: round 0 stands for the start, and there is no block
+-- the places of no round yet: round 0 stands for the start, and there is no block
 abbrev pub no_places : PlacesView
 no_places = record { round = 0; cuts = []; names = [] }
 
--- those of a round, by the decision that was made for it
+-- the places of a round, by the decision that was made for it
 abbrev pub places_by : {A : Type 0} → ℕ → Refined A → PlacesView
 places_by round decision = record { round = round; cuts = refined_cuts decision; names = refined_names decision }
 

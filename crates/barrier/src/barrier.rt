@@ -12,9 +12,9 @@ use std::sync::{Mutex, MutexGuard, Wait};
 use std::thread::Threads;
 
 /// The board of a run, which threads share. Each call waits for the lock, makes one call of the [`RunBoard`] under
-/// it, and lets go of the lock; [`lock`](Barrier::lock) is for several calls in one. Its answers are those of the
-/// `RunBoard`, on what other threads have made of it until then, so that contracts know only what holds of each board
-/// of this size.
+/// it, and releases the lock; [`lock`](Barrier::lock) is for several calls under one lock. A call returns what the
+/// `RunBoard` returns in the state that other threads have left it in, so that contracts know only what holds of each
+/// board of this size.
 #[derive(Drop)]
 pub struct Barrier<J: BoardSize, A: Allocator = Global> {
     board: Mutex<RunBoard<J, A>>,
@@ -101,7 +101,7 @@ impl<J: BoardSize, A: Allocator> Barrier<J, A> {
         self.lock(rt).all_finished()
     }
 
-    /// The board, once no thread uses it any more. It has its size still, and each decision that it keeps is the best
+    /// The board, once no thread uses it any more. It still has its size, and each decision that it keeps is the best
     /// for what was reported.
     pub fn into_board(self) -> Board<A>
         ensures counted { elements result.database ≡ J.elements }

@@ -3,7 +3,7 @@ ghost use Rattle.at_sync.specs.declared.strategy.Strategy.{Strategy};
 
 use std::marker::Brand;
 
-/// By which strategy the rounds of a run are decided.
+/// The strategy by which the rounds of a run are decided.
 pub trait RunStrategy {
     /// The strategy.
     ghost strategy: { Strategy };
@@ -16,16 +16,16 @@ impl RunStrategy for Brand {
 }
 
 /// How many elements the board of a run has, on how many PEs, and by which strategy it decides. A thread that takes the
-/// lock knows of what lies under it by its type alone, so a type brings these; who makes a [`Barrier`](crate::Barrier)
-/// picks them.
+/// lock knows what is under it only by its type, so a type names these numbers; the code that makes a
+/// [`Barrier`](crate::Barrier) chooses them.
 pub trait BoardSize {
     /// How many elements there are.
     ghost elements: { ℕ };
 
-    /// On how many PEs they run.
+    /// How many PEs they run on.
     ghost pes: { ℕ };
 
-    /// By which strategy rounds are decided.
+    /// The strategy by which rounds are decided.
     ghost strategy: { Strategy };
 }
 

@@ -1,8 +1,8 @@
-//! The board of a run that its threads share, under a lock: the barrier at which every element of a chare array is
-//! waited for.
+//! The board of a run that its threads share, under a lock: the barrier at which the elements of a chare array wait for each
+//! other.
 //!
 //! - [`Barrier`]: the lock with the board under it. Each call takes the lock for itself.
-//! - [`RunBoard`]: what lies under the lock, with the calls of a [`Board`](at_sync::Board).
+//! - [`RunBoard`]: what is under the lock, with the calls of a [`Board`](at_sync::Board).
 //! - [`BoardSize`]: how many elements and PEs that board has, and by which strategy it decides ([`RunStrategy`]), as a type.
 //! - [`RoundPlaces`]: the places of one round, copied under the lock and read without it.
 #![tactic(auto)]

@@ -7,9 +7,9 @@ use lb_refinement::block_around;
 use std::alloc::{AllocError, Allocator, Global};
 use std::marker::{Model, PhantomData};
 
-/// A copy of the places of one round. It is made under the lock, by [`RunBoard::copy_places`](crate::RunBoard), and is
-/// then read without it: the decision of a round never changes. Its room is taken when it is made, so no copy takes
-/// memory. Contracts see it as the record `PlacesView`.
+/// A copy of the places of one round. [`RunBoard::copy_places`](crate::RunBoard) makes it under the lock, and it is then
+/// read without the lock: the decision of a round never changes. Its capacity is reserved when it is made, so no copy
+/// takes memory. Contracts see it as the record `PlacesView`.
 #[derive(Drop)]
 pub struct RoundPlaces<J: BoardSize, A: Allocator = Global> {
     // Which round's places these are, or 0 before the first copy.
@@ -36,7 +36,7 @@ impl<J: BoardSize, A: Allocator> Model for RoundPlaces<J, A> {
 }
 
 impl<J: BoardSize, A: Allocator> RoundPlaces<J, A> {
-    /// Room for the places of a round, and no places yet. The only error is that memory was refused.
+    /// Capacity for the places of a round, and no places yet. The only error is that memory was refused.
     pub fn new(alloc: A, pes: u32) -> Result<Self, AllocError>
     where
         A: Copy,
@@ -53,7 +53,7 @@ impl<J: BoardSize, A: Allocator> RoundPlaces<J, A> {
         })
     }
 
-    /// Which round's places these are: that of the last copy, or 0 before the first.
+    /// The round of these places: that of the last copy, or 0 before the first.
     pub fn round(&self) -> Round
         ensures value { result ≡ self.now.round }
     {
@@ -86,7 +86,7 @@ impl<J: BoardSize, A: Allocator> RoundPlaces<J, A> {
     }
 }
 
-// Makes a list a copy of another, for which it has room.
+// Makes a list a copy of another, for which it has the capacity.
 fn copy_list<A: Allocator>(list: &mut Vec<u32, A>, from: &[u32])
     requires room { length from.now ≤ vec_capacity list.old }
     ensures items { list.new.items ≡ from.now }

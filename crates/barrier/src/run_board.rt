@@ -14,8 +14,8 @@ use std::alloc::{Allocator, Global};
 use std::marker::{Model, PhantomData};
 use std::thread::Threads;
 
-/// The [`Board`] of a run, of the size that the type `J` names. Contracts see it as the record of that board. Its
-/// calls are those of the board, and so are their errors. A call that is refused leaves it unchanged.
+/// The [`Board`] of a run, of the size that the type `J` names. Contracts see it as the record of that board. Its calls
+/// are those of the board, and so are their errors. A call that is refused leaves it unchanged.
 #[derive(Drop)]
 pub struct RunBoard<J: BoardSize, A: Allocator = Global> {
     board: Board<A>,
@@ -35,7 +35,7 @@ impl<J: BoardSize, A: Allocator> Model for RunBoard<J, A> {
 }
 
 impl<J: BoardSize, A: Allocator> RunBoard<J, A> {
-    /// A board of this size, as that of a run.
+    /// Makes a board of this size that of a run.
     pub(crate) fn new(board: Board<A>) -> Self
         requires counted { elements board.database ≡ J.elements }
         requires on_pes { board.pes ≡ J.pes }
@@ -48,8 +48,8 @@ impl<J: BoardSize, A: Allocator> RunBoard<J, A> {
         }
     }
 
-    /// Charges `units` to element `i`, and notes that it waits at its place `pe` for the end of `round`, packed into so
-    /// many bytes, as [`Board::report`] does. The errors are [`Stranger`](BoardError::Stranger),
+    /// Charges `units` to element `i`, and notes that it waits at its place `pe` for the end of `round`, with a packed
+    /// state of `bytes` bytes, as [`Board::report`] does. The errors are [`Stranger`](BoardError::Stranger),
     /// [`WrongRound`](BoardError::WrongRound), [`Twice`](BoardError::Twice) and [`TooLarge`](BoardError::TooLarge), the
     /// first that applies.
     pub fn report(
@@ -69,7 +69,7 @@ impl<J: BoardSize, A: Allocator> RunBoard<J, A> {
         self.board.report(i, round, units, bytes, pe)
     }
 
-    /// On how many PEs the elements run.
+    /// How many PEs the elements run on.
     pub fn pes(&self) -> u32
         ensures value { result ≡ self.now.pes }
         ensures on_pes { result ≡ J.pes }
@@ -128,15 +128,15 @@ impl<J: BoardSize, A: Allocator> RunBoard<J, A> {
         self.board.place_for(round, i)
     }
 
-    /// Copies the places of a round, so that they can be asked for without the board. Returns whether the round is
-    /// decided; where it is not, the copy stays as it was. This takes no memory.
+    /// Copies the places of a round, so that they can be read without the board. Returns whether the round is decided;
+    /// where it is not, the copy is unchanged. This takes no memory.
     pub fn copy_places(&self, round: Round, into: &mut RoundPlaces<J, A>) -> bool
         ensures answer { IsTrue result ↔ IsSome (decision_of self.now round) }
         ensures copied { IsTrue result → IfSome (decision_of self.now round) (λ decision. into.new ≡ places_by round decision) }
         ensures places { IsTrue result → (i : ℕ) → i < J.elements → place_among into.new i ≡ place_in self.now round i }
         ensures same { IsFalse result → into.new ≡ into.old }
     {
-        // Of every board these say that a round which is decided comes before the last.
+        // These say of every board that a round which is decided comes before the last.
         let (_rounds, _len) = (self.board.rounds(), self.board.len());
         let Some(decision) = self.board.decision_for(round) else {
             return false;

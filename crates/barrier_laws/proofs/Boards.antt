@@ -40,7 +40,8 @@ pub record Tells {A : Type 0} (n : ℕ) (b : BoardState A) (trace : List TraceEn
   pub reported : (x : ℕ) → x < n → IsSome (report_of b.database x) → Contains trace (Synced x b.database.round)
   pub barred : AreBarred n trace
 
--- A trace is made longer: where what is added resumes an element for a round, the trace so far says what it has to.
+-- A trace is made longer: where what is added resumes an element for a round, the trace before it says what the barrier
+-- requires.
 pub barred_more : (n : ℕ) (trace added : List TraceEntry) → AreBarred n trace
     → ((e r : ℕ) → 1 ≤ r → Contains added (Resumed e r) → Barred n r trace × (times (is_decided r) added ≡ 0))
     → AreBarred n (trace ++ added)
@@ -85,7 +86,8 @@ place_decided {A} b (suc r) e q numbered h = by (slice_get b.rounds r) refl h
 
 -- ---- what happens to a board
 
--- it is as before, nothing is reported as decided, and what is resumed for a round has a place in its decision
+-- it is as before, no trace entry says that a round was decided, and an element that is resumed for a round has a place
+-- in its decision
 pub record Keeps {A : Type 0} (b b' : BoardState A) (rs : List TraceEntry) : Type 0 where
   pub same : b' ≡ b
   pub undecided : (r : ℕ) → times (is_decided r) rs ≡ 0
@@ -169,7 +171,7 @@ tells_finished {A} n b trace e t =
     let k : Tells n b (trace ++ []) = tells_same n b trace t in
     record { counted = k.counted; reports_counted = k.reports_counted; numbered = k.numbered; never_zero = k.never_zero; decided = k.decided; undecided = k.undecided; synced = k.synced; reported = k.reported; barred = k.barred }
 
--- a note is handed in
+-- the board takes a note
 pub tells_taken : {A : Type 0} (n : ℕ) (b b' : BoardState A) (trace : List TraceEntry) (note : Note) → Tells n b trace → board_after b note ≡ Some b' → Tells n b' (trace ++ note_entries note)
 tells_taken {A} n b b' trace (Sync e round units bytes pe) t h =
     let both = where_some _ (Some (after_report b e units bytes pe)) b' h in

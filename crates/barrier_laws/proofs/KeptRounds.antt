@@ -24,7 +24,7 @@ note_rounds {A} b b' (Finish e) h =
     let both = where_some _ (Some (after_finish b e)) b' h in
     sym (ap (λ (v : BoardState A). v.rounds) (some_same (after_finish b e) b' both.1))
 
--- an item of a list stands at its place in a longer one
+-- an item of a list is at its index in a longer one
 item_stays : {X : Type 0} (xs ys : List X) (k : ℕ) (x : X) → slice_get xs k ≡ Some x → slice_get (xs ++ ys) k ≡ Some x
 item_stays [] ys k x h = cc
 item_stays (y ∷ xs) ys zero x h = h

@@ -1,4 +1,4 @@
--- The snapshot of a decided round has of each element what it did for the round.
+-- The snapshot of a decided round has what each element did for the round.
 use Rattle.std.proofs.Common.{◌≡◌, ℕ, ◌<◌, ◌≤◌, List, length, Some, sym, subst}
 use Rattle.std.specs.Prelude.{Result, Contains, slice_get}
 use Rattle.at_sync.specs.Boards.{Kept, kept_of}

@@ -33,7 +33,7 @@ use Rattle.rts_core.proofs.EachElement.{run_kept, opening_kept}
 use Rattle.barrier_laws.proofs.Tallies.{one, times-cons}
 use Rattle.at_sync.specs.declared.strategy.Strategy.{Strategy}
 
--- each number stands once among numbers one after another
+-- each number is at most once among consecutive numbers
 pub range_past : (a n r : ℕ) → r < a → times (λ s. s == r) (range_with_len a n) ≡ 0
 range_past a zero r lt = refl
 range_past a (suc n) r lt =
@@ -83,7 +83,8 @@ sum_le P f g le (x ∷ xs) all =
     let d = sum_le P f g le xs (All-tail P x xs all) in
     omega (arith, a, b, c, d)
 
--- Where all rounds come in order, an element has been resumed for a round at most as often as it is there.
+-- Where all rounds come in order, an element has been resumed for a round at most as often as the element is
+-- there.
 module _ (e r : ℕ) where
   where_le : (b : Bool) (t : ℕ) → t ≤ 1 → (if b then t else 0) ≤ (if b then 1 else 0)
   where_le true t h = h

@@ -14,7 +14,7 @@ use Rattle.rts_core.proofs.EachElement.{IsKept, ParcelKept, ItemKept, PeKept, Wo
 use Rattle.rts_core.proofs.Rooms.{each_value}
 use Rattle.barrier_laws.specs.Orders.{IsParcelInOrder, HasOrder, AreInOrder}
 
--- an element stands beside its index, and its rounds come in order; so do those of one that is packed
+-- an element is beside its index, and its rounds come in order; and so do those of one that is packed
 abbrev pub Fits : {C : Type 0} → ℕ → ElementView C → Type 0
 Fits e el = (el.index ≡ e) × IsElementInOrder el
 

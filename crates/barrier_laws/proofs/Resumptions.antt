@@ -1,4 +1,5 @@
--- Resumptions are in journals: what the step of a PE reports of them is what the journals of its elements gain.
+-- Resumptions are in journals: the resumptions in the trace entries of a PE's step are those that the journals
+-- of its elements gain.
 use Rattle.std.proofs.Common.{◌≡◌, ℕ, ◌+◌, List, [], ◌∷◌, ◌++◌, Option, Some, None, Bool, true, false, sum_by, append-nil, arith, refl, ap, ◌∙◌}
 use Rattle.std.specs.Prelude.{slice_set, ◌&&◌, ◌==◌, if◌then◌else◌}
 use Rattle.std.proofs.lemmas.Grind.{flat_map-append}
@@ -54,11 +55,11 @@ letter_more e r i l journal =
 
 -- ---- what each step gains
 
--- what a local_view holds weighs
+-- what a local view holds weighs
 abbrev pub of_local : {C A : Type 0} → (Life → ℕ) → LocalView C A → ℕ
 of_local k d = of_pe no_letter k d.pe + sum_by (of_queue no_letter k) d.queues
 
--- a step whose report of resumptions is what journals gain
+-- a step whose resumptions in the trace are what journals gain
 abbrev pub Gains : {C A : Type 0} → LocalView C A → LocalView C A × List TraceEntry → Type 0
 Gains d a = (e r : ℕ) → of_local (resumed_in e r) a.0 ≡ of_local (resumed_in e r) d + times (is_resumed e r) a.1
 
@@ -95,7 +96,7 @@ module _ {C A : Type 0} (step : Step C) (pack : C → List ℕ) (p : ℕ) (d : L
       let c = more e r in
       omega (arith, a, b, c)
 
-  -- the reports of a handler
+  -- the trace entries of a handler
   first_told : (e r : ℕ) (first : TraceEntry) (me k : ℕ) (sends : List (ℕ × List ℕ)) → times (is_resumed e r) (first ∷ posts_of me k sends) ≡ one (is_resumed e r) first
   first_told e r first me k sends =
       let a = times-cons (is_resumed e r) first (posts_of me k sends) in

@@ -22,7 +22,7 @@ use Rattle.barrier_laws.proofs.Ordered.{Fits, PackedFits, Ordered, AllOrdered, k
 use Rattle.barrier_laws.proofs.Resumptions.{resumed_in, Gains, each_gains}
 use Rattle.barrier_laws.proofs.Tallies.{times-append}
 
--- from a world to another the journals gain the resumptions that were reported
+-- from a world to another the journals gain the resumptions of the trace entries
 abbrev pub WorldGains : {C A : Type 0} → WorldView C A → After C A → Type 0
 WorldGains w a = (e r : ℕ) → of_world no_letter (resumed_in e r) a.0 ≡ of_world no_letter (resumed_in e r) w + times (is_resumed e r) a.1
 

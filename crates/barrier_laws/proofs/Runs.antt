@@ -92,7 +92,7 @@ module _ {C A : Type 0} (step : Step C) (pack : C → List ℕ) (unpack : List �
   pub in_order : (pes : ℕ) (chares : List C) (strategy : Strategy) (events : List Event) (last : After C A) → Reaches step pack unpack (opening_world pes chares strategy) events last → AreInOrder last.0
   in_order pes chares strategy events last run = are_in_order last.0 (run_kept step pack Fits PackedFits (kept step pack) unpack (opening_world pes chares strategy) events last (opening_kept step pack Fits PackedFits (kept step pack) A pes chares strategy) run)
 
-  -- and what an event resumes for a round stands in its place
+  -- and an element that an event resumes for a round is at its place
   pub stands : (pes : ℕ) (chares : List C) (strategy : Strategy) (events : List Event) (w : WorldView C A) (trace : List TraceEntry) (event : Event) (next : After C A) (e r : ℕ)
       → 1 ≤ pes → Reaches step pack unpack (opening_world pes chares strategy) events (w, trace) → Happens step pack unpack w event next → Contains next.1 (Resumed e r) → 1 ≤ r → StandsInItsPlace w e r × StandsInItsPlace next.0 e r
   stands pes chares strategy events w trace event next e r some run happens there first =

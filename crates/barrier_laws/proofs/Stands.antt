@@ -1,4 +1,4 @@
--- What the step of a PE makes of the board, and where an element stands that it resumes.
+-- What the step of a PE does to the board, and where an element is that it resumes.
 use Rattle.std.proofs.Common.{◌≡◌, ℕ, zero, suc, ◌≤◌, ◌⊎◌, inl, inr, List, [], ◌∷◌, Some, Bool, true, false, cond, arith, refl, sym, subst}
 use Rattle.std.specs.Prelude.{Contains, slice_get}
 use Rattle.std.specs.Ordering.{nat_cmp, is_eq}
@@ -50,7 +50,7 @@ posted_only me k sends e r h =
 pub same_resumed : (e r x s : ℕ) → Trace.Resumed e r ≡ Trace.Resumed x s → (e ≡ x) × (r ≡ s)
 same_resumed e r x s h = (cc, cc)
 
--- where an element stands, before a step of PE p and after it, that is resumed in it
+-- where an element is, before a step of PE p and after it, that is resumed in it
 pub record Stood {C A : Type 0} (p : ℕ) (d d' : LocalView C A) (e r : ℕ) : Type 0 where
   pub before : ElementView C
   pub stood : found e d.pe.room ≡ Some before
@@ -59,13 +59,13 @@ pub record Stood {C A : Type 0} (p : ℕ) (d d' : LocalView C A) (e r : ℕ) : T
   pub same : d'.board ≡ d.board
   pub place : place_in d.board r e ≡ Some p
 
--- a note is handed in
+-- the board takes a note
 pub record Takes {A : Type 0} (b b' : BoardState A) (rs : List TraceEntry) : Type 0 where
   pub note : Note
   pub taken : board_after b note ≡ Some b'
   pub told : rs ≡ note_entries note
 
--- what the step of PE p comes to for the board and for whom it resumes
+-- what the step of PE p means for the board and for the elements that it resumes
 pub record Turned {C A : Type 0} (p : ℕ) (d : LocalView C A) (a : LocalView C A × List TraceEntry) : Type 0 where
   pub board : Keeps d.board a.0.board a.1 ⊎ Takes d.board a.0.board a.1
   pub stands : (e r : ℕ) → 1 ≤ r → Contains a.1 (Trace.Resumed e r) → Stood p d a.0 e r
@@ -79,7 +79,7 @@ module _ {C A : Type 0} (step : Step C) (pack : C → List ℕ) (p : ℕ) (d : L
         stands = at;
       }
 
-  -- one report, of something else
+  -- one trace entry, of something else
   single : (d' : LocalView C A) (report : TraceEntry) → d'.board ≡ d.board → ((r : ℕ) → is_decided r report ≡ false) → ((e r : ℕ) → report ≡ Trace.Resumed e r → ⊥) → Turned p d (d', report ∷ [])
   single d' report same none other =
       plain (d', report ∷ []) same
@@ -151,7 +151,7 @@ found_mine n w p pe e el agrees at stands =
     let here : AgreesAt w.board.database pe = at_place (AgreesAt w.board.database) w.pes p pe agrees.pes at in
     found_index e el pe.room here.keyed stands
 
--- the same of the world in which that PE stands
+-- the same of the world with that PE
 pub stands_at : {C A : Type 0} (n : ℕ) (w : WorldView C A) (p : ℕ) (pe : PeView C) (d' : LocalView C A) (e r : ℕ)
     → Agrees n w → Agrees n (with_local w p d') → slice_get w.pes p ≡ Some pe → Stood p (local_view w pe) d' e r → StandsInItsPlace w e r × StandsInItsPlace (with_local w p d') e r
 stands_at {C} {A} n w p pe d' e r agrees later at s = (

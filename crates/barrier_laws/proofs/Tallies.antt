@@ -1,4 +1,4 @@
--- How often reports of a kind stand in a trace, and what the trace before a report is, where the trace is made longer.
+-- How often entries of a kind are in a trace, and what the trace before an entry is, where the trace is made longer.
 use Rattle.std.proofs.Common.{◌≡◌, ℕ, zero, suc, ◌+◌, ◌<◌, ◌≤◌, ◌⊎◌, inl, inr, List, [], ◌∷◌, ◌++◌, length, get_or, Bool, true, false, arith, refl, ap, ◌∙◌}
 use Rattle.std.specs.Prelude.{Contains, if◌then◌else◌}
 use Rattle.std.proofs.lemmas.List.Sums.{sum_by-cons, sum_by-append}
@@ -23,7 +23,7 @@ module _ {X : Type 0} (test : X → Bool) where
   pub one_fails : (x : X) → test x ≡ false → one x ≡ 0
   one_fails x t = rw t refl
 
-  -- one that stands there is counted
+  -- an entry that is there is counted
   pub times_there : (xs : List X) (x : X) → test x ≡ true → Contains xs x → 1 ≤ times test xs
   times_there xs x t (k, lt, is) = at xs k lt is
     where
@@ -38,7 +38,7 @@ module _ {X : Type 0} (test : X → Bool) where
           let b = times-cons y ys in
           omega (arith, a, b)
 
--- no report of a post is counted
+-- no entry of a post is counted
 pub times_posts : (test : TraceEntry → Bool) → ((id : ℕ × ℕ) (to : ℕ) → test (Posted id to) ≡ false) → (me k : ℕ) (sends : List (ℕ × List ℕ)) → times test (posts_of me k sends) ≡ 0
 times_posts test none me k [] = refl
 times_posts test none me k (send ∷ sends) =
@@ -55,7 +55,7 @@ module _ {X : Type 0} where
   pub no_member : (x : X) → Contains [] x → ⊥
   no_member x (k, lt, is) = omega (arith, lt)
 
-  -- a member stands where the list is split at it
+  -- a member is where the list is split at it
   pub split_there : (before after : List X) (x : X) → Contains (before ++ x ∷ after) x
   split_there [] after x = (0, omega arith, refl)
   split_there (y ∷ before) after x = let k = split_there before after x in let lt = k.1 in (suc k.0, omega (arith, lt), k.2)

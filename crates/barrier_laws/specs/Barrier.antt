@@ -13,12 +13,12 @@ use Rattle.rts_core.specs.Accounts.{times}
 use Rattle.rts_core.specs.Events.{After}
 use Rattle.rts_core.specs.Worlds.{WorldView}
 
--- whether a report is that this round was decided
+-- whether a trace entry says that this round was decided
 abbrev pub is_decided : ℕ → TraceEntry → Bool
 is_decided r (Decided s) = s == r
 is_decided r x = false
 
--- whether it is that this element was resumed for this round
+-- whether it says that this element was resumed for this round
 abbrev pub is_resumed : ℕ → ℕ → TraceEntry → Bool
 is_resumed e r (Resumed x s) = (x == e) && (s == r)
 is_resumed e r x = false
@@ -32,7 +32,7 @@ pub record IsBarrier (n : ℕ) (trace : List TraceEntry) : Type 0 where
   pub once_decided : (r : ℕ) → times (is_decided r) trace ≤ 1
   pub resumed_once : (e r : ℕ) → times (is_resumed e r) trace ≤ 1
 
--- element e stands in the room of PE p, which is its place in the decision of round r; what is found at e has this index
+-- element e is in the room of PE p, which is its place in the decision of round r; what is found at e has this index
 pub record StandsInItsPlace {C A : Type 0} (w : WorldView C A) (e r : ℕ) : Type 0 where
   pub p : ℕ
   pub pe : PeView C
@@ -42,11 +42,11 @@ pub record StandsInItsPlace {C A : Type 0} (w : WorldView C A) (e r : ℕ) : Typ
   pub mine : el.index ≡ e
   pub place : place_in w.board r e ≡ Some p
 
--- an event that resumes an element for a round, of which the first is 1, does so where that stands in its place, and it
--- stands there after it
+-- an event that resumes an element for a round, of which the first is 1, does so where the element is at its place, and
+-- it is there after the event
 abbrev pub ResumesInPlace : {C A : Type 0} → WorldView C A → After C A → Type 0
 ResumesInPlace w next = (e r : ℕ) → Contains next.1 (Resumed e r) → 1 ≤ r → StandsInItsPlace w e r × StandsInItsPlace next.0 e r
 
--- what is kept of a round, its snapshot and its decision, stays as it is
+-- what is kept of a round, its snapshot and its decision, does not change
 abbrev pub KeepsRounds : {C A : Type 0} → WorldView C A → After C A → Type 0
 KeepsRounds {C} {A} w next = (r : ℕ) (kept : Kept A) → kept_of w.board.rounds r ≡ Some kept → kept_of next.0.board.rounds r ≡ Some kept

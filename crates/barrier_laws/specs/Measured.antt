@@ -11,8 +11,8 @@ use Rattle.rts_core.specs.Events.{After}
 use Rattle.rts_core.specs.Histories.{AreHistories}
 use Rattle.rts_core.specs.Worlds.{WorldView}
 
--- The snapshot of round r measures element e of a world: it has the element on the PE in whose room it stands, and its
--- load and its size are those of the entries of its journal for this round, from the chare on that its array opened with.
+-- The snapshot of round r measures element e of a world: it has the element on the PE in whose room it is, and its load and
+-- its size are those of the entries of its journal for this round, from the chare on that its array opened with.
 pub record Measures {C A : Type 0} (step : Step C) (pack : C → List ℕ) (opened : List C) (w : WorldView C A) (snapshot : Taken) (e r : ℕ) : Type 0 where
   pub taken : IsTakenOf w snapshot e r
   pub chare : C

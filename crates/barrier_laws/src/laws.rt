@@ -17,15 +17,15 @@ ghost use Rattle.rts_core.specs.Worlds.{WorldView, opening_world};
 use chares::Chare;
 use std::alloc::Allocator;
 
-/// The barrier of every list of events. The function does nothing: its clauses are the laws, of whatever chares and
-/// however many PEs, in any order of events, with those that are not enabled among them. In the trace, before an
+/// The barrier of every list of events. The function does nothing: its clauses are the laws. They hold for any chares
+/// and any number of PEs, in any order of events, also with events that are not enabled. In the trace, before an
 /// element is resumed for a round, every element has reported in it, and it was decided exactly once; no round is
 /// decided twice; and no element is started, or resumed for a round, twice. Where an event resumes an element for a
-/// round, that very element stands, before the event and after it, in the room of its place in the decision of that
-/// round. What is kept of a round, its snapshot and its decision, no event changes. The rounds of each element come in
-/// order, wherever it is. And where an event decides a round, in a world whose elements are what their journals say, as
-/// those of every `World` are, the snapshot has each element on the PE in whose room it stands, with the load and the
-/// size of what it did for that round.
+/// round, that very element is, before the event and after it, in the room of its place in the decision of that round.
+/// No event changes what is kept of a round, its snapshot and its decision. The rounds of each element come in order,
+/// wherever it is. And where an event decides a round, in a world whose elements are what their journals say, as those
+/// of every `World` are, the snapshot has each element on the PE in whose room it is, with the load and the size of
+/// what it did for that round.
 pub fn barrier_law<C: Chare<A>, A: Allocator>()
     ensures barrier { ForEachRun C.step C.pack C.unpack (λ (chares : List C) (last : After C A). IsBarrier (length chares) last.1) }
     ensures stands { ForEachStep C.step C.pack C.unpack (λ (chares : List C) (w : WorldView C A) (next : After C A). ResumesInPlace w next) }

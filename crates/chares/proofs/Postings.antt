@@ -1,4 +1,4 @@
--- What is taken back of a refused handler.
+-- What is taken back when a handler is refused.
 use Rattle.std.proofs.Common.{◌≡◌, ℕ, List, [], ◌∷◌, ◌++◌, length, take, Bool, true, false, append_assoc, ap, ◌∙◌}
 use Rattle.std.proofs.Math.Seq.{take-append_seam, take-length}
 use Rattle.chares.specs.Posting.{Posting, letters_of, posted, posts_of, traced, with_entry}
@@ -12,7 +12,7 @@ pub rewound_trace : (b : Bool) (rs more posts : List TraceEntry) → take (lengt
 rewound_trace true rs more posts = rw append_assoc (take-append_seam rs (more ++ posts))
 rewound_trace false rs more posts = take-length rs
 
--- a handler that was refused leaves no more than was there before it, and before its report
+-- a handler that was refused leaves what was there before it and before its trace entry
 pub all_rewound : {P : Type 0} (now s t r : Posting P) (rep : TraceEntry) (out : List (ℕ × List ℕ)) (k w d : ℕ) → s ≡ with_entry now rep → t ≡ posted s out → k ≡ now.count → w ≡ length now.outbox → d ≡ length now.trace
     → r ≡ record t { count = k; outbox = take w t.outbox; trace = take d t.trace }
     → r ≡ now

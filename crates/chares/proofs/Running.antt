@@ -30,7 +30,7 @@ module _ {T E : Type 0} where
   whatever (Ok x) P h = tt
   whatever (Err e) P h = h
 
-  -- what is owed for an answer, or for a refusal, where it is known which of them came
+  -- what is owed for an answer, or for a refusal, where it is known which of the two it was
   pub where_refused : (r : Result T E) (P : Type 0) → true ≡ is_err r → OnErr r P → P
   where_refused (Ok x) P b h = cc
   where_refused (Err e) P b h = h
@@ -43,7 +43,7 @@ pub memory : {T : Type 0} (R : SendError → Type 0) (r : Result T SendError) �
 memory R (Ok x) h = tt
 memory R (Err e) h = λ k. absurd (k h)
 
--- the parts of an element that stay as they were
+-- the parts of an element that do not change
 pub same_parts : {C : Type 0} (el now : ElementView C) (chare : C) (journal : List Done) (marks : List Mark) → chare ≡ el.chare → journal ≡ el.journal → marks ≡ el.marks → el ≡ now
     → record el { chare = chare; journal = journal; marks = marks } ≡ now
 same_parts el now chare journal marks c j m e =
@@ -52,7 +52,7 @@ same_parts el now chare journal marks c j m e =
     ∙ ap (λ v. record el { marks = v }) m
     ∙ e
 
--- a handler's answer, and what it comes to
+-- a handler's answer, and what it means for the element
 pub record Ran {C : Type 0} (step : Step C) (pack : C → List ℕ) (el : ElementView C) (n pe : ℕ) (done : Done) (entry : Entry (List ℕ)) (chare : C) (effect : Effect) (work : Progress) (end : Ending) (note : Option Note) : Type 0 where
   pub input_is : entry ≡ input_of done
   pub state_is : chare ≡ (step el.chare el.index n entry).state

@@ -11,8 +11,8 @@ use Rattle.chares.specs.Letters.{Done, input_of}
 use Rattle.chares.specs.Progressing.{entered, charged, ending, ended, note_at, resumed_mark, synced_mark}
 use Rattle.chares.specs.Steps.{Outcome, Step}
 
--- an element in a room: its chare, the journal of the letters and resumptions that it has handled, in order, how
--- far it has come, and its marks of the rounds that it has seen
+-- an element on a PE: its chare, the journal of the letters and resumptions that it has handled, in order, how far it
+-- has come, and its marks of the rounds that it has seen
 pub record ElementView (C : Type 0) : Type 0 where
   pub index : ℕ
   pub chare : C
@@ -40,7 +40,7 @@ module _ {C : Type 0} (step : Step C) (pack : C → List ℕ) where
   abbrev pub worked : ElementView C → ℕ → Done → Progress
   worked el n done = charged (entered el.progress done) (outcome_of el n done).effect.units
 
-  -- what the effect of its handler comes to
+  -- what the effect of its handler means
   abbrev pub ending_of : ElementView C → ℕ → Done → Ending
   ending_of el n done = ending (worked el n done) (outcome_of el n done).effect
 
@@ -68,8 +68,8 @@ module _ {C : Type 0} (step : Step C) (pack : C → List ℕ) where
   lived el n [] = el
   lived el n (x ∷ xs) = lived (ran el n x.1 x.0) n xs
 
-  -- the element is the chare that its array opened with, after the entries of its journal, each on some PE: its
-  -- chare is the step folded over the journal, and all else follows from the same journal, but for the PEs in its marks
+  -- the element is the chare that its array opened with, after the entries of its journal, each on some PE: its chare is
+  -- the step folded over the journal, and everything else follows from the same journal, except the PEs in its marks
   pub record IsHistory (opened : List C) (el : ElementView C) : Type 0 where
     pub opening : C
     pub opens : slice_get opened el.index ≡ Some opening
@@ -98,7 +98,7 @@ pub record PackedView : Type 0 where
 abbrev pub packed : {C : Type 0} → (C → List ℕ) → ElementView C → PackedView
 packed pack el = record { index = el.index; bytes = pack el.chare; journal = el.journal; progress = el.progress; marks = el.marks }
 
--- the element that has this chare again
+-- the element of this pack, with this chare
 abbrev pub unpacked : {C : Type 0} → PackedView → C → ElementView C
 unpacked p chare = record { index = p.index; chare = chare; journal = p.journal; progress = p.progress; marks = p.marks }
 

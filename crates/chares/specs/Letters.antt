@@ -3,15 +3,15 @@ use Rattle.std.specs.Prelude.{ℕ, ◌+◌, min, List}
 use Rattle.chares.specs.declared.entry.Entry.{Entry}
 use Rattle.chares.specs.declared.entry.Entry.TheVariants.{Letter, Resumption}
 
--- a letter: its number, made of the PE that posted it and how many that one had posted before, the element that it
--- is for, its body, and how often it was forwarded
+-- a letter: its number, made of the PE that posted it and of how many letters that PE had posted before, the
+-- element that it is for, its body, and how often it was forwarded
 pub record LetterView : Type 0 where
   pub id : ℕ × ℕ
   pub to : ℕ
   pub body : List ℕ
   pub hops : ℕ
 
--- the letter with one more hop, which are counted up to the greatest number of 32 bits
+-- the letter with one more hop; hops are counted up to the greatest number of 32 bits
 abbrev pub hopped : LetterView → LetterView
 hopped l = record { id = l.id; to = l.to; body = l.body; hops = min 4294967295 (l.hops + 1) }
 

@@ -14,8 +14,8 @@ use Rattle.chares.specs.Letters.{LetterView}
 abbrev pub Out : Type 0 → Type 0
 Out P = Addressed (Carried LetterView P)
 
--- a PE as a handler on it sees it: its number, how many elements there are, how many letters it has posted, its
--- outbox, whether a place of that is to stay free, and where a trace is kept the entries of the event so far
+-- a PE as a handler on it sees it: its number, how many elements there are, how many letters it has posted, its outbox,
+-- whether a place of that is kept free, and where a trace is kept the entries of the event so far
 pub record Posting (P : Type 0) : Type 0 where
   pub me : ℕ
   pub n : ℕ
@@ -73,7 +73,7 @@ pub record IsPost {P : Type 0} (p : Posting P) (to : ℕ) (body : List ℕ) : Ty
   pub short : length body ≤ BODY_BYTES
   pub numbered : p.count < LETTERS
 
--- any other is refused for the first of these that it is not
+-- any other is refused with the first of these reasons that applies
 abbrev pub RefusesPut : {P : Type 0} → Posting P → ℕ → List ℕ → SendError → Type 0
 RefusesPut p to body Stranger = p.n ≤ to
 RefusesPut p to body TooLong = (to < p.n) × (BODY_BYTES < length body)

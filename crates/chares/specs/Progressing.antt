@@ -1,4 +1,4 @@
--- How far an element has come, and what each entry of its journal makes of that.
+-- How far an element has come, and how each entry of its journal changes that.
 use Rattle.std.specs.Prelude.{ℕ, ◌+◌, min, List, [], ◌∷◌, Option, None, Some, Bool, true, false, not, ◌&&◌, if◌then◌else◌}
 use Rattle.chare_index.specs.declared.limits.TheConstants.Limits.{LOAD}
 use Rattle.chares.specs.declared.chare.Effect.{Effect}
@@ -25,7 +25,7 @@ entered p (Resumption round) = begun p round
 abbrev pub charged : Progress → ℕ → Progress
 charged p units = record { round = p.round; started = p.started; synced = p.synced; finished = p.finished; load = min (p.load + units) LOAD }
 
--- what the effect of a handler comes to: an element finishes once, and waits once for each round, unless it has finished
+-- what the effect of a handler means: an element finishes once, and waits once for each round, unless it has finished
 abbrev pub ending : Progress → Effect → Ending
 ending p e =
     if e.finished
@@ -38,7 +38,7 @@ ended p Runs = p
 ended p Syncs = record { round = p.round; started = p.started; synced = true; finished = p.finished; load = 0 }
 ended p Finishes = record { round = p.round; started = p.started; synced = p.synced; finished = true; load = p.load }
 
--- the note that is owed for an element with a state of so many bytes on a PE
+-- the note that is owed for an element with a state of this length on a PE
 abbrev pub note_at : Progress → ℕ → ℕ → ℕ → Ending → Option Note
 note_at p index bytes pe Runs = None
 note_at p index bytes pe Syncs = Some (Sync index (p.round + 1) p.load bytes pe)
@@ -49,12 +49,12 @@ abbrev pub resumed_mark : {L : Type 0} → ℕ → Entry L → List Mark
 resumed_mark pe (Letter l) = []
 resumed_mark pe (Resumption round) = Resumed round pe ∷ []
 
--- whether a note is that an element has finished
+-- whether a note says that an element has finished
 abbrev pub is_finish : Note → Bool
 is_finish (Sync index round units bytes pe) = false
 is_finish (Finish index) = true
 
--- the mark of a note that an element waits
+-- the mark of a note that says that an element waits
 abbrev pub synced_mark : Option Note → List Mark
 synced_mark None = []
 synced_mark (Some note) = if is_finish note then [] else Synced note ∷ []

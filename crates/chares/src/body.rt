@@ -6,14 +6,14 @@ use std::marker::Model;
 /// How many bytes a body keeps in itself.
 const SHORT: usize = 15;
 
-/// What a letter says, a list of bytes. Up to 15 of them lie in the letter itself, since most letters are short, and a
-/// letter that needs no memory of its own is posted, kept and dropped for less. More lie on the heap.
+/// What a letter says, a list of bytes. Up to 15 bytes are kept in the letter itself: most letters are short, and a
+/// letter that needs no memory of its own is cheaper to post, keep and drop. A longer body is on the heap.
 #[derive(Drop)]
 pub(crate) struct Body<A: Allocator = Global> {
     bytes: Bytes<A>,
 }
 
-// Where the bytes lie. A vector of its own would make each letter longer, so it is boxed.
+// Where the bytes are. A vector in place of the box would make each letter larger.
 #[derive(Drop)]
 enum Bytes<A: Allocator> {
     Short([u8; SHORT], u8),

@@ -14,6 +14,6 @@ pub enum Carried<L, E> {
 pub struct Addressed<P> {
     /// What is carried.
     pub parcel: P,
-    /// The PE that it goes to, once its element was looked for.
+    /// The PE that it goes to, once its element has been looked up.
     pub address: Option<Pe>,
 }

@@ -21,7 +21,7 @@ pub struct Here<'a, G: Gate> {
     pub me: Index,
     /// How many elements the array has.
     pub n: u32,
-    /// What handlers may pass by.
+    /// The gate, which handlers may pass.
     pub gate: &'a G,
 }
 
@@ -36,10 +36,10 @@ pub struct Effect {
     pub finished: bool,
 }
 
-/// An object of the chare array. It is written as one step: what a handler makes of the state, the index of the
-/// element, the number of elements and what it is given. A handler that returns an error leaves its state unchanged,
-/// and what it put before is taken back by its PE. A handler may also pass over a refused send and return Ok, where
-/// its step has no such send.
+/// An object of the chare array. Its contract is one step: the result of a handler, from the state, the index of the
+/// element, the number of elements and what the handler is given. A handler that returns an error leaves its state
+/// unchanged, and its PE takes back what it had posted. A handler may also pass over a refused send and return Ok,
+/// where its step has no such send.
 pub trait Chare<A: Allocator>: Pup<A> + Drop {
     /// The step: from the state, the index of the element, the number of elements, and what it is given.
     ghost step: { Self → ℕ → ℕ → Entry (List ℕ) → Outcome Self };
@@ -87,7 +87,8 @@ pub trait Chare<A: Allocator>: Pup<A> + Drop {
 }
 
 /// Names an opening of a run: the chares that it begins with, in order of their index, and the number of its PEs.
-/// What a type promises of a whole run, such as what an element has done since the opening, it promises of this one.
+/// What a type promises of a whole run, such as what an element has done since the opening, it promises of the
+/// opening that is named.
 pub trait Openings<C> {
     /// The chares.
     ghost opened: { List C };

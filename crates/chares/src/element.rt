@@ -1,4 +1,4 @@
-//! An element that stands on a PE.
+//! An element on a PE.
 
 ghost use Rattle.std.specs.Prelude.{◌≡◌, ◌≢◌, ℕ, List, ◌+◌, ◌∷◌, ◌++◌, [], ◌<◌, ◌≤◌, length, false, true, IfOk, IfErr, OnOk, OnErr, Some, None, slice_get, vec_len, vec_capacity};
 ghost use Rattle.chare_index.specs.declared.limits.TheConstants.Limits.{ROUND};
@@ -21,9 +21,8 @@ use chare_index::{Gate, Index, Limits, Pe, Round};
 use std::alloc::{Allocator, Global};
 use std::marker::Model;
 
-/// A chare with what it has done. Contracts see it as the record `ElementView`. That it is what its journal says, the
-/// chare that its array opened with after each entry in turn, holds of each element that stands on a PE: the type of
-/// the PE says so, and names the array.
+/// A chare with what it has done. Contracts see it as the record `ElementView`. Each element on a PE is what its journal says:
+/// the chare that its array opened with, after each entry in turn. The type of the PE says so, and names the array.
 #[derive(Drop)]
 pub struct Element<C: Chare<A>, A: Allocator = Global> {
     index: Index,
@@ -75,7 +74,7 @@ impl<C: Chare<A>, A: Allocator> Element<C, A> {
         &self.chare
     }
 
-    /// Its chare, by value. The rest of it is given up.
+    /// Its chare, by value. The rest of the element is dropped.
     pub fn into_chare(self) -> C
         ensures value { result ≡ self.chare }
     {
@@ -106,7 +105,7 @@ impl<C: Chare<A>, A: Allocator> Element<C, A> {
 }
 
 impl<C: Chare<A>, A: Allocator> Element<C, A> {
-    /// All but its chare, which is given up.
+    /// All but its chare, which is dropped.
     pub(crate) fn into_parts(self) -> (Index, Vec<Entry<Letter<A>>, A>, Progress, Vec<Mark, A>)
         ensures index { result.0 ≡ self.index }
         ensures journal { result.1.items ≡ self.journal }
@@ -155,8 +154,8 @@ pub struct Unread<A: Allocator = Global> {
 }
 
 impl<C: Chare<A>, A: Allocator> Element<C, A> {
-    /// Executes a letter, on this PE, enters it in the trace, and returns the note that is owed for it. On a refusal the letter
-    /// comes back, the element is unchanged, and what the handler posted before it was refused is taken back.
+    /// Executes a letter on this PE, enters it in the trace, and returns the note that is owed for it. On a refusal the letter is
+    /// given back, the element is unchanged, and what the handler had posted is taken back.
     pub fn execute<G: Gate, P: Drop>(
         &mut self,
         gate: &G,
@@ -210,8 +209,8 @@ impl<C: Chare<A>, A: Allocator> Element<C, A> {
         Ok(note)
     }
 
-    /// Goes on after this round, or starts where it is 0, on this PE, enters it in the trace, and returns the note that is owed for
-    /// it. On a refusal the element is unchanged, and what the handler posted before it was refused is taken back.
+    /// Goes on after this round, or starts where the round is 0, on this PE, enters it in the trace, and returns the note that is
+    /// owed for it. On a refusal the element is unchanged, and what the handler had posted is taken back.
     pub fn resume<G: Gate, P: Drop>(
         &mut self,
         gate: &G,

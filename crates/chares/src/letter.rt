@@ -9,8 +9,8 @@ use std::marker::Model;
 /// The number of a letter: the PE that posted it, and how many letters that PE had posted before.
 pub type LetterId = (Pe, u32);
 
-/// A letter to an element. Only [`Sends::put`](crate::Sends::put) makes one, and there is no second copy of it.
-/// Contracts see it as the record `LetterView`.
+/// A letter to an element. Only [`Sends::put`](crate::Sends::put) makes one, and it cannot be copied. Contracts
+/// see it as the record `LetterView`.
 #[derive(Drop)]
 pub struct Letter<A: Allocator = Global> {
     id: LetterId,
@@ -54,7 +54,7 @@ impl<A: Allocator> Letter<A> {
         self.to
     }
 
-    /// What it says.
+    /// Its body: what it says.
     pub fn body(&self) -> &[u8]
         ensures value { result.now ≡ self.now.body }
     {

@@ -1,13 +1,15 @@
-//! Chares: the objects of a chare array, the letters that they send each other, and an element, which stands on
-//! a PE or is packed on its way to another.
+//! Chares: the objects of a chare array, the letters that they send each other, and an element, which is on a PE
+//! or packed on its way to another.
 //!
 //! - [`Chare`], with [`Here`], [`Effect`] and [`Openings`]: what a program writes, and what its handlers return.
 //! - [`Sends`], with [`SendError`]: how a handler posts letters.
 //! - [`Letter`], with [`LetterId`]: what is posted.
 //! - [`Element`], with [`Progress`] and [`Entry`]: a chare with what it has done.
-//! - [`Packed`]: an element on its way; [`PackedElement`]: one that is what its journal says.
+//! - [`Packed`]: an element on its way; [`PackedElement`]: one whose bytes are the pack of what its journal
+//!   says.
 //! - [`Carried`] and [`Addressed`]: what goes from PE to PE, and where.
-//! - [`Note`], with [`StateBytes`], and [`Mark`]: what an element tells the board, and what it keeps of that.
+//! - [`Note`], with [`StateBytes`], and [`Mark`]: what an element reports to the board, and what it keeps of
+//!   that.
 //! - [`TraceEntry`]: what an event adds to the trace of a run.
 #![tactic(auto)]
 

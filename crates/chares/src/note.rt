@@ -15,7 +15,7 @@ pub enum Note {
 }
 
 impl Note {
-    /// Whether it is that the element has finished.
+    /// Whether this note says that the element has finished.
     pub fn is_finish(&self) -> bool
         ensures value { result ≡ is_finish self.now }
     {
@@ -26,7 +26,7 @@ impl Note {
 /// What an element keeps of the rounds that it has seen.
 #[derive(Clone, Copy, Debug, PartialEq, Eq)]
 pub enum Mark {
-    /// It reached AtSync, and owed this note.
+    /// It reached AtSync, and its PE owed this note.
     Synced(Note),
     /// It was resumed after this round, on this PE.
     Resumed(Round, Pe),

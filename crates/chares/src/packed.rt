@@ -15,7 +15,7 @@ use pup_pack::PupError;
 use std::alloc::{AllocError, Allocator, Global};
 use std::marker::{Model, PhantomData};
 
-// What moves.
+// The parts of an element on its way.
 #[derive(Drop)]
 struct Luggage<A: Allocator> {
     index: Index,
@@ -25,8 +25,9 @@ struct Luggage<A: Allocator> {
     marks: Vec<Mark, A>,
 }
 
-/// An element on its way, with its state packed. It is as small as a pointer, since queues move it. Contracts see it
-/// as the record `PackedView`. That its bytes are the pack of what its journal says, its type does not say: that of [`PackedElement`] does.
+/// An element on its way, with its state packed. It is as small as a pointer, since queues move it. Contracts see it as the
+/// record `PackedView`. Its type does not say that its bytes are the pack of what its journal says: the type [`PackedElement`]
+/// does.
 #[derive(Drop)]
 pub struct Packed<A: Allocator = Global> {
     luggage: Box<Luggage<A>, A>,
@@ -86,8 +87,8 @@ impl<A: Allocator> Packed<A> {
         self.luggage.marks.as_slice()
     }
 
-    /// Its chare again, where it packs what its journal says, of the array that `H` names. Its bytes unpack then, so the
-    /// only refusal is out of memory.
+    /// Unpacks its chare, where its bytes are the pack of what its journal says, of the array that `H` names. Such bytes
+    /// unpack, so the only refusal is out of memory.
     pub fn unpack<C: Chare<A>, H: Openings<C>>(&self, alloc: A) -> Result<C, AllocError>
         requires consistent { IsPackedHistory C.step C.fits C.pack H.opened self.now }
         ensures history { IfOk result (λ chare. IsHistory C.step C.pack H.opened (unpacked self.now chare)) }
@@ -101,7 +102,7 @@ impl<A: Allocator> Packed<A> {
         }
     }
 
-    /// The element at rest again, with the chare that its bytes unpacked to.
+    /// The element with the chare that its bytes unpacked to.
     pub fn open<C: Chare<A>>(self, chare: C) -> Element<C, A>
         ensures value { result ≡ unpacked self chare }
     {
@@ -117,8 +118,8 @@ impl<A: Allocator> Packed<A> {
     }
 }
 
-/// An element on its way that packs what its journal says, of the array that `H` names: what queues carry. Contracts
-/// see it as the record `PackedView`.
+/// An element on its way whose bytes are the pack of what its journal says, of the array that `H` names: what queues carry.
+/// Contracts see it as the record `PackedView`.
 #[derive(Drop)]
 pub struct PackedElement<C: Chare<A>, H: Openings<C>, A: Allocator = Global> {
     packed: Packed<A>,
@@ -137,7 +138,7 @@ impl<C: Chare<A>, H: Openings<C>, A: Allocator> Model for PackedElement<C, H, A>
 }
 
 impl<C: Chare<A>, H: Openings<C>, A: Allocator> PackedElement<C, H, A> {
-    /// What a PE has packed, where it packs what its journal says.
+    /// Takes what a PE has packed, where its bytes are the pack of what its journal says.
     pub fn new(packed: Packed<A>) -> Self
         requires consistent { IsPackedHistory C.step C.fits C.pack H.opened packed }
         ensures value { result ≡ packed }
@@ -202,7 +203,7 @@ impl<C: Chare<A>, H: Openings<C>, A: Allocator> PackedElement<C, H, A> {
     }
 }
 
-/// All the memory that an element needs to leave, with its state packed. Contracts see it as the pack.
+/// The memory that an element needs to leave, with its state packed in it. Contracts see it as the pack.
 #[derive(Drop)]
 pub struct Packing<A: Allocator = Global> {
     luggage: Box<Luggage<A>, A>,
@@ -224,7 +225,7 @@ impl<A: Allocator> Packing<A> {
         ensures pack { IfOk result (λ packing. packing ≡ C.pack element.now.chare) }
         ensures value { C.fits element.now.chare }
     {
-        // For the clause `fits` alone: a chare that has a packed length is a value of its type.
+        // Needed for the clause `fits` alone: a chare that has a packed length is a value of its type.
         let _len = element.chare().packed_len();
         let mut bytes = Vec::new(alloc);
         if element.chare().pack_into(&mut bytes).is_err() {
@@ -245,7 +246,7 @@ impl<A: Allocator> Packing<A> {
 }
 
 impl<A: Allocator> Packing<A> {
-    /// The element leaves. Its chare is given up, since the pack stands for it.
+    /// The element leaves. Its chare is dropped, since the pack has its state.
     pub fn close<C: Chare<A>>(self, element: Element<C, A>) -> Packed<A>
         requires pack { self ≡ C.pack element.chare }
         ensures value { result ≡ packed C.pack element }

@@ -1,4 +1,4 @@
-//! How far an element has come, and what the effect of a handler makes of that.
+//! How far an element has come, and how the effect of a handler changes that.
 
 ghost use Rattle.std.specs.Prelude.{◌≡◌, ◌<◌, false};
 ghost use Rattle.chare_index.specs.declared.limits.TheConstants.Limits.{ROUND};
@@ -23,7 +23,7 @@ pub struct Progress {
     pub load: Units,
 }
 
-/// What the effect of a handler comes to.
+/// What the effect of a handler means for its element.
 #[derive(Clone, Copy, Debug, PartialEq, Eq)]
 pub enum Ending {
     /// The element goes on.
@@ -35,7 +35,7 @@ pub enum Ending {
 }
 
 impl Progress {
-    /// Of an element that has not started.
+    /// The progress of an element that has not started.
     pub fn opening() -> Self
         ensures value { result ≡ record { round = 0; started = false; synced = false; finished = false; load = 0 } }
     {
@@ -48,7 +48,7 @@ impl Progress {
         }
     }
 
-    /// As a resumption after this round begins.
+    /// The progress as a resumption after this round begins.
     pub fn resumed(&self, round: Round) -> Self
         ensures value { result ≡ begun self.now round }
     {
@@ -61,7 +61,7 @@ impl Progress {
         }
     }
 
-    /// With the units of one more handler, which are counted up to the limit of a load.
+    /// The progress with the units of one more handler added, up to the limit of a load.
     pub fn charged(&self, units: Units) -> Self
         ensures value { result ≡ charged self.now units }
     {
@@ -71,7 +71,7 @@ impl Progress {
         }
     }
 
-    /// What this effect of a handler comes to here.
+    /// What this effect of a handler means for an element with this progress.
     pub fn ending(&self, effect: Effect) -> Ending
         ensures value { result ≡ ending self.now effect }
     {
@@ -88,7 +88,7 @@ impl Progress {
         Ending::Runs
     }
 
-    /// After an effect that comes to this.
+    /// The progress after an effect with this meaning.
     pub fn ended(&self, ending: Ending) -> Self
         ensures value { result ≡ ended self.now ending }
     {

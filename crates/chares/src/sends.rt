@@ -1,4 +1,4 @@
-//! What a handler posts by.
+//! What a handler posts letters with.
 
 ghost use Rattle.std.specs.Prelude.{◌≡◌, ℕ, ◌+◌, ◌∷◌, ◌++◌, [], ◌<◌, ◌≤◌, length, take, true, false, IfOk, IfErr, OnOk, OnErr, MatchResult, vec_len, vec_capacity, if◌then◌else◌};
 ghost use Rattle.chare_index.specs.declared.limits.TheConstants.Limits.{LETTERS};
@@ -53,15 +53,15 @@ impl<T: Drop> From<AllocFailed<T>> for SendError {
 /// What waits in an outbox: a letter, or an element that `P` stands for, perhaps with the PE that it goes to.
 pub type Out<P, A = Global> = Addressed<Carried<Letter<A>, P>>;
 
-/// The outbox of a PE, lent to a handler that runs there, which may post letters and no more. `P` is what else may
-/// wait in it. Contracts see it as the record `Posting`.
+/// The outbox of a PE, lent to a handler that runs there, which may only post letters. `P` is what else may wait in it.
+/// Contracts see it as the record `Posting`.
 #[derive(Drop)]
 pub struct Sends<P, A: Allocator = Global> {
     me: Pe,
     n: u32,
     count: u64,
     outbox: VecDeque<Out<P, A>, A>,
-    // Whether one place of the outbox stays free, for a parcel that may come back.
+    // Whether one place of the outbox is kept free, for a parcel that may come back.
     spare: bool,
     // Whether a trace is kept.
     tracing: bool,
@@ -145,7 +145,7 @@ impl<P: Drop, A: Allocator> Sends<P, A> {
         self.trace.len()
     }
 
-    /// Takes back what was posted and entered in the trace since.
+    /// Takes back everything posted and entered in the trace since these counts were read.
     pub(crate) fn rewind(&mut self, count: u64, waiting: usize, logged: usize)
         requires fewer { count ≤ self.old.count }
         ensures ok { self.new ≡ record self.old { count = count; outbox = take waiting self.old.outbox; trace = take logged self.old.trace } }
@@ -171,8 +171,8 @@ impl<P: Drop, A: Allocator> Sends<P, A> {
 
     /// The outbox of a PE that has posted `count` letters, with the trace of the event so far.
     ///
-    /// It is public for the crate of the PEs alone, which lends its outbox to a handler: the language has no items that one
-    /// other crate may use. A chare is handed a `Sends` and cannot make one for a PE that runs; who calls this elsewhere
+    /// It is public only for the crate of the PEs, which lends its outbox to a handler: the language has no items that a
+    /// single other crate may use. A chare is handed a `Sends` and cannot make one for a PE that runs; a caller elsewhere
     /// gets an outbox of its own, whose letters reach no PE.
     pub fn lend(
         alloc: A,

@@ -21,7 +21,7 @@ impl Model for StateBytes {
 }
 
 impl StateBytes {
-    /// A length of so many bytes, or `None` where no state is so long.
+    /// A length of this number of bytes, or `None` where no state may be that long.
     pub fn new(bytes: u32) -> Option<Self>
         ensures made { SomeIff result (bytes ≤ Limits.STATE_BYTES) bytes }
     {

@@ -10,7 +10,7 @@ pub enum TraceEntry {
     Executed(LetterId, Index),
     /// This element was resumed after this round, or started where the round is 0.
     Resumed(Index, Round),
-    /// A letter came before its element and waits on the shelf.
+    /// A letter arrived before its element and waits on the shelf.
     Shelved(LetterId),
     /// A letter was sent on.
     Forwarded(LetterId),

@@ -2,9 +2,9 @@
 //! round decided, what each chare added up, and where every letter is. With `--seed S`, `--seeds N` or `--replay LIST` it runs them on
 //! one thread, in an order of events that can be repeated; `--events LIST` writes that order. `--trace FILE` writes what happened.
 //!
-//! - `program_words::on_words`: the words of the command line, and the status. `run_command_line::asked`: what the words ask for;
-//!   `Asked::task`: how the chares are run, if the options go together; `program_words::refused`: the status where the words ask
-//!   for no run.
+//! - `program_words::on_words`: the arguments of the command line, and the status. `run_command_line::asked`: what the arguments
+//!   ask for; `Asked::task`: how the chares are run, if the options go together; `program_words::refused`: the status where the
+//!   arguments ask for no run.
 //! - `workload_run::drive_file`: the run of a workload, from a file to its text; `write_asked`: the dumps of its rounds, and
 //!   the status.
 //! - `one_thread`: the runs on one thread, by the crate `schedule_run`. `traces`: the trace of a run, by `run_trace`.
@@ -34,7 +34,7 @@ use std::thread::Threads;
 use std::time::Clock;
 use workload_run::{Driven, DumpFiles, DumpFormat, NotWritten, drive_file, write_asked};
 
-/// After how many idle turns in a row a worker gives up.
+/// The number of idle turns in a row after which a worker gives up.
 const TURNS: u64 = 1_000_000_000;
 
 /// What to do about a file with a fault.
@@ -70,7 +70,7 @@ fn done<R: Threads + Wait + Sync + Files + Clock + Print + Eprint + AllocGlobal,
     }
 }
 
-// Runs the workload over threads, with whoever looks on, and returns the status.
+// Runs the workload over threads, with its progress line and its recorder, and returns the status.
 fn ran<R: Threads + Wait + Sync + Files + Clock + Print + Eprint + AllocGlobal, E: Write>(
     rt: &R,
     asked: &Asked<'_>,
@@ -133,7 +133,7 @@ pub(crate) fn dumped<R: Files + Eprint + AllocGlobal, W: Write>(
     status
 }
 
-// Writes the name of a dump that was not written, and the system's reason, or else what was wrong.
+// Writes the name of a dump that was not written, and the system's reason, or otherwise what was wrong.
 fn tell_dump<R: Eprint>(rt: &R, prefix: &str, dump: NotWritten) {
     let _ = match dump.reason {
         Some(reason) => eprintln!(rt; "charm_run: {prefix}.{}: {reason}", dump.round),
@@ -148,7 +148,7 @@ struct SystemFiles<'a, R>(&'a R);
 impl<R: Files> DumpFiles for SystemFiles<'_, R> {
     type File = R::File;
 
-    // what a system asks for is not known
+    // the names that a system is asked for are not known
     ghost names = { λ _. None };
 
     fn create(&mut self, name: &str) -> io::Result<R::File> {

@@ -100,7 +100,7 @@ fn refuse_list<R: AllocGlobal, E: Write, W: Write>(
     status
 }
 
-// The workload of the file that is asked for; or else what is wrong with it is written, and this is the status.
+// Returns the workload of the file that is asked for; or otherwise writes what is wrong with it, and returns the status.
 fn opened<R: Files + AllocGlobal, E: Write, W: Write>(
     rt: &R,
     asked: &Asked<'_>,
@@ -155,8 +155,8 @@ fn kept_trace<R: Files + Eprint + AllocGlobal, W: Write>(
     }
 }
 
-// Writes the list of events to the file that is asked for, and returns whether that was done, or was not asked for. The writer is
-// told where it was not done, and the standard error gets the system's reason.
+// Writes the list of events to the file that is asked for, and returns whether that was done, or was not asked for. Where it was
+// not done, the writer gets a line, and the standard error gets the system's reason.
 fn kept_events<R: Files + Eprint + AllocGlobal, W: Write>(
     rt: &R,
     asked: &Asked<'_>,

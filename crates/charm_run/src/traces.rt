@@ -14,7 +14,7 @@ use std::time::Clock;
 use streams::write_out;
 use workload_run::Onlooker;
 
-/// Who looks on at a run over threads: the progress line, and the recorder of a trace.
+/// The watches of a run over threads: the progress line, and the recorder of a trace.
 #[derive(Drop)]
 pub(crate) struct Onlookers<'a, R> {
     pub(crate) progress: Progress<'a, R>,

@@ -1,4 +1,4 @@
--- An element reaches AtSync for a round with one entry at most, so what it did for a round is one.
+-- An element reaches AtSync for a round with one entry at most, so its work for a round is determined.
 use Rattle.std.proofs.Common.{◌≡◌, ℕ, ◌+◌, ◌-◌, ◌<◌, min, List, [], ◌∷◌, ◌++◌, length, map, drop, Some, inl, inr, length-drop, arith, sym, ◌∙◌, ap, subst}
 use Rattle.std.specs.Prelude.{slice_get}
 use Rattle.std.proofs.lemmas.Bool.{cases_lt}
@@ -25,7 +25,7 @@ module _ {C : Type 0} (step : Step C) (pack : C → List ℕ) (n e : ℕ) (chare
   abbrev Ends : ℕ → ℕ → Type 0
   Ends k round = Reached step pack n e chare journal k round
 
-  -- the rounds for which an element that has come so far reached AtSync in its first k entries: each is below the one
+  -- the rounds for which an element with this progress reached AtSync in its first k entries: each is below the one
   -- that it works for, and none comes twice
   pub record Past (p : Progress) (k : ℕ) : Type 0 where
     pub passed : (j : ℕ) → j < k → (r : ℕ) → Ends j r → r < due p

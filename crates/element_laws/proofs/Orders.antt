@@ -112,7 +112,7 @@ begins_to_wait p e h = by e.finished p.finished p.synced e.at_sync h
     by false d true true h = cc
     by false d true false h = cc
 
--- what the effect comes to
+-- what the effect means
 pub going_ended : (journal : List Done) (p : Progress) (marks : List Mark) (index bytes pe : ℕ) (e : Ending) → IsGoing journal p marks → (e ≡ Syncs → p.synced ≡ false) → IsGoing journal (ended p e) (marks ++ synced_mark (note_at p index bytes pe e))
 going_ended journal p marks index bytes pe Runs h k = record { started = h.started; stops = ap (map stop_of) (append-nil marks) ∙ h.stops; resumed = h.resumed }
 going_ended journal p marks index bytes pe Finishes h k = record { started = h.started; stops = ap (map stop_of) (append-nil marks) ∙ h.stops; resumed = h.resumed }

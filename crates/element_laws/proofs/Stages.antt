@@ -14,7 +14,7 @@ use Rattle.chares.specs.Steps.{Step}
 use Rattle.chares.proofs.Histories.{lived-push}
 use Rattle.element_laws.specs.Rounds.{stage, units_at, units_between, HasReached}
 
--- a list up to an entry, that entry, and what is left behind it
+-- a list up to an entry, that entry, and what is left after it
 cut : {X : Type 0} (xs : List X) (k : ℕ) (x : X) (rest : List X) → drop k xs ≡ x ∷ rest
     → (slice_get xs k ≡ Some x) × (drop (suc k) xs ≡ rest) × (take (suc k) xs ≡ take k xs ++ x ∷ [])
 cut [] zero x rest h = absurd (cc)

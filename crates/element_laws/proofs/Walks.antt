@@ -32,7 +32,7 @@ due_waits : (p : Progress) → p.synced ≡ true → due p ≡ p.round + 2
 due_waits p h = rw h refl
 
 module _ {C : Type 0} (step : Step C) (pack : C → List ℕ) (n e : ℕ) (chare : C) (journal : List Done) where
-  -- what an element that has come so far has done in its first k entries for the round that it works for
+  -- what an element with this progress has done in its first k entries for the round that it works for
   pub record Works (p : Progress) (k : ℕ) : Type 0 where
     pub first : ℕ
     pub within : first ≤ k

@@ -31,7 +31,7 @@ abbrev pub stops_until : ℕ → List Stop
 stops_until zero = Resumes 0 ∷ []
 stops_until (suc round) = stops_until round ++ AtSync (suc round) ∷ Resumes (suc round) ∷ []
 
--- the stops of an element that has come so far
+-- the stops of an element with this progress
 abbrev pub stops_by : Progress → List Stop
 stops_by p = if p.started then stops_until p.round ++ (if p.synced then AtSync (p.round + 1) ∷ [] else []) else []
 
@@ -50,11 +50,11 @@ pub record IsInOrder (journal : List Done) (p : Progress) (marks : List Mark) : 
   pub stops : map stop_of marks ≡ stops_by p
   pub resumed : resumptions journal ≡ (if p.started then range_with_len 0 (p.round + 1) else [])
 
--- so for an element that stands on a PE
+-- so for an element on a PE
 abbrev pub IsElementInOrder : {C : Type 0} → ElementView C → Type 0
 IsElementInOrder el = IsInOrder el.journal el.progress el.marks
 
--- what an element that has come so far may handle next: a letter once it has started; its start, if it has not; and the
+-- what an element with this progress may handle next: a letter once it has started; its start, if it has not; and the
 -- resumption for the next round, if it waits for that
 abbrev pub MayHandle : Progress → Done → Type 0
 MayHandle p (Letter l) = p.started ≡ true

@@ -15,8 +15,8 @@ use Rattle.chares.specs.Steps.{Step}
 
 -- of element e of n, which opens as this chare and has this journal
 module _ {C : Type 0} (step : Step C) (pack : C → List ℕ) (n e : ℕ) (chare : C) (journal : List Done) where
-  -- the element after the first k entries of its journal; on which PE it handled them shows in its marks alone, so 0
-  -- stands for each
+  -- the element after the first k entries of its journal; the PEs on which it handled them show only in its marks, so
+  -- each is taken as 0
   abbrev pub stage : ℕ → ElementView C
   stage k = lived step pack (opening_element e chare) n (map (λ done. (done, 0)) (take k journal))
 

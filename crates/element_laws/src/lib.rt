@@ -1,6 +1,6 @@
 //! The rounds of one element: in which order it reaches AtSync and is resumed, and what it does for each round.
 //!
-//! - [`rounds_law`]: the load and the size that an element reports for a round are those of what it did for it.
+//! - [`rounds_law`]: the load and the size that an element reports for a round are those of its work for that round.
 #![tactic(auto)]
 
 ghost use Rattle.std.specs.Prelude.{◌≡◌, ℕ, List, length, Some, slice_get};
@@ -15,11 +15,11 @@ ghost use Rattle.element_laws.specs.Rounds.{MarksArePhases, HasOnePhase};
 use chares::Chare;
 use std::alloc::Allocator;
 
-/// The rounds of every element whose rounds come in order. The function does nothing: its clauses are the laws, of
-/// whatever chare. An element that opens is in order, and stays so over each entry that it may handle. Where the marks
-/// of an element say that it reached AtSync for a round, they say it of this element; the load is the units of what it
-/// handled since it reached AtSync for the round before, or since it opened, up to then; and the size is the packed
-/// length of its chare at that time. What an element did for a round has one load and one size.
+/// The rounds of every element whose rounds come in order. The function does nothing: its clauses are the laws, which hold
+/// for any chare. An element that opens is in order, and stays so with each entry that it may handle. Where the marks of an
+/// element say that it reached AtSync for a round, they name this element; the load is the units of what it has handled since
+/// it reached AtSync for the round before, or since it opened, up to this one; and the size is the packed length of its chare
+/// at that time. What an element did for a round has one load and one size.
 pub fn rounds_law<C: Chare<A>, A: Allocator>()
     ensures opening { (e : ℕ) (chare : C) → IsElementInOrder (opening_element e chare) }
     ensures handled { (el : ElementView C) (n pe : ℕ) (done : Done) → IsElementInOrder el → MayHandle el.progress done → IsElementInOrder (ran C.step C.pack el n pe done) }

@@ -1,4 +1,4 @@
--- What the reader makes of a number, and which number that is.
+-- What the reader does with a number, and which number that is.
 use Rattle.std.proofs.Common.{◌≡◌, ◌≢◌, ℕ, ◌+◌, ◌*◌, ◌-◌, ◌/◌, ◌%◌, ◌^◌, ◌<◌, ◌≤◌, true, false, List, [], ◌∷◌, ◌++◌}
 use Rattle.std.proofs.Common.{length, drop, Option, Some, None, refl, sym, ap, ◌∙◌, inl, inr, arith, append_assoc, add-one}
 use Rattle.std.specs.Prelude.{◌==◌, slice_get}
@@ -83,7 +83,7 @@ same_parts {X} {Y} a c b d same =
     let pairs : ◌≡◌ {A = X × Y} (a, b) (c, d) = cc in
     (ap (λ (p : X × Y). p.0) pairs, ap (λ (p : X × Y). p.1) pairs)
 
--- what was read of these bytes is a number of ten digits at most, and the bytes behind it
+-- what was read of these bytes is a number of ten digits at most, and the bytes after it
 pub record IsNumber (bytes : List ℕ) (n : ℕ) (rest : List ℕ) : Type 0 where
   pub spelled : bytes ≡ decimal n ++ rest
   pub small : n < 10 ^ DIGITS

@@ -1,4 +1,4 @@
--- What the reader makes of a line, and which event's line that is.
+-- What the reader does with a line, and which event's line that is.
 use Rattle.std.proofs.Common.{◌≡◌, ℕ, ◌+◌, ◌^◌, ◌<◌, Bool, true, false, List, [], ◌∷◌, ◌++◌, length, take, drop, Option, Some, None, refl, sym, ap, ◌∙◌, inl, inr, arith, append_assoc}
 use Rattle.std.specs.Prelude.{MatchOption, ◌==◌}
 use Rattle.std.specs.Option.{option_and_then}
@@ -41,7 +41,7 @@ pub stripped_as : (word bytes : List ℕ) (result : Option (Bor (List ℕ)))
 stripped_as word bytes None cases = not_stripped word bytes cases
 stripped_as word bytes (Some rest) cases = stripped word bytes cases.0 ∙ ap Some (sym cases.1)
 
--- the rest behind a word
+-- the rest after a word
 behind_word : (word rest : List ℕ) → behind word (word ++ rest) ≡ Some rest
 behind_word [] rest = refl
 behind_word (c ∷ word) rest = rw (eq-eqb c c refl) (behind_word word rest)
@@ -82,7 +82,7 @@ is_name (n ∷ names) bytes name rest read = by (behind (name_text n) bytes) ref
         let same = same_parts n name found rest told in
         is_behind (name_text n) bytes found some ∙ ap (λ m. name_text m ++ found) same.0 ∙ ap (λ t. name_text name ++ t) same.1
 
--- a number behind a blank, where one is wanted
+-- a number after a blank, where one is wanted
 abbrev pub number_text : Bool → ℕ → List ℕ
 number_text false n = []
 number_text true n = blank_number n

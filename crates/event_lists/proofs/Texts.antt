@@ -36,7 +36,7 @@ none_of_past bytes is event tail within spelled =
     let same = one_line event is.event tail is.tail (within_formed event within) is.formed (sym spelled ∙ is.spelled) in
     is.past (subst IsWithin same.0 within)
 
--- where a reader stops: behind good lines there is no other one, or they are as many as may be
+-- where a reader stops: after good lines there is no other one, or they are as many as may be
 pub record Stop (bytes : List ℕ) : Type 0 where
   pub events : List Event
   pub rest : List ℕ
@@ -45,7 +45,7 @@ pub record Stop (bytes : List ℕ) : Type 0 where
   pub few : length events ≤ EVENTS
   pub last : length events < EVENTS → NoLine rest
 
--- It is one place. So many lines came before these.
+-- There is only one such place. `before` lines came before these.
 one_stop : (before : ℕ) (a b : List Event) (r s : List ℕ) → All IsWithin a → All IsWithin b → before + length a ≤ EVENTS → before + length b ≤ EVENTS
     → (before + length a < EVENTS → NoLine r) → (before + length b < EVENTS → NoLine s) → events_text a ++ r ≡ events_text b ++ s → (a ≡ b) × (r ≡ s)
 one_stop before [] [] r s a_within b_within a_few b_few a_last b_last same = (refl, same)
@@ -114,7 +114,7 @@ one_text events a b one other = one.spelled ∙ sym other.spelled
 pub written : (events : List Event) → All IsWithin events → length events ≤ EVENTS → IsText events (events_text events)
 written events within few = record { spelled = refl; within = within; few = few }
 
--- a text has no fault: nothing is behind its lines
+-- a text has no fault: nothing is after its lines
 pub no_fault : (events : List Event) (bytes : List ℕ) (e : EventListError) → IsText events bytes → IsFault bytes e → ⊥
 unfolding text_stop form_stop limit_stop long_stop
 no_fault events bytes (Form n) is fault = omega (arith, fault.more, ap length (same_stop bytes (text_stop events bytes is) (form_stop bytes n fault)).1)
@@ -176,7 +176,7 @@ within_or event =
       | inr past_pe ↦ inr (λ is. past_pe is.0)
     ]
 
--- one line more
+-- one more line
 pub lines_push : (events : List Event) (event : Event) (rest : List ℕ) → events_text (events ++ event ∷ []) ++ rest ≡ events_text events ++ (event_line event ++ rest)
 lines_push events event rest =
     ap (λ t. t ++ rest) (flat_map-append event_line events (event ∷ []) ∙ ap (λ t. events_text events ++ t) (append-nil (event_line event)))
@@ -244,7 +244,7 @@ judged (suc most) bytes events (b ∷ rest) short spelled within few =
 pub text_or_fault : (bytes : List ℕ) → Judged bytes
 text_or_fault bytes = judged (length bytes) bytes [] bytes (omega arith) refl (All-nil IsWithin) (omega arith)
 
--- a text is refused for want of memory alone, and other bytes for that or for their fault
+-- a text is refused only where memory is, and other bytes for that or for their fault
 pub refusal_again : (events : List Event) (bytes : List ℕ) (e : EventListError) → IsRefusal bytes e → IsText events bytes → e ≡ OutOfMemory
 refusal_again events bytes e refused is =
     elim refused [
@@ -259,7 +259,7 @@ refusal_first bytes e f refused fault =
       | inr also ↦ inr (one_fault bytes f e also fault)
     ]
 
--- memory is asked for behind the first line
+-- memory is requested after the first line
 pub needs_memory : (events : List Event) (bytes rest : List ℕ) (event : Event) (tail : List ℕ) → All IsWithin events → bytes ≡ events_text events ++ rest
     → rest ≡ event_line event ++ tail → IsWithin event → NeedsMemory bytes
 needs_memory [] bytes rest event tail within spelled next good = record { event = event; tail = tail; spelled = spelled ∙ next; within = good }
@@ -271,7 +271,7 @@ needs_memory (first ∷ events) bytes rest event tail within spelled next good =
       within = All-head IsWithin first events within;
     }
 
--- one line more is written
+-- one more line is written
 pub written_more : (events : List Event) (i : ℕ) (event : Event) (before old new : List ℕ) → event ≡ get_or events i event → i < length events → IsWithin event
     → old ≡ before ++ events_text (take i events) → new ≡ old ++ event_line event → All IsWithin (take i events)
     → (new ≡ before ++ events_text (take (i + 1) events)) × All IsWithin (take (i + 1) events)

@@ -23,8 +23,8 @@ pub record IsPast (bytes : List ℕ) : Type 0 where
   pub spelled : bytes ≡ event_line event ++ tail
   pub past : IsWithin event → ⊥
 
--- Behind the lines of some events that are in their range there is more, and this is true of these events and of what is
--- behind their lines.
+-- After the lines of some events that are in their range there is more, and this holds of these events and of what is
+-- after their lines.
 pub record IsStopped (bytes : List ℕ) (Why : List Event → List ℕ → Type 0) : Type 0 where
   pub events : List Event
   pub rest : List ℕ
@@ -33,7 +33,7 @@ pub record IsStopped (bytes : List ℕ) (Why : List Event → List ℕ → Type 
   pub more : 0 < length rest
   pub why : Why events rest
 
--- the line behind these events is line n, and a list may have as many
+-- the line after these events is line n, and a list may have as many
 abbrev pub IsNext : ℕ → List Event → Type 0
 IsNext n events = (n ≡ length events + 1) × (n ≤ EVENTS)
 

@@ -1,4 +1,4 @@
--- What the reader makes of a line, step by step. No public clause has these words.
+-- What the reader does with a line, step by step. No public clause uses these definitions.
 use Rattle.std.specs.Prelude.{ℕ, ◌+◌, ◌*◌, ◌-◌, Bool, true, false, ◌==◌, ◌&&◌, ◌||◌, if◌then◌else◌}
 use Rattle.std.specs.Prelude.{List, [], ◌∷◌, codes, Option, None, Some}
 use Rattle.std.specs.Option.{option_and_then}
@@ -44,23 +44,23 @@ event_of Decide p e = Event.Decide
 event_of Depart p e = Event.Depart p e
 event_of Resume p e = Event.Resume p e
 
--- the bytes behind a word that they begin with
+-- the bytes after a word that they begin with
 abbrev pub behind : List ℕ → List ℕ → Option (List ℕ)
 behind [] bytes = Some bytes
 behind (c ∷ word) [] = None
 behind (c ∷ word) (b ∷ bytes) = if b == c then behind word bytes else None
 
--- this name, where there are bytes behind it, or else what another answer is
+-- this name, where the bytes begin with it, and otherwise the other answer
 abbrev pub or_else : Name → Option (List ℕ) → Option (Name × List ℕ) → Option (Name × List ℕ)
 or_else name (Some rest) other = Some (name, rest)
 or_else name None other = other
 
--- the first of these names that the bytes begin with, and what is behind it
+-- the first of these names that the bytes begin with, and what is after it
 abbrev pub first_name : List Name → List ℕ → Option (Name × List ℕ)
 first_name [] bytes = None
 first_name (name ∷ names) bytes = or_else name (behind (name_text name) bytes) (first_name names bytes)
 
--- the name that bytes begin with, and what is behind it
+-- the name that bytes begin with, and what is after it
 abbrev pub name_at : List ℕ → Option (Name × List ℕ)
 name_at bytes = first_name (Start ∷ Look ∷ Flush ∷ Deliver ∷ Act ∷ Report ∷ Decide ∷ Depart ∷ Resume ∷ []) bytes
 
@@ -68,11 +68,11 @@ name_at bytes = first_name (Start ∷ Look ∷ Flush ∷ Deliver ∷ Act ∷ Rep
 abbrev pub is_full : ℕ → ℕ → Bool
 is_full value digits = (digits == DIGITS) || ((digits == 1) && (value == 0))
 
--- a number that has so many digits, and what is behind it
+-- a number that has this number of digits, and what is after it
 abbrev pub whole : ℕ → ℕ → List ℕ → Option (ℕ × List ℕ)
 whole value digits rest = if digits == 0 then None else Some (value, rest)
 
--- the number that goes on behind so many digits of this value
+-- the number that goes on after this number of digits of this value
 unfoldable pub digits_at : ℕ → ℕ → List ℕ → Option (ℕ × List ℕ)
 digits_at value digits [] = whole value digits []
 digits_at value digits (b ∷ bytes) =
@@ -80,28 +80,28 @@ digits_at value digits (b ∷ bytes) =
     then (if is_full value digits then None else digits_at (10 * value + (b - 48)) (digits + 1) bytes)
     else whole value digits (b ∷ bytes)
 
--- the number behind a blank, where one is wanted, and else 0
+-- the number after a blank, where one is wanted, and otherwise 0
 abbrev pub number_at : Bool → List ℕ → Option (ℕ × List ℕ)
 number_at false bytes = Some (0, bytes)
 number_at true bytes = option_and_then (digits_at 0 0) (behind (32 ∷ []) bytes)
 
--- what a line says: its name, the numbers behind it, 0 for each that it does not have, and the bytes behind the line
+-- what a line says: its name, the numbers after it, 0 for each that it does not have, and the bytes after the line
 pub record Line : Type 0 where
   pub name : Name
   pub pe : ℕ
   pub element : ℕ
   pub rest : List ℕ
 
--- the end of a line behind its element
+-- the end of a line after its element
 abbrev pub line_behind_element : Name → ℕ → ℕ × List ℕ → Option Line
 line_behind_element name p e =
     option_and_then (λ rest. Some (record { name = name; pe = p; element = e.0; rest = rest })) (behind (10 ∷ []) e.1)
 
--- the rest of a line behind its PE
+-- the rest of a line after its PE
 abbrev pub line_behind_pe : Name → ℕ × List ℕ → Option Line
 line_behind_pe name p = option_and_then (line_behind_element name p.0) (number_at (has_element name) p.1)
 
--- the rest of a line behind its name
+-- the rest of a line after its name
 abbrev pub line_behind_name : Name × List ℕ → Option Line
 line_behind_name n = option_and_then (line_behind_pe n.0) (number_at (has_pe n.0) n.1)
 

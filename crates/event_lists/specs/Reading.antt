@@ -13,6 +13,6 @@ pub record NeedsMemory (bytes : List ℕ) : Type 0 where
   pub spelled : bytes ≡ event_line event ++ tail
   pub within : IsWithin event
 
--- why bytes are not read: for their fault, or for want of memory
+-- why bytes are not read: their fault, or that memory was refused
 abbrev pub IsRefusal : List ℕ → EventListError → Type 0
 IsRefusal bytes e = ((e ≡ OutOfMemory) × NeedsMemory bytes) ⊎ IsFault bytes e

@@ -8,11 +8,11 @@ use Rattle.rts_core.specs.declared.event.Event.TheVariants.{Start, Look, Flush, 
 use Rattle.rts_core.specs.Events.{pe_of}
 use Rattle.event_lists.specs.declared.form.TheConstants.EventListLimits.{EVENTS}
 
--- a number behind a blank
+-- a number after a blank
 abbrev pub blank_number : ℕ → List ℕ
 blank_number n = 32 ∷ decimal n
 
--- numbers, each behind a blank, and the newline that ends the line
+-- numbers, each after a blank, and the newline that ends the line
 abbrev pub numbers_line : List ℕ → List ℕ
 numbers_line [] = 10 ∷ []
 numbers_line (n ∷ numbers) = blank_number n ++ numbers_line numbers

@@ -6,16 +6,17 @@ use thiserror::Error;
 /// Why a list of events was not read. Lines are numbered from 1, and of several faulty lines the first is reported.
 #[derive(Clone, Copy, Debug, PartialEq, Eq, Error)]
 pub enum EventListError {
-    /// This line is not of one of the nine forms, or is not ended. A number of more than ten digits is of no form.
+    /// This line does not have one of the nine forms, or is not ended. No form has a number of more than ten
+    /// digits.
     #[error("line {0} of the list of events is not of the form of an event")]
     Form(u32),
-    /// This line is of its form, and its PE or its element is out of its range.
+    /// This line has its form, and its PE or its element is out of its range.
     #[error("a number in line {0} of the list of events is out of its range")]
     Limit(u32),
     /// The list has more than 16,777,216 events.
     #[error("the list of events is too long")]
     TooLong,
-    /// No memory was left.
+    /// Memory was refused.
     #[error("out of memory")]
     OutOfMemory,
 }

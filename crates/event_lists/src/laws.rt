@@ -6,7 +6,7 @@ ghost use Rattle.event_lists.specs.Faults.{IsFault};
 ghost use Rattle.event_lists.specs.Text.{IsText, IsWithin, events_text};
 
 /// Laws of the text. The function does nothing: its clauses are the laws. Events that are in their range, and no more than a
-/// list may have, have one text, and bytes are the text of one list of events at most. Bytes have one fault at most, and
+/// list may have, have one text, and bytes are the text of at most one list of events. Bytes have at most one fault, and
 /// they are a text or have a fault, and never both.
 #[tactic(auto, using(crate::proofs::Texts::text_laws))]
 pub fn event_list_laws()

@@ -1,11 +1,11 @@
-//! The text of a list of events, written and read.
+//! Writes and reads the text of a list of events.
 //!
 //! - [`write_events`]: the text of these events.
 //! - [`read_events`]: the events of this text.
 //! - [`EventListError`]: why bytes are no such text, and [`EventListLimits`], how many events a list may have.
 //!
-//! Each event is a line: its name, then the number of its PE and that of its element, where it names them, each behind
-//! one blank. Numbers are decimal, without a leading zero, and have at most ten digits. Each line ends with a newline.
+//! Each event is a line: its name, then the number of its PE and that of its element, where it names them, each after
+//! one blank. Numbers are decimal, without leading zeros, and have at most ten digits. Each line ends with a newline.
 //!
 //! ```text
 //! Start 0 3

@@ -10,11 +10,11 @@ use crate::numbers::number_at;
 use chare_index::{Index, Limits, Pe};
 use rts_core::Event;
 
-/// The event of the line at the front of these bytes, and the bytes behind it. Line `number` is the one that is read.
+/// The event of the line at the front of these bytes, and the bytes after it. `number` is the number of this line.
 ///
 /// # Errors
 ///
-/// [`Form`](EventListError::Form) where the bytes begin with no line of one of the nine forms, and else
+/// [`Form`](EventListError::Form) where the bytes begin with no line of one of the nine forms, and otherwise
 /// [`Limit`](EventListError::Limit) where a number in it is out of its range.
 pub(crate) fn read_line(bytes: &[u8], number: u32) -> Result<(Event, &[u8]), EventListError>
     ensures { MatchResult result
@@ -30,7 +30,7 @@ pub(crate) fn read_line(bytes: &[u8], number: u32) -> Result<(Event, &[u8]), Eve
     }
 }
 
-// What a line says: its name, and the numbers behind it, 0 for each that it does not have.
+// What a line says: its name, and the numbers after it, 0 for each that it does not have.
 #[derive(Clone, Copy, Debug, PartialEq, Eq)]
 struct Line {
     name: Name,
@@ -38,7 +38,7 @@ struct Line {
     element: u64,
 }
 
-// The line at the front of these bytes, and the bytes behind it.
+// The line at the front of these bytes, and the bytes after it.
 fn line_at(bytes: &[u8]) -> Option<(Line, &[u8])>
     ensures { MatchOption result (line_at bytes.now ≡ None)
         (λ found. line_at bytes.now ≡ Some (record { name = found.0.name; pe = found.0.pe; element = found.0.element; rest = found.1.now })) }

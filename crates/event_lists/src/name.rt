@@ -20,7 +20,7 @@ pub(crate) enum Name {
 }
 
 impl Name {
-    /// The name that begins these bytes, and the bytes behind it. No name begins another one.
+    /// The name that begins these bytes, and the bytes after it. No name begins another one.
     pub(crate) fn at(bytes: &[u8]) -> Option<(Name, &[u8])>
         ensures { MatchOption result (name_at bytes.now ≡ None) (λ found. name_at bytes.now ≡ Some (found.0, found.1.now)) }
     {
@@ -88,7 +88,7 @@ impl Name {
     }
 }
 
-// The first of these names that the bytes begin with, and the bytes behind it.
+// The first of these names that the bytes begin with, and the bytes after it.
 fn first_name<'a>(names: &[Name], bytes: &'a [u8]) -> Option<(Name, &'a [u8])>
     ensures { MatchOption result (first_name names.now bytes.now ≡ None) (λ found. first_name names.now bytes.now ≡ Some (found.0, found.1.now)) }
 {
@@ -100,7 +100,7 @@ fn first_name<'a>(names: &[Name], bytes: &'a [u8]) -> Option<(Name, &'a [u8])>
     None
 }
 
-/// The bytes behind this word, where they begin with it.
+/// The bytes after this word, where they begin with it.
 pub(crate) fn behind<'a>(word: &[u8], bytes: &'a [u8]) -> Option<&'a [u8]>
     ensures { MatchOption result (behind word.now bytes.now ≡ None) (λ rest. behind word.now bytes.now ≡ Some rest.now) }
 {

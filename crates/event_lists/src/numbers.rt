@@ -4,8 +4,8 @@ ghost use Rattle.event_lists.specs.Lines.{digits_at, is_full, number_at};
 use crate::form::DIGITS;
 use crate::name::behind;
 
-/// The number behind a blank, where one is `wanted`, and the bytes behind it; else 0 and the bytes as they are. It has at
-/// most ten digits, and no zero before others.
+/// The number after a blank, where one is `wanted`, and the bytes after it; otherwise 0 and the bytes unchanged. The
+/// number has at most ten digits, and no leading zero.
 pub(crate) fn number_at(wanted: bool, bytes: &[u8]) -> Option<(u64, &[u8])>
     ensures { MatchOption result (number_at wanted bytes.now ≡ None) (λ found. number_at wanted bytes.now ≡ Some (found.0, found.1.now)) }
 {
@@ -16,7 +16,7 @@ pub(crate) fn number_at(wanted: bool, bytes: &[u8]) -> Option<(u64, &[u8])>
     digits_at(rest)
 }
 
-// The number at the front of these bytes, and the bytes behind it.
+// The number at the front of these bytes, and the bytes after it.
 fn digits_at(bytes: &[u8]) -> Option<(u64, &[u8])>
     ensures { MatchOption result (digits_at 0 0 bytes.now ≡ None) (λ found. digits_at 0 0 bytes.now ≡ Some (found.0, found.1.now)) }
 {

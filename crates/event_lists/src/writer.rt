@@ -6,8 +6,8 @@ ghost use Rattle.event_lists.specs.Text.{event_line, events_text, numbers_line, 
 use rts_core::Event;
 use std::alloc::{AllocError, Allocator};
 
-/// The text of these events, in order. [`read_events`](crate::read_events) gives the same events for it, where they are no
-/// more than [`EVENTS`](crate::EventListLimits::EVENTS).
+/// The text of these events, in order. [`read_events`](crate::read_events) returns the same events from it, where they are
+/// no more than [`EVENTS`](crate::EventListLimits::EVENTS).
 ///
 /// # Errors
 ///

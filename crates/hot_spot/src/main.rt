@@ -1,8 +1,8 @@
-//! `hot_spot [--elements N] [--pes P] [--rounds R] [--work W] [--static] [--tolerance T] [--trace FILE]` runs a chain of
-//! strips whose work wanders. It prints the loads of each round and the checksum of all cells, and on the standard error how long
-//! the run took.
+//! `hot_spot [--elements N] [--pes P] [--rounds R] [--work W] [--static] [--tolerance T] [--trace FILE]` runs a chain of strips
+//! whose work wanders. It prints the loads of each round and the checksum of all cells, and to the standard error how long the
+//! run took.
 //!
-//! - `program_words::on_words`: the words of the command line, and the status.
+//! - `program_words::on_words`: the arguments of the command line, and the status.
 //! - `hot_spot_run::run_chain_watched`: the run. `hot_spot_run::text_of`: what is printed. `run_trace`: the trace of the run.
 #![tactic(auto)]
 
@@ -98,7 +98,7 @@ fn traced<R: Threads + Wait + Sync + Files + Clock + Print + Eprint + AllocGloba
     Ok(told.1)
 }
 
-// Runs a chain and prints what it left; and the status, if nothing more is written.
+// Runs a chain and prints what it left. Returns the outcome, with the status for the case that nothing fails later.
 fn told<V: Watch + Sync, R: Threads + Wait + Sync + Clock + Print + Eprint + AllocGlobal>(
     rt: &R,
     chain: &Chain<'_>,

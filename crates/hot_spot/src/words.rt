@@ -1,4 +1,4 @@
-//! The words of the command line. clap reads them.
+//! The arguments of the command line. clap reads them.
 
 use crate::help::{ABOUT, HOW_TO};
 use chare_index::Limits;
@@ -7,7 +7,7 @@ use hot_spot_strip::StripLimits;
 use program_words::{flag, new_program, tolerance_in, word};
 use std::alloc::{AllocError, Global};
 
-/// What the words ask for.
+/// What the arguments ask for.
 #[derive(Clone, Copy, Debug, PartialEq, Eq)]
 pub(crate) struct RunOptions<'a> {
     pub(crate) elements: u32,
@@ -19,7 +19,7 @@ pub(crate) struct RunOptions<'a> {
     pub(crate) trace: Option<&'a str>,
 }
 
-/// Reads the words of a command line, the program's name first. The error has the text to print.
+/// Reads the arguments of a command line, the program's name first. The error has the text to print.
 pub(crate) fn read_options<'a>(
     alloc: Global,
     words: &'a [&'a str],
@@ -86,7 +86,7 @@ fn trace<'a>(alloc: Global) -> Arg<'a> {
     )
 }
 
-// What the words ask for.
+// What the arguments ask for.
 fn found<'a>(matches: &ArgMatches<'a>) -> RunOptions<'a> {
     RunOptions {
         elements: matches.get_one::<u32>("elements").unwrap_or(64),

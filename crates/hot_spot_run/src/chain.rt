@@ -33,7 +33,7 @@ pub fn run_chain<R: Threads + Wait + Sync, A: Allocator + Copy + Send + Sync>(
     run_chain_watched(rt, alloc, config, &NoWatch, chain)
 }
 
-/// Runs a chain of strips on PEs, while somebody looks on: see [`rts_run::run_watched`].
+/// Runs a chain of strips on PEs, observed by a watch: see [`rts_run::run_watched`].
 ///
 /// # Errors
 ///

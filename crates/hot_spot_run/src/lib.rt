@@ -1,6 +1,6 @@
-//! Runs a chain of strips over threads, and says what each round was like and what the cells are then.
+//! Runs a chain of strips over threads, and reports the loads of each round and the checksum of all cells.
 //!
-//! - [`run_chain`]: the run of a [`Chain`]; [`run_chain_watched`], while somebody looks on.
+//! - [`run_chain`]: the run of a [`Chain`]; [`run_chain_watched`]: the same, observed by a watch.
 //! - [`text_of`]: a line for each round, and the checksum of all cells; [`checksum`] alone.
 //!
 //! ```

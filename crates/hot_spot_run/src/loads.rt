@@ -21,7 +21,7 @@ impl Spread {
         }
     }
 
-    /// With one more PE.
+    /// The spread with one more PE.
     pub(crate) fn with(self, load: u64) -> Spread {
         Spread {
             greatest: self.greatest.max(load),
@@ -51,7 +51,7 @@ fn measured_on<A: Allocator>(snapshot: &Snapshot<A>, pe: u32) -> u64 {
     load
 }
 
-/// The loads of a round, counted from 0, of a chain that stays where it opened.
+/// The loads of a round, counted from 0, of a chain whose strips stay where they opened.
 pub(crate) fn expected(chain: &Chain<'_>, pes: u32, round: u32) -> Spread {
     let mut spread = Spread::none();
     for pe in 0..pes {

@@ -1,4 +1,4 @@
-//! The printed text of a run. It is made whole before any of it goes out.
+//! The printed text of a run. All of it is made before any of it is printed.
 
 use crate::loads::{Spread, expected, measured};
 use crate::sums::checksum;
@@ -7,12 +7,12 @@ use rts_run::Outcome;
 use run_text::fault_word;
 use std::alloc::{AllocError, Allocator};
 
-/// The text of what the run of a chain on this number of PEs left: for each round `round R greatest G average A moved M`, and then
-/// `checksum S`, or in place of that `fault`, and what ended the run early.
+/// The text of what the run of a chain on this number of PEs left: for each round `round R greatest G average A moved M`, and
+/// then `checksum S`; or in place of the checksum `fault`, and what ended the run early.
 ///
-/// Of a chain that is balanced, the loads are those that were measured in the round, on the PEs where the strips were, and M is the
-/// number of bytes that then moved. Of one that is not balanced nothing is measured, and the loads are those that the profile gives
-/// for it. The average is rounded down.
+/// Of a chain that is balanced, the loads are those that were measured in the round, on the PEs where the strips were, and M is
+/// the number of bytes that then moved. Of one that is not balanced nothing is measured, and the loads are those that the profile
+/// gives for the round. The average is rounded down.
 ///
 /// # Errors
 ///

@@ -1,4 +1,4 @@
--- A strip that begins a round with the values beside it there already.
+-- A strip that begins a round when the values beside it are there already.
 use Rattle.std.proofs.Common.{◌≡◌, ℕ, ◌<◌, [], ◌++◌, true, nat_lt, refl, arith}
 use Rattle.std.proofs.lemmas.Bool.Decides.{nat_tests}
 use Rattle.hot_spot_strip.specs.Chains.{letters_to}

@@ -15,8 +15,8 @@ abbrev pub kept_early : Came → Side → ℕ → Came
 kept_early came Left value = record came { early_left = Filled value }
 kept_early came Right value = record came { early_right = Filled value }
 
--- with one more value, where this number of rounds is computed: it is of the next round, or early and of the one after that; a value
--- of any other round is passed over
+-- with one more value, where this number of rounds is computed: it is of the next round, or early and of the one after that; a
+-- value of any other round is ignored
 abbrev pub kept : Came → ℕ → Shown → Came
 kept came done shown =
     if shown.round == done

@@ -9,7 +9,7 @@ mix x =
     let c = (bit_xor b (b / 2 ^ 27) * 0x94d0_49bb_1331_11eb) % 2 ^ 64 in
     bit_xor c (c / 2 ^ 31)
 
--- this number of rounds of it
+-- any number of rounds of it
 abbrev pub mixed : ℕ → ℕ → ℕ
 mixed x zero = x
 mixed x (suc rounds) = mix (mixed x rounds)

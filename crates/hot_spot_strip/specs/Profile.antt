@@ -1,7 +1,7 @@
 -- The work of a cell, which follows a hot spot that wanders along the chain.
 use Rattle.std.specs.Prelude.{ℕ, ◌+◌, ◌-◌, ◌*◌, ◌/◌, min, max}
 
--- the strip in the middle of the hot spot: in round 0 the first of n, and behind the last round it would be past the last
+-- the strip in the middle of the hot spot: in round 0 the first of n, and after the last round it would be past the last
 abbrev pub middle : ℕ → ℕ → ℕ → ℕ
 middle n round rounds = round * n / rounds
 

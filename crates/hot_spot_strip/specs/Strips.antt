@@ -74,7 +74,7 @@ shown_by s me n = shown_left s me ++ shown_right s me n
 abbrev pub goes_on : StripView → Bool
 goes_on s = nat_lt (s.done + 1) s.rounds
 
--- a strip that is not balanced writes itself an empty letter to go on
+-- a strip that is not balanced posts itself an empty letter to go on
 abbrev pub asks : StripView → ℕ → Option ℕ
 asks s me = if is_static s.mode && goes_on s then Some me else None
 
@@ -91,7 +91,8 @@ after_round s came me n =
       cells = computed (cell_work me n s.done s.rounds s.work) (value_in came.left) s.cells (value_in came.right);
     }
 
--- that is its work, and it is then ready to be balanced; one that is not balanced has finished after the last round
+-- what the handler of a round returns: that work, and that the strip is ready to be balanced; one that is not balanced has
+-- finished after the last round
 abbrev pub effect_of : StripView → ℕ → ℕ → Effect
 effect_of s me n = record { units = units_of s me n; at_sync = not (is_static s.mode); finished = is_static s.mode && not (goes_on s) }
 
@@ -122,7 +123,7 @@ takes s me n (Some shown) =
     let came = kept s.came s.done shown in
     if nat_lt s.done s.begun && are_beside came me n then computes s came me n [] else rests (record s { came = came }) []
 
--- an empty letter is one to itself
+-- an empty letter is one from the strip itself
 abbrev pub on_letter : StripView → ℕ → ℕ → List ℕ → Outcome StripView
 on_letter s me n [] = begins s me n
 on_letter s me n (byte ∷ bytes) = takes s me n (shown_in (byte ∷ bytes))
@@ -131,7 +132,7 @@ abbrev pub strip_step : StripView → ℕ → ℕ → Entry (List ℕ) → Outco
 strip_step s me n (Letter body) = on_letter s me n body
 strip_step s me n (Resumption round) = begins s me n
 
--- it answers an error only where too few letter numbers are left for what it sends
+-- it returns an error only where too few letter numbers are left for what it sends
 abbrev pub StripRefuses : StripView → ℕ → ℕ → ℕ → Entry (List ℕ) → SendError → Type 0
 StripRefuses s me n count entry e = WornBy count (strip_step s me n entry).sends e
 

@@ -34,7 +34,7 @@ impl Came {
         }
     }
 
-    /// With one more value, where `done` rounds are computed. One of any other round than the next two is passed over.
+    /// The values with one more, where `done` rounds are computed. A value of a round other than the next two is ignored.
     pub(crate) fn kept(self, done: u32, shown: Shown) -> Came
         requires few { done ≤ ROUNDS }
         ensures value { result ≡ kept self done shown }
@@ -76,7 +76,7 @@ impl Came {
         is_beside(left_of(me), self.left) && is_beside(right_of(me, n), self.right)
     }
 
-    /// What is left once the next round is computed: what came early is then of the round that is next.
+    /// The values once the next round is computed: those that came early are then of the round that is next.
     pub(crate) fn moved_up(self) -> Came
         ensures value { result ≡ moved_up self }
     {

@@ -5,8 +5,8 @@ ghost use Rattle.hot_spot_strip.specs.Cells.{computed, first_value, last_value, 
 
 use crate::mixing::mixed;
 
-/// Computes each cell from what it was, the cell before it, and the one after it, by this number of rounds of mixing. `before` and
-/// `after` are the values beside the strip.
+/// Computes each cell from its own value, the one before it, and the one after it, by this number of rounds of mixing.
+/// `before` and `after` are the values beside the strip.
 pub fn compute(cells: &mut [u64], before: u64, after: u64, rounds: u64)
     ensures value { cells.new ≡ computed rounds before cells.old after }
 {
@@ -19,7 +19,7 @@ pub fn compute(cells: &mut [u64], before: u64, after: u64, rounds: u64)
     }
 }
 
-/// What a cell is mixed from: the cell, the one before it, and half the one after it, bit by bit.
+/// What a cell is mixed from: the exclusive or of the cell, the one before it, and half the one after it.
 fn stirred(left: u64, cell: u64, right: u64) -> u64
     ensures value { result ≡ stirred left cell right }
 {

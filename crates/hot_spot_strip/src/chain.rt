@@ -18,9 +18,9 @@ pub struct Chain<'a> {
     pub mode: Mode,
     /// How many rounds it has.
     pub rounds: u32,
-    /// How many rounds of mixing a cell in the middle of the hot spot takes more than one far from it.
+    /// How many rounds of mixing more a cell in the middle of the hot spot takes than one far from it.
     pub work: u32,
-    /// How many cells each strip has, from one end to the other.
+    /// How many cells each strip has, in order from one end of the chain to the other.
     pub cells: &'a [u32],
 }
 

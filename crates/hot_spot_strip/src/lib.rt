@@ -1,12 +1,12 @@
 //! A chare whose work wanders: a strip of cells in a chain of strips. In each round a strip takes the values beside it from
-//! its two neighbors, computes its cells, and is then ready to be balanced. A cell costs the more the nearer its strip is to
-//! the hot spot, which goes from one end of the chain to the other as the rounds pass, so no placement is right for long.
+//! its two neighbors, computes its cells, and is then ready to be balanced. A cell costs more the nearer its strip is to the
+//! hot spot, which goes from one end of the chain to the other as the rounds pass, so no placement is right for long.
 //!
 //! - [`Strip`]: the chare. [`Mode`]: whether it is balanced. [`StripLimits`]: how many rounds and cells it may have.
 //! - [`Chain`]: the strips of a chain, as they open.
-//! - [`mix`] and [`mixed`]: the computation, a 64-bit mixing function, and a number of rounds of it.
+//! - [`mix`] and [`mixed`]: the computation: a 64-bit mixing function, and any number of rounds of it.
 //! - [`cell_work`]: the profile, how many rounds of mixing a cell takes.
-//! - [`compute`]: a round of a whole strip, [`first_value`] and [`last_value`]: what its neighbors see of it.
+//! - [`compute`]: a round of a whole strip; [`first_value`] and [`last_value`]: what its neighbors see of it.
 #![tactic(auto)]
 
 mod came;

@@ -4,8 +4,8 @@ ghost use Rattle.std.specs.Prelude.{◌≡◌};
 ghost use Rattle.hot_spot_strip.specs.Mixing.{mix, mixed};
 
 /// A round of mixing: the number that the generator SplitMix64 gives in the state `x` (Steele, Lea and Flood, "Fast
-/// Splittable Pseudorandom Number Generators", OOPSLA 2014). Its steps are those of variant 13 of Stafford's mixers, behind
-/// the golden gamma.
+/// Splittable Pseudorandom Number Generators", OOPSLA 2014). It adds the golden gamma, and its other steps are those of
+/// variant 13 of Stafford's mixers.
 #[tactic(auto, unfolding(crate::specs::Mixing::mix))]
 pub fn mix(x: u64) -> u64
     ensures value { result ≡ mix x }

@@ -4,10 +4,11 @@ ghost use Rattle.std.specs.Prelude.{◌≡◌, ◌+◌, ◌*◌, ◌/◌, ◌<�
 ghost use Rattle.chare_index.specs.declared.limits.TheConstants.Limits.{ELEMENTS};
 ghost use Rattle.hot_spot_strip.specs.Profile.{cell_work, distance, middle};
 
-/// How many rounds of mixing each cell of strip `me`, one of `n`, takes in a round, counted from 0, of `rounds`.
+/// How many rounds of mixing each cell of strip `me` of `n` strips takes in this round of `rounds`, counted from 0.
 ///
-/// It is one round of mixing, and `work` more in the middle of the hot spot. That falls off evenly on both sides, down to none
-/// at an eighth of the chain. The middle is at `round * n / rounds`, so it goes from one end of the chain to the other.
+/// It is one round of mixing, and `work` more in the middle of the hot spot. The extra work falls off evenly on both sides,
+/// down to none at an eighth of the chain. The middle is at `round * n / rounds`, so it goes from one end of the chain to the
+/// other.
 pub fn cell_work(me: u32, n: u32, round: u32, rounds: u32, work: u32) -> u64
     requires member { me < n }
     requires few { n ≤ ELEMENTS }
@@ -30,7 +31,7 @@ fn middle(n: u64, round: u32, rounds: u32) -> u64
     u64::from(round) * n / u64::from(rounds)
 }
 
-// How far two strips are from each other.
+// The distance between two strips.
 fn distance(a: u64, b: u64) -> u64
     ensures value { result ≡ distance a b }
 {

@@ -1,5 +1,5 @@
-//! What a strip shows a neighbor as a round begins: the value at that end of it. The letter with it has 13 bytes: the side on
-//! which the neighbor gets it, the round, and the value.
+//! What a strip shows a neighbor as a round begins: the value at that end of the strip. The letter with it has 13 bytes: the
+//! side on which the neighbor gets it, the round, and the value.
 
 ghost use Rattle.std.specs.Prelude.{◌≡◌, Some};
 ghost use Rattle.hot_spot_strip.specs.Showing.{body_of, shown_in, side_byte, side_of};
@@ -36,14 +36,14 @@ impl Side {
 pub(crate) struct Shown {
     /// The side on which that neighbor is.
     pub(crate) side: Side,
-    /// The round that it is of.
+    /// The round that the value is for.
     pub(crate) round: u32,
     /// The value at its near end, as that round began.
     pub(crate) value: u64,
 }
 
 impl Shown {
-    /// The body of a letter with it, from which it is read again.
+    /// The body of a letter with it, from which it can be read again.
     #[tactic(auto, using(crate::proofs::Shows::shown_again))]
     pub(crate) fn body(self) -> [u8; 13]
         ensures value { result ≡ body_of self }
@@ -68,7 +68,7 @@ impl Shown {
         ]
     }
 
-    /// What a body has, or `None` where its length is another.
+    /// The value in a body, or `None` where the body is not 13 bytes long.
     pub(crate) fn read(body: &[u8]) -> Option<Shown>
         ensures value { result ≡ shown_in body.now }
     {

@@ -27,7 +27,7 @@ impl Slot {
         }
     }
 
-    /// The value, or 0 where none has come: so nothing at an end of the chain is a cell of 0.
+    /// The value, or 0 where none has come: so beyond an end of the chain the value is 0, as of a cell of 0.
     pub fn value(self) -> u64
         ensures value { result ≡ value_in self }
     {

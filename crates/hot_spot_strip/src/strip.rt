@@ -54,12 +54,12 @@ impl<A: Allocator> Model for Strip<A> {
 /// The fields of a strip, as they are packed.
 type Parts<A> = (Mode, (u32, (u32, (u32, (u32, SlotParts<A>)))));
 
-/// Those from the slots on.
+/// The fields from the slots on.
 type SlotParts<A> = (Slot, (Slot, (Slot, (Slot, Items<u64, A>))));
 
 impl<A: Allocator> Strip<A> {
-    /// A strip with these cells that has begun no round of `rounds`, or `None` past a limit. In the middle of the hot spot a cell
-    /// takes `work` more rounds of mixing than far from it.
+    /// A strip with these cells that is to compute `rounds` rounds and has begun none, or `None` past a limit. In the middle of
+    /// the hot spot a cell takes `work` more rounds of mixing than far from it.
     pub fn new(alloc: A, mode: Mode, rounds: u32, work: u32, cells: Items<u64, A>) -> Option<Self>
         ensures value { IfSome result (λ s. s ≡ opening_strip mode rounds work cells) }
         ensures refused { IsNone result ↔ (is_strip (opening_strip mode rounds work cells) ≡ false) }
@@ -105,7 +105,7 @@ impl<A: Allocator> Strip<A> {
     }
 }
 
-// Whether a strip may have this number of rounds, of which it has begun and computed these, and this number of cells.
+// Whether a strip may have this number of rounds, of which it has begun and computed these numbers, and this number of cells.
 fn are_within(rounds: u32, begun: u32, done: u32, cells: usize) -> bool
     ensures value { result ≡ are_within rounds begun done cells }
 {
@@ -264,7 +264,7 @@ impl<A: Allocator + Copy> Strip<A> {
         }
     }
 
-    // The strip that it asks to go on by itself after the next round, if it does.
+    // The strip itself, if it posts itself a letter to go on after the next round.
     fn asks(&self, me: Index) -> Option<Index>
         ensures value { result ≡ asks self.now me }
         ensures itself { IfSome result (λ i. i ≡ me) }
@@ -339,7 +339,7 @@ impl<A: Allocator + Copy> Strip<A> {
     }
 }
 
-// What a handler answers that leaves the strip waiting.
+// What a handler returns that leaves the strip waiting.
 fn waits() -> Effect
     ensures value { result ≡ record { units = 0; at_sync = false; finished = false } }
 {

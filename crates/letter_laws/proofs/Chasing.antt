@@ -17,7 +17,7 @@ use Rattle.letter_laws.proofs.Lags.{strays, Right, IsClose, right_is, right_of, 
 use Rattle.letter_laws.proofs.Traces.{forwards, departures, was_posted, departed_since, forwards_join, posted_join, number_posted, posted_here, posted_later, forwarded_alone}
 
 -- What holds of the letters of each world of a run, with its trace: each lags as it should; while one waits on a PE, its
--- element is not in the room there; and of all letters, of those too that were executed, none was forwarded more often
+-- element is not in the room there; and of all letters, also those that were executed, none was forwarded more often
 -- than its element has departed since its post, nor was any forwarded that was not posted.
 pub record AreChasing {C A : Type 0} (w : WorldView C A) (trace : List TraceEntry) : Type 0 where
   pub lag : world_at (strays w.words trace) no_elements w ≡ 0

@@ -63,7 +63,7 @@ module _ (words : List ℕ) (trace rs : List TraceEntry)
       let b = one id in
       omega (arith, a, b)
 
-  -- a letter of which nothing is reported
+  -- a letter of which no trace entry says anything
   hops_kept : (id : ℕ × ℕ) (e : ℕ) → forwards id rs ≡ 0 → was_posted id e trace ≡ true → forwards id (trace ++ rs) ≤ departed_since id e (trace ++ rs)
   hops_kept id e none p =
       let a = hops id e p in

@@ -1,5 +1,6 @@
--- How far a letter lags behind its element. Where it is bound for a PE which the word does not name, its element has
--- departed once more than it was forwarded; where a look has given it another PE it has one departure to spare already.
+-- How far a letter lags behind its element. Where it is bound for a PE which the location word does not name, its
+-- element has departed once more than it was forwarded; where a look has given it another PE it has one departure to
+-- spare already.
 use Rattle.std.proofs.Common.{◌≡◌, ℕ, ◌+◌, ◌≤◌, List, ◌++◌, Option, Some, Bool, true, false, arith, refl, sym, ◌∙◌, ap, subst, inl, inr}
 use Rattle.std.specs.Prelude.{⊤, ◌⊎◌, slice_get, nat_lt, nat_le, ◌&&◌, ◌||◌, if◌then◌else◌}
 use Rattle.std.proofs.lemmas.Bool.Decides.{nat_tests}
@@ -10,7 +11,8 @@ use Rattle.place_laws.proofs.Sites.{Site, LetterWeight}
 use Rattle.place_laws.proofs.Sites.Site.{Fresh, Bound, Chasing, Waiting, Room}
 use Rattle.letter_laws.proofs.Traces.{forwards, departures, was_posted, departed_since, forwards_join, posted_join, since_join}
 
--- of a letter that was forwarded so often, since whose post its element has departed so often and now has this word
+-- of a letter that was forwarded `hops` times, and whose element has departed `gone` times since its post and has this
+-- location word
 abbrev pub is_close : ℕ → ℕ → Option ℕ → Site → Bool
 is_close hops gone word (Bound a) = nat_lt hops gone || is_pe a word
 is_close hops gone word (Chasing q) = nat_lt hops gone && (nat_lt (hops + 1) gone || is_pe q word)
@@ -117,7 +119,7 @@ closer hops gone more word (Chasing q) le (x, inr y) = (omega (arith, le, x), in
 closer hops gone more word (Waiting p) le h = h
 closer hops gone more word (Room p key) le h = tt
 
--- ---- after more reports
+-- ---- after more trace entries
 
 pub since_more : (id : ℕ × ℕ) (e : ℕ) (trace rs : List TraceEntry) → departed_since id e trace ≤ departed_since id e (trace ++ rs)
 since_more id e trace rs = let a = since_join id e trace rs in omega (arith, a)
@@ -129,7 +131,7 @@ pub hops_same : (id : ℕ × ℕ) (trace rs : List TraceEntry) → forwards id r
 hops_same id trace rs h = let a = forwards_join id trace rs in omega (arith, a, h)
 
 module _ (words words' : List ℕ) (trace rs : List TraceEntry) (s : Site) (id : ℕ × ℕ) (to : ℕ) where
-  -- a letter that is not forwarded, and whose word stays
+  -- a letter that is not forwarded, and whose location word does not change
   pub stays_right : forwards id rs ≡ 0 → slice_get words' to ≡ slice_get words to → strays words trace s id to ≡ 0 → strays words' (trace ++ rs) s id to ≡ 0
   stays_right none same h =
       let r = right_is words trace s id to h in

@@ -23,7 +23,7 @@ use Rattle.rts_core.proofs.Rooms.{each_value}
 use Rattle.letter_laws.proofs.Journals.{all_flat, IsOwnEntry, own_more}
 use Rattle.at_sync.specs.declared.strategy.Strategy.{Strategy}
 
--- an element stands beside its index, and every letter in its journal is to this index; so for one that is packed
+-- an element is beside its index, and every letter in its journal is to this index; and so for one that is packed
 abbrev pub Fits : {C : Type 0} → ℕ → ElementView C → Type 0
 Fits e el = (el.index ≡ e) × IsOwn (e, el.journal)
 
@@ -50,7 +50,7 @@ kept step pack =
       unpacks = λ p chare k. (refl, k);
     }
 
--- so are the journals of a parcel, of what a PE has, and of a world
+-- so for the journals of a parcel, of what a PE has, and of a world
 parcel_owned : (parcel : Parcel) → ParcelKept PackedFits parcel → All IsOwn (lives_in parcel)
 parcel_owned (Letter l) k = All-nil IsOwn
 parcel_owned (Element p) k = All-cons IsOwn (p.index, p.journal) [] k (All-nil IsOwn)

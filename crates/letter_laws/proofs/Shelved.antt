@@ -38,12 +38,12 @@ bound_itself p e = grind (arith, nat_tests)
 room_itself : (p e i : ℕ) → in_room p e (Room p e) i ≡ 1
 room_itself p e i = grind (arith, nat_tests)
 
--- 1 at an element that stands on a PE, and at one that is bound for it
+-- 1 at an element on a PE, and at one that is bound for it
 abbrev pub on_or_for : ℕ → ℕ → ElementWeight
 on_or_for p e s i = in_room p e s i + bound_at p e s i
 
 module _ (words : List ℕ) (p e : ℕ) (word : slice_get words e ≡ Some p) where
-  -- an element whose word is a PE stands on it or is bound for it
+  -- an element whose location word is a PE is on it or is bound for it
   there : (s : Site) → misnamed words s e ≡ 0 → on_or_for p e s e ≡ 0 → ⊥
   there Fresh a b = omega (arith, a)
   there (Bound q) a b =

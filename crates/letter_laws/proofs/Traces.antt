@@ -195,6 +195,6 @@ posted_first id e (Trace.Synced x r) rs q = refl
 posted_first id e (Trace.Decided r) rs q = refl
 posted_first id e (Trace.Departed x) rs q = absurd q
 
--- the report of a forwarding
+-- the trace entry of a forwarding
 pub forwarded_alone : (id x : ℕ × ℕ) → forwards id (Trace.Forwarded x ∷ []) ≡ (if is_number id x then 1 else 0) + 0
 forwarded_alone id x = sum_by-cons (λ y. if is_forwarded id y then 1 else 0) (Trace.Forwarded x) []

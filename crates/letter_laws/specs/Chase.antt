@@ -9,7 +9,8 @@ use Rattle.rts_core.specs.Accounts.{times, is_number}
 use Rattle.rts_core.specs.Worlds.{WorldView}
 use Rattle.place_laws.specs.Bound.{IsBoundFor}
 
--- whether a trace entry says that the letter with this number was forwarded, and whether that this element departed
+-- whether a trace entry says that the letter with this number was forwarded, and whether one says that this element
+-- departed
 abbrev pub is_forwarded : ℕ × ℕ → TraceEntry → Bool
 is_forwarded id (Trace.Forwarded x) = is_number id x
 is_forwarded id r = false

@@ -1,4 +1,4 @@
--- Where an element that stands on a PE is in no parcel, none arrives where one with its index stands.
+-- Where an element on a PE is in no parcel, none arrives where there is one with its index already.
 use Rattle.std.proofs.Common.{◌≡◌, ℕ, Option, Some, None, refl, sym, subst, inl}
 use Rattle.std.specs.Prelude.{slice_get, MatchOption}
 use Rattle.chares.specs.declared.carried.Carried.TheVariants.{Element}

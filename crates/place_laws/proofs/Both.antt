@@ -1,4 +1,4 @@
--- Where two weights are together no more than a third at each site, they are so in a world.
+-- Where two weights together are no more than a third at each site, they are no more than it in a world.
 use Rattle.std.proofs.Common.{◌≡◌, ℕ, suc, ◌+◌, ◌≤◌, List, [], ◌∷◌, Option, Some, None, sum_by, arith, refl}
 use Rattle.std.proofs.lemmas.List.Sums.{sum_by-cons}
 use Rattle.chares.specs.declared.carried.Carried.TheVariants.{Letter, Element}

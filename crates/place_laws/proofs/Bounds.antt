@@ -1,4 +1,4 @@
--- What stands on a PE, or is bound for one, weighs at its site; and what weighs at a site is there.
+-- What is on a PE, or is bound for one, weighs at its site; and what weighs at a site is there.
 use Rattle.std.proofs.Common.{◌≡◌, ℕ, zero, suc, ◌+◌, ◌≤◌, List, [], ◌∷◌, Option, Some, None, Bool, true, false, sum_by, arith, refl, sym, ap, subst, inl, inr}
 use Rattle.std.specs.Prelude.{Any, MatchOption, slice_get, ◌==◌, ◌&&◌, if◌then◌else◌}
 use Rattle.std.proofs.lemmas.Bool.Decides.{nat_tests}
@@ -32,7 +32,7 @@ module _ {C A : Type 0} (w : WorldView C A) (k : ElementWeight) where
       let a : pe_at no_letters k p pe ≤ sum_from (λ q (x : PeView C). pe_at no_letters k q x) w.pes = member_from_le (λ q (x : PeView C). pe_at no_letters k q x) w.pes p pe at in
       omega (arith, a, le)
 
-  -- an element that stands on a PE
+  -- an element on a PE
   pub stands_weighs : (e p : ℕ) (on : StandsOn w e p) → k (Room p e) on.1.index ≤ world_at no_letters k w
   stands_weighs e p (pe, el, at, is) =
       let a : sum_by (λ (x : ℕ × ElementView C). entry_at no_letters k p x) pe.room ≡ k (Room p e) el.index + sum_by (λ (x : ℕ × ElementView C). entry_at no_letters k p x) (without e pe.room) = room_without (λ (x : ℕ × ElementView C). entry_at no_letters k p x) pe.room e el is in

@@ -37,7 +37,7 @@ item_is x y o i a =
 
 -- ---- what a look is for
 
--- a letter in a hand that wants to be looked for has no look, and its element is not in the room
+-- a letter in a hand that wants a look has none yet, and its element is not in the room
 pub hand_look : {C : Type 0} (pe : PeView C) (hand : Option Item) (e : ℕ) → hand_wants_in pe hand ≡ Some e
     → (l : LetterView) × (hand ≡ Some (record { parcel = Letter l; address = None })) × (found l.to pe.room ≡ None) × (l.to ≡ e)
 hand_look pe None e h = cc
@@ -56,7 +56,7 @@ hand_look {C} pe (Some x) e h = by x.parcel x.address refl refl h
         let is : x ≡ record { parcel = Letter l; address = None } = item_is x (Letter l) None i a in
         (l, ap (λ (v : Item). Some v) is, m.0, m.1)
 
--- a letter at the front of an outbox that wants to be looked for has no address
+-- a letter at the front of an outbox that wants a look has no address
 pub front_look : (outbox : List Item) (e : ℕ) → front_wants outbox ≡ Some e → (l : LetterView) × (rest : List Item) × (outbox ≡ record { parcel = Letter l; address = None } ∷ rest) × (l.to ≡ e)
 front_look [] e h = cc
 front_look (x ∷ xs) e h = by x.parcel x.address refl refl h
@@ -70,7 +70,7 @@ front_look (x ∷ xs) e h = by x.parcel x.address refl refl h
         (l, xs, ap (λ (v : Item). v ∷ xs) is, to)
 
 module _ {C A : Type 0} (w : WorldView C A) (p : ℕ) (pe : PeView C) (at : slice_get w.pes p ≡ Some pe) where
-  -- the world after a step to another PE, words and board
+  -- the world after a step to another PE, location words and board
   abbrev pub next : PeView C → List ℕ → BoardState A → WorldView C A
   next pe' words board = record { pes = slice_set w.pes p pe'; queues = w.queues; words = words; board = board }
 

@@ -11,7 +11,7 @@ use Rattle.place_laws.proofs.Sites.Site.{Fresh, Bound, Chasing, Waiting, Room}
 
 -- What moves: nothing; a letter is executed, or none, and these letters are posted; the letter in the hand of PE p gets
 -- the look q; the front of an outbox gets the address q; a letter is forwarded to PE q; element e is installed on PE p,
--- and these letters leave its shelf; the element i that stands beside index e on PE p departs to PE q
+-- and these letters leave its shelf; the element i that is beside index e on PE p departs to PE q
 pub data Move : Type 0 where
   Still : Move
   Runs : Option (Site × LetterView) → List LetterView → Move
@@ -48,7 +48,7 @@ abbrev pub words_after : Move → List ℕ → List ℕ
 words_after (Departs p e i q) words = slice_set words e q
 words_after m words = words
 
--- a report of no post, no forwarding and no departure
+-- a trace entry of no post, no forwarding and no departure
 abbrev pub IsQuiet : TraceEntry → Type 0
 IsQuiet (Trace.Posted id to) = ⊥
 IsQuiet (Trace.Forwarded id) = ⊥
@@ -62,7 +62,8 @@ AreQuiet (r ∷ rs) = IsQuiet r × AreQuiet rs
 abbrev pub post_of : LetterView → TraceEntry
 post_of l = Trace.Posted l.id l.to
 
--- 1 for the element with an index that stands beside it in the room of PE p, and for a letter that waits there for it
+-- 1 for the element with an index that is beside this index in the room of PE p, and for a letter that waits there for
+-- it
 abbrev pub in_room : ℕ → ℕ → ElementWeight
 in_room p e (Room r key) i = if (r == p) && (key == e) then 1 else 0
 in_room p e s i = 0
@@ -72,7 +73,7 @@ waits_at p e (Waiting r) id to = if (r == p) && (to == e) then 1 else 0
 waits_at p e s id to = 0
 
 module _ {C A : Type 0} where
-  -- what is so of a move, with its reports
+  -- what holds of a move, with its trace entries
   abbrev pub Facts : WorldView C A → WorldView C A → List TraceEntry → Move → Type 0
   Facts w stays rs Still = AreQuiet rs
   Facts w stays rs (Runs ran new) = (first : TraceEntry) × IsQuiet first × (rs ≡ first ∷ map post_of new)
@@ -82,7 +83,7 @@ module _ {C A : Type 0} where
   Facts w stays rs (Installs p e letters) = (rs ≡ Trace.Installed e ∷ []) × (world_at (waits_at p e) no_elements stays ≡ 0)
   Facts w stays rs (Departs p e i q) = rs ≡ Trace.Departed e ∷ []
 
-  -- from a world to another, with these reports, this moves
+  -- from a world to another, with these trace entries, this moves
   pub record Change (w w' : WorldView C A) (rs : List TraceEntry) : Type 0 where
     pub move : Move
     pub stays : WorldView C A
@@ -91,7 +92,7 @@ module _ {C A : Type 0} where
     pub words : w'.words ≡ words_after move w.words
     pub facts : Facts w stays rs move
 
-  -- the world with another PE at place p
+  -- the world with another PE at index p
   abbrev pub with_pe : WorldView C A → ℕ → PeView C → WorldView C A
   with_pe w p pe = record { pes = slice_set w.pes p pe; queues = w.queues; words = w.words; board = w.board }
 

@@ -1,5 +1,5 @@
--- The words of the elements, where they are: an event keeps that each word names the PE in whose room its element stands,
--- or for which it is bound.
+-- The location words, and where the elements are: an event keeps that each word names the PE in whose room its element
+-- is, or for which it is bound.
 use Rattle.std.proofs.Common.{◌≡◌, ◌≢◌, ℕ, ◌+◌, ◌≤◌, List, length, Option, Some, None, Bool, true, false, sum_by, arith, refl, sym, ◌∙◌, ap, subst, length-set}
 use Rattle.std.specs.Prelude.{slice_get, slice_set, ◌==◌, ◌&&◌, if◌then◌else◌}
 use Rattle.std.specs.Option.{option_map_or}
@@ -13,14 +13,14 @@ use Rattle.place_laws.proofs.Moves.Move.{Still, Runs, Looks, Addresses, Forwards
 use Rattle.place_laws.proofs.Sites.{Site, ElementWeight, no_letters, world_at, world_zeros, letter_in}
 use Rattle.place_laws.proofs.Sites.Site.{Fresh, Bound, Chasing, Waiting, Room}
 
--- whether the word of an element is this PE
+-- whether the location word of an element is this PE
 abbrev pub is_pe : ℕ → Option ℕ → Bool
 is_pe p o = option_map_or (λ q. q == p) o false
 
 abbrev pub is_word : List ℕ → ℕ → ℕ → Bool
 is_word words e p = is_pe p (slice_get words e)
 
--- whether an element at a site stands beside its index, or is bound, where its word says
+-- whether an element at a site is beside its index, or is bound, where its location word says
 abbrev pub names : List ℕ → Site → ℕ → Bool
 names words (Room p key) e = (key == e) && is_word words e p
 names words (Bound p) e = is_word words e p
@@ -71,7 +71,7 @@ room_by_word words p e h =
     let c : names words (Room p e) e ≡ true = ap (λ (v : Bool). v && is_word words e p) a ∙ b in
     zero_right (names words (Room p e) e) c
 
--- only the word of the element matters
+-- only the location word of the element matters
 same_word : (words words' : List ℕ) (s : Site) (e : ℕ) → slice_get words' e ≡ slice_get words e → misnamed words' s e ≡ misnamed words s e
 same_word words words' Fresh e h = refl
 same_word words words' (Bound p) e h = ap (λ (o : Option ℕ). if is_pe p o then 0 else 1) h
@@ -89,7 +89,7 @@ no_posts : (k : ElementWeight) (s : Site) (ls : List LetterView) → sum_by (let
 no_posts k s ls = sum_zero ls
 
 module _ {C A : Type 0} (w w' stays : WorldView C A) where
-  -- the words are right after a move
+  -- the location words are right after a move
   pub named_after : (m : Move)
       → ((k : ElementWeight) → world_at no_letters k w ≡ taken no_letters k m + world_at no_letters k stays)
       → ((k : ElementWeight) → world_at no_letters k w' ≡ put no_letters k m + world_at no_letters k stays)

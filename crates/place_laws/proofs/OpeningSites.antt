@@ -1,4 +1,4 @@
--- Where the elements of an opening world are: each on its home, which is its word.
+-- Where the elements of an opening world are: each on its home, which is its location word.
 use Rattle.std.proofs.Common.{◌≡◌, ℕ, zero, suc, ◌+◌, ◌<◌, ◌≤◌, List, [], ◌∷◌, length, map, Option, Some, None, sum_by, arith, refl, sym, ◌∙◌, subst, zero-add, length-set}
 use Rattle.std.specs.Prelude.{slice_get, replicate}
 use Rattle.std.specs.List.{range_with_len}
@@ -73,7 +73,7 @@ module _ {C : Type 0} (g : LetterWeight) (k : ElementWeight) where
       let c = empty_sites (queue_at g k) (λ i. refl) pes in
       omega (arith, a, b, c)
 
--- the word of an element, as it opens
+-- the location word of an element, as it opens
 pub word_from : (f : ℕ → ℕ) (a n i : ℕ) → i < n → slice_get (map f (range_with_len a n)) i ≡ Some (f (a + i))
 word_from f a zero i lt = absurd (omega (arith, lt))
 word_from f a (suc n) zero lt = let e : a ≡ a + zero = omega arith in subst (λ (v : ℕ). Some (f a) ≡ Some (f v)) e refl

@@ -1,4 +1,4 @@
--- Where the elements of a world are that a list of events leads to.
+-- Where the elements are in a world that a list of events leads to.
 use Rattle.std.proofs.Common.{◌≡◌, ℕ, ◌+◌, ◌<◌, ◌≤◌, List, [], ◌∷◌, length, Option, Some, None, Bool, true, false, sum_by, arith, refl, sym, ◌∙◌, ap, subst}
 use Rattle.std.specs.Prelude.{Result, slice_get, nat_eq, if◌then◌else◌}
 use Rattle.std.proofs.lemmas.Bool.Decides.{nat_tests}
@@ -24,8 +24,8 @@ use Rattle.place_laws.proofs.Sites.{Site, ElementWeight, no_letters, no_elements
 use Rattle.place_laws.proofs.Sites.Site.{Fresh, Bound, Chasing, Waiting, Room}
 use Rattle.at_sync.specs.declared.strategy.Strategy.{Strategy}
 
--- What holds of the elements of each world of a run: each word is right, there is one for each of n elements, and each
--- element is there once; PEs have the numbers of their places.
+-- What holds of the elements of each world of a run: each location word is right, there is one for each of n elements,
+-- and each element is there once; PEs have the numbers of their indices.
 pub record IsPlaced {C A : Type 0} (n : ℕ) (w : WorldView C A) : Type 0 where
   pub named : world_at no_letters (misnamed w.words) w ≡ 0
   pub counted : length w.words ≡ n
@@ -33,7 +33,7 @@ pub record IsPlaced {C A : Type 0} (n : ℕ) (w : WorldView C A) : Type 0 where
   pub numbered : Numbered w
   pub of : AreOf n w
 
--- an element without a word is not there
+-- an element without a location word is not there
 pub unnamed : {C A : Type 0} (w : WorldView C A) (i : ℕ) → world_at no_letters (misnamed w.words) w ≡ 0 → slice_get w.words i ≡ None → world_at no_letters (at_index i) w ≡ 0
 unnamed {C} {A} w i named none =
     world_zeros no_letters (misnamed w.words) no_letters no_elements no_letters (at_index i) (λ s id to a b. refl) (λ s j a b. absent s j a (nat_eq j i) refl) w named nothing

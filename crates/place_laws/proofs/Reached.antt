@@ -17,7 +17,7 @@ use Rattle.place_laws.proofs.Sites.{Site, ElementWeight, no_letters, world_at}
 use Rattle.place_laws.proofs.Sites.Site.{Fresh, Bound, Chasing, Waiting, Room}
 use Rattle.at_sync.specs.declared.strategy.Strategy.{Strategy}
 
--- 1 at an element that stands in a room, and at one that is in a parcel
+-- 1 at an element in a room, and at one in a parcel
 abbrev pub in_rooms : ℕ → ElementWeight
 in_rooms i (Room p key) e = if e == i then 1 else 0
 in_rooms i s e = 0
@@ -37,7 +37,7 @@ split i (Waiting p) e = omega arith
 split i (Room p key) e = omega arith
 
 module _ {C A : Type 0} (n : ℕ) (w : WorldView C A) (h : IsPlaced n w) where
-  -- an element that stands on a PE stands beside its own index, where its word says
+  -- an element on a PE is beside its own index, where its location word says
   own_place : (e p : ℕ) (on : StandsOn w e p) → (e ≡ on.1.index) × (slice_get w.words e ≡ Some p)
   own_place e p on =
       let a : misnamed w.words (Room p e) on.1.index ≤ world_at no_letters (misnamed w.words) w = stands_weighs w (misnamed w.words) e p on in

@@ -34,7 +34,7 @@ abbrev pub look_site : ℕ → Option ℕ → Site
 look_site p None = Bound p
 look_site p (Some q) = if q == p then Waiting p else Chasing q
 
--- the sum over a list of what each member weighs at its place
+-- the sum over a list of what each member weighs at its index
 abbrev pub sum_from : {X : Type 0} → (ℕ → X → ℕ) → List X → ℕ
 sum_from f [] = 0
 sum_from f (x ∷ xs) = f 0 x + sum_from (λ i. f (suc i)) xs

@@ -1,5 +1,5 @@
--- Where an element of a world is, or goes: it stands in the room of one PE, or is a parcel that is bound for one. Source:
--- the Charm++ manual, where an object lives on one PE at a time, and its location is where messages for it are sent.
+-- Where an element of a world is, or goes: it is in the room of one PE, or is a parcel that is bound for one. Source: the
+-- Charm++ manual, where an object lives on one PE at a time, and its location is where messages for it are sent.
 use Rattle.std.specs.Prelude.{◌≡◌, ℕ, List, Any, None, Some, MatchOption, slice_get, ◌⊎◌}
 use Rattle.chares.specs.declared.carried.Carried.TheVariants.{Letter, Element}
 use Rattle.chares.specs.Elements.{ElementView, PackedView}
@@ -29,27 +29,27 @@ module _ {C A : Type 0} (w : WorldView C A) (e : ℕ) where
   abbrev pub IsBoundFor : ℕ → Type 0
   IsBoundFor p = IsInHand p ⊎ IsInQueue p ⊎ IsAddressed p
 
-  -- an element stands in the room of PE p
+  -- an element is in the room of PE p
   abbrev pub StandsOn : ℕ → Type 0
   StandsOn p = (pe : PeView C) × (el : ElementView C) × (slice_get w.pes p ≡ Some pe) × (found e pe.room ≡ Some el)
 
-  -- the word of an element names PE p
+  -- the location word of an element names PE p
   abbrev pub IsLookedForOn : ℕ → Type 0
   IsLookedForOn p = slice_get w.words e ≡ Some p
 
--- An element that stands in the room of a PE stands in no other, and is in no parcel: of a hand, an outbox or a queue.
+-- An element in the room of a PE is in no other room, and in no parcel: of a hand, an outbox or a queue.
 pub record StandAlone {C A : Type 0} (w : WorldView C A) : Type 0 where
   pub in_one_room : (e p q : ℕ) → StandsOn w e p → StandsOn w e q → p ≡ q
   pub in_no_parcel : (e p q : ℕ) → StandsOn w e p → ¬ (IsBoundFor w e q)
   pub in_no_outbox : (e p q : ℕ) (pe : PeView C) → StandsOn w e p → slice_get w.pes q ≡ Some pe → ¬ (Any (λ x. Carries e x.parcel) pe.outbox)
 
--- The word of each element names the PE in whose room it stands, or for which it is bound.
+-- The location word of each element names the PE in whose room it is, or for which it is bound.
 pub record AreNamed {C A : Type 0} (w : WorldView C A) : Type 0 where
   pub standing : (e p : ℕ) → StandsOn w e p → IsLookedForOn w e p
   pub bound : (e p : ℕ) → IsBoundFor w e p → IsLookedForOn w e p
 
--- No element arrives where one with its index stands: where the hand of a PE holds an element, none of its room has that
--- index.
+-- No element arrives where there is one with its index already: where the hand of a PE holds an element, none in its room
+-- has that index.
 abbrev pub ArriveAlone : {C A : Type 0} → WorldView C A → Type 0
 ArriveAlone {C} w =
     (p : ℕ) (pe : PeView C) (item : Item) (packed : PackedView)

@@ -10,9 +10,10 @@ ghost use Rattle.place_laws.specs.Bound.{AreNamed, ArriveAlone, StandAlone};
 use chares::Chare;
 use std::alloc::Allocator;
 
-/// Where the elements are after every list of events. The function does nothing: its clauses are the laws, of whatever
-/// chares and however many PEs, in any order of events. An element that stands in the room of a PE is nowhere else, so none arrives where one with its index stands. The
-/// word of an element names the PE in whose room it stands, or for which it is bound.
+/// Where the elements are after every list of events. The function does nothing: its clauses are the laws. They hold for any
+/// chares and any number of PEs, in any order of events. An element in the room of a PE is nowhere else, so none arrives where
+/// there is one with its index already. The location word of an element names the PE in whose room it is, or for which it is
+/// bound.
 pub fn place_laws<C: Chare<A>, A: Allocator>()
     ensures alone { ForEachRun C.step C.pack C.unpack (λ (chares : List C) (last : After C A). StandAlone last.0) }
     ensures arrivals { ForEachRun C.step C.pack C.unpack (λ (chares : List C) (last : After C A). ArriveAlone last.0) }

@@ -1,4 +1,4 @@
-//! Where the elements of a world are that a list of events leads to.
+//! Where the elements are in a world that a list of events leads to.
 #![tactic(auto)]
 
 mod laws;

@@ -1,11 +1,11 @@
--- What a text leaves of a line, where it is written in parts.
+-- What a text leaves free of a line, where it is written in parts.
 use Rattle.std.proofs.Common.{◌≡◌, ◌∙◌, ◌-◌, ap, sym, ℕ, List, [], ◌∷◌, length, arith}
 use Rattle.std.specs.List.{FoldsTo, concat}
 use Rattle.std.specs.Fmt.{WritesInCalls}
 use Rattle.std.proofs.lemmas.List.{length-append}
 use Rattle.progress_line.specs.declared.text.Room.{Room}
 
--- what writing this part does to the room
+-- how many columns stay free after this part
 abbrev Takes : Room → List ℕ → Room → Type 0
 Takes room text left = left.columns ≡ room.columns - length text
 

@@ -21,6 +21,7 @@ standing_text s =
     ++ (codes ", " ++ (decimal s.executed ++ (codes " letters executed, "
     ++ (decimal (rate s.executed s.milliseconds) ++ codes " a second"))))))
 
--- back to the start of the line (13), the text, and blanks up to the width, which hide what a longer text has left there
+-- back to the start of the line (13), the text, and blanks up to the width, which cover what a longer text has left
+-- there
 abbrev pub line_text : Standing → List ℕ
 line_text s = 13 ∷ (standing_text s ++ repeat (WIDTH - length (standing_text s)) (codes " "))

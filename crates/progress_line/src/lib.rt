@@ -1,6 +1,7 @@
-//! A line on the standard error for a person who looks on at a run. It is written over and over, at most ten times a second.
+//! A line on the standard error for a person who watches a run. It is overwritten again and again, at most ten times a
+//! second.
 //!
-//! - [`Progress`]: who looks on, or nobody, so that one call of a run serves both.
+//! - [`Progress`]: a line for a person who watches, or none, so that one call of a run serves both.
 //! - [`ProgressLine`]: the line.
 //! - [`Standing`]: what it says.
 //!

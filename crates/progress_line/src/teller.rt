@@ -1,4 +1,4 @@
-//! The line that is written over and over.
+//! The line that is overwritten again and again.
 
 ghost use Rattle.std.specs.Prelude.{◌≡◌, ◌≢◌, ◌≤◌, IfSome, SomeIff};
 ghost use Rattle.progress_line.specs.Turns.{next_turn};
@@ -13,8 +13,9 @@ use std::time::{Clock, Instant};
 /// The least time between two lines, in milliseconds.
 pub(crate) const GAP: u64 = 100;
 
-/// Writes to the standard error how far a run is, in one line that is written over and over. Several threads may tell it of
-/// the rounds that are decided. It takes no memory but its own. A line that cannot be written is dropped, and changes nothing.
+/// Writes to the standard error how far a run is, in one line that is overwritten again and again. Several threads may report
+/// the rounds that are decided. It takes no memory except its own. A line that cannot be written is dropped, and changes
+/// nothing.
 #[derive(Drop)]
 pub struct ProgressLine<'a, R> {
     rt: &'a R,
@@ -24,12 +25,12 @@ pub struct ProgressLine<'a, R> {
     /// The greatest round so far.
     round: AtomicU64,
     executed: AtomicU64,
-    /// The time from which on the next line may go out, in milliseconds from the start. It is 0 before the first line.
+    /// The time from which the next line may be written, in milliseconds from the start. It is 0 before the first line.
     turn: AtomicU64,
 }
 
 impl<'a, R: Clock + Eprint> ProgressLine<'a, R> {
-    /// A line of a run that starts now, and of which it is not known yet how many rounds it will have.
+    /// A line of a run that starts now, and whose number of rounds is not known yet.
     ///
     /// # Errors
     ///
@@ -45,7 +46,7 @@ impl<'a, R: Clock + Eprint> ProgressLine<'a, R> {
         })
     }
 
-    /// Says how many rounds there will be.
+    /// Sets how many rounds there will be.
     pub fn expect(&self, rounds: u32) {
         self.rounds.store(u64::from(rounds), Ordering::SeqCst);
     }
@@ -81,7 +82,7 @@ impl<'a, R: Clock + Eprint> ProgressLine<'a, R> {
         }
     }
 
-    // Whether this thread is to write a line now. Of several that ask at a time one is.
+    // Whether this thread is to write a line now. Of several that ask at the same time one is.
     fn takes_turn(&self, now: u64) -> bool {
         let turn = self.turn.load(Ordering::SeqCst);
         let Some(next) = turn_after(turn, now) else {

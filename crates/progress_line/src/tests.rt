@@ -1,4 +1,4 @@
-//! What a person sees, on a clock and a screen that the test holds.
+//! What a person sees, on a clock and a screen that the test controls.
 
 use super::{Progress, ProgressLine, Standing};
 use chare_index::Round;
@@ -8,7 +8,8 @@ use std::fmt::{Display, InlineText};
 use std::io;
 use std::time::{Clock, Duration};
 
-// A clock, which stands still in between, or fails; and what was written last, with how often something was.
+// A clock, which stops between the steps of a test, or fails; and what was written last, with how often
+// something was.
 #[derive(Drop)]
 struct Desk {
     milliseconds: Cell<Option<u64>>,
@@ -33,7 +34,7 @@ impl Desk {
         self.lines.update(|lines| lines.saturating_add(1));
     }
 
-    // Whether so much was written, and this last, on a line of 79 columns.
+    // Whether this many lines were written, and this one last, in 79 columns.
     fn shows(&self, lines: u64, text: &str) -> bool {
         let shown = self.shown.get();
         let Some(line) = shown.as_str().strip_prefix("\r") else {
@@ -108,7 +109,7 @@ fn a_line_in_a_tenth_of_a_second(rt: HostRuntime) {
         line.decided(Round::new(round).expect(&rt, "no round"), executed);
         assert!(rt; desk.shows(lines, text), "round {round}");
     }
-    // A round that another thread tells late takes nothing back.
+    // A round that another thread reports late takes nothing back.
     line.expect(100);
     desk.milliseconds.set(Some(6_500));
     line.decided(Round::new(5).expect(&rt, "no round"), 50);
@@ -135,7 +136,7 @@ fn nothing_is_told_where_nothing_was_decided(rt: HostRuntime) {
     drop(desk);
 }
 
-// A whole run, as far as it is told.
+// A whole run, as far as it is reported.
 fn tell_a_run(progress: &Progress<'_, Desk>, round: Round) {
     progress.expect(3);
     progress.decided(round, 7);

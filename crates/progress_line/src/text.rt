@@ -1,4 +1,4 @@
-//! The text of the line. It is made anew for each line, in no memory but that of the formatter.
+//! The text of the line. It is made anew for each line, and takes no memory except that of the formatter.
 
 ghost use Rattle.std.specs.Prelude.{◌≡◌, ◌-◌, Some, codes, length};
 ghost use Rattle.std.specs.List.{repeat};
@@ -6,7 +6,7 @@ ghost use Rattle.progress_line.specs.Text.{line_text, of_text, rate, standing_te
 
 use std::fmt::{self, Display, Formatter, Write};
 
-/// The columns that a line fills, so that it hides a longer one, and fits a terminal of 80.
+/// The columns that a line fills, so that it covers a longer one, and fits a terminal of 80.
 pub(crate) const WIDTH: usize = 79;
 
 /// How far a run is.
@@ -23,7 +23,7 @@ pub struct Standing {
 }
 
 impl Standing {
-    /// The letters that were executed in a second, on the average.
+    /// The letters that were executed per second, on average.
     pub fn letters_a_second(&self) -> u64
         ensures value { result ≡ rate self.now.executed self.now.milliseconds }
     {
@@ -50,7 +50,7 @@ impl Display for Standing {
     }
 }
 
-/// Of how many rounds, where that is known.
+/// The number of rounds, where it is known.
 #[derive(Clone, Copy)]
 struct Of(Option<u64>);
 
@@ -79,7 +79,7 @@ impl Display for Line {
     }
 }
 
-/// What a text leaves of the columns of a line.
+/// The columns of the line that a text leaves free.
 #[derive(Drop)]
 struct Room {
     columns: usize,
@@ -94,7 +94,7 @@ impl Write for Room {
     }
 }
 
-/// So many blanks.
+/// This number of blanks.
 #[derive(Clone, Copy)]
 struct Blanks(usize);
 

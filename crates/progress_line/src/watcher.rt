@@ -7,21 +7,21 @@ use pe_worker::Watch;
 use std::io;
 use std::time::Clock;
 
-/// Who looks on at a run.
+/// The progress line of a run, or none.
 #[derive(Drop)]
 pub enum Progress<'a, R> {
-    /// Nobody.
+    /// No progress line.
     Off,
-    /// A person, who reads in a line how far it is.
+    /// A line in which a person reads how far the run is.
     On(ProgressLine<'a, R>),
 }
 
 impl<'a, R: Clock + Eprint> Progress<'a, R> {
-    /// The progress of a run that starts now. Where nobody wants it, it is off.
+    /// The progress line of a run that starts now, or [`Off`](Progress::Off) where none is wanted.
     ///
     /// # Errors
     ///
-    /// It is wanted, and the clock cannot be read. A caller that runs all the same uses [`Progress::Off`].
+    /// One is wanted, and the clock cannot be read. A caller that runs all the same uses [`Progress::Off`].
     pub fn new(rt: &'a R, is_wanted: bool) -> io::Result<Self>
         ensures wanted { is_wanted ≡ true → IfOk result (λ progress. progress ≢ Off) }
         ensures unwanted { is_wanted ≡ false → result ≡ Ok Off }
@@ -32,7 +32,7 @@ impl<'a, R: Clock + Eprint> Progress<'a, R> {
         Ok(Progress::On(ProgressLine::new(rt)?))
     }
 
-    /// Says how many rounds there will be.
+    /// Sets how many rounds there will be.
     pub fn expect(&self, rounds: u32) {
         if let Progress::On(line) = self {
             line.expect(rounds);

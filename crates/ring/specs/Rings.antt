@@ -1,4 +1,5 @@
--- A token that goes around a ring: each member hands it to the next, and it ends where it began, after so many visits.
+-- A token that goes around a ring: each member hands it to the next, and it ends where it began, after a given number
+-- of visits.
 use Rattle.std.specs.Prelude.{◌≡◌, ℕ, ◌+◌, ◌-◌, ◌≤◌, ◌%◌, List, [], ◌∷◌, length, Bool, false, ◌&&◌, ◌||◌, not, ◌==◌, if◌then◌else◌}
 use Rattle.std.specs.Int.{w32, to_be_bytes}
 use Rattle.std.proofs.Common.{arith}
@@ -29,7 +30,7 @@ abbrev pub member_step : ℕ → ℕ → ℕ → Entry (List ℕ) → Outcome �
 member_step left me n (Letter body) = visited left me n
 member_step left me n (Resumption round) = starts left me n
 
--- it answers an error only where no letter number is left for the token
+-- it returns an error only where no letter number is left for the token
 abbrev pub MemberRefuses : ℕ → ℕ → ℕ → ℕ → Entry (List ℕ) → SendError → Type 0
 MemberRefuses left me n count entry Worn = count ≡ LETTERS
 MemberRefuses left me n count entry _ = ⊥

@@ -16,7 +16,7 @@ use std::process::ExitCode;
 use std::sync::Wait;
 use std::thread::Threads;
 
-/// A chare in a ring. Its state is how many visits of the token are yet to come.
+/// A chare in a ring. Its state is how many visits of the token are still to come.
 #[derive(Drop)]
 struct Member {
     left: u32,
@@ -148,7 +148,7 @@ fn printed(rt: &(impl Print + Eprint), account: Account) -> ExitCode {
     }
 }
 
-// Runs so many members on two PEs, each of which the token visits so often.
+// Runs this number of members on two PEs, each of which the token visits this number of times.
 fn ran<R: Threads + Wait + Sync + AllocGlobal>(
     rt: &R,
     members: u32,

@@ -23,7 +23,7 @@ past q a (suc n) h =
     let rest = past q (a + 1) n (omega arith) in
     counted q a (range_with_len (a + 1) n) ∙ grind (arith, nat_tests)
 
--- it is once among those that it lies between
+-- it is there once among numbers that it is one of
 pub once : (q a n : ℕ) → a ≤ q → q < a + n → count_by (λ y. y == q) (range_with_len a n) ≡ 1
 once q a zero low high = absurd (omega arith)
 once q a (suc n) low high =

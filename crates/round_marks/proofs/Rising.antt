@@ -26,7 +26,7 @@ rising least x (y ∷ xs) low h =
     let next : x < y = h 0 (omega arith) in
     (low, rising (x + 1) y xs (omega (arith, next)) (λ k within. simp add-one (simp add-one at (h (suc k) (omega (arith, within))))))
 
--- from 0 on, that is all that is asked of them
+-- from 0 on, nothing else is required of them
 pub rise_from_0 : (xs : List ℕ) → Rise 0 xs ↔ IsStrictlyIncreasing xs
 rise_from_0 [] = (increasing 0 [], λ h. tt)
 rise_from_0 (x ∷ xs) = (increasing 0 (x ∷ xs), rising 0 x xs (omega arith))

@@ -1,5 +1,5 @@
--- When the marks of all elements of a run agree with the rounds that a board decided: of those that stand in rooms, and of
--- those that are packed, in a hand, an outbox or a queue.
+-- When the marks of all elements of a run agree with the rounds that a board decided: of those in rooms, and of those that
+-- are packed, in a hand, an outbox or a queue.
 use Rattle.std.specs.Prelude.{ℕ, List, All, Option, None, Some, IfSome}
 use Rattle.at_sync.specs.Boards.{BoardState}
 use Rattle.chares.specs.declared.carried.Carried.TheVariants.{Letter, Element}
@@ -14,11 +14,11 @@ use Rattle.round_marks.specs.Marked.{AreMarked}
 abbrev pub IsMarked : {A : Type 0} → BoardState A → ℕ → Option ℕ → List Mark → Type 0
 IsMarked b e place marks = AreMarked b e (home e (elements b.database) b.pes) place marks
 
--- so do those of an element that stands in the room of this PE
+-- and so do those of an element in the room of this PE
 abbrev pub IsMarkedOn : {A C : Type 0} → BoardState A → ℕ → ElementView C → Type 0
 IsMarkedOn b pe el = IsMarked b el.index (Some pe) el.marks
 
--- and those of an element that is packed; of a letter this asks nothing
+-- and those of an element that is packed; of a letter this requires nothing
 abbrev pub IsMarkedParcel : {A : Type 0} → BoardState A → Parcel → Type 0
 IsMarkedParcel b (Letter l) = Unit {0}
 IsMarkedParcel b (Element p) = IsMarked b p.index None p.marks

@@ -11,15 +11,15 @@ use chares::{Mark, Note};
 use lb_snapshot::{Snapshot, Units};
 use std::alloc::Allocator;
 
-/// Whether the marks of element `e` agree with what the board decided. The element opens on the PE `home`, and stands in
-/// the room of the PE `place`, or is packed where there is none. It takes no memory, and a time that is linear in the
-/// number of marks.
+/// Whether the marks of element `e` agree with what the board decided. The element opens on the PE `home`, and is in the
+/// room of the PE `place`, or is packed where there is none. The check takes no memory, and time linear in the number of
+/// marks.
 ///
-/// It returns `true` where the element is one of the board's; where it reached AtSync once for each round that is
-/// decided, with the load, the size and the PE that the round's snapshot has of it, and perhaps once more for the round
-/// under way, in the order of the rounds; where a start of it was at home, and it was resumed after decided rounds alone, in
-/// the order of the rounds, and after none of them twice, each time at its place in the decision; and where it stands on the
-/// PE of its last mark, if that is of a resumption.
+/// It returns `true` where all of this holds. The element is one of the board's. It reached AtSync once for each round that
+/// is decided, with the load, the size and the PE that the round's snapshot has of it, and perhaps once more for the round
+/// under way, in the order of the rounds. If it was started, that was at home; and it was resumed only after decided rounds,
+/// in the order of the rounds, after none of them twice, and each time at its place in the decision. If its last mark is of
+/// a resumption, it is on the PE of that mark.
 pub fn marks_agree<A: Allocator>(
     board: &Board<A>,
     e: Index,
@@ -53,7 +53,7 @@ fn are_synced<A: Allocator>(board: &Board<A>, e: Index, marks: &[Mark]) -> bool
     board.rounds().len() <= reached as usize
 }
 
-// Whether this note is right, and for the round after so many.
+// Whether this note is right, and for the round after the `reached` rounds before it.
 fn is_next_sync<A: Allocator>(board: &Board<A>, e: Index, reached: u32, note: &Note) -> bool
     requires few { reached ≤ Limits.ROUND }
     ensures value { IsTrue result ↔ (IsSyncOf board.now e note.now × (round_reached (Mark.Synced note.now) ≡ Some (reached + 1))) }
@@ -140,7 +140,7 @@ fn resumed_in_order(marks: &[Mark]) -> bool
     true
 }
 
-// Whether an element stands where its last mark says, if that is of a resumption.
+// Whether an element is where its last mark says, if that is of a resumption.
 fn stands_as_marked(place: Option<Pe>, marks: &[Mark]) -> bool
     ensures { IsTrue result ↔ IfSome (slice_get marks.now (length marks.now - 1)) (StandsAsMarked place) }
 {

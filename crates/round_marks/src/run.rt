@@ -12,9 +12,9 @@ use chares::{Carried, Chare, Element, Mark};
 use pe_state::{HeldParcel, Item, PeEnd};
 use std::alloc::Allocator;
 
-/// Whether the marks of all elements of a run agree with what its board decided, as [`element_agrees`] says of each:
-/// of those that its PEs have at the end, and of those that are packed in the parcels that it left in its queues. It takes
-/// no memory, and a time that is linear in the number of marks, letters and PEs.
+/// Whether the marks of all elements of a run agree with what its board decided, as [`element_agrees`] checks for each:
+/// for those that its PEs have at the end, and for those that are packed in the parcels that it left in its queues. The
+/// check takes no memory, and time linear in the number of marks, letters and PEs.
 pub fn run_agrees<C: Chare<A>, A: Allocator>(
     board: &Board<A>,
     ends: &[PeEnd<C, A>],
@@ -25,21 +25,22 @@ pub fn run_agrees<C: Chare<A>, A: Allocator>(
     pes_agree(board, ends) && queues_agree(board, left)
 }
 
-/// Whether the marks of all elements agree that a PE has: in its room, and packed in its hand and in its outbox.
+/// Whether the marks of all elements of a PE agree: of those in its room, and of those packed in its hand and in its
+/// outbox.
 pub fn pe_agrees<C: Chare<A>, A: Allocator>(board: &Board<A>, pe: &PeEnd<C, A>) -> bool
     ensures agree { IsTrue result ↔ IsMarkedPe board.now pe.now }
 {
     room_agrees(board, pe) && hand_agrees(board, pe) && outbox_agrees(board, pe)
 }
 
-/// Whether the marks of all elements agree that are packed in these parcels.
+/// Whether the marks of all elements that are packed in these parcels agree.
 pub fn parcels_agree<A: Allocator>(board: &Board<A>, parcels: &[HeldParcel<A>]) -> bool
     ensures agree { IsTrue result ↔ All (IsMarkedParcel board.now) parcels.now }
 {
     parcels.iter().all(|parcel| parcel_agrees(board, parcel))
 }
 
-/// Whether the marks of element `e` agree, as [`marks_agree`] says of an element that opened on the home of `e` among
+/// Whether the marks of element `e` agree, as [`marks_agree`] checks for an element that opened on the home of `e` among
 /// the elements of the board.
 pub fn element_agrees<A: Allocator>(
     board: &Board<A>,
@@ -55,7 +56,7 @@ pub fn element_agrees<A: Allocator>(
     marks_agree(board, e, home, place, marks)
 }
 
-// Whether the marks of all elements agree that these PEs have.
+// Whether the marks of all elements of these PEs agree.
 fn pes_agree<C: Chare<A>, A: Allocator>(board: &Board<A>, pes: &[PeEnd<C, A>]) -> bool
     ensures { IsTrue result ↔ All (IsMarkedPe board.now) pes.now }
 {
@@ -67,7 +68,7 @@ fn pes_agree<C: Chare<A>, A: Allocator>(board: &Board<A>, pes: &[PeEnd<C, A>]) -
     true
 }
 
-// Whether the marks of all elements agree that are packed in the parcels of these queues.
+// Whether the marks of all elements that are packed in the parcels of these queues agree.
 fn queues_agree<A: Allocator>(board: &Board<A>, queues: &[Vec<HeldParcel<A>, A>]) -> bool
     ensures { IsTrue result ↔ All (All (IsMarkedParcel board.now)) (map (λ queue. queue.items) queues.now) }
 {
@@ -79,7 +80,7 @@ fn queues_agree<A: Allocator>(board: &Board<A>, queues: &[Vec<HeldParcel<A>, A>]
     true
 }
 
-// Whether the marks of all elements agree that stand in the room of a PE.
+// Whether the marks of all elements in the room of a PE agree.
 fn room_agrees<C: Chare<A>, A: Allocator>(board: &Board<A>, pe: &PeEnd<C, A>) -> bool
     ensures { IsTrue result ↔ All (λ x. IsMarkedOn board.now pe.now.me x.1) pe.now.room }
 {
@@ -92,7 +93,7 @@ fn room_agrees<C: Chare<A>, A: Allocator>(board: &Board<A>, pe: &PeEnd<C, A>) ->
     true
 }
 
-// Whether those of an element agree that stands in the room of the PE `me`.
+// Whether the marks of an element in the room of the PE `me` agree.
 fn standing_agrees<C: Chare<A>, A: Allocator>(
     board: &Board<A>,
     me: Pe,
@@ -103,7 +104,7 @@ fn standing_agrees<C: Chare<A>, A: Allocator>(
     element_agrees(board, element.index(), Some(me), element.marks())
 }
 
-// Whether those of the element agree that is packed in its hand, if one is.
+// Whether the marks of the element that is packed in the hand of a PE agree, if one is.
 fn hand_agrees<C: Chare<A>, A: Allocator>(board: &Board<A>, pe: &PeEnd<C, A>) -> bool
     ensures { IsTrue result ↔ IfSome pe.now.hand (λ x. IsMarkedParcel board.now x.parcel) }
 {
@@ -113,7 +114,7 @@ fn hand_agrees<C: Chare<A>, A: Allocator>(board: &Board<A>, pe: &PeEnd<C, A>) ->
     }
 }
 
-// Whether those of all elements agree that are packed in its outbox.
+// Whether the marks of all elements that are packed in the outbox of a PE agree.
 fn outbox_agrees<C: Chare<A>, A: Allocator>(board: &Board<A>, pe: &PeEnd<C, A>) -> bool
     ensures { IsTrue result ↔ All (λ x. IsMarkedParcel board.now x.parcel) pe.now.outbox }
 {
@@ -121,14 +122,14 @@ fn outbox_agrees<C: Chare<A>, A: Allocator>(board: &Board<A>, pe: &PeEnd<C, A>) 
     items_agree(board, front) && items_agree(board, back)
 }
 
-// Whether those of all elements agree that are packed in a part of an outbox.
+// Whether the marks of all elements that are packed in a part of an outbox agree.
 fn items_agree<A: Allocator>(board: &Board<A>, items: &[Item<A>]) -> bool
     ensures { IsTrue result ↔ All (λ x. IsMarkedParcel board.now x.parcel) items.now }
 {
     items.iter().all(|item| parcel_agrees(board, &item.parcel))
 }
 
-// Whether those of the element agree that is packed in a parcel, if one is.
+// Whether the marks of the element that is packed in a parcel agree, if one is.
 fn parcel_agrees<A: Allocator>(board: &Board<A>, parcel: &HeldParcel<A>) -> bool
     ensures { IsTrue result ↔ IsMarkedParcel board.now parcel.now }
 {

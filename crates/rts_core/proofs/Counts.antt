@@ -1,4 +1,4 @@
--- How many letters there are, counted PE by PE and queue by queue: at one place of the list, and after it.
+-- How many letters there are, counted PE by PE and queue by queue: at one index of the list, and after it.
 use Rattle.std.proofs.Common.{◌≡◌, ℕ, ◌+◌, ◌<◌, ◌≤◌, List, [], ◌∷◌, ◌++◌, length, drop, get_or, sum_by, arith, refl, sym, ◌∙◌, ap}
 use Rattle.std.specs.List.{flat_map}
 use Rattle.std.proofs.lemmas.Grind.{flat_map-append}

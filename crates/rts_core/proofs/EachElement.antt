@@ -1,5 +1,5 @@
 -- What holds of every element of every world that a list of events reaches, in a room or packed: it holds as an element
--- opens, each handler keeps it, and an element that is packed and unpacked keeps it.
+-- opens, each handler keeps it, and packing and unpacking an element keep it.
 use Rattle.std.proofs.Common.{◌≡◌, ℕ, ◌+◌, List, [], ◌∷◌, ◌++◌, length, map, Option, Some, None, Bool, true, false, Result, refl, sym, subst}
 use Rattle.std.specs.Prelude.{All, IfSome, slice_get}
 use Rattle.std.specs.List.{filter, range_with_len}
@@ -23,7 +23,7 @@ use Rattle.rts_core.proofs.Rooms.{EachAt, each_found, each_changed, each_joined,
 use Rattle.rts_core.proofs.Turns.{EachTurn, each_map, happens_so}
 use Rattle.at_sync.specs.declared.strategy.Strategy.{Strategy}
 
--- what is to be kept: of the element that stands at an index, and of one that is packed
+-- what is to be kept: of the element with an index, and of one that is packed
 module _ {C : Type 0} (step : Step C) (pack : C → List ℕ) (F : ℕ → ElementView C → Type 0) (K : PackedView → Type 0) where
   pub record IsKept : Type 0 where
     pub opens : (e : ℕ) (chare : C) → F e (opening_element e chare)
@@ -33,7 +33,7 @@ module _ {C : Type 0} (step : Step C) (pack : C → List ℕ) (F : ℕ → Eleme
     pub packs : (e : ℕ) (el : ElementView C) → F e el → K (packed pack el)
     pub unpacks : (p : PackedView) (chare : C) → K p → F p.index (unpacked p chare)
 
--- so for a parcel, for all that a PE has, and for all that a world has
+-- the same of a parcel, of all that a PE has, and of all that a world has
 abbrev pub ParcelKept : (PackedView → Type 0) → Parcel → Type 0
 ParcelKept K (Letter l) = Unit {0}
 ParcelKept K (Element p) = K p
@@ -66,7 +66,7 @@ module _ {C : Type 0} (step : Step C) (pack : C → List ℕ) (F : ℕ → Eleme
   front_kept [] parcel all is = cc
   front_kept (x ∷ xs) parcel all is = let same : x.parcel ≡ parcel = cc in subst (λ (v : Parcel). ParcelKept K v) same (All-head (ItemKept K) x xs all)
 
-  -- ---- what a PE makes of it
+  -- ---- what a PE does to it
 
   module _ (pe : PeView C) (h : PeKept F K pe) where
     handled_kept : (e : ℕ) (done : Done) (hand : Option Item) (el : ElementView C) → found e pe.room ≡ Some el → F e (ran step pack el pe.n pe.me done) → IfSome hand (ItemKept K) → PeKept F K (handled step pack pe e done hand)
@@ -148,7 +148,7 @@ module _ {C : Type 0} (step : Step C) (pack : C → List ℕ) (F : ℕ → Eleme
           departs = λ e q el is. (departed_kept d.pe h e q el is, k);
         }
 
-  -- ---- what an event makes of it, and a list of events
+  -- ---- what an event does to it, and a list of events
 
   module _ {A : Type 0} (unpack : List ℕ → Result (C × ℕ) PupError) where
     pub event_kept : (w : WorldView C A) (event : Event) (next : After C A) → WorldKept F K w → Happens step pack unpack w event next → WorldKept F K next.0

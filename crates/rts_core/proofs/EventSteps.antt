@@ -41,7 +41,7 @@ pub front_is : {X : Type 0} (xs : List X) (front : X × List X) → front_of xs 
 front_is [] front h = cc
 front_is (x ∷ xs) front h = let e : (x, xs) ≡ front = some_same (x, xs) front h in rw (sym e) refl
 
--- ---- what each event makes of its PE
+-- ---- what each event does to its PE
 
 module _ {C : Type 0} (step : Step C) (pack : C → List ℕ) where
   abbrev pub Makes : PeView C → PeView C × List TraceEntry → Type 0
@@ -132,7 +132,7 @@ module _ {C : Type 0} (step : Step C) where
       option_and_then_some (λ after. Some (noted pe, after, note_entries note)) (board_after b note) a s
       (λ after at t. subst (λ (v : PeView C × BoardState A × List TraceEntry). Moved step pe v.0 v.2 None [] []) (some_same (noted pe, after, note_entries note) a t) (noted_moved step pe (note_entries note) (note_posts note) (note_executes note))))
 
--- ---- what each event makes of what its PE sees
+-- ---- what each event does to what its PE sees
 
 pub record Desks {C A : Type 0} (step : Step C) (d : LocalView C A) (a : LocalView C A × List TraceEntry) : Type 0 where
   pub work : Option (Work C)
@@ -191,7 +191,7 @@ module _ {C A : Type 0} (step : Step C) (pack : C → List ℕ) (unpack : List �
   local_makes (Depart p e) a h = then_local (depart_event step pack p d.pe d.words d.board e) (λ after. (record d { pe = after.0; words = after.1 }, after.2)) a h (λ after is. local after.0 after.1 d.board after.2 (None, depart_event_makes step pack p d.pe d.words d.board e after is))
   local_makes (Resume p e) a h = then_local (resume_event step pack p d.pe d.board e) (λ after. (record d { pe = after.0 }, after.1)) a h (λ after is. local after.0 d.words d.board after.1 (resume_event_makes step pack p d.pe d.board e after is))
 
--- ---- what each event makes of the world
+-- ---- what each event does to the world
 
 module _ {C A : Type 0} (step : Step C) (pack : C → List ℕ) (unpack : List ℕ → Result (C × ℕ) PupError) (n : ℕ) (w : WorldView C A) (are : AreOf n w) where
   abbrev pub Good : After C A → Type 0

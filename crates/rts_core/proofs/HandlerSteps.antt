@@ -22,7 +22,7 @@ use Rattle.rts_core.specs.Accounts.{Said, posts, executions}
 use Rattle.rts_core.proofs.Weights.{Weight, weigh, of_item, of_hand, of_element, of_room, of_pe, sum_by-map}
 use Rattle.rts_core.proofs.Moves.{numbered, Moved, quiet}
 
--- the letters that are posted weigh what the outbox gains, and are those of the reports
+-- the letters that are posted weigh what the outbox gains, and are those of the trace entries
 pub box_gains : (g : Weight) (k : Life → ℕ) (me count : ℕ) (ss : List (ℕ × List ℕ)) → sum_by (of_item g k) (letters_of me count ss) ≡ sum_by (weigh g) (numbered me count ss)
 box_gains g k me count [] = refl
 box_gains g k me count (s ∷ ss) =

@@ -1,4 +1,4 @@
--- What a step makes of the elements of a PE and of the queues: each was what its journal says, and still is.
+-- What a step does to the elements of a PE and of the queues: each was what its journal says, and still is.
 use Rattle.std.proofs.Common.{◌≡◌, ℕ, ◌+◌, ◌≤◌, List, [], ◌∷◌, ◌++◌, length, map, Bool, true, false, Option, Some, None, Result, Ok, Err, refl, sym, subst, length-set}
 use Rattle.std.specs.Prelude.{All, is_none, IfSome, OnErr, IfOk, slice_get, slice_set}
 use Rattle.std.specs.Option.{option_map, option_and_then}

@@ -42,7 +42,7 @@ sends_joined step opened w xs ys =
     ∙ (ap (sum_by w) (flat_map-append (sends_of step opened) (flat_map lives_in xs) (flat_map lives_in ys))
     ∙ sum_by-append w (flat_map (sends_of step opened) (flat_map lives_in xs)) (flat_map (sends_of step opened) (flat_map lives_in ys)))
 
--- an element weighs the same after what it handles, where no handler changes the weight
+-- an element weighs the same after what it handles, by a weight that no handler changes
 steady_work : {C : Type 0} (k : Life → ℕ) → IsSteady k → (pe : PeView C) → IsKeyed pe.room → (work : Option (Work C)) → IfSome work (λ x. (e : ℕ) × (found e pe.room ≡ Some x.0) × All (λ l. l.to ≡ e) (letters_of_entry x.1)) → after k work ≡ before k work
 steady_work k steady pe keyed None stood = refl
 steady_work {C} k steady pe keyed (Some x) stood =
@@ -88,7 +88,7 @@ module _ {C : Type 0} (step : Step C) (fits : C → Type 0) (pack : C → List �
       m : Moved step pe pe' s.reports s.work came gone
       m = s.moved
 
-  -- any call but the placing of a chare
+  -- any call except the placing of a chare
   pub local_call : (unpack : List ℕ → Result (C × ℕ) PupError) (pe : PeView C) (ledger : Ledger) (call : Call C) → MayCall pe call → IsRunning call → HasHistories step fits pack opened pe → IsKeyed pe.room → IsLocalAccount step opened start pe ledger
       → IsLocalAccount step opened start (after_call step pack unpack pe call) (with_call step pack unpack ledger pe call)
   local_call unpack pe ledger call may running h keyed l =
@@ -108,7 +108,7 @@ zero_each f (y ∷ xs) z (suc i) x at =
     let a = sum_by-cons f y xs in
     zero_each f xs (omega (arith, a, z)) i x at
 
--- what holds at each place holds of all
+-- what holds at each index holds of all
 all_of : {X : Type 0} (P : X → Type 0) (xs : List X) → ((i : ℕ) (x : X) → slice_get xs i ≡ Some x → P x) → All P xs
 all_of P [] h = All-nil P
 all_of P (x ∷ xs) h = All-cons P x xs (h 0 x refl) (all_of P xs (λ i. h (suc i)))

@@ -121,7 +121,7 @@ module _ {C : Type 0} (step : Step C) (pack : C → List ℕ) (pe : PeView C) wh
     acting_step (Some a) e = hand_step pe.hand a refl e
     acting_step None e = same_step step pe
 
-    -- any call but the placing of a chare
+    -- any call except the placing of a chare
     pub call_step : (call : Call C) → MayCall pe call → IsRunning call → IsStep step pe (after_call step pack unpack pe call) (came_in call) (gone_in pe call) (sent_in step pack unpack pe call)
     call_step (Place e chare) may running = absurd running
     call_step (Receive parcel) may running = still step pe (received pe parcel) [] (parcel ∷ []) [] (received_moved step pe parcel may)

@@ -1,5 +1,5 @@
 -- What one step of a PE keeps: what it holds, received and posted weighs what it holds after it, gave away and executed,
--- however letters and elements are weighed.
+-- by any weight of letters and elements.
 use Rattle.std.proofs.Common.{◌≡◌, ℕ, ◌+◌, List, [], ◌∷◌, ◌++◌, length, Option, Some, None, sum_by, arith, refl, ap}
 use Rattle.std.specs.Prelude.{All, IfSome, drop}
 use Rattle.std.specs.Option.{option_map}
@@ -15,7 +15,7 @@ use Rattle.rts_core.specs.Places.{Life, life_of, letters_of_entry}
 use Rattle.rts_core.specs.Accounts.{Said, posts, executions}
 use Rattle.rts_core.proofs.Weights.{Weight, weigh, of_parcel, of_item, of_hand, of_pe, of_queue}
 
--- what a handler has to do: an element, and the entry that it handles
+-- what a handler handles: an element, and the entry for it
 abbrev pub Work : Type 0 → Type 0
 Work C = ElementView C × Done
 
@@ -43,7 +43,8 @@ work_sends step n (Some x) = (step x.0.chare x.0.index n (input_of x.1)).sends
 abbrev pub posted : {C : Type 0} → Step C → PeView C → Option (Work C) → List LetterView
 posted step pe work = numbered pe.me pe.count (work_sends step pe.n work)
 
--- a step of a PE to another state, with these reports, that runs this handler, receives these parcels and gives these away
+-- a step of a PE to another state, with these trace entries, that runs this handler, receives these parcels and gives
+-- these away
 pub record Moved {C : Type 0} (step : Step C) (pe pe' : PeView C) (rs : List TraceEntry) (work : Option (Work C)) (came gone : List Parcel) : Type 0 where
   pub weighs : (g : Weight) (k : Life → ℕ) → of_pe g k pe' + (sum_by (weigh g) (work_letters work) + (before k work + of_queue g k gone)) ≡ of_pe g k pe + (sum_by (weigh g) (posted step pe work) + (after k work + of_queue g k came))
   pub stood : IfSome work (λ x. (e : ℕ) × (found e pe.room ≡ Some x.0) × All (λ l. l.to ≡ e) (letters_of_entry x.1))

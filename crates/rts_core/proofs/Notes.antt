@@ -1,4 +1,4 @@
--- What the board makes of a note.
+-- What the board does with a note.
 use Rattle.std.proofs.Common.{◌≡◌, ℕ, ◌<◌, ◌≤◌, Some, None, arith}
 use Rattle.std.proofs.lemmas.Bool.Decides.{nat_tests}
 use Rattle.chares.specs.declared.note.Note.TheVariants.{Sync, Finish}

@@ -19,7 +19,7 @@ use Rattle.rts_core.proofs.Weights.{Weight, of_pe, of_queue, of_room, of_element
 use Rattle.rts_core.proofs.WorldSteps.{AreOf, Numbered, known, sum_at, each_set}
 use Rattle.at_sync.specs.declared.strategy.Strategy.{Strategy}
 
--- no element of a room with lower indices is there
+-- an element with a lower index is not in the room
 pub absent_step : (e i : ℕ) → i < e → is_eq (nat_cmp e i) ≡ false
 absent_step e i lt = grind (arith, nat_tests)
 
@@ -33,7 +33,7 @@ absent_above {X} e (x ∷ room) all =
 pub all_below_next : (e : ℕ) (xs : List ℕ) → All (λ i. i < e) xs → All (λ i. i < e + 1) xs
 all_below_next e xs all = λ i x lt. let k = all i x lt in omega (arith, k)
 
--- a PE at place q, as the element before e is placed
+-- PE q before element e is placed
 pub record Opens {C : Type 0} (n e q : ℕ) (pe : PeView C) : Type 0 where
   pub numbered : pe.me ≡ q
   pub same_array : pe.n ≡ n

@@ -25,7 +25,7 @@ use Rattle.rts_core.specs.Histories.{AreHistories}
 use Rattle.rts_core.specs.Worlds.{IsWorld, home, placed_on, all_placed}
 use Rattle.at_sync.specs.declared.strategy.Strategy.{Strategy}
 
--- on one of the PEs
+-- each element opens on one of the PEs
 pub home_below : (e n pes : ℕ) → e < n → 1 ≤ pes → home e n pes < pes
 home_below e n pes inside some =
     let some_element : 0 < n = omega arith in
@@ -48,7 +48,7 @@ drop_next (z ∷ zs) (suc e) x ys h =
     let a : ys ≡ drop (suc e) zs = rw add-one at r.0 in
     (rw add-one a, r.1)
 
--- where all keys are below a number there is none with it
+-- where all keys are below a number no member has it
 lacks_by : {X : Type 0} (e key : ℕ) (x : X) (rest : Option X) (r : Ordering) → nat_cmp e key ≡ r → key < e → rest ≡ None → cond (is_eq r) (Some x) rest ≡ None
 lacks_by e key x rest Less m below later = later
 lacks_by e key x rest Equal m below later = let same : e ≡ key = exact_unsigned e key m in absurd (omega (arith, below, same))
@@ -127,7 +127,7 @@ opening_run step fits pack opened pes states words b h =
       queues = All-replicate (All (IsParcelHistory step fits pack opened)) pes [] (All-nil (IsParcelHistory step fits pack opened));
     }
 
--- a list of so many equal members, and one more
+-- a list of equal members, and one more
 pub replicate_more : {X : Type 0} (k : ℕ) (x : List X) (made after : List (List X)) → made ≡ replicate k [] → x ≡ [] → after ≡ made ++ x ∷ [] → after ≡ replicate (k + 1) []
 replicate_more {X} k x made after e none more =
     more ∙ ap (λ v. v ++ x ∷ []) e ∙ ap (λ v. replicate k [] ++ v ∷ []) none ∙ at_end k ∙ ap (λ n. replicate n []) (sym (add-one k))

@@ -61,7 +61,8 @@ module _ {X : Type 0} (P : ℕ → X → Type 0) where
   each_value Q k [] all = All-nil Q
   each_value Q k (y ∷ room) all = All-cons Q y.1 (values_of room) (k y.0 y.1 all.0) (each_value Q k room all.1)
 
--- what holds of each of a list holds of the one at a place, and what holds of each element of a room of the one found
+-- what holds of each of a list holds of the one at an index, and what holds of each element of a room holds of the
+-- one that is found
 module _ {X : Type 0} (P : X → Type 0) where
   pub at_place : (xs : List X) (i : ℕ) (x : X) → All P xs → slice_get xs i ≡ Some x → P x
   at_place xs i x all at = subst (λ (v : Option X). IfSome v P) at (one_of_all P xs i all)

@@ -88,7 +88,7 @@ module _ {C : Type 0} (A : Type 0) (step : Step C) (pes : ℕ) (chares : List C)
       let c = opening_counts A pes chares strategy some in
       omega (arith, a, b, c)
 
--- an event keeps what is so of the sends, and of the numbers of letters
+-- an event keeps what holds of the sends, and of the numbers of letters
 module _ {C A : Type 0} (step : Step C) (fits : C → Type 0) (pack : C → List ℕ) (unpack : List ℕ → Result (C × ℕ) PupError) (opened : List C) (w : WorldView C A) (event : Event) (next : After C A) where
   pub sent_next : AreHistories step fits pack opened w → AreSent step opened w → Happens step pack unpack w event next → AreSent step opened next.0
   sent_next are sent happens =
@@ -146,7 +146,7 @@ module _ {C A : Type 0} (step : Step C) (pack : C → List ℕ) (unpack : List �
   counted events last run =
       (run_keeps step pack unpack (length chares) (opening_world pes chares strategy) events last (opening_of A pes chares strategy some) run).counted (opening_counted A step pes chares strategy some)
 
-  -- the trace tells how many letters were posted, and which were executed
+  -- the trace shows how many letters were posted, and which were executed
   pub kept_told : (w : WorldView C A) (trace : List TraceEntry) → Kept (length chares) (opening_world pes chares strategy) w trace → IsTraced w trace
   kept_told w trace kept =
       record {
@@ -164,7 +164,7 @@ module _ {C A : Type 0} (step : Step C) (pack : C → List ℕ) (unpack : List �
             omega (arith, a, b, c);
       }
 
-  -- so it does after every list of events
+  -- and it does after every list of events
   pub told : (events : List Event) (last : After C A) → Reaches step pack unpack (opening_world pes chares strategy) events last → IsTraced last.0 last.1
   told events last run =
       kept_told last.0 last.1 (run_keeps step pack unpack (length chares) (opening_world pes chares strategy) events last (opening_of A pes chares strategy some) run)

@@ -23,7 +23,7 @@ use Rattle.rts_core.proofs.Moves.{Work, work_letters, work_sends, before, after}
 use Rattle.rts_core.proofs.WorldSteps.{AreOf, Stands, Stepped}
 use Rattle.rts_core.proofs.Listings.{no_life, no_letter, sum_zero, world_letters, world_lives, world_journals, before_none, after_none}
 
--- what is said weighs alike, whatever the number of the letter
+-- what is said weighs the same, whatever the number of the letter
 abbrev pub by_message : (ℕ × List ℕ → ℕ) → Weight
 by_message h = λ id to body. h (to, body)
 
@@ -53,7 +53,7 @@ journal_more f i xs done =
     let c : sum_by f (letters_of_entry done ++ []) ≡ sum_by f (letters_of_entry done) + sum_by f [] = sum_by-append f (letters_of_entry done) [] in
     omega (arith, a, b, c)
 
--- the chare that has lived is the step folded over its entries
+-- the chare after these entries is the step folded over them
 pub lived_folded : {C : Type 0} (step : Step C) (pack : C → List ℕ) (el : ElementView C) (n : ℕ) (xs : List (Done × ℕ)) → (lived step pack el n xs).chare ≡ folded step el.index n el.chare (map (λ x. x.0) xs)
 lived_folded step pack el n [] = refl
 lived_folded step pack el n (x ∷ xs) = lived_folded step pack (ran step pack el n x.1 x.0) n xs
@@ -130,7 +130,7 @@ length_sum {X} (x ∷ xs) =
 abbrev pub each_one : Weight
 each_one id to body = 1
 
--- all letters that were posted are counted after an event where they were so before
+-- all letters that were posted are counted after an event where they were before
 pub counted_step : {C A : Type 0} (step : Step C) (n : ℕ) (w w' : WorldView C A) (rs : List TraceEntry) → Stepped step n w w' rs → IsCounted w → IsCounted w'
 counted_step step n w w' rs s h =
     let a = s.weighs each_one no_life in

@@ -17,7 +17,7 @@ delivered_at {C} pe pe' queues p queue queue' at same e = rw at (by (delivered p
     by None e = ap (λ (x : PeView C × List Parcel). (x.0, slice_set queues p x.1)) e ∙ ap (λ (qs : List (List Parcel)). (pe, qs)) same
     by (Some after) e = ap (λ (x : PeView C × List Parcel). (x.0, slice_set queues p x.1)) e
 
--- an element that goes on where it stands
+-- an element that goes on where it is
 pub resume_event_is : {C A : Type 0} (step : Step C) (pack : C → List ℕ) (p : ℕ) (pe after : PeView C) (b : BoardState A) (e round place : ℕ) (old reports : List TraceEntry)
     → Some (round, place) ≡ due pe b e → false ≡ not (place == p) → after ≡ resumed step pack pe e round → reports ≡ old ++ resume_entries step pack pe e round → old ≡ []
     → (after, reports) ≡ or_same (pe, []) (resume_event step pack p pe b e)

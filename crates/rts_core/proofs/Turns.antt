@@ -29,7 +29,7 @@ pub not_true : (b : Bool) → not b ≡ true → b ≡ false
 not_true true h = cc
 not_true false h = refl
 
--- something holds of what PE p makes of its local_view, in every case
+-- something holds of what PE p sees after its step, in every case
 pub record EachTurn {C A : Type 0} (step : Step C) (pack : C → List ℕ) (p : ℕ) (d : LocalView C A) (P : LocalView C A × List TraceEntry → Type 0) : Type 0 where
   pub starts : (e : ℕ) (el : ElementView C) → found e d.pe.room ≡ Some el → el.progress.started ≡ false → P (record d { pe = resumed step pack d.pe e 0 }, resume_entries step pack d.pe e 0)
   pub goes_on : (e round : ℕ) (el : ElementView C) → found e d.pe.room ≡ Some el → waits_for el ≡ Some round → place_in d.board round e ≡ Some p
@@ -124,7 +124,7 @@ module _ {C A : Type 0} (step : Step C) (pack : C → List ℕ) (unpack : List �
       subst (λ (v : PeView C × List TraceEntry). P (record d { pe = v.0 }, v.1)) (some_same (resumed step pack d.pe e 0, resume_entries step pack d.pe e 0) a both.1)
       (each.starts e el at (not_true el.progress.started both.0)))
 
-  -- an element that is due: it stands there, and waits for the end of a round that is decided
+  -- an element that is due: it is on the PE, and waits for the end of a round that is decided
   pub record IsDue (e round q : ℕ) : Type 0 where
     pub el : ElementView C
     pub stands : found e d.pe.room ≡ Some el
@@ -222,8 +222,8 @@ module _ {C A : Type 0} (step : Step C) (pack : C → List ℕ) (unpack : List �
       let same : q ≡ p = some_same q p of in
       then_so (resume_event step pack p d.pe d.board e) (λ after. (record d { pe = after.0 }, after.1)) a (subst (λ (v : ℕ). local_step step pack unpack (Resume v e) d ≡ Some a) same h) (resume_event_so e)
 
--- Something holds of the world after an event and its reports where it holds of the same world and no reports, of what
--- each PE makes of its local_view, and of a decision.
+-- Something holds of the world after an event and its trace entries where it holds of the same world without trace
+-- entries, of the step of each PE, and of a decision.
 module _ {C A : Type 0} (step : Step C) (pack : C → List ℕ) (unpack : List ℕ → Result (C × ℕ) PupError) (w : WorldView C A) (Q : After C A → Type 0) where
   abbrev pub TurnsTo : ℕ → LocalView C A × List TraceEntry → Type 0
   TurnsTo p a = Q (with_local w p a.0, a.1)

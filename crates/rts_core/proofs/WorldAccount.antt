@@ -21,7 +21,7 @@ use Rattle.rts_core.proofs.WorldSteps.{AreOf, Stepped}
 use Rattle.at_sync.specs.declared.strategy.Strategy.{Strategy}
 
 module _ {C A E : Type 0} (step : Step C) (fits : C → Type 0) (pack : C → List ℕ) (unpack : List ℕ → Result (C × ℕ) PupError) (opened : List C) (pes : ℕ) (strategy : Strategy) (w w' : WorldView C A) (event : Event) where
-  -- what was led to with a trace is accounted for after the event, with its reports
+  -- a world that is accounted for with its trace is so after the event, with its trace entries
   pub accounted_ok : (r : Result (List TraceEntry) E) → 1 ≤ pes → IfOk r (λ reports. Happens step pack unpack w event (w', reports)) → IfOk r (λ reports. (events : List Event) (trace : List TraceEntry) → Reaches step pack unpack (opening_world pes opened strategy) events (w, trace) → Accounted (length opened) w' (trace ++ reports))
   accounted_ok (Ok reports) some ok = λ events trace run. accounted_next step pack unpack pes opened strategy some events w trace event (w', reports) run ok
   accounted_ok (Err e) some ok = tt
@@ -31,7 +31,7 @@ module _ {C A E : Type 0} (step : Step C) (fits : C → Type 0) (pack : C → Li
   sent_ok (Ok reports) are sent ok err = sent_next step fits pack unpack opened w event (w', reports) are sent ok
   sent_ok (Err e) are sent ok err = subst (λ (v : WorldView C A). AreSent step opened v) (sym err) sent
 
-  -- so is every letter counted
+  -- every letter is counted, after it as before
   pub counted_ok : (r : Result (List TraceEntry) E) → AreHistories step fits pack opened w → IsCounted w → IfOk r (λ reports. Happens step pack unpack w event (w', reports)) → OnErr r (w' ≡ w) → IsCounted w'
   counted_ok (Ok reports) are count ok err = counted_next step fits pack unpack opened w event (w', reports) are count ok
   counted_ok (Err e) are count ok err = subst (λ (v : WorldView C A). IsCounted v) (sym err) count

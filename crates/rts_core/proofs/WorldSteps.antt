@@ -91,7 +91,7 @@ numbered_says h me count (s ∷ ss) =
 abbrev pub AreOf : {C A : Type 0} → ℕ → WorldView C A → Type 0
 AreOf {C} n w = (p : ℕ) (pe : PeView C) → slice_get w.pes p ≡ Some pe → pe.n ≡ n
 
--- each PE has the number of its place
+-- each PE has the number of its index
 abbrev pub Numbered : {C A : Type 0} → WorldView C A → Type 0
 Numbered {C} w = (p : ℕ) (pe : PeView C) → slice_get w.pes p ≡ Some pe → pe.me ≡ p
 
@@ -100,12 +100,12 @@ abbrev pub known : {C : Type 0} → ℕ → Option (PeView C) → ℕ
 known j None = 0
 known j (Some pe) = below j pe.count
 
--- an element that stands in the room of some PE
+-- an element that is in the room of some PE
 abbrev pub Stands : {C A : Type 0} → WorldView C A → ElementView C → Type 0
 Stands {C} w el = (p : ℕ) × (pe : PeView C) × (e : ℕ) × (slice_get w.pes p ≡ Some pe) × (found e pe.room ≡ Some el)
 
--- from a world to another, with these reports: what it holds and what was posted weighs what it holds then and what
--- was executed, however letters and elements are weighed
+-- from a world to another, with these trace entries: what it holds and what was posted weighs what it holds then
+-- and what was executed, by any weight of letters and elements
 pub record Stepped {C A : Type 0} (step : Step C) (n : ℕ) (w w' : WorldView C A) (rs : List TraceEntry) : Type 0 where
   pub work : Option (Work C)
   pub new : List LetterView
@@ -138,7 +138,7 @@ stays step n w words board rs are p x =
     }
 
 module _ {C : Type 0} (pes : List (PeView C)) (p : ℕ) (pe pe' : PeView C) (at : slice_get pes p ≡ Some pe) where
-  -- what holds of each PE at its place still does where it holds of the new one
+  -- what holds of each PE at its index still does where it holds of the new one
   pub each_set : (P : ℕ → PeView C → Type 0) → ((q : ℕ) (x : PeView C) → slice_get pes q ≡ Some x → P q x) → P p pe'
       → (q : ℕ) (x : PeView C) (b : Bool) → nat_eq q p ≡ b → slice_get (slice_set pes p pe') q ≡ Some x → P q x
   each_set P all new q x true t h =

@@ -20,7 +20,7 @@ use Rattle.rts_core.specs.Histories.{AreHistories, IsLocalView}
 use Rattle.rts_core.specs.Parts.{or_same}
 use Rattle.rts_core.specs.Worlds.{WorldView, IsWorld}
 
--- what a PE makes of an event is what the world makes of it
+-- the step of a PE is the step of the world
 pub enabled_at : {C A : Type 0} (step : Step C) (pack : C → List ℕ) (unpack : List ℕ → Result (C × ℕ) PupError) (w : WorldView C A) (event : Event) (p : ℕ) (pe : PeView C) (d : LocalView C A) (reports : List TraceEntry)
     → slice_get w.pes p ≡ Some pe → slice_set w.pes p pe ≡ w.pes → (d, reports) ≡ or_same (local_view w pe, []) (local_step step pack unpack event (local_view w pe)) → (with_local w p d, reports) ≡ or_nothing w (enabled step pack unpack w event p)
 enabled_at {C} {A} step pack unpack w event p pe d reports at same e =
@@ -37,12 +37,12 @@ pub enabled_ok : {C A E : Type 0} (step : Step C) (pack : C → List ℕ) (unpac
 enabled_ok step pack unpack w event p pe d (Ok reports) at same ok = enabled_at step pack unpack w event p pe d reports at same ok
 enabled_ok step pack unpack w event p pe d (Err e) at same ok = tt
 
--- a refused step leaves its PE in its place
+-- a refused step leaves its PE unchanged in the list
 pub same_at : {C V E : Type 0} (pes : List (PeView C)) (p : ℕ) (pe pe' : PeView C) (r : Result V E) → slice_set pes p pe ≡ pes → OnErr r (pe' ≡ pe) → OnErr r (slice_set pes p pe' ≡ pes)
 same_at pes p pe pe' (Ok v) same err = tt
 same_at pes p pe pe' (Err e) same err = ap (slice_set pes p) err ∙ same
 
--- it is still a world, of the same run
+-- it is still a world of the same run
 pub world_local : {C A : Type 0} (step : Step C) (fits : C → Type 0) (pack : C → List ℕ) (opened : List C) (pes : ℕ) (w : WorldView C A) (p : ℕ) (d : LocalView C A)
     → IsWorld (length opened) pes w → IsLocalView step fits pack opened pes d → length d.queues ≡ length w.queues → length d.words ≡ length w.words → IsWorld (length opened) pes (with_local w p d)
 world_local {C} step fits pack opened pes w p d h k queues words =
@@ -81,11 +81,11 @@ world_board n pes w b h counted same =
 pub histories_board : {C A : Type 0} (step : Step C) (fits : C → Type 0) (pack : C → List ℕ) (opened : List C) (w : WorldView C A) (b : BoardState A) → AreHistories step fits pack opened w → AreHistories step fits pack opened (record { pes = w.pes; queues = w.queues; words = w.words; board = b })
 histories_board step fits pack opened w b h = record { pes = h.pes; queues = h.queues }
 
--- the items of a list of which all was lent and came back
+-- the items of a list of which all was lent and given back
 pub came_back : {X : Type 0} (n : ℕ) (xs items : List X) → n ≡ length xs → take n (xs ++ drop (length xs) items) ≡ xs
 came_back n xs items same = rw same (take-append_seam xs (drop (length xs) items))
 
--- a world of which nothing has changed
+-- a world in which nothing has changed
 pub nothing_changed : {C A V E : Type 0} (r : Result V E) (w w' : WorldView C A) → OnErr r (w'.pes ≡ w.pes) → OnErr r (w'.queues ≡ w.queues) → OnErr r (w'.words ≡ w.words) → OnErr r (w'.board ≡ w.board) → OnErr r (w' ≡ w)
 nothing_changed (Ok v) w w' pes queues words board = tt
 nothing_changed {C} {A} (Err e) w w' pes queues words board =
@@ -103,7 +103,7 @@ pub board_same : {C A V E : Type 0} (r : Result V E) (w : WorldView C A) (b : Bo
 board_same (Ok v) w b err = tt
 board_same {C} {A} (Err e) w b err = ap (λ (x : BoardState A). record { pes = w.pes; queues = w.queues; words = w.words; board = x }) err
 
--- what `get` lends is the item at that place, if there is one
+-- what `get` lends is the item at that index, if there is one
 pub lent_at : {X : Type 0} (items : List X) (i : ℕ) (lent : Option (Bor X)) → IsItemAt items i lent → option_copied lent ≡ slice_get items i
 lent_at items i None found = sym (slice_get_past items i found.3)
 lent_at items i (Some item) found =

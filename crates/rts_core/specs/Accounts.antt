@@ -1,4 +1,4 @@
--- The account of a run: where each letter is that was posted, and what an element has to do with it.
+-- The account of a run: where each letter is that was posted, and which element executes it.
 use Rattle.std.specs.Prelude.{◌≡◌, ℕ, ◌+◌, ◌<◌, ◌≤◌, List, [], ◌∷◌, length, sum_by, Bool, ◌&&◌, ◌==◌, if◌then◌else◌}
 use Rattle.std.specs.List.{flat_map}
 use Rattle.chares.specs.declared.trace_entry.TraceEntry.{TraceEntry}
@@ -35,7 +35,7 @@ executions trace = flat_map execution_of trace
 abbrev pub is_number : ℕ × ℕ → ℕ × ℕ → Bool
 is_number id x = (x.0 == id.0) && (x.1 == id.1)
 
--- whether this was said of a letter with a number, and whether of that and an element
+-- whether this was said of a letter with this number, and whether of that letter and this element
 abbrev pub says_number : ℕ × ℕ → Said → Bool
 says_number id x = is_number id x.0
 
@@ -56,7 +56,7 @@ abbrev pub message : LetterView → ℕ × List ℕ
 message l = (l.to, l.body)
 
 -- As multisets of target and body, what the elements of a world have sent is the letters in places together with those
--- in journals: however a weight is given to target and body, the sums agree.
+-- in journals: by any weight of target and body, the sums agree.
 abbrev pub AreSent : {C A : Type 0} → Step C → List C → WorldView C A → Type 0
 AreSent step opened w =
     (weight : ℕ × List ℕ → ℕ)

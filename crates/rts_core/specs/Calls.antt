@@ -13,7 +13,7 @@ use Rattle.pe_state.specs.Histories.{HasHistories}
 use Rattle.pe_state.specs.Rooms.{found, sends_in, IsKeyed}
 use Rattle.rts_core.specs.Ledgers.{Ledger, no_ledger, entered_in, AddsUp, IsLocalAccount}
 
--- a call of a PE: a chare is placed as an element; a parcel is received, or handed back; an element was looked for; the
+-- a call of a PE: a chare is placed as an element; a parcel is received, or handed back; an element is looked up; the
 -- front of the outbox is sent; a note is done; the PE acts; an element departs to a PE, or is resumed after a round; or
 -- any of these is refused
 pub data Call (C : Type 0) : Type 0 where
@@ -33,8 +33,8 @@ abbrev pub posted_as : ℕ → ℕ → List (ℕ × List ℕ) → List LetterVie
 posted_as me k [] = []
 posted_as me k (send ∷ sends) = letter_to me k send.0 send.1 ∷ posted_as me (k + 1) sends
 
--- no element is placed where one with its index stands, and no parcel is received into a hand that holds one; what else
--- a call requires, its account does not need
+-- no element is placed where there is one with its index already, and no parcel is received into a hand that holds one;
+-- whatever else a call requires, the account does not need
 abbrev pub MayCall : {C : Type 0} → PeView C → Call C → Type 0
 MayCall pe (Place e chare) = found e pe.room ≡ None
 MayCall pe (Receive parcel) = pe.hand ≡ None
@@ -56,7 +56,8 @@ gone_in pe Send = option_to_list (front_parcel pe.outbox)
 gone_in pe call = []
 
 module _ {C : Type 0} (step : Step C) (pack : C → List ℕ) where
-  -- what is sent where a parcel is acted on: what the element of a letter sends that stands there, and else nothing
+  -- what is sent where a parcel is acted on: what the element of a letter sends where it is on the PE, and otherwise
+  -- nothing
   abbrev pub sent_on : PeView C → Parcel → List (ℕ × List ℕ)
   sent_on pe (Letter l) = sends_in step pack pe.room l.to pe.n (OfLetter l)
   sent_on pe (Element p) = []
@@ -111,7 +112,8 @@ module _ {C : Type 0} (step : Step C) (pack : C → List ℕ) (unpack : List ℕ
   abbrev pub KeepsAddingUp : PeView C → Ledger → Call C → Type 0
   KeepsAddingUp pe ledger call = MayCall pe call → AddsUp pe ledger → AddsUp (after_call pe call) (with_call ledger pe call)
 
-  -- one more call, but the placing of a chare, keeps the local account of a PE whose elements are what their journals say
+  -- one more call, other than the placing of a chare, keeps the local account of a PE whose elements are what their
+  -- journals say
   abbrev pub KeepsLocalAccount : (C → Type 0) → List C → PeView C → PeView C → Ledger → Call C → Type 0
   KeepsLocalAccount fits opened start pe ledger call =
       MayCall pe call → IsRunning call → HasHistories step fits pack opened pe → IsKeyed pe.room

@@ -1,5 +1,5 @@
--- What each event of a run does: where it is enabled, the world after it, and its reports in order. The events are
--- those of docs/EVENTS.md; what a handler does, and Act in its four cases, is said of one PE.
+-- What each event of a run does: where it is enabled, the world after it, and its trace entries in order. The events
+-- are those of docs/EVENTS.md; what a handler does, and Act in its four cases, is said of one PE.
 use Rattle.std.specs.Prelude.{◌≡◌, ℕ, ◌+◌, List, [], ◌∷◌, ◌++◌, Option, None, Some, Bool, not, ◌&&◌, ◌==◌, ◌⊎◌, Result, if◌then◌else◌, nat_lt, is_none, slice_get, slice_set, MatchOption}
 use Rattle.std.specs.Option.{option_map, option_and_then}
 use Rattle.at_sync.specs.Boards.{BoardState, Decides, place_in, after_report, after_finish}
@@ -17,7 +17,7 @@ use Rattle.pe_state.specs.Pes.{PeView, Parcel, wanted, looked, front_address, fr
 use Rattle.pe_state.specs.Rooms.{found}
 use Rattle.rts_core.specs.Worlds.{WorldView}
 
--- where the first is there, what follows from it
+-- where the first is present, what follows from it
 infixl 10 ◌>>=◌
 abbrev pub ◌>>=◌ : {X Y : Type 0} → Option X → (X → Option Y) → Option Y
 o >>= f = option_and_then f o
@@ -31,7 +31,7 @@ abbrev pub front_of : {X : Type 0} → List X → Option (X × List X)
 front_of [] = None
 front_of (x ∷ xs) = Some (x, xs)
 
--- element e stands on a PE and waits for the end of a round that is decided: that round, and its place in the decision
+-- element e is on a PE and waits for the end of a round that is decided: that round, and its place in the decision
 abbrev pub due : {C A : Type 0} → PeView C → BoardState A → ℕ → Option (ℕ × ℕ)
 due pe b e = do
   el ← found e pe.room
@@ -39,8 +39,8 @@ due pe b e = do
   q ← place_in b round e
   Some (round, q)
 
--- the board after a note, where it is one that the board takes: of an element that it knows, on one of its PEs, for its
--- round, and the first of that element there; or that an element has finished which it knows
+-- the board after a note, where the board takes it: a report of an element that it knows, on one of its PEs, for its
+-- round, and the element's first there; or a note that an element that it knows has finished
 abbrev pub board_after : {A : Type 0} → BoardState A → Note → Option (BoardState A)
 board_after b (Sync e round units bytes pe) =
     where_true
@@ -53,9 +53,9 @@ abbrev pub note_entries : Note → List TraceEntry
 note_entries (Sync e round units bytes pe) = Synced e round ∷ []
 note_entries (Finish e) = []
 
--- What an event makes of a PE, and of what else it reads or changes, where it is enabled.
+-- The result of an event for a PE, and for what else the event reads or changes, where it is enabled.
 module _ {C : Type 0} where
-  -- Look: a letter has to be looked for; it gets the PE in the word of its element
+  -- Look: a letter has to be looked up; it gets the PE in the location word of its element
   abbrev pub look_event : PeView C → List ℕ → Option (PeView C)
   look_event pe words = do
     e ← wanted pe
@@ -90,14 +90,14 @@ module _ {C : Type 0} where
     Some (noted pe, after, note_entries note)
 
 module _ {C : Type 0} (step : Step C) (pack : C → List ℕ) where
-  -- Start: e stands in the room and has not started; its handler runs for round 0
+  -- Start: e is in the room and has not started; its handler runs for round 0
   abbrev pub start_event : PeView C → ℕ → Option (PeView C × List TraceEntry)
   start_event pe e = do
     el ← found e pe.room
     where_true (not el.progress.started) (Some (resumed step pack pe e 0, resume_entries step pack pe e 0))
 
   -- Depart, of PE p: e waits for the end of a round that is decided, and its place is another PE; it is packed and put
-  -- into the outbox for that PE, which its word names from now on
+  -- into the outbox for that PE, which its location word names from now on
   abbrev pub depart_event : {A : Type 0} → ℕ → PeView C → List ℕ → BoardState A → ℕ → Option (PeView C × List ℕ × List TraceEntry)
   depart_event p pe words b e = do
     at ← due pe b e
@@ -113,7 +113,7 @@ module _ {C : Type 0} (step : Step C) (pack : C → List ℕ) where
   abbrev pub act_event : (List ℕ → Result (C × ℕ) PupError) → PeView C → Option (PeView C × List TraceEntry)
   act_event unpack pe = option_map (λ a. (a.pe, a.trace)) (acting step pack unpack pe)
 
--- The local view of a PE, which makes a step: the PE itself, the queues, the words and the board.
+-- The local view of a PE, which makes a step: the PE itself, the queues, the location words and the board.
 pub record LocalView (C A : Type 0) : Type 0 where
   pub pe : PeView C
   pub queues : List (List Parcel)
@@ -133,7 +133,7 @@ pe_of (Depart p e) = Some p
 pe_of (Resume p e) = Some p
 
 module _ {C A : Type 0} (step : Step C) (pack : C → List ℕ) (unpack : List ℕ → Result (C × ℕ) PupError) where
-  -- its step: what that PE makes of the event, with the trace entries, where the event is enabled
+  -- its step: what that PE sees after the event, with the trace entries, where the event is enabled
   abbrev pub local_step : Event → LocalView C A → Option (LocalView C A × List TraceEntry)
   local_step (Start p e) d = do
     after ← start_event step pack d.pe e
@@ -161,7 +161,7 @@ module _ {C A : Type 0} (step : Step C) (pack : C → List ℕ) (unpack : List �
     Some (record d { pe = after.0 }, after.1)
   local_step Decide d = None
 
--- the world after an event, and the trace entries of that
+-- the world after an event, and the trace entries of the event
 abbrev pub After : Type 0 → Type 0 → Type 0
 After C A = WorldView C A × List TraceEntry
 
@@ -193,14 +193,14 @@ abbrev pub MayDecide : {A : Type 0} → BoardState A → BoardState A → List T
 MayDecide before after reports = IsDecision before after reports ⊎ IsTooEarly before after reports
 
 module _ {C A : Type 0} (step : Step C) (pack : C → List ℕ) (unpack : List ℕ → Result (C × ℕ) PupError) where
-  -- what an event of this PE makes of the world, where it is enabled; there may be no such PE
+  -- the result of an event of this PE for the world, where it is enabled; there may be no such PE
   abbrev pub enabled : WorldView C A → Event → ℕ → Option (After C A)
   enabled w event p = do
     pe ← slice_get w.pes p
     after ← local_step step pack unpack event (local_view w pe)
     Some (with_local w p after.0, after.1)
 
-  -- what an event makes of a world; which of the best decisions is made is free
+  -- the result of an event for a world; where a round is decided, any of the best decisions may be made
   abbrev pub Happens : WorldView C A → Event → After C A → Type 0
   Happens w event after =
       MatchOption (pe_of event)

@@ -13,7 +13,7 @@ module _ {C : Type 0} (step : Step C) (fits : C → Type 0) (pack : C → List �
     pub pes : All (HasHistories step fits pack opened) w.pes
     pub queues : All (All (IsParcelHistory step fits pack opened)) w.queues
 
-  -- what a PE sees is of a run that opened with these chares on so many PEs
+  -- what a PE sees is of a run that opened with these chares on this number of PEs
   pub record IsLocalView {A : Type 0} (pes : ℕ) (d : LocalView C A) : Type 0 where
     pub histories : HasHistories step fits pack opened d.pe
     pub parcels : All (All (IsParcelHistory step fits pack opened)) d.queues

@@ -21,7 +21,7 @@ no_ledger = record { came = []; gone = []; posted = [] }
 abbrev pub entered_in : Ledger → List Parcel → List Parcel → List LetterView → Ledger
 entered_in ledger came gone new = record { came = ledger.came ++ came; gone = ledger.gone ++ gone; posted = ledger.posted ++ new }
 
--- the letters of a parcel: the one that it is, or those in the journal of the element that it is
+-- the letters of a parcel: the letter itself, or those in the journal of the element
 abbrev pub all_letters_in : Parcel → List LetterView
 all_letters_in parcel = letters_in parcel ++ flat_map letters_of_life (lives_in parcel)
 
@@ -29,21 +29,21 @@ all_letters_in parcel = letters_in parcel ++ flat_map letters_of_life (lives_in 
 abbrev pub all_letters_at : {C : Type 0} → PeView C → List LetterView
 all_letters_at pe = letters_at pe ++ flat_map letters_of_life (lives_at pe)
 
--- Letters posted and received are letters given away, held and in journals: however a weight is given to the number,
--- the element and the body of each, the sums agree. And the numbers posted are those below the count, in order.
+-- Letters posted and received are letters given away, held and in journals: by any weight of the number, the element and
+-- the body of each, the sums agree. And the numbers posted are those below the count, in order.
 pub record AddsUp {C : Type 0} (pe : PeView C) (ledger : Ledger) : Type 0 where
   pub conserved : (weight : ℕ × ℕ → ℕ → List ℕ → ℕ) → sum_by (λ l. weight l.id l.to l.body) (all_letters_at pe) + sum_by (λ l. weight l.id l.to l.body) (flat_map all_letters_in ledger.gone) ≡ sum_by (λ l. weight l.id l.to l.body) (flat_map all_letters_in ledger.came) + sum_by (λ l. weight l.id l.to l.body) ledger.posted
   pub numbered : map (λ l. l.id) ledger.posted ≡ map (λ k. (pe.me, k)) (range_with_len 0 pe.count)
 
--- A weight of elements that no handler changes: an element weighs the same after one more entry, be it a resumption or
--- a letter that was posted to it. Such is any weight by the index alone, and how many letters of others it has executed.
+-- A weight of elements that no handler changes: an element weighs the same after one more entry, whether that is a
+-- resumption or a letter that was posted to it. Any weight by the index alone is one, and so is the number of letters of
+-- others that it has executed.
 abbrev pub IsSteady : (Life → ℕ) → Type 0
 IsSteady weight = (e : ℕ) (journal : List Done) (done : Done) → All (λ l. l.to ≡ e) (letters_of_entry done) → weight (e, journal ++ done ∷ []) ≡ weight (e, journal)
 
--- The whole local account of a PE that began as `start`. Its letters add up. The elements that it had and received
--- are those that it has and has given away, however they are weighed by what no handler changes. And what its elements
--- have sent, and those that it gave away, is what it has posted and what those had sent that it received, with target and
--- body.
+-- The whole local account of a PE that began as `start`. Its letters add up. The elements that it had and received are
+-- those that it has and has given away, by any weight that no handler changes. And what its elements have sent, and those
+-- that it gave away, is what it has posted and what the elements that it received had sent before, with target and body.
 pub record IsLocalAccount {C : Type 0} (step : Step C) (opened : List C) (start pe : PeView C) (ledger : Ledger) : Type 0 where
   pub same_me : pe.me ≡ start.me
   pub letters : AddsUp pe ledger

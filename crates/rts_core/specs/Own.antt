@@ -8,6 +8,6 @@ use Rattle.rts_core.specs.Worlds.{WorldView}
 abbrev pub IsOwn : Life → Type 0
 IsOwn life = All (λ l. l.to ≡ life.0) (letters_of_life life)
 
--- so for every element of a world, wherever it is
+-- this holds of every element of a world, wherever it is
 abbrev pub AreOwn : {C A : Type 0} → WorldView C A → Type 0
 AreOwn w = All IsOwn (lives w)

@@ -1,5 +1,5 @@
 -- Where the letters and the elements of a world are. The places of a letter are the queues, and the hands, shelves and
--- outboxes of the PEs; an element stands in a room, or is a parcel in a queue, a hand or an outbox. A letter in the
+-- outboxes of the PEs; an element is in a room, or is a parcel in a queue, a hand or an outbox. A letter in the
 -- journal of an element was executed, and is in no place. Source: the Charm++ manual, where a message waits in the
 -- queue of a PE until its handler runs, and an object that migrates is packed into a message.
 use Rattle.std.specs.Prelude.{ℕ, List, [], ◌∷◌, ◌++◌, length, map, slice_get}

@@ -16,14 +16,14 @@ use Rattle.rts_core.specs.Worlds.{WorldView}
 use Rattle.rts_core.specs.declared.event.Event.{Event}
 use Rattle.rts_core.specs.declared.event.Event.TheVariants.{Start, Look, Flush, Deliver, Act, Report, Decide, Depart, Resume}
 
--- a decision is refused in the last round, or is out of memory
+-- a decision is refused in the last round, or where memory is refused
 abbrev pub RefusesDecide : Measured → StepError → Type 0
 RefusesDecide m OutOfMemory = HasNextRound m
 RefusesDecide m Worn = IsComplete m × (m.round ≡ ROUND)
 RefusesDecide m _ = ⊥
 
 module _ {C : Type 0} (step : Step C) (pack : C → List ℕ) (refuses : Refuses C) where
-  -- a start that is enabled, and a resumption, are refused for memory or for what the handler may return
+  -- a start that is enabled, and a resumption, are refused where memory is, or with what the handler may return
   abbrev pub RefusesStart : PeView C → ℕ → StepError → Type 0
   RefusesStart pe e error = IsSome (start_event step pack pe e) × RefusesStep (RefusesResume refuses pe e 0) error
 
@@ -31,8 +31,8 @@ module _ {C : Type 0} (step : Step C) (pack : C → List ℕ) (refuses : Refuses
   RefusesGoingOn p pe b e error =
       IsSome (resume_event step pack p pe b e) × MatchOption (due pe b e) ⊥ (λ at. RefusesStep (RefusesResume refuses pe e at.0) error)
 
-  -- The step of a PE is refused for memory, or for what a handler may return, only where it is enabled; a report is, where a note
-  -- is owed. (Memory for the trace entry is reserved before the board is asked.)
+  -- The step of a PE is refused where memory is, or with what a handler may return, only where it is enabled; a report is refused
+  -- where a note is owed. (Memory for the trace entry is reserved before the board is asked.)
   abbrev pub RefusesAt : {A : Type 0} → (List ℕ → Result (C × ℕ) PupError) → Event → LocalView C A → StepError → Type 0
   RefusesAt unpack (Start p e) d error = RefusesStart d.pe e error
   RefusesAt unpack (Look p) d error = ⊥

@@ -1,4 +1,4 @@
--- Runs: what a list of events, one after another, makes of a world.
+-- Runs: the world that a list of events, one after another, leads to.
 use Rattle.std.specs.Prelude.{◌≡◌, ◌≤◌, ℕ, List, [], ◌∷◌, ◌++◌, Result}
 use Rattle.chares.specs.declared.trace_entry.TraceEntry.{TraceEntry}
 use Rattle.chares.specs.Steps.{Step}
@@ -15,13 +15,13 @@ module _ {C A : Type 0} (step : Step C) (pack : C → List ℕ) (unpack : List �
   Reaches w (event ∷ events) last =
       (first : After C A) × (rest : After C A) × Happens step pack unpack w event first × Reaches first.0 events rest × (last ≡ (rest.0, first.1 ++ rest.1))
 
-  -- a list of events reaches a world, with its trace, from the opening of these chares on so many PEs, whose rounds are decided
-  -- by this strategy
+  -- a list of events reaches a world, with its trace, from the opening of these chares on this number of PEs, whose rounds are
+  -- decided by this strategy
   abbrev pub RunsTo : ℕ → List C → Strategy → List Event → After C A → Type 0
   RunsTo pes chares strategy events last = Reaches (opening_world pes chares strategy) events last
 
-  -- what holds of every run: of the chares that it opens with, on some PEs and by some strategy, and of each world that a list of events reaches,
-  -- with its trace
+  -- what holds of every run: of the chares that it opens with, on some PEs and by some strategy, and of each world that a list of
+  -- events reaches, with its trace
   abbrev pub ForEachRun : (List C → After C A → Type 0) → Type 0
   ForEachRun P = (pes : ℕ) (chares : List C) (strategy : Strategy) (events : List Event) (last : After C A) → 1 ≤ pes → Reaches (opening_world pes chares strategy) events last → P chares last
 

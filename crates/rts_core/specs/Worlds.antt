@@ -1,6 +1,6 @@
 -- The world of a run: its PEs, a queue before each PE, a location word for each element, and the board. Source: the
--- Charm++ manual on chare arrays and load balancing; that there is one word for each element, and one board, is this
--- project's choice.
+-- Charm++ manual on chare arrays and load balancing; that there is one location word for each element, and one board, is
+-- this project's choice.
 use Rattle.std.specs.Prelude.{◌≡◌, ℕ, ◌+◌, ◌*◌, ◌/◌, ◌<◌, ◌≤◌, List, [], ◌∷◌, length, map, replicate, slice_get, slice_set, All, Option, None, Some}
 use Rattle.std.specs.List.{range_with_len}
 use Rattle.chare_index.specs.declared.limits.TheConstants.Limits.{ELEMENTS, PES}
@@ -32,16 +32,16 @@ all_placed n pes e (chare ∷ chares) =
     let q = home e n (length pes) in
     all_placed n (placed_on pes q e chare (slice_get pes q)) (e + 1) chares
 
--- the PEs as a run opens: each element stands on its home, not started
+-- the PEs as a run opens: each element is on its home, not started
 abbrev pub opening_pes : {C : Type 0} → ℕ → List C → List (PeView C)
 opening_pes pes chares = all_placed (length chares) (map (λ q. new_pe q (length chares)) (range_with_len 0 pes)) 0 chares
 
--- the words as a run of n elements opens: of each element its home
+-- the location words as a run of n elements opens: of each element its home
 abbrev pub opening_words : ℕ → ℕ → List ℕ
 opening_words n pes = map (λ e. home e n pes) (range_with_len 0 n)
 
--- the opening world: each element stands on its home, which is its word, all else is empty, and rounds are decided by this
--- strategy
+-- the opening world: each element is on its home, which is its location word, all else is empty, and rounds are decided by
+-- this strategy
 abbrev pub opening_world : {C A : Type 0} → ℕ → List C → Strategy → WorldView C A
 opening_world pes chares strategy =
     record {
@@ -51,8 +51,8 @@ opening_world pes chares strategy =
       board = new_board (length chares) pes strategy;
     }
 
--- What holds of every world of a run that opened with n elements on so many PEs: there are as many PEs, queues and words
--- as that, each word is a PE, and PEs and board are of the same elements.
+-- What holds of every world of a run that opened with n elements on this number of PEs: there are as many PEs, queues and
+-- words as that, each location word is a PE, and PEs and board are of the same elements.
 pub record IsWorld {C A : Type 0} (n pes : ℕ) (w : WorldView C A) : Type 0 where
   pub some_pe : 1 ≤ pes
   pub few_pes : pes ≤ PES

@@ -12,14 +12,14 @@ use pe_state::{HeldParcel, Item, Parcel, PeState};
 use std::alloc::Allocator;
 
 /// How many letters of a world were posted, how many of them were executed, and how many are held. A letter is held while
-/// it is in a queue, a hand or an outbox, or on a shelf; an element on its way is no letter.
+/// it is in a queue, a hand or an outbox, or on a shelf; an element on its way does not count as a letter.
 #[derive(Clone, Copy, Debug, PartialEq, Eq)]
 pub struct Account {
     /// Those that the PEs have posted.
     pub posted: u64,
     /// Those that elements have executed, wherever these are.
     pub executed: u64,
-    /// Those that are in places.
+    /// Those that are in some place, as yet not executed.
     pub held: u64,
 }
 
@@ -121,7 +121,7 @@ fn among<C: Chare<A>, H: Openings<C>, A: Allocator>(parcels: &[Parcel<C, H, A>])
     letters
 }
 
-// How many letters a parcel is: one, or none where it is an element.
+// How many letters a parcel counts as: one, or none where it is an element.
 fn letters_of<C: Chare<A>, H: Openings<C>, A: Allocator>(parcel: &Parcel<C, H, A>) -> u64
     ensures value { result ≡ length (letters_in parcel.now) }
 {
@@ -131,7 +131,7 @@ fn letters_of<C: Chare<A>, H: Openings<C>, A: Allocator>(parcel: &Parcel<C, H, A
     1
 }
 
-/// How many letters a parcel is that a PE holds: one, or none where it is an element.
+/// How many letters a parcel counts as that a PE holds: one, or none where it is an element.
 pub fn letters_held<A: Allocator>(parcel: &HeldParcel<A>) -> u64
     ensures value { result ≡ length (letters_in parcel.now) }
 {

@@ -3,12 +3,12 @@ ghost use Rattle.rts_core.specs.Events.{pe_of};
 
 use chare_index::{Index, Pe};
 
-/// What may happen in a world, one step of one PE, or of the board.
+/// What may happen in a world: one step of one PE, or of the board.
 #[derive(Clone, Copy, Debug, PartialEq, Eq)]
 pub enum Event {
     /// An element that has not started starts, on this PE.
     Start(Pe, Index),
-    /// A letter of this PE gets the PE that the word of its element names.
+    /// A letter of this PE gets the PE that the location word of its element names.
     Look(Pe),
     /// The front of the outbox of this PE goes into a queue.
     Flush(Pe),
@@ -22,7 +22,7 @@ pub enum Event {
     Decide,
     /// An element leaves this PE for its place.
     Depart(Pe, Index),
-    /// An element that stands at its place, on this PE, goes on.
+    /// An element that is at its place, on this PE, goes on.
     Resume(Pe, Index),
 }
 

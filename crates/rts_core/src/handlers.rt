@@ -53,7 +53,7 @@ pub(crate) fn act<C: Chare<A>, H: Openings<C>, A: Allocator + Copy>(
     Ok(Reports::of(reports))
 }
 
-/// Resume: an element that stands at its place goes on.
+/// Resume: an element that is at its place goes on.
 pub(crate) fn resume<C: Chare<A>, H: Openings<C>, A: Allocator + Copy>(
     alloc: A,
     p: Pe,

@@ -17,12 +17,13 @@ ghost use Rattle.rts_core.specs.Worlds.{WorldView, opening_pes, opening_world};
 use chares::Chare;
 use std::alloc::Allocator;
 
-/// The account of every list of events. The function does nothing: its clauses are the laws, of whatever chares and
-/// however many PEs, in any order of events, with stale looks and events that are not enabled among them. Each letter
-/// that was posted lies in exactly one place or was executed once, by the element that it was posted to, and each
-/// element is in exactly one place; as many letters were posted as are held and were executed. The trace has a post for
-/// each letter that is counted as posted, and an execution for each that is in a journal. What the elements have sent is
-/// in places or in journals, with its target and its body, as a world opens, and after an event where it was so before.
+/// The account of every list of events. The function does nothing: its clauses are the laws. They hold for any chares and
+/// any number of PEs, in any order of events, also with stale looks and with events that are not enabled. Each letter
+/// that was posted is in exactly one place or was executed once, by the element that it was posted to, and each element
+/// is in exactly one place; as many letters were posted as are held and were executed. The trace has a post for each
+/// letter that is counted as posted, and an execution for each that is in a journal. What the elements have sent is in
+/// places or in journals, with its target and its body: this holds as a world opens, and after an event if it held
+/// before.
 pub fn account_laws<C: Chare<A>, A: Allocator>()
     ensures account { ForEachRun C.step C.pack C.unpack (λ (chares : List C) (last : After C A). Accounted (length chares) last.0 last.1) }
     ensures counted { ForEachRun C.step C.pack C.unpack (λ (chares : List C) (last : After C A). IsCounted last.0) }
@@ -31,14 +32,14 @@ pub fn account_laws<C: Chare<A>, A: Allocator>()
     ensures still_sent { ForEachEvent C.step C.pack C.unpack (λ (w : WorldView C A) (next : After C A). KeepsSent C.step C.fits C.pack w next) }
 {}
 
-/// The account of one PE over its calls, whatever other PEs do. The function does nothing: its clauses are the laws, of
-/// whatever chares. After any list of calls, refused ones among them, the letters that the PE has posted and received are
-/// those that it has given away and those that it has, where the letters in the journal of an element go with it; and
+/// The account of one PE over its calls, whatever other PEs do. The function does nothing: its clauses are the laws. They
+/// hold for any chares. After any list of calls, also with refused ones, the letters that the PE has posted and received
+/// are those that it has given away and those that it has, where the letters in the journal of an element go with it; and
 /// those that it has posted are numbered in order. One more call keeps this.
 ///
-/// More is known of a PE whose elements are what their journals say: its elements, too, are those that it opened with and
-/// received but for those that it has given away, however they are weighed by what no handler changes, and what they have
-/// sent is what the PE has posted. A PE opens so, and each call but the placing of a chare keeps it.
+/// More is known of a PE whose elements are what their journals say. Its elements are those that it opened with and
+/// received, without those that it has given away, by any weight that no handler changes. And what they have sent is what
+/// the PE has posted. A PE opens so, and each call keeps it, except the placing of a chare.
 pub fn local_account_laws<C: Chare<A>, A: Allocator>()
     ensures adds_up { (me n : ℕ) (calls : List (Call C)) → MayMake C.step C.pack C.unpack (new_pe me n) calls → AddsUpAfter C.step C.pack C.unpack me n calls }
     ensures still_adds_up { (pe : PeView C) (ledger : Ledger) (call : Call C) → KeepsAddingUp C.step C.pack C.unpack pe ledger call }

@@ -3,7 +3,8 @@
 //! - [`World`], with [`Event`], [`Reports`] and [`Account`]: a run, step by step, and where its letters are.
 //! - [`Chare`], with [`Here`], [`Effect`], [`Sends`] and [`SendError`]: what a program writes.
 //! - [`PeState`], with [`Room`], [`HeldParcel`], [`PeEnd`] and [`StepError`]: one PE, which a worker runs.
-//! - [`Element`], [`Letter`], [`Entry`], [`Progress`], [`Note`], [`Mark`] and [`TraceEntry`]: what they hold, and what a step adds to the trace.
+//! - [`Element`], [`Letter`], [`Entry`], [`Progress`], [`Note`], [`Mark`] and [`TraceEntry`]: what PEs and queues hold, and what
+//!   a step adds to the trace.
 #![tactic(auto)]
 
 mod account;

@@ -1,5 +1,5 @@
-//! How a run opens: its PEs, the queue before each, and the word of each element. A [`World`](crate::World) opens so,
-//! and so does a run over threads, which has queues of its own.
+//! How a run opens: its PEs, the queue before each, and the location word of each element. A [`World`](crate::World) opens
+//! so, and so does a run over threads, which has queues of its own.
 
 ghost use Rattle.std.specs.Prelude.{◌≡◌, ◌+◌, ◌∷◌, ◌<◌, ◌≤◌, ℕ, List, [], length, Some, MatchOption, map, replicate, IfOk, OnOk, None, All, slice_get};
 ghost use Rattle.std.specs.List.{range_with_len};
@@ -16,9 +16,8 @@ use pe_state::PeState;
 use std::alloc::{AllocError, Allocator};
 use std::collections::VecDeque;
 
-/// The PEs of a run as it opens: element `i` of `n` stands, not started, on PE `i * pes / n`, rounded down. There are 1 to
-/// 256 PEs and at most 65,536 chares, which are those that the run opens with. Where no memory is left the chares are given
-/// up.
+/// The PEs of a run as it opens: element `i` of `n`, not started, is on PE `i * pes / n`, rounded down. There are 1 to 256
+/// PEs and at most 65,536 chares, which are those that the run opens with. Where memory is refused the chares are dropped.
 pub fn opening_pes<C: Chare<A>, H: Openings<C>, A: Allocator + Copy>(
     alloc: A,
     pes: u32,
@@ -82,8 +81,8 @@ pub fn opening_queues<C: Chare<A>, H: Openings<C>, A: Allocator + Copy>(
     Ok(made)
 }
 
-/// The word of each of `n` elements as a run opens: the PE on which it opens, of 1 to 256. There are at most 65,536
-/// elements. The only error is that memory was refused.
+/// The location word of each of `n` elements as a run opens on 1 to 256 PEs: the PE on which the element opens. There are
+/// at most 65,536 elements. The only error is that memory was refused.
 #[tactic(auto, using(crate::proofs::Openings::home_below, crate::proofs::Openings::list_more))]
 pub fn opening_words<A: Allocator>(alloc: A, n: u32, pes: u32) -> Result<Vec<Pe, A>, AllocError>
     requires few { n ≤ Limits.ELEMENTS }
@@ -127,7 +126,7 @@ fn place_all<C: Chare<A>, H: Openings<C>, A: Allocator + Copy>(
     Ok(())
 }
 
-// The element at this place.
+// The index with this number.
 fn index_at(e: u32) -> Index
     requires { e < Limits.ELEMENTS }
     ensures value { result ≡ e }
@@ -135,14 +134,14 @@ fn index_at(e: u32) -> Index
     Index::new(e).unwrap()
 }
 
-// The first of what is left.
+// The first of those that are left.
 fn take_next<C: Drop, A: Allocator>(left: &mut VecDeque<C, A>) -> Option<C>
     ensures taken { MatchOption result ((left.old.items ≡ []) × (left.new.items ≡ [])) (λ chare. left.old.items ≡ chare ∷ left.new.items) }
 {
     left.pop_front()
 }
 
-// Places a chare as an element of n, where only elements before it were placed.
+// Places a chare as an element of n, where only elements before it have been placed.
 #[tactic(auto, using(crate::proofs::Openings::home_below, std::proofs::lemmas::Option::gets))]
 fn place_home<C: Chare<A>, H: Openings<C>, A: Allocator + Copy>(
     pes: &mut Vec<PeState<C, H, A>, A>,

@@ -9,8 +9,8 @@ use std::alloc::{AllocError, Allocator, Global};
 use std::collections::VecDeque;
 use std::marker::Model;
 
-/// The parcels in the queue before a PE. It has room for any number. Contracts see it as the list of them, the front
-/// first.
+/// The parcels in the queue before a PE. Its capacity has no limit. Contracts see it as the list of parcels, the
+/// front first.
 #[derive(Drop)]
 pub struct Queue<C: Chare<A>, H: Openings<C>, A: Allocator = Global> {
     parcels: VecDeque<Parcel<C, H, A>, A>,
@@ -35,7 +35,7 @@ impl<C: Chare<A>, H: Openings<C>, A: Allocator + Copy> Queue<C, H, A> {
         }
     }
 
-    /// Puts what a PE gives up at the back.
+    /// Moves the front of the outbox of a PE to the back.
     pub(crate) fn put_from(&mut self, pe: &mut PeState<C, H, A>) -> Result<(), AllocError>
         requires addressed { IsSome (front_address pe.old.outbox) }
         ensures put { OnOk result (IfSome (front_parcel pe.old.outbox) (λ parcel. self.new ≡ self.old ++ parcel ∷ [])) }

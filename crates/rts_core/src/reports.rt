@@ -22,7 +22,7 @@ impl<A: Allocator> Model for Reports<A> {
 }
 
 impl<A: Allocator> Reports<A> {
-    /// Of an event that adds nothing to the trace.
+    /// The reports of an event that adds nothing to the trace.
     pub(crate) fn none(alloc: A) -> Self
         ensures made { result ≡ [] }
     {
@@ -31,7 +31,7 @@ impl<A: Allocator> Reports<A> {
         }
     }
 
-    /// Of an event with these entries.
+    /// The reports of an event with these entries.
     pub(crate) fn of(reports: Vec<TraceEntry, A>) -> Self
         ensures made { result ≡ reports.items }
     {

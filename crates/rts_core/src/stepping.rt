@@ -1,4 +1,4 @@
-//! The step of one PE, which sees itself, the queues, the words and the board.
+//! The step of one PE, which sees itself, the queues, the location words and the board.
 
 ghost use Rattle.std.specs.Prelude.{◌≡◌, ◌<◌, ℕ, List, [], length, IfOk, IfErr, OnOk, OnErr, IfSome, MatchOption, All, slice_get};
 ghost use Rattle.lb_database.specs.Measuring.{elements};
@@ -21,7 +21,8 @@ use chares::{Chare, Openings};
 use pe_state::{PeState, StepError};
 use std::alloc::Allocator;
 
-/// What the PE of an event makes of it, and its reports. An event that is not enabled changes nothing.
+/// Makes the PE of an event take its step, and returns the trace entries. An event that is not enabled
+/// changes nothing.
 pub(crate) fn step_at<C: Chare<A>, H: Openings<C>, A: Allocator + Copy>(
     alloc: A,
     event: Event,

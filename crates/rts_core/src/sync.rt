@@ -86,7 +86,7 @@ fn take_sync<A: Allocator>(
     board.report(e.get(), round, units, bytes.get(), at).is_ok()
 }
 
-// Tells the board that an element has finished.
+// Reports to the board that an element has finished.
 #[tactic(auto, using(crate::proofs::Notes::finish_taken, crate::proofs::Notes::finish_refused))]
 fn take_finish<A: Allocator>(board: &mut Board<A>, e: Index) -> bool
     ensures taken { MatchBool result (board_after board.old (Note.Finish e) ≡ Some board.new) (board_after board.old (Note.Finish e) ≡ None) }
@@ -123,7 +123,7 @@ pub(crate) fn decide<A: Allocator + Copy>(
     Ok(Reports::of(reports))
 }
 
-/// Depart: an element leaves for its place, and its word names that.
+/// Depart: an element leaves for its place, and its location word names that.
 pub(crate) fn depart<C: Chare<A>, H: Openings<C>, A: Allocator + Copy>(
     alloc: A,
     p: Pe,
@@ -161,8 +161,8 @@ pub(crate) fn depart<C: Chare<A>, H: Openings<C>, A: Allocator + Copy>(
     Ok(Reports::of(reports))
 }
 
-// For the clause `fits` alone: a chare that has a packed length is a value of its type. A world pays for that measure, also
-// where the element may not depart; a run does not, since its workers call `PeState::depart`, which packs at once.
+// Needed for the clause `fits` alone: a chare that has a packed length is a value of its type. A world computes this length
+// also where the element may not depart; a run does not, since its workers call `PeState::depart`, which packs at once.
 fn meet_chare<C: Chare<A>, H: Openings<C>, A: Allocator>(pe: &PeState<C, H, A>, e: Index)
     ensures { IfSome (found e pe.now.room) (λ el. C.fits el.chare) }
 {

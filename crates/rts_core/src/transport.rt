@@ -11,7 +11,7 @@ use chares::{Chare, Openings};
 use pe_state::PeState;
 use std::alloc::{AllocError, Allocator};
 
-/// Look: a letter of the PE gets the PE that the word of its element names.
+/// Look: a letter of the PE gets the PE that the location word of its element names.
 #[tactic(auto, using(std::proofs::lemmas::Option::gets))]
 pub(crate) fn look_up<C: Chare<A>, H: Openings<C>, A: Allocator + Copy>(
     pe: &mut PeState<C, H, A>,

@@ -27,13 +27,14 @@ use pe_state::{PeState, StepError};
 use std::alloc::{AllocError, Allocator, Global};
 use std::marker::Model;
 
-/// The PEs of a run with a queue before each, the word of each element, and the board. A step that is refused leaves it
-/// as it was. Contracts see it as the record `WorldView`. Every element in it is what its journal says, wherever it is.
+/// The PEs of a run with a queue before each, the location word of each element, and the board. A step that is refused leaves
+/// the world unchanged. Contracts see it as the record `WorldView`. Every element in it is what its journal says, wherever it
+/// is.
 ///
 /// # Example
 ///
-/// Two elements on two PEs, each of which posts a letter to the other as it starts. One letter is looked for, put into
-/// the queue of the other PE, taken from it and executed; the other letter waits in its outbox.
+/// Two elements on two PEs, each of which posts a letter to the other as it starts. One letter is looked up, put into the
+/// queue of the other PE, taken from it and executed; the other letter waits in its outbox.
 ///
 /// ```text
 /// let mut world = World::new(rt.alloc(), 2, chares, Strategy::Least)?;
@@ -49,7 +50,7 @@ use std::marker::Model;
 pub struct World<C: Chare<A>, H: Openings<C>, A: Allocator = Global> {
     pes: Vec<PeState<C, H, A>, A>,
     queues: Vec<Queue<C, H, A>, A>,
-    // The PE on which each element is looked for.
+    // The location word of each element: the PE on which it is looked for.
     words: Vec<Pe, A>,
     board: Board<A>,
     alloc: A,
@@ -73,9 +74,9 @@ impl<C: Chare<A>, H: Openings<C>, A: Allocator> Model for World<C, H, A> {
 }
 
 impl<C: Chare<A>, H: Openings<C>, A: Allocator + Copy> World<C, H, A> {
-    /// The opening of a run: element `i` of `n` stands, not started, on PE `i * pes / n`, rounded down, which is its
+    /// The opening of a run: element `i` of `n`, not started, is on PE `i * pes / n`, rounded down, which is its location
     /// word, and all else is empty; rounds are decided by `strategy`. There are 1 to 256 PEs and at most 65,536 chares, which
-    /// are those that the run opens with. Where no memory is left the chares are given up.
+    /// are those that the run opens with. Where memory is refused the chares are dropped.
     pub fn new(
         alloc: A,
         pes: u32,
@@ -104,20 +105,19 @@ impl<C: Chare<A>, H: Openings<C>, A: Allocator + Copy> World<C, H, A> {
         })
     }
 
-    /// One event. It returns the trace entries of the event, in order. An event that is not enabled, or that names a PE or
-    /// an element that is not there, changes nothing and has no trace entries.
+    /// Makes one event happen, and returns the trace entries of the event, in order. An event that is not enabled, or that
+    /// names a PE or an element that is not there, changes nothing and has no trace entries.
     ///
-    /// What holds of the trace of every list of events is proved above this crate: that no element goes on before all have
-    /// reported and the round was decided, once, and that each then stands at its place (`barrier_laws::barrier_law`); that
-    /// the board takes every note that is owed (`agreement_laws::agreement_laws`); that no element arrives where one with its
-    /// index stands (`place_laws::place_laws`); that
-    /// a letter is forwarded no more often than its element has departed since it was posted, and that a letter on a shelf
-    /// waits for an element that is on its way (`letter_laws::chase_law`).
+    /// Crates above this one prove what holds of the trace of every list of events: no element goes on before all have
+    /// reported and the round was decided, once, and each is then at its place (`barrier_laws::barrier_law`); the board takes
+    /// every note that is owed (`agreement_laws::agreement_laws`); no element arrives where there is one with its index
+    /// already (`place_laws::place_laws`); a letter is forwarded no more often than its element has departed since it was
+    /// posted, and a letter on a shelf waits for an element that is on its way (`letter_laws::chase_law`).
     ///
     /// # Errors
     ///
-    /// The world is as it was on any of them. [`Worn`](StepError::Worn) where the last round was to be decided;
-    /// otherwise [`OutOfMemory`](StepError::OutOfMemory), or what a handler returns.
+    /// The world is unchanged on any of them. [`Worn`](StepError::Worn) where the last round was to be decided; otherwise
+    /// [`OutOfMemory`](StepError::OutOfMemory), or what a handler returns.
     pub fn step(&mut self, event: Event) -> Result<Reports<A>, StepError>
         ensures ok { IfOk result (λ reports. Happens C.step C.pack C.unpack self.old event (self.new, reports)) }
         ensures err { OnErr result (self.new ≡ self.old) }
@@ -193,7 +193,7 @@ impl<C: Chare<A>, H: Openings<C>, A: Allocator> World<C, H, A> {
         self.queues.get(p.get() as usize)
     }
 
-    /// The PE on which an element is looked for, or `None` where there is no such element.
+    /// The location word of an element: the PE on which it is looked for; or `None` where there is no such element.
     pub fn word(&self, e: Index) -> Option<Pe>
         ensures value { result ≡ slice_get self.now.words e }
     {
@@ -207,7 +207,7 @@ impl<C: Chare<A>, H: Openings<C>, A: Allocator> World<C, H, A> {
         &self.board
     }
 
-    /// Its PEs, the queue before each, the words of the elements, and the board, each by value. The clauses `world`,
+    /// Its PEs, the queue before each, the location words of the elements, and the board, each by value. The clauses `world`,
     /// `histories` and `counted` say what its type said.
     pub fn into_parts(
         self,
@@ -235,9 +235,8 @@ impl<C: Chare<A>, H: Openings<C>, A: Allocator> World<C, H, A> {
         (pes, queues, words, board)
     }
 
-    /// How many letters were posted, how many of them were executed, and how many are held in places. This takes no
-    /// memory. It looks at each PE and at each parcel on its way, but not into journals: what was posted and is not held
-    /// was executed.
+    /// How many letters were posted, how many of them were executed, and how many are held in places. This takes no memory.
+    /// It visits each PE and each parcel on its way, but no journals: a letter that was posted and is not held was executed.
     pub fn account(&self) -> Account
         ensures posted { result.posted ≡ posted_count self.now }
         ensures executed { result.executed ≡ executed_count self.now }

@@ -14,6 +14,6 @@ in_places f a (x ∷ xs) h =
     let c = in_places f (a + 1) xs (λ i y at. let k = h (suc i) y at in omega (arith, k)) in
     ap (λ (v : ℕ). v ∷ map f xs) b ∙ ap (λ (v : List ℕ). a ∷ v) c
 
--- the PEs of an opening stand in order
+-- the PEs of an opening are in order
 pub opens_in_order : {C : Type 0} (pes : ℕ) (chares : List C) → 1 ≤ pes → map (λ pe. pe.me) (opening_pes pes chares) ≡ range_with_len 0 (length (opening_pes pes chares))
 opens_in_order {C} pes chares some = in_places (λ pe. pe.me) 0 (opening_pes pes chares) (λ i pe at. let k = opening_numbered (Unit {0}) pes chares Least some i pe at in omega (arith, k))

@@ -1,4 +1,4 @@
--- When a run does not begin, and for what.
+-- When a run does not begin, and for which reason.
 use Rattle.std.specs.Prelude.{ℕ, ◌≤◌}
 use Rattle.chare_index.specs.declared.limits.TheConstants.Limits.{PES, CAPACITY, IDLE_TURNS, PROBE_WORKERS, ELEMENTS}
 use Rattle.rts_run.specs.declared.config.Config.{Config}

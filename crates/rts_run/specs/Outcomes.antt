@@ -27,10 +27,10 @@ abbrev pub first_fault : List (Option Fault) → Option Fault
 first_fault [] = None
 first_fault (fault ∷ faults) = option_or fault (first_fault faults)
 
--- The outcome of a run of these chares on this number of PEs. There is an end and a queue of each PE. The account holds, and every
--- element is what its journal says. The board is one of these chares on these PEs: each round was decided for a snapshot of
--- all of them, by the strategy. The marks of the elements agree with the rounds exactly where the fault does
--- not say otherwise; what was packed was unpacked; and without a fault the board has of every element that it has finished.
+-- The outcome of a run of these chares on this number of PEs. There is an end and a queue of each PE. The account holds, and
+-- every element is what its journal says. The board is one of these chares on these PEs: each round was decided for a snapshot of
+-- all of them, by the strategy. The marks of the elements agree with the rounds unless the fault is a mismatch, and do not agree
+-- where it is one. No element failed to unpack; and without a fault the board says of every element that it has finished.
 pub record IsOutcome {C A : Type 0} (step : Step C) (fits : C → Type 0) (pack : C → List ℕ) (chares : List C) (pes : ℕ) (strategy : Strategy) (o : OutcomeView C A) : Type 0 where
   pub ends : map (λ pe. pe.me) o.ends ≡ range_with_len 0 pes
   pub queues : length o.left ≡ pes

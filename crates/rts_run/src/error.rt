@@ -5,7 +5,7 @@ use std::alloc::AllocError;
 use std::fmt::{self, Display, Formatter, Write};
 use thiserror::Error;
 
-/// A number of a run that has limits, in the order in which they are judged.
+/// A number of a run that has limits, in the order in which they are checked.
 #[derive(Clone, Copy, Debug, PartialEq, Eq)]
 pub enum Setting {
     /// [`Config::pes`](crate::Config::pes).
@@ -32,7 +32,7 @@ impl Display for Setting {
     }
 }
 
-/// Why a run did not begin. No worker was started then, and the chares are given up.
+/// Why a run did not begin. In that case no worker was started, and the chares are dropped.
 #[derive(Clone, Copy, Debug, PartialEq, Eq, Error)]
 pub enum RunError {
     /// This number is out of its limits: of several such, the first in the order of [`Setting`].

@@ -14,8 +14,8 @@ use run_account::{Gathered, take_next};
 use std::alloc::Allocator;
 use std::collections::VecDeque;
 
-/// The PEs of these workers, in their order, with their seats as one, and the fault of the first that met one. There is room
-/// for them, so this takes no memory.
+/// The PEs of these workers, in order of PE, with their seats joined into one, and the fault of the first worker that met
+/// one. `room` has capacity for all PEs, so this takes no memory.
 pub(crate) fn gather<C: Chare<A>, H: Openings<C> + RunStrategy, J: RunBeginning<C>, A: Allocator>(
     post: &Post<Parcel<C, H, A>, A>,
     first: Worker<C, H, J, A>,

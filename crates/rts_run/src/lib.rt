@@ -1,9 +1,9 @@
-//! A run over threads: a worker for each PE, the queues and words between them, and the board under its lock.
+//! A run over threads: a worker for each PE, the queues and location words between them, and the board under its lock.
 //!
 //! - [`run`]: runs chares until every one has finished, or a fault is met.
-//! - [`run_watched`]: the same, while somebody looks on: a [`Watch`].
+//! - [`run_watched`]: the same, observed by a [`Watch`].
 //! - [`Config`]: on how many PEs, with which limits, and how rounds are decided: a [`Strategy`], within a [`Tolerance`].
-//! - [`Outcome`]: what a run left, of which nothing is lost, whatever the schedule was and whatever went wrong.
+//! - [`Outcome`]: what a run left. Nothing is lost, whatever the schedule was and whatever went wrong.
 //! - [`RunError`]: why a run did not begin, with the [`Setting`] that is out of its limits. [`Fault`]: why one ended early.
 //!
 //! docs/RUNS.md has the protocol.

@@ -24,8 +24,8 @@ use std::alloc::{Allocator, Global};
 use std::marker::Model;
 
 /// What a run left: its PEs as their workers ended, the parcels in their queues, the board with each round that was decided,
-/// and the fault that ended the run early, if one did. Its type names no run, so that it may be handed on freely; what holds
-/// of it the clauses of [`run`](crate::run) say. Contracts see it as the record `OutcomeView`.
+/// and the fault that ended the run early, if one did. Its type does not name the run, so that it may be handed on freely; the
+/// clauses of [`run`](crate::run) say what holds of it. Contracts see it as the record `OutcomeView`.
 #[derive(Drop)]
 pub struct Outcome<C: Chare<A>, A: Allocator = Global> {
     ends: Vec<PeEnd<C, A>, A>,
@@ -51,8 +51,9 @@ impl<C: Chare<A>, A: Allocator> Model for Outcome<C, A> {
 }
 
 impl<C: Chare<A>, A: Allocator> Outcome<C, A> {
-    /// What a run left, with as many letters posted as are held and were executed: its PEs, what is left in the queue of
-    /// each, the board, and why it ended early, if it did. [`into_parts`](Outcome::into_parts) gives them back.
+    /// The outcome of a run that left these PEs, these parcels in the queue of each, this board, and this fault, if it ended
+    /// early. The letters have to add up: as many were posted as are held and were executed.
+    /// [`into_parts`](Outcome::into_parts) gives the parts back.
     pub fn new(
         ends: Vec<PeEnd<C, A>, A>,
         left: Vec<Vec<HeldParcel<A>, A>, A>,
@@ -81,15 +82,15 @@ impl<C: Chare<A>, A: Allocator> Outcome<C, A> {
         &self.ends
     }
 
-    /// The element with this index, on the PE where it is; `None` where there is none, or it is on its way, packed: as a
-    /// fault ended the run, or as the last element finished. It is looked for on one PE after another.
+    /// The element with this index, on the PE where it is; `None` where there is none, or it is on its way, packed: as a fault
+    /// ended the run, or as the last element finished. The PEs are searched one after another.
     pub fn element(&self, index: Index) -> Option<&Element<C, A>>
         ensures value { option_copied result ≡ element_on index self.now.ends }
     {
         element_on(&self.ends, index)
     }
 
-    /// What is left in the queue of each PE, in order, the front of each first.
+    /// The parcels left in the queue of each PE, in order of PE, and the front of each queue first.
     pub fn left(&self) -> &[Vec<HeldParcel<A>, A>]
         ensures value { map (λ q. q.items) result.now ≡ self.now.left }
     {
@@ -111,8 +112,8 @@ impl<C: Chare<A>, A: Allocator> Outcome<C, A> {
         self.board.rounds()
     }
 
-    /// Why the run ended early, or what is wrong with it. Of what [`run`](crate::run) returns it is `None` only where every
-    /// element has finished.
+    /// Why the run ended early, or what is wrong with it. In an outcome that [`run`](crate::run) returns it is `None` only
+    /// where every element has finished.
     pub fn fault(&self) -> Option<Fault>
         ensures value { result ≡ self.now.fault }
     {
@@ -145,7 +146,7 @@ impl<C: Chare<A>, A: Allocator> Outcome<C, A> {
 
     /// Its elements, each by value, in the order of their indices; [`Element::into_chare`] gives the chare of one. Those that
     /// are on their way, packed, are left out, as [`element`](Outcome::element) does not find them. The rest of the outcome is
-    /// given up. This takes no memory.
+    /// dropped. This takes no memory.
     ///
     /// ```
     /// let mut chares = Vec::new(alloc);
@@ -160,8 +161,8 @@ impl<C: Chare<A>, A: Allocator> Outcome<C, A> {
         Elements::new(self.ends, n)
     }
 
-    /// How many letters were posted, how many of them were executed, and how many are held. This takes no memory. It looks at
-    /// each PE and at each parcel, but not into journals: what was posted and is not held was executed.
+    /// How many letters were posted, how many of them were executed, and how many are held. This takes no memory. It visits
+    /// each PE and each parcel, but no journals: a letter that was posted and is not held was executed.
     pub fn account(&self) -> Account
         ensures posted { result.posted ≡ posted_count (left_world self.now.ends self.now.left) }
         ensures executed { result.executed ≡ executed_count (left_world self.now.ends self.now.left) }

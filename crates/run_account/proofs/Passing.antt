@@ -1,4 +1,4 @@
--- Lists whose owners pass from the front of one to the back of another.
+-- Lists whose items pass from the front of one to the back of another.
 use Rattle.std.proofs.Common.{◌≡◌, ℕ, zero, suc, ◌+◌, List, [], ◌∷◌, ◌++◌, length, map, drop, Some, arith, refl, sym, ◌∙◌, ap, subst, append_assoc, length-append}
 use Rattle.std.specs.Prelude.{All, slice_get}
 use Rattle.std.specs.List.{range_with_len}
@@ -40,7 +40,7 @@ all_more P zs zs' y pushed all here = subst (All P) (sym pushed) (All-push P zs 
 pub all_next : {X : Type 0} (P : X → Type 0) (x : X) (xs ys : List X) → ys ≡ x ∷ xs → All P ys → P x × All P xs
 all_next P x xs ys is all = let k = subst (All P) is all in (All-head P x xs k, All-tail P x xs k)
 
--- ---- what stands at successive places
+-- ---- what is at successive indices
 
 module _ {X : Type 0} (f : X → ℕ) (a : ℕ) (x : X) (xs ys : List X) (is : ys ≡ x ∷ xs) (h : map f ys ≡ range_with_len a (length ys)) where
   whole : map f (x ∷ xs) ≡ range_with_len a (length (x ∷ xs))
@@ -62,11 +62,11 @@ more_in_order {X} f x xs zs is next h =
     let n : length (xs ++ x ∷ []) ≡ length xs + 1 = length-append xs (x ∷ []) in
     a ∙ (ap (λ v. v ++ f x ∷ []) h ∙ (ap (λ (v : ℕ). range_with_len 0 (length xs) ++ v ∷ []) (sym z) ∙ (sym b ∙ ap (range_with_len 0) (sym n)))))
 
--- what is left of a list from some place on, and the item at that place
+-- what is left of a list from some index on, and the item at that index
 pub drop_head : {X Y : Type 0} (f : X → Y) (zs : List Y) (k : ℕ) (x : X) (xs ys : List X) → ys ≡ x ∷ xs → map f ys ≡ drop k zs → (map f xs ≡ drop (k + 1) zs) × (slice_get zs k ≡ Some (f x))
 drop_head f zs k x xs ys is h = drop_next zs k (f x) (map f xs) (sym (ap (map f) is) ∙ h)
 
--- as many places as items
+-- as many indices as items
 pub counted_by : {X : Type 0} (f : X → ℕ) (a n : ℕ) (xs : List X) → map f xs ≡ range_with_len a n → length xs ≡ n
 counted_by f a zero [] h = refl
 counted_by f a (suc n) [] h = cc

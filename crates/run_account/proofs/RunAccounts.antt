@@ -52,7 +52,7 @@ left_each {X} {A} h (xs ∷ puts) (ys ∷ takes) (v ∷ left) p t b =
     let f = left_each h puts takes left (omega (arith, p)) (omega (arith, t)) (λ k u lt. b (suc k) u (omega (arith, lt))) in
     omega (arith, a, c, d, e, f)
 
--- ---- sums over places
+-- ---- sums over indices
 
 past : {X : Type 0} (f : X → ℕ) (x : X) (xs : List X) (a n : ℕ) → sum_by (λ q. option_map_or f (slice_get (x ∷ xs) q) 0) (range_with_len (a + 1) n) ≡ sum_by (λ q. option_map_or f (slice_get xs q) 0) (range_with_len a n)
 past f x xs a zero = refl
@@ -65,7 +65,7 @@ past f x xs a (suc n) =
     let d : g (a + 1) ≡ h a = ap g e in
     omega (arith, b, c, d, past f x xs (a + 1) n)
 
--- each place of a list once
+-- each index of a list once
 sum_places : {X : Type 0} (f : X → ℕ) (xs : List X) → sum_by (λ q. option_map_or f (slice_get xs q) 0) (range_with_len 0 (length xs)) ≡ sum_by f xs
 sum_places f [] = refl
 sum_places {X} f (x ∷ xs) =
@@ -221,7 +221,7 @@ module _ {C A B : Type 0} (step : Step C) (fits : C → Type 0) (pack : C → Li
           omega (arith, a, d, c, many xs)
 
   module _ (count : ℕ) (some : 1 ≤ count) (whole : length ends ≡ length run.starts) (opens : run.starts ≡ opening_pes count opened) where
-    -- however elements are weighed by what no handler changes, they weigh what they did at the opening
+    -- by any weight that no handler changes, the elements weigh what they did at the opening
     since_opening : (k : Life → ℕ) → IsSteady k → sum_by k (lives w) ≡ sum_by k (opened_lives 0 opened)
     since_opening k steady =
         let a = lives_all k steady in

@@ -45,7 +45,7 @@ pub record AreGathered {C : Type 0} (step : Step C) (fits : C → Type 0) (pack 
   pub sent : (weight : ℕ × List ℕ → ℕ) → sum_by (λ pe. sum_by weight (flat_map (sends_of step opened) (lives_at pe))) ends + sum_by weight (flat_map (sends_of step opened) (flat_map lives_in ledger.gone)) ≡ sum_by (λ l. weight (message l)) ledger.posted + sum_by weight (flat_map (sends_of step opened) (flat_map lives_in ledger.came))
   pub matches : Matches ledger seat
 
--- such PEs, as contracts see them, with the room that was made for all
+-- such PEs, as contracts see them, with the capacity that was reserved for all
 pub record GatheredView (C : Type 0) : Type 0 where
   pub ends : List (PeView C)
   pub seat : SeatView Parcel

@@ -1,6 +1,6 @@
--- The account of what a run over threads left: where each letter is that was posted, and what an element has to do with
--- it. It is said in the words in which it is said of a world, of the ends of the PEs and of what is left in the queues.
--- There is no order of all events, and the account needs none.
+-- The account of what a run over threads left: where each letter is that was posted, and which element executes it. The
+-- account of a world says the same; here it is said of the ends of the PEs and of what is left in the queues. There is no
+-- order of all events, and the account needs none.
 use Rattle.std.specs.Prelude.{◌≡◌, ℕ, ◌+◌, ◌<◌, List, [], length, slice_get, nat_lt, ◌==◌, if◌then◌else◌}
 use Rattle.std.specs.Option.{option_map_or}
 use Rattle.at_sync.specs.Boards.{new_board}
@@ -12,11 +12,12 @@ use Rattle.rts_core.specs.Places.{letters, journaled, lives}
 use Rattle.rts_core.specs.Worlds.{WorldView}
 use Rattle.at_sync.specs.declared.strategy.Strategy.TheVariants.{Least}
 
--- what a run left, as a world whose words and board do not matter: its PEs, and what is left in the queue of each
+-- what a run left, as a world whose location words and board do not matter: its PEs, and what is left in the queue of
+-- each
 abbrev pub left_world : {C : Type 0} → List (PeView C) → List (List Parcel) → WorldView C (Unit {0})
 left_world ends left = record { pes = ends; queues = left; words = []; board = new_board 0 0 Least }
 
--- how often a letter number was posted: once where it is below the count of its PE, and else never
+-- how often a letter number was posted: once where it is below the count of its PE, and otherwise never
 abbrev pub posted_times : {C : Type 0} → ℕ × ℕ → List (PeView C) → ℕ
 posted_times id ends = option_map_or (λ pe. if nat_lt id.1 pe.count then 1 else 0) (slice_get ends id.0) 0
 

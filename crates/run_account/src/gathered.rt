@@ -16,8 +16,8 @@ use std::alloc::{Allocator, Global};
 use std::marker::{Model, PhantomData};
 use std::sync::Wait;
 
-/// The PEs of a run in order, from the first on, and the one seat that their seats were joined to. Contracts see them as
-/// the record `GatheredView`. They keep the sums of the local accounts, which come to the account of the run once all are
+/// The PEs of a run in order, from the first on, and the one seat that their seats were joined to. Contracts see them as the
+/// record `GatheredView`. They keep the sums of the local accounts, which add up to the account of the run once all are
 /// gathered and the queues are settled.
 #[derive(Drop)]
 pub struct Gathered<C: Chare<A>, H: Openings<C>, J: RunBeginning<C>, A: Allocator = Global> {
@@ -38,7 +38,7 @@ impl<C: Chare<A>, H: Openings<C>, J: RunBeginning<C>, A: Allocator> Model for Ga
 }
 
 impl<C: Chare<A>, H: Openings<C>, J: RunBeginning<C>, A: Allocator> Gathered<C, H, J, A> {
-    /// The first PE, in room that was made for all.
+    /// The first PE, in a buffer with capacity for all.
     pub fn first(first: SeatedPe<C, H, J, A>, room: Vec<PeEnd<C, A>, A>) -> Self
         requires first { first.pe.me ≡ 0 }
         requires empty { room.items ≡ [] }
@@ -56,7 +56,7 @@ impl<C: Chare<A>, H: Openings<C>, J: RunBeginning<C>, A: Allocator> Gathered<C, 
         }
     }
 
-    /// One PE more, the next in order, in room that was made for it. This takes no memory.
+    /// The same with one more PE, the next in order, in a buffer that has the capacity. This takes no memory.
     pub fn with(self, post: &Post<Parcel<C, H, A>, A>, next: SeatedPe<C, H, J, A>) -> Self
         requires own { post.now ≡ J.beginning.post }
         requires next { next.pe.me ≡ length self.ends }
@@ -79,8 +79,8 @@ impl<C: Chare<A>, H: Openings<C>, J: RunBeginning<C>, A: Allocator> Gathered<C, 
         }
     }
 
-    /// Ends the queues, once all PEs are gathered, and gives the PEs, in order, and what is left in the queue of each, front
-    /// first. The clause `account` is the account of the run. This takes no memory.
+    /// Ends the queues, once all PEs are gathered, and returns the PEs, in order, and what is left in the queue of each,
+    /// front first. The clause `account` is the account of the run. This takes no memory.
     pub fn settled<R: Wait>(
         self,
         rt: &R,

@@ -10,13 +10,13 @@ use std::alloc::{AllocError, Allocator, Global};
 use std::collections::VecDeque;
 use std::marker::Model;
 
-/// Room for the parcels that a run leaves in its queues. It is made before the run, so that a run that runs out of
-/// memory loses nothing. Contracts see the number of queues, and for how many parcels of each they have capacity.
+/// Buffers for the parcels that a run leaves in its queues. They are made before the run, so that a run that runs out
+/// of memory loses nothing. Contracts see the number of queues, and for how many parcels of each there is capacity.
 #[derive(Drop)]
 pub struct LeftBuffers<A: Allocator = Global> {
     // An empty list for each queue.
     buffers: VecDeque<Vec<HeldParcel<A>, A>, A>,
-    // Where they go once they are full. It is empty until the end.
+    // Where the lists go once they are full. It is empty until the end.
     left: Vec<Vec<HeldParcel<A>, A>, A>,
     capacity: usize,
 }
@@ -33,7 +33,8 @@ impl<A: Allocator> Model for LeftBuffers<A> {
 }
 
 impl<A: Allocator> LeftBuffers<A> {
-    /// Room for this number of queues, and for `capacity` parcels of each. The only error is that memory was refused.
+    /// Buffers for this number of queues, with capacity for `capacity` parcels each. The only error is that memory
+    /// was refused.
     pub fn new(alloc: A, queues: usize, capacity: usize) -> Result<Self, AllocError>
     where
         A: Copy,
@@ -49,7 +50,7 @@ impl<A: Allocator> LeftBuffers<A> {
         })
     }
 
-    /// The parcels of these queues, which there has to be room for, free of the marker of their run. The clause
+    /// The parcels of these queues, for which there has to be capacity, without the marker of their run. The clause
     /// `histories` says what their types said. This takes no memory.
     pub fn release<C: Chare<A>, H: Openings<C>>(
         self,
@@ -76,7 +77,7 @@ impl<A: Allocator> LeftBuffers<A> {
     }
 }
 
-// This number of empty lists, each with room for `capacity` parcels.
+// This number of empty lists, each with capacity for `capacity` parcels.
 fn empty_buffers<A: Allocator + Copy>(
     alloc: A,
     queues: usize,
@@ -93,7 +94,7 @@ fn empty_buffers<A: Allocator + Copy>(
     Ok(buffers)
 }
 
-// The parcels of one queue, in the room that was made for them.
+// The parcels of one queue, in the buffer that was made for them.
 fn release_queue<C: Chare<A>, H: Openings<C>, A: Allocator>(
     queue: Vec<Parcel<C, H, A>, A>,
     mut room: Vec<HeldParcel<A>, A>,

@@ -1,7 +1,7 @@
 //! The account of what a run over threads left, from the local accounts of its PEs and what went through their seats.
 //!
-//! - [`Gathered`]: the PEs of a run as their workers end, and their seats as one.
-//! - [`LeftBuffers`]: room for what is left in the queues, made before the run.
+//! - [`Gathered`]: the PEs of a run as their workers end, with their seats joined into one.
+//! - [`LeftBuffers`]: buffers for what is left in the queues, made before the run.
 //! - [`take_next`]: the first of a list of owners.
 #![tactic(auto)]
 

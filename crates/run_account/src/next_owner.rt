@@ -3,8 +3,8 @@ ghost use Rattle.std.specs.Prelude.{◌≡◌, ◌∷◌, [], MatchOption};
 use std::alloc::Allocator;
 use std::collections::VecDeque;
 
-/// Takes the first of a list of owners, as [`VecDeque::pop_front`] does, and says what is left in one equation: so a loop
-/// over owners needs no other.
+/// Takes the first of a list of owners, as [`VecDeque::pop_front`] does. Its contract says in one equation what is left,
+/// and a loop over owners needs no more.
 pub fn take_next<T: Drop, A: Allocator>(left: &mut VecDeque<T, A>) -> Option<T>
     ensures taken { MatchOption result ((left.old.items ≡ []) × (left.new.items ≡ [])) (λ first. left.old.items ≡ first ∷ left.new.items) }
 {

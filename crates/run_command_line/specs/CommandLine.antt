@@ -1,5 +1,5 @@
--- What clap reads from the words of a command line: `charm_run [--dump PREFIX] [--lbd1] [--progress] [--tolerance T] [--seed S]
--- [--seeds N] [--events FILE] [--replay FILE] [--trace FILE] FILE`.
+-- What clap reads from the arguments of a command line: `charm_run [--dump PREFIX] [--lbd1] [--progress] [--tolerance T]
+-- [--seed S] [--seeds N] [--events FILE] [--replay FILE] [--trace FILE] FILE`.
 use Rattle.std.specs.Prelude.{ℕ, ◌≡◌, ◌≤◌, List, [], ◌∷◌, ◌++◌, Option, None, Some, codes, pos, true}
 use Rattle.std.specs.Str.Parse.{IsNumeral, digits_value, without_leading_plus}
 use Rattle.clap.specs.Words.{App, Rule, Text, first_of, matches_of, one_of, with_rule}
@@ -8,11 +8,11 @@ use Rattle.program_words.specs.Arguments.{file_rule, flag_rule, tolerance_rule, 
 use Rattle.run_command_line.specs.declared.request.Clash.{Clash}
 use Rattle.run_command_line.specs.declared.request.Clash.TheVariants.{SeedAndSeeds, SeedAndReplay, SeedsAndReplay, EventsWithoutSeed, SeedsAndDump, SeedsAndTrace}
 
--- how the names of the files begin to which the dumps go
+-- the prefix of the names of the files that the dumps go to
 abbrev pub dump_rule : Rule
 dump_rule = word_rule (codes "dump")
 
--- two flags, which take no word
+-- two flags, which take no value
 abbrev pub lbd1_rule : Rule
 lbd1_rule = flag_rule (codes "lbd1")
 
@@ -27,7 +27,7 @@ seed_rule = record (word_rule (codes "seed")) { parser = Some (Unsigned 0 184467
 abbrev pub seeds_rule : Rule
 seeds_rule = record (word_rule (codes "seeds")) { parser = Some (Signed (pos 1) (pos 1000000)) }
 
--- the file that a list of events goes to, that which has one, and the file that a trace goes to
+-- the file that a list of events goes to, the file that has one, and the file that a trace goes to
 abbrev pub events_rule : Rule
 events_rule = word_rule (codes "events")
 
@@ -37,35 +37,35 @@ replay_rule = word_rule (codes "replay")
 abbrev pub trace_rule : Rule
 trace_rule = word_rule (codes "trace")
 
--- with the words for runs on one thread
+-- with the arguments for runs on one thread
 abbrev pub with_schedules : App → App
 with_schedules app =
     with_rule (with_rule (with_rule (with_rule (with_rule app seed_rule) seeds_rule) events_rule) replay_rule) trace_rule
 
--- the program with its words, to which clap adds those that ask for help and for the version
+-- the program with its arguments, to which clap adds those that ask for help and for the version
 abbrev pub program : App
 program = with_schedules (with_rule (with_rule (with_rule (with_rule (with_rule (versioned (codes "charm_run")) file_rule) dump_rule) lbd1_rule) progress_rule) tolerance_rule)
 
--- the word that names the file
+-- the argument that names the file
 abbrev pub file_in : List Text → Option Text
 file_in words = first_of (codes "file") (matches_of program words)
 
--- the word that says where the dumps go
+-- the argument that says where the dumps go
 abbrev pub dump_in : List Text → Option Text
 dump_in words = first_of (codes "dump") (matches_of program words)
 
--- the word that says how great the tolerance is
+-- the argument that says how great the tolerance is
 abbrev pub tolerance_in : List Text → Option Text
 tolerance_in words = one_of (codes "tolerance") (matches_of program words)
 
--- the words that say by which seed, and by how many
+-- the arguments that give the seed, and the number of seeds
 abbrev pub seed_in : List Text → Option Text
 seed_in words = one_of (codes "seed") (matches_of program words)
 
 abbrev pub seeds_in : List Text → Option Text
 seeds_in words = one_of (codes "seeds") (matches_of program words)
 
--- the words that name these three files
+-- the arguments that name these three files
 abbrev pub events_in : List Text → Option Text
 events_in words = first_of (codes "events") (matches_of program words)
 
@@ -75,17 +75,17 @@ replay_in words = first_of (codes "replay") (matches_of program words)
 abbrev pub trace_in : List Text → Option Text
 trace_in words = first_of (codes "trace") (matches_of program words)
 
--- the word spells a seed
+-- the argument spells a seed
 abbrev pub SpellsSeed : Option Text → ℕ → Type 0
 SpellsSeed None n = ⊥
 SpellsSeed (Some word) n = IsNumeral 10 (without_leading_plus word) × (n ≡ digits_value 10 (without_leading_plus word)) × (n ≤ 18446744073709551615)
 
--- the word spells how many seeds there may be
+-- the argument spells a number of seeds within its limits
 abbrev pub SpellsSeeds : Option Text → ℕ → Type 0
 SpellsSeeds None n = ⊥
 SpellsSeeds (Some word) n = IsNumeral 10 (without_leading_plus word) × (n ≡ digits_value 10 (without_leading_plus word)) × (1 ≤ n) × (n ≤ 1000000)
 
--- the words have this flag, which clap reads as the text `true`, and a flag that is not there as `false`
+-- the arguments have this flag, which clap reads as the text `true`, and a flag that is not there as `false`
 abbrev pub AsksLbd1 : List Text → Type 0
 AsksLbd1 words = one_of (codes "lbd1") (matches_of program words) ≡ Some (codes "true")
 

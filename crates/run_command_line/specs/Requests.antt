@@ -1,4 +1,4 @@
--- How the words of a command line ask that a workload is run, and which options do not go together.
+-- How the arguments of a command line ask for the run of a workload, and which options do not go together.
 use Rattle.std.specs.Borrow.{Bor}
 use Rattle.std.specs.Prelude.{ℕ, List, Option, None, Some, Result, Ok, Err}
 use Rattle.run_command_line.specs.declared.request.Asked.{Asked}
@@ -21,12 +21,12 @@ way_of (Some seed) (Some seeds) replay = Err SeedAndSeeds
 way_of (Some seed) None (Some replay) = Err SeedAndReplay
 way_of None (Some seeds) (Some replay) = Err SeedsAndReplay
 
--- threads have no list of events, and of a list that is repeated none is written
+-- a run over threads has no list of events, and of a list that is repeated none is written
 abbrev pub clash_without_seed : Named → Option Clash
 clash_without_seed (Some events) = Some EventsWithoutSeed
 clash_without_seed None = None
 
--- of many seeds no list, no dumps and no trace are written
+-- of runs by many seeds no list, no dumps and no trace are written
 abbrev pub clash_with_seeds : Named → Named → Named → Option Clash
 clash_with_seeds (Some events) dump trace = Some EventsWithoutSeed
 clash_with_seeds None (Some dump) trace = Some SeedsAndDump

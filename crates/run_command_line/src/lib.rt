@@ -1,5 +1,5 @@
-//! The command line of `charm_run`: what its words ask for, and the status where they ask for no run. clap reads them, and
-//! writes the texts of what it refuses, of help and of the version.
+//! The command line of `charm_run`: what its arguments ask for, and the status where they ask for no run. clap reads them,
+//! and writes the texts for what it refuses, for help and for the version.
 //!
 //! ```
 //! use run_command_line::{NO_WORDS, Task, asked, words_status};

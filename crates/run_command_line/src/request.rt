@@ -1,12 +1,12 @@
 ghost use Rattle.std.specs.Prelude.{◌≡◌};
 ghost use Rattle.run_command_line.specs.Requests.{clash_with, clash_with_seeds, clash_without_seed, task_of, way_of};
 
-/// What the words of a command line ask for.
+/// What the arguments of a command line ask for.
 #[derive(Clone, Copy, Debug, PartialEq, Eq)]
 pub struct Asked<'a> {
     /// The workload.
     pub file: &'a str,
-    /// The dump of round r goes to the file of this name with `.r` behind it.
+    /// The dump of round r goes to the file of this name followed by `.r`.
     pub dump: Option<&'a str>,
     /// Whether dumps are written in the format LBD1, which has no decision.
     pub lbd1: bool,
@@ -39,7 +39,7 @@ pub enum Task<'a> {
     Replay(&'a str),
 }
 
-/// Options that do not go together, or of which one lacks the other.
+/// Options that do not go together, or one that needs another that is missing.
 #[derive(Clone, Copy, Debug, PartialEq, Eq)]
 pub enum Clash {
     /// One seed, and many.
@@ -107,7 +107,7 @@ fn way_of<'a>(
     }
 }
 
-// What is lacking where there is no seed.
+// The clash where there is no seed.
 fn clash_without_seed(events: Option<&str>) -> Option<Clash>
     ensures value { result ≡ clash_without_seed events.entry }
 {
@@ -117,7 +117,7 @@ fn clash_without_seed(events: Option<&str>) -> Option<Clash>
     }
 }
 
-// What does not go with many seeds.
+// The clash of many seeds with another option.
 fn clash_with_seeds(events: Option<&str>, dump: Option<&str>, trace: Option<&str>) -> Option<Clash>
     ensures value { result ≡ clash_with_seeds events.entry dump.entry trace.entry }
 {

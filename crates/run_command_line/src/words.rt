@@ -42,14 +42,14 @@ fn line_of(clash: Clash) -> &'static str
     }
 }
 
-/// Reads the words of a command line, the program's name first.
+/// Reads the arguments of a command line, the program's name first.
 ///
 /// # Errors
 ///
-/// The words are not `[--dump PREFIX] [--lbd1] [--progress] [--tolerance T] [--seed S] [--seeds N] [--events FILE] [--replay FILE]
-/// [--trace FILE] FILE` with a T of 0 to 1,000, an S below 2^64 and an N of 1 to 1,000,000, help or the version is asked for, or it
-/// is out of memory. The error has the text to print; [`words_status`] is the status for it. Options that do not go together are no
-/// error here: [`Asked::task`] returns the [`Clash`].
+/// The arguments are not `[--dump PREFIX] [--lbd1] [--progress] [--tolerance T] [--seed S] [--seeds N] [--events FILE]
+/// [--replay FILE] [--trace FILE] FILE` with a T of 0 to 1,000, an S below 2^64 and an N of 1 to 1,000,000; or help or the
+/// version is asked for; or memory ran out. The error has the text to print; [`words_status`] is the status for it. Options that
+/// do not go together are no error here: [`Asked::task`] returns the [`Clash`].
 pub fn asked<'a>(alloc: Global, words: &'a [&'a str]) -> Result<Asked<'a>, Error>
     ensures faults { FailsBy (fault_of program (texts words.now)) result }
     ensures file { IfOk result (λ asked. file_in (texts words.now) ≡ Some asked.file.now) }
@@ -72,8 +72,8 @@ pub fn asked<'a>(alloc: Global, words: &'a [&'a str]) -> Result<Asked<'a>, Error
     }
 }
 
-// The words that are understood: `charm_run [--dump PREFIX] [--lbd1] [--progress] [--tolerance T] FILE`, those for runs on one
-// thread, and those for help and for the version, which clap adds.
+// The arguments that are understood: `charm_run [--dump PREFIX] [--lbd1] [--progress] [--tolerance T] FILE`, those for runs on
+// one thread, and those for help and for the version, which clap adds.
 fn command<'a>(alloc: Global) -> Result<Command<'a>, AllocError>
     ensures program { IfOk result (λ command. app_of command ≡ program) }
     ensures named { IfOk result NamesFile }
@@ -221,7 +221,7 @@ fn number_of_seeds<'a>() -> ValueParser<'a>
     value_parser!(u32).range(1..=1_000_000)
 }
 
-// What the words ask for.
+// What the arguments ask for.
 fn found<'a>(matches: &ArgMatches<'a>) -> Asked<'a>
     requires named { is_some (first_value (found_of matches.now) (codes "file")) ≡ true }
     ensures file { first_value (found_of matches.now) (codes "file") ≡ Some result.file.now }
@@ -259,7 +259,7 @@ fn seed_in<'a>(matches: &ArgMatches<'a>) -> Option<u64>
     matches.get_one::<u64>("seed")
 }
 
-// How many seeds are asked for. clap refuses a number out of range; here it would count as none.
+// How many seeds are asked for. clap refuses a number out of range; here such a number would count as none.
 fn seeds_in<'a>(matches: &ArgMatches<'a>) -> Option<u32>
     ensures seeds { (n : ℕ) → (result ≡ Some n) ↔ SpellsSeeds (one_text (found_of matches.now) (codes "seeds")) n }
     ensures some_seed { ForSome result (λ n. 1 ≤ n) }

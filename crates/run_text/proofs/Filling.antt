@@ -36,7 +36,7 @@ named_here e x xs here = sum_by-cons (λ (y : ℕ × ℕ). if y.0 == e then 1 el
 pub named_there : (e : ℕ) (x : ℕ × ℕ) (xs : List (ℕ × ℕ)) → (x.0 == e) ≡ false → named e (x ∷ xs) ≡ named e xs
 named_there e x xs there = sum_by-cons (λ (y : ℕ × ℕ). if y.0 == e then 1 else 0) x xs ∙ rw there (omega arith)
 
--- an element that is not named keeps what stands at its index
+-- an element that is not named keeps what is at its index
 pub not_named : (e : ℕ) (sums : List ℕ) (xs : List (ℕ × ℕ)) → named e xs ≡ 0 → get_or (with_sums sums xs) e 0 ≡ get_or sums e 0
 not_named e sums [] none = refl
 not_named e sums (x ∷ xs) none = by (not_named e (set sums x.0 x.1) xs) (eqb_tells x.0 e)
@@ -47,7 +47,7 @@ not_named e sums (x ∷ xs) none = by (not_named e (set sums x.0 x.1) xs) (eqb_t
     by rest (inr there) =
         rest (sym (named_there e x xs there.0) ∙ none) ∙ get_or-set_other sums x.0 e x.1 0 (λ same. there.1 (sym same))
 
--- at the index of an element that is named once stands its sum
+-- at the index of an element that is named once is its sum
 pub named_once : (e : ℕ) (sums : List ℕ) (xs : List (ℕ × ℕ)) → e < length sums → named e xs ≡ 1 → get_or (with_sums sums xs) e 0 ≡ first_sum e xs
 named_once e sums [] inside once = absurd (omega arith)
 named_once e sums (x ∷ xs) inside once =

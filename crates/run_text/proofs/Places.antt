@@ -1,4 +1,4 @@
--- The sums of the elements stand where the elements do: place by place in both lists.
+-- The sums of the elements are where the elements are: place by place in both lists.
 use Rattle.std.proofs.Common.{◌≡◌, ℕ, ◌+◌, ◌==◌, List, [], ◌∷◌, ◌++◌, All, IfSome, map, if◌then◌else◌, Option, None, Some, refl, sym, ◌∙◌, ap}
 use Rattle.std.specs.List.{AllZip, flat_map}
 use Rattle.std.specs.Map.{values_of}
@@ -37,7 +37,7 @@ module _ {X Y : Type 0} (R : X → Y → Type 0) where
 abbrev pub Tie : Type 1
 Tie = Life → ℕ × ℕ → Type 0
 
--- so of the element of a parcel
+-- the same of the element of a parcel
 abbrev pub TiesIn : Tie → Parcel → Type 0
 TiesIn R parcel = AllZip R (lives_in parcel) (sums_in parcel)
 
@@ -72,7 +72,7 @@ module _ (R : Tie) where
       (zip_flat R lives_at sums_at o.ends (λ k d inside. zip_pe _ (at_pes k d inside)))
       (zip_flat R (flat_map lives_in) (flat_map sums_in) o.left (λ k d inside. zip_flat R lives_in sums_in _ (in_queues k d inside)))
 
--- both tell the same index
+-- both have the same index
 abbrev pub SameIndex : Tie
 SameIndex life sum = life.0 ≡ sum.0
 

@@ -24,7 +24,7 @@ pieces_more piece i =
     ∙ ap (λ l. flat_map piece (range_with_len 1 i) ++ l) (append-nil (piece (i + 1)))
 
 module _ {A : Type 0} (rounds : List (Kept A)) (i : ℕ) where
-  -- the line of the round that is kept at a place
+  -- the line of the round that is kept at an index
   line_at : (kept : Kept A) → slice_get rounds i ≡ Some kept → decided_line rounds (i + 1) ≡ round_line (i + 1) (refined_bottleneck kept.1) (refined_moved kept.1)
   line_at kept is = rw (add-one, is) refl
 

@@ -21,7 +21,7 @@ module _ {A : Type 0} (n : ℕ) (o : OutcomeView TallyView A) (tallies : AreTall
       (subst (λ m. e < m) (sym (length-replicate n 0)) inside)
       (sym (named_alike e (lives (left_world o.ends o.left)) (all_sums o) (same_all o)) ∙ tallies.stands e inside)
 
-  -- once all are noted, the sum of each element stands at its index
+  -- once all are noted, the sum of each element is at its index
   pub all_noted : with_sums (replicate n 0) (all_sums o) ≡ element_sums o n
   all_noted =
       ext_get_or 0 (with_sums (replicate n 0) (all_sums o)) (element_sums o n)
@@ -30,7 +30,7 @@ module _ {A : Type 0} (n : ℕ) (o : OutcomeView TallyView A) (tallies : AreTall
       let within : e < n = subst (λ m. e < m) filled_length inside in
       filled_at e within ∙ sym (get_or-map-range_with_len (sum_of o) 0 n e e 0 within (zero-add e)))
 
-  -- so it is once they are written back to the whole list
+  -- and so it is once they are written back to the whole list
   pub all_filled : (len : ℕ) (start filled rest : List ℕ)
       → start ≡ replicate n 0
       → length start ≡ len

@@ -21,7 +21,7 @@ abbrev pub chare_after : {C : Type 0} → Step C → ℕ → ℕ → C → List 
 chare_after step e n chare [] = chare
 chare_after step e n chare (done ∷ journal) = chare_after step e n (step chare e n (input_of done)).state journal
 
--- Element e of a run that opened with these tallies stands somewhere with its journal, and the sum that is found there is
+-- Element e of a run that opened with these tallies is somewhere with its journal, and the sum that is found there is
 -- that of the tally which it opened with, after the entries of the journal.
 pub record IsAddedUp {A : Type 0} (opened : List TallyView) (o : OutcomeView TallyView A) (e : ℕ) : Type 0 where
   pub opening : TallyView

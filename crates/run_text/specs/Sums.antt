@@ -55,13 +55,13 @@ abbrev pub IsTallyParcel : Parcel → Type 0
 IsTallyParcel (Letter l) = Unit {0}
 IsTallyParcel (Element p) = IsTallyPack p.bytes
 
--- so is each that a PE has in its hand or its outbox
+-- and so is each that a PE has in its hand or its outbox
 pub record HasTallyPacks (pe : PeView TallyView) : Type 0 where
   pub hand : IfSome pe.hand (λ x. IsTallyParcel x.parcel)
   pub outbox : All (λ x. IsTallyParcel x.parcel) pe.outbox
 
--- What a run left are n tallies: each of the first n elements is in exactly one place, and what is packed is the pack of a
--- tally.
+-- What a run left are n tallies: each of the first n elements is in exactly one place, and whatever is packed is the pack
+-- of a tally.
 pub record AreTallies {A : Type 0} (n : ℕ) (o : OutcomeView TallyView A) : Type 0 where
   pub stands : (e : ℕ) → e < n → times (λ x. x.0 == e) (lives (left_world o.ends o.left)) ≡ 1
   pub at_pes : All HasTallyPacks o.ends

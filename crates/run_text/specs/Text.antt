@@ -22,7 +22,7 @@ newline = 10 ∷ []
 abbrev pub round_start : ℕ → List ℕ
 round_start r = codes "round " ++ decimal r
 
--- what was decided, behind the round
+-- what was decided, after the round
 abbrev pub decision_end : ℕ → ℕ → List ℕ
 decision_end bottleneck moved =
     codes " bottleneck " ++ decimal bottleneck ++ codes " moved " ++ decimal moved ++ newline
@@ -68,7 +68,7 @@ abbrev pub account_line : ℕ → ℕ → ℕ → List ℕ
 account_line posted executed held =
     codes "posted " ++ decimal posted ++ codes " executed " ++ decimal executed ++ codes " held " ++ decimal held ++ newline
 
--- the fault, where there is one, or else the sums
+-- the fault, where there is one, or otherwise the sums
 abbrev pub ending_line : Option Fault → List ℕ → List ℕ
 ending_line None sums = sums_line sums
 ending_line (Some fault) sums = fault_line fault

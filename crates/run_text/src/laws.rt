@@ -10,9 +10,9 @@ use pup_pack::Pup;
 use std::alloc::Allocator;
 use tally::Tally;
 
-/// The laws of the sums. The function does nothing: its clauses are the laws. What a run of tallies left is what
-/// [`outcome_text`](crate::outcome_text) asks for; the sum in the pack of a tally is that of the tally; and the sum that is
-/// printed of an element is that of the tally which it opened with, after all that it has handled.
+/// The laws of the sums. The function does nothing: its clauses are the laws. What a run of tallies left meets what
+/// [`outcome_text`](crate::outcome_text) requires; the sum in the pack of a tally is that of the tally; and the sum that is
+/// printed for an element is that of the tally which it opened with, after all that it has handled.
 pub fn sum_laws<A: Allocator + Copy>()
     ensures tallies { (opened : List TallyView) (o : OutcomeView TallyView A) → IsTallyRun ⟦<Tally<A> as Pup<A>>⟧.fits opened o → AreTallies (length opened) o }
     ensures packed { (t : TallyView) → t.sum < 2 ^ 64 → packed_sum (tally_pack t) ≡ t.sum }

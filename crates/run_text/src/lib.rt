@@ -1,7 +1,7 @@
 //! The text of what a run of tallies left: a line for each round that was decided, the sums of the elements or the fault
 //! that ended the run early, and the account of its letters.
 //!
-//! - [`outcome_text`]: the text; [`fault_word`]: the word in it for a fault.
+//! - [`outcome_text`]: the text; [`fault_word`]: the word for a fault in it.
 //! - [`sum_laws`]: what the sums in it are, whatever the schedule of the run was.
 //!
 //! ```
@@ -12,7 +12,7 @@
 //! let text = outcome_text(alloc, n, &outcome)?;
 //! ```
 //!
-//! Of four tallies with two amounts each the text may be:
+//! For four tallies with two amounts each the text may be:
 //!
 //! ```text
 //! round 1 bottleneck 6 moved 40

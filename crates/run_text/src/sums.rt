@@ -14,8 +14,8 @@ use rts_run::Outcome;
 use std::alloc::{AllocError, Allocator};
 use tally::Tally;
 
-/// The sums of `n` elements, in the order of their indices. Each place is looked into once. The only error is that memory
-/// was refused.
+/// The sums of `n` elements, in the order of their indices. Each place is visited once. The only error is that memory was
+/// refused.
 pub(crate) fn sums_of<A: Allocator + Copy>(
     alloc: A,
     n: usize,
@@ -29,7 +29,7 @@ pub(crate) fn sums_of<A: Allocator + Copy>(
     Ok(sums)
 }
 
-// So many zeros.
+// This number of zeros.
 fn zeros<A: Allocator>(alloc: A, len: usize) -> Result<Vec<u64, A>, AllocError>
     ensures { IfOk result (λ sums. sums.items ≡ replicate len 0) }
 {

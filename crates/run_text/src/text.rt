@@ -1,4 +1,4 @@
-//! The printed text of an outcome. It is made whole before any of it goes out.
+//! The printed text of an outcome. All of it is made before any of it is printed.
 
 ghost use Rattle.std.specs.Prelude.{◌≡◌, ◌++◌, [], OnOk, IfOk};
 ghost use Rattle.std.specs.List.{flat_map};
@@ -16,16 +16,16 @@ use rts_run::{Fault, Outcome};
 use std::alloc::{AllocError, Allocator};
 use tally::Tally;
 
-/// The text of what a run of `n` tallies left. Each line ends with a newline byte, and numbers are plain decimals. What is
-/// asked of the outcome holds of that of [`run`](rts_run::run), by its clauses `account` and `histories` and the law
-/// `tallies` of [`sum_laws`](crate::sum_laws).
+/// The text of what a run of `n` tallies left. Each line ends with a newline byte, and numbers are plain decimals. What this
+/// requires of the outcome holds of one that [`run`](rts_run::run) returns, by its clauses `account` and `histories` and the
+/// law `tallies` of [`sum_laws`](crate::sum_laws).
 ///
 /// First a line `round r bottleneck B moved M` for each round that was decided, from round 1 on. Then `sums`, with the sum of
 /// each element in the order of their indices, wherever it is; or, where a fault ended the run early, `fault` and one of
 /// `memory`, `idle`, `unpack`, `stranger`, `toolong`, `worn`, `mismatch` and `stopped`. Last the account,
 /// `posted X executed Y held Z`.
 ///
-/// The time is linear in what the run left, but for what it left in journals, which are not read.
+/// The time is linear in what the run left, except journals, which are not read.
 ///
 /// # Errors
 ///
@@ -43,7 +43,7 @@ pub fn outcome_text<A: Allocator + Copy>(
     Ok(text)
 }
 
-// Writes the text of an outcome where nothing stands yet.
+// Writes the text of an outcome to an empty string.
 fn push_outcome<A: Allocator + Copy>(
     alloc: A,
     text: &mut String<A>,
@@ -100,7 +100,7 @@ fn push_decision_end<A: Allocator>(
     writeln!(text, " bottleneck {bottleneck} moved {moved}")
 }
 
-// The fault, where there is one, or else the sums.
+// The fault, where there is one, or otherwise the sums.
 fn push_ending<A: Allocator + Copy>(
     alloc: A,
     text: &mut String<A>,

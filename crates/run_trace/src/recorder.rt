@@ -10,10 +10,10 @@ use std::sync::{Mutex, Wait};
 use std::time::{Clock, Instant};
 use trace_events::TraceError;
 
-/// Looks on at a run over threads, and keeps what each PE does, with its time by the monotonic clock: a reading of the clock
-/// as a step begins and one as it ends. Each worker keeps it in a row of its own, whose lock no other worker wants. Where memory
-/// is refused the run goes on, and [`into_timeline`](Recorder::into_timeline) says so. A time that cannot be read is that of the
-/// PE's last reading.
+/// Watches a run over threads, and keeps what each PE does, with its time by the monotonic clock: one reading of the clock as a
+/// step begins and one as it ends. Each worker keeps this in a row of its own, whose lock no other worker takes. Where memory is
+/// refused the run goes on, and [`into_timeline`](Recorder::into_timeline) returns the error. Where the clock cannot be read,
+/// the time is that of the PE's last reading.
 #[derive(Drop)]
 pub struct Recorder<'a, R, A: Allocator = Global> {
     rt: &'a R,
@@ -27,7 +27,7 @@ impl<'a, R: Clock, A: Allocator + Copy> Recorder<'a, R, A> {
     ///
     /// # Errors
     ///
-    /// [`Clock`](TraceError::Clock), and then [`OutOfMemory`](TraceError::OutOfMemory).
+    /// [`Clock`](TraceError::Clock) where the clock cannot be read, and then [`OutOfMemory`](TraceError::OutOfMemory).
     pub fn new(rt: &'a R, alloc: A) -> Result<Self, TraceError> {
         let Ok(start) = Instant::now(rt) else {
             return Err(TraceError::Clock);
@@ -44,7 +44,7 @@ impl<'a, R: Clock, A: Allocator + Copy> Recorder<'a, R, A> {
     ///
     /// # Errors
     ///
-    /// Memory was refused now, or for something that happened during the run.
+    /// Memory was refused now, or was refused during the run for something that happened.
     pub fn into_timeline(self) -> Result<Timeline<A>, AllocError> {
         let Recorder {
             rt: _,

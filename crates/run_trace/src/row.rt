@@ -11,16 +11,16 @@ use trace_events::{Deed, Happening, What};
 #[derive(Drop)]
 pub(crate) struct Row<A: Allocator> {
     happenings: Vec<Happening, A>,
-    // Whether something is missing, since memory was refused for it.
+    // Whether an entry is missing, since memory was refused for it.
     is_short: bool,
-    // When the step began that is under way, or the last one was made.
+    // When the step that is under way began, or when the last one ended.
     began: u64,
     // How many letters the PE has posted.
     posted: u32,
 }
 
 impl<A: Allocator> Row<A> {
-    /// Nothing yet.
+    /// An empty row.
     pub(crate) fn new(alloc: A) -> Self {
         Row {
             happenings: Vec::new(alloc),
@@ -35,7 +35,7 @@ impl<A: Allocator> Row<A> {
         self.began = now.unwrap_or(self.began);
     }
 
-    /// The PE made this step, after which it has posted this number of letters.
+    /// The PE made this step. `posted` is how many letters it has posted after it.
     pub(crate) fn end(&mut self, pe: Pe, step: PeStep, posted: u64, now: Option<u64>) {
         let now = now.unwrap_or(self.began);
         let at = match step {
@@ -64,7 +64,7 @@ impl<A: Allocator> Row<A> {
         });
     }
 
-    /// Keeps what happened, behind the rest; or notes that it is missing.
+    /// Adds what happened as the last entry; or notes that it is missing.
     pub(crate) fn note(&mut self, happening: Happening)
         ensures kept { MatchBool self.new.is_short (self.new.happenings.items ≡ self.old.happenings.items)
             (self.new.happenings.items ≡ self.old.happenings.items ++ happening ∷ []) }
@@ -78,7 +78,7 @@ impl<A: Allocator> Row<A> {
     ///
     /// # Errors
     ///
-    /// Memory was refused for something.
+    /// Memory was refused for an entry.
     pub(crate) fn into_happenings(self) -> Result<Vec<Happening, A>, AllocError>
         ensures all { MatchResult result (λ all. all.items ≡ self.happenings.items) (λ _. self.is_short ≡ true) }
     {

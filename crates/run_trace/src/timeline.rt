@@ -24,7 +24,7 @@ impl<A: Allocator> Model for Timeline<A> {
 }
 
 impl<A: Allocator> Timeline<A> {
-    /// These, put in order. Of those that began at the same time the order stays.
+    /// These happenings in order of time. Those that began at the same time keep their order.
     pub(crate) fn sorted(happenings: Vec<Happening, A>) -> Result<Self, AllocError>
         ensures same { IfOk result (λ timeline. IsPermutation happenings.items timeline) }
     {

@@ -12,17 +12,17 @@ use std::sync::Wait;
 use std::time::Clock;
 use trace_events::TraceError;
 
-/// A recorder, or nobody, who costs nothing.
+/// A recorder, or none, which costs nothing.
 #[derive(Drop)]
 pub enum Tracing<'a, R, A: Allocator = Global> {
-    /// Nobody.
+    /// No recorder.
     Off,
     /// Each step is kept.
     On(Recorder<'a, R, A>),
 }
 
 impl<'a, R: Clock, A: Allocator + Copy> Tracing<'a, R, A> {
-    /// A recorder of a run that begins now. Where nobody wants it, it is off.
+    /// A recorder of a run that begins now, or [`Off`](Tracing::Off) where none is wanted.
     ///
     /// # Errors
     ///
@@ -37,7 +37,7 @@ impl<'a, R: Clock, A: Allocator + Copy> Tracing<'a, R, A> {
         Ok(Tracing::On(Recorder::new(rt, alloc)?))
     }
 
-    /// What happened, as [`Recorder::into_timeline`] says; `None` where it is off.
+    /// What happened, as [`Recorder::into_timeline`] returns it; `None` where no recorder is on.
     pub fn into_timeline(self) -> Result<Option<Timeline<A>>, AllocError> {
         match self {
             Tracing::Off => Ok(None),

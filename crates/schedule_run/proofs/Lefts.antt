@@ -25,7 +25,7 @@ use Rattle.schedule_run.specs.Seeds.{IsVerdict}
 use Rattle.schedule_run.specs.declared.verdict.Verdict.{Verdict}
 use Rattle.schedule_run.specs.OneThread.{IsRunOnOne, RefusesRun, StopsRun, Unpack}
 
--- what a run of these chares on so many PEs left
+-- what a run of these chares on this number of PEs left
 pub on_one : {A : Type 0} (fits : TallyView → Type 0) (unpack : Unpack) (chares chares' : List TallyView) (pes pes' : ℕ) (strategy strategy' : Strategy) (x : ExploredView TallyView A)
     → chares ≡ chares' → pes ≡ pes' → strategy ≡ strategy'
     → IsExplored tally_step fits tally_pack unpack chares pes strategy x
@@ -35,7 +35,7 @@ on_one fits unpack chares chares' pes pes' strategy strategy' x same_chares same
     (subst (λ (p : ℕ). IsExplored tally_step fits tally_pack unpack chares p strategy' x) same_pes
     (subst (λ (s : Strategy). IsExplored tally_step fits tally_pack unpack chares pes s x) same_strategy left))
 
--- how the runs of these chares on so many PEs ended
+-- how the runs of these chares on this number of PEs ended
 pub verdicts_on_one : (A : Type 0) (fits : TallyView → Type 0) (unpack : Unpack) (chares chares' : List TallyView) (pes pes' : ℕ) (strategy strategy' : Strategy) (vs : List Verdict)
     → chares ≡ chares' → pes ≡ pes' → strategy ≡ strategy'
     → All (IsVerdict A tally_step fits tally_pack unpack chares pes strategy) vs
@@ -45,7 +45,7 @@ verdicts_on_one A fits unpack chares chares' pes pes' strategy strategy' vs same
     (subst (λ (p : ℕ). All (IsVerdict A tally_step fits tally_pack unpack chares p strategy') vs) same_pes
     (subst (λ (s : Strategy). All (IsVerdict A tally_step fits tally_pack unpack chares pes s) vs) same_strategy each))
 
--- what is told of are tallies, as many as the workload has chares
+-- what is reported are tallies, as many as the workload has chares
 pub are_tallies : {A : Type 0} (fits : TallyView → Type 0) (unpack : Unpack) → ((t : TallyView) → fits t → t.sum < 2 ^ 64)
     → (w : WorkloadView) (n : ℕ) (strategy : Strategy) (x : ExploredView TallyView A)
     → n ≡ w.chares → IsRunOnOne fits unpack w strategy x → AreTallies n x.outcome

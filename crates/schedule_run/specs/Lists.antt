@@ -1,4 +1,4 @@
--- The lists of events that are read and written: the lines of their faults, and what the files hold then.
+-- The lists of events that are read and written: the lines of their faults, and what the files hold in the end.
 use Rattle.std.specs.Prelude.{◌≡◌, ◌≢◌, ◌⊎◌, ℕ, List, ◌++◌, codes, Option}
 use Rattle.std.specs.Fmt.{decimal}
 use Rattle.std.specs.Io.KnownBytes.{Appends, Consumes, IsAtEnd}
@@ -20,13 +20,14 @@ list_line (Faulty Why.TooLong) = codes "events: too long" ++ newline
 list_line (Faulty Why.OutOfMemory) = memory_line
 list_line (NotEnabled n) = codes "events: not enabled in line " ++ decimal n ++ newline
 
--- the line of the fault was written, and the status is 3; or it is 5, and a prefix of that was, or that memory was refused
+-- the line of the fault was written, and the status is 3; or it is 5, and a prefix of that line was, or the line for
+-- refused memory
 abbrev pub TellsList : ListFault → Option (List ℕ) → Option (List ℕ) → ℕ → Type 0
 TellsList fault old new status =
     ((fault ≢ Faulty Why.OutOfMemory) × (status ≡ 3) × Appends old new (list_line fault))
     ⊎ ((status ≡ 5) × (WritesPrefix old new (list_line fault) ⊎ WritesPrefix old new memory_line))
 
--- what the bytes of a reader that was read to its end show of a fault
+-- what a fault says of the bytes of a reader that was read to its end
 abbrev pub IsListFault : List ℕ → ListFault → Type 0
 IsListFault bytes Unread = ⊥
 IsListFault bytes (Faulty Why.OutOfMemory) = Unit {0}

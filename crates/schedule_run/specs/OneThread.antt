@@ -17,7 +17,7 @@ use Rattle.workload_run.specs.Telling.{TellsOutcome, WritesText}
 use Rattle.workload_run.specs.declared.ended.Ended.{Ended}
 use Rattle.workload_run.specs.declared.ended.Ended.TheVariants.{OutOfMemory}
 
--- what a tally is made of bytes
+-- the tally that bytes unpack to
 abbrev pub Unpack : Type 0
 Unpack = List ℕ → Result (TallyView × ℕ) PupError
 
@@ -26,7 +26,8 @@ module _ {A : Type 0} (fits : TallyView → Type 0) (unpack : Unpack) where
   abbrev pub IsRunOnOne : WorkloadView → Strategy → ExploredView TallyView A → Type 0
   IsRunOnOne w strategy x = IsExplored tally_step fits tally_pack unpack (tallies_of w) w.pes strategy x
 
-  -- what was written of that: the text of its outcome; without it the line for refused memory; or a prefix of one of these
+  -- what was written of that: the text of its outcome; without an outcome the line for refused memory; or a prefix of one
+  -- of these
   abbrev pub EndsOnOne : WorkloadView → Strategy → Option (List ℕ) → Option (List ℕ) → Option (ExploredView TallyView A) → Ended → Type 0
   EndsOnOne w strategy old new (Some x) ended =
       IsRunOnOne w strategy x × TellsOutcome (outcome_text w.chares x.outcome) old new x.outcome.fault ended

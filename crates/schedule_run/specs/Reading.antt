@@ -7,7 +7,7 @@ use Rattle.workload_run.specs.Driving.{IsRefusal}
 use Rattle.workload_run.specs.Telling.{ReportsFault}
 use Rattle.workload_run.specs.declared.ended.Ended.{Ended}
 
--- The bytes of a reader, where they are known, are the text of the workload, and nothing is written; or else the line of their fault
+-- The bytes of a reader, where they are known, are the text of the workload, and nothing is written; or the line of their fault
 -- is written, or that for refused memory, or a prefix of one.
 abbrev pub Reads : Option (List ℕ) → Option (List ℕ) → Option (List ℕ) → Option (List ℕ) → Result WorkloadView Ended → Type 0
 Reads bytes rest old new (Ok w) = IfSome bytes (IsText w) × (new ≡ old)

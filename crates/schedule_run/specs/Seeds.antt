@@ -25,7 +25,7 @@ IsVerdict {C} A step fits pack unpack chares pes strategy v =
     (x : ExploredView C A) × IsExplored step fits pack unpack chares pes strategy x × (v.fault ≡ x.outcome.fault)
     × (v.held ≡ held_count (left_by x))
 
--- the line of a run by this seed that a fault ended, with this number of letters left; there is none of another
+-- the line of a run by this seed that a fault ended, with this number of letters left; a run without a fault has none
 abbrev pub fault_line : ℕ → ℕ → Option Fault → List ℕ
 fault_line seed held None = []
 fault_line seed held (Some fault) =
@@ -36,7 +36,7 @@ abbrev pub fault_lines : ℕ → List Verdict → List ℕ
 fault_lines seed [] = []
 fault_lines seed (v ∷ vs) = fault_line seed v.held v.fault ++ fault_lines (seed + 1) vs
 
--- whether a fault ended a run, as a number, and how many runs one ended
+-- whether a fault ended a run, as a number, and how many runs a fault ended
 abbrev pub fault_count : Option Fault → ℕ
 fault_count None = 0
 fault_count (Some fault) = 1
@@ -57,8 +57,8 @@ seeds_text verdicts = fault_lines 1 verdicts ++ count_line (length verdicts) (fa
 abbrev pub fault_of_first : List Verdict → Option Fault
 fault_of_first verdicts = first_fault (map (λ v. v.fault) verdicts)
 
--- The workload was run by each of the seeds from 1 to this number, and the text of that was written, or a prefix of it; or memory was refused, and
--- the line for that was written, or a prefix of it.
+-- The workload was run by each of the seeds from 1 to this number, and the text of that was written, or a prefix of it; or memory
+-- was refused, and the line for that was written, or a prefix of it.
 abbrev pub TriesSeeds : (A : Type 0) → (TallyView → Type 0) → Unpack → WorkloadView → Strategy → ℕ → Option (List ℕ) → Option (List ℕ) → Ended → Type 0
 TriesSeeds A fits unpack w strategy seeds old new ended =
     ((verdicts : List Verdict) × All (IsVerdict A tally_step fits tally_pack unpack (tallies_of w) w.pes strategy) verdicts × (length verdicts ≡ seeds)

@@ -17,7 +17,7 @@ pub(crate) struct TallyCast<'a, A: Allocator> {
 }
 
 impl<'a, A: Allocator> TallyCast<'a, A> {
-    /// Those of this workload.
+    /// The tallies of this workload.
     pub(crate) fn new(workload: &'a Workload<A>) -> Self
         requires within { IsWithin workload.now }
         ensures workload { result.workload ≡ workload.entry }

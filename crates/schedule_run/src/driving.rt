@@ -22,7 +22,7 @@ use tally::Tally;
 use workload::Workload;
 use workload_run::{report_memory, tell_outcome};
 
-/// Runs a workload by a seed, as [`search`] does, and writes the text of what that left, which is that of a run over threads.
+/// Runs a workload by a seed, as [`search`] does, and writes the text of what that left, as for a run over threads.
 pub fn drive_seed<W: Write, A: Allocator + Copy>(
     alloc: A,
     workload: &Workload<A>,
@@ -44,7 +44,7 @@ pub fn drive_seed<W: Write, A: Allocator + Copy>(
 ///
 /// # Errors
 ///
-/// The number of the first event that is not enabled after those before it, from 1 on. Nothing is written then.
+/// The number of the first event that is not enabled after those before it, from 1 on. In that case nothing is written.
 pub fn drive_events<W: Write, A: Allocator + Copy>(
     alloc: A,
     workload: &Workload<A>,

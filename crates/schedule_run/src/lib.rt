@@ -1,11 +1,12 @@
-//! Runs the chares of a workload on one thread: by a seed, by many, or by a list of events.
+//! Runs the chares of a workload on one thread: by one seed, by many, or by a list of events.
 //!
 //! - [`read_workload`]: the workload in a file.
-//! - [`drive_seed`], [`drive_events`]: its run by a seed, or by a list of events, and the text of what that left, which is the same
-//!   as of a run over threads. [`DrivenOnOne`]: what came of it.
+//! - [`drive_seed`], [`drive_events`]: its run by a seed, or by a list of events, and the text of what that left, as for a run
+//!   over threads. [`DrivenOnOne`]: the result.
 //! - [`drive_seeds`]: its runs by the seeds from 1 on, and the text that says which of them a fault ended.
 //! - [`search`], [`follow`]: the same runs, without a text.
-//! - [`read_list`], [`write_list`]: lists of events from a file and into one; [`report_list`]: the line of a [`ListFault`].
+//! - [`read_list`], [`write_list`]: reads a list of events from a file, and writes one; [`report_list`]: writes the line of a
+//!   [`ListFault`].
 //!
 //! ```
 //! use rts_run::Strategy;

@@ -1,4 +1,4 @@
-//! What is wrong with a list of events, and the line of that.
+//! What is wrong with a list of events, and the line for it.
 
 ghost use Rattle.std.specs.Prelude.{◌≡◌, IfOk};
 ghost use Rattle.std.specs.String.{string_bytes};
@@ -28,7 +28,8 @@ pub enum ListFault {
     NotEnabled(usize),
 }
 
-/// Writes the line of a fault of a list of events, or that memory was refused. Returns the status that a program exits with: 3, or 5 where memory was refused or the writer failed.
+/// Writes the line of a fault of a list of events, or the line for refused memory. Returns the status that a program exits with:
+/// 3, or 5 where memory was refused or the writer failed.
 pub fn report_list<A: Allocator, W: Write>(alloc: A, writer: &mut W, fault: ListFault) -> u8
     ensures told { TellsList fault (W.contents writer.old) (W.contents writer.new) result }
 {

@@ -1,4 +1,4 @@
-//! Lists of events, from a file and into one.
+//! Reads lists of events from files, and writes them.
 
 ghost use Rattle.std.specs.Prelude.{◌≡◌, ◌⊎◌, ◌<◌, ◌≤◌, ℕ, [], List, Option, Some, Err, IfErr, IfOk, MatchBool, MatchResult, length, take};
 ghost use Rattle.std.specs.Io.KnownBytes.{Appends, Consumes, IsAtEnd, Keeps};
@@ -18,18 +18,18 @@ use std::io::{self, Read, Write};
 use streams::{Noted, write_out};
 use tally::Tally;
 
-/// The bytes that are asked for at a time.
+/// How many bytes are requested at a time.
 const PIECE_LEN: usize = 65_536;
 
-/// How often a reader is called at most: more often than the longest list has bytes, so that the call ends.
+/// How many calls of a reader there are at most: more than the longest list has bytes, so that reading ends.
 const CALLS: u32 = 536_870_912;
 
 /// Reads the list of events in a file, to its end, and returns also the system's reason where a read failed.
 ///
 /// # Errors
 ///
-/// [`Unread`](ListFault::Unread) where the file could not be opened, the reader fails, with any error, or has been called 536,870,912
-/// times; and else the [fault](ListFault::Faulty) of its text, or that memory was refused.
+/// [`Unread`](ListFault::Unread) where the file could not be opened, the reader fails, with any error, or has been called
+/// 536,870,912 times; otherwise the [fault](ListFault::Faulty) of its text, or that memory was refused.
 pub fn read_list<R: Read + Drop, A: Allocator + Copy>(
     alloc: A,
     file: io::Result<R>,
@@ -76,7 +76,7 @@ fn read_all<R: Read, A: Allocator + Copy>(alloc: A, reader: &mut R) -> Result<Ve
     read_onto(Vec::new(alloc), reader, &mut piece)
 }
 
-// The room for the bytes of one call.
+// A buffer for the bytes of one call.
 fn room<A: Allocator>(alloc: A) -> Result<Vec<u8, A>, AllocError>
     ensures length { IfOk result (λ piece. length piece.items ≡ PIECE_LEN) }
 {
@@ -123,8 +123,8 @@ fn read_piece<R: Read>(reader: &mut R, room: &mut [u8]) -> Result<usize, ListFau
     }
 }
 
-/// Writes the list of the events of a run, the one that was refused included, and flushes the writer. Returns whether all was written:
-/// not where memory was refused or the writer failed.
+/// Writes the list of the events of a run, including the one that was refused, and flushes the writer. Returns whether the whole
+/// list was written: not where memory was refused or the writer failed.
 pub fn write_list<W: Write, A: Allocator + Copy, B: Allocator + Copy>(
     alloc: B,
     explored: &Explored<Tally<A>, A>,

@@ -7,7 +7,7 @@ use std::alloc::{Allocator, Global};
 use tally::Tally;
 use workload_run::{Driven, Ended};
 
-/// What came of a workload on one thread: how that ended, and what its run left, where there was one.
+/// The result of a workload on one thread: how it ended, and what its run left, if there was one.
 #[derive(Drop)]
 pub struct DrivenOnOne<A: Allocator + Copy = Global> {
     /// How it ended.
@@ -24,7 +24,7 @@ impl<A: Allocator + Copy> DrivenOnOne<A> {
         self.ended.status()
     }
 
-    /// The same as of a run over threads, whose rounds can be dumped. The steps are given up.
+    /// The same as the result of a run over threads, whose rounds can be dumped. The steps are dropped.
     pub fn into_driven(self) -> Driven<A>
         ensures ended { result.ended ≡ self.ended }
         ensures outcome { result.outcome ≡ option_map (λ x. x.outcome) self.explored }

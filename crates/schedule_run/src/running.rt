@@ -19,7 +19,7 @@ use workload_run::tallies_of;
 ///
 /// # Errors
 ///
-/// Memory was refused before the first event or after the last. Where it is refused in between, that is the fault of the run.
+/// Memory was refused before the first event or after the last. Where it is refused in between, the run ends with that fault.
 pub fn search<A: Allocator + Copy>(
     alloc: A,
     workload: &Workload<A>,

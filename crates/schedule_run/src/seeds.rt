@@ -19,10 +19,10 @@ use tally::Tally;
 use workload::Workload;
 use workload_run::{Ended, report_memory, report_text};
 
-/// Runs a workload by each of the seeds 1 to `seeds`, as [`search`](crate::search) does, and writes a line for each that a fault ended,
-/// with the letters that are left, and how many these are. A run without a fault leaves no letters.
+/// Runs a workload by each of the seeds 1 to `seeds`, as [`search`](crate::search) does, and writes a line for each run that a
+/// fault ended, with the number of letters that it left, and the number of such runs. A run without a fault leaves no letters.
 ///
-/// The fault that is returned is that of the first run that one ended.
+/// The fault that is returned is that of the first run that ended with one.
 pub fn drive_seeds<W: Write, A: Allocator + Copy>(
     alloc: A,
     workload: &Workload<A>,
@@ -85,7 +85,7 @@ fn seeds_text<A: Allocator>(alloc: A, verdicts: &[Verdict]) -> Result<String<A>,
     Ok(text)
 }
 
-// Writes the lines of the runs that a fault ended, and returns how many these are.
+// Writes the lines of the runs that a fault ended, and returns how many there are.
 fn push_faults<A: Allocator>(text: &mut String<A>, verdicts: &[Verdict]) -> Result<u64, AllocError>
     ensures lines { OnOk result (string_bytes text.new ≡ string_bytes text.old ++ fault_lines 1 verdicts.now) }
     ensures faults { IfOk result (λ faults. faults ≡ faults_among verdicts.now) }
@@ -97,7 +97,7 @@ fn push_faults<A: Allocator>(text: &mut String<A>, verdicts: &[Verdict]) -> Resu
     Ok(faults)
 }
 
-// Writes the line of a run by this seed, if a fault ended it, and returns how many lines that is.
+// Writes the line of a run by this seed, if a fault ended it, and returns the number of lines, 0 or 1.
 fn push_fault<A: Allocator>(
     text: &mut String<A>,
     seed: usize,

@@ -13,7 +13,7 @@ use std::alloc::{AllocError, Allocator};
 pub(crate) struct Verdict {
     /// The fault that ended it early.
     pub(crate) fault: Option<Fault>,
-    /// How many letters it left. Without a fault there is none.
+    /// How many letters it left: none where there is no fault.
     pub(crate) held: u64,
 }
 

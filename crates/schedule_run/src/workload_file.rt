@@ -17,7 +17,7 @@ use workload_run::{Ended, report_fault};
 ///
 /// # Errors
 ///
-/// How the program ends, where there is no workload.
+/// How the program ends, where no workload was read.
 pub fn read_workload<R: Read + Drop, W: Write, A: Allocator + Copy>(
     alloc: A,
     file: io::Result<R>,

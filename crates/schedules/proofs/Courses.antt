@@ -1,4 +1,4 @@
--- Courses of a world: with one step more, and as lists of events with their trace.
+-- Courses of a world: with one more step, and as lists of events with their trace.
 use Rattle.std.proofs.Common.{ℕ, List, [], ◌∷◌, ◌++◌, refl, ap, subst}
 use Rattle.std.specs.Prelude.{Result}
 use Rattle.chares.specs.declared.trace_entry.TraceEntry.{TraceEntry}
@@ -11,7 +11,7 @@ use Rattle.rts_core.specs.Worlds.{WorldView}
 use Rattle.schedules.specs.Courses.{IsEnabled, Leads, Made, events_of, trace_of}
 
 module _ {C A : Type 0} (step : Step C) (pack : C → List ℕ) (unpack : List ℕ → Result (C × ℕ) PupError) where
-  -- one step more
+  -- one more step
   pub leads_more : (w v next : WorldView C A) (steps : List Made) (event : Event) (entries : List TraceEntry)
       → Leads step pack unpack w steps v → IsEnabled step pack unpack v event → Happens step pack unpack v event (next, entries)
       → Leads step pack unpack w (steps ++ (event, entries) ∷ []) next

@@ -1,4 +1,4 @@
--- What is left of a course that stopped at its limit has as many steps as that.
+-- What a course that stopped at its limit left has as many steps as the limit.
 use Rattle.std.proofs.Common.{◌≡◌, ◌∙◌, ℕ, List, length, Option, Some, Result, Ok, Err, IfOk, IfSome, sym, ap, subst}
 use Rattle.pe_worker.specs.declared.fault.Fault.{Fault}
 use Rattle.pe_worker.specs.declared.fault.Fault.TheVariants.{Stopped}

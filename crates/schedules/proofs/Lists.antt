@@ -6,7 +6,7 @@ use Rattle.rts_core.specs.declared.event.Event.{Event}
 use Rattle.chares.specs.declared.trace_entry.TraceEntry.{TraceEntry}
 use Rattle.schedules.specs.Courses.{Made, events_of}
 
--- the events with one step more
+-- the events with one more step
 pub events_more : (steps : List Made) (event : Event) (entries : List TraceEntry) → events_of (steps ++ (event, entries) ∷ []) ≡ events_of steps ++ event ∷ []
 events_more [] event entries = refl
 events_more (made ∷ steps) event entries = ap (λ (es : List Event). made.0 ∷ es) (events_more steps event entries)
@@ -22,7 +22,7 @@ take_more [] i x e = cc
 take_more (y ∷ ys) zero x e = cc
 take_more {X} (y ∷ ys) (suc i) x e = ap (λ (zs : List X). y ∷ zs) (take_more ys i x e)
 
--- a member that is read at its place
+-- a member that is read by its index
 pub member_at : {X : Type 0} (xs : List X) (i : ℕ) (x : X) → i < length xs → x ≡ get_or xs i x → slice_get xs i ≡ Some x
 member_at [] i x lt e = absurd (omega (arith, lt))
 member_at (y ∷ ys) zero x lt e = ap Some (sym e)

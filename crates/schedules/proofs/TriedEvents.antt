@@ -1,4 +1,4 @@
--- What an event was that has trace entries, and what one was that has none.
+-- An event that has trace entries, and one that has none.
 use Rattle.std.proofs.Common.{◌≡◌, ◌≢◌, inl, inr, ◌∙◌, ℕ, List, [], Option, Some, None, false, refl, sym, ap}
 use Rattle.std.specs.Prelude.{Result, IsSome, MatchOption}
 use Rattle.chares.specs.declared.trace_entry.TraceEntry.{TraceEntry}
@@ -43,7 +43,8 @@ module _ {C A : Type 0} (step : Step C) (pack : C → List ℕ) (unpack : List �
       by None d = of_decision d.0 some
       by (Some p) e = of_step (enabled step pack unpack w event p) e some
 
-  -- one without, other than a look, a flush, a delivery and a report, was not, and changed nothing
+  -- one without a trace entry, other than a look, a flush, a delivery and a report, was not, and changed
+  -- nothing
   pub was_not : is_silent event ≡ false → Happens step pack unpack w event (w', reports) → reports ≡ [] → ¬ (IsEnabled step pack unpack w event) × (w' ≡ w)
   was_not loud did none = by (pe_of event) did
     where

@@ -58,8 +58,8 @@ abbrev pub TakesStep : {C A : Type 0} → CourseView C A → Event → CourseVie
 TakesStep before event after =
     (after.strategy ≡ before.strategy) × ((entries : List TraceEntry) × (after.steps ≡ before.steps ++ (event, entries) ∷ []))
 
--- What a course left: the outcome, as one of a run over threads, the words of its elements, its steps, and the event that was
--- refused, if one was.
+-- What a course left: the outcome, as of a run over threads, the location words of its elements, its steps, and the event that
+-- was refused, if there was one.
 pub record ExploredView (C A : Type 0) : Type 0 where
   pub outcome : OutcomeView C A
   pub words : List ℕ
@@ -78,10 +78,10 @@ left_by x = record { pes = x.outcome.ends; queues = x.outcome.left; words = x.wo
 abbrev pub IsDone : {C A : Type 0} → WorldView C A → Type 0
 IsDone w = HaveFinished w.board × (held_count w ≡ 0)
 
--- What a run on one thread left that opened with these chares on so many PEs, whose rounds are decided by this strategy. Its steps
--- lead there from the opening, each of them enabled. Each letter that was posted is in one place or was executed once, by its own
--- element, and each element is in one place, and is what its journal says. Without a fault every element has finished, and no
--- letter is held.
+-- What a run on one thread left that opened with these chares on this number of PEs, whose rounds are decided by this strategy.
+-- Its steps lead from the opening to the world that it left, each of them enabled. Each letter that was posted is in one place or
+-- was executed once, by its own element, and each element is in one place, and is what its journal says. Without a fault every
+-- element has finished, and no letter is held.
 pub record IsExplored {C A : Type 0} (step : Step C) (fits : C → Type 0) (pack : C → List ℕ) (unpack : List ℕ → Result (C × ℕ) PupError) (chares : List C) (pes : ℕ) (strategy : Strategy) (x : ExploredView C A) : Type 0 where
   pub led : Leads step pack unpack (opening_world pes chares strategy) x.steps (left_by x)
   pub account : Accounted (length chares) (left_by x) (trace_of x.steps)

@@ -1,12 +1,12 @@
 -- SplitMix64: G. Steele, D. Lea and C. Flood, "Fast splittable pseudorandom number generators", OOPSLA 2014. Its state is a
--- number of 64 bits. docs/SCHEDULES.md says the same in words.
+-- number of 64 bits. docs/SCHEDULES.md describes it in prose.
 use Rattle.std.specs.Prelude.{ℕ, ◌+◌, ◌*◌, ◌/◌, ◌%◌, ◌^◌, bit_xor}
 
 -- the state after this one
 abbrev pub next_state : ℕ → ℕ
 next_state s = (s + 0x9e37_79b9_7f4a_7c15) % 2 ^ 64
 
--- the number that is given in a state, once it has become this one
+-- the number that is returned in a state, once it has become this one
 unfoldable pub mixed : ℕ → ℕ
 mixed s =
     let y = (bit_xor s (s / 2 ^ 30) * 0xbf58_476d_1ce4_e5b9) % 2 ^ 64 in

@@ -1,4 +1,4 @@
--- What a run by a list of events comes to.
+-- What a run by a list of events leads to.
 use Rattle.std.specs.Prelude.{◌≡◌, ℕ, List, ◌∷◌, ◌++◌, length, Option, None, Some, Result}
 use Rattle.chares.specs.Steps.{Step}
 use Rattle.pup_pack.specs.declared.error.PupError.{PupError}
@@ -27,8 +27,8 @@ module _ {C A : Type 0} (step : Step C) (pack : C → List ℕ) (unpack : List �
       × (length course.steps ≡ at) × ¬ (IsEnabled step pack unpack course.world event)
 
 module _ {C : Type 0} (A : Type 0) (step : Step C) (pack : C → List ℕ) (unpack : List ℕ → Result (C × ℕ) PupError) where
-  -- a list of events is not repeated on these chares: a number is out of its limits, or memory was refused, or an event is not enabled
-  -- after those before it
+  -- a list of events is not repeated on these chares: a number is out of its limits, or memory was refused, or an event is not
+  -- enabled after those before it
   abbrev pub RefusesReplay : List C → Schedule → List Event → ReplayError → Type 0
   RefusesReplay chares schedule events (Ends.Config setting) = RefusesSchedule schedule (length chares) (Why.Config setting)
   RefusesReplay chares schedule events Ends.OutOfMemory = MayExplore schedule (length chares)

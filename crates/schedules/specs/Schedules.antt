@@ -1,4 +1,4 @@
--- What the usual schedule is; and when a run on one thread does not begin, and for what.
+-- What the usual schedule is; and when a run on one thread does not begin, and for which reason.
 use Rattle.std.specs.Prelude.{ℕ, ◌≤◌, None, false}
 use Rattle.chare_index.specs.declared.limits.TheConstants.Limits.{PES, ELEMENTS}
 use Rattle.rts_run.specs.Configs.{IsOneTo}
@@ -8,7 +8,7 @@ use Rattle.rts_run.specs.declared.error.Setting.TheVariants as Of
 use Rattle.schedules.specs.declared.bias.Bias.{Bias}
 use Rattle.schedules.specs.declared.schedule.Schedule.{Schedule}
 
--- nothing is drawn more often than the rest, or less
+-- nothing is drawn more often than the rest, or less often
 abbrev pub no_bias : Bias
 no_bias = record { letters_first = false; moves_first = false; stale_looks = false; starved = None }
 

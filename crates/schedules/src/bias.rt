@@ -1,19 +1,19 @@
 use chare_index::Pe;
 
-/// What is drawn more often than the rest, or less. Without any, each enabled event is drawn as often as every other.
+/// What is drawn more often than the rest, or less often. Without a bias each enabled event is as likely as every other.
 #[derive(Clone, Copy, Debug, Default, PartialEq, Eq)]
 pub struct Bias {
-    /// Letters are looked for, sent, delivered and executed 16 times as often.
+    /// Letters are looked up, sent, delivered and executed 16 times as often.
     pub letters_first: bool,
-    /// Elements report, depart and go on 16 times as often, and rounds are decided so.
+    /// Elements report, depart and go on 16 times as often, and rounds are decided 16 times as often.
     pub moves_first: bool,
-    /// Letters are looked for 16 times as often, and so long before they leave that their elements have gone meanwhile.
+    /// Letters are looked up 16 times as often, and so long before they leave that their elements have moved meanwhile.
     pub stale_looks: bool,
-    /// An event of this PE is drawn again, up to 15 times.
+    /// Where an event of this PE is drawn, the draw is repeated, up to 15 times.
     pub starved: Option<Pe>,
 }
 
-/// By what a bias multiplies.
+/// The factor of a bias.
 const FACTOR: u64 = 16;
 
 /// The kinds of events, in the order in which a number that is drawn goes through them.
@@ -30,7 +30,7 @@ pub(crate) enum Kind {
 }
 
 impl Bias {
-    /// How many times as often as a kind without any bias the events of this kind are drawn.
+    /// The factor by which a bias makes the events of this kind more likely.
     pub(crate) fn weight(&self, kind: Kind) -> u64 {
         match kind {
             Kind::Look => factor(self.letters_first).wrapping_mul(factor(self.stale_looks)),

@@ -23,8 +23,8 @@ const KINDS: [Kind; 7] = [
 // How often an event of a PE that is starved is drawn again.
 const REDRAWS: u32 = 15;
 
-/// What is enabled in a world, kept up to date from step to step, and the generator that draws of it. No clause rests on
-/// either: each event is seen to be enabled before it happens.
+/// What is enabled in a world, kept up to date from step to step, and the generator that draws from it. No clause rests on
+/// either: each event is checked to be enabled before it happens.
 #[derive(Drop)]
 pub(crate) struct Chooser<A: Allocator = Global> {
     generator: SplitMix64,
@@ -44,7 +44,7 @@ pub(crate) struct Chooser<A: Allocator = Global> {
 }
 
 impl<A: Allocator + Copy> Chooser<A> {
-    /// Of a world as it opens, with a generator of this seed.
+    /// The chooser for a world as it opens, with a generator of this seed.
     pub(crate) fn new<C: Chare<A>, H: Openings<C>>(
         alloc: A,
         world: &World<C, H, A>,
@@ -91,7 +91,7 @@ impl<A: Allocator> Chooser<A> {
         self.draw_any(world)
     }
 
-    /// Sees what an event that happened has changed, in the world after it. `to` is the PE whose queue it put a parcel into.
+    /// Updates what is enabled after an event, in the world after it. `to` is the PE whose queue it put a parcel into.
     pub(crate) fn see<C: Chare<A>, H: Openings<C>>(
         &mut self,
         world: &World<C, H, A>,
@@ -113,7 +113,7 @@ impl<A: Allocator> Chooser<A> {
         self.decides = world.board().is_complete();
     }
 
-    // Draws one of the events that are enabled, of whatever PE.
+    // Draws one of the events that are enabled, of any PE.
     fn draw_any<C: Chare<A>, H: Openings<C>>(&mut self, world: &World<C, H, A>) -> Option<Event> {
         let total = self.total();
         if total == 0 {
@@ -131,7 +131,7 @@ impl<A: Allocator> Chooser<A> {
         None
     }
 
-    // The sum of the weights of all that is enabled.
+    // The sum of the weights of everything that is enabled.
     fn total(&self) -> u64 {
         let mut total = 0u64;
         for kind in KINDS {
@@ -154,7 +154,7 @@ impl<A: Allocator> Chooser<A> {
         }
     }
 
-    // The event of a kind that has so many before it in order.
+    // The event of a kind with this number of enabled events before it in order.
     fn event_at<C: Chare<A>, H: Openings<C>>(
         &self,
         world: &World<C, H, A>,
@@ -175,7 +175,7 @@ impl<A: Allocator> Chooser<A> {
         }
     }
 
-    // Sees what steps a PE may make.
+    // Updates which steps a PE may make.
     fn see_pe<C: Chare<A>, H: Openings<C>>(&mut self, world: &World<C, H, A>, p: Pe) {
         let (Some(pe), Some(queue)) = (world.pe(p), world.queue(p)) else {
             return;
@@ -189,7 +189,7 @@ impl<A: Allocator> Chooser<A> {
         self.reports.put(number, pe.next_note().is_some());
     }
 
-    // Sees what an entry in the trace of a step of PE p says of an element, and counts letters.
+    // Updates what an entry in the trace of a step of PE p changes for an element, and counts letters.
     fn see_entry<C: Chare<A>, H: Openings<C>>(
         &mut self,
         world: &World<C, H, A>,
@@ -215,7 +215,7 @@ impl<A: Allocator> Chooser<A> {
         }
     }
 
-    // Sees whether an element may start, depart or go on.
+    // Updates whether an element may start, depart or go on.
     fn see_element<C: Chare<A>, H: Openings<C>>(&mut self, world: &World<C, H, A>, element: Index) {
         let number = element.get();
         let Some(place) = self.places.get(number as usize).copied() else {
@@ -225,7 +225,7 @@ impl<A: Allocator> Chooser<A> {
         self.elements.put(number, may);
     }
 
-    // The same of all elements.
+    // Does the same for all elements.
     fn see_elements<C: Chare<A>, H: Openings<C>>(&mut self, world: &World<C, H, A>) {
         for number in 0..short(self.places.len()) {
             if let Some(element) = Index::new(number) {
@@ -235,12 +235,13 @@ impl<A: Allocator> Chooser<A> {
     }
 }
 
-// A number of PEs or of elements, of which there never are as many as this type has numbers.
+// A number of PEs or of elements, all of which fit this type.
 fn short(number: usize) -> u32 {
     u32::try_from(number).unwrap_or(u32::MAX)
 }
 
-// Whether a PE may act on what is in its hand: not on a letter whose element has not started, or that wants a look.
+// Whether a PE may act on what is in its hand: not on a letter whose element has not started, or that has to be looked up
+// first.
 fn may_act<C: Chare<A>, H: Openings<C>, A: Allocator>(pe: &PeState<C, H, A>) -> bool {
     let Some(item) = pe.hand() else {
         return false;
@@ -254,7 +255,7 @@ fn may_act<C: Chare<A>, H: Openings<C>, A: Allocator>(pe: &PeState<C, H, A>) -> 
     }
 }
 
-// The event by which an element starts, departs or goes on, where it stands on this PE and may do so.
+// The event by which an element starts, departs or goes on, where it is on this PE and may do so.
 fn element_event<C: Chare<A>, H: Openings<C>, A: Allocator>(
     world: &World<C, H, A>,
     element: Index,

@@ -60,7 +60,7 @@ impl<C: Chare<A>, H: Openings<C>, A: Allocator + Copy> Course<C, H, A> {
     ///
     /// # Errors
     ///
-    /// Those of [`World::step`], on which the course is as it was.
+    /// Those of [`World::step`], on which the course is unchanged.
     #[tactic(auto, using(crate::proofs::Courses::leads_more))]
     pub(crate) fn take(&mut self, event: &Event) -> Result<bool, StepError>
         ensures taken { IfOk result (λ taken. MatchBool taken (TakesStep self.old event.now self.new)

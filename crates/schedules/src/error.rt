@@ -4,7 +4,7 @@ use rts_run::Setting;
 use std::alloc::AllocError;
 use thiserror::Error;
 
-/// Why a list of events was not repeated. The chares are given up.
+/// Why a list of events was not repeated. The chares are dropped.
 #[derive(Clone, Copy, Debug, PartialEq, Eq, Error)]
 pub enum ReplayError {
     /// This number is out of its limits: of several such, the first in the order of [`Setting`].

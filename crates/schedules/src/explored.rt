@@ -17,8 +17,9 @@ use rts_run::{Fault, Outcome};
 use std::alloc::{AllocError, Allocator, Global};
 use std::marker::Model;
 
-/// What a run on one thread left: the outcome, as of a run over threads, and each step that led to it. What holds of it the
-/// clauses of [`explore`](crate::explore) and of [`replay`](crate::replay) say. Contracts see it as the record `ExploredView`.
+/// What a run on one thread left: the outcome, as of a run over threads, and each step that led to it. The clauses of
+/// [`explore`](crate::explore) and of [`replay`](crate::replay) say what holds of it. Contracts see it as the record
+/// `ExploredView`.
 #[derive(Drop)]
 pub struct Explored<C: Chare<A>, A: Allocator = Global> {
     outcome: Outcome<C, A>,
@@ -80,8 +81,8 @@ impl<C: Chare<A>, A: Allocator> Explored<C, A> {
         &self.steps
     }
 
-    /// The events of its steps, and the one that was refused, if one was. [`replay`](crate::replay) leads to the same world and
-    /// the same fault by them.
+    /// The events of its steps, and the one that was refused, if there was one. By them [`replay`](crate::replay) leads to the
+    /// same world and the same fault.
     pub fn events<B: Allocator>(&self, alloc: B) -> Result<Vec<Event, B>, AllocError>
         ensures value { IfOk result (λ events. events.items ≡ events_tried self.now) }
     {
@@ -110,14 +111,14 @@ impl<C: Chare<A>, A: Allocator> Explored<C, A> {
         self.outcome.fault()
     }
 
-    /// The PE on which an element is looked for.
+    /// The PE in the location word of an element, where letters to it are sent.
     pub fn word(&self, element: Index) -> Option<Pe>
         ensures value { result ≡ slice_get self.now.words element }
     {
         self.words.get(element.get() as usize).copied()
     }
 
-    /// The element with this index, on the PE where it stands; `None` where there is none, or it is on its way, packed.
+    /// The element with this index, on the PE where it is; `None` where there is none, or it is on its way, packed.
     pub fn element(&self, index: Index) -> Option<&Element<C, A>>
         ensures value { option_copied result ≡ element_on index self.now.outcome.ends }
     {

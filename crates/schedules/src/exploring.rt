@@ -23,16 +23,16 @@ use std::marker::Brand;
 /// `i * pes / n`, rounded down, of `n` elements. Each next event is drawn among those that are enabled, by a generator with this
 /// seed: docs/SCHEDULES.md says how. The same schedule, seed and chares always lead to the same steps.
 ///
-/// Of what it returns the clause `explored` says: the steps lead from the opening to the world that is left, each of them
-/// enabled; each letter that was posted is in one place or was executed once, by its own element; each element is what its
-/// journal says; and without a fault every element has finished and no letter is held. It ends as
-/// [`Stopped`](rts_run::Fault::Stopped) only where it has taken as many steps as the schedule allows.
+/// The clause `explored` says of the result: the steps lead from the opening to the world that is left, each of them enabled;
+/// each letter that was posted is in one place or was executed once, by its own element; each element is what its journal says;
+/// and without a fault every element has finished and no letter is held. It ends as [`Stopped`](rts_run::Fault::Stopped) only
+/// where it has taken as many steps as the schedule allows.
 ///
 /// # Errors
 ///
 /// The first that applies: [`Config`](RunError::Config) where the number of PEs is out of its limits, or there are more than
 /// [`Limits::ELEMENTS`] chares; [`OutOfMemory`](RunError::OutOfMemory) before the first step or after the last. Where memory is
-/// refused in a step, that is the fault of what is returned.
+/// refused in a step, the result is a run that ends with that fault.
 pub fn explore<C: Chare<A>, A: Allocator + Copy>(
     alloc: A,
     schedule: &Schedule,
@@ -73,7 +73,7 @@ fn explore_as<C: Chare<A>, H: Openings<C>, A: Allocator + Copy>(
     leave(alloc, course, ending)
 }
 
-// Takes one step after another, up to so many.
+// Takes one step after another, up to the limit of the schedule.
 fn draw_steps<C: Chare<A>, H: Openings<C>, A: Allocator + Copy>(
     course: &mut Course<C, H, A>,
     chooser: &mut Chooser<A>,
@@ -100,7 +100,7 @@ fn draw_steps<C: Chare<A>, H: Openings<C>, A: Allocator + Copy>(
     Ending::at_last()
 }
 
-// Takes a step that was drawn, and sees what it has changed; or returns false where the event is not enabled.
+// Takes a step that was drawn, and updates what is enabled; or returns false where the event is not enabled.
 fn draw_step<C: Chare<A>, H: Openings<C>, A: Allocator + Copy>(
     course: &mut Course<C, H, A>,
     chooser: &mut Chooser<A>,

@@ -41,8 +41,8 @@ impl SplitMix64 {
         z ^ (z >> 31)
     }
 
-    /// The next number, scaled to one below this bound: the upper half of their product, as D. Lemire has it ("Fast random
-    /// integer generation in an interval", 2019), without a second draw. It is 0 where the bound is.
+    /// The next number, scaled to one below this bound: the upper half of their product, as in D. Lemire ("Fast random integer
+    /// generation in an interval", 2019), but without a second draw. It is 0 where the bound is 0.
     pub fn below(&mut self, bound: u64) -> u64
         ensures value { result ≡ scaled self.old bound }
         ensures state { self.new ≡ next_state self.old }

@@ -9,7 +9,8 @@ use chares::Chare;
 use std::alloc::Allocator;
 
 /// The steps of a course are a list of events that reaches its world, with its trace; so what is proved of every list of events
-/// holds of it: the barrier, the places of elements, the ways of letters. The function does nothing: its clause is the law.
+/// holds of it: the laws of the barrier, of the places of elements, and of the ways of letters. The function does nothing: its
+/// clause is the law.
 pub fn course_laws<C: Chare<A>, A: Allocator>()
     ensures reaches { (w last : WorldView C A) (steps : List Made) → Leads C.step C.pack C.unpack w steps last
         → Reaches C.step C.pack C.unpack w (events_of steps) (last, trace_of steps) }

@@ -14,7 +14,8 @@ use run_account::take_next;
 use std::alloc::{AllocError, Allocator};
 use std::collections::VecDeque;
 
-/// How a course ended: the event that was refused, if one was, and the fault that it ends with where one was or it is not done.
+/// How a course ended: the event that was refused, if there was one, and the fault that the run ends with, if an event was
+/// refused or the run is not done.
 #[derive(Clone, Copy)]
 pub(crate) struct Ending {
     pub(crate) fault: Fault,
@@ -22,7 +23,7 @@ pub(crate) struct Ending {
 }
 
 impl Ending {
-    /// Its events are used up.
+    /// All its events have been used.
     pub(crate) fn at_last() -> Self
         ensures refused { result.refused ≡ None }
     {
@@ -32,7 +33,7 @@ impl Ending {
         }
     }
 
-    /// Nothing more may happen.
+    /// No event is enabled.
     pub(crate) fn idle() -> Self
         ensures fault { result.fault ≢ Stopped }
         ensures refused { result.refused ≡ None }
@@ -55,7 +56,7 @@ impl Ending {
     }
 }
 
-// The fault that a refused step comes to.
+// The fault for a step that was refused.
 fn fault_of(error: StepError) -> Fault
     ensures value { result ≢ Stopped }
 {
@@ -68,7 +69,7 @@ fn fault_of(error: StepError) -> Fault
     }
 }
 
-/// What a course left that ended so.
+/// What a course left that ended in this way.
 pub(crate) fn leave<C: Chare<A>, H: Openings<C>, A: Allocator + Copy>(
     alloc: A,
     course: Course<C, H, A>,
@@ -88,7 +89,7 @@ pub(crate) fn leave<C: Chare<A>, H: Openings<C>, A: Allocator + Copy>(
     Ok(Explored::new(outcome, words, steps, ending.refused))
 }
 
-// The fault of a world whose course ended so.
+// The fault of a world whose course ended in this way.
 fn fault_at_end<C: Chare<A>, H: Openings<C>, A: Allocator>(
     world: &World<C, H, A>,
     ending: &Ending,

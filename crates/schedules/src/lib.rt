@@ -1,9 +1,10 @@
-//! Runs of chares on one thread, in any order of events: found by a seed, repeated, and made short.
+//! Runs of chares on one thread, in any order of events: found by a seed, repeated, and shortened.
 //!
 //! - [`explore`]: runs chares under a [`Schedule`]; each next event is drawn among those that are enabled, by a seed.
 //! - [`replay`]: runs them by a list of events; [`replay_enabled`] leaves out those that are not enabled.
 //! - [`shrink`]: finds a shorter list of events that a [`Suspect`] still calls bad.
-//! - [`Explored`]: what that left: an [`Outcome`](rts_run::Outcome) as of a run over threads, and each [`Step`].
+//! - [`Explored`]: what such a run left: an [`Outcome`](rts_run::Outcome) as of a run over threads, and each
+//!   [`Step`].
 //!
 //! docs/SCHEDULES.md says how an event is drawn, so that a seed means the same in every version.
 #![tactic(auto)]

@@ -1,15 +1,15 @@
-//! A set of small numbers whose members can be found by their place in order.
+//! A set of small numbers, in which the k-th member in order can be found.
 
 use std::alloc::{AllocError, Allocator, Global};
 
-// How many numbers a word holds, and how many words a block has.
+// How many numbers a word of 64 bits holds, and how many words a block has.
 const WORD: u32 = 64;
 
 const BLOCK: usize = 16;
 
-/// A set of numbers below a bound. To add one or to take one out takes a constant time; to find the k-th in order, a look at
-/// each block of 1,024 numbers before it and at the words of its own. No clause rests on it: an event that were missing here
-/// would not be drawn, and one too many is refused as not enabled.
+/// A set of numbers below a bound. Adding a number and taking one out take constant time. Finding the k-th in order takes
+/// one step for each block of 1,024 numbers before it, and one for each word of its own block. No clause rests on the set:
+/// an event that is missing here is not drawn, and one too many is refused as not enabled.
 #[derive(Drop)]
 pub(crate) struct NumberSet<A: Allocator = Global> {
     words: Vec<u64, A>,
@@ -36,7 +36,7 @@ impl<A: Allocator> NumberSet<A> {
         self.len
     }
 
-    /// Makes a number a member, or no member. One at or above the bound stays none.
+    /// Makes a number a member, or takes it out. A number past the last word changes nothing.
     pub(crate) fn put(&mut self, number: u32, member: bool) {
         let at = (number / WORD) as usize;
         let (Some(word), Some(block)) = (self.words.get_mut(at), self.blocks.get_mut(at / BLOCK))
@@ -57,7 +57,7 @@ impl<A: Allocator> NumberSet<A> {
         }
     }
 
-    /// The member that has `place` members below it, or `None` where there are not as many.
+    /// The member that has `place` members below it, or `None` where there are too few.
     pub(crate) fn nth(&self, place: u64) -> Option<u32> {
         let mut left = place;
         for (block, members) in self.blocks.iter().enumerate() {
@@ -69,7 +69,7 @@ impl<A: Allocator> NumberSet<A> {
         None
     }
 
-    // The member that has so many members below it from the first word of a block on.
+    // The member that has `place` members below it, counted from the first word of a block.
     fn nth_from(&self, block: usize, place: u64) -> Option<u32> {
         let first = block.wrapping_mul(BLOCK);
         let mut left = place;
@@ -85,7 +85,7 @@ impl<A: Allocator> NumberSet<A> {
     }
 }
 
-// The place of the bit of a word that has so many set bits below it.
+// The position of the bit of a word that has this number of set bits below it.
 fn nth_bit(word: u64, place: u64) -> u32 {
     let mut word = word;
     for _lower in 0..place {
@@ -94,7 +94,7 @@ fn nth_bit(word: u64, place: u64) -> u32 {
     word.trailing_zeros()
 }
 
-// So many zeros.
+// A list of this number of zeros.
 fn filled<A: Allocator + Copy>(alloc: A, len: usize) -> Result<Vec<u64, A>, AllocError> {
     let mut zeros = Vec::with_capacity(alloc, len)?;
     for _word in 0..len {

@@ -16,11 +16,11 @@ use rts_run::RunError;
 use std::alloc::{AllocError, Allocator};
 use std::marker::Brand;
 
-/// Runs chares by a list of events, one after another, and returns what that left. By the events of an [`Explored`] it leads to
-/// the same world. Of the schedule the number of PEs and the strategy count.
+/// Runs chares by a list of events, one after another, and returns what that left. The events of an [`Explored`] lead to the
+/// same world again. Of the schedule only the number of PEs and the strategy matter.
 ///
-/// Where a handler refuses an event the run ends with that fault, and what comes after it in the list is not run. Without a
-/// fault of that kind all events have happened, and the run is [`Stopped`](rts_run::Fault::Stopped) where it is not done.
+/// Where a handler refuses an event the run ends with that fault, and the rest of the list is not run. Without such a fault all
+/// events have happened, and the run is [`Stopped`](rts_run::Fault::Stopped) where it is not done.
 ///
 /// # Errors
 ///

@@ -11,18 +11,19 @@ use rts_run::Setting;
 /// The numbers of a run on one thread, and how its events are drawn.
 #[derive(Clone, Copy, Debug, PartialEq)]
 pub struct Schedule {
-    /// On how many PEs it runs, 1 to [`Limits::PES`].
+    /// The number of PEs, 1 to [`Limits::PES`].
     pub pes: u32,
     /// How each round is decided.
     pub strategy: Strategy,
-    /// After how many events it is stopped.
+    /// The number of events after which the run is stopped.
     pub steps: u64,
     /// What is drawn more often.
     pub bias: Bias,
 }
 
 impl Schedule {
-    /// The usual one on so many PEs, 1 to [`Limits::PES`]: rounds by [`Strategy::Least`], up to 1,000,000 events, and no bias.
+    /// The usual schedule on this number of PEs, 1 to [`Limits::PES`]: rounds by [`Strategy::Least`], up to 1,000,000 events,
+    /// and no bias.
     pub fn usual(pes: u32) -> Self
         ensures pes { result.pes ≡ pes }
         ensures strategy { result.strategy ≡ Least }
@@ -37,8 +38,8 @@ impl Schedule {
         }
     }
 
-    /// The first number that is out of its limits in a run of so many elements, of which there may be up to
-    /// [`Limits::ELEMENTS`]; or `None` where each is within.
+    /// The first number that is out of its limits in a run of this number of elements, which may be up to
+    /// [`Limits::ELEMENTS`]; or `None` where each is within its limits.
     pub fn first_outside(&self, elements: usize) -> Option<Setting>
         ensures answer { MatchOption result (MayExplore self.now elements) (λ setting. RefusesSchedule self.now elements (Config setting)) }
     {

@@ -1,6 +1,6 @@
 //! A shorter list of events that is still bad. Source: A. Zeller and R. Hildebrandt, "Simplifying and isolating failure-inducing
-//! input", IEEE Transactions on Software Engineering 28(2), 2002: chunks are left out, of half the list at first, and single
-//! events at last.
+//! input", IEEE Transactions on Software Engineering 28(2), 2002: chunks are left out, at first of half the list, and in the end
+//! single events.
 
 ghost use Rattle.std.specs.Prelude.{◌≡◌, ◌≤◌, ◌<◌, IfOk, IfSome, length, true};
 ghost use Rattle.schedules.specs.Courses.{IsExplored};
@@ -25,22 +25,22 @@ pub trait Cast<C, A: Allocator> {
         ensures value { IfOk result (λ made. made.items ≡ Self.chares self.now) };
 }
 
-/// What is looked for in runs.
+/// What is looked for in runs: what makes a run bad.
 pub trait Suspect<C: Chare<A>, A: Allocator> {
     ghost use Rattle.std.specs.Prelude.{◌≡◌, Bool};
     ghost use Rattle.schedules.specs.Courses.{ExploredView};
 
-    /// Whether it is in this run.
+    /// Whether this run is bad.
     ghost is_bad: { Self → ExploredView C A → Bool };
 
-    /// Whether it is in this run: it depends on nothing else.
+    /// Whether this run is bad. The answer depends on nothing else.
     fn is_bad(&self, explored: &Explored<C, A>) -> bool
         ensures value { result ≡ Self.is_bad self.now explored.now };
 }
 
-/// Finds a shorter list of events by which a run still is bad, and returns that run; or `None` where the run by those of these
-/// events that are enabled is not bad. Chunks of the list are left out, each candidate is run anew, with what is not enabled any
-/// more left out too, and kept where it is shorter and still bad. At last no single event can be left out.
+/// Finds a shorter list of events whose run is still bad, and returns that run; or `None` where the run by those of these events
+/// that are enabled is not bad. Chunks of the list are left out. Each candidate is run anew, which also leaves out events that
+/// are no longer enabled, and is kept where it is shorter and still bad. In the end no single event can be left out.
 ///
 /// # Errors
 ///
@@ -97,7 +97,8 @@ fn bad_run<C: Chare<A>, K: Cast<C, A>, S: Suspect<C, A>, A: Allocator + Copy>(
     Ok(None)
 }
 
-// A run that is bad without some chunks of so many events: each is left out in turn, and stays out where that is so.
+// A run that is still bad without some chunks of this size: each chunk is left out in turn, and stays out where the run without
+// it is shorter and bad.
 fn without_chunks<C: Chare<A>, K: Cast<C, A>, S: Suspect<C, A>, A: Allocator + Copy>(
     alloc: A,
     schedule: &Schedule,
@@ -125,8 +126,8 @@ fn without_chunks<C: Chare<A>, K: Cast<C, A>, S: Suspect<C, A>, A: Allocator + C
     Ok(best)
 }
 
-// A run that is bad without so many events from this one on, and where the next chunk begins then; or the run itself where it is
-// not bad without them, or no shorter.
+// A run that is still bad without a chunk of this size from step `at` on, and the step at which the next chunk begins; or the
+// given run where it is not bad without the chunk, or no shorter.
 fn without_chunk<C: Chare<A>, K: Cast<C, A>, S: Suspect<C, A>, A: Allocator + Copy>(
     alloc: A,
     schedule: &Schedule,
@@ -152,7 +153,7 @@ fn without_chunk<C: Chare<A>, K: Cast<C, A>, S: Suspect<C, A>, A: Allocator + Co
     Ok((run, at))
 }
 
-// The events of a run but for so many of its steps, from this one on, and the event that was refused.
+// The events of a run except a chunk of this size from step `at` on, and the event that was refused.
 fn events_without<C: Chare<A>, A: Allocator + Copy>(
     alloc: A,
     run: &Explored<C, A>,

@@ -15,7 +15,7 @@ use std::alloc::Allocator;
 ///
 /// # Errors
 ///
-/// Those of [`World::step`], on which the world is as it was.
+/// Those of [`World::step`], on which the world is unchanged.
 #[tactic(auto, using(crate::proofs::TriedEvents::was_enabled, crate::proofs::TriedEvents::was_not))]
 pub(crate) fn try_step<C: Chare<A>, H: Openings<C>, A: Allocator + Copy>(
     world: &mut World<C, H, A>,
@@ -35,7 +35,7 @@ pub(crate) fn try_step<C: Chare<A>, H: Openings<C>, A: Allocator + Copy>(
     Ok(Some(reports))
 }
 
-// Whether an event has no trace entry by which to tell that it happened.
+// Whether an event may have no trace entry that shows that it happened.
 fn is_silent(event: &Event) -> bool
     ensures value { result ≡ is_silent event.now }
 {
@@ -79,7 +79,7 @@ fn may_happen<C: Chare<A>, H: Openings<C>, A: Allocator>(
     }
 }
 
-// Whether PE p has to look for an element, which has a word.
+// Whether PE p has to look up an element, which has a location word.
 fn may_look<C: Chare<A>, H: Openings<C>, A: Allocator>(world: &World<C, H, A>, p: Pe) -> bool
     ensures answer { MatchBool result (IsEnabled C.step C.pack C.unpack world.now (Event.Look p)) (¬ (IsEnabled C.step C.pack C.unpack world.now (Event.Look p))) }
 {
@@ -92,7 +92,7 @@ fn may_look<C: Chare<A>, H: Openings<C>, A: Allocator>(world: &World<C, H, A>, p
     world.word(element).is_some()
 }
 
-// Whether the front of the outbox of PE p has an address, which has a queue.
+// Whether the front of the outbox of PE p has an address, and this PE has a queue.
 fn may_flush<C: Chare<A>, H: Openings<C>, A: Allocator>(world: &World<C, H, A>, p: Pe) -> bool
     ensures answer { MatchBool result (IsEnabled C.step C.pack C.unpack world.now (Event.Flush p)) (¬ (IsEnabled C.step C.pack C.unpack world.now (Event.Flush p))) }
 {

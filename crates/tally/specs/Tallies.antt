@@ -1,4 +1,4 @@
--- A chare that sends its amounts to its neighbor, one in each round, and adds up what comes.
+-- A chare that sends its amounts to its neighbor, one in each round, and adds up those that it gets.
 use Rattle.std.specs.Prelude.{◌≡◌, ℕ, ◌+◌, ◌<◌, ◌≤◌, ◌%◌, ◌*◌, min, List, [], ◌∷◌, ◌++◌, length, flat_map, All, slice_index, Bool, true, false, not, ◌&&◌, ◌==◌, if◌then◌else◌, nat_lt}
 use Rattle.std.specs.Int.{w32, w64, to_be_bytes, from_be_bytes}
 use Rattle.std.proofs.Common.{refl, arith, length-append}
@@ -31,7 +31,7 @@ parts t = (t.posted, (t.got, (t.sum, (t.amounts, t.pad))))
 abbrev pub of_parts : Parts → TallyView
 of_parts x = record { posted = x.0; got = x.1.0; sum = x.1.1.0; amounts = x.1.1.1.0; pad = x.1.1.1.1 }
 
--- so many amounts are no fewer than were posted, and keep to their limit, as do so many bytes of padding
+-- the amounts are no fewer than those posted and within their limit, and the bytes of padding are within theirs
 abbrev pub are_within : ℕ → ℕ → ℕ → Bool
 are_within posted amounts pad = not (nat_lt amounts posted) && (not (nat_lt AMOUNTS amounts) && not (nat_lt PAD_BYTES pad))
 

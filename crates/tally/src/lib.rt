@@ -1,5 +1,5 @@
-//! A chare that measures a runtime: it sends its amounts to its neighbor, one in each round, and adds up what comes.
-//! Each amount that it gets is its work, so what it is given decides the loads of every round.
+//! A chare that measures a runtime: it sends its amounts to its neighbor, one in each round, and adds up those that
+//! it gets. Each amount that it gets is its work, so its amounts decide the loads of every round.
 //!
 //! - [`Tally`]: the chare.
 //! - [`TallyLimits`]: how many amounts and how much padding it may have.

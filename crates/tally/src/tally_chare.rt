@@ -1,4 +1,4 @@
-//! A chare that sends its amounts to its neighbor, one in each round, and adds up what comes.
+//! A chare that sends its amounts to its neighbor, one in each round, and adds up those that it gets.
 
 ghost use Rattle.std.specs.Prelude.{◌≡◌, ◌≢◌, ◌+◌, ◌<◌, ◌≤◌, length, replicate, slice_index, false, IfErr, IfOk, IfSome, IsNone, ◌↔◌};
 ghost use Rattle.std.specs.Int.{w32, to_be_bytes};
@@ -12,8 +12,8 @@ use pup_pack::{Bytes, Fields, Items, Pup, PupError};
 use std::alloc::{AllocError, Allocator, Global};
 use std::marker::Model;
 
-/// A chare that sends its amounts to its neighbor, one in each round, and adds up what comes. It is packed into 24 bytes, 4
-/// for each amount, and its padding. It keeps to [`TallyLimits`], so it packs into at most 1,048,576 bytes.
+/// A chare that sends its amounts to its neighbor, one in each round, and adds up those that it gets. It is packed into 24
+/// bytes, 4 for each amount, and its padding. It keeps to [`TallyLimits`], so it packs into at most 1,048,576 bytes.
 #[derive(Drop)]
 pub struct Tally<A: Allocator = Global> {
     posted: u32,
@@ -46,7 +46,7 @@ impl<A: Allocator> Tally<A> {
         Tally::of_parts((0, (0, (0, (amounts, pad)))))
     }
 
-    /// A tally with these amounts, and so many bytes of padding, all of them 0.
+    /// A tally with these amounts, and this number of bytes of padding, all of them 0.
     ///
     /// # Errors
     ///
@@ -91,7 +91,7 @@ impl<A: Allocator> Tally<A> {
     }
 }
 
-// Whether a tally may have so many amounts, of which it has posted so many, and so many bytes of padding.
+// Whether a tally may have this number of amounts, of which it has posted this number, and this number of bytes of padding.
 fn are_within(posted: u32, amounts: usize, pad: usize) -> bool
     ensures value { result ≡ are_within posted amounts pad }
 {
@@ -199,7 +199,7 @@ impl<A: Allocator + Copy> Chare<A> for Tally<A> {
     }
 }
 
-// So many bytes, all of them 0.
+// This number of bytes, all of them 0.
 fn zeros<A: Allocator>(alloc: A, len: usize) -> Result<Bytes<A>, AllocError>
     ensures value { IfOk result (λ bytes. bytes ≡ replicate len 0) }
 {

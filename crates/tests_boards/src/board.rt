@@ -123,7 +123,7 @@ fn three_workers_decide_the_same(rt: HostRuntime) {
     drop(board);
 }
 
-// A gate that counts its calls by each of three workers, and those by anybody else.
+// A gate that counts its calls by each of three workers, and those by any other number.
 #[derive(Drop)]
 struct Counting {
     first: AtomicU64,
@@ -154,7 +154,7 @@ impl Counting {
         }
     }
 
-    // Whether each of the three has called it, as often as any other, and nobody else has.
+    // Whether each of the three has called it, as often as the others, and nobody else has.
     fn counts_three_alike(&self) -> bool {
         let often = self.first.load(Ordering::SeqCst);
         let alike = self.second.load(Ordering::SeqCst) == often
@@ -181,7 +181,7 @@ fn each_of_three_workers_passes_with_its_number(rt: HostRuntime) {
 // How many turns a worker waits for the other.
 const TURNS: u64 = 1_000_000_000;
 
-// A gate that holds each of two workers until the other was seen.
+// A gate that holds each of two workers until the other has been seen.
 #[derive(Drop)]
 struct Meeting {
     first: AtomicU64,
@@ -239,7 +239,7 @@ fn two_probes_of_a_decision_overlap(rt: HostRuntime) {
     drop(gate);
 }
 
-// Whether of three elements the first has finished, the second has not, and the third is none of the board's.
+// Whether of three elements the first has finished, the second has not, and the third is not on the board.
 fn only_the_first_finished(board: &Board) -> bool {
     board.has_finished(0) == Some(true)
         && board.has_finished(1) == Some(false)
@@ -274,10 +274,10 @@ fn only_the_first_reported(rt: &impl Abort, board: &Board) -> bool {
         && !board.all_finished()
 }
 
-// The element of a report, its round, its size in bytes, and how it is refused.
+// The element of a report, its round, its size in bytes, and the error.
 type Refused = (u32, u32, u32, BoardError);
 
-// Whether a report is refused so.
+// Whether a report is refused with this error.
 fn is_refused_so(rt: &impl Abort, board: &mut Board, row: &Refused) -> bool {
     let (element, number, bytes, error) = row;
     report(rt, board, *element, *number, 7, *bytes, 1) == Err(*error)
@@ -308,10 +308,10 @@ fn reports_that_are_refused_charge_nothing(rt: HostRuntime) {
     drop(board);
 }
 
-// The units that an element reports, and its load.
+// The units that an element reports, and its load then.
 type Reported = (Units, Units);
 
-// Whether the load of an element that reports so is that.
+// Whether an element that reports these units has this load.
 fn is_loaded_so(rt: &(impl Abort + AllocGlobal), row: &Reported) -> bool {
     let &(units, load) = row;
     let mut board = board(rt, 1, 1);
@@ -354,7 +354,7 @@ fn no_elements(rt: HostRuntime) {
     drop(board);
 }
 
-// A board whose second round was decided: both elements stood on PE 0, and the one of 9 bytes is to move.
+// A board whose second round was decided: both elements were on PE 0, and the one of 9 bytes is to move.
 fn two_decided(rt: &(impl Abort + AllocGlobal)) -> Board {
     let mut board = two_reported(rt);
     assert!(rt; board.decide().is_ok());
@@ -376,7 +376,8 @@ fn an_element_moves(rt: HostRuntime) {
     drop(rounds);
 }
 
-// A board for the loads 6, 1, 1 and 2, the first two on PE 0 and the others on PE 1, all reported, that decides so.
+// A board for the loads 6, 1, 1 and 2, the first two on PE 0 and the others on PE 1, all reported, that decides by
+// this strategy.
 fn four_reported(rt: &(impl Abort + AllocGlobal), strategy: Strategy) -> Board {
     let mut board = Board::new(rt.alloc(), 4, 2, strategy).expect(rt, "out of memory");
     for (i, units, place) in [(0, 6, 0), (1, 1, 0), (2, 1, 1), (3, 2, 1)] {
@@ -423,7 +424,7 @@ fn a_strategy_is_least_without_a_tolerance(rt: HostRuntime) {
     drop(board);
 }
 
-// The reports of a full array on so many PEs, where each element has the most to do.
+// The reports of a full array on this number of PEs, where each element has the most to do.
 fn full_array(rt: &(impl Abort + AllocGlobal), pes: u32) -> Board
     requires some_pe { 1 ≤ pes }
     requires few_pes { pes ≤ Limits.PES }
@@ -444,7 +445,7 @@ fn full_array(rt: &(impl Abort + AllocGlobal), pes: u32) -> Board
     board
 }
 
-// A full array on so many PEs is decided with this bottleneck.
+// A full array on this number of PEs is decided with this bottleneck.
 fn expect_full(rt: &(impl Abort + AllocGlobal), pes: u32, bottleneck: u64)
     requires some_pe { 1 ≤ pes }
     requires few_pes { pes ≤ Limits.PES }

@@ -1,4 +1,5 @@
-//! Tests of the board on which a round is collected: worked rows, each refusal, and full sizes. They use public calls only.
+//! Tests of the board that collects the reports of a round: worked rows, each refusal, and full sizes. They use public
+//! calls only.
 #![tactic(auto)]
 
 #[cfg(test)]

@@ -1,4 +1,4 @@
--- A chare that sends one body at each resumption, wherever it is told to, and finishes on a letter.
+-- A chare that sends one body at each resumption, to any element, and finishes on a letter.
 use Rattle.std.specs.Prelude.{◌≡◌, ◌≢◌, ℕ, ◌<◌, ◌≤◌, List, [], ◌∷◌, ◌++◌, length, Bool, true, false, not, ◌&&◌, if◌then◌else◌, nat_lt}
 use Rattle.std.specs.Int.{w32, to_be_bytes}
 use Rattle.std.proofs.Common.{arith, length-append}
@@ -40,7 +40,7 @@ abbrev pub courier_step : CourierView → ℕ → ℕ → Entry (List ℕ) → O
 courier_step c me n (Letter body) = record { state = c; effect = record { units = 0; at_sync = false; finished = true }; sends = [] }
 courier_step c me n (Resumption round) = record { state = c; effect = record { units = 0; at_sync = true; finished = false }; sends = sends_of c n }
 
--- it returns what its send is refused for, but goes on where it is made to
+-- it returns the error of its send, except where it is made to go on
 abbrev pub CourierRefuses : CourierView → ℕ → ℕ → ℕ → Entry (List ℕ) → SendError → Type 0
 CourierRefuses c me n count (Resumption round) Stranger = (c.goes_on ≢ 1) × (n ≤ c.to)
 CourierRefuses c me n count (Resumption round) TooLong = (c.goes_on ≢ 1) × (c.to < n) × (BODY_BYTES < length c.body)

@@ -1,4 +1,4 @@
-//! A chare that sends one body at each resumption, wherever it is told to, and finishes on a letter.
+//! A chare that sends one body at each resumption, to any element, and finishes on a letter.
 
 ghost use Rattle.std.specs.Prelude.{◌≡◌, ◌≢◌, ◌↔◌, [], ◌∷◌, ◌⊎◌, ◌≤◌, replicate, false, IfOk, IfSome, IsNone, IsTrue, IfErr, MatchResult, OnOk, OnErr};
 ghost use Rattle.chare_index.specs.declared.limits.TheConstants.Limits.{ELEMENTS};
@@ -36,8 +36,8 @@ impl<A: Allocator> Model for Courier<A> {
 type Parts<A> = (u32, (u32, Bytes<A>));
 
 impl<A: Allocator> Courier<A> {
-    /// A courier to this element, with a body of at most 65,536 bytes, that goes on where its send is refused if
-    /// `goes_on` is 1, or `None` where the body is longer.
+    /// A courier to this element, with a body of at most 65,536 bytes, or `None` where the body is longer. Where its send
+    /// is refused it goes on if `goes_on` is 1.
     pub fn new(to: u32, goes_on: u32, body: Bytes<A>) -> Option<Self>
         ensures value { IfSome result (λ c. c ≡ record { to = to; goes_on = goes_on; body = body }) }
         ensures refused { IsNone result ↔ (is_courier (record { to = to; goes_on = goes_on; body = body }) ≡ false) }
@@ -45,7 +45,7 @@ impl<A: Allocator> Courier<A> {
         Courier::of_parts((to, (goes_on, body)))
     }
 
-    /// A courier to this element, with a body of this length, all of it 0, that goes on where its send is refused if
+    /// A courier to this element, with a body of this length, all of it 0. Where its send is refused it goes on if
     /// `goes_on` is 1.
     ///
     /// # Errors

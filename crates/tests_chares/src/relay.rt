@@ -11,9 +11,9 @@ use pup_pack::{Bytes, Fields, Pup, PupError};
 use std::alloc::{Allocator, Global};
 use std::marker::Model;
 
-/// A chare that starts a letter to its neighbor in each of so many rounds. The first byte of a letter that it gets is
-/// its work, and says how many elements further on the rest of the letter goes. Each of its handlers passes the gate
-/// with the index of its element.
+/// A chare that starts a letter to its neighbor in each of a number of rounds. The first byte of a letter that it gets is
+/// its work, and says how many elements further on the rest of the letter goes. Each of its handlers passes the gate with
+/// the index of its element.
 #[derive(Drop)]
 pub struct Relay<A: Allocator = Global> {
     left: u32,
@@ -35,7 +35,8 @@ impl<A: Allocator> Model for Relay<A> {
 type Parts<A> = (u32, Bytes<A>);
 
 impl<A: Allocator> Relay<A> {
-    /// A relay with so many rounds left, whose letters have this body, or `None` where that is longer than one may be.
+    /// A relay with this number of rounds left, whose letters have this body, or `None` where the body is too long for a
+    /// letter.
     pub fn new(left: u32, body: Bytes<A>) -> Option<Self>
         ensures value { IfSome result (λ r. r ≡ record { left = left; body = body }) }
         ensures refused { IsNone result ↔ (is_relay (record { left = left; body = body }) ≡ false) }
@@ -43,12 +44,12 @@ impl<A: Allocator> Relay<A> {
         Relay::of_parts((left, body))
     }
 
-    /// A relay with so many rounds left, whose letters have this body.
+    /// A relay with this number of rounds left, whose letters have this body.
     ///
     /// # Errors
     ///
-    /// The first that applies: [`OutOfMemory`](PupError::OutOfMemory), or [`Bad`](PupError::Bad) where the body is longer
-    /// than one may be.
+    /// The first that applies: [`OutOfMemory`](PupError::OutOfMemory), or [`Bad`](PupError::Bad) where the body is too
+    /// long for a letter.
     pub fn with_body(alloc: A, left: u32, body: &[u8]) -> Result<Self, PupError>
         ensures value { IfOk result (λ r. r ≡ record { left = left; body = body.now }) }
         ensures refused { IfErr result (λ error. error ≢ OutOfMemory → (error ≡ Bad) × (is_relay (record { left = left; body = body.now }) ≡ false)) }
@@ -70,7 +71,7 @@ impl<A: Allocator> Relay<A> {
     }
 }
 
-// The element so many further on.
+// The element this many places further on.
 fn further(me: Index, by: u8, n: u32) -> Index
     requires member { me < n }
     requires few { n ≤ ELEMENTS }

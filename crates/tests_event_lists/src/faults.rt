@@ -67,7 +67,8 @@ fn numbers_out_of_their_range(rt: HostRuntime) {
     );
 }
 
-// Of several faulty lines the first is told, and of a line that it is of no form before that a number is too large.
+// Of several faulty lines the first is reported; and of one line, that it is of no form before that a number is too
+// large.
 #[test]
 fn the_first_faulty_line_is_told(rt: HostRuntime) {
     expect_faults(

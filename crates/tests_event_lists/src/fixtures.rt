@@ -1,4 +1,4 @@
-//! What the tests are made of: an event of each form, and their text.
+//! What the tests use: an event of each form, and their text.
 
 ghost use Rattle.std.specs.Prelude.{◌≡◌, true};
 
@@ -11,7 +11,7 @@ use std::process::Abort;
 pub(crate) const NINE: &[u8] =
     b"Start 0 3\nLook 1\nFlush 255\nDeliver 0\nAct 10\nReport 1\nDecide\nDepart 0 65535\nResume 1 0\n";
 
-/// Ends the test where this does not hold, with what it was to hold for.
+/// Ends the test where this does not hold, and shows the row that it should hold for.
 pub(crate) fn assert_for<R: Debug + Copy>(rt: &impl Abort, holds: bool, row: R)
     ensures held { holds ≡ true }
 {

@@ -7,7 +7,7 @@ use std::alloc::{AllocError, Allocator};
 use std::process::Abort;
 use tests_fixtures::{Outcome, Refusing, each_refusal};
 
-// No call here makes as many requests.
+// No call here makes this many requests.
 const MOST_TURNS: u64 = 40;
 
 // Whether these events are written as their text.

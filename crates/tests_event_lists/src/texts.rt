@@ -5,7 +5,7 @@ use event_lists::{EventListError, read_events, write_events};
 use rts_core::Event;
 use std::process::Abort;
 
-// Whether these events have this text, and the text these events.
+// Whether these events are written as this text, and the text is read as these events.
 fn is_text_of(rt: &impl AllocGlobal, events: &[Event], text: &[u8]) -> bool {
     is_written(rt, events, text) && is_read(rt, events, text)
 }

@@ -1,4 +1,4 @@
-//! What the tests are made of.
+//! What the tests use.
 
 ghost use Rattle.std.specs.Prelude.{◌≡◌, true};
 
@@ -8,14 +8,14 @@ use rts_run::{Config, Strategy};
 use std::fmt::Debug;
 use std::process::Abort;
 
-/// Ends the test where this does not hold, with what it was to hold for.
+/// Ends the test where this does not hold, and shows the row that it should hold for.
 pub(crate) fn assert_for<R: Debug + Copy>(rt: &impl Abort, holds: bool, row: R)
     ensures held { holds ≡ true }
 {
     assert!(rt; holds, "{row:?}");
 }
 
-/// A run on so many PEs, with room for so many parcels before each, whose workers are patient.
+/// A run on this number of PEs, with this capacity of each queue, whose workers are patient.
 pub(crate) fn patient(pes: u32, capacity: u32) -> Config {
     Config {
         pes,
@@ -26,7 +26,7 @@ pub(crate) fn patient(pes: u32, capacity: u32) -> Config {
     }
 }
 
-/// A chain of strips with so many cells each.
+/// A chain of strips with these numbers of cells.
 pub(crate) fn chain<'a>(mode: Mode, rounds: u32, work: u32, cells: &'a [u32]) -> Chain<'a> {
     Chain {
         mode,

@@ -1,5 +1,5 @@
-//! A thousand schedules of a small chain, as a test of one's own chare would have them: none ends early, and each leaves the
-//! cells of the plain loop.
+//! A thousand schedules of a small chain, as in a test of one's own chare: none ends early, and each leaves the cells of the
+//! plain loop.
 
 use crate::fixtures::{assert_for, chain};
 use crate::plain::plain_checksum;

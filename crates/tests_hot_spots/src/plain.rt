@@ -6,8 +6,8 @@ use hot_spot_strip::{cell_work, mix, mixed};
 use std::alloc::AllocError;
 use std::process::Abort;
 
-/// The checksum of a chain after its rounds: all cells in one list, computed one after another. The strip of each is noted
-/// beside it.
+/// The checksum of a chain after its rounds: all cells in one list, computed one after another. Each cell is kept with the
+/// number of its strip.
 pub(crate) fn plain_checksum(rt: &(impl Abort + AllocGlobal), chain: &Chain<'_>) -> u64 {
     let Ok(mut cells) = opening_cells(rt, chain) else {
         return 0;
@@ -25,7 +25,7 @@ pub(crate) fn plain_checksum(rt: &(impl Abort + AllocGlobal), chain: &Chain<'_>)
     sum
 }
 
-// Each cell with the place of its strip.
+// Each cell with the number of its strip.
 fn opening_cells(
     rt: &impl AllocGlobal,
     chain: &Chain<'_>,
@@ -60,7 +60,7 @@ fn next_cells(
     Ok(next)
 }
 
-// The cell at this place of the list, or 0 where there is none, or where it is not of this strip or the next to it.
+// The cell at this index of the list, or 0 where there is none, or where it is not of this strip or a strip next to it.
 fn beside(cells: &[(usize, u64)], i: Option<usize>, place: usize) -> u64 {
     let Some(i) = i else {
         return 0;
@@ -71,7 +71,7 @@ fn beside(cells: &[(usize, u64)], i: Option<usize>, place: usize) -> u64 {
     }
 }
 
-// The first outputs of SplitMix64 that is seeded with 1234567, as they are published.
+// The first outputs of SplitMix64 with the seed 1234567, as published.
 #[test]
 fn mixing_is_splitmix64(rt: HostRuntime) {
     let gamma = 0x9e37_79b9_7f4a_7c15u64;

@@ -10,15 +10,15 @@ use std::sync::Wait;
 use std::thread::Threads;
 use tests_fixtures::Refusing;
 
-// No run here makes as many requests.
+// No run here makes this many requests.
 const MOST_TURNS: u64 = 2_000;
 
-// The checksum of the run, worked out by a program outside.
+// The checksum of the run, computed by a separate program.
 const SUM: u64 = 0x8f73_fb93_ecab_6f4c;
 
 type Lent<'a> = &'a Refusing<Global>;
 
-// What is left is whole, whether or not a request was refused: a fault is told, and the counts add up.
+// What is left is complete, whether or not a request was refused: a fault is reported, and the counts add up.
 fn expect_whole<'a>(
     rt: &(impl Abort + AllocGlobal),
     outcome: &Outcome<Strip<Lent<'a>>, Lent<'a>>,

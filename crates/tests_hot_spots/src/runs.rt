@@ -1,4 +1,4 @@
-//! Runs of chains, whose checksums were worked out by a program outside.
+//! Runs of chains, whose checksums were computed by a separate program.
 
 use crate::fixtures::{assert_for, chain, patient};
 use crate::plain::plain_checksum;
@@ -29,8 +29,8 @@ fn ran<R: Threads + Wait + Sync + Abort + AllocGlobal>(
     sum
 }
 
-// The checksum is the same for every number of PEs, with room for one parcel and for many, with balancing and without, and is
-// that of the plain loop.
+// The checksum is the same for every number of PEs, with queues for one parcel and for many, with balancing and without, and
+// is that of the plain loop.
 fn expect_everywhere<R: Threads + Wait + Sync + Abort + AllocGlobal>(
     rt: &R,
     rounds: u32,
@@ -89,7 +89,7 @@ fn twelve_strips(rt: HostRuntime) {
     expect_everywhere(&rt, 8, 20, &[2; 12], 0x72fc_4b12_cdeb_7d25);
 }
 
-// What a run of twelve strips of 16 cells on three PEs prints, by a program outside that tries all divisions and namings.
+// What a run of twelve strips of 16 cells on three PEs prints, by a separate program that tries all divisions and namings.
 const BALANCED: &str = "\
 round 1 greatest 2192 average 773 moved 1400
 round 2 greatest 2304 average 949 moved 200

@@ -15,7 +15,7 @@ use std::process::Abort;
 enum Kept {
     // The note of an element that reached AtSync for a round, with its load, its bytes and its PE.
     Synced(u32, u32, Units, u32, u32),
-    // The note of an element that has finished, which is kept by none.
+    // The note of an element that has finished, which no element keeps.
     Finished(u32),
     // A resumption after a round, on a PE.
     Resumed(u32, u32),
@@ -23,7 +23,7 @@ enum Kept {
 
 use Kept::{Finished, Resumed, Synced};
 
-// What a row shows, the element, the PE in whose room it stands, if it stands in one, and its marks.
+// What a row shows, the element, the PE in whose room it is, if it is in one, and its marks.
 type Row = (&'static str, u32, Option<u32>, &'static [Kept]);
 
 fn mark(rt: &impl Abort, kept: Kept) -> Mark {

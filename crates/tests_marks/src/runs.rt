@@ -110,7 +110,7 @@ fn sent<H: Openings<Courier>>(
     high.sent()
 }
 
-// It comes into the hand of PE 0.
+// The parcel comes into the hand of PE 0.
 fn receive<H: Openings<Courier>>(
     rt: &impl Abort,
     low: &mut PeState<Courier, H>,
@@ -121,7 +121,7 @@ fn receive<H: Openings<Courier>>(
     assert!(rt; low.hand().is_some());
 }
 
-// Element 1 is brought to its place. What is then in the queue of PE 0.
+// Brings element 1 to its place, and returns what is then in the queue of PE 0.
 fn brought<H: Openings<Courier>>(
     rt: &(impl Abort + AllocGlobal),
     low: &mut PeState<Courier, H>,
@@ -192,7 +192,7 @@ fn parts_agree(left: &Left) -> bool {
         && parcels_agree(&left.board, left.queue.as_slice())
 }
 
-// Whether they agree, all at once.
+// Whether the marks agree, all at once.
 fn all_agree(rt: &(impl Abort + AllocGlobal), left: Left) -> bool {
     let Left {
         board,
@@ -205,7 +205,7 @@ fn all_agree(rt: &(impl Abort + AllocGlobal), left: Left) -> bool {
     run_agrees(&board, ends.as_slice(), queues.as_slice())
 }
 
-// Whether they agree, which has to hold of the parts as of all.
+// Whether the marks agree, which has to hold of the parts as of all.
 fn agrees<H: Openings<Courier>>(
     rt: &(impl Abort + AllocGlobal),
     first: Courier,

@@ -1,5 +1,5 @@
 -- A chare each of whose handlers takes as many units as its state says. At each resumption it posts an empty letter to
--- itself, and it is ready to be balanced on a letter.
+-- itself, and on a letter it is ready to be balanced.
 use Rattle.std.specs.Prelude.{◌≡◌, ℕ, ◌≤◌, List, [], ◌∷◌, length, true, false}
 use Rattle.std.specs.Int.{w64, to_be_bytes}
 use Rattle.std.proofs.Common.{arith}

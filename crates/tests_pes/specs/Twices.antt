@@ -1,5 +1,5 @@
 -- A chare that posts two empty letters at each resumption: to itself, and then to another element. Its state is the
--- index of that one.
+-- index of that element.
 use Rattle.std.specs.Prelude.{ℕ, ◌+◌, ◌≤◌, List, [], ◌∷◌, length, true, false}
 use Rattle.std.specs.Int.{w32, to_be_bytes}
 use Rattle.std.proofs.Common.{arith}

@@ -1,4 +1,4 @@
-//! What a run leaves is read where nothing names its array any more: a PE, and a parcel.
+//! What a run leaves is read where no type names its array any more: a PE, and a parcel.
 
 ghost use Rattle.std.specs.Prelude.{◌≡◌, ◌∷◌, []};
 
@@ -37,12 +37,12 @@ fn left<H: Openings<Relay>>(
     at.into_end()
 }
 
-// The run is over here, and its PE goes on.
+// The run ends here, and its PE is returned.
 fn run(rt: &(impl Abort + AllocGlobal), first: Relay, second: Relay) -> PeEnd<Relay> {
     left::<Brand>(rt, first, second)
 }
 
-// Whether an element stands there that has started.
+// Whether an element is there that has started.
 fn has_started(rt: &impl Abort, end: &PeEnd<Relay>, e: u32) -> bool {
     let element = end.room().element(index(rt, e)).expect(rt, "not here");
     element.progress().started
@@ -65,7 +65,7 @@ fn two_left(rt: &(impl Abort + AllocGlobal)) -> PeEnd<Relay> {
     run(rt, relay(rt), longer)
 }
 
-// The packed length of the chare of an element that is taken out, or `None` where it does not stand there.
+// The packed length of the chare of an element that is taken out, or `None` where it is not there.
 fn taken(rt: &impl Abort, end: &mut PeEnd<Relay>, e: u32) -> Option<u32> {
     let element = end.take(index(rt, e))?;
     let chare = element.into_chare();
@@ -120,7 +120,7 @@ fn sent<H: Openings<Relay>>(
     into_held(parcel)
 }
 
-// The run is over here, and its parcel goes on.
+// The run ends here, and its parcel is returned.
 fn send(rt: &(impl Abort + AllocGlobal), first: Relay, second: Relay) -> HeldParcel {
     sent::<Brand>(rt, first, second)
 }

@@ -1,5 +1,5 @@
-//! What the tests are made of: numbers, a relay, a PE with two elements, and a parcel in its hand. What can't be made ends the
-//! test.
+//! What the tests use: numbers, a relay, a PE with two elements, and a parcel in its hand. A value that cannot be made ends
+//! the test.
 
 ghost use Rattle.std.specs.Prelude.{◌≡◌, ◌∷◌, [], true};
 
@@ -11,7 +11,7 @@ use std::fmt::Debug;
 use std::process::Abort;
 use tests_chares::Relay;
 
-/// Ends the test where this does not hold, with what it was to hold for.
+/// Ends the test where this does not hold, and shows the row that it should hold for.
 pub(crate) fn assert_for<R: Debug + Copy>(rt: &impl Abort, holds: bool, row: R)
     ensures held { holds ≡ true }
 {
@@ -43,7 +43,7 @@ pub(crate) fn relay(rt: &(impl Abort + AllocGlobal)) -> Relay {
     Relay::with_body(rt.alloc(), 1, &[0]).expect(rt, "no relay")
 }
 
-/// A PE that has no other beside it, with two elements.
+/// A PE that is the only one, with two elements.
 pub(crate) fn with_two<C: Chare<Global>, H: Openings<C>>(
     rt: &(impl Abort + AllocGlobal),
     first: C,
@@ -72,7 +72,7 @@ pub(crate) fn start<C: Chare<Global>, H: Openings<C>, G: Gate>(
     at.resume(gate, index, r0)
 }
 
-/// What is looked for, if anything is, is believed to be on this PE.
+/// The element that is to be looked up, if there is one, is said to be on this PE.
 pub(crate) fn look_here<C: Chare<A>, H: Openings<C>, A: Allocator + Copy>(
     at: &mut PeState<C, H, A>,
 ) {
@@ -94,7 +94,7 @@ fn deliver_front<C: Chare<A>, H: Openings<C>, A: Allocator + Copy>(
     at.receive(parcel);
 }
 
-/// The front of the outbox goes into the hand, on a PE that has no other beside it.
+/// The front of the outbox goes into the hand, on a PE that is the only one.
 pub(crate) fn bring<C: Chare<A>, H: Openings<C>, A: Allocator + Copy>(
     rt: &impl Abort,
     at: &mut PeState<C, H, A>,

@@ -12,8 +12,8 @@ use std::alloc::Allocator;
 use std::marker::{Brand, Model};
 use std::process::Abort;
 
-// A chare each of whose handlers takes so many units. At each resumption it posts an empty letter to itself, and it is
-// ready to be balanced on a letter.
+// A chare each of whose handlers takes this number of units. At each resumption it posts an empty letter to itself,
+// and on a letter it is ready to be balanced.
 #[derive(Drop)]
 struct Heavy {
     units: Units,
@@ -91,7 +91,7 @@ impl<A: Allocator + Copy> Chare<A> for Heavy {
     }
 }
 
-// The load that is owed to the board first, if one is.
+// The load in the first note that is owed to the board, if there is one.
 fn load_owed<H: Openings<Heavy>>(at: &PeState<Heavy, H>) -> Option<Units> {
     match at.next_note() {
         Some(Note::Sync(_, _, load, _, _)) => Some(load),

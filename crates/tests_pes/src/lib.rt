@@ -1,5 +1,5 @@
 //! Tests of the PE, call by call: letters that wait, follow their element or come back, the gate of its handlers,
-//! loads at their limit, the memory that each call asks for, and what is read after a run. They need no world.
+//! loads at their limit, the memory that each call requests, and what is read after a run. They need no world.
 #![tactic(auto)]
 
 #[cfg(test)]

@@ -29,7 +29,7 @@ fn started<H: Openings<Relay<A>>, A: Allocator + Copy>(
     at
 }
 
-// The first note is handed in.
+// The first note is reported.
 fn take_note<H: Openings<Relay<A>>, A: Allocator + Copy>(
     rt: &impl Abort,
     at: &mut PeState<Relay<A>, H, A>,
@@ -39,7 +39,7 @@ fn take_note<H: Openings<Relay<A>>, A: Allocator + Copy>(
     assert!(rt; at.next_note().is_none());
 }
 
-// What is wanted is believed to be on this PE.
+// The element that is to be looked up is said to be on this PE.
 fn look<H: Openings<Relay<A>>, A: Allocator + Copy>(
     rt: &impl Abort,
     at: &mut PeState<Relay<A>, H, A>,
@@ -50,7 +50,7 @@ fn look<H: Openings<Relay<A>>, A: Allocator + Copy>(
     assert!(rt; at.wants().is_none());
 }
 
-// The front of the outbox is given up and handed back.
+// The front of the outbox is sent, and handed back.
 fn send_in_vain<H: Openings<Relay<A>>, A: Allocator + Copy>(
     rt: &impl Abort,
     at: &mut PeState<Relay<A>, H, A>,
@@ -84,7 +84,7 @@ fn depart<H: Openings<Relay<A>>, A: Allocator + Copy>(
     assert!(rt; at.depart(e0, to).is_ok());
 }
 
-// The note, a letter that comes back and then into the hand, a look for its element once that has departed, and the PE as
+// The note, a letter that comes back and then into the hand, a look for its element after it has departed, and the PE as
 // the run leaves it.
 fn quiet<H: Openings<Relay<A>>, A: Allocator + Copy>(
     rt: &impl Abort,

@@ -1,5 +1,5 @@
-//! Two PEs, call by call: a letter that comes before its element starts, one that is handed back, one that follows its
-//! element, and one that comes before it.
+//! Two PEs, call by call: a letter that arrives before its element starts, one that is handed back, one that follows
+//! its element, and one that arrives before it.
 
 ghost use Rattle.std.specs.Prelude.{◌≡◌, ◌∷◌, [], length, slice_get, Some};
 
@@ -26,7 +26,7 @@ fn resume<H: Openings<Tally>>(rt: &impl Abort, at: &mut PeState<Tally, H>, e: u3
     assert!(rt; !at.may_resume(index, round));
 }
 
-// Acts so, with enough memory.
+// The PE acts in this way, with enough memory.
 fn expect_act<H: Openings<Tally>>(
     rt: &impl Abort,
     at: &mut PeState<Tally, H>,
@@ -36,7 +36,7 @@ fn expect_act<H: Openings<Tally>>(
     assert_for(rt, acted == want, (acted, want));
 }
 
-// The element that is looked for is believed to be there.
+// The element that is to be looked up is said to be on this PE.
 fn look<H: Openings<Tally>>(rt: &impl Abort, at: &mut PeState<Tally, H>, e: u32, believed: u32) {
     let to = pe(rt, believed);
     assert_for(rt, at.wants() == Some(index(rt, e)), e);
@@ -45,7 +45,7 @@ fn look<H: Openings<Tally>>(rt: &impl Abort, at: &mut PeState<Tally, H>, e: u32,
     at.look(to);
 }
 
-// Takes the front of one PE's outbox, which goes to the other one, into the hand of that.
+// Takes the front of one PE's outbox, which goes to the other PE, into the hand of that PE.
 fn deliver<H: Openings<Tally>>(
     rt: &impl Abort,
     from: &mut PeState<Tally, H>,
@@ -77,7 +77,7 @@ fn depart<H: Openings<Tally>>(rt: &impl Abort, at: &mut PeState<Tally, H>, e: u3
     assert!(rt; !at.may_depart(index));
 }
 
-// Hands the first note in.
+// Reports the first note.
 fn take_note<H: Openings<Tally>>(rt: &impl Abort, at: &mut PeState<Tally, H>) -> Note {
     let note = at.next_note().expect(rt, "no note");
     assert!(rt; at.next_note().is_some());
@@ -159,7 +159,7 @@ fn both_started<H: Openings<Tally>>(
     (low, high)
 }
 
-// Element 1 departs for PE 0. Its letter to element 0, sent before it, arrives and ends the round of that one, which
+// Element 1 departs for PE 0. Its letter to element 0, sent before, arrives and ends the round of element 0, which
 // sends its second amount to element 1.
 fn leave<H: Openings<Tally>>(
     rt: &impl Abort,
@@ -233,7 +233,7 @@ fn moved<H: Openings<Tally>>(rt: &impl Abort, at: &PeState<Tally, H>, sum: u64, 
     assert!(rt; element.marks() == marks.as_slice());
 }
 
-// The second letter to element 1 comes where that was, and is forwarded behind it.
+// The second letter to element 1 arrives where the element was, and is forwarded behind it.
 fn forward<H: Openings<Tally>>(
     rt: &impl Abort,
     low: &mut PeState<Tally, H>,

@@ -1,5 +1,5 @@
-//! The requests for memory of each call of a PE: how many it makes, and that it can be made again where one of them is
-//! refused.
+//! The requests for memory of each call of a PE: how many it makes, and that the call can be repeated where one of
+//! them is refused.
 
 ghost use Rattle.std.specs.Prelude.{◌≡◌, ◌∷◌, []};
 
@@ -22,7 +22,7 @@ enum Call {
     Depart,
     // The front of the outbox is sent, and comes into the hand.
     Bring,
-    // The PE acts on it so.
+    // The PE acts on it in this way.
     Act(Acted),
 }
 
@@ -30,13 +30,14 @@ enum Call {
 type Counted = (Call, u64);
 
 // The element posts two letters to itself and departs, the letters wait for it on the shelf, and it comes back and
-// executes the first one. No call asks for memory for reports.
+// executes the first one. No call requests memory for trace entries.
 const SCRIPT: [Counted; 11] = [
-    // The notes, the outbox, the journal, the marks, and the body of its letter, which is too long to lie in it.
+    // The notes, the outbox, the journal, the marks, and the body of its letter, which is too long to be kept within
+    // it.
     (Call::Resume(0), 6),
     // The body of its second letter.
     (Call::Resume(1), 2),
-    // The bytes of its state, and what it travels in.
+    // The bytes of its state, and the box in which it travels.
     (Call::Depart, 2),
     (Call::Bring, 0),
     // The shelf.
@@ -100,7 +101,7 @@ fn make<H: Openings<Relay<A>>, A: Allocator + Copy>(
     }
 }
 
-// Makes a call, and makes it again where it is refused. Whether it was.
+// Makes a call, and repeats it where it is refused. Returns whether it was.
 fn is_refused_once<H: Openings<Relay<A>>, A: Allocator + Copy>(
     rt: &impl Abort,
     made: &Refusing<Global>,
@@ -123,7 +124,7 @@ fn is_refused_once<H: Openings<Relay<A>>, A: Allocator + Copy>(
     }
 }
 
-// Makes all calls. Whether one of them was refused.
+// Makes all calls. Returns whether one of them was refused.
 fn take<H: Openings<Relay<A>>, A: Allocator + Copy>(
     rt: &impl Abort,
     made: &Refusing<Global>,
@@ -136,7 +137,7 @@ fn take<H: Openings<Relay<A>>, A: Allocator + Copy>(
     refused
 }
 
-// What the script comes to, with the element placed first.
+// The outcome of the script, with the element placed first.
 fn comes_to<H: Openings<Relay<A>>, A: Allocator + Copy>(
     rt: &impl Abort,
     made: &Refusing<Global>,

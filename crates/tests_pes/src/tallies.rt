@@ -19,7 +19,7 @@ fn a_tally_packs_and_unpacks(rt: HostRuntime) {
     assert!(rt; out.as_slice() == PACKED.as_slice());
 }
 
-// How a tally with so many amounts posted is refused, or `None` where it is one.
+// The refusal of a tally with this number of amounts posted, or `None` where it is one.
 fn refusal(alloc: Global, posted: u8) -> Option<PupError> {
     let mut bytes = PACKED;
     bytes[3] = posted;

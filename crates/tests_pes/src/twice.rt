@@ -1,4 +1,4 @@
-//! A handler that posts two letters, and one that is refused its second.
+//! A handler that posts two letters, and one whose second letter is refused.
 
 ghost use Rattle.std.specs.Prelude.{◌≡◌, ◌∷◌, []};
 
@@ -92,7 +92,7 @@ impl<A: Allocator + Copy> Chare<A> for Twice {
     }
 }
 
-// The number of a letter and its element, or `None` where that is no letter.
+// The number of a letter and its element, or `None` where the item is no letter.
 fn numbered(item: Option<&Item>) -> Option<(LetterId, Index)> {
     let Carried::Letter(letter) = &item?.parcel else {
         return None;
@@ -123,7 +123,7 @@ fn a_handler_posts_two_letters(rt: HostRuntime) {
     posts_both::<Brand>(&rt, Twice { other: 1 }, Twice { other: 0 });
 }
 
-// Element 0 is refused its second letter, to an element that is not there.
+// The second letter of element 0, to an element that is not there, is refused.
 fn posts_neither<H: Openings<Twice>>(rt: &(impl Abort + AllocGlobal), first: Twice, second: Twice)
     requires pes { H.pes ≡ 1 }
     requires opening { H.opened ≡ first ∷ second ∷ [] }

@@ -1,4 +1,4 @@
-//! Words that say where elements are, on one thread and on two.
+//! Location words, which say where elements are, on one thread and on two.
 
 ghost use Rattle.std.specs.Prelude.{◌≡◌, ◌<◌, IfOk, All};
 
@@ -18,7 +18,7 @@ fn four_elements<P: PeCount>(alloc: Global, pes: u32) -> Result<Locations<P>, Al
     Locations::new(alloc, &[pe(0), pe(0), pe(1), pe(1)], pes)
 }
 
-// How many words there are of no elements and of four, and whether there are none.
+// How many location words there are of no elements and of four, and whether there are none.
 fn counted<P: PeCount>(alloc: Global, pes: u32) -> Result<[(usize, bool); 2], Fail>
     requires { (pes ≡ P.pes) × (pes ≡ 2) }
 {
@@ -59,7 +59,7 @@ fn an_element_is_looked_up_where_it_was_set(rt: HostRuntime) -> Result<(), Fail>
     Ok(())
 }
 
-// Sets one word again and again, and looks another one up: whether all that was found is one of two places.
+// Sets one location word again and again, and reads another one: whether all that was found is one of two places.
 fn set_and_look<P: PeCount>(
     places: &Locations<P>,
     mine: Index,
@@ -79,8 +79,8 @@ fn set_and_look<P: PeCount>(
     so_far
 }
 
-// Two threads set a word each, and look up that of the other. On three PEs, element 0 moves from 0 to 2, and element 1
-// from 1 to 0.
+// Two threads set a location word each, and read that of the other. On three PEs, element 0 moves from 0 to 2, and
+// element 1 from 1 to 0.
 fn two_threads<P: PeCount + Send + Sync, R: Threads + Sync>(
     rt: &R,
     alloc: Global,
@@ -113,12 +113,13 @@ fn what_is_found_was_set_or_was_there(rt: HostRuntime) -> Result<(), Fail> {
     Ok(())
 }
 
-// A PE for each element, such that both the low and the high bits of its index count.
+// A PE for each element, by both the low and the high bits of its index.
 fn far_place(i: u32) -> Pe {
     pe((i % 256 + i / 256) % 256)
 }
 
-// The most elements on the most PEs. Sets each word to another place, and then returns how many say another one.
+// The most elements on the most PEs. Sets each location word to another place, and then returns how many say a wrong
+// one.
 fn wrong_words<P: PeCount>(alloc: Global, pes: u32) -> Result<u32, Fail>
     requires { (pes ≡ P.pes) × (pes ≡ 256) }
 {

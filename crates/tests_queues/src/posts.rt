@@ -1,4 +1,4 @@
-//! What one thread gets of a post.
+//! What one thread can do with a post.
 
 ghost use Rattle.std.specs.Prelude.{◌≡◌, ◌<◌, All, IfOk};
 ghost use Rattle.pe_queues.specs.Seats.{pes};
@@ -11,7 +11,8 @@ use std::sync::Wait;
 use std::test::Fail;
 use tests_fixtures::pe;
 
-// Whether one place takes a value and refuses a second one, gives the first one back and is empty then.
+// Whether a queue of one place takes a value and refuses a second one, returns the first one and is empty
+// then.
 fn fills_and_empties<R: Wait, A: Allocator>(
     rt: &R,
     post: &Post<char, A>,
@@ -41,7 +42,7 @@ fn tries_so<A: Allocator>(post: &Post<char, A>, seat: &mut Seat<char, A>) -> boo
     put && full && taken && empty
 }
 
-// The post and the seat that are handed back where one seat is out.
+// The post and the seat that are given back where one seat is missing.
 fn refused<R: Wait, A: Allocator>(
     post: Post<char, A>,
     rt: &R,
@@ -60,7 +61,7 @@ fn refused<R: Wait, A: Allocator>(
     Ok((post, seat))
 }
 
-// Whether a queue of one place fills and empties so, and what is put into it then is left.
+// Whether a queue of one place fills and empties so, and a value that is then put into it is left.
 fn holds_one<R: Wait, A: Allocator + Copy>(rt: &R, alloc: A) -> Result<bool, Fail> {
     let (post, mut first, second) = two_seats(alloc, 1)?;
     let emptied = fills_and_empties(rt, &post, &mut first) && tries_so(&post, &mut first);
@@ -143,7 +144,7 @@ fn what_is_left_stands_by_queue_front_first(rt: HostRuntime) -> Result<(), Fail>
     Ok(())
 }
 
-// Numbers of PEs, of seats and of places, and what a post of so many is refused for.
+// Numbers of PEs, of seats and of places, and the error of a post with these.
 type Row = (u32, u32, u32, PostError);
 
 fn is_refused<A: Allocator + Copy>(alloc: A, row: &Row) -> bool {
@@ -194,7 +195,7 @@ fn numbers_and_texts(rt: HostRuntime) {
     }
 }
 
-// All seats as one.
+// All seats joined into one.
 fn joined<A: Allocator>(
     post: &Post<u8, A>,
     mut seats: Vec<Seat<u8, A>, A>,
@@ -228,7 +229,7 @@ fn as_large_as_may_be(rt: HostRuntime) -> Result<(), Fail> {
     Ok(())
 }
 
-// Whether a post of so many PEs and seats is made.
+// Whether a post of this number of PEs and seats is made.
 fn is_made<A: Allocator + Copy>(alloc: A, pes: u32, wanted: u32) -> bool {
     match Post::<char, A>::new(alloc, pes, wanted, 1) {
         Ok((post, seats)) => post.pes() == pes && seats.len() == wanted as usize,

@@ -10,10 +10,10 @@ use std::sync::Wait;
 use std::test::Fail;
 use tests_fixtures::{Failure, Outcome, Refusing, each_refusal, pe};
 
-// No call here makes as many requests.
+// No call here makes this many requests.
 const MOST_TURNS: u64 = 40;
 
-// What a post with so many queues and seats comes to.
+// The outcome of making a post with this number of queues and seats.
 fn opens<A: Allocator + Copy>(alloc: A, pes: u32, seats: u32) -> Outcome {
     match &Post::<u32, A>::new(alloc, pes, seats, 4) {
         Ok((post, given)) if post.pes() == pes && given.len() == seats as usize => Outcome::Right,
@@ -41,7 +41,7 @@ fn each_refused_request_of_a_post_is_told(rt: HostRuntime) -> Result<(), Fail> {
     Ok(())
 }
 
-// Where three elements are, on a run of so many PEs.
+// Where three elements are, in a run on this number of PEs.
 fn locates<P: PeCount, A: Allocator>(alloc: A, pes: u32) -> Outcome
     requires { (pes ≡ P.pes) × (pes ≡ 2) }
 {

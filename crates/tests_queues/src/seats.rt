@@ -7,7 +7,7 @@ use pe_queues::{Post, PostError, Seat};
 use std::alloc::Allocator;
 use std::test::Fail;
 
-/// The next seat that was not given out yet.
+/// The next seat that has not been given out yet.
 pub(crate) fn next<T: Drop, A: Allocator>(
     post: &Post<T, A>,
     seats: &mut Vec<Seat<T, A>, A>,

@@ -1,5 +1,5 @@
-//! What several threads get of one post. The values are cells, which may pass from thread to thread and not be
-//! shared.
+//! What several threads do with one post. The values are cells, which may pass from thread to thread but not
+//! be shared.
 
 ghost use Rattle.std.specs.Prelude.{◌≡◌, ◌<◌, ◌≤◌, ◌+◌, All, IfOk};
 ghost use Rattle.std.specs.Thread.{IsSync};
@@ -23,7 +23,7 @@ struct Worker {
     taken: Vec<u32>,
 }
 
-// Puts a value, and takes one wherever there is no room.
+// Puts a value, and takes one where the queue is full.
 fn put_or_take<R: Wait>(
     rt: &R,
     post: &Post<Cell<u32>>,
@@ -100,7 +100,7 @@ fn two<R: Threads + Wait + Sync>(
     Ok((a?, b?))
 }
 
-// All values that two workers took, and their seats as one.
+// All values that two workers took, and their seats joined into one.
 fn together(post: &Post<Cell<u32>>, workers: (Worker, Worker)) -> Result<Worker, AllocError>
     requires own { (workers.0.seat.post ≡ post.now) × (workers.1.seat.post ≡ post.now) }
     ensures { IfOk result (λ worker. worker.seat.post ≡ post.now) }
@@ -139,7 +139,7 @@ fn four<R: Threads + Wait + Sync>(
     Ok(together(post, (a?, b?))?)
 }
 
-// Two seats that were not given out yet.
+// Two seats that have not been given out yet.
 fn pair(
     post: &Post<Cell<u32>>,
     seats: &mut Vec<Seat<Cell<u32>>>,

@@ -11,7 +11,7 @@ letters_more {P = P} me k (x ∷ xs) y =
     let more : (k + 1) + length xs ≡ k + length (x ∷ xs) = grind (arith) in
     ap (λ v. letters_of {P = P} me k (x ∷ []) ++ v) (letters_more {P = P} me (k + 1) xs y ∙ ap (λ v. letters_of {P = P} me (k + 1) xs ++ letters_of {P = P} me v (y ∷ [])) more)
 
--- and so are their trace
+-- and so are their trace entries
 posts_more : (me k : ℕ) (xs : List (ℕ × List ℕ)) (y : ℕ × List ℕ) → posts_of me k (xs ++ y ∷ []) ≡ posts_of me k xs ++ posts_of me (k + length xs) (y ∷ [])
 posts_more me k [] y = ap (λ v. posts_of me v (y ∷ [])) (omega (arith))
 posts_more me k (x ∷ xs) y =

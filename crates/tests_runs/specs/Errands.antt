@@ -1,5 +1,5 @@
--- A chare that is told how many letters it sends, where to, when it has finished, and how many units each of its handlers
--- takes.
+-- A chare whose state says how many letters it sends, where to, when it has finished, and how many units each of its
+-- handlers takes.
 use Rattle.std.specs.Prelude.{ℕ, ◌+◌, ◌-◌, ◌<◌, ◌≤◌, List, [], ◌++◌, length, replicate, false, not, ◌&&◌, ◌==◌, nat_lt}
 use Rattle.std.specs.Int.{w32, w64, to_be_bytes}
 use Rattle.std.proofs.Common.{arith, length-append}
@@ -11,7 +11,7 @@ use Rattle.chares.specs.declared.sends.SendError.TheVariants.{Stranger, Worn}
 use Rattle.chares.specs.Steps.{Outcome}
 
 -- the element that its letters go to, how many of these it sends as it goes on and how many for each letter that it gets,
--- how many letters it still wants, after how many rounds it may finish, and how many units each of its handlers takes
+-- how many letters it has yet to get, after how many rounds it may finish, and how many units each of its handlers takes
 pub record ErrandView : Type 0 where
   pub to : ℕ
   pub letters : ℕ
@@ -30,12 +30,12 @@ parts e = (e.to, (e.letters, (e.replies, (e.wanted, (e.rounds, e.units)))))
 abbrev pub of_parts : Parts → ErrandView
 of_parts x = record { to = x.0; letters = x.1.0; replies = x.1.1.0; wanted = x.1.1.1.0; rounds = x.1.1.1.1.0; units = x.1.1.1.1.1 }
 
--- so many empty letters to an element
+-- this number of empty letters to an element
 abbrev pub empty_letters : ℕ → ℕ → List (ℕ × List ℕ)
 empty_letters count to = replicate count (to, [])
 
--- for a letter it sends its replies, and has finished once it wants none; as it goes on it sends its letters, and is ready
--- if it has rounds left, or else has finished if it wants no letter
+-- for a letter it sends its replies, and has finished once it needs no more letters; as it goes on it sends its letters,
+-- and is ready if it has rounds left, or otherwise has finished if it needs no letter
 abbrev pub errand_step : ErrandView → ℕ → ℕ → Entry (List ℕ) → Outcome ErrandView
 errand_step e me n (Letter body) =
     record {
@@ -50,7 +50,7 @@ errand_step e me n (Resumption round) =
       sends = empty_letters e.letters e.to;
     }
 
--- so many letters to an element are refused where it is a stranger, or fewer letter numbers are left
+-- this number of letters to an element is refused where the element is a stranger, or fewer letter numbers are left
 abbrev pub RefusesAll : ℕ → ℕ → ℕ → ℕ → SendError → Type 0
 RefusesAll n count letters to Stranger = n ≤ to
 RefusesAll n count letters to Worn = LETTERS < count + letters

@@ -13,8 +13,8 @@ use std::process::Abort;
 use std::sync::atomic::{AtomicU64, Ordering};
 use tests_chares::Courier;
 
-// A run of so many elements met this fault, decided no round, and has this account; and each letter and each element is found
-// in what it left.
+// A run of this number of elements met this fault, decided no round, and has this account; and each letter and each element
+// is found in what it left.
 fn expect_ended<C: Chare<Global>>(
     rt: &(impl Abort + AllocGlobal),
     outcome: &Outcome<C>,
@@ -28,7 +28,7 @@ fn expect_ended<C: Chare<Global>>(
     assert!(rt; outcome.rounds().is_empty());
 }
 
-// Whether the element stands here, and whether it has started.
+// Whether the element is on this PE, and whether it has started.
 fn started<C: Chare<Global>>(end: &PeEnd<C>, e: Index) -> Option<bool> {
     let element = end.room().element(e)?;
     let begun = element.progress().started;

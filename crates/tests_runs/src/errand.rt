@@ -1,5 +1,5 @@
-//! A chare that is told how many letters it sends, where to, when it has finished, and how many units each of its handlers
-//! takes.
+//! A chare whose state says how many letters it sends, where to, when it has finished, and how many units each of its
+//! handlers takes.
 
 ghost use Rattle.std.specs.Prelude.{◌≡◌, ◌≢◌, ◌≤◌, ◌<◌, ◌∷◌, [], List, ℕ, IfErr, MatchResult, OnErr, OnOk};
 ghost use Rattle.chare_index.specs.declared.limits.TheConstants.Limits.{ELEMENTS};
@@ -14,8 +14,8 @@ use pup_pack::{Fields, Pup, PupError};
 use std::alloc::Allocator;
 use std::marker::Model;
 
-/// A chare that sends empty letters. As it goes on after a round, or starts, it passes the gate with 1,000, twice the
-/// round and its index.
+/// A chare that sends empty letters. As it goes on after a round, or starts, it passes the gate with the sum of 1,000,
+/// twice the round and its index.
 #[derive(Drop)]
 pub(crate) struct Errand {
     /// The element that its letters go to.
@@ -24,16 +24,16 @@ pub(crate) struct Errand {
     pub(crate) letters: u32,
     /// How many it sends for each letter that it gets.
     pub(crate) replies: u32,
-    /// How many letters it still wants before it finishes.
+    /// How many letters it has yet to get before it finishes.
     pub(crate) wanted: u32,
-    /// After how many rounds it may finish.
+    /// The number of rounds after which it may finish.
     pub(crate) rounds: u32,
     /// How many units each of its handlers takes.
     pub(crate) units: Units,
 }
 
 impl Errand {
-    /// It finishes as it starts.
+    /// A chare that finishes as it starts.
     pub(crate) fn none() -> Errand {
         Errand {
             to: 0,
@@ -68,7 +68,7 @@ fn send_one<P: Drop, A: Allocator + Copy>(sends: &mut Sends<P, A>, to: u32) -> R
     sends.put(to, &[])
 }
 
-// Sends so many empty letters to an element.
+// Sends this number of empty letters to an element.
 #[tactic(auto, using(crate::proofs::Postings::posted_more, crate::proofs::Postings::posted_none))]
 fn send_all<P: Drop, A: Allocator + Copy>(
     sends: &mut Sends<P, A>,

@@ -4,7 +4,7 @@ use crate::fixtures::assert_for;
 use rts_run::Fault;
 use std::process::Abort;
 
-// A fault, its number, and what is shown of it.
+// A fault, its number, and its text.
 type Row = (Fault, u8, &'static str);
 
 const ROWS: [Row; 8] = [
@@ -42,7 +42,7 @@ const ROWS: [Row; 8] = [
     ),
 ];
 
-// Whether this is shown of a fault.
+// Whether this is the text of a fault.
 fn is_shown(rt: &(impl Abort + AllocGlobal), fault: Fault, text: &str) -> bool {
     let shown = format!(in rt.alloc(); "{fault}").expect(rt, "out of memory");
     shown.as_str() == text

@@ -1,4 +1,5 @@
-//! What the tests are made of: numbers, limits of a run, and an assertion over a row. What can't be made ends the test.
+//! What the tests use: numbers, limits of a run, and an assertion over a row. A value that cannot be made ends the
+//! test.
 
 ghost use Rattle.std.specs.Prelude.{◌≡◌, true};
 
@@ -12,14 +13,14 @@ use std::process::Abort;
 use std::sync::Wait;
 use std::thread::Threads;
 
-/// Ends the test where this does not hold, with what it was to hold for.
+/// Ends the test where this does not hold, and shows the row that it should hold for.
 pub(crate) fn assert_for<R: Debug + Copy>(rt: &impl Abort, holds: bool, row: R)
     ensures held { holds ≡ true }
 {
     assert!(rt; holds, "{row:?}");
 }
 
-/// Ends the test where these are not the same texts, with both.
+/// Ends the test where these are not the same texts, and shows both.
 pub(crate) fn expect_text(rt: &impl Abort, found: &str, want: &str) {
     assert_for(rt, found == want, (found, want));
 }
@@ -44,7 +45,7 @@ pub(crate) fn state_bytes(rt: &impl Abort, bytes: u32) -> StateBytes {
     StateBytes::new(bytes).expect(rt, "no such length")
 }
 
-/// A run on so many PEs, with room for so many parcels before each, whose workers are patient and decide alone.
+/// A run on this number of PEs, with this capacity of each queue, whose workers are patient and decide alone.
 pub(crate) fn patient(pes: u32, capacity: u32) -> Config {
     Config {
         pes,

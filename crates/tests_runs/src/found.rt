@@ -109,7 +109,7 @@ fn counts(rt: &impl Abort, found: &[Found]) -> (u64, u64) {
     (held, executed)
 }
 
-// Each letter that a PE has posted is found once. Returns how many these are.
+// Each letter that a PE has posted is found once. Returns how many there are.
 fn expect_posted<C: Chare<A>, A: Allocator>(
     rt: &impl Abort,
     found: &[Found],
@@ -137,8 +137,8 @@ fn expect_elements(rt: &impl Abort, found: &[Found], n: usize) {
     assert_for(rt, elements == n, elements);
 }
 
-/// Each letter that was posted is in one place, or was executed once, by its own element; each of so many elements is in
-/// one place; and nothing else is there.
+/// Each letter that was posted is in one place, or was executed once, by its own element; each of `n` elements is in one
+/// place; and nothing else is there.
 pub(crate) fn compare<C: Chare<A>, A: Allocator>(
     rt: &(impl Abort + AllocGlobal),
     outcome: &Outcome<C, A>,

@@ -9,7 +9,7 @@ use std::sync::Wait;
 use std::sync::atomic::{AtomicU64, Ordering};
 use std::thread::Threads;
 
-// Counts its calls by workers 0, 1 and 2, by handlers, whose numbers are 1,000 and more, and by anybody else.
+// Counts its calls by workers 0, 1 and 2, by handlers, whose numbers are 1,000 and more, and by any other number.
 #[derive(Drop)]
 struct Counting {
     first: AtomicU64,
@@ -57,7 +57,7 @@ impl Counting {
     }
 }
 
-// It takes so many units before the end of round 1, and then finishes.
+// A chare that takes 1,000 units in each handler before the end of round 1, and then finishes.
 fn works_once() -> Errand {
     Errand {
         rounds: 1,
@@ -66,8 +66,8 @@ fn works_once() -> Errand {
     }
 }
 
-// What ended the run of two such elements on so many PEs, whose round up to three workers decide, how many rounds were decided,
-// and who passed the gate.
+// What ended the run of two such elements on this number of PEs, whose round up to three workers decide; how many rounds were
+// decided; and who passed the gate.
 fn passed<R: Threads + Wait + Sync + Abort + AllocGlobal>(
     rt: &R,
     pes: u32,

@@ -1,4 +1,4 @@
-//! Elements whose handlers take many units: what their round is decided on.
+//! Elements whose handlers take many units: the loads on which their round is decided.
 
 use crate::errand::Errand;
 use crate::fixtures::{assert_for, patient, run_errands};
@@ -8,7 +8,7 @@ use std::process::Abort;
 use std::sync::Wait;
 use std::thread::Threads;
 
-// It takes so many units before the end of round 1, and then finishes.
+// A chare whose handlers take these units each, before the end of round 1, and that then finishes.
 fn works_once(units: Units) -> Errand {
     Errand {
         rounds: 1,

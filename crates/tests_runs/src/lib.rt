@@ -1,5 +1,6 @@
-//! Tests of runs over threads: worked examples whose results come from outside, runs that end early or are stopped, queues with
-//! little room, gates, loads at their limit, refused memory, full sizes, and random runs after which each letter is found by hand.
+//! Tests of runs over threads: worked examples whose results come from outside, runs that end early or are stopped, queues of
+//! little capacity, gates, loads at their limit, refused memory, full sizes, and random runs after which each letter is found by
+//! hand.
 #![tactic(auto)]
 
 #[cfg(test)]

@@ -1,4 +1,4 @@
-//! Many letters over queues that have room for one.
+//! Many letters over queues with capacity for one.
 
 use crate::errand::Errand;
 use crate::fixtures::{account, assert_for, patient, run_errands};

@@ -8,7 +8,7 @@ use std::process::Abort;
 use std::sync::Wait;
 use std::thread::Threads;
 
-// Whether a refusal is shown by this text, and has this number.
+// Whether this is the text of a refusal, and this its number.
 fn is_shown(rt: &(impl Abort + AllocGlobal), row: &(RunError, u8, &str)) -> bool {
     let (error, number, text) = row;
     let shown = format!(in rt.alloc(); "{error}").expect(rt, "out of memory");
@@ -50,7 +50,7 @@ fn refused_runs_have_their_numbers_and_texts(rt: HostRuntime) {
     }
 }
 
-// So many chares that finish as they start.
+// This number of chares that finish as they start.
 fn idle(rt: &(impl Abort + AllocGlobal), n: u32) -> Vec<Errand> {
     let mut errands = Vec::new(rt.alloc());
     for _ in 0..n {
@@ -59,7 +59,8 @@ fn idle(rt: &(impl Abort + AllocGlobal), n: u32) -> Vec<Errand> {
     errands
 }
 
-// How a run of so many chares that finish as they start is refused, or `None` where it ends without a fault.
+// The refusal of a run of this number of chares that finish as they start, or `None` where it ends without a
+// fault.
 fn refusal<R: Threads + Wait + Sync + Abort + AllocGlobal>(
     rt: &R,
     config: &Config,

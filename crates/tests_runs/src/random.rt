@@ -44,8 +44,7 @@ impl Draw {
         self.below(most).saturating_add(1)
     }
 
-    // The limits of a run on up to six PEs, with room for up to four parcels before each. Its workers give up at once, soon
-    // or late.
+    // The limits of a run on up to six PEs, with queues for up to four parcels. Its workers give up at once, soon or late.
     fn config(&mut self) -> Config {
         let turns = match self.below(5) {
             0 => 1,

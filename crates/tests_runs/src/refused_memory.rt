@@ -12,13 +12,13 @@ use std::thread::Threads;
 use tally::Tally;
 use tests_fixtures::Refusing;
 
-// No run here makes as many requests.
+// No run here makes this many requests.
 const MOST_TURNS: u64 = 2_000;
 
 // A tally, and what a run of tallies leaves, with this allocator.
 type Lent<'a> = &'a Refusing<Global>;
 
-// How often a run did not begin, ended early, and ended well though a request was refused.
+// How often a run did not begin, ended early, and ended well although a request was refused.
 #[derive(Default, Drop)]
 struct Counts {
     refused: u64,
@@ -26,8 +26,8 @@ struct Counts {
     well: u64,
 }
 
-// Each letter and each of the four elements is found in what is left, whether or not a request was refused, and it is the
-// worked example where there is no fault.
+// Each letter and each of the four elements is found in what is left, whether or not a request was refused, and where
+// there is no fault it is the worked example.
 fn expect_whole<'a>(
     rt: &(impl Abort + AllocGlobal),
     outcome: &Outcome<Tally<Lent<'a>>, Lent<'a>>,

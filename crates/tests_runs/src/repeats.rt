@@ -18,7 +18,7 @@ const AMOUNTS: Amounts<'static> = (
     4,
 );
 
-// The divisions and the cheapest namings are found by trying all.
+// The divisions and the cheapest namings were found by trying all.
 const TEXT: &str = "round 1 bottleneck 11 moved 120\n\
     round 2 bottleneck 12 moved 120\n\
     round 3 bottleneck 17 moved 0\n\

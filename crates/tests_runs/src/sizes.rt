@@ -15,7 +15,7 @@ fn amount(e: u32) -> u32 {
     e % 7 + 1
 }
 
-// So many tallies, with one amount each.
+// This number of tallies, with one amount each.
 fn ring(rt: &(impl Abort + AllocGlobal), n: u32) -> Vec<Tally> {
     let mut tallies = Vec::new(rt.alloc());
     for e in 0..n {
@@ -25,7 +25,7 @@ fn ring(rt: &(impl Abort + AllocGlobal), n: u32) -> Vec<Tally> {
     tallies
 }
 
-// Whether each of so many tallies has got what the one before it posted.
+// Whether each of these tallies has got what the one before it posted.
 fn have_sums(rt: &impl Abort, outcome: &Outcome<Tally>, n: u32) -> bool {
     let mut all = true;
     for e in 0..n {
@@ -35,7 +35,7 @@ fn have_sums(rt: &impl Abort, outcome: &Outcome<Tally>, n: u32) -> bool {
     all
 }
 
-// A run of so many tallies on the most PEs has no fault, and all letters are executed.
+// A run of this number of tallies on the most PEs has no fault, and all letters are executed.
 fn runs_on_all<R: Threads + Wait + Sync + Abort + AllocGlobal>(rt: &R, n: u32) {
     let chares = ring(rt, n);
     let outcome = run(rt, rt.alloc(), &patient(256, 4), &NoGate, chares).expect(
@@ -67,7 +67,7 @@ fn one_element_less_than_the_most_pes(rt: HostRuntime) {
     runs_on_all(&rt, 255);
 }
 
-// The most elements. Each sends a letter to the next, and wants one.
+// The most elements. Each sends a letter to the next, and has to get one.
 fn full(rt: &(impl Abort + AllocGlobal)) -> Vec<Errand> {
     let mut errands = Vec::new(rt.alloc());
     for e in 0..65_536u32 {

@@ -1,4 +1,4 @@
-//! Runs that their watch asks to stop: at once, while they have nothing to do, and in the midst.
+//! Runs that their watch asks to stop: at once, while they have nothing to do, and in the middle.
 
 use crate::errand::Errand;
 use crate::fixtures::{account, assert_for, patient};
@@ -14,7 +14,7 @@ use std::sync::Wait;
 use std::sync::atomic::{AtomicU64, Ordering};
 use std::thread::Threads;
 
-// Lets so many questions pass, and then asks the run to stop.
+// Lets this number of questions pass, and then asks the run to stop.
 #[derive(Drop)]
 struct Patience {
     left: AtomicU64,
@@ -30,8 +30,8 @@ impl Watch for Patience {
     }
 }
 
-// What ended the run of these errands on one PE, which is to stop after so many questions, its account, and how many of its
-// elements have started.
+// What ended the run of these errands on one PE, which is to stop after this number of questions; its account; and how many
+// of its elements have started.
 fn stopped_after<R: Threads + Wait + Sync + Abort + AllocGlobal>(
     rt: &R,
     questions: u64,

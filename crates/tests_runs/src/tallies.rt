@@ -9,7 +9,7 @@ use std::sync::Wait;
 use std::thread::Threads;
 use tally::Tally;
 
-/// The amounts of each tally, one for each round, and so many bytes of padding.
+/// The amounts of each tally, one for each round, and the number of bytes of padding.
 pub(crate) type Amounts<'a> = (&'a [&'a [u32]], usize);
 
 /// The tallies with these amounts.
@@ -36,7 +36,7 @@ pub(crate) fn run_tallies<R: Threads + Wait + Sync + Abort + AllocGlobal>(
     run(rt, rt.alloc(), config, &NoGate, chares).expect(rt, "the run did not begin")
 }
 
-/// The sum of a tally, or `None` where it stands on no PE.
+/// The sum of a tally, or `None` where it is on no PE.
 pub(crate) fn sum_of<A: Allocator + Copy>(outcome: &Outcome<Tally<A>, A>, e: Index) -> Option<u64> {
     for end in outcome.ends() {
         if let Some(element) = end.room().element(e) {
@@ -59,7 +59,7 @@ fn push_rounds<A: Allocator + Copy>(
     Ok(())
 }
 
-// Adds the sums of all tallies that stand on a PE, in order.
+// Adds the sums of all tallies that are on a PE, in order.
 fn push_sums<A: Allocator + Copy>(
     text: &mut String,
     outcome: &Outcome<Tally<A>, A>,

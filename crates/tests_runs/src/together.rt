@@ -8,8 +8,8 @@ use std::sync::atomic::{AtomicU64, Ordering};
 // How many turns a handler waits for the other.
 const TURNS: u64 = 1_000_000_000;
 
-// A gate that holds each of two elements until the other was seen. Their numbers are 1,000 and 1,001; those below are of
-// workers, and pass.
+// A gate that holds each of two elements until the other has been seen. Their numbers are 1,000 and 1,001; those below
+// are of workers, and pass.
 #[derive(Drop)]
 struct Meeting {
     first: AtomicU64,
@@ -59,7 +59,7 @@ fn two_pes_overlap(rt: HostRuntime) {
 const HELD: u64 = 100_000_000;
 
 // A gate that holds the start of element 0, whose number is 1,000, and sees whether element 1 goes on after round 1, with
-// 1,003, before that start was let go.
+// 1,003, before the start is released.
 #[derive(Drop)]
 struct Late {
     turns: AtomicU64,
@@ -83,7 +83,7 @@ impl Gate for Late {
     }
 }
 
-// It waits for the end of round 1, and then finishes.
+// A chare that waits for the end of round 1, and then finishes.
 fn waits_once() -> Errand {
     Errand {
         rounds: 1,

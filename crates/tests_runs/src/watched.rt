@@ -6,7 +6,7 @@ use chare_index::{NoGate, Round};
 use rts_run::{Watch, run_watched};
 use std::sync::atomic::{AtomicU64, Ordering};
 
-// Keeps what it is called with for the first two rounds, and how often it is called.
+// Keeps the arguments of the calls for the first two rounds, and counts all calls.
 #[derive(Drop)]
 struct TwoRounds {
     first: AtomicU64,

@@ -11,10 +11,10 @@ use std::sync::Wait;
 use std::thread::Threads;
 use tally::Tally;
 
-// So many PEs, so much room before each, what the tallies post, and what is printed.
+// The number of PEs, the capacity of each queue, what the tallies post, and what is printed.
 type Row<'a> = (u32, u32, Amounts<'a>, &'a str);
 
-// Just this is printed of the run of a row, which meets no fault.
+// Exactly this is printed of the run of a row, which meets no fault.
 fn expect_told<R: Threads + Wait + Sync + Abort + AllocGlobal>(rt: &R, row: &Row<'_>) {
     let (pes, capacity, amounts, want) = row;
     let outcome = run_tallies(rt, &patient(*pes, *capacity), amounts);

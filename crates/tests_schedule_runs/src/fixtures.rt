@@ -1,4 +1,4 @@
-//! What the tests here are made of: the worked workload, and its runs by a seed.
+//! What the tests here use: the worked workload, and its runs by a seed.
 
 ghost use Rattle.std.specs.Prelude.{◌≡◌, true};
 ghost use Rattle.workload.specs.Text.{IsWithin};
@@ -20,7 +20,7 @@ pub(crate) const WORKED_TEXT: &str = "round 1 bottleneck 6 moved 40\n\
     sums 8 3 3 4\n\
     posted 8 executed 8 held 0\n";
 
-/// Ends the test where this does not hold, with what it was to hold for.
+/// Ends the test where this does not hold, and shows the row that it should hold for.
 pub(crate) fn assert_for<R: Debug + Copy>(rt: &impl Abort, holds: bool, row: R)
     ensures held { holds ≡ true }
 {

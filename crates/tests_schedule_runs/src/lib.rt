@@ -1,5 +1,5 @@
-//! Tests of runs of a workload on one thread: by seeds and by lists of events, beside the text of a run over threads, with readers and
-//! writers that fail, and refused memory.
+//! Tests of runs of a workload on one thread: by seeds and by lists of events, compared with the text of a run over threads, with
+//! readers and writers that fail, and refused memory.
 #![tactic(auto)]
 
 #[cfg(test)]

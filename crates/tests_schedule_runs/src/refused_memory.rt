@@ -9,10 +9,10 @@ use std::process::Abort;
 use tests_fixtures::{Outcome, Refusing, Source, each_refusal};
 use workload_run::Ended;
 
-// No run here makes as many requests.
+// No run here makes this many requests.
 const MOST_TURNS: u64 = 5_000;
 
-// The first request behind those for the workload.
+// The first request after those for the workload.
 const FIRST_TURN: u64 = 4;
 
 // How a run ended, whether a request was refused, and what was written.
@@ -40,7 +40,7 @@ fn two_seeds(rt: &(impl Abort + AllocGlobal), turn: u64) -> Attempt {
     (ended, alloc.has_refused(), text)
 }
 
-// Whether a refusal was told, before a run or after it, or as the fault of one.
+// Whether a refusal was reported, before a run or after it, or as the fault of one.
 fn is_told(ended: Ended, text: &[u8], faults: &[&str]) -> bool {
     match ended {
         Ended::OutOfMemory => text == b"out of memory\n".as_slice(),

@@ -7,7 +7,7 @@ use std::process::Abort;
 use tests_fixtures::Sink;
 use workload_run::Ended;
 
-// How the runs by so many seeds end, and what is written.
+// How the runs by this number of seeds end, and what is written.
 fn tried(rt: &(impl Abort + AllocGlobal), seeds: u32) -> (Ended, Vec<u8>) {
     let workload = worked(rt, rt.alloc());
     let mut text = Vec::new(rt.alloc());

@@ -8,7 +8,8 @@ use tests_fixtures::{Sink, Source};
 use workload::WorkError;
 use workload_run::Ended;
 
-// Whether a file has a workload of so many chares, or is refused so with this line; and this is the kind of the system's reason.
+// Whether a file has a workload of this number of chares, or is refused with this line and this end; and this is the kind of the
+// system's reason.
 fn is_read(
     rt: &(impl Abort + AllocGlobal),
     file: io::Result<Source<'_>>,

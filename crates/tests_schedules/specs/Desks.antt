@@ -32,13 +32,13 @@ desk_step opened me n (Letter []) = record { state = 1; effect = idle; sends = [
 desk_step opened me n (Letter (x ∷ xs)) = record { state = opened; effect = idle; sends = lost opened }
 desk_step opened me n (Resumption round) = record { state = opened; effect = done; sends = errand_of me }
 
--- a letter is refused to somebody who is not there, or where no letter number is left
+-- a letter is refused where it is to an element that is not there, or where no letter number is left
 abbrev pub DeskRefuses : ℕ → ℕ → ℕ → ℕ → Entry (List ℕ) → SendError → Type 0
 DeskRefuses opened me n count entry Stranger = n ≤ 65535
 DeskRefuses opened me n count entry Worn = count ≡ LETTERS
 DeskRefuses opened me n count entry _ = ⊥
 
--- a run ended since a letter went to nobody
+-- a run ended because a letter went to nobody
 abbrev pub is_lost : Option Fault → Bool
 is_lost (Some Lost.Stranger) = true
 is_lost fault = false

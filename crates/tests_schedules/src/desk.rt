@@ -1,4 +1,4 @@
-//! A chare with a planted fault, which only one order of two letters brings out.
+//! A chare with a planted fault, which only one order of two letters reveals.
 
 ghost use Rattle.std.specs.Prelude.{◌≡◌, false};
 
@@ -8,11 +8,11 @@ use pup_pack::{Pup, PupError};
 use std::alloc::Allocator;
 use std::marker::Model;
 
-// An element that is not there, as long as an array has not the most elements.
+// An element that is not there, unless an array has the most elements.
 const NOBODY: u32 = 65_535;
 
 /// A desk that has to be opened before anything is handed in. Element 0 opens it, element 1 hands something in, and element 2 is
-/// the desk. The fault: what is handed in before is sent on to an element that is not there.
+/// the desk. The fault: what is handed in before that is sent on to an element that is not there.
 #[derive(Drop)]
 pub(crate) struct Desk {
     opened: u32,

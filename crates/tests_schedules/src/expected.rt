@@ -1,4 +1,5 @@
-//! What a seed has to lead to: lists of events that a program outside drew, benches/schedules/slow_schedule.py.
+//! What a seed has to lead to: lists of events that a separate program drew,
+//! benches/schedules/slow_schedule.py.
 
 /// Tallies on some PEs: the amounts of each, and its bytes of padding.
 #[derive(Clone, Copy)]

@@ -1,4 +1,4 @@
-//! What the tests are made of: numbers, and an assertion over a row. What can't be made ends the test.
+//! What the tests use: numbers, and an assertion over a row. A value that cannot be made ends the test.
 
 ghost use Rattle.std.specs.Prelude.{◌≡◌, true};
 
@@ -9,14 +9,14 @@ use std::fmt::Debug;
 use std::process::Abort;
 use tally::Tally;
 
-/// Ends the test where this does not hold, with what it was to hold for.
+/// Ends the test where this does not hold, and shows the row that it should hold for.
 pub(crate) fn assert_for<R: Debug + Copy>(rt: &impl Abort, holds: bool, row: R)
     ensures held { holds ≡ true }
 {
     assert!(rt; holds, "{row:?}");
 }
 
-/// Ends the test where these are not the same texts, with both.
+/// Ends the test where these are not the same texts, and shows both.
 pub(crate) fn expect_text(rt: &impl Abort, found: &str, want: &str) {
     assert_for(rt, found == want, (found, want));
 }

@@ -1,4 +1,4 @@
-//! A fault that only one order of two letters brings out: found by seeds, shrunk, and repeated.
+//! A fault that only one order of two letters reveals: found by seeds, shrunk, and repeated.
 
 ghost use Rattle.std.specs.Prelude.{◌≡◌, IfOk};
 
@@ -36,7 +36,7 @@ impl<A: Allocator + Copy> Cast<Desk, A> for Desks {
     }
 }
 
-// A run that ended since a letter went to nobody.
+// A run that ended because a letter went to nobody.
 #[derive(Drop)]
 struct LostLetter;
 
@@ -79,7 +79,7 @@ fn a_lost_letter_is_found_shrunk_and_repeated(rt: HostRuntime) {
     let events = explored.events(rt.alloc()).expect(&rt, "out of memory");
     let found = shrink(rt.alloc(), &schedule, &Desks, &events, &LostLetter);
     let least = found.expect(&rt, "refused").expect(&rt, "not bad");
-    // Elements 1 and 2 start, and the letter of element 1 is looked for, put into the queue, taken from it and executed.
+    // Elements 1 and 2 start, and the letter of element 1 is looked up, put into the queue, taken from it and executed.
     assert_for(&rt, least.steps().len() == 5, (seed, least.steps().len()));
     assert_for(&rt, least.refused() == Some(Event::Act(pe(&rt, 0))), seed);
     let events = least.events(rt.alloc()).expect(&rt, "out of memory");

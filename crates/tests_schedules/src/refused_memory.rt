@@ -10,7 +10,7 @@ use tests_fixtures::Refusing;
 // The run makes fewer requests.
 const MOST_TURNS: u64 = 5_000;
 
-// How often a run did not begin or was given up, and how often it ended early.
+// How often a run did not begin or returned an error, and how often it ended early.
 #[derive(Default, Drop)]
 struct Counts {
     refused: u64,

@@ -1,4 +1,4 @@
-//! Runs by eleven seeds, beside the lists of events that a program outside drew.
+//! Runs by eleven seeds, compared with the lists of events that a separate program drew.
 
 use crate::expected::{LISTED, Listed, Work};
 use crate::fixtures::{assert_for, expect_text};
@@ -72,7 +72,7 @@ fn each_seed_leads_to_its_list(rt: HostRuntime) {
     }
 }
 
-// The first outputs of SplitMix64 that is seeded with 1234567, as they are published; the third is 0.532 times 2^64.
+// The first outputs of SplitMix64 with the seed 1234567, as published; the third is 0.532 times 2^64.
 #[test]
 fn the_generator_gives_the_published_numbers(rt: HostRuntime) {
     let mut numbers = SplitMix64::new(1_234_567);

@@ -1,4 +1,4 @@
-//! Runs without chares, and of as many as there may be.
+//! Runs without chares, and with the most that there may be.
 
 use crate::desk::Desk;
 use crate::fixtures::assert_for;

@@ -82,7 +82,7 @@ fn each_seed_and_bias_ends_the_worked_run_as_threads_do(rt: HostRuntime) {
     }
 }
 
-// Whether two runs have the same steps, and leave the same account, words and places.
+// Whether two runs have the same steps, and leave the same account, location words and places.
 fn expect_same(rt: &impl Abort, first: &Explored<Tally>, again: &Explored<Tally>, seed: u64) {
     assert_for(rt, first.steps().len() == again.steps().len(), seed);
     for (one, other) in first.steps().iter().zip(again.steps()) {
@@ -109,7 +109,7 @@ fn a_run_is_repeated_by_its_events(rt: HostRuntime) {
     }
 }
 
-// What a replay of these events on two PEs comes to: how many happened.
+// The result of a replay of these events on two PEs: how many happened.
 fn replayed(rt: &(impl Abort + AllocGlobal), events: &[Event]) -> Result<usize, ReplayError> {
     let chares = tallies(rt.alloc()).expect(rt, "out of memory");
     let run = replay(rt.alloc(), &Schedule::usual(2), chares, events)?;

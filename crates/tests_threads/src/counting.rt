@@ -3,7 +3,7 @@
 use chare_index::Gate;
 use std::sync::atomic::{AtomicU64, Ordering};
 
-/// Counts its calls by workers 0, 1 and 2, and those by anybody else.
+/// Counts its calls by workers 0, 1 and 2, and those by any other number.
 #[derive(Drop)]
 pub(crate) struct Counting {
     first: AtomicU64,
@@ -34,7 +34,8 @@ impl Counting {
         }
     }
 
-    /// Whether each of the first so many workers, 0 to 3, has called it, as often as worker 0, and nobody else has.
+    /// Whether each of the first `workers` workers, 0 to 3, has called it, as often as worker 0, and nobody else
+    /// has.
     pub(crate) fn counts_first(&self, workers: u64) -> bool {
         let often = self.first.load(Ordering::SeqCst);
         let second = self.second.load(Ordering::SeqCst);

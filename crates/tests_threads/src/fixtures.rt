@@ -1,4 +1,4 @@
-//! What the tests start from, and an assertion over a row.
+//! What the tests begin with, and an assertion over a row.
 
 ghost use Rattle.std.specs.Prelude.{◌≡◌, ◌<◌, true, IfOk};
 ghost use Rattle.at_sync.specs.declared.strategy.Strategy.TheVariants.{Least};
@@ -11,7 +11,7 @@ use std::alloc::{AllocError, Allocator};
 use std::fmt::Debug;
 use std::process::Abort;
 
-/// Ends the test where this does not hold, with what it was to hold for.
+/// Ends the test where this does not hold, and shows the row that it should hold for.
 pub(crate) fn assert_for<R: Debug + Copy>(rt: &impl Abort, holds: bool, row: R)
     ensures held { holds ≡ true }
 {

@@ -16,7 +16,7 @@ use std::thread::{self, Threads};
 use tests_fixtures::{pe, round};
 use worker_threads::{Crew, Ended, Work};
 
-// A worker with one element, which stands on the PE of the same number, and the places that it has copied.
+// A worker with one element, which is on the PE of the same number, and the places that it has copied.
 #[derive(Drop)]
 struct Waiting<J: BoardSize> {
     element: u32,
@@ -87,7 +87,7 @@ fn both<J: BoardSize>(alloc: Global, pes: u32) -> Result<VecDeque<Waiting<J>>, A
     Ok(workers)
 }
 
-// Whether each worker has learnt that its element stays.
+// Whether each worker has learned that its element stays.
 fn all_stay<J: BoardSize>(workers: &VecDeque<Waiting<J>>) -> bool {
     for worker in workers {
         let stands = pe(worker.element % 2);

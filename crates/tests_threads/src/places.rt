@@ -45,7 +45,7 @@ fn copies<J: BoardSize, A: Allocator + Copy>(
     early && decided && later && board.copy_places(round(1), places)
 }
 
-// Whether both elements have the place where they stood, and no other has one.
+// Whether both elements have the place where they were, and no other has one.
 pub(crate) fn both_stay<J: BoardSize, A: Allocator>(places: &RoundPlaces<J, A>) -> bool {
     let zero = places.place_of(index(0)) == Some(pe(0));
     let one = places.place_of(index(1)) == Some(pe(1));

@@ -1,5 +1,5 @@
-//! Memory: refused where a round is decided and where room is taken, one request after the other, and taken nowhere
-//! else.
+//! Memory: refused where a round is decided and where capacity is reserved, one request after the other, and taken
+//! nowhere else.
 
 ghost use Rattle.std.specs.Prelude.{◌≡◌};
 ghost use Rattle.at_sync.specs.declared.strategy.Strategy.TheVariants.{Least};
@@ -17,10 +17,10 @@ use std::test::Fail;
 use tests_fixtures::{Failure, Outcome, Refusing, each_refusal, pe, round};
 use worker_threads::Crew;
 
-// No call here makes as many requests.
+// No call here makes this many requests.
 const MOST_TURNS: u64 = 40;
 
-// What the result of a decision comes to. Where it is refused there is no place yet.
+// The outcome of a decision. Where it is refused there is no place yet.
 fn comes_to<J: BoardSize, R: Wait, A: Allocator>(
     rt: &R,
     barrier: &Barrier<J, A>,
@@ -34,7 +34,7 @@ fn comes_to<J: BoardSize, R: Wait, A: Allocator>(
     }
 }
 
-// The same. Where it was refused, the same call now decides the round.
+// The same; where the decision was refused, the same call now decides the round.
 fn asked_again<J: BoardSize, R: Wait, A: Allocator + Copy>(
     rt: &R,
     barrier: &Barrier<J, A>,
@@ -49,7 +49,7 @@ fn asked_again<J: BoardSize, R: Wait, A: Allocator + Copy>(
     }
 }
 
-// What a round of two elements comes to.
+// The outcome of a round of two elements.
 fn decides<J: BoardSize, R: Wait, A: Allocator + Copy>(rt: &R, alloc: A) -> Outcome
     requires elements { J.elements ≡ 2 }
     requires pes { J.pes ≡ 2 }
@@ -81,7 +81,7 @@ fn a_refused_decision_is_told_and_made_again(rt: HostRuntime) -> Result<(), Fail
     Ok(())
 }
 
-// What room for the places of a round on two PEs comes to.
+// The outcome of reserving capacity for the places of a round on two PEs.
 fn has_room<J: BoardSize, A: Allocator + Copy>(alloc: A, pes: u32) -> Outcome
     requires { pes ≡ J.pes }
 {
@@ -97,7 +97,7 @@ fn has_room_so(alloc: &Refusing<Global>) -> Outcome {
     has_room::<Brand, _>(alloc, 2)
 }
 
-// What room for five workers comes to.
+// The outcome of reserving capacity for five workers.
 fn has_crew(alloc: &Refusing<Global>) -> Outcome {
     match Crew::<Added, _>::with_capacity(alloc, 5) {
         Ok(crew) if crew.capacity() == 5 => Outcome::Right,

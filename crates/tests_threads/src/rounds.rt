@@ -22,19 +22,19 @@ use tests_fixtures::{pe, round};
 // What elements report in a round, and what has to be decided for them.
 struct Case<'a> {
     number: u32,
-    // What each has for a load, how many bytes it packs into, and on which PE it stands.
+    // The load of each element, how many bytes it packs into, and the PE on which it is.
     reports: [(Units, u32, u32); 3],
     bottleneck: Units,
     cuts: [u32; 3],
     names: [u32; 2],
     moved: u64,
-    // Each element that moves, with where it stands and where it goes.
+    // Each element that moves, with the PE where it is and the one where it goes.
     moves: &'a [(u32, u32, u32)],
     // Where each is to run.
     places: [u32; 3],
 }
 
-// Of 2, 9 and 4 the cut behind 9 leaves the greater part the lesser, 11. Of the two namings one moves element 0, of 10 bytes,
+// Of 2, 9 and 4 the cut after 9 makes the greater part the least, 11. Of the two namings one moves element 0, of 10 bytes,
 // and the other elements 1 and 2, of 30 and 5.
 const FIRST: Case<'static> = Case {
     number: 1,
@@ -47,7 +47,7 @@ const FIRST: Case<'static> = Case {
     places: [1, 1, 0],
 };
 
-// Of 5, 3 and 3 it is the cut behind 5, with 6. One naming moves elements 0 and 2, of 10 and 6 bytes, the other element 1, of
+// Of 5, 3 and 3 it is the cut after 5, with 6. One naming moves elements 0 and 2, of 10 and 6 bytes, the other element 1, of
 // 31.
 const SECOND: Case<'static> = Case {
     number: 2,
@@ -73,7 +73,7 @@ enum Way {
 
 const WAYS: [Way; 3] = [Way::Alone, Way::OneWorker, Way::ThreeWorkers];
 
-// Decides the present round so.
+// Decides the present round in this way.
 fn decide<J: BoardSize, R: Threads + Wait + Sync, A: Allocator + Copy>(
     rt: &R,
     barrier: &Barrier<J, A>,
@@ -87,7 +87,7 @@ fn decide<J: BoardSize, R: Threads + Wait + Sync, A: Allocator + Copy>(
     }
 }
 
-// Whether this gate has seen those that search for a division so: nobody, worker 0, or workers 0 to 2.
+// Whether the workers that search for a division have passed this gate: nobody, worker 0, or workers 0 to 2.
 fn has_seen(gate: &Counting, way: Way) -> bool {
     match way {
         Way::Alone => gate.counts_first(0),
@@ -96,7 +96,7 @@ fn has_seen(gate: &Counting, way: Way) -> bool {
     }
 }
 
-// What the report of element `i` of these comes to.
+// The result of the report of element `i` of these.
 fn report<J: BoardSize, R: Wait, A: Allocator>(
     rt: &R,
     barrier: &Barrier<J, A>,
@@ -252,7 +252,7 @@ fn is_right<A: Allocator>(snapshot: &Snapshot<A>, decision: &Refined<A>, case: &
         && check(snapshot, 2, decision).is_ok()
 }
 
-// Whether the board kept just these two rounds, and is in the third, which nobody has reported.
+// Whether the board kept just these two rounds, and is in the third, in which nobody has reported.
 fn keeps_both<A: Allocator>(board: &Board<A>) -> bool {
     let [(taken, decided), (taken_next, decided_next)] = board.rounds() else {
         return false;

@@ -27,7 +27,7 @@ impl Work for Adder {
     }
 }
 
-// What it ends as.
+// What an adder ends as.
 #[derive(Drop)]
 pub(crate) struct Added {
     number: u32,
@@ -63,7 +63,7 @@ pub(crate) fn adders<A: Allocator>(
     Ok(adders)
 }
 
-// Lets them add, and gives their sum, and what they ended as.
+// Lets them add, and returns their sum, and what they ended as.
 pub(crate) fn add_all<R: Threads + Wait, A: Allocator>(
     rt: &R,
     crew: Crew<Added, A>,
@@ -105,7 +105,7 @@ fn five_workers_come_back_in_order(rt: HostRuntime) -> Result<(), Fail> {
     Ok(())
 }
 
-// What an adder ends as that also says how it began.
+// What a worker ends as that also says how it began.
 #[derive(Drop)]
 struct Began {
     number: u32,
@@ -145,7 +145,7 @@ impl Starts for NotFor {
     }
 }
 
-// Lets workers say how they begin, of which one gets no thread.
+// Lets workers say how they begin, where one of them gets no thread.
 fn begin_all<R: Threads + Wait>(
     rt: &R,
     crew: Crew<Began>,
@@ -168,7 +168,8 @@ fn begin_all<R: Threads + Wait>(
     crew.run_where(rt, &begin, &stop, &NotFor(refused), adders)
 }
 
-// Whether each began as it should: the one that got no thread once all were to stop, and it alone knows that it got none.
+// Whether each began as it should: the one without a thread began after the stop flag was set, and it alone knows that it
+// had none.
 fn began_so(done: &VecDeque<Began>, refused: u32) -> bool {
     let mut all = true;
     for began in done {

@@ -1,4 +1,4 @@
-//! What is in a trace, by the reader of JSON.
+//! What is in a trace, counted through the reader of JSON.
 
 use lb_certificates::Snapshot;
 use lb_refinement::Refined;
@@ -10,7 +10,7 @@ use std::fmt::Debug;
 use std::process::Abort;
 use trace_events::{events_text, trace_of};
 
-/// Ends the test where this does not hold, with what it was to hold for.
+/// Ends the test where this does not hold, and shows the row that it should hold for.
 pub(crate) fn assert_for<R: Debug + Copy>(rt: &impl Abort, holds: bool, row: R) {
     assert!(rt; holds, "{row:?}");
 }
@@ -36,7 +36,7 @@ pub(crate) fn count(events: &[Value], phase: &str, name: &str) -> u64 {
     count
 }
 
-/// What a run has had, of which its trace has to have as many events.
+/// What happened in a run; its trace has to have this many events of each.
 #[derive(Clone, Copy)]
 pub(crate) struct Expected {
     pub(crate) pes: u64,
@@ -102,7 +102,7 @@ fn expect_arrows(rt: &impl Abort, events: &[Value]) {
     }
 }
 
-// Whether the arrow that ends at this place has begun in one of the events before it.
+// Whether the arrow that ends at this index has begun in one of the events before it.
 fn has_begun(end: &Value, events: &[Value], place: usize) -> bool {
     for event in events.iter().take(place) {
         let same = text_of(event, "name") == text_of(end, "name")

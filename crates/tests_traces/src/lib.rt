@@ -1,5 +1,5 @@
-//! Tests of traces: of a run over threads and of one by a seed, read back and counted; with memory refused, a clock that fails, and
-//! a writer that does.
+//! Tests of traces: of a run over threads and of one by a seed, read back and counted; with memory refused, a clock that fails,
+//! and a writer that fails.
 #![tactic(auto)]
 
 #[cfg(test)]

@@ -35,7 +35,7 @@ fn recorded<R: Clock + Wait, A: Allocator + Copy>(
     Ok(recorder.into_timeline()?)
 }
 
-// Whether it is what it has to be, in order of time.
+// Whether the timeline is as it should be, in order of time.
 fn is_recorded<A: Allocator>(timeline: &Timeline<A>) -> bool {
     let (Some(pe), Some(element), Some(round)) = (Pe::new(1), Index::new(4), Round::new(1)) else {
         return false;

@@ -20,7 +20,7 @@ fn chain<'a>(cells: &'a [u32]) -> Chain<'a> {
     }
 }
 
-// A run on so many PEs, traced, and what its trace has to have.
+// A run on this number of PEs, traced, and what its trace has to have.
 fn expect_run<R: Threads + Wait + Sync + Clock + Abort + AllocGlobal>(rt: &R, pes: u32) {
     let recorder = Recorder::new(rt, rt.alloc()).expect(rt, "no recorder");
     let config = Config::usual(pes);

@@ -14,7 +14,7 @@ use std::process::Abort;
 use tests_fixtures::{Outcome, Refusing, each_refusal, pe};
 use workload_run::{Driven, DumpFormat, NotWritten, write_asked, write_dumps};
 
-// What came of the dumps of some rounds: the first that was not written, how many files were asked for, how many calls
+// The result of the dumps of some rounds: the first that was not written, how many files were requested, how many calls
 // there were, and what the files hold that were made.
 #[derive(Drop)]
 struct Ending {
@@ -24,7 +24,7 @@ struct Ending {
     files: Vec<Vec<u8>>,
 }
 
-// Writes the dumps of some rounds, where this goes wrong.
+// Writes the dumps of some rounds, with these faults.
 fn dumped(
     rt: &(impl Abort + AllocGlobal),
     rounds: &[Round],
@@ -62,7 +62,7 @@ fn hold_the_same(files: &[Vec<u8>], others: &[Vec<u8>]) -> bool {
     same
 }
 
-// Whether a refused file, of the two of the worked workload, is the last one, and the one before it has its dump.
+// Whether the refused file, of the two of the worked workload, is the last one, and the one before it has its dump.
 fn is_refused(
     rt: &(impl Abort + AllocGlobal),
     rounds: &[Round],
@@ -183,8 +183,8 @@ fn are_cut(files: &[Vec<u8>], whole: &[Vec<u8>]) -> bool {
     hold_the_same(earlier, same) && text.starts_with(last) && last.len() < text.len()
 }
 
-// Whether a call that fails with an error of this kind, or takes nothing, is the last of all, in the file that it is one of,
-// and all that went before it was written.
+// Whether a call that fails with an error of this kind, or takes nothing, is the last of all, in the file that it writes to,
+// and everything before it was written.
 fn is_cut(
     rt: &(impl Abort + AllocGlobal),
     rounds: &[Round],
@@ -235,7 +235,7 @@ fn a_call_that_fails_is_the_last(rt: HostRuntime) {
     drop(driven);
 }
 
-// Whether a flush that fails is reported of the first dump, of which all was written.
+// Whether a flush that fails is reported of the first dump, the whole of which was written.
 fn is_unflushed(rt: &(impl Abort + AllocGlobal), rounds: &[Round], format: DumpFormat) -> bool {
     let faults = Faults {
         flush: Some(ErrorKind::Other),
@@ -313,7 +313,7 @@ fn a_load_that_is_too_great_for_the_format(rt: HostRuntime) {
     assert!(rt; refused && written);
 }
 
-// What comes of the dump of a round, where memory may be refused.
+// The outcome of the dump of a round, where memory may be refused.
 fn comes_of<A: Allocator + Copy>(
     global: Global,
     alloc: A,
@@ -357,7 +357,7 @@ fn requests(global: Global, format: Option<DumpFormat>) -> Option<u64> {
     each_refusal(global, 200, |alloc| attempt(global, alloc, format)).ok()
 }
 
-// In the format LBD1 memory is asked for twice, for the prefix and for the whole name; in the format LBD2 also for a copy of
+// In the format LBD1 memory is requested twice, for the prefix and for the whole name; in the format LBD2 also for a copy of
 // eight lists: the loads, the sizes, the cuts, the stops, the names, the prices of blocks and of PEs, and the moves.
 #[test]
 fn each_request_of_a_dump(rt: HostRuntime) {

@@ -234,7 +234,7 @@ fn the_decisions_of_a_run_are_read_back(rt: HostRuntime) {
     }
 }
 
-// Whether a dump in the format LBD1 is read back as the snapshot of a row alone.
+// Whether a dump in the format LBD1 is read back as only the snapshot of a row.
 fn is_read_alone(rt: &(impl Abort + AllocGlobal), text: &[u8], row: &Row) -> bool {
     let dump = decode(rt.alloc(), text).expect(rt, "it is a dump");
     let right = dump.recorded().is_none() && is_taken(dump.snapshot(), row);
@@ -260,7 +260,7 @@ const REPLAYED: &str = "step 1 procs 2 elements 4\n\
     block 1 1..4 load 4 pe 1\n\
     moved 40\n";
 
-// Whether a replay of this dump prints that.
+// Whether a replay of this dump prints this text.
 fn is_replayed(rt: &(impl Abort + AllocGlobal), dump: &[u8]) -> bool {
     let mut reader = dump;
     let mut told = Vec::new(rt.alloc());
@@ -281,7 +281,7 @@ fn the_first_dump_replays_to_the_decision(rt: HostRuntime) {
 // How a check of a dump ends, and its line.
 type Verdict<'a> = (Ended, &'a str);
 
-// Whether a check of the dumps of both rounds of the worked workload comes to this.
+// Whether a check of the dumps of both rounds of the worked workload ends so.
 fn are_checked<R: Threads + Wait + Sync + Abort + AllocGlobal>(
     rt: &R,
     format: DumpFormat,
@@ -296,7 +296,7 @@ fn are_checked<R: Threads + Wait + Sync + Abort + AllocGlobal>(
     right
 }
 
-// Whether a check of this dump comes to this.
+// Whether a check of this dump ends so.
 fn is_checked(rt: &(impl Abort + AllocGlobal), dump: &[u8], verdict: Verdict<'_>) -> bool {
     let (ended, line) = verdict;
     let mut reader = dump;

@@ -11,7 +11,7 @@ use tests_fixtures::{Sink, Source};
 use workload::WorkError;
 use workload_run::{Driven, Ended, drive};
 
-// What is written where the reader of the worked workload fails at this byte, and how that ends.
+// What is written where the reader of the worked workload fails at this byte, and how the run ends.
 fn cut_off<R: Threads + Wait + Sync + Abort + AllocGlobal>(
     rt: &R,
     at: usize,

@@ -1,4 +1,4 @@
-//! Workloads in files: one that is opened, one that is not, one whose read fails, and who looks on.
+//! Workloads in files: one that is opened, one that is not, one whose read fails, and the onlooker of a run.
 
 use crate::fixtures::{TURNS, WORKED, WORKED_TEXT, assert_for};
 use chare_index::Round;
@@ -41,7 +41,8 @@ impl Onlooker for Seen {
     }
 }
 
-// Whether the run of a file ends so, with this reason and this text, and who looks on sees so many rounds.
+// Whether the run of a file ends so, with this reason and this text, and the onlooker sees this number of
+// rounds.
 fn ends<R: Threads + Wait + Sync + Abort + AllocGlobal>(
     rt: &R,
     file: io::Result<Source<'_>>,
@@ -83,7 +84,7 @@ fn files_and_their_reasons(rt: HostRuntime) {
     assert_for(&rt, failed, "its read fails");
 }
 
-// What is told of a file `f` with this reason.
+// What is printed about a file `f` with this reason.
 fn told(rt: &impl AllocGlobal, reason: Option<Error>, faulty: bool) -> (bool, Vec<u8>) {
     let advice = Advice {
         program: "run",
@@ -95,7 +96,7 @@ fn told(rt: &impl AllocGlobal, reason: Option<Error>, faulty: bool) -> (bool, Ve
     (all, line)
 }
 
-// Whether all was told, and is this line.
+// Whether the whole line was printed, and is this one.
 fn is_told(found: &(bool, Vec<u8>), line: &str) -> bool {
     found.0 && found.1.as_slice() == line.as_bytes()
 }

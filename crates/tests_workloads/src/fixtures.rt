@@ -1,4 +1,4 @@
-//! What the tests here are made of: the worked workload, and runs from bytes to bytes.
+//! What the tests here use: the worked workload, and runs from bytes to bytes.
 
 ghost use Rattle.std.specs.Prelude.{◌≡◌, true};
 
@@ -20,17 +20,17 @@ pub(crate) const WORKED_TEXT: &str = "round 1 bottleneck 6 moved 40\n\
     sums 8 3 3 4\n\
     posted 8 executed 8 held 0\n";
 
-/// After how many idle turns a worker gives up.
+/// The number of idle turns after which a worker gives up.
 pub(crate) const TURNS: u64 = 1_000_000_000;
 
-/// Ends the test where this does not hold, with what it was to hold for.
+/// Ends the test where this does not hold, and shows the row that it should hold for.
 pub(crate) fn assert_for<R: Debug + Copy>(rt: &impl Abort, holds: bool, row: R)
     ensures held { holds ≡ true }
 {
     assert!(rt; holds, "{row:?}");
 }
 
-/// What came of a workload, and what was written.
+/// The result of a workload, and what was written.
 pub(crate) fn driven<R: Threads + Wait + Sync + Abort + AllocGlobal>(
     rt: &R,
     workload: &[u8],
@@ -48,7 +48,7 @@ pub(crate) fn driven<R: Threads + Wait + Sync + Abort + AllocGlobal>(
     (driven, text)
 }
 
-/// Whether the run of a workload ends so, with this status, and writes just this.
+/// Whether the run of a workload ends so, with this status, and writes exactly this.
 pub(crate) fn tells<R: Threads + Wait + Sync + Abort + AllocGlobal>(
     rt: &R,
     workload: &[u8],

@@ -53,7 +53,7 @@ impl Store {
         Ok(number)
     }
 
-    // Takes these bytes, of the file with this number.
+    // Takes these bytes for the file with this number.
     fn take(&self, number: usize, buf: &[u8]) -> io::Result<()> {
         let Ok(mut files) = self.files.try_borrow_mut() else {
             return Err(Error::from(ErrorKind::Other));

@@ -1,5 +1,5 @@
 //! Tests of workloads: texts and their faults, whole runs from bytes to bytes, their dumps, refused memory, readers and
-//! writers that fail, the examples, and random workloads beside a plain count.
+//! writers that fail, the examples, and random workloads compared with a plain count.
 #![tactic(auto)]
 
 #[cfg(test)]

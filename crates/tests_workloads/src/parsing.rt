@@ -11,7 +11,7 @@ fn fault_of(rt: &impl AllocGlobal, text: &[u8]) -> Option<WorkError> {
     Workload::<Global>::parse(rt.alloc(), text).err()
 }
 
-// The fault of a text that is read so many bytes at once.
+// The fault of a text that is read this number of bytes at a time.
 fn fault_in_pieces(rt: &impl AllocGlobal, text: &[u8], at_once: usize) -> Option<WorkError> {
     let mut reader = Source::new(text, at_once, None);
     Workload::<Global>::read_from(rt.alloc(), &mut reader).err()
@@ -47,7 +47,7 @@ fn the_worked_workload_is_read(rt: HostRuntime) {
     assert!(rt; right);
 }
 
-// How many lines of the worked workload are whole in its first bytes, so many.
+// How many lines of the worked workload are complete in its first `len` bytes.
 fn whole_lines(len: usize) -> u32 {
     let mut lines: u32 = 0;
     for byte in &WORKED[..len.min(WORKED.len())] {
@@ -223,7 +223,7 @@ fn a_text_near_the_limit_is_read(rt: HostRuntime) {
     assert!(rt; short && read);
 }
 
-// More than a megabyte, with a call for each byte: the bound on calls leaves room for that.
+// More than a megabyte, with a call for each byte: the limit of calls allows that.
 #[test]
 fn a_megabyte_is_read_byte_by_byte(rt: HostRuntime) {
     const HEAD: &[u8] = b"pes 1\nrounds 2\npad 0\nchares 65536\n";

@@ -118,14 +118,15 @@ fn ending(alloc: Global, drawn: &Drawn, size: &Size) -> Result<String, AllocErro
     Ok(text)
 }
 
-// Whether a dump records this plan, for so many PEs.
+// Whether a dump records this plan, for this number of PEs.
 fn is_plan(dump: &Dump<Global>, pes: u32, plan: &Decision) -> bool {
     dump.recorded().map_or(false, |recorded| {
         recorded.target == pes && recorded.decision == *plan
     })
 }
 
-// Whether the dump of a round, in the format LBD2, is read back as that round, with a right decision on so many PEs.
+// Whether the dump of a round, in the format LBD2, is read back as that round, with a right decision on this number
+// of PEs.
 fn is_recorded(rt: &(impl Abort + AllocGlobal), round: &Round, pes: u32) -> bool {
     let text = text_of(rt, round, DumpFormat::Lbd2);
     let dump = decode(rt.alloc(), &text).expect(rt, "it is a dump");
@@ -176,7 +177,7 @@ fn expect_counted<R: Threads + Wait + Sync + Abort + AllocGlobal>(
     drop(drawn);
 }
 
-// How many rounds are decided: without chares none.
+// How many rounds are decided: none without chares.
 fn expected(size: &Size) -> usize {
     if size.chares == 0 {
         return 0;

@@ -9,7 +9,7 @@ use tests_fixtures::{Outcome, Refusing, each_refusal};
 use workload::{WorkError, Workload};
 use workload_run::{Ended, drive};
 
-// No run here makes as many requests.
+// No run here makes this many requests.
 const MOST_TURNS: u64 = 2_000;
 
 // How often memory was refused before the run or after it, ended the run early, and did not matter.
@@ -20,7 +20,7 @@ struct Counts {
     well: u64,
 }
 
-// Whether the text has the line of a run that ended early for memory.
+// Whether the text has the line of a run that ended early because memory was refused.
 fn is_early(text: &[u8]) -> bool {
     let mut told = false;
     for line in text.split(|byte| *byte == b'\n') {
@@ -29,7 +29,7 @@ fn is_early(text: &[u8]) -> bool {
     told
 }
 
-// Counts how it ended, which goes with the text: well where no request was refused, and else not.
+// Counts how a run ended, which agrees with the text: well where no request was refused, and otherwise not.
 fn count(rt: &impl Abort, counts: &mut Counts, refused: bool, ended: Ended, text: &[u8]) {
     match ended {
         Ended::OutOfMemory => {

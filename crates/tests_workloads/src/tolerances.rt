@@ -11,7 +11,7 @@ use std::sync::Wait;
 use std::thread::Threads;
 use workload_run::{Driven, DumpFormat, drive};
 
-// The worked workload with rounds within so many thousandths, and what was written.
+// The worked workload with rounds within this number of thousandths, and what was written.
 fn driven_within<R: Threads + Wait + Sync + Abort + AllocGlobal>(
     rt: &R,
     thousandths: u32,

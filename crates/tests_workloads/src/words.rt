@@ -1,10 +1,10 @@
-//! The words of a command line that asks for the run of a workload.
+//! The arguments of a command line that asks for the run of a workload.
 
 use crate::fixtures::assert_for;
 use run_command_line::{Asked, Clash, NO_WORDS, Task, asked, refuse, words_status};
 use std::alloc::Global;
 
-// Words, and what they ask for; `None` where they are refused.
+// Arguments, and what they ask for; `None` where they are refused.
 type Row<'a> = (&'a [&'a str], Option<Asked<'a>>);
 
 // What is asked for where only the file is named.
@@ -21,7 +21,7 @@ const PLAIN: Asked<'static> = Asked {
     trace: None,
 };
 
-// The status for words that ask for no run, and what the others ask for.
+// The status for arguments that ask for no run, and what the others ask for.
 fn answer<'a>(alloc: Global, words: &'a [&'a str]) -> Result<Asked<'a>, u8> {
     match asked(alloc, words) {
         Ok(asked) => Ok(asked),
@@ -106,7 +106,8 @@ fn help_and_the_version_are_no_mistakes(rt: HostRuntime) {
     }
 }
 
-// Words for runs on one thread, and the task that they ask for, or which of them do not go together; `None` where they are refused.
+// Arguments for runs on one thread, and the task that they ask for, or which of them do not go together; `None` where they are
+// refused.
 type TaskRow<'a> = (&'a [&'a str], Option<Result<Task<'a>, Clash>>);
 
 #[test]

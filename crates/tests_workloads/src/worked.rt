@@ -68,7 +68,7 @@ fn the_first_snapshot_has_its_loads_and_places(rt: HostRuntime) {
     assert!(rt; right && text.as_slice() == WORKED_TEXT.as_bytes());
 }
 
-// A text that is no workload, its fault, and the line of that.
+// A text that is no workload, its fault, and the line for it.
 type Faulty<'a> = (&'a [u8], WorkError, &'a str);
 
 #[test]

@@ -1,4 +1,4 @@
-//! What letters say, and what elements are packed to, wherever they are on their way.
+//! What letters say, and the bytes of packed elements, wherever they are on their way.
 
 ghost use Rattle.std.specs.Prelude.{◌≡◌};
 
@@ -14,14 +14,14 @@ use std::process::Abort;
 use tests_chares::Relay;
 
 // What the letters of the three relays say: each goes to the neighbor, which hands the rest of it on to its own. With no
-// load all elements move to where the longest is.
+// load all elements move to the PE of the largest one.
 const FIRST: &[u8] = &[1, 10, 11, 12];
 
 const SECOND: &[u8] = &[1, 20, 21];
 
 const THIRD: &[u8] = &[1, 30];
 
-// The third relay, as it is packed: two rounds are left, and its body has two bytes.
+// The pack of the third relay: two rounds are left, and its body has two bytes.
 const THIRD_PACKED: &[u8] = &[0, 0, 0, 2, 0, 0, 0, 2, 1, 30];
 
 fn add_relay(rt: &(impl Abort + AllocGlobal), relays: &mut Vec<Relay>, body: &[u8]) {
@@ -37,7 +37,7 @@ fn three_relays(rt: &(impl Abort + AllocGlobal)) -> Vec<Relay> {
     relays
 }
 
-// A letter waits here, forwarded so often, and says this.
+// A letter waits here, forwarded this number of times, and says this.
 fn expect_waiting<H: Openings<Relay>>(
     rt: &(impl Abort + AllocGlobal),
     world: &World<Relay, H>,
@@ -52,7 +52,7 @@ fn expect_waiting<H: Openings<Relay>>(
     assert_for(rt, count(seen.as_slice(), one) == 1, body);
 }
 
-// What the letter in the hand of a PE says, or what the element there is packed to.
+// What the letter in the hand of a PE says, or the bytes of the packed element there.
 fn in_hand<'w, H: Openings<Relay>>(world: &'w World<Relay, H>, p: Pe) -> Option<&'w [u8]> {
     match &world.pe(p)?.hand()?.parcel {
         Carried::Letter(letter) => Some(letter.body()),
@@ -60,7 +60,7 @@ fn in_hand<'w, H: Openings<Relay>>(world: &'w World<Relay, H>, p: Pe) -> Option<
     }
 }
 
-// What the letter says that an element on this PE executed last, if that was what it did last.
+// What the letter says that an element on this PE executed last, if that was the last thing it did.
 fn executed_last<'w, H: Openings<Relay>>(
     world: &'w World<Relay, H>,
     p: Pe,
@@ -72,7 +72,7 @@ fn executed_last<'w, H: Openings<Relay>>(
     }
 }
 
-// What is found are these bytes.
+// These bytes are found.
 fn expect_bytes(rt: &impl Abort, found: Option<&[u8]>, want: &[u8]) {
     assert_for(rt, found == Some(want), (found, want));
 }
@@ -129,7 +129,7 @@ fn execute<H: Openings<Relay>>(rt: &(impl Abort + AllocGlobal), world: &mut Worl
     expect_waiting(rt, world, Place::Outbox(p0, None), (p0, 1), e1, 0, &[30]);
 }
 
-// The letter of PE 1 comes to PE 0 before its element, and waits on the shelf.
+// The letter of PE 1 arrives at PE 0 before its element, and waits on the shelf.
 fn shelve<H: Openings<Relay>>(rt: &(impl Abort + AllocGlobal), world: &mut World<Relay, H>) {
     let ((p0, p1, p2), e2) = (pes(rt), index(rt, 2));
     run(
@@ -168,7 +168,7 @@ fn install<H: Openings<Relay>>(rt: &(impl Abort + AllocGlobal), world: &mut Worl
     );
 }
 
-// The letter of PE 0 comes to PE 1 after its element has left, and is forwarded.
+// The letter of PE 0 arrives at PE 1 after its element has left, and is forwarded.
 fn forward<H: Openings<Relay>>(rt: &(impl Abort + AllocGlobal), world: &mut World<Relay, H>) {
     let (p0, p1, e1) = (pe(rt, 0), pe(rt, 1), index(rt, 1));
     run(

@@ -26,7 +26,7 @@ fn silent(seen: &[Seen]) -> usize {
     number
 }
 
-// Whether so many PEs that have posted nothing and so many decided rounds are all that is seen.
+// Whether this number of PEs that have posted nothing and this number of decided rounds are all that is seen.
 fn is_bare<H: Openings<Courier>>(
     rt: &(impl Abort + AllocGlobal),
     world: &World<Courier, H>,
@@ -58,7 +58,7 @@ fn is_of_nothing(decision: &Refined, pes: u32) -> bool {
         && decision.moves().as_slice().is_empty()
 }
 
-// Whether this round is decided, and so.
+// Whether this round is decided, and its decision is of nothing.
 fn has_decided<H: Openings<Courier>>(
     rt: &impl Abort,
     world: &World<Courier, H>,

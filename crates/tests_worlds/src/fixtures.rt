@@ -1,4 +1,4 @@
-//! What the tests are made of: numbers. What can't be made ends the test.
+//! What the tests use: numbers. A value that cannot be made ends the test.
 
 ghost use Rattle.std.specs.Prelude.{◌≡◌, true};
 
@@ -6,7 +6,7 @@ use chare_index::{Index, Pe, Round};
 use std::fmt::Debug;
 use std::process::Abort;
 
-/// Ends the test where this does not hold, with what it was to hold for.
+/// Ends the test where this does not hold, and shows the row that it should hold for.
 pub(crate) fn assert_for<R: Debug + Copy>(rt: &impl Abort, holds: bool, row: R)
     ensures held { holds ≡ true }
 {

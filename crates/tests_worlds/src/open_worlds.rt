@@ -12,7 +12,7 @@ use std::marker::Brand;
 use std::process::Abort;
 use tests_chares::Courier;
 
-// So many couriers.
+// This number of couriers.
 fn couriers(rt: &(impl Abort + AllocGlobal), n: u32) -> Vec<Courier> {
     let mut chares = Vec::new(rt.alloc());
     for _ in 0..n {
@@ -28,7 +28,7 @@ fn home(e: Index, pes: u32, n: u32) -> Option<Pe> {
     Pe::new(place)
 }
 
-// Whether an element stands on this PE, is looked for there, and has done nothing yet.
+// Whether an element is on this PE, is looked for there, and has done nothing yet.
 fn is_fresh_on<H: Openings<Courier>>(world: &World<Courier, H>, e: Index, home: Pe) -> bool {
     let Some(pe) = world.pe(home) else {
         return false;
@@ -42,7 +42,7 @@ fn is_fresh_on<H: Openings<Courier>>(world: &World<Courier, H>, e: Index, home: 
         && world.word(e) == Some(home)
 }
 
-// Whether each element stands fresh where it opens.
+// Whether each element is where it opens, and has done nothing yet.
 fn are_at_home<H: Openings<Courier>>(
     rt: &impl Abort,
     world: &World<Courier, H>,
@@ -63,7 +63,7 @@ fn is_sized<H: Openings<Courier>>(pe: &PeState<Courier, H>, me: Pe, pes: u32, n:
     pe.me() == me && pe.pes() == pes && pe.n() == n
 }
 
-// Whether there are so many PEs, each of which knows this, and so many elements in their rooms.
+// Whether there are this number of PEs, each of which knows this, and this number of elements in their rooms.
 fn has_size<H: Openings<Courier>>(world: &World<Courier, H>, pes: u32, n: u32) -> bool {
     let (mut sized, mut standing): (u32, usize) = (0, 0);
     for p in 0..256 {
@@ -78,7 +78,7 @@ fn has_size<H: Openings<Courier>>(world: &World<Courier, H>, pes: u32, n: u32) -
     world.pes() == pes as usize && sized == pes && standing == n as usize
 }
 
-// Whether a world of so many PEs opens with each of these chares where it belongs.
+// Whether a world of this number of PEs opens with each of these chares where it belongs.
 fn opens<H: Openings<Courier>>(
     rt: &(impl Abort + AllocGlobal),
     pes: u32,

@@ -1,5 +1,5 @@
 //! Random events over small worlds. After each of them every letter and every element is counted by hand where it is,
-//! and what was reported is held against the laws of the runtime.
+//! and the trace is checked against the laws of the runtime.
 
 ghost use Rattle.std.specs.Prelude.{◌≡◌};
 
@@ -21,13 +21,13 @@ mod account;
 mod draw;
 mod laws;
 
-// How often a world of each of the three chares is opened, and how many events are drawn in each of these. For a run
-// of 100,000 events take 112 turns.
+// How often a world of each of the three chares is opened, and how many events are drawn in each of these. 112 turns
+// make a run of 100,000 events.
 const TURNS: u32 = 16;
 
 const EVENTS: u32 = 300;
 
-// How often some things were reported.
+// How often some things are in the trace.
 #[derive(Default, Drop)]
 struct Happened {
     executed: u32,
@@ -53,7 +53,7 @@ impl Happened {
         }
     }
 
-    // Each of these was reported more than a few times.
+    // Each of these is in the trace more than a few times.
     fn often(&self, rt: &impl Abort) {
         expect_more(rt, self.executed, 50, "executed");
         expect_more(rt, self.forwarded, 5, "forwarded");
@@ -68,7 +68,7 @@ fn expect_more(rt: &impl Abort, number: u32, few: u32, what: &str) {
     assert_for(rt, number > few, (number, what));
 }
 
-// One event, with all that must be so after it.
+// One event, with everything that has to hold after it.
 fn happen<C: Chare<Global>, H: Openings<C>>(
     rt: &(impl Abort + AllocGlobal),
     world: &mut World<C, H>,

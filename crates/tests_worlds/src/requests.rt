@@ -1,4 +1,5 @@
-//! The requests for memory of each event: how many it makes, and what is left where one of them is refused.
+//! The requests for memory of each event: how many it makes, and that nothing changes where one of them is
+//! refused.
 
 ghost use Rattle.std.specs.Prelude.{◌≡◌};
 
@@ -15,7 +16,7 @@ use std::process::Abort;
 use tests_chares::Relay;
 use tests_fixtures::Refusing;
 
-// An event, its reports in order, and how many requests it makes.
+// An event, its trace entries in order, and how many requests it makes.
 type Counted<'a> = (Event, &'a [TraceEntry], u64);
 
 // An allocator, and its request that is refused, or 0 for none.
@@ -41,7 +42,7 @@ impl Meter<'_> {
     }
 }
 
-// Takes a step. Where it is refused, nothing has changed, and the same step then has its reports.
+// Takes a step. Where it is refused, nothing has changed, and the same step then has its trace entries.
 fn take_one<H: Openings<Relay<A>>, A: Allocator + Copy>(
     rt: &(impl Abort + AllocGlobal),
     meter: &Meter<'_>,
@@ -173,7 +174,7 @@ fn execute<H: Openings<Relay<A>>, A: Allocator + Copy>(
     );
 }
 
-// A letter comes before its element.
+// A letter arrives before its element.
 fn shelve<H: Openings<Relay<A>>, A: Allocator + Copy>(
     rt: &(impl Abort + AllocGlobal),
     meter: &Meter<'_>,
@@ -214,7 +215,7 @@ fn install<H: Openings<Relay<A>>, A: Allocator + Copy>(
     );
 }
 
-// A letter comes where its element was, and is forwarded.
+// A letter arrives where its element was, and is forwarded.
 fn forward<H: Openings<Relay<A>>, A: Allocator + Copy>(
     rt: &(impl Abort + AllocGlobal),
     meter: &Meter<'_>,
@@ -276,7 +277,7 @@ fn script<H: Openings<Relay<A>>, A: Allocator + Copy>(
     drop(world);
 }
 
-// The script where this request is refused, or none. It returns how many requests were made.
+// The script where this request is refused, or none. Returns how many requests were made.
 fn turn(rt: &(impl Abort + AllocGlobal), number: u64) -> u64 {
     let alloc = Refusing::new(rt.alloc(), number);
     let meter = Meter {

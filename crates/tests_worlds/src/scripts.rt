@@ -1,4 +1,4 @@
-//! Worlds of three tallies, event by event: a letter that comes before its element, and one that follows it.
+//! Worlds of three tallies, event by event: a letter that arrives before its element, and one that follows it.
 
 ghost use Rattle.std.specs.Prelude.{◌≡◌};
 
@@ -25,7 +25,7 @@ fn three_tallies<A: Allocator + Copy>(alloc: A) -> Result<Vec<Tally<A>, A>, PupE
     Ok(tallies)
 }
 
-// Adds a tally with this first amount, and so many bytes of padding.
+// Adds a tally with this first amount, and this number of bytes of padding.
 fn add_tally<A: Allocator + Copy>(
     alloc: A,
     tallies: &mut Vec<Tally<A>, A>,
@@ -51,7 +51,7 @@ fn start_one<H: Openings<Tally<A>>, A: Allocator + Copy>(
     take(rt, world, &[(Event::Start(p, e), &started)])
 }
 
-// The letter of this PE is looked for, and goes into a queue.
+// The letter of this PE is looked up, and goes into a queue.
 fn send<H: Openings<Tally<A>>, A: Allocator + Copy>(
     rt: &impl Abort,
     world: &mut World<Tally<A>, H, A>,
@@ -75,7 +75,7 @@ fn start<H: Openings<Tally<A>>, A: Allocator + Copy>(
     refused
 }
 
-// The first letter of PE `from` comes to its element on this PE, which executes it.
+// The first letter of PE `from` arrives at its element on this PE, which executes it.
 fn execute_one<H: Openings<Tally<A>>, A: Allocator + Copy>(
     rt: &impl Abort,
     world: &mut World<Tally<A>, H, A>,
@@ -144,7 +144,7 @@ fn is_fence<A: Allocator>(floor: &Floor<A>, want: &[u32]) -> bool {
     }
 }
 
-// Whether a decision is what the loads ask for: tallies 0 and 1 belong on PE 1, and tally 2 stays on PE 2.
+// Whether a decision is the one for these loads: tallies 0 and 1 belong on PE 1, and tally 2 stays on PE 2.
 fn is_first_decision<A: Allocator>(decision: &Refined<A>) -> bool {
     decision.bottleneck() == 1
         && decision.moved() == 32
@@ -164,7 +164,7 @@ fn is_first_snapshot<A: Allocator>(snapshot: &Snapshot<A>) -> bool {
         && (p0.get(), p1.get(), p2.get()) == (0, 1, 2)
 }
 
-// The first round is decided, on that snapshot and so.
+// The first round is decided in this way, on that snapshot.
 fn expect_decided<H: Openings<Tally<A>>, A: Allocator + Copy>(
     rt: &impl Abort,
     world: &World<Tally<A>, H, A>,
@@ -191,7 +191,7 @@ fn open<H: Openings<Tally<A>>, A: Allocator + Copy>(
     refused
 }
 
-// A letter to element 0 is looked for after that has departed, and comes before it.
+// A letter to element 0 is looked up after the element has departed, and arrives before it.
 fn overtake<H: Openings<Tally<A>>, A: Allocator + Copy>(
     rt: &impl Abort,
     world: &mut World<Tally<A>, H, A>,
@@ -241,7 +241,7 @@ fn come_before<H: Openings<Tally<A>>, A: Allocator + Copy>(
     refused
 }
 
-// A letter to element 0 is looked for before that departs, and comes where it was.
+// A letter to element 0 is looked up before the element departs, and arrives where it was.
 fn miss<H: Openings<Tally<A>>, A: Allocator + Copy>(
     rt: &impl Abort,
     world: &mut World<Tally<A>, H, A>,
@@ -323,7 +323,7 @@ fn a_letter_that_follows_its_element(rt: HostRuntime) {
     follows::<Brand>(&rt, chares);
 }
 
-// The first script, of a letter that comes before its element. Returns whether a step was refused.
+// The first script, of a letter that arrives before its element. Returns whether a step was refused.
 fn first_script<H: Openings<Tally<A>>, A: Allocator + Copy>(
     rt: &impl Abort,
     world: &mut World<Tally<A>, H, A>,
@@ -350,7 +350,7 @@ fn refused_once<H: Openings<Tally<A>>, A: Allocator + Copy>(
     refused
 }
 
-// The same, where the chares are made of that memory too.
+// The same, where the chares are made from the same memory.
 fn script<A: Allocator + Copy>(rt: &impl Abort, alloc: A) -> bool {
     let Ok(chares) = three_tallies(alloc) else {
         return true;

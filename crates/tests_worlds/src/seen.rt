@@ -1,4 +1,4 @@
-//! What is seen in a world, place by place, through the readers of its parts.
+//! What is seen in a world, place by place, through the calls that read its parts.
 
 use chare_index::{Index, Pe, Round};
 use chares::{
@@ -32,13 +32,13 @@ pub(crate) type Bytes = (usize, u64);
 pub(crate) enum Seen {
     /// A letter of this number, for this element, waits somewhere.
     Letter(LetterId, Index),
-    /// It waits here, forwarded so often, with this body.
+    /// It waits here, forwarded this number of times, with this body.
     Waits(Place, LetterId, Index, u32, Bytes),
     /// An element is somewhere.
     Element(Index),
     /// It is here.
     Stands(Place, Index),
-    /// It is on its way, packed so.
+    /// It is on its way, with these bytes.
     Packed(Index, Bytes),
     /// How far it has come.
     Progress(Index, Progress),
@@ -52,7 +52,7 @@ pub(crate) enum Seen {
     Note(Pe, Note),
     /// How many letters a PE has posted.
     Posts(Pe, u64),
-    /// The PE on which an element is looked for, and whether it has finished.
+    /// The location word of an element, and whether it has finished.
     Word(Index, Pe, Option<bool>),
     /// What an element is charged with in the present round, and what it has reported.
     Charged(Index, Option<Units>, Option<(u32, Pe)>),
@@ -112,7 +112,7 @@ fn add(rt: &impl Abort, seen: &mut Vec<Seen>, new: Seen) {
     seen.push(new).expect(rt, "out of memory");
 }
 
-// The word of each element, and what the board knows of it.
+// The location word of each element, and what the board knows of the element.
 fn add_words<C: Chare<A>, H: Openings<C>, A: Allocator>(
     rt: &impl Abort,
     seen: &mut Vec<Seen>,
@@ -154,7 +154,7 @@ fn add_pe<C: Chare<A>, H: Openings<C>, A: Allocator>(
     add_notes(rt, seen, p, pe);
 }
 
-// The elements that stand on a PE.
+// The elements in the room of a PE.
 fn add_room<C: Chare<A>, H: Openings<C>, A: Allocator>(
     rt: &impl Abort,
     seen: &mut Vec<Seen>,

@@ -12,10 +12,10 @@ use rts_core::{
 use std::alloc::{AllocError, Allocator};
 use std::process::Abort;
 
-/// An event, and its reports in order.
+/// An event, and its trace entries in order.
 pub(crate) type Step<'a> = (Event, &'a [TraceEntry]);
 
-/// The event that is step `at` of a script had just these reports.
+/// The event that is step `at` of a script had exactly these trace entries.
 pub(crate) fn expect_reports<A: Allocator>(
     rt: &impl Abort,
     at: usize,
@@ -28,8 +28,8 @@ pub(crate) fn expect_reports<A: Allocator>(
     assert_for(rt, reports == want && counted, (at, event, reports, want));
 }
 
-// Takes step `at` of a script, which has just these reports, and returns whether it was refused once for memory. Then the
-// account is as before, and the same event has its reports.
+// Takes step `at` of a script, which has exactly these trace entries, and returns whether it was refused once for memory.
+// Where it was, the account is unchanged, and the same event then has its trace entries.
 fn take_one<C: Chare<A>, H: Openings<C>, A: Allocator + Copy>(
     rt: &impl Abort,
     world: &mut World<C, H, A>,
@@ -53,7 +53,8 @@ fn take_one<C: Chare<A>, H: Openings<C>, A: Allocator + Copy>(
     true
 }
 
-/// Takes these steps in turn, each of which has just these reports, and returns whether one was refused for memory.
+/// Takes these steps in turn, each of which has exactly these trace entries, and returns whether one was refused for
+/// memory.
 pub(crate) fn take<C: Chare<A>, H: Openings<C>, A: Allocator + Copy>(
     rt: &impl Abort,
     world: &mut World<C, H, A>,
@@ -92,7 +93,7 @@ fn account<C: Chare<A>, H: Openings<C>, A: Allocator + Copy>(
     (count.posted, count.executed, count.held)
 }
 
-/// So many letters were posted, executed, and are held, both counted one by one and as the world counts.
+/// These numbers of letters were posted, executed, and are held, both counted one by one and as the world counts.
 pub(crate) fn expect_account<C: Chare<A>, H: Openings<C>, A: Allocator + Copy>(
     rt: &impl Abort,
     world: &World<C, H, A>,
@@ -151,7 +152,7 @@ impl Count {
         }
     }
 
-    // So of a parcel that a PE holds.
+    // Does the same for a parcel that a PE holds.
     fn held_parcel<A: Allocator>(&mut self, parcel: &HeldParcel<A>) {
         match parcel {
             Carried::Letter(_) => self.held = self.held.wrapping_add(1),

@@ -13,7 +13,7 @@ use std::marker::Brand;
 use std::process::Abort;
 use tests_chares::Courier;
 
-// A world of so many PEs that opens with these chares.
+// A world of this number of PEs that opens with these chares.
 fn world<H: Openings<Courier>>(
     rt: &(impl Abort + AllocGlobal),
     pes: u32,
@@ -25,7 +25,8 @@ fn world<H: Openings<Courier>>(
     opened::<Courier, H, Global>(rt, rt.alloc(), pes, chares).expect(rt, "out of memory")
 }
 
-// The first element starts, which sends what must not be sent: it is refused for that, and nothing has changed.
+// The first element starts, which sends what must not be sent: the start is refused with that error, and nothing
+// has changed.
 fn refused<H: Openings<Courier>>(
     rt: &(impl Abort + AllocGlobal),
     chares: Vec<Courier>,
@@ -84,7 +85,7 @@ fn start_and_sync<H: Openings<Courier>>(rt: &impl Abort, world: &mut World<Couri
     );
 }
 
-// The first element starts, though its send is refused, which it passes over.
+// The first element starts although its send is refused, which it passes over.
 fn starts<H: Openings<Courier>>(rt: &(impl Abort + AllocGlobal), chares: Vec<Courier>)
     requires run { H.pes ≡ 1 }
     requires opened { chares.items ≡ H.opened }
@@ -114,7 +115,7 @@ fn three_to(rt: &(impl Abort + AllocGlobal), to: u32) -> Vec<Courier> {
     chares
 }
 
-// None of these events has a report.
+// None of these events has a trace entry.
 fn expect_nothing<H: Openings<Courier>>(
     rt: &impl Abort,
     world: &mut World<Courier, H>,
@@ -284,7 +285,7 @@ fn all_wait<H: Openings<Courier>>(rt: &impl Abort, world: &mut World<Courier, H>
     );
 }
 
-// The letter of this PE comes to PE 0, before its element does.
+// The letter of this PE arrives at PE 0, before its element does.
 fn come_to_the_shelf<H: Openings<Courier>>(rt: &impl Abort, world: &mut World<Courier, H>, p: Pe) {
     let p0 = pe(rt, 0);
     run(
@@ -300,7 +301,7 @@ fn come_to_the_shelf<H: Openings<Courier>>(rt: &impl Abort, world: &mut World<Co
     );
 }
 
-// The letter of PE 2 comes to PE 0 just before its element, which then arrives.
+// The letter of PE 2 arrives at PE 0 just before its element, which then arrives.
 fn follow_to_the_shelf<H: Openings<Courier>>(rt: &impl Abort, world: &mut World<Courier, H>) {
     let (p0, p2, e2) = (pe(rt, 0), pe(rt, 2), index(rt, 2));
     run(
@@ -333,7 +334,8 @@ fn leave_the_shelf<H: Openings<Courier>>(rt: &impl Abort, world: &mut World<Cour
     );
 }
 
-// Letters to element 2 come to PE 0 before it does, from each PE, and are executed in the order in which they came.
+// Letters to element 2 arrive at PE 0 before it does, from each PE, and are executed in the order in which they
+// arrived.
 fn wait_on_the_shelf<H: Openings<Courier>>(rt: &(impl Abort + AllocGlobal), chares: Vec<Courier>)
     requires run { H.pes ≡ 3 }
     requires opened { chares.items ≡ H.opened }

@@ -31,10 +31,10 @@ lines_more events i d before old new inside were now = subst (λ es. AddsLines b
 pub behind_self : (xs : List TraceEvent) → IsBehind xs xs
 behind_self xs = ([], sym (append-nil xs))
 
--- more behind more
+-- more after more
 pub behind_more : (a b c : List TraceEvent) → IsBehind a b → IsBehind b c → IsBehind a c
 behind_more a b c first second = (first.0 ++ second.0, second.1 ∙ ap (λ xs. xs ++ second.0) first.1 ∙ append_assoc a first.0 second.0)
 
--- one event more
+-- one more event
 pub behind_one : (a b c : List TraceEvent) (event : TraceEvent) → IsBehind a b → c ≡ b ++ event ∷ [] → IsBehind a c
 behind_one a b c event first second = behind_more a b c first (event ∷ [], second)

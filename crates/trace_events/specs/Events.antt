@@ -44,7 +44,7 @@ work_kind (Resume r) = codes "handler"
 work_kind Depart = codes "move"
 work_kind Arrive = codes "move"
 
--- what is said of the work beside its element
+-- the data of the work, with its element
 abbrev pub work_data : Work → ℕ → Data
 work_data Start e = object (member (codes "element") (count e) no_members)
 work_data (Letter pe n) e = object (member (codes "element") (count e) (member (codes "letter") (string (letter_name pe n)) no_members))

@@ -4,13 +4,13 @@ use Rattle.serde_json.specs.Read.{read}
 use Rattle.trace_events.specs.declared.event.TraceEvent.{TraceEvent}
 use Rattle.trace_events.specs.Events.{event_data}
 
--- the second text is the first with a comma and a line more, which reads as this event
+-- the second text is the first with one more line after a comma, which reads as this event
 pub record AddsLine (old : List ℕ) (event : TraceEvent) (new : List ℕ) : Type 0 where
   pub line : List ℕ
   pub added : new ≡ old ++ (44 ∷ 10 ∷ line)
   pub reads : read line ≡ Some (event_data event)
 
--- the second text is the first with a line more for each of these events, in order
+-- the second text is the first with one more line for each of these events, in order
 pub data AddsLines (old : List ℕ) : List TraceEvent → List ℕ → Type 0 where
   none : AddsLines old [] old
   more : {events : List TraceEvent} {event : TraceEvent} {new newer : List ℕ} →

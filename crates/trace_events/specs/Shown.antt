@@ -12,7 +12,7 @@ use Rattle.trace_events.specs.declared.happening.What.{What}
 use Rattle.trace_events.specs.declared.happening.What.TheVariants.{Done, Decided}
 use Rattle.trace_events.specs.declared.happening.Happening.{Happening}
 
--- what a PE did at this time, for so long
+-- what a PE did at this time, for this long
 abbrev pub deed_events : ℕ → ℕ → ℕ → Deed → List TraceEvent
 deed_events at long pe (Started e) = Slice pe at long Start e ∷ []
 deed_events at long pe (Executed id e) = Slice pe at long (Letter id.0 id.1) e ∷ Comes pe at (flow.Letter id.0 id.1) ∷ []
@@ -31,7 +31,7 @@ post_event at pe n = Leaves pe at (flow.Letter pe n)
 abbrev pub post_events : ℕ → ℕ → ℕ → ℕ → List TraceEvent
 post_events at pe first end = map (post_event at pe) (range_with_len first (end - first))
 
--- what happened at this time, for so long
+-- what happened at this time, for this long
 abbrev pub what_events : ℕ → ℕ → What → List TraceEvent
 what_events at long (Done pe deed first end) = deed_events at long pe deed ++ post_events at pe first end
 what_events at long (Decided r) = Decision at r ∷ []
@@ -44,6 +44,6 @@ shown h = what_events h.at h.long h.what
 abbrev pub rows : ℕ → List TraceEvent
 rows pes = map Row (range_with_len 0 pes)
 
--- the second list is the first with more behind it
+-- the second list is the first with more after it
 abbrev pub IsBehind : List TraceEvent → List TraceEvent → Type 0
 IsBehind first all = (more : List TraceEvent) × (all ≡ first ++ more)

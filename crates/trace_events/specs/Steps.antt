@@ -10,13 +10,13 @@ use Rattle.trace_events.specs.declared.happening.What.{What}
 use Rattle.trace_events.specs.declared.happening.What.TheVariants.{Done, Decided}
 use Rattle.trace_events.specs.declared.happening.Happening.{Happening}
 
--- the letters of these entries, behind those with the numbers from the first up to the end
+-- the letters of these entries, after those with the numbers from the first up to the end
 abbrev pub posts_from : ℕ → ℕ → List TraceEntry → ℕ × ℕ
 posts_from first end [] = (first, end)
 posts_from first end (entry.Posted id to ∷ entries) = posts_from (if nat_eq first end then id.1 else first) (min (id.1 + 1) (2 ^ 32 - 1)) entries
 posts_from first end (e ∷ entries) = posts_from first end entries
 
--- the letters that were posted: the number of the first, and the number behind the last
+-- the letters that were posted: the number of the first, and one more than the number of the last
 abbrev pub posts_in : List TraceEntry → ℕ × ℕ
 posts_in entries = posts_from 0 0 entries
 
@@ -51,7 +51,7 @@ event_what (event.Act p) entries = option_map (done_by p (posts_in entries)) (de
 event_what (event.Depart p e) entries = option_map (done_by p (posts_in entries)) (deed_in entries)
 event_what (event.Resume p e) entries = option_map (done_by p (posts_in entries)) (deed_in entries)
 
--- with its time
+-- what happened in an event, with its time
 abbrev pub event_happening : Event → List TraceEntry → ℕ → Option Happening
 event_happening event entries n = option_map (λ what. record { at = min (n * 1000) (2 ^ 64 - 1); long = 1000; what = what }) (event_what event entries)
 

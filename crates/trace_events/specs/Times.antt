@@ -4,7 +4,7 @@ use lib.Ieee.{binary64, of_int, div}
 use Rattle.serde_json.specs.Data.{Data, null, number, unsigned}
 use Rattle.serde_json.specs.Find.{of_float}
 
--- the microseconds of so many nanoseconds, as a float
+-- the microseconds of this number of nanoseconds, as a float
 abbrev pub microseconds : ℕ → Float
 microseconds n = div binary64 (of_int binary64 (pos n)) (of_int binary64 (pos 1000))
 

@@ -6,7 +6,7 @@ use Rattle.trace_events.specs.declared.text.TheConstants.{START, END}
 use Rattle.trace_events.specs.Lines.{IsTrace}
 use Rattle.trace_events.specs.Shown.{IsBehind}
 
--- the text of a trace was written, with these events and the loads behind them
+-- the text of a trace was written, with these events and the loads after them
 pub record WritesTrace (old new : Option (List ℕ)) (shown : List TraceEvent) : Type 0 where
   pub events : List TraceEvent
   pub loads : IsBehind shown events

@@ -1,7 +1,7 @@
 use std::alloc::AllocError;
 use thiserror::Error;
 
-/// Why there is no trace, or not all of one.
+/// Why there is no trace, or only a part of one.
 #[derive(Clone, Copy, Debug, PartialEq, Eq, Error)]
 pub enum TraceError {
     /// The clock could not be read as the run began.
@@ -10,7 +10,7 @@ pub enum TraceError {
     /// Memory was refused. Nothing was written.
     #[error("out of memory")]
     OutOfMemory,
-    /// Writing failed, after a part of the trace perhaps.
+    /// Writing failed, perhaps after a part of the trace.
     #[error("the trace could not be written")]
     Write,
 }

@@ -16,7 +16,7 @@ pub enum Work {
 /// What is shown as an instant in the row of a PE.
 #[derive(Clone, Copy, Debug, PartialEq, Eq)]
 pub enum Sign {
-    /// The PE handed in reports of its elements.
+    /// The PE gave reports of its elements to the board.
     Report,
     /// An element went on after a decision.
     Resumption,
@@ -40,7 +40,7 @@ pub enum Flow {
 pub enum TraceEvent {
     /// There is a row for this PE.
     Row(u32),
-    /// A PE was at work with an element, from this time on, for so long.
+    /// A PE was at work with an element, from this time on, for this long.
     Slice {
         pe: u32,
         at: u64,

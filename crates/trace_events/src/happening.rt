@@ -1,7 +1,7 @@
 use chare_index::{Index, Pe, Round};
 
-/// What happened, and when. Times are nanoseconds from the beginning of the run; of a run on one thread an event takes a
-/// thousand of them, so that its number is its time in microseconds.
+/// What happened, and when. Times are nanoseconds from the beginning of the run; in a run on one thread each event takes
+/// a thousand of them, so that its number is its time in microseconds.
 #[derive(Clone, Copy, Debug, PartialEq, Eq)]
 pub struct Happening {
     /// When it began.
@@ -15,7 +15,8 @@ pub struct Happening {
 /// What happened.
 #[derive(Clone, Copy, Debug, PartialEq, Eq)]
 pub enum What {
-    /// A PE did this, and posted the letters with these numbers meanwhile: from the first up to the second, without it.
+    /// A PE did this, and meanwhile posted the letters with these numbers: from the first up to, but not including, the
+    /// second.
     Done(Pe, Deed, u32, u32),
     /// This round was decided.
     Decided(Round),
@@ -28,7 +29,7 @@ pub enum Deed {
     Started(Index),
     /// The element executed a letter: the PE that posted it, and its number among those of that PE.
     Executed((Pe, u32), Index),
-    /// The letter came before its element, and waits on the shelf.
+    /// The letter arrived before its element, and waits on the shelf.
     Shelved((Pe, u32)),
     /// The letter was sent on.
     Forwarded((Pe, u32)),

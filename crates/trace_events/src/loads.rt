@@ -56,7 +56,7 @@ fn snapshot_of<A: Allocator>(
     Some(snapshot)
 }
 
-// Adds these loads: of each PE in order.
+// Adds these loads, for each PE in order.
 #[tactic(auto, using(crate::proofs::Adding::behind_self))]
 fn push_round<B: Allocator>(
     events: &mut Vec<TraceEvent, B>,
@@ -77,7 +77,7 @@ fn push_round<B: Allocator>(
     Ok(())
 }
 
-// The load of each PE in a round that was measured: what its elements there were charged.
+// The load of each PE in a round that was measured: what its elements were charged there.
 fn loads_of<A: Allocator, B: Allocator>(
     alloc: B,
     snapshot: &Snapshot<A>,

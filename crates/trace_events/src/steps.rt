@@ -11,7 +11,7 @@ use rts_core::Event;
 const LONG: u64 = 1_000;
 
 /// What happened in the event with this number, counted from 0, whose trace entries are these: it began at its number in
-/// microseconds, and took one. Of looks, flushes and deliveries nothing is told.
+/// microseconds, and took one. Looks, flushes and deliveries are left out.
 pub fn happening_of(event: &Event, entries: &[TraceEntry], number: u64) -> Option<Happening>
     ensures value { result ≡ event_happening event.now entries.now number }
 {
@@ -39,7 +39,7 @@ fn what_of(event: &Event, entries: &[TraceEntry]) -> Option<What>
     Some(What::Done(pe, deed?, first, end))
 }
 
-// The decision that the first of these entries tells of.
+// The decision that the first of these entries reports.
 fn decision_in(entries: &[TraceEntry]) -> Option<What>
     ensures value { result ≡ decision_in entries.now }
 {
@@ -49,7 +49,7 @@ fn decision_in(entries: &[TraceEntry]) -> Option<What>
     }
 }
 
-// What the first of these entries tells of a PE.
+// What a PE did, as the first of these entries reports it.
 fn deed_in(entries: &[TraceEntry]) -> Option<Deed>
     ensures value { result ≡ deed_in entries.now }
 {
@@ -64,7 +64,7 @@ fn deed_in(entries: &[TraceEntry]) -> Option<Deed>
     }
 }
 
-// The letters that were posted: the number of the first, and the number behind the last.
+// The letters that were posted: the number of the first, and one more than the number of the last.
 fn posts_in(entries: &[TraceEntry]) -> (u32, u32)
     ensures value { result ≡ posts_in entries.now }
 {

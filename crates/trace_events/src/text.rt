@@ -11,15 +11,15 @@ use crate::event::TraceEvent;
 use crate::value::event_value;
 use std::alloc::{AllocError, Global};
 
-// The start of a trace. Its one event names the process, and each other event comes behind a comma.
+// The start of a trace. Its one event names the process, and each other event follows after a comma.
 const START: &str =
     "{\"traceEvents\":[\n{\"args\":{\"name\":\"tezgumi\"},\"name\":\"process_name\",\"ph\":\"M\",\"pid\":1}";
 
 // The end of a trace.
 const END: &str = "\n]}\n";
 
-/// The text of an event: JSON that reads as what the event is, without blanks and without a newline. docs/BINDINGS.md says
-/// what stands in it.
+/// The text of an event: JSON that reads back as the event, without blanks and without a newline. docs/BINDINGS.md says
+/// what is in it.
 ///
 /// # Errors
 ///
@@ -32,7 +32,7 @@ pub fn event_text(alloc: Global, event: &TraceEvent) -> Result<String, AllocErro
 }
 
 /// The text of a trace with these events, in order: an object whose `traceEvents` are an event that names the process, and
-/// these, each on a line of its own.
+/// these events, each on a line of its own.
 ///
 /// # Errors
 ///

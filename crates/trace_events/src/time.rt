@@ -7,7 +7,7 @@ ghost use Rattle.trace_events.specs.Times.{microseconds, time_data};
 use serde_json::Value;
 use std::num::nearest_u64_to_f64;
 
-/// So many nanoseconds: a whole number where they are whole microseconds.
+/// The microseconds of this number of nanoseconds: a whole number where they are whole.
 pub(crate) fn time_value(nanoseconds: u64) -> Value
     ensures value { view result ≡ time_data nanoseconds }
 {
@@ -17,7 +17,7 @@ pub(crate) fn time_value(nanoseconds: u64) -> Value
     Value::from(microseconds(nanoseconds))
 }
 
-// The microseconds of so many nanoseconds.
+// The microseconds of this number of nanoseconds, as a float.
 fn microseconds(nanoseconds: u64) -> f64
     ensures value { result ≡ microseconds nanoseconds }
 {

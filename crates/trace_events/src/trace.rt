@@ -18,10 +18,10 @@ use std::alloc::{AllocError, Allocator, Global};
 use std::io::Write;
 use streams::write_out;
 
-/// The events of the trace of a run on so many PEs. There is a row for each PE; a slice for each handler, and for each part of a
-/// move; an arrow for each letter, from the handler that posted it to the one that executed it, and for each element that moved;
-/// an instant for each report, resumption and decision, and for each letter that was put aside or sent on. Behind all that
-/// happened come the loads: of each PE in each round that was decided, as the snapshots of its rounds have them.
+/// The events of the trace of a run on this number of PEs. There is a row for each PE; a slice for each handler, and for each
+/// part of a move; an arrow for each letter, from the handler that posted it to the one that executed it, and for each element
+/// that moved; an instant for each report, resumption and decision, and for each letter that was put aside or sent on. After all
+/// that happened come the loads of each PE in each round that was decided, as the snapshots of the rounds have them.
 ///
 /// # Errors
 ///
@@ -53,12 +53,12 @@ fn shown_in<B: Allocator>(
     Ok(events)
 }
 
-/// Writes the text of [`trace_of`], and flushes the writer. It is made whole before any of it is written.
+/// Writes the text of [`trace_of`], and flushes the writer. All of it is made before any of it is written.
 ///
 /// # Errors
 ///
-/// [`OutOfMemory`](TraceError::OutOfMemory), on which nothing was written, and [`Write`](TraceError::Write), after a part of the
-/// trace: no call is tried again.
+/// [`OutOfMemory`](TraceError::OutOfMemory), on which nothing was written, and [`Write`](TraceError::Write), perhaps after a
+/// part of the trace: a write that failed is not repeated.
 pub fn write_trace<A: Allocator, W: Write>(
     alloc: Global,
     writer: &mut W,

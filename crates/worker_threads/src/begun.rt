@@ -7,7 +7,7 @@ use std::sync::atomic::AtomicBool;
 use std::sync::atomic::Ordering::SeqCst;
 use std::thread::{Promise, PromisedHandle, Scope, Threads};
 
-// What a thread promises of what its worker ends as: it has this number.
+// What a thread promises of the end of its worker: it has this number.
 #[derive(Clone, Copy)]
 pub(crate) struct Numbered(u32);
 
@@ -15,12 +15,12 @@ impl<D: Work> Promise<D> for Numbered {
     ghost kept_by = { λ promise done. D.number done ≡ promise.0 };
 }
 
-// Where that is found which a worker ends as.
+// Where the end of a worker is to be found.
 #[derive(Drop)]
 enum Place<D: Ended> {
-    // In a thread of its own, which gives it once the worker has worked.
+    // In a thread of its own, which returns it once the worker has worked.
     Thread(PromisedHandle<D, Numbered>),
-    // Here: the worker has worked, since no thread could be started for it.
+    // Here: the worker has already worked, since no thread could be started for it.
     Here(D),
 }
 
@@ -43,8 +43,8 @@ impl<D: Ended> Model for Begun<D> {
 }
 
 impl<D: Ended> Begun<D> {
-    // Starts a worker in a thread. Where none may be started, or none can, the stop flag is set for all, and this one works
-    // here, so that it ends at once.
+    // Starts a worker in a thread. Where none may be started, or starting one fails, the stop flag is set for all, and this
+    // worker works here, so that it ends at once.
     pub(crate) fn begin<'s, E, S: Starts, W: Work + Send + 's, F: Fn(W) -> D + Sync>(
         scope: &Scope<'s, E>,
         work: &'s F,
@@ -85,7 +85,7 @@ impl<D: Ended> Begun<D> {
     }
 }
 
-// Starts a thread for the worker with this number, if one may be started; where there is none, the work comes back.
+// Starts a thread for the worker with this number, if one may be started; where there is none, the work is handed back.
 fn start<'s, E, S: Starts, D: Ended + Send + 's, F: FnOnce() -> D + Send + 's>(
     scope: &Scope<'s, E>,
     starts: &S,

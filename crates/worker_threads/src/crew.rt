@@ -12,14 +12,14 @@ use std::sync::atomic::AtomicBool;
 use std::thread;
 use std::thread::{Scope, Threads};
 
-/// The room that a run of so many workers needs, each of which ends as a `D`. Contracts see it as that number.
+/// The capacity for a run of this number of workers, each of which ends as a `D`. Contracts see it as that number.
 #[derive(Drop)]
 pub struct Crew<D: Ended, A: Allocator = Global> {
-    // How many workers there is room for.
+    // How many workers there is capacity for.
     room: usize,
-    // Where those will stand that have begun. It is empty until the run.
+    // The workers that have begun. It is empty until the run.
     begun: VecDeque<Begun<D>, A>,
-    // Where that will stand which they ended as. It is empty until the run.
+    // What the workers ended as. It is empty until the run.
     done: VecDeque<D, A>,
 }
 
@@ -37,7 +37,7 @@ impl<D: Ended, A: Allocator> Model for Crew<D, A> {
 }
 
 impl<D: Ended, A: Allocator> Crew<D, A> {
-    /// Room for so many workers. It runs out of memory only where there is a worker.
+    /// Capacity for this number of workers. It runs out of memory only where there is a worker.
     pub fn with_capacity(alloc: A, workers: usize) -> Result<Self, AllocError>
     where
         A: Copy,
@@ -53,16 +53,16 @@ impl<D: Ended, A: Allocator> Crew<D, A> {
         })
     }
 
-    /// How many workers there is room for.
+    /// How many workers there is capacity for.
     pub fn capacity(&self) -> usize
         ensures value { result ≡ self.now }
     {
         self.room
     }
 
-    /// Lets each worker do this work in a thread of its own, waits for all of them, and gives what each ended as, in the
-    /// order of the workers. There has to be room for them, so this takes no memory. Where a thread cannot be started,
-    /// `stop` is set, and that worker works in this thread: so its work has to end soon once `stop` is set.
+    /// Lets each worker do this work in a thread of its own, waits for all of them, and returns what each ended as, in
+    /// the order of the workers. There has to be capacity for them, so this takes no memory. Where a thread cannot be
+    /// started, `stop` is set, and that worker works in this thread: so its work has to end soon once `stop` is set.
     pub fn run<W: Work + Send, F: Fn(W) -> D + Sync, R: Threads + Wait>(
         self,
         rt: &R,
@@ -80,8 +80,8 @@ impl<D: Ended, A: Allocator> Crew<D, A> {
         self.run_where(rt, work, stop, &EachStarts, workers)
     }
 
-    /// Lets each worker do this work as [`run`](Crew::run) does, but starts a thread only for those for which one may be
-    /// started. Any other is treated as one for which no thread could be started.
+    /// Lets each worker do this work as [`run`](Crew::run) does, but starts threads only for those workers for which one
+    /// may be started. Any other worker is treated as one for which no thread could be started.
     pub fn run_where<W: Work + Send, S: Starts, F: Fn(W) -> D + Sync, R: Threads + Wait>(
         self,
         rt: &R,
@@ -108,7 +108,7 @@ impl<D: Ended, A: Allocator> Crew<D, A> {
         )
     }
 
-    // The same, in the threads of a scope.
+    // Does the same, in the threads of a scope.
     fn run_within<'s, E, W: Work + Send + 's, S: Starts, F: Fn(W) -> D + Sync, R: Threads>(
         self,
         scope: &Scope<'s, E>,

@@ -1,9 +1,10 @@
-//! Workers, each in a thread of its own. What a worker is, and what it does, is its caller's: here the threads are
-//! started and waited for, and what each worker ends as comes back, in the order of the workers.
+//! Workers, each in a thread of its own. The caller says what a worker is and what it does: this crate starts the
+//! threads, waits for them, and returns what each worker ended as, in the order of the workers.
 //!
 //! - [`Work`]: what may be a worker. [`Ended`]: what one ends as.
 //! - [`Starts`]: for which workers a thread may be started. [`EachStarts`]: for each.
-//! - [`Crew`]: the room that so many workers need, taken before the first of them begins, and their run.
+//! - [`Crew`]: the capacity that a number of workers need, reserved before the first of them begins, and their
+//!   run.
 #![tactic(auto)]
 
 mod begun;

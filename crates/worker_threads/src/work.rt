@@ -1,7 +1,7 @@
 ghost use Rattle.std.specs.Prelude.{◌≡◌, ℕ};
 
-/// What takes part in a run: a worker, or what a worker ends as. It has a number, by which it is known whose end this
-/// is; whatever else is to be known of it stands in its type.
+/// What takes part in a run: a worker, or what a worker ends as. By its number it is known which worker an end
+/// belongs to; its type has whatever else is to be known of it.
 pub trait Work: Drop {
     /// The number of a value.
     ghost number: { Self → ℕ };
@@ -23,7 +23,7 @@ pub trait Ended: Work {
         ensures same_number { Self.number result ≡ Self.number self };
 }
 
-/// Who says for which workers a thread may be started.
+/// Says for which workers a thread may be started.
 pub trait Starts {
     /// Whether a thread may be started for the worker with this number. The system may refuse one all the same.
     fn may_start(&self, number: u32) -> bool;

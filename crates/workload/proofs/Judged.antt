@@ -6,7 +6,7 @@ use Rattle.workload.specs.declared.form.Line.TheVariants.{Pes, Rounds, Pad, Char
 use Rattle.workload.specs.Faults.{in_range}
 use Rattle.workload.specs.Machine.{form_of}
 
--- a number that may stand in a line has 32 bits
+-- a number that a line may have has 32 bits
 pub in_range_small : (line : Line) (chares n : ℕ) → in_range (form_of line chares) n ≡ true → n < 2 ^ 32
 in_range_small Pes chares n ranged = grind (arith, nat_tests)
 in_range_small Rounds chares n ranged = grind (arith, nat_tests)

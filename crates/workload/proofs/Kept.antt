@@ -1,4 +1,4 @@
--- What a reader knows of the bytes that it went through, and which fault stands where it stops.
+-- What a reader knows of the bytes that it went through, and which fault holds where it stops.
 use Rattle.std.proofs.Common.{◌≡◌, ◌≢◌, ℕ, ◌+◌, ◌*◌, ◌-◌, ◌/◌, ◌%◌, ◌^◌, ◌<◌, ◌≤◌, Bool, true, false, cond, List, [], ◌∷◌, ◌++◌}
 use Rattle.std.proofs.Common.{length, get_or, take, Option, Some, None, Result, Ok, Err, refl, sym, ap, subst, ◌∙◌, inl, inr, arith, append_assoc, add-one}
 use Rattle.std.specs.Prelude.{All, ◌==◌, nat_lt}
@@ -79,7 +79,7 @@ next_digit value digits b text is digit free =
               absurd (more.1 (lone zeroed) zeroed)
         ]
 
--- a number that is whole
+-- a number that is complete
 pub whole_digits : (value digits : ℕ) (text : List ℕ) → IsDigits value digits text → digits ≢ 0 → (value < 10 ^ DIGITS) × (text ≡ decimal value)
 whole_digits value digits text is some =
     let few : 10 ^ digits ≤ 10 ^ 10 = pow-le-pow_right {n = 10} (omega arith) {i = digits} {j = 10} is.few in
@@ -109,7 +109,7 @@ pub record Between (form : LineForm) (left : ℕ) (row : Option (List ℕ)) (par
   pub short : All (λ n. n < 10 ^ DIGITS) numbers
   pub counted : length numbers + left ≡ form.count
 
--- behind some lines came these bytes
+-- after some lines came these bytes
 pub record Holds (before : List (List ℕ)) (s : State) (text : List ℕ) : Type 0 where
   pub lines : List (List ℕ)
   pub part : List ℕ
@@ -134,7 +134,7 @@ holds_start before =
       came = run_none (start before);
     }
 
--- one line more
+-- one more line
 pub lines_push : (before lines : List (List ℕ)) (numbers : List ℕ) → AreLines before lines → is_whole (before ++ lines) ≡ false → IsLine (next_form (before ++ lines)) numbers
     → AreLines before (lines ++ numbers ∷ []) × (lines_text before (lines ++ numbers ∷ []) ≡ lines_text before lines ++ line (next_form (before ++ lines)).word numbers)
 lines_push before [] numbers good more is =
@@ -160,7 +160,7 @@ by_test P false x y here there = there
 abbrev refusal : State → Result State WorkError
 refusal s = Err (Form (line_number s))
 
--- lines are never taken back, and a fault is that of the line behind them
+-- lines are never taken back, and a fault is that of the line after them
 abbrev StepLines : State → Result State WorkError → Type 0
 StepLines s (Ok t) = length s.lines ≤ length t.lines
 StepLines s (Err (Form n)) = n ≡ length s.lines + 1
@@ -237,7 +237,7 @@ run_lines (b ∷ bytes) s =
       | Err e ↦ λ stopped. stopped_lines s e stopped
     ] told
 
--- behind the end of a line no fault of this line is told, and its part is over
+-- after the end of a line no fault of this line is reported, and its part is over
 pub no_fault_behind : (lines : List (List ℕ)) (row : Option (List ℕ)) (bytes : List ℕ) → then_run (run bytes) (ended lines row) ≡ Err (Form (length lines + 1)) → ⊥
 unfolding ended
 no_fault_behind lines None bytes told = cc

@@ -1,4 +1,4 @@
--- What is told of bytes, whole or piece by piece.
+-- What is reported of bytes, read whole or piece by piece.
 use Rattle.std.proofs.Common.{◌≡◌, ℕ, ◌+◌, ◌<◌, ◌≤◌, ◌⊎◌, inl, inr, true, false, List, [], ◌++◌, length, take}
 use Rattle.std.proofs.Common.{◌∷◌, Option, Some, None, Result, Ok, Err, refl, sym, ap, subst, ◌∙◌, arith, append_assoc, length-append}
 use Rattle.std.specs.Prelude.{IfErr, IfSome, MatchResult, OnOk, ⊤}
@@ -32,7 +32,7 @@ short_fault bytes OutOfMemory short fault = absurd fault
 line_fault : (bytes : List ℕ) (e : WorkError) → run bytes (start []) ≡ Err e → IsLineFault bytes e
 line_fault bytes e stopped = subst (λ t. IsLineFault t e) (append-nil bytes) (broken bytes e stopped [])
 
--- where memory was refused, the line of a round was wanted
+-- where memory was refused, a line of a round had to come
 needs_memory : (bytes : List ℕ) (s : State) → s ≡ start [] → Grows s bytes → NeedsMemory bytes
 needs_memory bytes s fresh grows =
     let h : Holds [] grows.at grows.front = subst (After [] grows.front) (ap (run grows.front) (sym fresh) ∙ grows.came) (after_start [] grows.front) in
@@ -70,7 +70,7 @@ end_answer bytes s (Err e) came short ends = inr (short_fault bytes e short (end
 faulty : (bytes : List ℕ) (e : WorkError) → length bytes ≤ TEXT_BYTES → run bytes (start []) ≡ Err e → IsFault bytes e
 faulty bytes e short stopped = short_fault bytes e short (line_fault bytes e stopped)
 
--- a piece more
+-- one more piece
 module _ {A : Type 0} where
   pub still_stopped : (text piece : List ℕ) (old new : Judge A) (e : WorkError) → IsJudged text old (Err e) → IsJudged (text ++ piece) new (Err e)
   still_stopped text piece old new e (inl none) = inl none
@@ -189,7 +189,7 @@ pub end_ends : (new : Option (List ℕ)) (s : State) (result : Result WorkloadVi
 end_ends new s (Ok w) end_ ends = end_
 end_ends new s (Err e) end_ ends = subst (EndsAt new) (sym ends.1) end_
 
--- nothing is owed for an answer that does not come, and what holds anyway holds then too
+-- nothing is owed for an answer that does not come, and what holds anyway also holds then
 module _ {T E : Type 0} where
   pub no_answer : (r : Result T E) (P : Type 0) → IsErr r → OnOk r P
   no_answer (Ok x) P h = cc

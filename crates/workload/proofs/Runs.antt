@@ -47,7 +47,7 @@ pub digit_step : (lines : List (List ℕ)) (form : LineForm) (value digits left 
 unfolding step step_at
 digit_step lines form value digits left row b more digit free = rw (more, digit, free) refl
 
--- a blank, and a newline, behind the word
+-- a blank, and a newline, after the word
 blank_behind_word : (lines : List (List ℕ)) (form : LineForm) (left : ℕ) (row : Option (List ℕ)) → is_whole lines ≡ false → 0 < left
     → step (state lines form (Word (length form.word)) left row) 32 ≡ Ok (state lines form (Number 0 0) (left - 1) row)
 unfolding step step_at turn
@@ -58,7 +58,7 @@ newline_behind_word : (lines : List (List ℕ)) (form : LineForm) (row : Option 
 unfolding step step_at turn
 newline_behind_word lines form row more = rw (more, le-ltb (length form.word) (length form.word) (omega arith)) refl
 
--- a blank, and a newline, behind a number
+-- a blank, and a newline, after a number
 blank_behind_number : (lines : List (List ℕ)) (form : LineForm) (value digits left : ℕ) (row : Option (List ℕ)) → is_whole lines ≡ false → 0 < digits → 0 < left
     → step (state lines form (Number value digits) left row) 32 ≡ Ok (state lines form (Number 0 0) (left - 1) (add form row value))
 unfolding step step_at turn
@@ -121,7 +121,7 @@ digits_run lines form left n row bytes more small =
               ∙ ap (λ d. run rest (state lines form (Number k d) left row)) (sym long),
         )
 
--- the numbers behind a number, to the end of the line
+-- the numbers after a number, to the end of the line
 pub numbers_run : (numbers : List ℕ) (lines : List (List ℕ)) (form : LineForm) (value digits left : ℕ) (row : Option (List ℕ)) (bytes : List ℕ) → is_whole lines ≡ false
     → 0 < digits
     → All (λ n. n < 10 ^ DIGITS) numbers → length numbers ≡ left
@@ -141,7 +141,7 @@ numbers_run (n ∷ numbers) lines form value digits left row bytes more some sho
     ∙ numbers_run numbers lines form n (length (decimal n)) (left - 1) (add form row value) bytes more (decimal_nonempty n (omega arith))
     (All-tail (λ (k : ℕ). k < 10 ^ DIGITS) n numbers short) (omega arith)
 
--- the numbers behind the word, to the end of the line
+-- the numbers after the word, to the end of the line
 pub word_end_run : (numbers : List ℕ) (lines : List (List ℕ)) (form : LineForm) (left : ℕ) (row : Option (List ℕ)) (bytes : List ℕ) → is_whole lines ≡ false
     → All (λ n. n < 10 ^ DIGITS) numbers → length numbers ≡ left
     → run ((flat_map blank_number numbers ++ newline) ++ bytes) (state lines form (Word (length form.word)) left row) ≡ then_run (run bytes) (ended lines (adds form row numbers))
@@ -200,7 +200,7 @@ pub run_none : (s : State) → run [] s ≡ Ok s
 unfolding run
 run_none s = refl
 
--- one byte more
+-- one more byte
 pub run_more : (bytes : List ℕ) (i : ℕ) (s t u : State) → i < length bytes → run (take i bytes) s ≡ Ok t → step t (get_or bytes i 0) ≡ Ok u → run (take (i + 1) bytes) s ≡ Ok u
 run_more bytes i s t u inside before stepped =
     ap (λ xs. run xs s) (take_more bytes i 0 inside)
@@ -239,7 +239,7 @@ adds_some (n ∷ numbers) row kept form same =
           cc
     ]
 
--- one number more
+-- one more number
 pub adds_push : (numbers : List ℕ) (n : ℕ) (row : Option (List ℕ)) (form : LineForm) → adds form row (numbers ++ n ∷ []) ≡ add form (adds form row numbers) n
 adds_push [] n row form = refl
 adds_push (m ∷ numbers) n row form = adds_push numbers n (add form row m) form

@@ -1,4 +1,4 @@
--- What one more byte does: the reader holds it too, or it brings a fault that stands whatever follows.
+-- What one more byte does: the reader holds it too, or it brings a fault that holds whatever follows.
 use Rattle.std.proofs.Common.{◌≡◌, ℕ, ◌+◌, ◌*◌, ◌-◌, ◌^◌, ◌<◌, ◌≤◌, true, false, List, [], ◌∷◌, ◌++◌, length, get_or}
 use Rattle.std.proofs.Common.{take, Option, Some, None, Result, Ok, Err, refl, sym, ap, subst, ◌∙◌, inl, inr, arith, append_assoc, length-append}
 use Rattle.std.specs.Prelude.{◌==◌, nat_lt}
@@ -20,7 +20,7 @@ use Rattle.workload.specs.Machine.{State, start, add, ended, turn, is_full, step
 use Rattle.workload.proofs.Runs.{adds, run_ok, run_err, run_none, run-append, line_run, adds_all, adds_some, adds_push}
 use Rattle.workload.proofs.Kept.{IsDigits, next_digit, whole_digits, InNumber, Spelled, Between, Holds, lines_push, no_fault_behind}
 
--- behind some lines came these bytes, and they are held, or have this fault whatever follows
+-- after some lines came these bytes, and they are held, or have this fault whatever follows
 abbrev pub After : List (List ℕ) → List ℕ → Result State WorkError → Type 0
 After before text (Ok s) = Holds before s text
 After before text (Err e) = (more : List ℕ) → IsLineFaultAfter before (text ++ more) e
@@ -34,7 +34,7 @@ malformed_by lines part b more s open_ came stopped =
     ∙ run_err s (Form (length lines + 1)) b more stopped in
     no_fault_behind lines (adds (next_form lines) (Some []) numbers) tail (sym (line_run numbers lines tail open_ formed) ∙ ap (λ t. run t (start lines)) (sym same) ∙ stops)
 
--- where the bytes stand
+-- where the bytes are
 spelled_with : (before lines : List (List ℕ)) (text part : List ℕ) (b : ℕ) (more : List ℕ) → text ≡ lines_text before lines ++ part
     → (text ++ b ∷ []) ++ more ≡ lines_text before lines ++ (part ++ b ∷ more)
 spelled_with before lines text part b more whole =
@@ -206,7 +206,7 @@ number_is_over : (value digits : ℕ) (s : State) (b : ℕ) → is_ascii_digit b
 unfolding step_at
 number_is_over value digits s b other some = rw (other, some) refl
 
--- one digit more of a number
+-- one more digit of a number
 longer : (form : LineForm) (value digits left : ℕ) (row : Option (List ℕ)) (part : List ℕ) (b : ℕ) → InNumber form value digits left row part → is_ascii_digit b ≡ true
     → is_full value digits ≡ false
     → InNumber form (10 * value + (b - 48)) (digits + 1) left row (part ++ b ∷ [])
@@ -293,7 +293,7 @@ after_step before s text b h =
       | inr open_ ↦ after_spot s.spot before s text b h refl open_ (step_open s b open_)
     ]
 
--- bytes that come behind others
+-- bytes that come after others
 pub after_run : (bytes : List ℕ) (before : List (List ℕ)) (s : State) (text : List ℕ) → Holds before s text → After before (text ++ bytes) (run bytes s)
 unfolding run
 after_run [] before s text h = subst (λ t. Holds before s t) (sym (append-nil text)) h

@@ -222,7 +222,7 @@ refused bytes e (Err f) answer fault =
 pub one_text : (w : WorkloadView) (a b : List ℕ) → IsText w a → IsText w b → a ≡ b
 one_text w a b one other = one.spelled ∙ sym other.spelled
 
--- the beginning of a text has no fault that stands whatever follows
+-- the beginning of a text has no fault that holds whatever follows
 pub open_front : (w : WorkloadView) (front rest : List ℕ) → IsText w (front ++ rest) → IsOpen front
 open_front w front rest is = by (run front (start [])) refl
   where
@@ -233,7 +233,7 @@ open_front w front rest is = by (run front (start [])) refl
         let ends : run (front ++ rest) (start []) ≡ Ok (start (lines_of_view w)) = text_runs w (front ++ rest) is in
         cc
 
--- the beginning of a text that is not all of it lacks a line, or the end of one
+-- the beginning of a text that is not the whole text lacks a line, or the end of one
 pub beginning : (w : WorkloadView) (front rest : List ℕ) → IsText w (front ++ rest) → 0 < length rest → (k : ℕ) × IsFault front (Form k)
 beginning w front rest is some = by (run front (start [])) refl
   where

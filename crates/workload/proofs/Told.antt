@@ -23,7 +23,7 @@ use Rattle.workload.proofs.Stops.{After, after_run, step_whole}
 pub after_start : (before : List (List ℕ)) (bytes : List ℕ) → After before bytes (run bytes (start before))
 after_start before bytes = after_run bytes before (start before) [] (holds_start before)
 
--- behind all lines nothing is read
+-- after all lines nothing is read
 nothing_behind : (part : List ℕ) (lines : List (List ℕ)) (s : State) → is_whole lines ≡ true → run part (start lines) ≡ Ok s → part ≡ []
 nothing_behind [] lines s whole came = refl
 nothing_behind (b ∷ part) lines s whole came =
@@ -31,14 +31,14 @@ nothing_behind (b ∷ part) lines s whole came =
     (step_whole (start lines) b whole) in
     cc
 
--- the part of a line that is not whole is no line
+-- the part of a line that is not complete is no line
 part_is_malformed : (lines : List (List ℕ)) (part : List ℕ) (s : State) → is_whole lines ≡ false → s.lines ≡ lines → run part (start lines) ≡ Ok s
     → IsMalformed (next_form lines) part
 part_is_malformed lines part s open_ same came =
     λ numbers tail formed spelled. no_part_behind lines (adds (next_form lines) (Some []) numbers) tail s
     (sym (line_run numbers lines tail open_ formed) ∙ ap (λ t. run t (start lines)) (sym spelled) ∙ came) same
 
--- where a text ends too early, the line that is not whole is its fault
+-- where a text ends too early, the line that is not complete is its fault
 pub end_fault : (before : List (List ℕ)) (s : State) (text : List ℕ) → Holds before s text → is_whole s.lines ≡ false → IsLineFaultAfter before text (Form (line_number s))
 end_fault before s text h open_ =
     record {
@@ -66,7 +66,7 @@ no_line before (numbers ∷ lines) bytes part malformed (open_, is, good) spelle
     absurd (malformed numbers (lines_text (before ++ numbers ∷ []) lines ++ part) is.formed
     (spelled ∙ append_assoc (line (next_form before).word numbers) (lines_text (before ++ numbers ∷ []) lines) part))
 
--- What a reader does at bytes with this fault: it stops with it, or holds them, and a line is not whole.
+-- What a reader does at bytes with this fault: it stops with it, or holds them, and a line is not complete.
 abbrev pub Stops : List (List ℕ) → List ℕ → WorkError → Result State WorkError → Type 0
 Stops before bytes (Form n) (Ok s) = (is_whole s.lines ≡ false) × (n ≡ line_number s)
 Stops before bytes e (Ok s) = ⊥
@@ -93,7 +93,7 @@ stops_malformed lines rest (Err Long) open_ malformed h = absurd (h [])
 stops_malformed lines rest (Err Read) open_ malformed h = absurd (h [])
 stops_malformed lines rest (Err OutOfMemory) open_ malformed h = absurd (h [])
 
--- behind all lines
+-- after all lines
 stops_behind : (lines : List (List ℕ)) (rest : List ℕ) → is_whole lines ≡ true → 0 < length rest → run rest (start lines) ≡ Err (Form (length lines + 1))
 stops_behind lines [] whole some = absurd (omega arith)
 stops_behind lines (b ∷ rest) whole some = run_err (start lines) (Form (length lines + 1)) b rest (step_whole (start lines) b whole)
@@ -129,7 +129,7 @@ stops before bytes Long fault = absurd fault
 stops before bytes Read fault = absurd fault
 stops before bytes OutOfMemory fault = absurd fault
 
--- two faults at which a reader does the same are one
+-- two faults at which a reader does the same are the same
 one_stop : (before : List (List ℕ)) (bytes : List ℕ) (e f : WorkError) (r : Result State WorkError) → Stops before bytes e r → Stops before bytes f r → e ≡ f
 one_stop before bytes e f (Err g) first second = sym first ∙ second
 one_stop before bytes (Form n) (Form m) (Ok s) first second = ap Form (first.1 ∙ sym second.1)
@@ -142,15 +142,15 @@ one_stop before bytes Long f (Ok s) first second = absurd first
 one_stop before bytes Read f (Ok s) first second = absurd first
 one_stop before bytes OutOfMemory f (Ok s) first second = absurd first
 
--- the first faulty line, and what is wrong with it, is one
+-- the first faulty line, and what is wrong with it, are determined
 pub one_line_fault : (bytes : List ℕ) (e f : WorkError) → IsLineFault bytes e → IsLineFault bytes f → e ≡ f
 one_line_fault bytes e f first second = one_stop [] bytes e f (run bytes (start [])) (stops [] bytes e first) (stops [] bytes f second)
 
--- a fault that stands already
+-- a fault that is certain already
 pub broken : (bytes : List ℕ) (e : WorkError) → run bytes (start []) ≡ Err e → IsBroken bytes e
 broken bytes e stopped = subst (After [] bytes) stopped (after_start [] bytes)
 
--- bytes with which the line that is not whole ends
+-- bytes with which the line that is not complete ends
 pub record Completion (s : State) : Type 0 where
   pub bytes : List ℕ
   pub row : Option (List ℕ)
@@ -201,7 +201,7 @@ complete lines form (Number value digits) left row part open_ spelled =
 pub completion : (before : List (List ℕ)) (s : State) (text : List ℕ) → Holds before s text → is_whole s.lines ≡ false → Completion s
 completion before s text h open_ = complete s.lines s.form s.spot s.left s.row h.part open_ h.spelled
 
--- no fault stands in bytes that a reader holds
+-- no fault is certain in bytes that a reader holds
 not_both : (s : State) (r : Result State WorkError) (n : ℕ) (bytes : List ℕ) → n ≡ line_number s → (row : Option (List ℕ)) → r ≡ ended s.lines row → Stops [] bytes (Form n) r → ⊥
 unfolding ended
 not_both s (Ok t) n bytes numbered None same told = cc

@@ -34,11 +34,11 @@ chares_form = record { word = codes "chares"; count = 1; least = 0; most = ELEME
 abbrev pub amounts_form : ℕ → LineForm
 amounts_form chares = record { word = codes "amounts"; count = chares; least = 0; most = most_amount }
 
--- the number of a line that has one
+-- the number of a line that has just one
 abbrev pub only : List ℕ → ℕ
 only numbers = slice_index numbers 0
 
--- what the line behind these has to be, if there is one; a line stands for its numbers
+-- what the line after these has to be, if there is one; a line is given by its numbers
 abbrev pub next_form : List (List ℕ) → LineForm
 next_form [] = pes_form
 next_form (pes ∷ []) = rounds_form
@@ -60,12 +60,12 @@ pub record IsFormed (form : LineForm) (numbers : List ℕ) : Type 0 where
   pub counted : length numbers ≡ form.count
   pub short : All (λ n. n < 10 ^ DIGITS) numbers
 
--- and each in its range
+-- a formed line, each of whose numbers is in its range
 pub record IsLine (form : LineForm) (numbers : List ℕ) : Type 0 where
   pub formed : IsFormed form numbers
   pub ranged : All (λ n. IsTrue (in_range form n)) numbers
 
--- behind some lines these more are good
+-- after some lines these further ones are good
 abbrev pub AreLines : List (List ℕ) → List (List ℕ) → Type 0
 AreLines before [] = Unit {0}
 AreLines before (numbers ∷ lines) =
@@ -77,7 +77,7 @@ lines_text before [] = []
 lines_text before (numbers ∷ lines) =
     line (next_form before).word numbers ++ lines_text (before ++ numbers ∷ []) lines
 
--- these bytes don't begin with a line of its form
+-- these bytes do not begin with a line of its form
 abbrev pub IsMalformed : LineForm → List ℕ → Type 0
 IsMalformed form bytes =
     (numbers tail : List ℕ) → IsFormed form numbers → bytes ≡ line form.word numbers ++ tail → ⊥
@@ -90,13 +90,13 @@ pub record IsPast (form : LineForm) (bytes : List ℕ) : Type 0 where
   pub spelled : bytes ≡ line form.word numbers ++ tail
   pub past : All (λ n. IsTrue (in_range form n)) numbers → ⊥
 
--- Behind these lines the next one is not of its form, as it is not if it is missing; or these are all lines, and
--- bytes follow.
+-- After these lines the next one is not of its form, which includes that it is missing; or these are all lines,
+-- and bytes follow.
 abbrev pub IsFormless : List (List ℕ) → List ℕ → Type 0
 IsFormless lines bytes =
     ((is_whole lines ≡ false) × IsMalformed (next_form lines) bytes) ⊎ (IsTrue (is_whole lines) × (0 < length bytes))
 
--- behind some lines come good ones, and then a faulty line
+-- after some lines there are good ones, and then a faulty line
 pub record IsFaulty (before : List (List ℕ)) (bytes : List ℕ) (Fault : List (List ℕ) → List ℕ → Type 0) (number : ℕ) : Type 0 where
   pub lines : List (List ℕ)
   pub rest : List ℕ
@@ -105,7 +105,7 @@ pub record IsFaulty (before : List (List ℕ)) (bytes : List ℕ) (Fault : List 
   pub fault : Fault (before ++ lines) rest
   pub numbered : number ≡ length (before ++ lines) + 1
 
--- the fault of the first faulty line behind some lines
+-- the fault of the first faulty line after some lines
 abbrev pub IsLineFaultAfter : List (List ℕ) → List ℕ → WorkError → Type 0
 IsLineFaultAfter before bytes (Form n) = IsFaulty before bytes IsFormless n
 IsLineFaultAfter before bytes (Limit n) =
@@ -127,7 +127,7 @@ IsFault bytes e = (length bytes ≤ TEXT_BYTES) × IsLineFault bytes e
 abbrev pub IsBroken : List ℕ → WorkError → Type 0
 IsBroken bytes e = (more : List ℕ) → IsLineFault (bytes ++ more) e
 
--- no fault stands already, though these bytes may be no text as they are
+-- no fault is certain yet, though these bytes may be no text as they are
 abbrev pub IsOpen : List ℕ → Type 0
 IsOpen bytes = (e : WorkError) → IsBroken bytes e → ⊥
 

@@ -1,4 +1,4 @@
--- What one byte does to a reader of a workload. No public clause has these words.
+-- What one byte does to a reader of a workload. No public clause uses these definitions.
 use Rattle.std.specs.Prelude.{◌≡◌, ℕ, ◌+◌, ◌*◌, ◌-◌, ◌^◌, ◌<◌, ◌≤◌, ◌⊎◌, Bool, false, ◌==◌, ◌&&◌, ◌||◌, nat_lt}
 use Rattle.std.specs.Prelude.{if◌then◌else◌, List, [], ◌∷◌, ◌++◌, length, map, slice_index, Option, Some, None, Result, Ok, Err, ⊤}
 use Rattle.std.specs.Char.{is_ascii_digit}
@@ -22,8 +22,8 @@ form_of Pad chares = pad_form
 form_of Chares chares = chares_form
 form_of Amounts chares = amounts_form chares
 
--- How far a reader is: the lines that are whole, what the next line has to be, the spot in it, how many numbers have
--- yet to begin, and the numbers that are whole, unless one of them is out of its range.
+-- How far a reader is: the lines that are complete, what the next line has to be, the spot in it, how many numbers
+-- have yet to begin, and the numbers that are complete, unless one of them is out of its range.
 pub record State : Type 0 where
   pub lines : List (List ℕ)
   pub form : LineForm
@@ -31,11 +31,11 @@ pub record State : Type 0 where
   pub left : ℕ
   pub row : Option (List ℕ)
 
--- at the start of the line behind these
+-- at the start of the line after these
 abbrev pub start : List (List ℕ) → State
 start lines = record { lines = lines; form = next_form lines; spot = Word 0; left = (next_form lines).count; row = Some [] }
 
--- a number more, unless it is out of its range
+-- one more number, unless it is out of its range
 abbrev pub add : LineForm → Option (List ℕ) → ℕ → Option (List ℕ)
 add form None n = None
 add form (Some row) n = if in_range form n then Some (row ++ n ∷ []) else None
@@ -48,7 +48,7 @@ unfoldable pub ended : List (List ℕ) → Option (List ℕ) → Result State Wo
 ended lines None = Err (Limit (length lines + 1))
 ended lines (Some row) = Ok (start (lines ++ row ∷ []))
 
--- a byte between two numbers: a blank where one follows, or else a newline
+-- a byte between two numbers: a blank where another follows, or else a newline
 unfoldable pub turn : State → ℕ → Result State WorkError
 turn s b =
     if s.left == 0
@@ -82,7 +82,7 @@ unfoldable pub run : List ℕ → State → Result State WorkError
 run [] s = Ok s
 run (b ∷ bytes) s = then_run (run bytes) (step s b)
 
--- the line of a round is not whole
+-- the line of a round is not complete
 abbrev pub IsGrowing : State → Type 0
 IsGrowing s = (4 ≤ length s.lines) × (is_whole s.lines ≡ false)
 
@@ -99,7 +99,7 @@ pub record Grows (s : State) (bytes : List ℕ) : Type 0 where
 abbrev pub lines_of_view : WorkloadView → List (List ℕ)
 lines_of_view w = (w.pes ∷ []) ∷ (w.rounds ∷ []) ∷ (w.pad ∷ []) ∷ (w.chares ∷ []) ∷ w.amounts
 
--- of a reader of the code: the lines that are whole, and the numbers of the line that is not
+-- of a reader in the code: the lines that are complete, and the numbers of the line that is not
 abbrev pub lines_of : {A : Type 0} → Line → Judge A → List (List ℕ)
 lines_of Pes judge = []
 lines_of Rounds judge = (judge.pes ∷ []) ∷ []
@@ -115,7 +115,7 @@ abbrev pub state_of : {A : Type 0} → Judge A → State
 state_of judge =
     record { lines = lines_of judge.line judge; form = form_of judge.line judge.chares; spot = judge.spot; left = judge.left; row = row_of judge }
 
--- a number has no more digits than it may, and is no larger than they can say
+-- a number has no more digits than it may, and is no larger than these digits can express
 abbrev pub IsSpot : Spot → Type 0
 IsSpot (Word at) = Unit {0}
 IsSpot (Number value digits) = (digits ≤ DIGITS) × (value < 10 ^ digits)
@@ -125,7 +125,7 @@ abbrev pub begun : Spot → ℕ
 begun (Word at) = 0
 begun (Number value digits) = 1
 
--- a line that has one number keeps none: it ends with it
+-- a line with only one number keeps none of its numbers: it ends with it
 abbrev pub HoldsLine : {A : Type 0} → Line → Judge A → Type 0
 HoldsLine Amounts judge = length judge.amounts.items ≤ judge.rounds
 HoldsLine line judge =
@@ -137,7 +137,7 @@ pub record IsHeld {A : Type 0} (judge : Judge A) : Type 0 where
   pub rounds : judge.rounds ≤ AMOUNTS
   pub line : HoldsLine judge.line judge
 
--- what a reader made of these bytes: it holds them, or it stopped at their fault, or out of memory
+-- what a reader did with these bytes: it holds them, or it stopped at their fault, or out of memory
 abbrev pub IsJudged : {A : Type 0} → List ℕ → Judge A → Result ⊤ WorkError → Type 0
 IsJudged text judge (Ok x) = (run text (start []) ≡ Ok (state_of judge)) × IsHeld judge
 IsJudged text judge (Err e) = (e ≡ OutOfMemory) ⊎ (run text (start []) ≡ Err e)

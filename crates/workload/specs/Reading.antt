@@ -7,7 +7,7 @@ use Rattle.workload.specs.declared.form.TheConstants.{TEXT_BYTES}
 use Rattle.workload.specs.Text.{WorkloadView, IsText}
 use Rattle.workload.specs.Faults.{is_whole, AreLines, lines_text, IsFault}
 
--- Behind four good lines, and maybe more, the line of a round is wanted. Only such bytes need memory.
+-- After four good lines, and perhaps more, there has to be the line of a round. Only such bytes need memory.
 pub record NeedsMemory (bytes : List ℕ) : Type 0 where
   pub lines : List (List ℕ)
   pub rest : List ℕ
@@ -26,24 +26,25 @@ abbrev pub IsReadAnswer : List ℕ → Result WorkloadView WorkError → Type 0
 IsReadAnswer bytes (Ok w) = IsText w bytes
 IsReadAnswer bytes (Err e) = (e ≡ OutOfMemory) ⊎ IsFault bytes e
 
--- what the bytes that were read from a reader show of an error: they have it, or the reader failed before they were too many
+-- what an error says of the bytes that were read from a reader: that they have it, or that the reader failed before they
+-- were too many
 abbrev pub IsReadError : List ℕ → WorkError → Type 0
 IsReadError bytes Read = length bytes ≤ TEXT_BYTES
 IsReadError bytes OutOfMemory = Unit {0}
 IsReadError bytes e = IsFault bytes e
 
--- and what they show of a result
+-- and what a result says of them
 abbrev pub IsReading : List ℕ → Result WorkloadView WorkError → Type 0
 IsReading bytes (Ok w) = IsText w bytes
 IsReading bytes (Err e) = IsReadError bytes e
 
--- for the fault of a line a reader was read to its end
+-- where the fault is that of a line, the reader was read to its end
 abbrev pub EndsAt : Option (List ℕ) → WorkError → Type 0
 EndsAt rest (Form n) = IsAtEnd rest
 EndsAt rest (Limit n) = IsAtEnd rest
 EndsAt rest e = Unit {0}
 
--- and so it was for a workload
+-- and so it was where the result is a workload
 abbrev pub ReadsToItsEnd : Option (List ℕ) → Result WorkloadView WorkError → Type 0
 ReadsToItsEnd rest (Ok w) = IsAtEnd rest
 ReadsToItsEnd rest (Err e) = EndsAt rest e

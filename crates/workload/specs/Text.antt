@@ -22,11 +22,11 @@ most_amount = 4294967295
 abbrev pub newline : List ℕ
 newline = 10 ∷ []
 
--- a number behind a blank
+-- a number after a blank
 abbrev pub blank_number : ℕ → List ℕ
 blank_number n = 32 ∷ decimal n
 
--- a word, each number behind a blank, and a newline
+-- a word, each number after a blank, and a newline
 abbrev pub line : List ℕ → List ℕ → List ℕ
 line word numbers = word ++ (flat_map blank_number numbers ++ newline)
 

@@ -8,10 +8,10 @@ use thiserror::Error;
 /// Why a workload was not read. Lines are numbered from 1, and of several faulty lines the first is reported.
 #[derive(Clone, Copy, Debug, PartialEq, Eq, Error)]
 pub enum WorkError {
-    /// This line has not the form that a line at its place has, is missing, is not ended, or follows the last line.
+    /// This line does not have the form of a line at its place, is missing, is not ended, or follows the last line.
     #[error("line {0} of the workload is not of its form")]
     Form(u32),
-    /// This line is of its form, and a number in it is out of its range.
+    /// This line has its form, and a number in it is out of its range.
     #[error("a number in line {0} of the workload is out of its range")]
     Limit(u32),
     /// The text has more than 67,108,864 bytes.
@@ -20,7 +20,7 @@ pub enum WorkError {
     /// The reader failed.
     #[error("reading the workload failed")]
     Read,
-    /// No memory was left.
+    /// Memory was refused.
     #[error("out of memory")]
     OutOfMemory,
 }

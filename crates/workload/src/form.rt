@@ -1,4 +1,4 @@
-//! What each line of a workload has to be. `specs/Faults.antt` has the same.
+//! What each line of a workload has to be. `specs/Faults.antt` says the same.
 
 ghost use Rattle.std.specs.Prelude.{◌≡◌, ℕ};
 ghost use Rattle.workload.specs.Faults.{in_range};
@@ -13,7 +13,7 @@ pub(crate) const TEXT_BYTES: usize = 67_108_864;
 /// Digits of the longest number.
 pub(crate) const DIGITS: u32 = 10;
 
-/// Stands before each number.
+/// Comes before each number.
 pub(crate) const BLANK: u8 = b' ';
 
 /// Ends each line.
@@ -43,7 +43,7 @@ impl Line {
         }
     }
 
-    /// Whether this number may stand in it.
+    /// Whether this number may be in it.
     pub(crate) fn allows(self, number: u64) -> bool
         ensures { (chares : ℕ) → result ≡ in_range (form_of self chares) number }
     {

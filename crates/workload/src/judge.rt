@@ -9,12 +9,12 @@ use crate::workload::Workload;
 use std::alloc::{Allocator, Global};
 use std::mem;
 
-/// Where in a line the next byte stands.
+/// Where in a line the next byte is.
 #[derive(Clone, Copy, Debug, PartialEq, Eq)]
 pub(crate) enum Spot {
-    /// Behind so many bytes of its word. Behind the whole word a blank or the newline follows.
+    /// After this number of bytes of its word. After the whole word a blank or the newline follows.
     Word(usize),
-    /// Behind a blank and so many digits of this value.
+    /// After a blank and this many digits, which have this value.
     Number(u64, u32),
 }
 
@@ -22,14 +22,14 @@ pub(crate) enum Spot {
 #[derive(Drop)]
 #[derive_where(Debug)]
 pub(crate) struct Judge<A: Allocator = Global> {
-    /// What the line is that the next byte belongs to.
+    /// The kind of the line that the next byte belongs to.
     line: Line,
     spot: Spot,
     /// How many numbers of this line have not begun.
     left: u32,
     /// Whether a number of this line is out of its range.
     past: bool,
-    /// The amounts of this line that are whole.
+    /// The numbers of this line of amounts that are complete.
     row: Vec<u32, A>,
     pes: u32,
     rounds: u32,
@@ -39,7 +39,7 @@ pub(crate) struct Judge<A: Allocator = Global> {
 }
 
 impl<A: Allocator + Copy> Judge<A> {
-    /// Before the first byte.
+    /// The judge before the first byte.
     pub(crate) fn new(alloc: A) -> Self
         ensures fresh { state_of result ≡ start [] }
         ensures held { IsHeld result }
@@ -62,7 +62,7 @@ impl<A: Allocator + Copy> Judge<A> {
     ///
     /// # Errors
     ///
-    /// The first fault that stands whatever follows, or out of memory.
+    /// The first fault that holds whatever follows, or out of memory.
     pub(crate) fn feed(&mut self, bytes: &[u8]) -> Result<(), WorkError>
         requires held { IsHeld self.old }
         ensures fed { MatchResult result
@@ -90,7 +90,7 @@ impl<A: Allocator + Copy> Judge<A> {
         }
     }
 
-    // Takes a byte of the word or, behind the whole word, the one that follows it.
+    // Takes a byte of the word or, after the whole word, the one that follows it.
     #[tactic(auto, unfolding(crate::specs::Machine::step_at, crate::specs::Machine::turn))]
     fn take_in_word(&mut self, at: usize, byte: u8) -> Result<(), WorkError>
         requires held { IsHeld self.old }
@@ -118,7 +118,7 @@ impl<A: Allocator + Copy> Judge<A> {
         Ok(())
     }
 
-    // Takes a byte behind a blank.
+    // Takes a byte after a blank.
     #[tactic(auto, unfolding(crate::specs::Machine::step_at, crate::specs::Machine::turn))]
     fn take_in_number(&mut self, value: u64, digits: u32, byte: u8) -> Result<(), WorkError>
         requires held { IsHeld self.old }
@@ -146,14 +146,14 @@ impl<A: Allocator + Copy> Judge<A> {
         Ok(())
     }
 
-    // What follows a word or a number that is whole.
+    // The byte that follows a word or a number that is complete.
     fn separator(&self) -> u8
         ensures { result ≡ (if self.now.left == 0 then NEWLINE else BLANK) }
     {
         if self.left == 0 { NEWLINE } else { BLANK }
     }
 
-    // Goes on behind a blank.
+    // Begins the number after a blank.
     fn begin_number(&mut self)
         requires some { 0 < self.old.left }
         ensures begun { self.new ≡ record self.old { spot = Spot.Number 0 0; left = self.old.left - 1 } }
@@ -215,8 +215,8 @@ impl<A: Allocator + Copy> Judge<A> {
         }
     }
 
-    // Keeps an amount, unless it or one before it is out of its range. With the first amount of a line the list takes
-    // room for all.
+    // Keeps an amount, unless it or one before it is out of its range. At the first amount of a line the list
+    // reserves capacity for all.
     fn keep(&mut self, value: u64) -> Result<(), WorkError>
         requires held { IsHeld self.old }
         requires amounts { self.old.line ≡ Line.Amounts }
@@ -237,7 +237,7 @@ impl<A: Allocator + Copy> Judge<A> {
         Ok(())
     }
 
-    // Ends a line of amounts. With the first of them the list of lists takes room for all.
+    // Ends a line of amounts. At the first such line the list of lines reserves capacity for all.
     #[tactic(auto, unfolding(crate::specs::Machine::ended))]
     fn end_amounts(&mut self) -> Result<(), WorkError>
         requires held { IsHeld self.old }
@@ -285,7 +285,7 @@ impl<A: Allocator + Copy> Judge<A> {
         }
     }
 
-    // The fault of a line that is not of its form.
+    // The fault of a line that does not have its form.
     fn formless(&self) -> WorkError
         requires held { IsHeld self.now }
         ensures { result ≡ WorkError.Form (length (state_of self.now).lines + 1) }
@@ -293,7 +293,7 @@ impl<A: Allocator + Copy> Judge<A> {
         WorkError::Form(self.number())
     }
 
-    /// The workload, where the text ends here.
+    /// The workload, if the text ends here.
     ///
     /// # Errors
     ///

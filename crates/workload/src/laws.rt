@@ -4,8 +4,9 @@ ghost use Rattle.workload.specs.Faults.{IsFault, IsLineFault, IsOpen};
 ghost use Rattle.workload.specs.Text.{IsText, WorkloadView};
 
 /// Laws of the text. The function does nothing: its clauses are the laws. Bytes are the text of at most one workload, a
-/// workload has at most one text, bytes have at most one fault, and they are a text or have a fault, and never both. No fault
-/// stands in the beginning of a text, and if it is not all of it, it is not of its form as it is.
+/// workload has at most one text, bytes have at most one fault, and they are a text or have a fault, and never both. The
+/// beginning of a text has no fault that holds whatever follows; and where it is not the whole text, as it is it has the
+/// fault of a line without its form.
 #[tactic(auto, using(crate::proofs::Texts::text_laws))]
 pub fn workload_laws()
     ensures one_workload { (v w : WorkloadView) (bytes : List ℕ) → IsText v bytes → IsText w bytes → v ≡ w }

@@ -1,10 +1,11 @@
-//! The text of a workload, read: how many PEs and chares a run has, how many rounds, and the amounts of each.
+//! Reads the text of a workload: how many PEs and chares a run has, how many rounds, and the amounts of each.
 //!
-//! - [`Workload`]: what a text says, by [`Workload::parse`] of bytes or [`Workload::read_from`] a reader.
+//! - [`Workload`]: what a text says, read by [`Workload::parse`] from bytes or by [`Workload::read_from`] from a
+//!   reader.
 //! - [`WorkError`]: why bytes are no such text.
 //!
-//! Each line is a word and numbers, each behind one blank, and ends with a newline. Numbers are decimal, without a
-//! leading zero, and have at most ten digits.
+//! Each line is a word and numbers, each after one blank, and ends with a newline. Numbers are decimal, without
+//! leading zeros, and have at most ten digits.
 //!
 //! ```text
 //! pes 2

@@ -13,17 +13,18 @@ use crate::judge::Judge;
 use std::alloc::Allocator;
 use std::io::Read;
 
-/// The bytes that are asked for at a time. It is no limit of the text.
+/// How many bytes are requested at a time. It is no limit of the text.
 const PIECE_LEN: usize = 65_536;
 
-/// How often a reader is called at most: more often than the longest text has bytes, so that the call ends.
+/// How many calls of a reader there are at most: more than the longest text has bytes, so that reading ends.
 const CALLS: u32 = 134_217_728;
 
-/// Feeds `judge`, which has no bytes yet, all that `reader` gives to its end. Past a fault the bytes are only counted.
+/// Feeds `judge`, which has no bytes yet, everything that `reader` gives, to its end. After a fault the bytes are only
+/// counted.
 ///
 /// # Errors
 ///
-/// As [`Workload::read_from`](crate::Workload::read_from), but for the fault of a text that ends too early.
+/// Those of [`Workload::read_from`](crate::Workload::read_from), except the fault of a text that ends too early.
 pub(crate) fn feed_all<R: Read, A: Allocator + Copy>(
     alloc: A,
     judge: &mut Judge<A>,
@@ -42,8 +43,8 @@ pub(crate) fn feed_all<R: Read, A: Allocator + Copy>(
     feed_from(judge, reader, &mut piece)
 }
 
-// The same, with `piece` as the room for the bytes of one call. A call may bring the one byte past the longest text,
-// and no more: that byte is not judged.
+// Does the same, with `piece` as the buffer for the bytes of one call. A call may bring the one byte past the longest
+// text, and no more: that byte is not judged.
 fn feed_from<R: Read, A: Allocator + Copy>(
     judge: &mut Judge<A>,
     reader: &mut R,

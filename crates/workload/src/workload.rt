@@ -14,8 +14,8 @@ use std::alloc::{Allocator, Global};
 use std::io::Read;
 use std::marker::Model;
 
-/// What a run is given: on how many PEs it runs, how many rounds, how heavy each chare is to move, how many chares there
-/// are, and for each round the amount of each chare. Contracts see it as a record of the same parts.
+/// The input of a run: on how many PEs it runs, how many rounds it has, how many bytes of padding each chare has, how
+/// many chares there are, and for each round the amount of each chare. Contracts see it as a record of the same parts.
 #[derive(Drop)]
 #[derive_where(Debug)]
 pub struct Workload<A: Allocator = Global> {
@@ -45,9 +45,9 @@ impl<A: Allocator + Copy> Workload<A> {
     ///
     /// # Errors
     ///
-    /// [`Long`](WorkError::Long) for more than 67,108,864 bytes; or else the fault of the first faulty line, which is
-    /// [`Form`](WorkError::Form) before [`Limit`](WorkError::Limit); and [`OutOfMemory`](WorkError::OutOfMemory)
-    /// where a request for memory is refused before that fault is met.
+    /// [`Long`](WorkError::Long) for more than 67,108,864 bytes; otherwise the fault of the first faulty line, which is
+    /// [`Form`](WorkError::Form) before [`Limit`](WorkError::Limit); and [`OutOfMemory`](WorkError::OutOfMemory) where a
+    /// request for memory is refused before that fault is met.
     pub fn parse(alloc: A, bytes: &[u8]) -> Result<Self, WorkError>
         ensures answer { IsAnswer bytes.now result }
         ensures again { (w : WorkloadView) → IsText w bytes.now → MatchResult result (λ v. v ≡ w) (λ e. e ≡ WorkError.OutOfMemory) }
@@ -62,13 +62,13 @@ impl<A: Allocator + Copy> Workload<A> {
     }
 
     /// The workload of the text that a reader gives, to its end. Reads to the end, or to the byte past the longest text;
-    /// past a fault it keeps nothing of what it reads.
+    /// after a fault it keeps nothing of what it reads.
     ///
     /// # Errors
     ///
     /// Those of [`parse`](Workload::parse), and [`Read`](WorkError::Read) where the reader fails before the byte past the
-    /// longest text, with any error, or has been called 134,217,728 times. [`OutOfMemory`](WorkError::OutOfMemory) may be
-    /// returned of any text, since the bytes that are asked for at once need room.
+    /// longest text, with any error, or has been called 134,217,728 times. Any text may return
+    /// [`OutOfMemory`](WorkError::OutOfMemory), since reading needs a buffer.
     pub fn read_from<R: Read>(alloc: A, reader: &mut R) -> Result<Self, WorkError>
         ensures read { (bytes : List ℕ) × Consumes (R.remaining reader.old) (R.remaining reader.new) bytes × (length bytes ≤ TEXT_BYTES + 1) × IsReading bytes result }
         ensures known { IfSome (R.remaining reader.old) (λ bytes. (result ≡ Err WorkError.Read) ⊎ IsReadAnswer bytes result) }

@@ -1,4 +1,4 @@
--- Files that are asked for, one after another.
+-- Files that are requested, one after another.
 use Rattle.std.proofs.Common.{◌≡◌, ◌⊎◌, inl, inr, ℕ, ◌+◌, ◌<◌, ◌≤◌, List, [], ◌∷◌, ◌++◌, length, get_or, take, drop, Option, None, Some, sym, ap, subst, ◌∙◌, append-nil, append_assoc}
 use Rattle.std.proofs.lemmas.List.{drop_more, map-append, take_all, take_more, take-append-drop}
 use Rattle.lb_snapshot.specs.Measured.{Taken}
@@ -6,12 +6,12 @@ use Rattle.workload_run.specs.Dumping.{AsksFor, MayFail, StopsAt, file_name, fil
 use Rattle.workload_run.specs.declared.dumps.NotWritten.{NotWritten}
 use Rattle.workload_run.specs.declared.round_dump.DumpFormat.{DumpFormat}
 
--- no file was asked for yet
+-- no file was requested yet
 pub asked_none : (names : Option (List (List ℕ))) → AsksFor names names []
 asked_none None = tt
 asked_none (Some names) = sym (append-nil names)
 
--- files were asked for of all rounds, where they were of as many as there are
+-- files were requested for all rounds, where they were for as many as there are
 pub asked_all : {D : Type 0} (prefix : List ℕ) (rounds : List (Taken × D)) (i : ℕ) (old new : Option (List (List ℕ))) → length rounds ≤ i → AsksFor old new (file_names prefix (take i rounds)) → AsksFor old new (file_names prefix rounds)
 asked_all prefix rounds i old new past asked = subst (λ some. AsksFor old new (file_names prefix some)) (take_all i rounds past) asked
 

@@ -29,7 +29,7 @@ known_text (Some all) w (inr text) = text
 abbrev pub failed : WorkError → Result WorkloadView WorkError
 failed e = Err e
 
--- a fault that is told of the workload
+-- a fault that is reported of the workload
 pub known_fault : (all : Option (List ℕ)) (e : WorkError) → e ≢ Why.OutOfMemory → IfSome all (λ xs. (failed e ≡ failed Why.Read) ⊎ IsReadAnswer xs (failed e)) → IfSome all (λ xs. (e ≡ Why.Read) ⊎ IsFault xs e)
 known_fault None e other known = tt
 known_fault (Some xs) e other (inl is) = inl (cc)

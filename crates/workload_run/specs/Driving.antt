@@ -17,21 +17,22 @@ use Rattle.workload_run.specs.Tallies.{tallies_of}
 use Rattle.workload_run.specs.declared.ended.Ended.{Ended}
 use Rattle.workload_run.specs.declared.ended.Ended.TheVariants.{Ran, Refused, OutOfMemory, WriteFailed}
 
--- what a run left that opened with these tallies on so many PEs, with rounds by this strategy: every clause of `run` holds of it
+-- what a run left that opened with these tallies on this number of PEs, with rounds by this strategy: every clause of `run`
+-- holds of it
 abbrev pub IsLeftBy : {A : Type 0} → (TallyView → Type 0) → List TallyView → ℕ → Strategy → OutcomeView TallyView A → Type 0
 IsLeftBy fits chares pes strategy o = IsOutcome tally_step fits tally_pack chares pes strategy o
 
--- This is what the run left of the workload that the bytes are the text of, and the text of that. Where the reader
--- does not report its bytes, the workload is any.
+-- This is what the run of the workload left whose text these bytes are, and the text of that. Where the bytes of the reader are
+-- not known, the workload may be any.
 pub record IsRunOf {A : Type 0} (fits : TallyView → Type 0) (strategy : Strategy) (bytes : Option (List ℕ)) (o : OutcomeView TallyView A) (text : List ℕ) : Type 0 where
   pub workload : WorkloadView
   pub read : IfSome bytes (IsText workload)
   pub left : IsLeftBy fits (tallies_of workload) workload.pes strategy o
   pub told : text ≡ outcome_text workload.chares o
 
--- The fault of the workload that is reported: that of the bytes that were read, before which the reader had the bytes and has
--- the rest now, or that the reader failed before they were too many. For the fault of a line it was read to its end. Where the
--- bytes of the reader are known, it failed, or that is the fault of these.
+-- The fault of the workload that is reported: that of the bytes that were read, or that the reader failed before they were too
+-- many. The reader had `bytes` before, and has `rest` now. For the fault of a line it was read to its end. Where the bytes of
+-- the reader are known, it failed, or that is the fault of these.
 pub record IsRefusal (bytes rest : Option (List ℕ)) (e : WorkError) : Type 0 where
   pub text : List ℕ
   pub consumed : Consumes bytes rest text

@@ -15,7 +15,7 @@ use Rattle.workload_run.specs.declared.round_dump.DumpFormat.{DumpFormat}
 use Rattle.workload_run.specs.declared.round_dump.DumpFormat.TheVariants.{Lbd1, Lbd2}
 use Rattle.workload_run.specs.declared.dumps.NotWritten.{NotWritten}
 
--- what is recorded of a decision: a plan, on as many PEs as the snapshot has. A dump has no place for cuts within a tolerance.
+-- what is recorded of a decision: a plan, on as many PEs as the snapshot has. A dump cannot hold cuts within a tolerance.
 abbrev pub recorded_of : {A : Type 0} → Taken → Refined A → Option (Recorded A)
 recorded_of s (Planned d) = Some (record { target = s.procs; decision = d })
 recorded_of s (Near k) = None
@@ -35,9 +35,9 @@ abbrev pub MayFail : DumpError → DumpFormat → Taken → Type 0
 MayFail (Wide i) Lbd1 s = IsFirstWide s.loads i
 MayFail e format s = (e ≡ Write) ⊎ (e ≡ OutOfMemory)
 
--- What a writer holds after a round was written to it, and why it was not. It took the whole text or, where it failed, a
+-- What a writer holds after a round was written to it, and why a round was not. It took the whole text or, where it failed, a
 -- prefix of it, and nothing where no dump can hold the decision. Nothing was written either where a load is too great, which is
--- reported in the format LBD1 alone, or where memory was refused, which only LBD2 asks for.
+-- reported only in the format LBD1, or where memory was refused, which only LBD2 needs.
 abbrev pub PutsRound : {A : Type 0} → DumpFormat → Taken → Refined A → Option (List ℕ) → Option (List ℕ) → Result ⊤ DumpError → Type 0
 PutsRound format s d old new (Err (Wide i)) = (format ≡ Lbd1) × IsFirstWide s.loads i × (new ≡ old)
 PutsRound format s d old new (Err OutOfMemory) = (format ≡ Lbd2) × (new ≡ old)
@@ -53,19 +53,19 @@ file_name prefix r = prefix ++ codes "." ++ decimal r
 abbrev pub file_names : {D : Type 0} → List ℕ → List (Taken × D) → List (List ℕ)
 file_names prefix rounds = map (λ round. file_name prefix round.0.step) rounds
 
--- these files more were asked for, where it is known which ones are
+-- these further files were requested, where it is known which ones are
 abbrev pub AsksFor : Option (List (List ℕ)) → Option (List (List ℕ)) → List (List ℕ) → Type 0
 AsksFor None new names = Unit {0}
 AsksFor (Some before) None names = ⊥
 AsksFor (Some before) (Some after) names = after ≡ before ++ names
 
--- a file was asked for of round r; where the dump was not written, maybe none was
+-- a file was requested for round r; where the dump was not written, perhaps none was
 abbrev pub AsksOnce : {E : Type 0} → List ℕ → ℕ → Option (List (List ℕ)) → Option (List (List ℕ)) → Result ⊤ E → Type 0
 AsksOnce prefix r old new (Ok _) = AsksFor old new (file_name prefix r ∷ [])
 AsksOnce prefix r old new (Err _) = AsksFor old new (file_name prefix r ∷ []) ⊎ (new ≡ old)
 
--- The first dump that was not written, and why. A file was asked for of each round before it, in order, and maybe of its
--- own round; it was not where memory for the name was refused.
+-- The first dump that was not written, and why. A file was requested for each round before it, in order, and perhaps for its
+-- own round; none was where memory for the name was refused.
 pub record StopsAt {D : Type 0} (format : DumpFormat) (prefix : List ℕ) (rounds : List (Taken × D)) (old new : Option (List (List ℕ))) (dump : NotWritten) : Type 0 where
   pub written : List (Taken × D)
   pub stopped : Taken × D
@@ -75,7 +75,7 @@ pub record StopsAt {D : Type 0} (format : DumpFormat) (prefix : List ℕ) (round
   pub fault : MayFail dump.fault format stopped.0
   pub asked : AsksFor old new (file_names prefix written) ⊎ AsksFor old new (file_names prefix (written ++ stopped ∷ []))
 
--- a file was asked for of each round, in order, up to the first dump that was not written
+-- a file was requested for each round, in order, up to the first dump that was not written
 abbrev pub AsksInTurn : {D : Type 0} → DumpFormat → List ℕ → List (Taken × D) → Option (List (List ℕ)) → Option (List (List ℕ)) → Result ⊤ NotWritten → Type 0
 AsksInTurn format prefix rounds old new (Ok _) = AsksFor old new (file_names prefix rounds)
 AsksInTurn format prefix rounds old new (Err dump) = StopsAt format prefix rounds old new dump

@@ -1,4 +1,4 @@
--- What is done once a workload has run: the dumps of its rounds, and the status.
+-- What follows once a workload has run: the dumps of its rounds, and the status.
 use Rattle.std.specs.Prelude.{◌≡◌, ℕ, List, [], ◌∷◌, ◌++◌, codes, Option, None, Some, Ok, Err}
 use Rattle.lb_snapshot.specs.Measured.{Taken}
 use Rattle.streams.specs.Writing.{WritesPrefix}

@@ -12,7 +12,7 @@ use Rattle.workload_run.specs.Telling.{TellsOutcome, WritesText}
 use Rattle.workload_run.specs.declared.ended.Ended.{Ended}
 use Rattle.workload_run.specs.declared.ended.Ended.TheVariants.{OutOfMemory}
 
--- what came of a workload that was read
+-- the result of a workload that was read
 abbrev pub EndsRun : {A : Type 0} → (TallyView → Type 0) → Strategy → WorkloadView → Option (List ℕ) → Option (List ℕ) → Option (OutcomeView TallyView A) → Ended → Type 0
 EndsRun fits strategy w old new (Some o) ended =
     IsLeftBy fits (tallies_of w) w.pes strategy o × TellsOutcome (outcome_text w.chares o) old new o.fault ended

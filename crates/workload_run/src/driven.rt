@@ -9,12 +9,12 @@ use rts_run::Outcome;
 use std::alloc::{Allocator, Global};
 use tally::Tally;
 
-/// What came of a workload: how that ended, and what its run left, where there was one.
+/// The result of a workload: how it ended, and what its run left, if there was one.
 #[derive(Drop)]
 pub struct Driven<A: Allocator + Copy = Global> {
     /// How it ended.
     pub ended: Ended,
-    /// What the run left; `None` where the workload was refused, or memory before the run.
+    /// What the run left; `None` where the workload was refused, or where memory ran out before the run.
     pub outcome: Option<Outcome<Tally<A>, A>>,
 }
 
@@ -26,7 +26,8 @@ impl<A: Allocator + Copy> Driven<A> {
         self.ended.status()
     }
 
-    /// The snapshot and the decision of each round that was decided, from round 1 on. There is none where there was no run.
+    /// The snapshot and the decision of each round that was decided, from round 1 on. There are none where there was no
+    /// run.
     pub fn rounds(&self) -> &[(Snapshot<A>, Refined<A>)]
         ensures value { result.now ≡ option_map_or (λ o. o.board.rounds) self.now.outcome [] }
     {

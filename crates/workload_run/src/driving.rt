@@ -20,18 +20,18 @@ use streams::Noted;
 use tally::Tally;
 use workload::{WorkError, Workload};
 
-/// Parcels for which each queue has room.
+/// The capacity of each queue in parcels.
 const CAPACITY: u32 = 1_024;
 
 /// Threads that search for a division.
 const PROBE_WORKERS: u32 = 4;
 
 /// Reads a workload, runs its tallies on its PEs, and writes the text of what that left, or the one line of a fault, and
-/// nothing else. A worker gives up after so many idle turns in a row, of 1 to [`Limits::IDLE_TURNS`], and rounds are decided by
-/// `strategy`.
+/// nothing else. A worker gives up after this number of idle turns in a row, of 1 to [`Limits::IDLE_TURNS`], and rounds are
+/// decided by `strategy`.
 ///
-/// The workload is judged as it is read. Past a fault of a line it is read on, to its end or the byte past the longest text,
-/// since a text that is too long is reported as that. What was read is given up before the run.
+/// The workload is checked as it is read. After a faulty line it is read on, to its end or the byte past the longest text,
+/// since a text that is too long is reported as such. The workload is dropped before the run.
 pub fn drive<T: Threads + Wait + Sync, R: Read, W: Write, A: Allocator + Copy + Send + Sync>(
     rt: &T,
     alloc: A,
@@ -50,8 +50,8 @@ pub fn drive<T: Threads + Wait + Sync, R: Read, W: Write, A: Allocator + Copy + 
     drive_watched(rt, alloc, reader, writer, turns, strategy, &NoWatch)
 }
 
-/// Runs the workload in a file as [`drive`] does, while somebody looks on, and returns also the system's reason where a read
-/// failed. A file that could not be opened is reported as a workload that was not read.
+/// Runs the workload in a file as [`drive`] does, observed by an [`Onlooker`], and returns also the system's reason where a
+/// read failed. A file that could not be opened is reported as a workload that was not read.
 pub fn drive_file<
     T: Threads + Wait + Sync,
     R: Read + Drop,
@@ -91,7 +91,7 @@ pub fn drive_file<
     }
 }
 
-// Runs the workload of a reader while somebody looks on.
+// Runs the workload of a reader, observed by an onlooker.
 fn drive_watched<
     T: Threads + Wait + Sync,
     R: Read,
@@ -123,7 +123,7 @@ fn drive_watched<
     }
 }
 
-// What came of a workload that was not run.
+// The result of a workload that was not run.
 fn without_run<A: Allocator + Copy>(ended: Ended) -> Driven<A>
     ensures ended { result.ended ≡ ended }
     ensures outcome { result.outcome ≡ None }

@@ -15,7 +15,7 @@ pub trait DumpFiles {
     /// A file that was made.
     type File: Write + Drop;
 
-    // the names of the files that were asked for, in order, where they are known
+    // the names of the files that were requested, in order, where they are known
     ghost names: { Self → Option (List (List ℕ)) };
 
     /// Makes the file with this name, empty.
@@ -39,8 +39,8 @@ pub struct NotWritten {
 ///
 /// # Errors
 ///
-/// The first dump that was not written, or whose file was not flushed. Of that one a prefix may have been written. No later
-/// file is made.
+/// The first dump that was not written, or whose file was not flushed. A prefix of it may have been written. No later file
+/// is made.
 pub fn write_dumps<F: DumpFiles, A: Allocator + Copy, B: Allocator + Copy>(
     alloc: A,
     rounds: &[(Snapshot<B>, Refined<B>)],
@@ -63,7 +63,7 @@ pub fn write_dumps<F: DumpFiles, A: Allocator + Copy, B: Allocator + Copy>(
     Ok(())
 }
 
-// Makes the file of a round, and writes its dump there. An error is what was wrong, and the system's reason.
+// Makes the file of a round, and writes its dump there. An error is what was wrong, with the system's reason.
 fn write_file<F: DumpFiles, A: Allocator, B: Allocator + Copy>(
     alloc: A,
     snapshot: &Snapshot<B>,

@@ -7,13 +7,13 @@ use workload::WorkError;
 /// How the run of a workload ended.
 #[derive(Clone, Copy, Debug, PartialEq, Eq)]
 pub enum Ended {
-    /// The text of what the run left was written whole. It has this fault, if one ended the run early.
+    /// The whole text of what the run left was written. The run has this fault, if one ended it early.
     Ran(Option<Fault>),
     /// The line of this fault of the workload was written; it is never that memory was refused.
     Refused(WorkError),
-    /// The line that memory was refused was written. There is an outcome where the run had ended before.
+    /// The line for refused memory was written. There is an outcome where the run had ended before.
     OutOfMemory,
-    /// The writer failed, or took nothing. A prefix of what was to be written has been written.
+    /// The writer failed, or took nothing. A prefix of the text or line has been written.
     WriteFailed,
 }
 

@@ -16,8 +16,8 @@ const NO_DUMP: &str = "dump: write failed\n";
 const NO_OUTPUT: u8 = 5;
 
 /// Writes the dump of each round that was decided, as [`write_dumps`] does, where a prefix is given, however the run ended.
-/// Returns the status that a program exits with: that of the run, or 5 where a dump was not written. That dump is returned
-/// too, and the writer gets the line `dump: write failed`, or a prefix of it where it fails.
+/// Returns the status that a program exits with: that of the run, or 5 where a dump was not written. In that case the dump
+/// is returned too, and the writer gets the line `dump: write failed`, or a prefix of it where it fails.
 pub fn write_asked<F: DumpFiles, W: Write, A: Allocator + Copy, B: Allocator + Copy>(
     alloc: A,
     driven: &Driven<B>,

@@ -1,12 +1,12 @@
 //! Runs the chares of a workload over threads: from the bytes of a reader to the text of what the run left.
 //!
-//! - [`drive`]: from the bytes of a reader to the bytes of a writer; [`drive_file`]: from those of a file, while somebody
-//!   looks on: an [`Onlooker`].
-//! - [`Driven`]: what came of it: how it [`Ended`], the status for that, and the rounds.
+//! - [`drive`]: from the bytes of a reader to the bytes of a writer; [`drive_file`]: the same from a file, observed by an
+//!   [`Onlooker`].
+//! - [`Driven`]: the result: how it [`Ended`], the status for that, and the rounds.
 //! - [`write_round`]: the dump of a round, in a [`DumpFormat`]; [`write_dumps`]: that of each round, to a file of its own of
-//!   some [`DumpFiles`]; [`write_asked`]: the same where it is asked for, with the status of it all.
+//!   some [`DumpFiles`]; [`write_asked`]: the same where it is asked for, with the status of the whole.
 //! - [`tallies_of`]: the tallies of a workload; [`tell_outcome`], [`report_fault`], [`report_memory`], [`report_text`]: what is
-//!   written, for whoever runs them otherwise.
+//!   written, for callers that run them in another way.
 //!
 //! ```
 //! use rts_run::Strategy;

@@ -2,9 +2,9 @@ use progress_line::Progress;
 use rts_run::{NoWatch, Watch};
 use std::time::Clock;
 
-/// Who looks on at the run of a workload. Nothing that is written depends on it, but where it asks the run to stop.
+/// A watch of the run of a workload. What is written does not depend on it, unless it asks the run to stop.
 pub trait Onlooker: Watch {
-    /// The workload was read, and has so many rounds.
+    /// The workload was read, and has this number of rounds.
     fn expects(&self, rounds: u32);
 }
 

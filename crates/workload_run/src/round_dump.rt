@@ -32,7 +32,8 @@ impl DumpFormat {
 }
 
 /// Writes the dump of a round: its snapshot and, in the format LBD2, the decision with its certificates, on as many PEs as the
-/// snapshot has. Cuts within a tolerance have no place in a dump: of a round that was decided so the snapshot alone is written.
+/// snapshot has. A dump cannot hold cuts within a tolerance: of a round that was decided with them only the snapshot is
+/// written.
 ///
 /// # Errors
 ///
@@ -41,7 +42,7 @@ impl DumpFormat {
 /// - [`Write`](DumpError::Write) where the writer fails, with any error, or takes nothing; a prefix has then been written. Also
 ///   where no [`Dump`] can hold the decision, which is never one of a run.
 ///
-/// The first two come before the first byte.
+/// The first two are returned before anything is written.
 pub fn write_round<W: Write, A: Allocator + Copy>(
     writer: &mut W,
     snapshot: &Snapshot<A>,
@@ -60,7 +61,7 @@ pub fn write_round<W: Write, A: Allocator + Copy>(
     }
 }
 
-// A round as a dump. A decision of a run has as many cuts, stops, names and prices as its number of PEs asks for, and moves no
+// A round as a dump. A decision of a run has as many cuts, stops, names and prices as its number of PEs requires, and moves no
 // element twice, so a dump can hold it.
 fn recorded<A: Allocator + Copy>(
     snapshot: &Snapshot<A>,

@@ -28,7 +28,7 @@ pub fn tallies_of<A: Allocator + Copy>(
     Ok(tallies)
 }
 
-// Tally `i` of a workload. The list is for its amounts while they are collected.
+// Tally `i` of a workload. The list is a buffer for its amounts.
 fn tally_of<A: Allocator + Copy>(
     alloc: A,
     workload: &Workload<A>,
@@ -46,7 +46,7 @@ fn tally_of<A: Allocator + Copy>(
     }
 }
 
-// Collects the amount at a place of each line.
+// Collects the amount at an index of each line.
 fn collect<A: Allocator>(
     lines: &[Vec<u32, A>],
     i: usize,

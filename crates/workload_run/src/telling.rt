@@ -17,7 +17,8 @@ use streams::write_out;
 use tally::Tally;
 use workload::WorkError;
 
-/// Writes the text of what a run of so many chares left, or the line that memory was refused, and returns how the run ended.
+/// Writes the text of what a run of this number of chares left, or the line for refused memory, and returns how the run
+/// ended.
 pub fn tell_outcome<W: Write, A: Allocator + Copy>(
     alloc: A,
     chares: usize,
@@ -33,7 +34,7 @@ pub fn tell_outcome<W: Write, A: Allocator + Copy>(
     report_text(writer, text.as_bytes(), Ended::Ran(outcome.fault()))
 }
 
-/// Writes the line of a fault of a workload, or that memory was refused, and returns the end for that.
+/// Writes the line of a fault of a workload, or the one for refused memory, and returns the end for that.
 pub fn report_fault<A: Allocator, W: Write>(alloc: A, writer: &mut W, fault: WorkError) -> Ended
     ensures reported { ReportsFault fault (W.contents writer.old) (W.contents writer.new) result }
 {
@@ -46,14 +47,14 @@ pub fn report_fault<A: Allocator, W: Write>(alloc: A, writer: &mut W, fault: Wor
     report_text(writer, line.as_bytes(), Ended::Refused(fault))
 }
 
-/// Writes the line where memory was refused, and returns the end for that.
+/// Writes the line for refused memory, and returns the end for that.
 pub fn report_memory<W: Write>(writer: &mut W) -> Ended
     ensures written { WritesText memory_line OutOfMemory (W.contents writer.old) (W.contents writer.new) result }
 {
     report_text(writer, NO_MEMORY.as_bytes(), Ended::OutOfMemory)
 }
 
-/// Writes a text, and returns this end, or that the writer failed.
+/// Writes a text, and returns `ended`, or that the writer failed.
 pub fn report_text<W: Write>(writer: &mut W, text: &[u8], ended: Ended) -> Ended
     ensures written { WritesText text.now ended (W.contents writer.old) (W.contents writer.new) result }
 {

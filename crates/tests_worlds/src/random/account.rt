@@ -1,4 +1,4 @@
-//! The account of a world by hand: where each letter and each element is, beside what was reported.
+//! The account of a world by hand: where each letter and each element is, compared with the trace.
 
 use crate::fixtures::assert_for;
 use crate::seen::{Seen, count, look_around};
@@ -21,7 +21,7 @@ pub(crate) fn compare<C: Chare<A>, H: Openings<C>, A: Allocator>(
     compare_posted(rt, seen.as_slice(), trace);
 }
 
-// All that is seen was reported, once.
+// All that is seen is in the trace, once.
 fn compare_seen(rt: &impl Abort, seen: &[Seen], trace: &[TraceEntry]) {
     for one in seen {
         compare_one(rt, seen, trace, one);
@@ -82,7 +82,7 @@ fn posted_in(trace: &[TraceEntry]) -> u64 {
     letters
 }
 
-// What is seen was reported, once.
+// What is seen is in the trace, once.
 fn compare_one(rt: &impl Abort, seen: &[Seen], trace: &[TraceEntry], one: &Seen) {
     match one {
         Seen::Letter(id, to) => posted_once(rt, trace, id, *to),
@@ -136,7 +136,7 @@ fn known(rt: &impl Abort, seen: &[Seen], e: Index) {
     assert_for(rt, word(seen, e).is_some(), e);
 }
 
-// The word of an element.
+// The location word of an element.
 fn word(seen: &[Seen], e: Index) -> Option<Pe> {
     for one in seen {
         if let Seen::Word(other, word, _) = one {

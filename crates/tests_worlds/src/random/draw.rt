@@ -40,8 +40,8 @@ impl Draw {
         (pes.saturating_add(1), n.saturating_add(1))
     }
 
-    /// An event of a world of so many PEs and elements. Of several that are drawn it is the first that is likely to
-    /// change something, or else the last.
+    /// An event of a world of this number of PEs and elements: of several that are drawn, the first that is likely
+    /// to change something, or otherwise the last.
     pub(crate) fn event<C: Chare<A>, H: Openings<C>, A: Allocator>(
         &mut self,
         rt: &impl Abort,
@@ -58,7 +58,7 @@ impl Draw {
         self.any_event(rt, pes, n)
     }
 
-    // Any event of a world of so many PEs and elements.
+    // Any event of a world of this number of PEs and elements.
     fn any_event(&mut self, rt: &impl Abort, pes: u32, n: u32) -> Event {
         let (p, e) = (pe(rt, self.below(pes)), index(rt, self.below(n)));
         match self.below(12) {
@@ -151,7 +151,7 @@ fn is_likely<C: Chare<A>, H: Openings<C>, A: Allocator>(
     }
 }
 
-// Whether an element that has not started stands here.
+// Whether an element that has not started is on this PE.
 fn starts<C: Chare<A>, H: Openings<C>, A: Allocator>(pe: &PeState<C, H, A>, e: Index) -> bool {
     match pe.room().element(e) {
         Some(element) => !element.progress().started,
@@ -159,7 +159,7 @@ fn starts<C: Chare<A>, H: Openings<C>, A: Allocator>(pe: &PeState<C, H, A>, e: I
     }
 }
 
-// Whether an element stands here that waits for the end of a round before the present one.
+// Whether an element is on this PE that waits for the end of a round before the present one.
 fn waits<C: Chare<A>, H: Openings<C>, A: Allocator>(
     pe: &PeState<C, H, A>,
     e: Index,

@@ -1,4 +1,4 @@
-//! The laws of a trace, looked up by hand: when elements go on, and how letters chase them.
+//! The laws of a trace, checked by hand: when elements go on, and how letters chase them.
 
 use crate::fixtures::assert_for;
 use crate::seen::{Place, Seen, count};
@@ -9,7 +9,7 @@ use lb_refinement::Refined;
 use std::alloc::Allocator;
 use std::process::Abort;
 
-/// What must be so when this is reported, with what is seen then, after what was reported before.
+/// What has to hold when an entry is added to the trace, with what is seen then, and the entries before it.
 pub(crate) fn barrier<A: Allocator>(
     rt: &impl Abort,
     board: &Board<A>,
@@ -24,7 +24,7 @@ pub(crate) fn barrier<A: Allocator>(
     }
 }
 
-// An element goes on after a round once; all have reported in that round, and it stands at its place.
+// An element goes on after a round once; all have reported in that round, and it is at its place.
 fn resumed<A: Allocator>(
     rt: &impl Abort,
     board: &Board<A>,
@@ -78,7 +78,7 @@ fn place_in<A: Allocator>(decision: &Refined<A>, e: Index) -> Option<Pe> {
     Pe::new(*name)
 }
 
-// A round is decided once, when all have reported, from where each of them stands.
+// A round is decided once, when all have reported, for the PEs on which they are.
 fn decided<A: Allocator>(
     rt: &impl Abort,
     board: &Board<A>,
@@ -140,7 +140,7 @@ fn may_wait(seen: &[Seen], place: Place, to: Index) -> bool {
     }
 }
 
-// How often the second was reported after the first.
+// How often the second entry is in a trace after the first.
 fn count_after(trace: &[TraceEntry], first: TraceEntry, second: TraceEntry) -> usize {
     let mut after = false;
     let mut number: usize = 0;

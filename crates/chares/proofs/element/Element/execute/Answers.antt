@@ -34,7 +34,7 @@ returns-then-is_err-clause-refused g c = λ k. absurd (k refl)
 pub returns-then-is_err-clause-taken_back : goal.returns-then-is_err-clause-taken_back
 returns-then-is_err-clause-taken_back g c = refl
 
--- none for the report
+-- none for the trace entry
 
 pub invariant_of-self-then-is_err-3 : goal.invariant_of-self-then-is_err-3
 invariant_of-self-then-is_err-3 g c = c.self.invariant

@@ -57,7 +57,7 @@ returns-in_err-reserve-2-clause-refused g c = memory _ _ c.from_residual-in_err-
 pub returns-in_err-reserve-2-clause-taken_back : goal.returns-in_err-reserve-2-clause-taken_back
 returns-in_err-reserve-2-clause-taken_back g c = whatever _ _ refl
 
--- none for the report
+-- none for the trace entry
 
 pub invariant_of-self-in_err-log : goal.invariant_of-self-in_err-log
 invariant_of-self-in_err-log g c = c.self.invariant
