@@ -30,7 +30,7 @@ mod config;
 mod counting;
 mod error;
 mod gathering;
-mod opening;
+mod opened_run;
 mod outcome;
 mod running;
 

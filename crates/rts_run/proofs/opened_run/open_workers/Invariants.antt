@@ -4,7 +4,7 @@ use Rattle.std.specs.List.{range_with_len}
 use Rattle.std.specs.VecDeque.{deque_capacity}
 use Rattle.pe_queues.specs.Seats.{new_seat}
 use Rattle.rts_core.specs.Ledgers.{no_ledger, IsLocalAccount}
-use Rattle.rts_run.proofs.opening.open_workers.Given as goal
+use Rattle.rts_run.proofs.opened_run.open_workers.Given as goal
 
 abbrev pub invariant-loop-pe : goal.invariant-loop-pe
 invariant-loop-pe g l = record {

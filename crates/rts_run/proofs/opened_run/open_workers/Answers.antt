@@ -5,7 +5,7 @@ use Rattle.pe_queues.specs.Seats.{new_seat}
 use Rattle.rts_core.specs.Ledgers.{no_ledger, IsLocalAccount}
 use Rattle.rts_core.proofs.Openings.{drop_next}
 use Rattle.run_account.proofs.Passing.{next_is, rest_is, more_in_order, all_next, drop_head, counted_more}
-use Rattle.rts_run.proofs.opening.open_workers.Goals as goal
+use Rattle.rts_run.proofs.opened_run.open_workers.Goals as goal
 
 pub loop-pe-init : goal.loop-pe-init
 loop-pe-init g c =
