@@ -1,2 +1,3 @@
 pub mod Configs
+pub mod Openings
 pub mod Outcomes

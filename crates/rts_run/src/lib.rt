@@ -30,6 +30,7 @@ mod config;
 mod counting;
 mod error;
 mod gathering;
+mod opened_run;
 mod outcome;
 mod running;
 mod workers;

@@ -1,17 +1,14 @@
 //! The run, from chares to its outcome.
 
-ghost use Rattle.std.specs.Prelude.{◌≡◌, ◌≢◌, ◌≤◌, ◌<◌, All, IfOk, IfSome, MatchResult, None, Some, length, map, sum_by};
+ghost use Rattle.std.specs.Prelude.{◌≡◌, ◌≢◌, ◌≤◌, IfOk, IfSome, MatchResult, None, Some, length, map};
 ghost use Rattle.std.specs.List.{range_with_len};
 ghost use Rattle.std.specs.VecDeque.{deque_len};
-ghost use Rattle.chare_index.specs.declared.limits.TheConstants.Limits.{SEATS};
 ghost use Rattle.at_sync.specs.Boards.{AreDecided, HaveFinished, IsBoard};
 ghost use Rattle.lb_database.specs.Measuring.{elements};
-ghost use Rattle.pe_queues.specs.Seats.{new_seat, pes};
 ghost use Rattle.pe_worker.specs.declared.fault.Fault.TheVariants.{Mismatch, Stopped, Unpack};
 ghost use Rattle.round_marks.specs.Runs.{AreAllMarked};
 ghost use Rattle.rts_core.specs.Accounts.{IsCounted};
 ghost use Rattle.rts_core.specs.Histories.{AreHistories};
-ghost use Rattle.rts_core.specs.Worlds.{opening_pes};
 ghost use Rattle.run_account.specs.RunAccounts.{IsRunAccount, left_world};
 ghost use Rattle.rts_run.specs.Configs.{IsWithin, MayBegin, RefusesRun};
 ghost use Rattle.rts_run.specs.Outcomes.{IsOutcome};
@@ -19,17 +16,16 @@ ghost use Rattle.rts_run.specs.Outcomes.{IsOutcome};
 use crate::config::Config;
 use crate::error::RunError;
 use crate::gathering::gather;
+use crate::opened_run::OpenedRun;
 use crate::outcome::Outcome;
 use crate::workers::open_workers;
 use at_sync::Board;
 use barrier::RunStrategy;
 use chare_index::{Gate, Limits};
 use chares::{Chare, Openings};
-use pe_queues::{Locations, Post, Seat};
-use pe_state::{HeldParcel, Parcel, PeEnd, PeState};
-use pe_worker::{Fault, Field, NoWatch, OfRun, RunBeginning, Watch, Worker};
+use pe_state::{HeldParcel, PeEnd};
+use pe_worker::{Fault, Field, NoWatch, RunBeginning, Watch, Worker};
 use round_marks::run_agrees;
-use rts_core::{opening_pes, opening_words};
 use run_account::{LeftBuffers, take_next};
 use std::alloc::{AllocError, Allocator};
 use std::collections::VecDeque;
@@ -54,7 +50,7 @@ use worker_threads::Crew;
 ///
 /// The first that applies: [`Config`](RunError::Config) where a number is out of its limits, or there are more than
 /// [`Limits::ELEMENTS`] chares, with the first such number; [`OutOfMemory`](RunError::OutOfMemory). No worker was started
-/// then, and the chares are given up.
+/// then, and the chares are dropped.
 pub fn run<
     C: Chare<A> + Send,
     G: Gate + Sync,
@@ -145,44 +141,11 @@ fn run_as<
     requires by_strategy { config.now.strategy ≡ H.strategy }
     ensures outcome { IfOk result (IsOutcome C.step C.fits C.pack H.opened H.pes H.strategy) }
 {
-    let n = element_count(&chares);
-    let homes = opening_words(alloc, n, config.pes)?;
-    let words = Locations::<OfRun<C, H>, A>::new(alloc, &homes, config.pes)?;
-    let board = Board::new(alloc, n, config.pes, config.strategy)?;
-    let (post, seats) = open_post::<C, H, A>(alloc, config)?;
-    let states = opening_pes(alloc, config.pes, chares)?;
-    run_opened(
-        rt, alloc, config, gate, watch, post, seats, states, words, board,
-    )
+    let opened = OpenedRun::<C, H, A>::new(alloc, config, chares)?;
+    run_opened(rt, alloc, config, gate, watch, opened)
 }
 
-// How many chares there are. An array may have as many.
-fn element_count<C>(chares: &[C]) -> u32
-    requires few { length chares.now ≤ Limits.ELEMENTS }
-    ensures value { result ≡ length chares.now }
-{
-    chares.len() as u32
-}
-
-// The queues of a run, with a seat for each PE.
-fn open_post<C: Chare<A>, H: Openings<C> + RunStrategy, A: Allocator + Copy>(
-    alloc: A,
-    config: &Config,
-) -> Result<(Post<Parcel<C, H, A>, A>, Vec<Seat<Parcel<C, H, A>, A>, A>), AllocError>
-    requires { IsWithin config.now }
-    ensures served { IfOk result (λ made. pes made.0 ≡ config.now.pes) }
-    ensures capacity { IfOk result (λ made. made.0.capacity ≡ config.now.capacity) }
-    ensures seated { IfOk result (λ made. length made.1.items ≡ config.now.pes) }
-    ensures new { IfOk result (λ made. All (λ s. s ≡ new_seat made.0 s.seats) made.1.items) }
-    ensures all_seats { IfOk result (λ made. sum_by (λ s. s.seats) made.1.items ≡ SEATS) }
-{
-    match Post::new(alloc, config.pes, config.pes, config.capacity) {
-        Ok(made) => Ok(made),
-        Err(_) => Err(AllocError),
-    }
-}
-
-// The run of PEs that have opened. It picks the names of its queues and of its opening.
+// The run of PEs that have opened. It picks the name of its beginning.
 fn run_opened<
     C: Chare<A> + Send,
     H: Openings<C> + RunStrategy + Send + Sync,
@@ -196,34 +159,17 @@ fn run_opened<
     config: &Config,
     gate: &G,
     watch: &V,
-    post: Post<Parcel<C, H, A>, A>,
-    seats: Vec<Seat<Parcel<C, H, A>, A>, A>,
-    states: Vec<PeState<C, H, A>, A>,
-    words: Locations<OfRun<C, H>, A>,
-    board: Board<A>,
+    opened: OpenedRun<C, H, A>,
 ) -> Result<Outcome<C, A>, AllocError>
     requires within { IsWithin config.now }
     requires run { config.now.pes ≡ H.pes }
-    requires opening { states.items ≡ opening_pes H.pes H.opened }
-    requires counted { length states.items ≡ H.pes }
-    requires served { pes post ≡ H.pes }
-    requires capacity { post.capacity ≡ config.now.capacity }
-    requires seated { length seats.items ≡ H.pes }
-    requires new { All (λ s. s ≡ new_seat post s.seats) seats.items }
-    requires all_seats { sum_by (λ s. s.seats) seats.items ≡ SEATS }
-    requires word_pes { words.pes ≡ H.pes }
-    requires word_elements { words.elements ≡ length H.opened }
-    requires elements { elements board.database ≡ length H.opened }
-    requires on_pes { board.pes ≡ H.pes }
-    requires by_strategy { board.strategy ≡ H.strategy }
+    requires capacity { opened.post.capacity ≡ config.now.capacity }
     ensures outcome { IfOk result (IsOutcome C.step C.fits C.pack H.opened H.pes H.strategy) }
 {
-    run_named::<C, H, Brand, G, V, R, A>(
-        rt, alloc, config, gate, watch, post, seats, states, words, board,
-    )
+    run_named::<C, H, Brand, G, V, R, A>(rt, alloc, config, gate, watch, opened)
 }
 
-// The same, under these names.
+// The same, under this name.
 fn run_named<
     C: Chare<A> + Send,
     H: Openings<C> + RunStrategy + Send + Sync,
@@ -238,38 +184,19 @@ fn run_named<
     config: &Config,
     gate: &G,
     watch: &V,
-    post: Post<Parcel<C, H, A>, A>,
-    seats: Vec<Seat<Parcel<C, H, A>, A>, A>,
-    states: Vec<PeState<C, H, A>, A>,
-    words: Locations<OfRun<C, H>, A>,
-    board: Board<A>,
+    opened: OpenedRun<C, H, A>,
 ) -> Result<Outcome<C, A>, AllocError>
-    requires own { post ≡ J.beginning.post }
-    requires starts { states.items ≡ J.beginning.starts }
-    requires shares { map (λ s. s.seats) seats.items ≡ J.beginning.shares }
+    requires beginning { opened ≡ J.beginning }
     requires within { IsWithin config.now }
     requires run { config.now.pes ≡ H.pes }
-    requires opening { states.items ≡ opening_pes H.pes H.opened }
-    requires counted { length states.items ≡ H.pes }
-    requires served { pes post ≡ H.pes }
-    requires capacity { post.capacity ≡ config.now.capacity }
-    requires seated { length seats.items ≡ H.pes }
-    requires new { All (λ s. s ≡ new_seat post s.seats) seats.items }
-    requires all_seats { sum_by (λ s. s.seats) seats.items ≡ SEATS }
-    requires word_pes { words.pes ≡ H.pes }
-    requires word_elements { words.elements ≡ length H.opened }
-    requires elements { elements board.database ≡ length H.opened }
-    requires on_pes { board.pes ≡ H.pes }
-    requires by_strategy { board.strategy ≡ H.strategy }
+    requires capacity { opened.post.capacity ≡ config.now.capacity }
     ensures outcome { IfOk result (IsOutcome C.step C.fits C.pack H.opened H.pes H.strategy) }
 {
     let count = config.pes as usize;
     let room = Vec::with_capacity(alloc, count)?;
     let left = LeftBuffers::new(alloc, count, config.capacity as usize)?;
     let crew = Crew::with_capacity(alloc, count)?;
-    let (states, seats) = (VecDeque::from_vec(states), VecDeque::from_vec(seats));
-    let workers = open_workers::<C, H, J, A>(alloc, config.pes, states, seats)?;
-    let field = Field::new(post, words, board, config.turns, config.probe_workers);
+    let (field, workers) = opened.begin::<J>(alloc, config)?;
     let mut done = work_all(rt, gate, watch, &field, crew, workers);
     let Some(first) = take_next(&mut done) else {
         unreachable!()

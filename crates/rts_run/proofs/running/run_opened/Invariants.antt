@@ -1,5 +1,4 @@
-use Rattle.std.proofs.Common.{map}
 use Rattle.rts_run.proofs.running.run_opened.Given as goal
 
 abbrev pub ghosts-run_named : goal.ghosts-run_named
-ghosts-run_named g a = record { beginning = record { post = a.post; starts = a.states.items; shares = map (λ s. s.seats) a.seats.items } }
+ghosts-run_named g a = record { beginning = a.opened }

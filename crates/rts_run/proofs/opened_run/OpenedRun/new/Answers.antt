@@ -1,0 +1,31 @@
+use Rattle.std.proofs.Common.{◌≡◌, ◌∙◌, ℕ, ap, length}
+use Rattle.std.proofs.lemmas.List.{length-map, length-replicate}
+use Rattle.std.proofs.lemmas.List.FromFn.{length-map-range_with_len}
+use Rattle.lb_database.specs.Measuring.{elements}
+use Rattle.rts_core.specs.Worlds.{opening_pes, home}
+use Rattle.rts_core.proofs.Weights.{sum_by-map}
+use Rattle.rts_run.proofs.opened_run.OpenedRun.new.Goals as goal
+
+pub invariant_of-result : goal.invariant_of-result
+invariant_of-result g c =
+    let n = c.element_count-n.result in
+    let counts = c.element_count-n.ensures.value ∙ ap length c.deref.ensures.value in
+    let all : n ≡ length g.H.Openings.opened = counts ∙ ap length c.requires.opened in
+    let homes : length c.in_ok-homes.homes.items ≡ n = ap length c.in_ok-homes.ensures.value ∙ length-map-range_with_len (λ e. home e n c.args.config.now.pes) 0 n in
+    let board : elements c.in_ok-board.board.database ≡ n = ap (λ b. elements b.database) c.in_ok-board.ensures.made ∙ length-replicate {A = ℕ} n 0 in (
+      record {
+        opening = c.in_ok-states.ensures.value ∙ (ap (λ v. opening_pes v c.args.chares.items) c.requires.run ∙ ap (opening_pes g.H.Openings.pes) c.requires.opened);
+        counted = c.in_ok-states.ensures.counted ∙ c.requires.run;
+        served = c.in_ok-post.ensures.served ∙ c.requires.run;
+        shared = length-map c.in_ok-post.seats.items (λ s. s.seats) ∙ (c.in_ok-post.ensures.seated ∙ c.requires.run);
+        all_seats = sum_by-map (λ n. n) (λ s. s.seats) c.in_ok-post.seats.items ∙ c.in_ok-post.ensures.all_seats;
+      },
+      c.in_ok-post.ensures.new,
+      record {
+        word_pes = c.in_ok-words.ensures.pes ∙ c.requires.run;
+        word_elements = c.in_ok-words.ensures.elements ∙ (ap length c.deref-2.ensures.value ∙ (homes ∙ all));
+        elements = board ∙ all;
+        on_pes = ap (λ b. b.pes) c.in_ok-board.ensures.made ∙ c.requires.run;
+        by_strategy = ap (λ b. b.strategy) c.in_ok-board.ensures.made ∙ c.requires.by_strategy;
+      },
+    )

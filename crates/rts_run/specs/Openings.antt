@@ -1,0 +1,32 @@
+-- What a run opens with.
+use Rattle.std.specs.Prelude.{◌≡◌, ℕ, List, length, sum_by, All}
+use Rattle.at_sync.specs.Boards.{BoardState}
+use Rattle.at_sync.specs.declared.strategy.Strategy.{Strategy}
+use Rattle.chare_index.specs.declared.limits.TheConstants.Limits.{SEATS}
+use Rattle.lb_database.specs.Measuring.{elements}
+use Rattle.pe_queues.specs.Seats.{new_seat, pes, PostView, SeatView}
+use Rattle.pe_queues.specs.Whereabouts.{Whereabouts}
+use Rattle.pe_state.specs.Pes.{Parcel}
+use Rattle.pe_worker.specs.Seated.{Beginning}
+use Rattle.rts_core.specs.Worlds.{opening_pes}
+
+-- A run of these chares on so many PEs begins so: with each PE as it opens, a queue for each of them, and all seats shared out
+-- among them.
+pub record IsBeginning {C : Type 0} (count : ℕ) (chares : List C) (run : Beginning C) : Type 0 where
+  pub opening : run.starts ≡ opening_pes count chares
+  pub counted : length run.starts ≡ count
+  pub served : pes run.post ≡ count
+  pub shared : length run.shares ≡ count
+  pub all_seats : sum_by (λ n. n) run.shares ≡ SEATS
+
+-- The words are those of such a run, and the board is one of its chares and PEs, on which its strategy decides.
+pub record AreOfRun {A : Type 0} (count elements_count : ℕ) (strategy : Strategy) (words : Whereabouts) (board : BoardState A) : Type 0 where
+  pub word_pes : words.pes ≡ count
+  pub word_elements : words.elements ≡ elements_count
+  pub elements : elements board.database ≡ elements_count
+  pub on_pes : board.pes ≡ count
+  pub by_strategy : board.strategy ≡ strategy
+
+-- through each of these seats nothing has gone
+abbrev pub AreNewSeats : PostView → List (SeatView Parcel) → Type 0
+AreNewSeats post seats = All (λ s. s ≡ new_seat post s.seats) seats
