@@ -18,7 +18,6 @@ use crate::error::RunError;
 use crate::gathering::gather;
 use crate::opened_run::OpenedRun;
 use crate::outcome::Outcome;
-use crate::workers::open_workers;
 use at_sync::Board;
 use barrier::RunStrategy;
 use chare_index::{Gate, Limits};
