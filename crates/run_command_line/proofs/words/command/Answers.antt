@@ -1,6 +1,6 @@
 use Rattle.std.proofs.Common.{◌≡◌, codes, ◌∙◌, ap, subst, refl, true, [], ◌∷◌, arith, is_some}
 use Rattle.std.proofs.lemmas.Result.{IfOk-weaker}
-use Rattle.std.proofs.lemmas.List.Elements.{All-nil, All-cons}
+use Rattle.std.proofs.lemmas.List.Elements.{All-from_recursion}
 use Rattle.clap.specs.Built.{FitsChain}
 use Rattle.clap.specs.Words.{first_value, found_of}
 use Rattle.clap.proofs.CallerLemmas.{required_in_chain}
@@ -30,7 +30,7 @@ pub returns-clause-named : goal.returns-clause-named
 returns-clause-named c =
     let chain = c.file.result ∷ c.dump.result ∷ c.lbd1.result ∷ c.progress.result ∷ c.tolerance.result ∷ c.seed.result ∷ c.seeds.result ∷ c.events.result ∷ c.replay.result ∷ c.trace.result ∷ [] in
     let named : are_distinct (ids_of chain) ≡ true = rw (ap (λ r. r.id) c.file.ensures.rule, ap (λ r. r.id) c.dump.ensures.rule, ap (λ r. r.id) c.lbd1.ensures.rule, ap (λ r. r.id) c.progress.ensures.rule, ap (λ r. r.id) c.tolerance.ensures.rule, ap (λ r. r.id) c.seed.ensures.rule, ap (λ r. r.id) c.seeds.ensures.rule, ap (λ r. r.id) c.events.ensures.rule, ap (λ r. r.id) c.replay.ensures.rule, ap (λ r. r.id) c.trace.ensures.rule) distinct in
-    let all = All-cons FitsChain c.file.result _ c.file.ensures.fits (All-cons FitsChain c.dump.result _ c.dump.ensures.fits (All-cons FitsChain c.lbd1.result _ c.lbd1.ensures.fits (All-cons FitsChain c.progress.result _ c.progress.ensures.fits (All-cons FitsChain c.tolerance.result _ c.tolerance.ensures.fits (All-cons FitsChain c.seed.result _ c.seed.ensures.fits (All-cons FitsChain c.seeds.result _ c.seeds.ensures.fits (All-cons FitsChain c.events.result _ c.events.ensures.fits (All-cons FitsChain c.replay.result _ c.replay.ensures.fits (All-cons FitsChain c.trace.result _ c.trace.ensures.fits (All-nil FitsChain)))))))))) in
+    let all = All-from_recursion FitsChain chain (c.file.ensures.fits, (c.dump.ensures.fits, (c.lbd1.ensures.fits, (c.progress.ensures.fits, (c.tolerance.ensures.fits, (c.seed.ensures.fits, (c.seeds.ensures.fits, (c.events.ensures.fits, (c.replay.ensures.fits, (c.trace.ensures.fits, tt)))))))))) in
     let bare = c.new_program-command.ensures.bare in
     IfOk-weaker c.arg-10.result _ _ (λ command added m parsed.
     subst (λ id. is_some (first_value (found_of m) id) ≡ true) (ap (λ r. r.id) c.file.ensures.rule)

@@ -1,6 +1,6 @@
 use Rattle.std.proofs.Common.{◌≡◌, codes, ◌∙◌, ap, subst, refl, true, [], ◌∷◌, arith, is_some}
 use Rattle.std.proofs.lemmas.Result.{IfOk-weaker}
-use Rattle.std.proofs.lemmas.List.Elements.{All-nil, All-cons}
+use Rattle.std.proofs.lemmas.List.Elements.{All-from_recursion}
 use Rattle.clap.specs.Built.{FitsChain}
 use Rattle.clap.specs.Words.{first_value, found_of}
 use Rattle.clap.proofs.CallerLemmas.{required_in_chain}
@@ -24,7 +24,7 @@ pub returns-clause-named : goal.returns-clause-named
 returns-clause-named c =
     let chain = c.file.result ∷ c.procs.result ∷ c.tolerance.result ∷ c.check.result ∷ [] in
     let named : are_distinct (ids_of chain) ≡ true = rw (ap (λ r. r.id) c.file.ensures.rule, ap (λ r. r.id) c.procs.ensures.rule, ap (λ r. r.id) c.tolerance.ensures.rule, ap (λ r. r.id) c.check.ensures.rule) distinct in
-    let all = All-cons FitsChain c.file.result _ c.file.ensures.fits (All-cons FitsChain c.procs.result _ c.procs.ensures.fits (All-cons FitsChain c.tolerance.result _ c.tolerance.ensures.fits (All-cons FitsChain c.check.result _ c.check.ensures.fits (All-nil FitsChain)))) in
+    let all = All-from_recursion FitsChain chain (c.file.ensures.fits, (c.procs.ensures.fits, (c.tolerance.ensures.fits, (c.check.ensures.fits, tt)))) in
     let bare = c.new_program-command.ensures.bare in
     IfOk-weaker c.arg-4.result _ _ (λ command added m parsed.
     subst (λ id. is_some (first_value (found_of m) id) ≡ true) (ap (λ r. r.id) c.file.ensures.rule)
