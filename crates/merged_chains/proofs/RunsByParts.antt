@@ -159,3 +159,8 @@ next_at_last lower upper window element last ordered first before none =
 
     next : (other : ℕ) → EndsRun lower upper element last other → last ≤ other
     next other found = by_place other found.0 found.2
+
+-- the ends of all runs, by the names of the windows
+pub same_ends : (lower upper lower' upper' ends : List ℕ) (first last begin all : ℕ) → lower ≡ lower' → upper ≡ upper' → last ≡ all → begin ≡ all → AreEnds lower upper first last begin ends → AreEnds lower' upper' first all all ends
+same_ends lower upper lower' upper' ends first last begin all lower_is upper_is last_is begin_is h =
+    subst (λ list. AreEnds list upper' first all all ends) lower_is (subst (λ list. AreEnds lower list first all all ends) upper_is (subst (λ n. AreEnds lower upper first n all ends) last_is (subst (λ n. AreEnds lower upper first last n ends) begin_is h)))
