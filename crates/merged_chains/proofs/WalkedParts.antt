@@ -1,9 +1,9 @@
 -- A greedy walk over a chain that comes part by part.
-use Rattle.std.proofs.Common.{◌≡◌, ◌≢◌, ◌∙◌, ℕ, suc, zero, ◌+◌, ◌-◌, ◌<◌, ◌≤◌, ◌↔◌, inl, inr, List, [], ◌∷◌, ◌++◌, length, slice_index, arith, refl, sym, subst, ap, add-one}
+use Rattle.std.proofs.Common.{◌≡◌, ◌≢◌, ◌∙◌, ℕ, suc, zero, ◌+◌, ◌-◌, ◌<◌, ◌≤◌, ◌↔◌, inl, inr, List, [], ◌∷◌, ◌++◌, length, slice_index, get_or, set, arith, refl, sym, subst, ap, add-one}
 use Rattle.std.specs.Prelude.{replicate}
 use Rattle.std.specs.List.Sorted.{IsNonDecreasing}
 use Rattle.std.proofs.lemmas.Bool.{cases_lt, cases_eq}
-use Rattle.std.proofs.lemmas.List.{append-nil, append_assoc, get_or-append_right, get_or-replicate, length-append, replicate_more}
+use Rattle.std.proofs.lemmas.List.{append-nil, append_assoc, get_or-append_right, get_or-replicate, get_or-set_other, get_or-set_same, get_or_default, length-append, replicate_more}
 use Rattle.lb_snapshot.specs.Measured.{load}
 use Rattle.lb_certificates.proofs.Chains.{load_wider}
 use Rattle.chain_partition.specs.Greedy.{CanFit, IsGreatestEnd, IsGreedy}
@@ -207,6 +207,17 @@ stands_ends part blocks walk closed first filled new stands closed_is limit_is s
     walked before ends h =
         let found = stands (length before) in
         (found.0, at_ends part blocks walk (length before) found.0 closed first filled new found.1 closed_is limit_is same empty before ends refl h)
+
+-- one more of many walks
+pub walks_more : (part : List ℕ) (blocks : ℕ) (old now : List Walk) (k : ℕ) (d new : Walk) → k < length now → ((i : ℕ) (e : Walk) → k ≤ i → get_or now i e ≡ get_or old i e) → ((i : ℕ) (e : Walk) → i < k → WalksOn part blocks (get_or old i e) (get_or now i e)) → WalksOn part blocks (get_or now k d) new → (i : ℕ) (e : Walk) → i < k + 1 → WalksOn part blocks (get_or old i e) (get_or (set now k new) i e)
+walks_more part blocks old now k d new inside kept walked step i e below =
+    elim (cases_lt i k) [
+      | inl earlier ↦ subst (λ w. WalksOn part blocks (get_or old i e) w) (sym (get_or-set_other now k i new e (omega arith))) (walked i e earlier)
+      | inr latest ↦
+          let same : k ≡ i = omega arith in
+          let here : WalksOn part blocks (get_or old k e) new = subst (λ w. WalksOn part blocks w new) (get_or_default now k d e inside ∙ kept k e (omega arith)) step in
+          subst (λ n. WalksOn part blocks (get_or old n e) (get_or (set now k new) n e)) same (subst (λ w. WalksOn part blocks (get_or old k e) w) (sym (get_or-set_same now k new e inside)) here)
+    ]
 
 -- a block from the last element on is empty
 full_end : (xs : List ℕ) (limit : ℕ) → IsGreatestEnd xs (length xs) limit (length xs)

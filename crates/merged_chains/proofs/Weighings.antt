@@ -163,10 +163,13 @@ light_is_first {A} all p bl fl d s i division within e counted starts ordered en
         absurd (omega (arith, light.2, first.earlier j light.0 (omega arith)))
     earlier _ same lower flawed = absurd (omega arith)
 
+weighed_where_ok : {A T : Type 0} (all p : ℕ) (bl fl : List ℕ) (d : Division A) (answer : Result T Flaw) → OnOk answer (IsWeighed all p d bl fl) → IsOk answer → IsWeighed all p d bl fl
+weighed_where_ok all p bl fl d (Ok _) weighed accepted = weighed
+weighed_where_ok all p bl fl d (Err _) weighed accepted = absurd cc
+
 -- an answer that accepts says that the numbers certify the division, and no other does
 pub exact_answer : {A T : Type 0} (all p : ℕ) (bl fl : List ℕ) (d : Division A) (answer : Result T Flaw) → OnOk answer (IsWeighed all p d bl fl) → IfErr answer (IsFirst (HasWeightFlaw all p d bl fl)) → IsOk answer ↔ IsWeighed all p d bl fl
-exact_answer all p bl fl d answer weighed first = (weighed_where_ok answer weighed, ok_where_weighed all p bl fl d answer first)
-  where
-    weighed_where_ok : (answer : Result T Flaw) → OnOk answer (IsWeighed all p d bl fl) → IsOk answer → IsWeighed all p d bl fl
-    weighed_where_ok (Ok _) weighed accepted = weighed
-    weighed_where_ok (Err _) weighed accepted = absurd cc
+exact_answer all p bl fl d answer weighed first = (
+  weighed_where_ok all p bl fl d answer weighed,
+  ok_where_weighed all p bl fl d answer first,
+)

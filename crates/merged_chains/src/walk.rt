@@ -76,7 +76,7 @@ pub fn walk_on<B: Allocator>(part: &Chain<'_, B>, pes: u32, walk: Walk) -> Walk
 pub fn walk_all_on<B: Allocator>(part: &Chain<'_, B>, pes: u32, walks: &mut [Walk])
     ensures walked { (i : ℕ) (d : Walk) → i < length walks.old → WalksOn part.now pes (slice_index_or walks.old i d) (slice_index_or walks.new i d) }
 {
-    for walk in walks {
+    for walk in walks.iter_mut() {
         *walk = walk_on(part, pes, *walk);
     }
 }

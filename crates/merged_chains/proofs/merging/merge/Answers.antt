@@ -23,8 +23,8 @@ loop-begin-preserved g c =
     record {
       from = omega (arith, old.from, next.ends.0);
       to = next.ends.1;
-      inside = c.first_behind.ensures.first.inside;
-      before = λ k earlier. omega (arith, c.first_behind.ensures.first.before k earlier, next.ends.0);
+      inside = c.first_behind-window.ensures.first.inside;
+      before = λ k earlier. omega (arith, c.first_behind-window.ensures.first.before k earlier, next.ends.0);
       runs = λ before runs starts counted are. rw (c.in_ok-push.ensures.items, c.in_ok-push-2.ensures.items) (part_more before c.args.part.now runs starts c.loop-begin.loads.items c.loop-begin.ends.items c.args.first c.loop-begin.begin end c.load-load.result counted (old.runs before runs starts counted are) old.from next.ends.0 c.load-load.ensures.value);
       ends = rw c.in_ok-push-2.ensures.items (ends_more c.lower-lower.result.now c.upper-upper.result.now c.loop-begin.ends.items c.args.first (c.args.first + c.len.result) c.loop-begin.begin end old.ends old.from next);
     }
