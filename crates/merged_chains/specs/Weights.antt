@@ -7,6 +7,7 @@ use Rattle.lb_certificates.specs.declared.division.Division.{Division}
 use Rattle.lb_certificates.specs.declared.division.Floor.{Floor}
 use Rattle.lb_certificates.specs.declared.flaw.Flaw.{Flaw}
 use Rattle.lb_certificates.specs.declared.flaw.Flaw.TheVariants.{CutCount, CutStart, CutOrder, CutEnd, Heavy, FenceCount, FenceStart, FenceOrder, FenceEnd, FenceLight, ZeroFloor}
+use Rattle.lb_snapshot.specs.Measured.{load}
 use Rattle.lb_certificates.specs.Chain.{block_load, IsDivision}
 use Rattle.lb_certificates.specs.Certificate.{MatchFloor, range_load}
 use Rattle.lb_certificates.specs.Flaws.{Falls}
@@ -16,6 +17,22 @@ use Rattle.lb_certificates.specs.Flaws.{Falls}
 pub record AreWeights {A : Type 0} (loads : List ℕ) (blocks : ℕ) (d : Division A) (block_loads fence_loads : List ℕ) : Type 0 where
   pub blocks_weigh : (b : ℕ) → b < blocks → slice_index block_loads b ≡ block_load loads d.cuts b
   pub ranges_weigh : MatchFloor d.floor (Unit {0}) (λ stops. (i : ℕ) → 0 < i → i ≤ blocks → slice_index fence_loads (i - 1) ≡ range_load loads stops i)
+
+-- The numbers are the loads that a part of the chain has of the ranges from each place to so many elements behind the
+-- next; the part's first element is number first of the chain. Ranges that lie before or behind the part have 0 there.
+abbrev pub AreRangeLoads : List ℕ → ℕ → ℕ → ℕ → List ℕ → List ℕ → Type 0
+AreRangeLoads part first blocks behind places numbers =
+    (b : ℕ) → b < blocks → slice_index numbers b ≡ load part (slice_index places b - first) (slice_index places (b + 1) + behind - first)
+
+-- the numbers are what a part has of the division's blocks, and of the ranges of its fence
+pub record ArePartWeights {A : Type 0} (part : List ℕ) (first blocks : ℕ) (d : Division A) (block_loads fence_loads : List ℕ) : Type 0 where
+  pub blocks_weigh : AreRangeLoads part first blocks 0 d.cuts block_loads
+  pub ranges_weigh : MatchFloor d.floor (Unit {0}) (λ stops. AreRangeLoads part first blocks 1 stops fence_loads)
+
+-- each of the first n numbers is the sum of those of two lists
+abbrev pub AreSums : ℕ → List ℕ → List ℕ → List ℕ → Type 0
+AreSums n one other sums =
+    (b : ℕ) → b < n → slice_index sums b ≡ slice_index one b + slice_index other b
 
 -- no number of the first n is above the bottleneck
 abbrev pub NoneHeavy : List ℕ → ℕ → ℕ → Type 0

@@ -6,6 +6,7 @@ ghost use Rattle.chain_partition.specs.Greedy.{CanFit, IsGreedy};
 ghost use Rattle.merged_chains.specs.declared.walk.Walk.{Walk};
 ghost use Rattle.merged_chains.specs.Merged.{AreRuns, AreWindows, KeepsEnds, unmerged_division};
 ghost use Rattle.merged_chains.specs.Walks.{IsWalked};
+ghost use Rattle.merged_chains.specs.Weights.{ArePartWeights, AreSums, AreWeights};
 
 use std::alloc::Allocator;
 
@@ -26,4 +27,12 @@ pub fn merged_law<A: Allocator>()
 pub fn walk_law()
     ensures ends { (loads ends : List ℕ) (blocks : ℕ) (walk : Walk) → IsWalked loads blocks ends walk → IsGreedy loads blocks walk.limit (ends ++ replicate (blocks - walk.closed) (length loads)) }
     ensures fits { (loads ends : List ℕ) (blocks : ℕ) (walk : Walk) → IsWalked loads blocks ends walk → 1 ≤ blocks → (CanFit loads blocks walk.limit ↔ (walk.closed < blocks)) }
+{}
+
+/// What the loads that parts of a chain have of a division's ranges say of the chain. The function does nothing: its clauses
+/// are the laws, of any division and any number of blocks. What the first part has of each range is the load of that range
+/// in this part. And the loads of the ranges in the parts so far, with what the next part has, are those in all of them.
+pub fn weights_law<A: Allocator>()
+    ensures first { (part : List ℕ) (blocks : ℕ) (d : Division A) (block_loads fence_loads : List ℕ) → ArePartWeights part 0 blocks d block_loads fence_loads → AreWeights part blocks d block_loads fence_loads }
+    ensures next { (before part : List ℕ) (blocks : ℕ) (d : Division A) (block_loads fence_loads here there block_sums fence_sums : List ℕ) → AreWeights before blocks d block_loads fence_loads → ArePartWeights part (length before) blocks d here there → AreSums blocks block_loads here block_sums → AreSums blocks fence_loads there fence_sums → AreWeights (before ++ part) blocks d block_sums fence_sums }
 {}

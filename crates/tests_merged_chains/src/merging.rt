@@ -1,7 +1,7 @@
 use crate::fixtures::{BLOCKS, PARTS, assert_for, chain, is_list, list};
 use chain_partition::divide_chain;
-use lb_certificates::{Floor, Units};
-use merged_chains::{Runs, Windows, bounds_by_totals, merge};
+use lb_certificates::{Division, Floor, Units};
+use merged_chains::{Runs, Windows, bounds_by_totals, merge, unmerge};
 
 // The windows of the greedy ends within 17 and within 26.
 const LOWER: [u32; 4] = [0, 5, 8, 11];
@@ -34,32 +34,25 @@ fn each_part_has_its_runs(rt: HostRuntime) {
     drop(windows);
 }
 
-// Whether the runs start where these cuts of the chain are.
-fn start_there(runs: &[u32], cuts: &[u32]) -> bool {
-    for (&run, &cut) in runs.iter().zip(cuts) {
-        if STARTS.get(run as usize) != Some(&cut) {
-            return false;
-        }
-    }
-    runs.len() == cuts.len()
-}
-
 #[test]
 fn the_merged_chain_has_the_division(rt: HostRuntime) {
     let merged = chain(&rt, &MERGED);
-    let division = divide_chain(rt.alloc(), &merged, BLOCKS).expect(&rt, "out of memory");
-    let stops = match &division.floor {
-        Floor::Zero => &[],
-        Floor::Fence(stops) => stops.as_slice(),
-    };
-    let are_cuts = start_there(division.cuts.as_slice(), &[0, 5, 8, 12]);
-    let are_stops = start_there(stops, &[0, 5, 8, 11]);
-    let bottleneck = division.bottleneck;
-    drop(division);
+    let runs = divide_chain(rt.alloc(), &merged, BLOCKS).expect(&rt, "out of memory");
+    let division = unmerge(rt.alloc(), &runs, &STARTS).expect(&rt, "out of memory");
+    drop(runs);
     drop(merged);
+    let Division {
+        bottleneck,
+        cuts,
+        floor,
+    } = division;
+    let stops = match floor {
+        Floor::Zero => list(&rt, &[]),
+        Floor::Fence(stops) => stops.into_vec(),
+    };
     assert_for(&rt, bottleneck == 21, bottleneck);
-    assert_for(&rt, are_cuts, "cuts");
-    assert_for(&rt, are_stops, "stops");
+    assert_for(&rt, is_list(cuts.into_vec(), &[0, 5, 8, 12]), "cuts");
+    assert_for(&rt, is_list(stops, &[0, 5, 8, 11]), "stops");
 }
 
 #[test]
