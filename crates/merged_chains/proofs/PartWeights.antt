@@ -1,5 +1,5 @@
 -- The loads of ranges in a chain that comes part by part.
-use Rattle.std.proofs.Common.{◌≡◌, ◌∙◌, ℕ, ◌+◌, ◌-◌, ◌<◌, ◌≤◌, min, max, inl, inr, List, [], ◌∷◌, ◌++◌, length, slice_index, sum, take, arith, ap, refl, subst, sym}
+use Rattle.std.proofs.Common.{◌≡◌, ◌∙◌, ℕ, ◌+◌, ◌-◌, ◌<◌, ◌≤◌, min, max, inl, inr, List, [], ◌∷◌, ◌++◌, length, slice_index, sum, take, arith, ap, refl, subst}
 use Rattle.std.proofs.lemmas.Bool.{cases_lt}
 use Rattle.std.proofs.lemmas.List.{get_or_append_left, get_or_push, take-append-le, take_all, take_min}
 use Rattle.lb_snapshot.specs.Measured.{load}
@@ -43,18 +43,23 @@ to_last xs a =
     ap (λ n. sum (take n xs)) e ∙ ap sum (take_min a xs)
 
 -- a range, cut off behind the last element
-pub load_cut : (xs : List ℕ) (from to a b : ℕ) → from ≡ min (length xs) a → to ≡ max (min (length xs) b) from → load xs from to ≡ load xs a b
-load_cut xs from to a b from_is to_is =
+pub load_cut : (xs : List ℕ) (x from to a b : ℕ) → x ≡ load xs from to → from ≡ min (length xs) a → to ≡ max (min (length xs) b) from → x ≡ load xs a b
+load_cut xs x from to a b weighs from_is to_is =
     elim (cases_lt b a) [
       | inl back ↦
           let e : from ≡ to = omega (arith, from_is, to_is) in
-          omega (arith, subst (λ n. load xs from n ≡ 0) e (load_nothing xs from), load_back xs a b (omega arith))
+          omega (arith, weighs, subst (λ n. load xs from n ≡ 0) e (load_nothing xs from), load_back xs a b (omega arith))
       | inr onward ↦
           let e : to ≡ min (length xs) b = omega (arith, from_is, to_is) in
           let start : sum (take from xs) ≡ sum (take a xs) = ap (λ n. sum (take n xs)) from_is ∙ to_last xs a in
           let stop : sum (take to xs) ≡ sum (take b xs) = ap (λ n. sum (take n xs)) e ∙ to_last xs b in
-          omega (arith, start, stop, load_after xs from to (omega (arith, to_is)), load_after xs a b onward)
+          omega (arith, weighs, start, stop, load_after xs from to (omega (arith, to_is)), load_after xs a b onward)
     ]
+
+-- the load of a range, by other names of its ends
+pub load_named : (xs : List ℕ) (x first a b c e : ℕ) → x ≡ load xs (a - first) (b - first) → a ≡ c → b ≡ e → x ≡ load xs (c - first) (e - first)
+load_named xs x first a b c e weighs one other =
+    subst (λ n. x ≡ load xs (c - first) (n - first)) other (subst (λ n. x ≡ load xs (n - first) (b - first)) one weighs)
 
 -- one more number
 pub numbers_more : (f : ℕ → ℕ) (numbers : List ℕ) (n x : ℕ) → length numbers ≡ n → ((b : ℕ) → b < n → slice_index numbers b ≡ f b) → x ≡ f n → (b : ℕ) → b < n + 1 → slice_index (numbers ++ x ∷ []) b ≡ f b

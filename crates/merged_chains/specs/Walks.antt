@@ -1,7 +1,7 @@
 -- A greedy walk that comes to a chain part by part. It is the probe of A. Pinar and C. Aykanat, "Fast optimal load
 -- balancing algorithms for 1D partitioning", Journal of Parallel and Distributed Computing 64(8), 2004: each block takes
 -- as many elements as fit within a limit, in order. Where it stands between two parts is this project's.
-use Rattle.std.specs.Prelude.{◌≡◌, ℕ, ◌+◌, ◌<◌, ◌≤◌, List, ◌++◌, length, slice_index}
+use Rattle.std.specs.Prelude.{◌≡◌, ℕ, ◌<◌, ◌≤◌, List, ◌++◌, length, slice_index}
 use Rattle.lb_snapshot.specs.Measured.{load}
 use Rattle.chain_partition.specs.Greedy.{IsGreedy}
 use Rattle.merged_chains.specs.declared.walk.Walk.{Walk}

@@ -1,5 +1,5 @@
 -- Windows of elements that begin runs of a merged chain, and where the runs of one part of the chain end.
-use Rattle.std.specs.Prelude.{◌≡◌, ℕ, ◌+◌, ◌<◌, ◌≤◌, ◌⊎◌, List, length, slice_index}
+use Rattle.std.specs.Prelude.{◌≡◌, ℕ, ◌<◌, ◌≤◌, ◌⊎◌, List, length, slice_index}
 use Rattle.std.specs.List.Sorted.{IsNonDecreasing}
 use Rattle.merged_chains.specs.Merged.{IsStart}
 

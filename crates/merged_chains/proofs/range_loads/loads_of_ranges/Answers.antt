@@ -1,4 +1,3 @@
-use Rattle.std.proofs.Common.{◌≡◌, subst}
 use Rattle.merged_chains.specs.Weights.{AreRangeLoads}
 use Rattle.merged_chains.proofs.PartWeights.{of_stops}
 use Rattle.merged_chains.proofs.range_loads.loads_of_ranges.Goals as goal
