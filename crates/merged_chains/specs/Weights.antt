@@ -1,7 +1,7 @@
 -- A division and its fence, checked by the loads of their ranges alone. The certificate is that of lb_certificates: the
 -- fence is the lower bound of A. Pinar and C. Aykanat, "Fast optimal load balancing algorithms for 1D partitioning",
 -- Journal of Parallel and Distributed Computing 64(8), 2004.
-use Rattle.std.specs.Prelude.{◌≡◌, ◌≢◌, ℕ, ◌+◌, ◌-◌, ◌<◌, ◌≤◌, List, length, slice_index}
+use Rattle.std.specs.Prelude.{◌≡◌, ◌≢◌, ℕ, ◌+◌, ◌-◌, ◌<◌, ◌≤◌, List, length, slice_index, ◌++◌}
 use Rattle.std.specs.List.Sorted.{IsNonDecreasing}
 use Rattle.lb_certificates.specs.declared.division.Division.{Division}
 use Rattle.lb_certificates.specs.declared.division.Floor.{Floor}
@@ -33,6 +33,23 @@ pub record ArePartWeights {A : Type 0} (part : List ℕ) (first blocks : ℕ) (d
 abbrev pub AreSums : ℕ → List ℕ → List ℕ → List ℕ → Type 0
 AreSums n one other sums =
     (b : ℕ) → b < n → slice_index sums b ≡ slice_index one b + slice_index other b
+
+-- a fact of all loads of so many elements of whose ranges these numbers are the loads
+abbrev pub WhereWeights : {A : Type 0} → ℕ → ℕ → Division A → List ℕ → List ℕ → (List ℕ → Type 0) → Type 0
+WhereWeights elements blocks d block_loads fence_loads fact =
+    (loads : List ℕ) → length loads ≡ elements → AreWeights loads blocks d block_loads fence_loads → fact loads
+
+-- what the first part of a chain has of the ranges are the loads of the ranges in this part
+abbrev pub FirstWeighs : {A : Type 0} → List ℕ → ℕ → Division A → Type 0
+FirstWeighs part blocks d =
+    (block_loads fence_loads : List ℕ) → ArePartWeights part 0 blocks d block_loads fence_loads → AreWeights part blocks d block_loads fence_loads
+
+-- the loads of the ranges in the parts so far, with what the next part has of them, are those in all these parts
+abbrev pub NextWeighs : {A : Type 0} → List ℕ → List ℕ → ℕ → Division A → Type 0
+NextWeighs before part blocks d =
+    (blocks_before fence_before blocks_here fence_here : List ℕ) →
+    AreWeights before blocks d blocks_before fence_before →
+    ArePartWeights part (length before) blocks d blocks_here fence_here → (block_sums fence_sums : List ℕ) → AreSums blocks blocks_before blocks_here block_sums → AreSums blocks fence_before fence_here fence_sums → AreWeights (before ++ part) blocks d block_sums fence_sums
 
 -- no number of the first n is above the bottleneck
 abbrev pub NoneHeavy : List ℕ → ℕ → ℕ → Type 0

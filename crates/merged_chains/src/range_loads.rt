@@ -1,4 +1,4 @@
-ghost use Rattle.std.specs.Prelude.{◌≡◌, ◌+◌, ◌-◌, ◌≤◌, [], IfOk, slice_index, vec_len};
+ghost use Rattle.std.specs.Prelude.{◌≡◌, ◌+◌, ◌-◌, ◌≤◌, [], IfOk, vec_len};
 ghost use Rattle.lb_snapshot.specs.Measured.{load};
 ghost use Rattle.lb_certificates.specs.Certificate.{MatchFloor};
 ghost use Rattle.merged_chains.specs.Weights.{ArePartWeights, AreRangeLoads};

@@ -5,6 +5,7 @@ use merged_chains::{Runs, Windows, bounds_by_totals, merge, unmerge};
 
 // The windows of the greedy ends within 17 and within 26.
 const LOWER: [u32; 4] = [0, 5, 8, 11];
+
 const UPPER: [u32; 4] = [0, 7, 11, 12];
 
 // The loads of the runs of each part, and their ends.
@@ -16,6 +17,7 @@ const RUNS: [(&[Units], &[u32]); 3] = [
 
 // All of them, and where they start.
 const MERGED: [Units; 8] = [14, 9, 2, 6, 5, 3, 5, 8];
+
 const STARTS: [u32; 9] = [0, 5, 6, 7, 8, 9, 10, 11, 12];
 
 #[test]

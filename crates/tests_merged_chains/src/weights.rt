@@ -15,25 +15,112 @@ type Checked = (
 );
 
 const CUTS: [u32; 4] = [0, 5, 8, 12];
+
 const STOPS: [u32; 4] = [0, 5, 8, 11];
+
 const BLOCK_LOADS: [u64; 3] = [14, 17, 21];
+
 const FENCE_LOADS: [u64; 3] = [23, 22, 21];
 
 const ROWS: [Checked; 14] = [
     (21, &CUTS, &STOPS, BLOCK_LOADS, FENCE_LOADS, Ok(())),
     (0, &CUTS, &[], [0, 0, 0], [0, 0, 0], Ok(())),
-    (21, &[0, 5, 12], &[], [0, 0, 22], FENCE_LOADS, Err(Flaw::CutCount)),
-    (21, &[1, 5, 8, 12], &STOPS, BLOCK_LOADS, FENCE_LOADS, Err(Flaw::CutStart)),
-    (21, &[0, 8, 5, 12], &STOPS, BLOCK_LOADS, FENCE_LOADS, Err(Flaw::CutOrder)),
-    (21, &[0, 5, 8, 11], &STOPS, [22, 0, 0], FENCE_LOADS, Err(Flaw::CutEnd)),
-    (21, &CUTS, &[0, 5], [21, 22, 23], FENCE_LOADS, Err(Flaw::Heavy(1))),
-    (21, &CUTS, &[0, 5, 8], BLOCK_LOADS, [0, 0, 0], Err(Flaw::FenceCount)),
-    (21, &CUTS, &[1, 5, 8, 11], BLOCK_LOADS, FENCE_LOADS, Err(Flaw::FenceStart)),
-    (21, &CUTS, &[0, 8, 5, 11], BLOCK_LOADS, FENCE_LOADS, Err(Flaw::FenceOrder)),
-    (21, &CUTS, &[0, 5, 8, 12], BLOCK_LOADS, [0, 0, 0], Err(Flaw::FenceEnd)),
-    (21, &CUTS, &STOPS, BLOCK_LOADS, [23, 20, 20], Err(Flaw::FenceLight(2))),
-    (22, &CUTS, &STOPS, BLOCK_LOADS, FENCE_LOADS, Err(Flaw::FenceLight(3))),
-    (21, &CUTS, &[], BLOCK_LOADS, FENCE_LOADS, Err(Flaw::ZeroFloor)),
+    (
+        21,
+        &[0, 5, 12],
+        &[],
+        [0, 0, 22],
+        FENCE_LOADS,
+        Err(Flaw::CutCount),
+    ),
+    (
+        21,
+        &[1, 5, 8, 12],
+        &STOPS,
+        BLOCK_LOADS,
+        FENCE_LOADS,
+        Err(Flaw::CutStart),
+    ),
+    (
+        21,
+        &[0, 8, 5, 12],
+        &STOPS,
+        BLOCK_LOADS,
+        FENCE_LOADS,
+        Err(Flaw::CutOrder),
+    ),
+    (
+        21,
+        &[0, 5, 8, 11],
+        &STOPS,
+        [22, 0, 0],
+        FENCE_LOADS,
+        Err(Flaw::CutEnd),
+    ),
+    (
+        21,
+        &CUTS,
+        &[0, 5],
+        [21, 22, 23],
+        FENCE_LOADS,
+        Err(Flaw::Heavy(1)),
+    ),
+    (
+        21,
+        &CUTS,
+        &[0, 5, 8],
+        BLOCK_LOADS,
+        [0, 0, 0],
+        Err(Flaw::FenceCount),
+    ),
+    (
+        21,
+        &CUTS,
+        &[1, 5, 8, 11],
+        BLOCK_LOADS,
+        FENCE_LOADS,
+        Err(Flaw::FenceStart),
+    ),
+    (
+        21,
+        &CUTS,
+        &[0, 8, 5, 11],
+        BLOCK_LOADS,
+        FENCE_LOADS,
+        Err(Flaw::FenceOrder),
+    ),
+    (
+        21,
+        &CUTS,
+        &[0, 5, 8, 12],
+        BLOCK_LOADS,
+        [0, 0, 0],
+        Err(Flaw::FenceEnd),
+    ),
+    (
+        21,
+        &CUTS,
+        &STOPS,
+        BLOCK_LOADS,
+        [23, 20, 20],
+        Err(Flaw::FenceLight(2)),
+    ),
+    (
+        22,
+        &CUTS,
+        &STOPS,
+        BLOCK_LOADS,
+        FENCE_LOADS,
+        Err(Flaw::FenceLight(3)),
+    ),
+    (
+        21,
+        &CUTS,
+        &[],
+        BLOCK_LOADS,
+        FENCE_LOADS,
+        Err(Flaw::ZeroFloor),
+    ),
 ];
 
 // The division with these cuts, and these stops or none for the floor zero.
