@@ -1,0 +1,9 @@
+pub mod Certificates
+pub mod EvenShares
+pub mod MergedPeaks
+pub mod OrderedWindows
+pub mod PartWeights
+pub mod Parts
+pub mod RunsByParts
+pub mod WalkedParts
+pub mod Weighings

@@ -1,0 +1,36 @@
+use Rattle.std.proofs.Common.{◌≡◌, ◌+◌, arith, refl}
+use Rattle.lb_snapshot.specs.Measured.{load}
+use Rattle.merged_chains.specs.declared.walk.Walk.{Walk}
+use Rattle.merged_chains.proofs.WalkedParts.{at_begins, at_closes, at_ends, at_stays}
+use Rattle.merged_chains.proofs.walk.ends_on.Goals as goal
+
+pub loop-closed-init : goal.loop-closed-init
+loop-closed-init g c =
+    record {
+      inside = omega arith;
+      stands = rw c.in_ok-ends.ensures.items (at_begins c.args.part.now c.args.pes c.args.walk c.args.first);
+      room = omega (arith, c.in_ok-ends.ensures.len, c.in_ok-ends.ensures.capacity, c.saturating_sub.ensures);
+    }
+
+pub overflow_add-filled : goal.overflow_add-filled
+overflow_add-filled g c =
+    omega (arith, c.saturating_sub-in-loop-closed.ensures, c.reach-end.ensures.greatest.fits, c.load.ensures.value)
+
+pub loop-closed-preserved : goal.loop-closed-preserved
+loop-closed-preserved g c =
+    record {
+      inside = c.reach-end.ensures.greatest.inside;
+      stands = rw c.push_reserved.ensures.items (at_closes c.args.part.now c.args.pes c.args.walk c.args.first c.loop-closed.ends.items c.loop-closed.closed c.loop-closed.begin c.loop-closed.filled c.saturating_sub-in-loop-closed.result c.reach-end.result c.loop-closed.invariant.stands (omega arith) c.reach-end.ensures.onward c.reach-end.ensures.greatest c.saturating_sub-in-loop-closed.ensures (omega arith));
+      room = omega (arith, c.loop-closed.invariant.room, c.push_reserved.ensures.len, c.push_reserved.ensures.capacity);
+    }
+
+pub returns-then-end-all-clause-walked : goal.returns-then-end-all-clause-walked
+returns-then-end-all-clause-walked g c =
+    let new : Walk = record { limit = c.args.walk.limit; closed = c.loop-closed.closed; filled = c.loop-closed.filled + c.load.result } in
+    let weighs : c.loop-closed.filled + c.load.result ≡ c.loop-closed.filled + load c.args.part.now c.loop-closed.begin c.reach-end.result = omega (arith, c.load.ensures.value) in
+    at_stays c.args.part.now c.args.pes c.args.walk c.args.first c.loop-closed.ends.items c.loop-closed.begin c.loop-closed.filled c.saturating_sub-in-loop-closed.result c.reach-end.result new c.loop-closed.invariant.stands (omega arith) c.reach-end.ensures.onward c.reach-end.ensures.greatest c.saturating_sub-in-loop-closed.ensures (omega arith) refl weighs
+
+pub returns-clause-walked : goal.returns-clause-walked
+returns-clause-walked g c =
+    let new : Walk = record { limit = c.args.walk.limit; closed = c.args.pes; filled = 0 } in
+    at_ends c.args.part.now c.args.pes c.args.walk c.args.first c.loop-closed.ends.items c.loop-closed.closed c.loop-closed.begin c.loop-closed.filled new c.loop-closed.invariant.stands (λ few. omega arith) refl refl refl
