@@ -11,7 +11,7 @@ use Rattle.lb_certificates.specs.Naming.{moved_bytes, block_cost}
 use Rattle.block_assignment.specs.Table.{IsTableOf, IsWithin}
 
 -- no more bytes of an element move than it has
-moved_le : (size : ℕ × ℕ) (p : ℕ) → moved_bytes size p ≤ size.0
+pub moved_le : (size : ℕ × ℕ) (p : ℕ) → moved_bytes size p ≤ size.0
 moved_le size p = cond_both (size.1 == p) 0 size.0 (λ n. n ≤ size.0) (λ _. omega arith) (λ _. omega arith)
 
 pub block_cost_small : (sizes : List (ℕ × ℕ)) (cuts : List ℕ) (b p : ℕ) → IsSizes sizes → block_cost sizes cuts b p ≤ 2 ^ 36

@@ -27,7 +27,7 @@ pub struct CostMatrix<A: Allocator = Global> {
 }
 
 impl<A: Allocator> Model for CostMatrix<A> {
-    ghost use Rattle.block_assignment.specs.Table.{Table};
+    ghost use Rattle.block_assignment.specs.Table.{Table, IsMatrix};
 
     ghost Value = { Table };
 

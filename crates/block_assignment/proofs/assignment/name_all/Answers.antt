@@ -1,4 +1,4 @@
-use Rattle.std.proofs.Common.{refl, ◌∙◌, ap, arith}
+use Rattle.std.proofs.Common.{◌+◌, refl, ◌∙◌, ap, arith}
 use Rattle.block_assignment.specs.Table.{Table}
 use Rattle.block_assignment.proofs.assignment.name_all.Goals as goal
 

@@ -1,6 +1,7 @@
-use Rattle.std.proofs.Common.{◌≡◌, ◌*◌, ℕ, List, length, slice_index, arith, ap, sym, ◌∙◌, subst}
+use Rattle.std.proofs.Common.{◌≡◌, ◌+◌, ◌*◌, ◌<◌, ℕ, List, length, slice_index, arith, ap, sym, ◌∙◌, subst}
+use Rattle.std.proofs.lemmas.List.{get_or-take}
 use Rattle.lb_certificates.specs.Naming.{IsNaming}
-use Rattle.block_assignment.specs.Least.{may_have, rows, AreRows}
+use Rattle.block_assignment.specs.Least.{rows}
 use Rattle.block_assignment.specs.Search.{IsTight}
 use Rattle.block_assignment.specs.Table.{cost_at}
 use Rattle.block_assignment.proofs.Tight.{IsExact, allowed_if_tight, tight_if_allowed, first_from_least}
@@ -61,7 +62,9 @@ make_least-requires-clause-waiting c =
     let takers : List (List ℕ) = c.new-takers.result in
     let same : takers ≡ rows width blocks c.write_takers.new.words = c.new-takers.ensures.value ∙ ap (λ n. rows width n c.write_takers.new.words) c.blocks-blocks.ensures.value in
     let counted : length takers ≡ blocks = ap (λ (xs : List (List ℕ)). length xs) same ∙ rows_counted width blocks c.write_takers.new.words in
-    let rest : length c.split_at_mut-left.result.1.now ≡ width = omega (arith, c.requires.sets, c.blocks-blocks.ensures.value, c.split_at_mut-words.ensures.back_len, c.split_at_mut-left.ensures.back_len) in
+    let product : c.blocks-blocks.result * width ≡ blocks * width = ap (λ n. n * width) c.blocks-blocks.ensures.value in
+    let spread : (blocks + 2) * width ≡ blocks * width + 2 * width = omega arith in
+    let rest : length c.split_at_mut-left.result.1.now ≡ width = omega (arith, product, spread, c.requires.sets, c.split_at_mut-words.ensures.back_len, c.split_at_mut-left.ensures.back_len) in
     record { wide = omega (arith, counted, c.requires.wide, rest); narrow = omega (arith, c.requires.narrow, rest) }
 
 pub make_least-requires-clause-next : goal.make_least-requires-clause-next
@@ -83,3 +86,7 @@ make_least-requires-clause-naming c =
     let same : takers ≡ rows width blocks c.write_takers.new.words = c.new-takers.ensures.value ∙ ap (λ n. rows width n c.write_takers.new.words) c.blocks-blocks.ensures.value in
     let counted : length takers ≡ blocks = ap (λ (xs : List (List ℕ)). length xs) same ∙ rows_counted width blocks c.write_takers.new.words in
     subst (λ n. IsNaming n c.args.names.now) (sym counted) c.requires.tight.naming
+
+pub write_takers-requires-clause-none : goal.write_takers-requires-clause-none
+write_takers-requires-clause-none c = λ b p inside.
+    none_in_rows c.args.width c.args.table.now.blocks c.split_at_mut-words.result.0.now b p (λ w within. ap (λ (xs : List ℕ). slice_index xs w) c.split_at_mut-words.ensures.front ∙ get_or-take _ c.args.sets.now w 0 (omega (arith, within, c.split_at_mut-words.ensures.front_len)) ∙ c.requires.none w (omega (arith, within, c.split_at_mut-words.ensures.front_len, c.split_at_mut-words.ensures.back_len))) inside
