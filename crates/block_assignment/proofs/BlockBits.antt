@@ -1,8 +1,8 @@
 -- Sets of blocks by the bits of their words.
-use Rattle.std.proofs.Common.{◌≡◌, ◌≢◌, ℕ, ◌+◌, ◌*◌, ◌/◌, ◌%◌, ◌^◌, ◌<◌, inl, inr, true, false, not, nat_eq, zero, suc, List, [], ◌∷◌, MatchBool, length, set, slice_index, bit_and, arith, ap, ◌∙◌, refl, w64}
+use Rattle.std.proofs.Common.{◌≡◌, ◌≢◌, ℕ, ◌+◌, ◌*◌, ◌/◌, ◌%◌, ◌^◌, ◌<◌, ◌≤◌, min, inl, inr, true, false, not, nat_eq, List, MatchBool, length, set, slice_index, bit_and, arith, ap, ◌∙◌, w64}
 use Rattle.std.specs.Int.{bit_at, trailing_zeros}
-use Rattle.std.proofs.lemmas.Bool.{cases_eq, eq-eqb, ne_eqb}
-use Rattle.std.proofs.lemmas.List.{get_or-set_same, get_or-set_other}
+use Rattle.std.proofs.lemmas.Bool.{cases_eq, cases_lt, eq-eqb, ne_eqb}
+use Rattle.std.proofs.lemmas.List.{get_or-set_same, get_or-set_other, get_or_past}
 use Rattle.std.proofs.lemmas.Nat.{one_shl, pow_pos}
 use Rattle.std.proofs.lemmas.Nat.Bits.{and_pow, bit_at-lt, bit_at-zero, bit_at_and, bit_at-trailing_zeros}
 use Rattle.block_assignment.specs.Least.{member}
@@ -35,15 +35,30 @@ bit_tested word k small =
           rw e one
     ]
 
+-- behind its words a set has no block
+pub no_word_behind : (set : List ℕ) (b : ℕ) → length set ≤ b / 64 → member set b ≡ 0
+no_word_behind set b past = ap (λ x. bit_at x (b % 64)) (get_or_past set (b / 64) 0 past) ∙ bit_at-zero (b % 64)
+
 -- words with no bit in common
-pub none_common : (one other : List ℕ) (b : ℕ) → bit_and (slice_index one (b / 64)) (slice_index other (b / 64)) ≡ 0 → member one b ≡ 1 → member other b ≡ 0
-none_common one other b none has =
+none_in_word : (one other : List ℕ) (b : ℕ) → bit_and (slice_index one (b / 64)) (slice_index other (b / 64)) ≡ 0 → member one b ≡ 1 → member other b ≡ 0
+none_in_word one other b none has =
     let both = bit_at_and (slice_index one (b / 64)) (slice_index other (b / 64)) (b % 64) in
     let zero = ap (λ x. bit_at x (b % 64)) none ∙ bit_at-zero (b % 64) in
     omega (arith, both, zero, has)
 
+-- sets with no bit in common in the words that both have
+pub none_common : (one other : List ℕ) (words : ℕ) → words ≡ min (length one) (length other) → ((w : ℕ) → w < words → bit_and (slice_index one w) (slice_index other w) ≡ 0) → (b : ℕ) → member one b ≡ 1 → member other b ≡ 0
+none_common one other words counted none b has =
+    elim (cases_lt (b / 64) (length one)) [
+      | inr past ↦ absurd (omega (arith, has, no_word_behind one b past))
+      | inl inside ↦ elim (cases_lt (b / 64) (length other)) [
+        | inr past ↦ no_word_behind other b past
+        | inl within ↦ none_in_word one other b (none (b / 64) (omega (arith, counted, inside, within))) has
+      ]
+    ]
+
 -- the lowest bit that two words have in common
-pub lowest_common : (one other : List ℕ) (w : ℕ) → w < 4 → let both = bit_and (slice_index one w) (slice_index other w) in 0 < both → both < 2 ^ 64 → let b = w * 64 + trailing_zeros w64 both in (b < 256) × (member one b ≡ 1) × (member other b ≡ 1)
+pub lowest_common : (one other : List ℕ) (w : ℕ) → w < length one → let both = bit_and (slice_index one w) (slice_index other w) in 0 < both → both < 2 ^ 64 → let b = w * 64 + trailing_zeros w64 both in (b < 64 * length one) × (member one b ≡ 1) × (member other b ≡ 1)
 lowest_common one other w small some fits =
     let both : ℕ = bit_and (slice_index one w) (slice_index other w) in
     let lowest = bit_at-trailing_zeros w64 both some fits in
@@ -56,12 +71,9 @@ lowest_common one other w small some fits =
     (omega (arith, lowest.0, small), rw (word, bit) first, rw (word, bit) second)
 
 -- the set of no block
-no_words : (w : ℕ) → slice_index (0 ∷ 0 ∷ 0 ∷ 0 ∷ []) w ≡ 0
-no_words zero = refl
-no_words (suc zero) = refl
-no_words (suc (suc zero)) = refl
-no_words (suc (suc (suc zero))) = refl
-no_words (suc (suc (suc (suc w)))) = refl
-
-pub no_member : (b : ℕ) → member (0 ∷ 0 ∷ 0 ∷ 0 ∷ []) b ≡ 0
-no_member b = ap (λ x. bit_at x (b % 64)) (no_words (b / 64)) ∙ bit_at-zero (b % 64)
+pub no_member : (words : List ℕ) → ((w : ℕ) → w < length words → slice_index words w ≡ 0) → (b : ℕ) → member words b ≡ 0
+no_member words none b =
+    elim (cases_lt (b / 64) (length words)) [
+      | inr past ↦ no_word_behind words b past
+      | inl inside ↦ ap (λ x. bit_at x (b % 64)) (none (b / 64) inside) ∙ bit_at-zero (b % 64)
+    ]

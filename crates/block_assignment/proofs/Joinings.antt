@@ -2,7 +2,7 @@
 use Rattle.std.proofs.Common.{◌≡◌, ℕ, ◌+◌, ◌^◌, ◌<◌, ◌≤◌, List, Some, None, length, slice_index, slice_index_or, arith, sym, subst}
 use Rattle.block_assignment.specs.Table.{cost_at}
 use Rattle.block_assignment.specs.Search.{State, IsSized, IsMatched, IsTree, IsNearest, IsRelaxed}
-use Rattle.block_assignment.proofs.Sums.{cost_small}
+use Rattle.block_assignment.proofs.Sums.{cost_within}
 use Rattle.block_assignment.proofs.Prices.{discount_small, distance_small}
 use Rattle.block_assignment.proofs.Trees.{Joins}
 
@@ -18,10 +18,10 @@ row_low s b price row matched is_row read p inside =
     omega (arith, read, is_row.costs p (omega (arith, inside, is_row.counted)), matched.low b p is_row.inside (omega (arith, inside, is_row.counted)))
 
 -- its costs are small
-pub row_small : (s : State) (b : ℕ) (row : List ℕ) → IsSized s → IsMatched s → s.named < s.table.blocks → IsRow s b row → (p : ℕ) → p < length row → slice_index row p + slice_index s.discount p ≤ 2 ^ 38
+pub row_small : (s : State) (b : ℕ) (row : List ℕ) → IsSized s → IsMatched s → s.named < s.table.blocks → IsRow s b row → (p : ℕ) → p < length row → slice_index row p + slice_index s.discount p ≤ 2 ^ 49
 row_small s b row sized matched unnamed is_row p inside =
     let within : p < s.table.blocks = omega (arith, inside, is_row.counted) in
-    omega (arith, is_row.costs p within, cost_small s.table b p sized.is_table is_row.inside within, discount_small s sized.is_table matched unnamed p within)
+    omega (arith, is_row.costs p within, cost_within s.table b p sized.is_table is_row.inside within, discount_small s sized.is_table matched unnamed p within)
 
 -- the PEs as they are once the row was gone through
 pub relaxed_by_row : (s : State) (far : ℕ) (rank : List ℕ) (b : ℕ) (row old_distance distance from : List ℕ) → IsRow s b row → ((p : ℕ) → p < length row → slice_index rank p ≡ 0 → IsRelaxed far (slice_index row p) (slice_index s.price b) (slice_index s.discount p) b (slice_index old_distance p) (slice_index s.from p) (slice_index distance p) (slice_index from p)) → (p : ℕ) → p < s.table.blocks → slice_index rank p ≡ 0 → IsRelaxed far (cost_at s.table b p) (slice_index s.price b) (slice_index s.discount p) b (slice_index old_distance p) (slice_index s.from p) (slice_index distance p) (slice_index from p)
@@ -54,7 +54,7 @@ ready next s old b pe same sized matched tree unnamed near held =
     })
 
 -- and is near
-pub ready_near : (next : ℕ) (s : State) (b pe far : ℕ) → IsReady next s b pe → far ≡ slice_index s.distance pe → far ≤ 2 ^ 38
+pub ready_near : (next : ℕ) (s : State) (b pe far : ℕ) → IsReady next s b pe → far ≡ slice_index s.distance pe → far ≤ 2 ^ 49
 ready_near next s b pe far r read =
     omega (arith, read, distance_small next s r.sized.is_table r.matched r.tree r.joins.inside pe r.joins.nearest.inside)
 

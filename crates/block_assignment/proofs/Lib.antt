@@ -5,6 +5,7 @@ pub mod Duality
 pub mod Exchanges
 pub mod Joinings
 pub mod LeastPes
+pub mod ListedRows
 pub mod Namings
 pub mod Prices
 pub mod Raises
@@ -16,3 +17,4 @@ pub mod Sums
 pub mod Tight
 pub mod Trees
 pub mod Unscanned
+pub mod WordRows

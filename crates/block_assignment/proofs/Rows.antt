@@ -5,13 +5,13 @@ use Rattle.std.proofs.lemmas.List.{get_or_append_left, get_or-append_right, leng
 use Rattle.std.proofs.lemmas.List.Elements.{All-drop, All-append}
 use Rattle.std.proofs.lemmas.List.Sums.{sum_by-le, sum_by-take-le}
 use Rattle.std.proofs.lemmas.Nat.{mul-add-lt}
-use Rattle.chare_index.specs.declared.limits.TheConstants.Limits.{PES, STATE_BYTES}
+use Rattle.chare_index.specs.declared.limits.TheConstants.Limits.{STATE_BYTES}
 use Rattle.lb_snapshot.specs.Measured.{IsSizes}
 use Rattle.lb_certificates.specs.Naming.{moved_bytes, block_cost}
-use Rattle.block_assignment.specs.Table.{IsTable, IsTableOf}
+use Rattle.block_assignment.specs.Table.{IsTableOf, IsWithin}
 
 -- no more bytes of an element move than it has
-moved_le : (size : ℕ × ℕ) (p : ℕ) → moved_bytes size p ≤ size.0
+pub moved_le : (size : ℕ × ℕ) (p : ℕ) → moved_bytes size p ≤ size.0
 moved_le size p = cond_both (size.1 == p) 0 size.0 (λ n. n ≤ size.0) (λ _. omega arith) (λ _. omega arith)
 
 pub block_cost_small : (sizes : List (ℕ × ℕ)) (cuts : List ℕ) (b p : ℕ) → IsSizes sizes → block_cost sizes cuts b p ≤ 2 ^ 36
@@ -24,18 +24,18 @@ block_cost_small sizes cuts b p h =
     sum_by-take-le (λ size. moved_bytes size p) (drop first sizes) (slice_index cuts (b + 1) - first) in
     omega (arith, whole, part, length-drop first sizes, h.few)
 
--- the rows of the first b blocks
-pub record HasRows (sizes : List (ℕ × ℕ)) (cuts : List ℕ) (blocks b : ℕ) (costs : List ℕ) : Type 0 where
+-- the rows of the first b blocks, with no cost above a bound
+pub record HasRows (most : ℕ) (sizes : List (ℕ × ℕ)) (cuts : List ℕ) (blocks b : ℕ) (costs : List ℕ) : Type 0 where
   pub counted : length costs ≡ b * blocks
-  pub small : All (λ cost. cost ≤ 2 ^ 36) costs
+  pub small : All (λ cost. cost ≤ most) costs
   pub exact : (k p : ℕ) → k < b → p < blocks → slice_index costs (k * blocks + p) ≡ block_cost sizes cuts k p
 
 -- one more row
-pub rows_more : (sizes : List (ℕ × ℕ)) (cuts : List ℕ) (blocks b : ℕ) (costs row : List ℕ) → IsSizes sizes → HasRows sizes cuts blocks b costs → length row ≡ blocks → ((p : ℕ) → p < blocks → slice_index row p ≡ block_cost sizes cuts b p) → HasRows sizes cuts blocks (b + 1) (costs ++ row)
-rows_more sizes cuts blocks b costs row h rows counted exact =
+pub rows_more : (most : ℕ) (sizes : List (ℕ × ℕ)) (cuts : List ℕ) (blocks b : ℕ) (costs row : List ℕ) → ((p : ℕ) → block_cost sizes cuts b p ≤ most) → HasRows most sizes cuts blocks b costs → length row ≡ blocks → ((p : ℕ) → p < blocks → slice_index row p ≡ block_cost sizes cuts b p) → HasRows most sizes cuts blocks (b + 1) (costs ++ row)
+rows_more most sizes cuts blocks b costs row within rows counted exact =
     record {
       counted = omega (arith, rows.counted, length-append costs row);
-      small = All-append (λ cost. cost ≤ 2 ^ 36) costs row rows.small (λ p d inside. omega (arith, get_or_default row p 0 d inside, exact p (omega arith), block_cost_small sizes cuts b p h));
+      small = All-append (λ cost. cost ≤ most) costs row rows.small (λ p d inside. omega (arith, get_or_default row p 0 d inside, exact p (omega arith), within p));
       exact = λ k p before inside. elim (cases_lt k b) [
         | inl earlier ↦
             let below : k * blocks + p < length costs = omega (arith, rows.counted, mul-add-lt k blocks p b earlier inside) in
@@ -49,9 +49,9 @@ rows_more sizes cuts blocks b costs row h rows counted exact =
     }
 
 -- the rows of all blocks are a table
-pub table_of_rows : (sizes : List (ℕ × ℕ)) (cuts : List ℕ) (blocks : ℕ) (costs : List ℕ) → 1 ≤ blocks → blocks ≤ PES → HasRows sizes cuts blocks blocks costs → IsTable (record { blocks = blocks; costs = costs })
-table_of_rows sizes cuts blocks costs some few rows = record { some_block = some; few_blocks = few; square = rows.counted; small = rows.small }
+pub table_of_rows : (most_blocks most : ℕ) (sizes : List (ℕ × ℕ)) (cuts : List ℕ) (blocks : ℕ) (costs : List ℕ) → 1 ≤ blocks → blocks ≤ most_blocks → HasRows most sizes cuts blocks blocks costs → IsWithin most_blocks most (record { blocks = blocks; costs = costs })
+table_of_rows most_blocks most sizes cuts blocks costs some few rows = record { some_block = some; few_blocks = few; square = rows.counted; small = rows.small }
 
 -- and the table of these cuts
-pub exact_of_rows : (sizes : List (ℕ × ℕ)) (cuts : List ℕ) (costs : List ℕ) → HasRows sizes cuts (length cuts - 1) (length cuts - 1) costs → IsTableOf sizes cuts (record { blocks = length cuts - 1; costs = costs })
-exact_of_rows sizes cuts costs rows = record { counted = refl; exact = rows.exact }
+pub exact_of_rows : (most : ℕ) (sizes : List (ℕ × ℕ)) (cuts : List ℕ) (costs : List ℕ) → HasRows most sizes cuts (length cuts - 1) (length cuts - 1) costs → IsTableOf sizes cuts (record { blocks = length cuts - 1; costs = costs })
+exact_of_rows most sizes cuts costs rows = record { counted = refl; exact = rows.exact }

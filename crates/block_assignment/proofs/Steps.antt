@@ -2,22 +2,12 @@
 use Rattle.std.proofs.Common.{◌≡◌, ◌≢◌, ℕ, ◌+◌, ◌-◌, ◌*◌, ◌^◌, ◌<◌, ◌≤◌, ◌↔◌, inl, inr, cond, List, [], set, length, length-set, get_or, slice_index, ℤ, pos, neg_ℤ, ◌-ℤ◌, to_z, of_z, w64, arith, ap, sym, subst, ◌∙◌}
 use Rattle.std.proofs.lemmas.Bool.{cases_eq, eq-eqb, ne_eqb}
 use Rattle.std.proofs.lemmas.Int.{to_z-of_z}
-use Rattle.std.proofs.lemmas.List.{get_or-set_same, get_or-set_other, get_or_read}
+use Rattle.std.proofs.lemmas.List.{get_or-set_same, get_or-set_other}
 use Rattle.std.proofs.lemmas.List.Sums.{sum_by_more}
-use Rattle.std.proofs.lemmas.Nat.{mul-add-lt}
 use Rattle.lb_certificates.specs.Naming.{moved_bytes, price_at}
 use Rattle.lb_certificates.proofs.BlockCosts.{Stands, taken_off}
 use Rattle.block_assignment.specs.Least.{member, may_have}
-use Rattle.block_assignment.specs.Table.{Table, IsTable, cost_at}
-
--- what is read at the place of a block and a PE is their cost
-pub cost_read : (t s : Table) (blocks b p cost : ℕ) → t ≡ s → blocks ≡ s.blocks → IsTable s → b < s.blocks → p < s.blocks → cost ≡ get_or t.costs (b * blocks + p) cost → cost ≡ cost_at s b p
-cost_read t s blocks b p cost same counted table block pe read =
-    let square = ap (λ (x : Table). length x.costs) same in
-    let place : b * blocks + p ≡ b * s.blocks + p = ap (λ n. b * n + p) counted in
-    let inside : b * blocks + p < length t.costs =
-    omega (arith, square, table.square, place, mul-add-lt b s.blocks p s.blocks block pe) in
-    get_or_read t.costs (b * blocks + p) cost inside read 0 ∙ ap (λ (x : Table). slice_index x.costs (b * blocks + p)) same ∙ ap (λ n. slice_index s.costs n) place
+use Rattle.block_assignment.specs.declared.limits.TheConstants.MatrixLimits.{BYTES}
 
 -- one more price
 pub price_put : (prices : List ℤ) (i : ℕ) (price : ℕ → ℤ) (put : ℤ) → i < length prices → put ≡ price i → ((k : ℕ) → k < i → price_at prices k ≡ price k) → (k : ℕ) → k < i + 1 → price_at (set prices i put) k ≡ price k
@@ -28,7 +18,7 @@ price_put prices i price put inside is before k past =
     ]
 
 -- a small number is taken from 0
-pub below_0 : (n : ℕ) → n ≤ 2 ^ 36 → to_z w64 (of_z w64 (pos 0 -ℤ to_z w64 n)) ≡ neg_ℤ (pos n)
+pub below_0 : (n : ℕ) → n ≤ BYTES → to_z w64 (of_z w64 (pos 0 -ℤ to_z w64 n)) ≡ neg_ℤ (pos n)
 below_0 n small = grind (arith, to_z-of_z)
 
 -- the set that is put down is the one there

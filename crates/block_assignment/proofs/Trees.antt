@@ -7,7 +7,7 @@ use Rattle.std.proofs.Math.Seq.{take-append_seam}
 use Rattle.block_assignment.specs.Table.{cost_at}
 use Rattle.block_assignment.specs.Search.{State, IsSized, IsFree, IsMatched, IsAt, IsReached, IsTree, IsNearest, IsRelaxed, unscanned}
 use Rattle.block_assignment.proofs.Coverings.{covers}
-use Rattle.block_assignment.proofs.Sums.{cost_small}
+use Rattle.block_assignment.proofs.Sums.{cost_within}
 use Rattle.block_assignment.proofs.Prices.{discount_small}
 
 -- a list written over from its start to its end
@@ -75,7 +75,7 @@ started_tree s rank most old_from distance from sized matched unnamed starts_tre
     by_root : (p : ℕ) → p < s.table.blocks → (slice_index distance p + slice_index s.price s.named ≡ 0 + cost_at s.table s.named p + slice_index s.discount p) × (slice_index from p ≡ s.named)
     by_root p inside =
         elim (starts_tree.relaxed p inside).which [
-          | inl kept ↦ absurd (omega (arith, kept.0, starts_tree.far p inside, (starts_tree.relaxed p inside).for_block, cost_small s.table s.named p sized.is_table unnamed inside, discount_small s sized.is_table matched unnamed p inside))
+          | inl kept ↦ absurd (omega (arith, kept.0, starts_tree.far p inside, (starts_tree.relaxed p inside).for_block, cost_within s.table s.named p sized.is_table unnamed inside, discount_small s sized.is_table matched unnamed p inside))
           | inr less ↦ (less.1, less.2)
         ]
 

@@ -1,7 +1,7 @@
 -- The list of the PEs that were not scanned: all at first, and one less with each that is scanned.
-use Rattle.std.proofs.Common.{◌≡◌, ◌≢◌, ℕ, ◌+◌, ◌-◌, ◌<◌, ◌≤◌, inl, inr, List, length, set, slice_index, arith, ap, sym, ◌∙◌}
+use Rattle.std.proofs.Common.{◌≡◌, ◌≢◌, ℕ, ◌+◌, ◌-◌, ◌<◌, ◌≤◌, inl, inr, List, length, take, set, slice_index, arith, ap, sym, ◌∙◌}
 use Rattle.std.proofs.lemmas.Bool.{cases_lt}
-use Rattle.std.proofs.lemmas.List.{get_or-set_same, get_or-set_other}
+use Rattle.std.proofs.lemmas.List.{get_or-set_same, get_or-set_other, get_or-take, length-take-le}
 use Rattle.block_assignment.specs.Search.{IsUnscanned}
 
 pub all_listed : (rank pes : List ℕ) (end : ℕ) → ((p : ℕ) → p < end → slice_index rank p ≡ 0) → length pes ≡ end → ((p : ℕ) → p < end → slice_index pes p ≡ p) → IsUnscanned rank pes end
@@ -19,6 +19,18 @@ pub record IsWithout (old pes : List ℕ) (place : ℕ) : Type 0 where
   pub fewer : length pes + 1 ≡ length old
   pub before : (i : ℕ) → i < place → slice_index pes i ≡ slice_index old i
   pub behind : (i : ℕ) → place ≤ i → i < length pes → slice_index pes i ≡ slice_index old (i + 1)
+
+-- what stood at a place of the first entries of a list is taken out
+pub taken_out : (old new : List ℕ) (count place : ℕ) → place < count → count ≤ length old → length new ≡ length old → ((i : ℕ) → i < place → slice_index new i ≡ slice_index old i) → ((i : ℕ) → place ≤ i → i + 1 < count → slice_index new i ≡ slice_index old (i + 1)) → IsWithout (take count old) (take (count - 1) new) place
+taken_out old new count place inside within same before behind =
+    let long : length (take count old) ≡ count = length-take-le count old within in
+    let short : length (take (count - 1) new) ≡ count - 1 = length-take-le (count - 1) new (omega (arith, within, same)) in
+    record {
+      inside = omega (arith, inside, long);
+      fewer = omega (arith, inside, long, short);
+      before = λ i earlier. get_or-take (count - 1) new i 0 (omega (arith, earlier, inside)) ∙ before i earlier ∙ sym (get_or-take count old i 0 (omega (arith, earlier, inside)));
+      behind = λ i later within. get_or-take (count - 1) new i 0 (omega (arith, within, short)) ∙ behind i later (omega (arith, within, short)) ∙ sym (get_or-take count old (i + 1) 0 (omega (arith, within, short)));
+    }
 
 -- where an entry stood
 stood_at : (old pes : List ℕ) (place : ℕ) → IsWithout old pes place → (i : ℕ) → i < length pes → (j : ℕ) × (j < length old) × (j ≢ place) × (slice_index pes i ≡ slice_index old j)

@@ -1,8 +1,9 @@
 -- The first naming in dictionary order of those that give each block a PE that it may have, and the search for it.
 -- Source: C. Berge, "Two theorems in graph theory", Proceedings of the National Academy of Sciences 43(9), 1957.
-use Rattle.std.specs.Prelude.{◌≡◌, ℕ, ◌/◌, ◌%◌, ◌<◌, ◌≤◌, List, [], length, slice_index, slice_index_or}
+use Rattle.std.specs.Prelude.{◌≡◌, ℕ, zero, suc, ◌*◌, ◌/◌, ◌%◌, ◌<◌, ◌≤◌, List, [], ◌∷◌, length, slice_index, slice_index_or, take, drop}
 use Rattle.std.specs.Int.{bit_at}
 use Rattle.lb_certificates.specs.Naming.{IsNaming}
+use Rattle.block_assignment.specs.declared.limits.TheConstants.MatrixLimits.{BLOCKS}
 
 -- 1 where the set has this block, and 0 where not
 abbrev pub member : List ℕ → ℕ → ℕ
@@ -11,6 +12,23 @@ member set b = bit_at (slice_index set (b / 64)) (b % 64)
 -- 1 where the block may have this PE, and 0 where not: for each PE there is the set of the blocks that may have it
 abbrev pub may_have : List (List ℕ) → ℕ → ℕ → ℕ
 may_have takers b p = member (slice_index_or takers p []) b
+
+-- the sets whose words stand one set after the other, each of the same number of words
+abbrev pub rows : ℕ → ℕ → List ℕ → List (List ℕ)
+rows width zero words = []
+rows width (suc count) words = take width words ∷ rows width count (drop width words)
+
+-- the words of so many sets, each with a bit for as many blocks
+pub record AreRows (width count : ℕ) (words : List ℕ) : Type 0 where
+  pub counted : length words ≡ count * width
+  pub wide : count ≤ 64 * width
+  pub few : count ≤ BLOCKS
+  pub narrow : width ≤ BLOCKS
+
+-- words for one set of so many blocks
+pub record IsRoom (blocks : ℕ) (words : List ℕ) : Type 0 where
+  pub wide : blocks ≤ 64 * length words
+  pub narrow : length words ≤ BLOCKS
 
 -- each block has a PE that it may have
 abbrev pub IsAllowed : List (List ℕ) → List ℕ → Type 0

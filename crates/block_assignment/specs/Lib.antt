@@ -1,3 +1,4 @@
 pub mod Least
+pub mod Lists
 pub mod Search
 pub mod Table

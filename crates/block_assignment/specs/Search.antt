@@ -3,7 +3,7 @@
 -- tree of shortest paths, by reduced costs.
 use Rattle.std.specs.Prelude.{◌≡◌, ◌≢◌, ℕ, ◌+◌, ◌<◌, ◌≤◌, ◌==◌, ◌⊎◌, List, length, slice_index, slice_index_or, count_by, Option, Some, None}
 use Rattle.lb_certificates.specs.Naming.{IsNaming}
-use Rattle.block_assignment.specs.Table.{Table, IsTable, cost_at, greatest}
+use Rattle.block_assignment.specs.Table.{Table, IsMatrix, cost_at, greatest}
 
 -- The table, how many blocks have names, the names, the block that holds each PE, the price of each block and the
 -- discount of each PE; and the tree of the search, for each PE: when it was scanned, counted from 1, or 0 where it was
@@ -23,7 +23,7 @@ pub record State : Type 0 where
 
 -- an entry for each block or each PE
 pub record IsSized (s : State) : Type 0 where
-  pub is_table : IsTable s.table
+  pub is_table : IsMatrix s.table
   pub names_length : length s.names ≡ s.table.blocks
   pub holders_length : length s.holders ≡ s.table.blocks
   pub price_length : length s.price ≡ s.table.blocks

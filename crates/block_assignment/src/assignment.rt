@@ -1,12 +1,15 @@
-ghost use Rattle.std.specs.Prelude.{◌≡◌, ℕ, ◌^◌, ◌<◌, ◌≤◌, List, IfOk, IfErr, OnOk, length, slice_index, pos, neg_ℤ};
+ghost use Rattle.std.specs.Prelude.{◌≡◌, ℕ, ◌+◌, ◌*◌, ◌<◌, ◌≤◌, List, IfOk, IfErr, OnOk, length, slice_index, pos, neg_ℤ};
 ghost use Rattle.lb_certificates.specs.Naming.{IsFirstCheapest, IsNaming, Proves, naming_cost, price_at};
 ghost use Rattle.block_assignment.specs.declared.error.NameError.TheVariants.{OutOfMemory};
-ghost use Rattle.block_assignment.specs.Search.{IsTight};
-ghost use Rattle.block_assignment.specs.Table.{cost_at, greatest, AreWithin};
+ghost use Rattle.block_assignment.specs.declared.limits.TheConstants.MatrixLimits.{BLOCKS, BYTES};
+ghost use Rattle.block_assignment.specs.Search.{State, IsMatched, IsSized, IsSmall, IsTight};
+ghost use Rattle.block_assignment.specs.Table.{Table, cost_at, greatest, AreWithin};
 
-use crate::block_set::NO_BLOCK;
+use crate::block_set::{BlockSets, words_for};
+use crate::costs::Costs;
 use crate::error::NameError;
 use crate::least::make_least;
+use crate::matrix::CostMatrix;
 use crate::search::Search;
 use crate::table::CostTable;
 use crate::takers::write_takers;
@@ -32,6 +35,42 @@ pub fn name_blocks<A: Allocator + Copy, B: Allocator>(
     ensures bounded { IfOk result (λ answer. AreWithin (greatest table.now.costs) answer.1.u answer.1.v) }
     ensures only_memory { IfErr result (λ error. error ≡ OutOfMemory) }
 {
+    name_by(alloc, &table.as_costs())
+}
+
+/// The least naming of the blocks of this matrix, as [`name_blocks`] finds it, with its prices.
+///
+/// # Errors
+///
+/// [`OutOfMemory`](NameError::OutOfMemory) where a list was refused.
+pub fn name_blocks_of<A: Allocator + Copy, B: Allocator>(
+    alloc: A,
+    matrix: &CostMatrix<B>,
+) -> Result<(Naming<A>, Prices<A>), NameError>
+    ensures naming { IfOk result (λ answer. IsNaming matrix.now.blocks answer.0) }
+    ensures proved { IfOk result (λ answer. Proves matrix.now.blocks (cost_at matrix.now) (naming_cost matrix.now.blocks (cost_at matrix.now) answer.0) answer.1.u answer.1.v) }
+    ensures cheapest { IfOk result (λ answer. (others : List ℕ) → IsNaming matrix.now.blocks others
+        → naming_cost matrix.now.blocks (cost_at matrix.now) answer.0 ≤ naming_cost matrix.now.blocks (cost_at matrix.now) others) }
+    ensures least_naming { IfOk result (λ answer. IsFirstCheapest matrix.now.blocks (naming_cost matrix.now.blocks (cost_at matrix.now)) answer.0) }
+    ensures bounded { IfOk result (λ answer. AreWithin (greatest matrix.now.costs) answer.1.u answer.1.v) }
+    ensures only_memory { IfErr result (λ error. error ≡ OutOfMemory) }
+{
+    name_by(alloc, &matrix.as_costs())
+}
+
+// The least naming by any costs, with its prices.
+fn name_by<A: Allocator + Copy>(
+    alloc: A,
+    table: &Costs<'_>,
+) -> Result<(Naming<A>, Prices<A>), NameError>
+    ensures naming { IfOk result (λ answer. IsNaming table.now.blocks answer.0) }
+    ensures proved { IfOk result (λ answer. Proves table.now.blocks (cost_at table.now) (naming_cost table.now.blocks (cost_at table.now) answer.0) answer.1.u answer.1.v) }
+    ensures cheapest { IfOk result (λ answer. (others : List ℕ) → IsNaming table.now.blocks others
+        → naming_cost table.now.blocks (cost_at table.now) answer.0 ≤ naming_cost table.now.blocks (cost_at table.now) others) }
+    ensures least_naming { IfOk result (λ answer. IsFirstCheapest table.now.blocks (naming_cost table.now.blocks (cost_at table.now)) answer.0) }
+    ensures bounded { IfOk result (λ answer. AreWithin (greatest table.now.costs) answer.1.u answer.1.v) }
+    ensures only_memory { IfErr result (λ error. error ≡ OutOfMemory) }
+{
     let blocks = table.blocks() as usize;
     let mut u = vec![in alloc; 0i64; blocks]?;
     let mut v = vec![in alloc; 0i64; blocks]?;
@@ -44,9 +83,9 @@ pub fn name_blocks<A: Allocator + Copy, B: Allocator>(
 }
 
 // The least naming. The prices of the blocks are written into `u`, and those of the PEs into `v`.
-fn name_and_price<A: Allocator + Copy, B: Allocator>(
+fn name_and_price<A: Allocator + Copy>(
     alloc: A,
-    table: &CostTable<B>,
+    table: &Costs<'_>,
     u: &mut [i64],
     v: &mut [i64],
 ) -> Result<Vec<u32, A>, AllocError>
@@ -57,63 +96,118 @@ fn name_and_price<A: Allocator + Copy, B: Allocator>(
     ensures least_naming { IfOk result (λ names. IsFirstCheapest table.now.blocks (naming_cost table.now.blocks (cost_at table.now)) names.items) }
     ensures bounded { IfOk result (λ _. AreWithin (greatest table.now.costs) u.new v.new) }
 {
-    let (mut names, price, discount) = cheapest(alloc, table)?;
+    let blocks = table.blocks() as usize;
+    let mut room = vec![in alloc; 0; blocks]?;
+    let (mut names, price, discount) = cheapest(alloc, table, &mut room)?;
     write_block_prices(&price, u);
     write_pe_prices(&discount, v);
-    let renamed = rename(alloc, table, &price, &discount, &mut names);
+    let renamed = rename(alloc, table, &price, &discount, &mut room, &mut names);
+    drop(room);
     drop(price);
     drop(discount);
     renamed?;
     Ok(names)
 }
 
-// A cheapest naming, the price of each block and the discount of each PE.
-fn cheapest<A: Allocator + Copy, B: Allocator>(
+// A cheapest naming, the price of each block and the discount of each PE. `to_scan` is room for the PEs that a tree has
+// not scanned.
+fn cheapest<A: Allocator + Copy>(
     alloc: A,
-    table: &CostTable<B>,
+    table: &Costs<'_>,
+    to_scan: &mut [u32],
 ) -> Result<(Vec<u32, A>, Vec<u64, A>, Vec<u64, A>), AllocError>
+    requires room { length to_scan.old ≡ table.now.blocks }
     ensures tight { IfOk result (λ parts. IsTight table.now.blocks (cost_at table.now) parts.1.items parts.2.items parts.0.items) }
     ensures price { IfOk result (λ parts. length parts.1.items ≡ table.now.blocks) }
     ensures discounts { IfOk result (λ parts. length parts.2.items ≡ table.now.blocks) }
     ensures prices_small { IfOk result (λ parts. (b : ℕ) → b < table.now.blocks → slice_index parts.1.items b ≤ greatest table.now.costs) }
     ensures discounts_small { IfOk result (λ parts. (p : ℕ) → p < table.now.blocks → slice_index parts.2.items p ≤ greatest table.now.costs) }
-    ensures costs_small { IfOk result (λ _. greatest table.now.costs ≤ 2 ^ 36) }
+    ensures costs_small { IfOk result (λ _. greatest table.now.costs ≤ BYTES) }
 {
+    let blocks = table.blocks();
     let mut search = Search::new(alloc, table)?;
-    for _ in 0..table.blocks() {
-        search.name_next();
-    }
+    name_all(&mut search, blocks, to_scan);
     Ok(search.into_parts())
 }
 
+// Names all blocks, none of which has a name. `to_scan` is room for the PEs that a tree has not scanned.
+fn name_all<A: Allocator>(search: &mut Search<'_, A>, blocks: u32, to_scan: &mut [u32])
+    requires sized { IsSized search.old }
+    requires matched { IsMatched search.old }
+    requires small { IsSmall search.old }
+    requires none_named { search.old.named ≡ 0 }
+    requires blocks { blocks ≡ search.old.table.blocks }
+    requires room { length to_scan.old ≡ blocks }
+    ensures sized { IsSized search.new }
+    ensures matched { IsMatched search.new }
+    ensures small { IsSmall search.new }
+    ensures named { search.new.named ≡ blocks }
+    ensures table { search.new.table ≡ search.old.table }
+{
+    for _ in 0..blocks {
+        search.name_next(to_scan);
+    }
+}
+
 // Of all cheapest namings, the first in dictionary order. The prices stay as they are: the cheapest namings are those
-// that use only pairs whose prices add up to their cost.
-fn rename<A: Allocator + Copy, B: Allocator>(
+// that use only pairs whose prices add up to their cost. `next` is room for the search.
+fn rename<A: Allocator + Copy>(
     alloc: A,
-    table: &CostTable<B>,
+    table: &Costs<'_>,
     price: &[u64],
     discount: &[u64],
+    next: &mut [u32],
     names: &mut [u32],
 ) -> Result<(), AllocError>
     requires tight { IsTight table.now.blocks (cost_at table.now) price.now discount.now names.old }
     requires price { length price.now ≡ table.now.blocks }
     requires discounts { length discount.now ≡ table.now.blocks }
-    requires small { (p : ℕ) → p < length discount.now → slice_index discount.now p ≤ 2 ^ 36 }
+    requires small { (p : ℕ) → p < length discount.now → slice_index discount.now p ≤ BYTES }
+    requires next { length next.old ≡ table.now.blocks }
     ensures tight { OnOk result (IsTight table.now.blocks (cost_at table.now) price.now discount.now names.new) }
     ensures least_naming { OnOk result (IsFirstCheapest table.now.blocks (naming_cost table.now.blocks (cost_at table.now)) names.new) }
 {
-    let blocks = table.blocks() as usize;
-    let mut takers = vec![in alloc; NO_BLOCK; blocks]?;
-    let mut next = vec![in alloc; 0; blocks]?;
-    write_takers(table, price, discount, &mut takers);
-    make_least(&takers, &mut next, names);
+    let blocks = table.blocks();
+    let width = words_for(blocks);
+    let mut sets = vec![in alloc; 0u64; (blocks as usize + 2) * width]?;
+    rename_with(table, price, discount, width, &mut sets, next, names);
     Ok(())
+}
+
+// The same with room for sets of so many words: one for each PE, and two for the search, all of no block.
+fn rename_with(
+    table: &Costs<'_>,
+    price: &[u64],
+    discount: &[u64],
+    width: usize,
+    sets: &mut [u64],
+    next: &mut [u32],
+    names: &mut [u32],
+)
+    requires tight { IsTight table.now.blocks (cost_at table.now) price.now discount.now names.old }
+    requires price { length price.now ≡ table.now.blocks }
+    requires discounts { length discount.now ≡ table.now.blocks }
+    requires small { (p : ℕ) → p < length discount.now → slice_index discount.now p ≤ BYTES }
+    requires wide { table.now.blocks ≤ 64 * width }
+    requires narrow { width ≤ BLOCKS }
+    requires sets { length sets.old ≡ (table.now.blocks + 2) * width }
+    requires none { (w : ℕ) → w < length sets.old → slice_index sets.old w ≡ 0 }
+    requires next { length next.old ≡ table.now.blocks }
+    ensures tight { IsTight table.now.blocks (cost_at table.now) price.now discount.now names.new }
+    ensures least_naming { IsFirstCheapest table.now.blocks (naming_cost table.now.blocks (cost_at table.now)) names.new }
+{
+    let blocks = table.blocks();
+    let (words, room) = sets.split_at_mut(blocks as usize * width);
+    let (left, waiting) = room.split_at_mut(width);
+    write_takers(table, price, discount, width, words);
+    let takers = BlockSets::new(blocks, width, words);
+    make_least(&takers, left, waiting, next, names);
 }
 
 // Writes the prices of the blocks as dual values.
 fn write_block_prices(price: &[u64], prices: &mut [i64])
     requires counted { length prices.old ≡ length price.now }
-    requires small { (b : ℕ) → b < length price.now → slice_index price.now b ≤ 2 ^ 36 }
+    requires small { (b : ℕ) → b < length price.now → slice_index price.now b ≤ BYTES }
     ensures { (b : ℕ) → b < length price.now → price_at prices.new b ≡ pos (slice_index price.now b) }
 {
     for b in 0..price.len() {
@@ -124,7 +218,7 @@ fn write_block_prices(price: &[u64], prices: &mut [i64])
 // Writes the dual values of the PEs: their discounts with the sign changed.
 fn write_pe_prices(discount: &[u64], prices: &mut [i64])
     requires counted { length prices.old ≡ length discount.now }
-    requires small { (p : ℕ) → p < length discount.now → slice_index discount.now p ≤ 2 ^ 36 }
+    requires small { (p : ℕ) → p < length discount.now → slice_index discount.now p ≤ BYTES }
     ensures { (p : ℕ) → p < length discount.now → price_at prices.new p ≡ neg_ℤ (pos (slice_index discount.now p)) }
 {
     for p in 0..discount.len() {

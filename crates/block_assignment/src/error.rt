@@ -1,5 +1,4 @@
 ghost use Rattle.std.specs.Prelude.{◌≡◌};
-ghost use Rattle.block_assignment.specs.declared.error.NameError.TheVariants.{OutOfMemory};
 
 use std::alloc::AllocError;
 use thiserror::Error;
@@ -13,9 +12,41 @@ pub enum NameError {
 }
 
 impl From<AllocError> for NameError {
+    ghost use Rattle.block_assignment.specs.declared.error.NameError.TheVariants.{OutOfMemory};
+
     ghost from_gives = { λ _ e. e ≡ OutOfMemory };
 
     fn from(_: AllocError) -> NameError {
         NameError::OutOfMemory
+    }
+}
+
+/// Why no [`CostMatrix`](crate::CostMatrix) was made. The variants stand in the order in which they are looked for.
+#[derive(Clone, Copy, Debug, PartialEq, Eq, Error)]
+pub enum CostError {
+    /// There are not as many places as sizes.
+    #[error("not as many places as sizes")]
+    Unpaired,
+    /// The number of blocks is not 1 to [`MatrixLimits::BLOCKS`](crate::MatrixLimits::BLOCKS).
+    #[error("not 1 to 4,096 blocks")]
+    BlockCount,
+    /// The cuts do not divide the elements into consecutive blocks.
+    #[error("the cuts do not divide the elements")]
+    Undivided,
+    /// The sizes add up to more than [`MatrixLimits::BYTES`](crate::MatrixLimits::BYTES).
+    #[error("more than 128 TiB in all")]
+    TooManyBytes,
+    /// No memory was left.
+    #[error("out of memory")]
+    OutOfMemory,
+}
+
+impl From<AllocError> for CostError {
+    ghost use Rattle.block_assignment.specs.declared.error.CostError.TheVariants.{OutOfMemory};
+
+    ghost from_gives = { λ _ e. e ≡ OutOfMemory };
+
+    fn from(_: AllocError) -> CostError {
+        CostError::OutOfMemory
     }
 }

@@ -5,16 +5,22 @@
 //! in graph theory", Proceedings of the National Academy of Sciences 43(9), 1957.
 
 ghost use Rattle.std.specs.Prelude.{◌≡◌, ℕ, false, ◌<◌, ◌≤◌, length, slice_index};
-ghost use Rattle.chare_index.specs.declared.limits.TheConstants.Limits.{PES};
 ghost use Rattle.lb_certificates.specs.Naming.{IsNaming};
-ghost use Rattle.block_assignment.specs.Least.{member, may_have, IsAllowed, IsClosed, IsFound, IsLeastAt, IsTrail};
+ghost use Rattle.block_assignment.specs.Least.{member, may_have, IsAllowed, IsClosed, IsFound, IsLeastAt, IsRoom, IsTrail};
 
-use crate::block_set::{BlockSet, NO_BLOCK, first_common, has, insert, remove};
+use crate::block_set::{BlockSets, first_common, has, insert, remove};
 
 /// Renames the blocks: of all namings that give each block a PE that it may have, the first in dictionary order. For
-/// each PE there is the set of the blocks that may have it. `next` is room for the search.
-pub(crate) fn make_least(takers: &[BlockSet], next: &mut [u32], names: &mut [u32])
-    requires few { length takers.now ≤ PES }
+/// each PE there is the set of the blocks that may have it. `left`, `waiting` and `next` are room for the search.
+pub(crate) fn make_least(
+    takers: &BlockSets<'_>,
+    left: &mut [u64],
+    waiting: &mut [u64],
+    next: &mut [u32],
+    names: &mut [u32],
+)
+    requires left { IsRoom (length takers.now) left.old }
+    requires waiting { IsRoom (length takers.now) waiting.old }
     requires next { length next.old ≡ length takers.now }
     requires naming { IsNaming (length takers.now) names.old }
     requires allowed { IsAllowed takers.now names.old }
@@ -22,17 +28,25 @@ pub(crate) fn make_least(takers: &[BlockSet], next: &mut [u32], names: &mut [u32
     ensures allowed { IsAllowed takers.now names.new }
     ensures least { (b : ℕ) → b < length takers.now → IsLeastAt takers.now names.new b }
 {
-    for b in 0..takers.len() as u32 {
-        give_least_pe(b, takers, next, names);
+    for b in 0..takers.count() {
+        give_least_pe(b, takers, left, waiting, next, names);
     }
 }
 
 // Gives block `b` the least PE with which the later blocks can still be named, and leaves the blocks before it theirs.
 // The block that had this PE takes that of the next block on its path back to `b`, and so on, until one takes the PE that
 // `b` had.
-fn give_least_pe(b: u32, takers: &[BlockSet], next: &mut [u32], names: &mut [u32])
+fn give_least_pe(
+    b: u32,
+    takers: &BlockSets<'_>,
+    left: &mut [u64],
+    waiting: &mut [u64],
+    next: &mut [u32],
+    names: &mut [u32],
+)
     requires inside { b < length takers.now }
-    requires few { length takers.now ≤ PES }
+    requires left { IsRoom (length takers.now) left.old }
+    requires waiting { IsRoom (length takers.now) waiting.old }
     requires next { length next.old ≡ length takers.now }
     requires naming { IsNaming (length takers.now) names.old }
     requires allowed { IsAllowed takers.now names.old }
@@ -44,9 +58,9 @@ fn give_least_pe(b: u32, takers: &[BlockSet], next: &mut [u32], names: &mut [u32
     if !may_have_less(b, takers, names) {
         return;
     }
-    let left = left_by(b, takers, names, next);
+    search_from(b, takers, names, left, waiting, next);
     let mut holder = b;
-    let mut taken = choose(b, takers, names, &left);
+    let mut taken = choose(b, takers, names, left);
     while taken != b {
         names.swap(holder as usize, taken as usize);
         holder = taken;
@@ -55,67 +69,73 @@ fn give_least_pe(b: u32, takers: &[BlockSet], next: &mut [u32], names: &mut [u32
 }
 
 // Whether block `b` may have a lesser PE that a later block has. Most blocks may not, and need no search.
-fn may_have_less(b: u32, takers: &[BlockSet], names: &[u32]) -> bool
+fn may_have_less(b: u32, takers: &BlockSets<'_>, names: &[u32]) -> bool
     requires inside { b < length takers.now }
-    requires few { length takers.now ≤ PES }
     requires naming { IsNaming (length takers.now) names.now }
     ensures { result ≡ false → (j : ℕ) → b < j → j < length takers.now → may_have takers.now b (slice_index names.now j) ≡ 1
         → slice_index names.now b ≤ slice_index names.now j }
 {
     for j in b as usize + 1..names.len() {
-        if names[j] < names[b as usize] && has(&takers[names[j] as usize], b) {
+        if names[j] < names[b as usize] && takers.has(names[j], b) {
             return true;
         }
     }
     false
 }
 
-// The blocks after `b`.
-fn later_blocks(b: u32, blocks: u32) -> BlockSet
+// Writes the set of the blocks after `b`.
+fn write_later(b: u32, blocks: u32, set: &mut [u64])
     requires inside { b < blocks }
-    requires few { blocks ≤ PES }
-    ensures later { (j : ℕ) → member result j ≡ 1 → (b < j) × (j < blocks) }
-    ensures all { (j : ℕ) → b < j → j < blocks → member result j ≡ 1 }
+    requires room { IsRoom blocks set.old }
+    ensures later { (j : ℕ) → member set.new j ≡ 1 → (b < j) × (j < blocks) }
+    ensures all { (j : ℕ) → b < j → j < blocks → member set.new j ≡ 1 }
 {
-    let mut set = NO_BLOCK;
+    set.fill(0);
     for j in b + 1..blocks {
-        insert(&mut set, j);
+        insert(set, j);
     }
-    set
 }
 
-// The later blocks that the search from block `b` leaves. It finds a block where that may have the PE of `b`, or of a
-// block that was found before, which is then the next on its path back to `b`.
-fn left_by(b: u32, takers: &[BlockSet], names: &[u32], next: &mut [u32]) -> BlockSet
+// Searches from block `b`, and writes into `left` the later blocks that the search leaves. It finds a block where that may
+// have the PE of `b`, or of a block that was found before, which is then the next on its path back to `b`.
+fn search_from(
+    b: u32,
+    takers: &BlockSets<'_>,
+    names: &[u32],
+    left: &mut [u64],
+    waiting: &mut [u64],
+    next: &mut [u32],
+)
     requires inside { b < length takers.now }
-    requires few { length takers.now ≤ PES }
+    requires left { IsRoom (length takers.now) left.old }
+    requires waiting { IsRoom (length takers.now) waiting.old }
     requires next { length next.old ≡ length takers.now }
     requires naming { IsNaming (length takers.now) names.now }
-    ensures trail { IsTrail takers.now names.now b result next.new }
-    ensures closed { IsClosed takers.now names.now b result }
+    ensures trail { IsTrail takers.now names.now b left.new next.new }
+    ensures closed { IsClosed takers.now names.now b left.new }
 {
-    let mut left = later_blocks(b, takers.len() as u32);
-    let mut waiting = NO_BLOCK;
+    write_later(b, takers.count(), left);
+    waiting.fill(0);
     let mut i = b;
     loop {
-        if let Some(j) = first_common(&left, &takers[names[i as usize] as usize]) {
-            remove(&mut left, j);
-            insert(&mut waiting, j);
+        if let Some(j) = takers.first_common(names[i as usize], left) {
+            remove(left, j);
+            insert(waiting, j);
             next[j as usize] = i;
             continue;
         }
-        let Some(j) = first_common(&waiting, &waiting) else {
-            return left;
+        let Some(j) = first_common(waiting, waiting) else {
+            return;
         };
-        remove(&mut waiting, j);
+        remove(waiting, j);
         i = j;
     }
 }
 
 // Of the blocks that were found, and whose PE block `b` may have, the one with the least PE.
-fn choose(b: u32, takers: &[BlockSet], names: &[u32], left: &BlockSet) -> u32
+fn choose(b: u32, takers: &BlockSets<'_>, names: &[u32], left: &[u64]) -> u32
     requires inside { b < length takers.now }
-    requires few { length takers.now ≤ PES }
+    requires left { IsRoom (length takers.now) left.now }
     requires naming { IsNaming (length takers.now) names.now }
     requires allowed { may_have takers.now b (slice_index names.now b) ≡ 1 }
     requires taken { member left.now b ≡ 0 }
@@ -125,9 +145,9 @@ fn choose(b: u32, takers: &[BlockSet], names: &[u32], left: &BlockSet) -> u32
         → slice_index names.now result ≤ slice_index names.now j }
 {
     let mut chosen = b;
-    for j in b + 1..takers.len() as u32 {
+    for j in b + 1..takers.count() {
         let pe = names[j as usize];
-        if pe < names[chosen as usize] && !has(left, j) && has(&takers[pe as usize], b) {
+        if pe < names[chosen as usize] && !has(left, j) && takers.has(pe, b) {
             chosen = j;
         }
     }

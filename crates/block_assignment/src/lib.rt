@@ -3,6 +3,8 @@
 //! - [`CostTable`]: the bytes that move where a block runs on a PE.
 //! - [`name_blocks`]: the first of the cheapest [`Naming`](lb_certificates::Naming)s with its
 //!   [`Prices`](lb_certificates::Prices), or a [`NameError`].
+//! - [`CostMatrix`] and [`name_blocks_of`]: the same for elements that are plain lists, within the [`MatrixLimits`] in
+//!   place of a snapshot's limits; why there is no such matrix is a [`CostError`].
 //!
 //! ```
 //! use block_assignment::{CostTable, name_blocks};
@@ -25,14 +27,19 @@
 
 mod assignment;
 mod block_set;
+mod costs;
 mod error;
 mod least;
+mod limits;
+mod matrix;
 mod scan;
 mod search;
 mod table;
 mod takers;
 mod to_scan;
 
-pub use assignment::name_blocks;
-pub use error::NameError;
+pub use assignment::{name_blocks, name_blocks_of};
+pub use error::{CostError, NameError};
+pub use limits::MatrixLimits;
+pub use matrix::CostMatrix;
 pub use table::CostTable;

@@ -35,8 +35,8 @@ pub(crate) fn scan(
     requires held { length holders.now ≡ length row.now }
     requires distances { length distance.old ≡ length row.now }
     requires froms { length from.old ≡ length row.now }
-    requires near { joining.distance ≤ 2 ^ 38 }
-    requires small { (p : ℕ) → p < length row.now → slice_index row.now p + slice_index discount.now p ≤ 2 ^ 38 }
+    requires near { joining.distance ≤ 2 ^ 49 }
+    requires small { (p : ℕ) → p < length row.now → slice_index row.now p + slice_index discount.now p ≤ 2 ^ 49 }
     requires low { (p : ℕ) → p < length row.now → joining.price ≤ slice_index row.now p + slice_index discount.now p }
     ensures relaxed { (p : ℕ) → p < length row.now → slice_index rank.now p ≡ 0
         → IsRelaxed joining.distance (slice_index row.now p) joining.price (slice_index discount.now p) joining.block

@@ -9,17 +9,17 @@ ghost use Rattle.std.specs.Prelude.{◌≡◌, ℕ, ◌+◌, ◌^◌, ◌<◌, �
 ghost use Rattle.block_assignment.specs.Table.{cost_at};
 ghost use Rattle.block_assignment.specs.Search.{State, IsSized, IsMatched, IsTree, IsPath, IsSmall, IsNearest, IsRaised, IsUnscanned, unscanned};
 
+use crate::costs::Costs;
 use crate::scan::{Joining, scan};
-use crate::table::CostTable;
-use crate::to_scan::ToScan;
+use crate::to_scan::{list_all, take_out};
 use std::alloc::{AllocError, Allocator};
 use std::marker::Model;
 
 /// The names so far, their prices, and the tree that looks for the next name.
 #[derive(Drop)]
-pub(crate) struct Search<'t, A: Allocator, B: Allocator> {
+pub(crate) struct Search<'t, A: Allocator> {
     // What each block costs on each PE.
-    table: &'t CostTable<B>,
+    table: &'t Costs<'t>,
     // How many blocks have a name, and the names.
     named: usize,
     names: Vec<u32, A>,
@@ -39,7 +39,7 @@ pub(crate) struct Search<'t, A: Allocator, B: Allocator> {
     from: Vec<u32, A>,
 }
 
-impl<'t, A: Allocator, B: Allocator> Model for Search<'t, A, B> {
+impl<'t, A: Allocator> Model for Search<'t, A> {
     ghost Value = { State };
 
     ghost view = { λ s. record {
@@ -55,9 +55,9 @@ impl<'t, A: Allocator, B: Allocator> Model for Search<'t, A, B> {
     } };
 }
 
-impl<'t, A: Allocator + Copy, B: Allocator> Search<'t, A, B> {
+impl<'t, A: Allocator + Copy> Search<'t, A> {
     /// A search in which no block has a name.
-    pub(crate) fn new(alloc: A, table: &'t CostTable<B>) -> Result<Self, AllocError>
+    pub(crate) fn new(alloc: A, table: &'t Costs<'t>) -> Result<Self, AllocError>
         ensures table { IfOk result (λ s. s.table ≡ table.now) }
         ensures sized { IfOk result IsSized }
         ensures matched { IfOk result IsMatched }
@@ -82,30 +82,34 @@ impl<'t, A: Allocator + Copy, B: Allocator> Search<'t, A, B> {
     }
 }
 
-impl<A: Allocator, B: Allocator> Search<'_, A, B> {
-    /// Names the first block that has no name. Its tree reaches a free PE before it has scanned all.
-    pub(crate) fn name_next(&mut self)
+impl<A: Allocator> Search<'_, A> {
+    /// Names the first block that has no name. Its tree reaches a free PE before it has scanned all. `to_scan` is room
+    /// for the PEs that the tree has not scanned.
+    pub(crate) fn name_next(&mut self, to_scan: &mut [u32])
         requires sized { IsSized self.old }
         requires matched { IsMatched self.old }
         requires unnamed { self.old.named < self.old.table.blocks }
+        requires room { length to_scan.old ≡ self.old.table.blocks }
         ensures sized { IsSized self.new }
         ensures matched { IsMatched self.new }
         ensures small { IsSmall self.new }
         ensures table { self.new.table ≡ self.old.table }
         ensures named { self.new.named ≡ self.old.named + 1 }
     {
-        let mut to_scan = ToScan::below(self.table.blocks());
-        let mut nearest = self.start_tree(&to_scan);
+        list_all(to_scan);
+        let mut count = to_scan.len();
+        let mut nearest = self.start_tree(to_scan);
         let mut rank = 1;
         while let Some(place) = nearest {
-            let pe = to_scan.at(place);
+            let pe = to_scan[..count][place];
             let Some(block) = self.holders[pe as usize] else {
                 self.raise(pe, rank);
                 self.augment(pe);
                 return;
             };
-            to_scan.remove(place);
-            nearest = self.grow(&to_scan, block, pe, rank);
+            take_out(to_scan, count, place);
+            count -= 1;
+            nearest = self.grow(&to_scan[..count], block, pe, rank);
             rank += 1;
         }
     }
@@ -120,7 +124,7 @@ impl<A: Allocator, B: Allocator> Search<'_, A, B> {
     }
 
     // Starts a tree of the next block alone, and returns the place of the nearest PE in the list, which has all.
-    fn start_tree(&mut self, to_scan: &ToScan) -> Option<usize>
+    fn start_tree(&mut self, to_scan: &[u32]) -> Option<usize>
         requires sized { IsSized self.old }
         requires matched { IsMatched self.old }
         requires unnamed { self.old.named < self.old.table.blocks }
@@ -151,7 +155,7 @@ impl<A: Allocator, B: Allocator> Search<'_, A, B> {
             self.table.row(root as u32),
             &self.discount,
             &self.rank,
-            to_scan.as_slice(),
+            to_scan,
             &self.holders,
             &mut self.distance,
             &mut self.from,
@@ -160,7 +164,7 @@ impl<A: Allocator, B: Allocator> Search<'_, A, B> {
 
     // Scans the nearest PE, which the list no longer has, adds the block that holds it to the tree, and returns the place
     // of the PE that is nearest then.
-    fn grow(&mut self, to_scan: &ToScan, block: u32, pe: u32, rank: u32) -> Option<usize>
+    fn grow(&mut self, to_scan: &[u32], block: u32, pe: u32, rank: u32) -> Option<usize>
         requires sized { IsSized self.old }
         requires matched { IsMatched self.old }
         requires tree { IsTree rank self.old }
@@ -191,7 +195,7 @@ impl<A: Allocator, B: Allocator> Search<'_, A, B> {
             self.table.row(block),
             &self.discount,
             &self.rank,
-            to_scan.as_slice(),
+            to_scan,
             &self.holders,
             &mut self.distance,
             &mut self.from,

@@ -4,6 +4,7 @@ ghost use Rattle.lb_snapshot.specs.Measured.{IsSizes};
 ghost use Rattle.lb_certificates.specs.Naming.{naming_cost, moved_bytes, IsNaming};
 ghost use Rattle.block_assignment.specs.Table.{Table, IsTable, IsTableOf, cost_at};
 
+use crate::costs::Costs;
 use chare_index::{Limits, Pe};
 use lb_certificates::{Cuts, Sizes};
 use std::alloc::{AllocError, Allocator, Global};
@@ -57,37 +58,21 @@ impl<A: Allocator + Copy> CostTable<A> {
 
 impl<A: Allocator> CostTable<A> {
     /// The bytes of block `b` whose present PE is not `p`.
-    #[tactic(auto, using(crate::proofs::Sums::cost_small))]
     pub fn cost(&self, b: u32, p: u32) -> u64
         requires block { b < self.now.blocks }
         requires pe { p < self.now.blocks }
         ensures value { result ≡ cost_at self.now b p }
         ensures small { result ≤ 2 ^ 36 }
     {
-        self.costs[b as usize * self.blocks() as usize + p as usize]
-    }
-
-    // The costs of block `b`, on each PE.
-    pub(crate) fn row(&self, b: u32) -> &[u64]
-        requires { b < self.now.blocks }
-        ensures counted { length result.now ≡ self.now.blocks }
-        ensures costs { (p : ℕ) → p < self.now.blocks → slice_index result.now p ≡ cost_at self.now b p }
-    {
-        let start = b as usize * self.blocks() as usize;
-        &self.costs[start..start + self.blocks() as usize]
+        self.as_costs().cost(b, p)
     }
 
     /// The bytes that move where each block runs on the PE of its name.
-    #[tactic(auto, using(crate::proofs::Sums::total_more))]
     pub fn cost_of(&self, names: &[u32]) -> u64
         requires naming { IsNaming self.now.blocks names.now }
         ensures value { result ≡ naming_cost self.now.blocks (cost_at self.now) names.now }
     {
-        let mut total = 0;
-        for b in 0..self.blocks() {
-            total += self.cost(b, names[b as usize]);
-        }
-        total
+        self.as_costs().cost_of(names)
     }
 
     /// How many blocks there are, and as many PEs.
@@ -96,6 +81,14 @@ impl<A: Allocator> CostTable<A> {
         ensures within_limits { IsTable self.now }
     {
         self.count
+    }
+
+    /// What the search for names reads of it.
+    pub(crate) fn as_costs(&self) -> Costs<'_>
+        ensures value { result ≡ self.now }
+        ensures table { IsTable self.now }
+    {
+        Costs::new(self.count, &self.costs)
     }
 }
 

@@ -20,6 +20,8 @@ mod fixtures;
 #[cfg(test)]
 mod limits;
 #[cfg(test)]
+mod matrices;
+#[cfg(test)]
 mod naming_checks;
 #[cfg(test)]
 mod namings;

@@ -1,4 +1,4 @@
-use Rattle.std.proofs.Common.{◌/◌, ◌<◌, ◌^◌, arith, rules, bit_and, slice_index}
+use Rattle.std.proofs.Common.{◌<◌, ◌^◌, arith, rules, bit_and, slice_index}
 use Rattle.block_assignment.proofs.BlockBits.{none_common, lowest_common}
 use Rattle.block_assignment.proofs.block_set.first_common.Goals as goal
 
@@ -8,5 +8,5 @@ returns-then-both-ne0 c =
     lowest_common c.args.one.now c.args.other.now c.loop-word.word (omega arith) (omega arith) fits
 
 pub returns : goal.returns
-returns c = λ b inside has.
-    none_common c.args.one.now c.args.other.now b (c.loop-word.invariant (b / 64) (omega arith)) has
+returns c =
+    none_common c.args.one.now c.args.other.now c.loop-word.word (omega arith) c.loop-word.invariant

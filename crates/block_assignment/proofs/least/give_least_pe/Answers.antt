@@ -11,7 +11,7 @@ returns-then-not-may_have_less-clause-least c =
 
 pub loop-taken-init : goal.loop-taken-init
 loop-taken-init c =
-    (c.left_by-left.result, c.left_by-left.ensures.trail, passing_starts _ _ _ _ _ _ c.left_by-left.ensures.trail c.requires.naming c.requires.allowed c.requires.inside c.choose-taken.ensures.reached c.choose-taken.ensures.allowed)
+    (c.search_from.new.left, c.search_from.ensures.trail, passing_starts _ _ _ _ _ _ c.search_from.ensures.trail c.requires.naming c.requires.allowed c.requires.inside c.choose-taken.ensures.reached c.choose-taken.ensures.allowed)
 
 pub loop-taken-preserved : goal.loop-taken-preserved
 loop-taken-preserved c =
@@ -31,11 +31,11 @@ returns-clause-allowed c =
 
 pub returns-clause-least : goal.returns-clause-least
 returns-clause-least c = λ others other allowed agree.
-    let taken : member c.left_by-left.result c.args.b ≡ 0 = elim (member_or_not c.left_by-left.result c.args.b) [ inl out ↦ out | inr has ↦ absurd (omega (arith, (c.left_by-left.ensures.trail.later c.args.b has).0)) ] in
+    let taken : member c.search_from.new.left c.args.b ≡ 0 = elim (member_or_not c.search_from.new.left c.args.b) [ inl out ↦ out | inr has ↦ absurd (omega (arith, (c.search_from.ensures.trail.later c.args.b has).0)) ] in
     omega (
       arith,
       (passing_ends _ _ _ _ _ _ c.loop-taken.invariant.1 c.requires.naming _ _ _ c.loop-taken.invariant.2 (omega arith)).1,
-      least_chosen c.args.takers.now c.args.names.now c.left_by-left.result c.args.b c.choose-taken.result c.requires.naming c.requires.inside taken c.left_by-left.ensures.closed c.choose-taken.ensures.least others other allowed (λ k before. agree k before ∙ c.loop-taken.invariant.2.before k before),
+      least_chosen c.args.takers.now c.args.names.now c.search_from.new.left c.args.b c.choose-taken.result c.requires.naming c.requires.inside taken c.search_from.ensures.closed c.choose-taken.ensures.least others other allowed (λ k before. agree k before ∙ c.loop-taken.invariant.2.before k before),
     )
 
 pub returns-then-not-may_have_less-clause-naming : goal.returns-then-not-may_have_less-clause-naming

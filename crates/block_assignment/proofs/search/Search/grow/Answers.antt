@@ -129,7 +129,7 @@ pub scan-requires-clause-unscanned : goal.scan-requires-clause-unscanned
 scan-requires-clause-unscanned g c =
     let ranks : List ℕ = set c.self.inside.rank.items c.args.pe c.args.rank in
     let listed : IsUnscanned ranks c.args.to_scan.now c.self.inside.table.now.blocks = subst (λ (z : State). IsUnscanned (set z.rank c.args.pe c.args.rank) c.args.to_scan.now z.table.blocks) (sym c.self.view_is) c.requires.listed in
-    rw (c.deref-2.ensures.value, c.as_slice.ensures) (subst (λ n. IsUnscanned ranks c.args.to_scan.now n) (sym c.row.ensures.counted) listed)
+    rw c.deref-2.ensures.value (subst (λ n. IsUnscanned ranks c.args.to_scan.now n) (sym c.row.ensures.counted) listed)
 
 pub returns-clause-listed : goal.returns-clause-listed
 returns-clause-listed g c =
@@ -139,9 +139,9 @@ pub returns-clause-nearest : goal.returns-clause-nearest
 returns-clause-nearest g c =
     let s : State = record { table = c.self.inside.table.now; named = c.self.inside.named; names = c.self.inside.names.items; holders = c.self.inside.holders.items; price = c.self.inside.price.items; discount = c.self.inside.discount.items; rank = c.self.inside.rank.items; distance = c.self.inside.distance.items; from = c.self.inside.from.items } in
     let w : take c.self.inside.distance.len (c.scan.new.distance ++ drop (length c.scan.new.distance) c.self.inside.distance.items) ≡ c.scan.new.distance = written _ _ _ (c.scan.auto.distance ∙ c.deref_mut.ensures.len) in
-    let h = rw (c.deref-2.ensures.value, c.as_slice.ensures) at c.scan.ensures.nearest in
+    let h = rw c.deref-2.ensures.value at c.scan.ensures.nearest in
     let counted : length c.row.result.now ≡ c.args.self.now.table.blocks = c.row.ensures.counted ∙ ap (λ (z : State). z.table.blocks) c.self.view_is in
     rw w (subst (λ n. MatchOption c.scan.result ((p : ℕ) → p < n → 0 < slice_index (set s.rank c.args.pe c.args.rank) p) (λ place. IsNearest (set s.rank c.args.pe c.args.rank) c.scan.new.distance n (slice_index c.args.to_scan.now place))) counted h)
 
 pub returns-clause-inside : goal.returns-clause-inside
-returns-clause-inside g c = (let h = rw c.as_slice.ensures at c.scan.ensures.listed in h)
+returns-clause-inside g c = c.scan.ensures.listed

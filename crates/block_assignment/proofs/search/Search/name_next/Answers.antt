@@ -1,23 +1,28 @@
-use Rattle.std.proofs.Common.{◌<◌, ◌+◌, ℕ, MatchOption, slice_index, arith, ap, sym, ◌∙◌, subst}
+use Rattle.std.proofs.Common.{◌≡◌, ◌<◌, ◌+◌, ◌-◌, ℕ, List, MatchOption, length, take, slice_index, arith, ap, sym, ◌∙◌, subst, refl}
+use Rattle.std.proofs.lemmas.List.{length-take, take_all}
+use Rattle.std.proofs.lemmas.Option.{IfSome_then}
 use Rattle.block_assignment.specs.Table.{Table}
 use Rattle.block_assignment.specs.Search.{State, IsNearest, IsUnscanned}
 use Rattle.block_assignment.proofs.Prices.{small_from_matched, small_kept}
 use Rattle.block_assignment.proofs.Trees.{not_all_scanned}
-use Rattle.block_assignment.proofs.Unscanned.{IsWithout, one_less_listed}
+use Rattle.block_assignment.proofs.Unscanned.{IsWithout, one_less_listed, taken_out}
 use Rattle.block_assignment.proofs.search.Search.name_next.Goals as goal
 
 pub loop-nearest-init : goal.loop-nearest-init
 loop-nearest-init g c =
     let made = c.start_tree-nearest.ensures in
+    let pes : List ℕ = c.list_all.new.pes in
+    let whole : pes ≡ take (length pes) pes = sym (take_all (length pes) pes (omega arith)) in
     record {
       sized = made.sized;
       matched = made.matched;
       tree = made.tree;
       table = made.table;
       named = made.named;
-      listed = subst (λ (t : Table). IsUnscanned c.start_tree-nearest.new.self.rank c.below-to_scan.result t.blocks) (sym made.table) made.listed;
-      nearest = subst (λ (t : Table). MatchOption c.start_tree-nearest.result ((p : ℕ) → p < t.blocks → 0 < slice_index c.start_tree-nearest.new.self.rank p) (λ place. IsNearest c.start_tree-nearest.new.self.rank c.start_tree-nearest.new.self.distance t.blocks (slice_index c.below-to_scan.result place))) (sym made.table) made.nearest;
+      listed = subst (λ xs. IsUnscanned c.start_tree-nearest.new.self.rank xs c.start_tree-nearest.new.self.table.blocks) whole (subst (λ (t : Table). IsUnscanned c.start_tree-nearest.new.self.rank pes t.blocks) (sym made.table) made.listed);
+      nearest = subst (λ xs. MatchOption c.start_tree-nearest.result ((p : ℕ) → p < c.start_tree-nearest.new.self.table.blocks → 0 < slice_index c.start_tree-nearest.new.self.rank p) (λ place. IsNearest c.start_tree-nearest.new.self.rank c.start_tree-nearest.new.self.distance c.start_tree-nearest.new.self.table.blocks (slice_index xs place))) whole (subst (λ (t : Table). MatchOption c.start_tree-nearest.result ((p : ℕ) → p < t.blocks → 0 < slice_index c.start_tree-nearest.new.self.rank p) (λ place. IsNearest c.start_tree-nearest.new.self.rank c.start_tree-nearest.new.self.distance t.blocks (slice_index pes place))) (sym made.table) made.nearest);
       inside = made.inside;
+      within = omega arith;
       not_yet = omega (arith, made.unscanned, ap (λ (t : Table). t.blocks) made.table);
     }
 
@@ -25,36 +30,45 @@ pub loop-nearest-preserved : goal.loop-nearest-preserved
 loop-nearest-preserved g c =
     let known = c.loop-nearest.invariant in
     let next = c.grow-nearest.ensures in
+    let pes : List ℕ = take (c.loop-nearest.count - 1) c.take_out.new.pes in
     record {
       sized = next.sized;
       matched = next.matched;
       tree = next.tree;
       table = next.table ∙ known.table;
       named = next.named ∙ known.named;
-      listed = subst (λ (t : Table). IsUnscanned c.grow-nearest.new.self.rank c.remove.new.self t.blocks) (sym next.table) next.listed;
-      nearest = subst (λ (t : Table). MatchOption c.grow-nearest.result ((p : ℕ) → p < t.blocks → 0 < slice_index c.grow-nearest.new.self.rank p) (λ place. IsNearest c.grow-nearest.new.self.rank c.grow-nearest.new.self.distance t.blocks (slice_index c.remove.new.self place))) (sym next.table) next.nearest;
-      inside = next.inside;
+      listed = subst (λ (t : Table). IsUnscanned c.grow-nearest.new.self.rank pes t.blocks) (sym next.table) next.listed;
+      nearest = subst (λ (t : Table). MatchOption c.grow-nearest.result ((p : ℕ) → p < t.blocks → 0 < slice_index c.grow-nearest.new.self.rank p) (λ place. IsNearest c.grow-nearest.new.self.rank c.grow-nearest.new.self.distance t.blocks (slice_index pes place))) (sym next.table) next.nearest;
+      inside = IfSome_then c.grow-nearest.result next.inside (λ place inside. omega (arith, inside, length-take (c.loop-nearest.count - 1) c.take_out.new.pes));
+      within = omega (arith, known.within, c.take_out.auto.pes);
       not_yet = omega (arith, next.unscanned, known.not_yet, ap (λ (t : Table). t.blocks) next.table);
     }
 
-pub below-to_scan-requires : goal.below-to_scan-requires
-below-to_scan-requires g c = record { few = omega (arith, c.blocks-2.ensures.value, c.blocks-2.ensures.within_limits.few_blocks) }
-
 pub start_tree-nearest-requires-clause-counted : goal.start_tree-nearest-requires-clause-counted
-start_tree-nearest-requires-clause-counted g c = c.below-to_scan.ensures.counted ∙ c.blocks-2.ensures.value ∙ ap (λ (z : State). z.table.blocks) c.self.view_is
+start_tree-nearest-requires-clause-counted g c = c.list_all.auto.pes ∙ c.requires.room
 
 pub start_tree-nearest-requires-clause-each : goal.start_tree-nearest-requires-clause-each
-start_tree-nearest-requires-clause-each g c = λ p inside. c.below-to_scan.ensures.each p (omega (arith, inside, c.blocks-2.ensures.value, ap (λ (z : State). z.table.blocks) c.self.view_is))
+start_tree-nearest-requires-clause-each g c = λ p inside. c.list_all.ensures.each p (omega (arith, inside, c.list_all.auto.pes, c.requires.room))
 
-pub remove-requires : goal.remove-requires
-remove-requires g c = record { inside = (let h = rw c.in-Some.is at c.loop-nearest.invariant.inside in h) }
+pub list_all-requires : goal.list_all-requires
+list_all-requires g c = record { few = omega (arith, c.requires.room, c.requires.sized.is_table.few_blocks) }
+
+pub take_out-requires-clause-inside : goal.take_out-requires-clause-inside
+take_out-requires-clause-inside g c = (let h = rw c.in-Some.is at c.loop-nearest.invariant.inside in h)
+
+pub take_out-requires-clause-within : goal.take_out-requires-clause-within
+take_out-requires-clause-within g c = c.loop-nearest.invariant.within
 
 pub grow-nearest-requires-clause-listed : goal.grow-nearest-requires-clause-listed
 grow-nearest-requires-clause-listed g c =
-    let inside = rw c.in-Some.is at c.loop-nearest.invariant.inside in
-    let nearest = rw c.in-Some.is at c.loop-nearest.invariant.nearest in
-    let without : IsWithout c.loop-nearest.to_scan c.remove.new.self c.in-Some.place = record { inside = inside; fewer = c.remove.ensures.fewer; before = c.remove.ensures.before; behind = c.remove.ensures.behind } in
-    one_less_listed c.loop-nearest.self.rank c.loop-nearest.to_scan c.remove.new.self c.loop-nearest.self.table.blocks c.in-Some.place c.at-pe.result c.loop-nearest.rank c.loop-nearest.invariant.listed without (sym c.at-pe.ensures) (omega (arith, c.at-pe.ensures, nearest.inside, c.loop-nearest.invariant.sized.rank_length)) c.loop-nearest.invariant.tree.some
+    let known = c.loop-nearest.invariant in
+    let old : List ℕ = c.loop-nearest.to_scan in
+    let new : List ℕ = c.take_out.new.pes in
+    let count : ℕ = c.loop-nearest.count in
+    let inside : c.in-Some.place < count = (let h = rw c.in-Some.is at known.inside in h) in
+    let nearest = rw c.in-Some.is at known.nearest in
+    let without : IsWithout (take count old) (take (count - 1) new) c.in-Some.place = taken_out old new count c.in-Some.place inside known.within c.take_out.auto.pes c.take_out.ensures.before c.take_out.ensures.behind in
+    one_less_listed c.loop-nearest.self.rank (take count old) (take (count - 1) new) c.loop-nearest.self.table.blocks c.in-Some.place (slice_index (take count old) c.in-Some.place) c.loop-nearest.rank known.listed without refl (omega (arith, nearest.inside, known.sized.rank_length)) known.tree.some
 
 pub loop-nearest-smaller : goal.loop-nearest-smaller
 loop-nearest-smaller g c = omega (arith, c.grow-nearest.ensures.unscanned)

@@ -116,7 +116,7 @@ scan-requires-clause-unscanned g c =
     let counted : length c.self.inside.rank.items ≡ end = ap (λ (z : State). length z.rank) c.self.view_is ∙ c.requires.sized.rank_length in
     let none : (p : ℕ) → p < end → slice_index c.fill.new.self.items p ≡ 0 = λ p inside. c.fill.ensures.clones p 0 (omega (arith, inside, counted)) refl in
     let row : length c.row.result.now ≡ end = c.row.ensures.counted ∙ ap (λ (z : State). z.table.blocks) c.self.view_is in
-    rw (c.deref-2.ensures.value, c.as_slice.ensures) (subst (λ n. IsUnscanned c.fill.new.self.items c.args.to_scan.now n) (sym row) (all_listed c.fill.new.self.items c.args.to_scan.now end none c.requires.counted c.requires.each))
+    rw c.deref-2.ensures.value (subst (λ n. IsUnscanned c.fill.new.self.items c.args.to_scan.now n) (sym row) (all_listed c.fill.new.self.items c.args.to_scan.now end none c.requires.counted c.requires.each))
 
 pub returns-clause-listed : goal.returns-clause-listed
 returns-clause-listed g c =
@@ -128,9 +128,9 @@ returns-clause-listed g c =
 pub returns-clause-nearest : goal.returns-clause-nearest
 returns-clause-nearest g c =
     let w : take c.fill-2.new.self.len (c.scan.new.distance ++ drop (length c.scan.new.distance) c.fill-2.new.self.items) ≡ c.scan.new.distance = written _ _ _ (c.scan.auto.distance ∙ c.deref_mut.ensures.len) in
-    let h = rw (c.deref-2.ensures.value, c.as_slice.ensures) at c.scan.ensures.nearest in
+    let h = rw c.deref-2.ensures.value at c.scan.ensures.nearest in
     let counted : length c.row.result.now ≡ c.args.self.now.table.blocks = c.row.ensures.counted ∙ ap (λ (z : State). z.table.blocks) c.self.view_is in
     rw w (subst (λ n. MatchOption c.scan.result ((p : ℕ) → p < n → 0 < slice_index c.fill.new.self.items p) (λ place. IsNearest c.fill.new.self.items c.scan.new.distance n (slice_index c.args.to_scan.now place))) counted h)
 
 pub returns-clause-inside : goal.returns-clause-inside
-returns-clause-inside g c = (let h = rw c.as_slice.ensures at c.scan.ensures.listed in h)
+returns-clause-inside g c = c.scan.ensures.listed

@@ -1,6 +1,16 @@
-use Rattle.block_assignment.proofs.Steps.{cost_read}
+use Rattle.std.proofs.Common.{◌≡◌, ◌<◌, arith, sym, subst}
+use Rattle.block_assignment.specs.Table.{Table, cost_at}
+use Rattle.block_assignment.proofs.Sums.{cost_small}
 use Rattle.block_assignment.proofs.table.CostTable.cost.Goals as goal
 
+pub cost-requires-clause-block : goal.cost-requires-clause-block
+cost-requires-clause-block g c = subst (λ (t : Table). c.args.b < t.blocks) (sym c.as_costs.ensures.value) c.requires.block
+
+pub cost-requires-clause-pe : goal.cost-requires-clause-pe
+cost-requires-clause-pe g c = subst (λ (t : Table). c.args.p < t.blocks) (sym c.as_costs.ensures.value) c.requires.pe
+
 pub returns-clause-value : goal.returns-clause-value
-returns-clause-value g c =
-    cost_read _ c.args.self.now c.blocks-2.result c.args.b c.args.p c.index.result.now c.self.view_is c.blocks-2.ensures.value c.blocks-2.ensures.within_limits c.requires.block c.requires.pe c.index.ensures
+returns-clause-value g c = subst (λ (t : Table). c.cost.result ≡ cost_at t c.args.b c.args.p) c.as_costs.ensures.value c.cost.ensures.value
+
+pub returns-clause-small : goal.returns-clause-small
+returns-clause-small g c = omega (arith, returns-clause-value g c, cost_small c.args.self.now c.args.b c.args.p c.as_costs.ensures.table c.requires.block c.requires.pe)

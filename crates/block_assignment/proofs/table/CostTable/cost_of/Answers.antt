@@ -1,11 +1,11 @@
-use Rattle.std.proofs.Common.{slice_index, arith}
-use Rattle.block_assignment.specs.Table.{cost_at}
-use Rattle.block_assignment.proofs.Sums.{total_more}
+use Rattle.std.proofs.Common.{◌≡◌, sym, subst}
+use Rattle.lb_certificates.specs.Naming.{naming_cost, IsNaming}
+use Rattle.block_assignment.specs.Table.{Table, cost_at}
 use Rattle.block_assignment.proofs.table.CostTable.cost_of.Goals as goal
 
-pub loop-b-preserved : goal.loop-b-preserved
-loop-b-preserved g c =
-    record {
-      value = omega (arith, c.loop-b.invariant.value, c.cost-total.ensures.value, total_more c.loop-b.b (λ b. cost_at c.args.self.now b (slice_index c.args.names.now b)));
-      small = omega (arith, c.loop-b.invariant.small, c.cost-total.ensures.small);
-    }
+pub cost_of-requires : goal.cost_of-requires
+cost_of-requires g c = record { naming = subst (λ (t : Table). IsNaming t.blocks c.args.names.now) (sym c.as_costs.ensures.value) c.requires.naming }
+
+pub returns : goal.returns
+returns g c =
+    record { value = subst (λ (t : Table). c.cost_of.result ≡ naming_cost t.blocks (cost_at t) c.args.names.now) c.as_costs.ensures.value c.cost_of.ensures.value }

@@ -1,6 +1,6 @@
 use Rattle.std.proofs.Common.{◌≡◌, ℕ, ◌<◌}
 use Rattle.block_assignment.specs.Least.{member}
-use Rattle.block_assignment.proofs.least.later_blocks.Given as goal
+use Rattle.block_assignment.proofs.least.write_later.Given as goal
 
 abbrev pub invariant-loop-j : goal.invariant-loop-j
 invariant-loop-j l =

@@ -1,6 +1,6 @@
 use Rattle.std.proofs.Common.{◌≡◌}
 use Rattle.block_assignment.specs.Search.{IsSized, IsMatched, IsSmall}
-use Rattle.block_assignment.proofs.assignment.cheapest.Given as goal
+use Rattle.block_assignment.proofs.assignment.name_all.Given as goal
 
 abbrev pub invariant-loop : goal.invariant-loop
 invariant-loop g l =
@@ -8,6 +8,6 @@ invariant-loop g l =
       sized : IsSized l.search;
       matched : IsMatched l.search;
       small : IsSmall l.search;
-      table : l.search.table ≡ l.table;
+      table : l.search.table ≡ l.initial.search.table;
       named : l.search.named ≡ l.counter;
     }
