@@ -1,13 +1,13 @@
 -- Where numbers are the loads of the ranges, what they say is what the loads say.
-use Rattle.std.proofs.Common.{◌≡◌, ◌≢◌, ℕ, ◌+◌, ◌-◌, ◌<◌, ◌≤◌, ◌↔◌, List, length, slice_index, Result, Ok, Err, IsOk, OnOk, IfErr, arith, refl, subst, sym, ◌∙◌}
+use Rattle.std.proofs.Common.{◌≡◌, ℕ, ◌-◌, ◌<◌, ◌≤◌, ◌↔◌, List, length, slice_index, Result, Ok, Err, IsOk, OnOk, IfErr, arith, subst, sym, ◌∙◌}
 use Rattle.lb_certificates.specs.declared.division.Division.{Division}
 use Rattle.lb_certificates.specs.declared.division.Floor.{Floor}
 use Rattle.lb_certificates.specs.declared.division.Floor.TheVariants.{Zero, Fence}
 use Rattle.lb_certificates.specs.declared.flaw.Flaw.{Flaw}
 use Rattle.lb_certificates.specs.declared.flaw.Flaw.TheVariants.{CutCount, CutStart, CutOrder, CutEnd, Heavy, FenceCount, FenceStart, FenceOrder, FenceEnd, FenceLight, ZeroFloor}
-use Rattle.lb_certificates.specs.Chain.{IsLeastDivision, block_load}
+use Rattle.lb_certificates.specs.Chain.{IsLeastDivision}
 use Rattle.lb_certificates.specs.Certificate.{IsCertified, IsFence, MatchFloor, range_load}
-use Rattle.lb_certificates.specs.Flaws.{Falls, HasFlaw, IsFirst}
+use Rattle.lb_certificates.specs.Flaws.{HasFlaw, IsFirst}
 use Rattle.lb_certificates.proofs.LeastDivisions.{least_from_certified}
 use Rattle.merged_chains.specs.Weights.{AreWeights, HasWeightFlaw, IsWeighed, IsWeighedFence}
 

@@ -1,10 +1,9 @@
 -- Limits that enclose the least bottleneck, by the total and the greatest load.
-use Rattle.std.proofs.Common.{◌≡◌, ◌∙◌, ℕ, ◌+◌, ◌-◌, ◌/◌, ◌%◌, ◌^◌, ◌<◌, ◌≤◌, min, max, inl, inr, List, length, slice_index, sum, take, arith, ap, sym}
+use Rattle.std.proofs.Common.{◌≡◌, ◌∙◌, ℕ, ◌+◌, ◌/◌, ◌%◌, ◌≤◌, min, max, inl, inr, List, length, slice_index, sum, take, arith, ap, sym}
 use Rattle.std.proofs.lemmas.Bool.{cases_lt, cases_eq}
 use Rattle.std.proofs.lemmas.List.{take_all}
 use Rattle.lb_snapshot.specs.Measured.{load}
 use Rattle.lb_certificates.specs.Chain.{IsLeastPeak}
-use Rattle.lb_certificates.specs.Certificate.{range_load}
 use Rattle.lb_certificates.proofs.Chains.{load_after}
 use Rattle.chain_partition.specs.Greedy.{CanFit}
 use Rattle.chain_partition.specs.Search.{Enclose}

@@ -2,6 +2,7 @@ pub mod Certificates
 pub mod EvenShares
 pub mod MergedPeaks
 pub mod OrderedWindows
+pub mod PartWeights
 pub mod Parts
 pub mod RunsByParts
 pub mod WalkedParts

@@ -54,7 +54,7 @@ runs_weigh xs ys starts a b h onward inside =
     omega (arith, runs_before xs ys starts h a (omega arith), runs_before xs ys starts h b inside, load_split ys a b onward, load_split xs (slice_index starts a) (slice_index starts b) (start_rises xs ys starts a b h onward inside))
 
 -- a load from an element back to an earlier one is 0
-load_back : (xs : List ℕ) (a b : ℕ) → b ≤ a → load xs a b ≡ 0
+pub load_back : (xs : List ℕ) (a b : ℕ) → b ≤ a → load xs a b ≡ 0
 load_back xs a b back =
     let e : b - a ≡ 0 = omega arith in
     rw e refl

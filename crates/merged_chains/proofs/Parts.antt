@@ -14,7 +14,7 @@ load_front xs ys a b onward inside =
     let other : sum (take b (xs ++ ys)) ≡ sum (take b xs) = ap sum (take-append-le b xs ys inside) in
     omega (arith, one, other, load_after (xs ++ ys) a b onward, load_after xs a b onward)
 
-sum_to : (xs ys : List ℕ) (n a : ℕ) → length xs ≡ n → sum (take (n + a) (xs ++ ys)) ≡ sum xs + sum (take a ys)
+pub sum_to : (xs ys : List ℕ) (n a : ℕ) → length xs ≡ n → sum (take (n + a) (xs ++ ys)) ≡ sum xs + sum (take a ys)
 sum_to xs ys n a e =
     ap (λ m. sum (take (m + a) (xs ++ ys))) (sym e) ∙ ap sum (take-append-add xs ys a) ∙ sum_by-append (λ x. x) xs (take a ys)
 

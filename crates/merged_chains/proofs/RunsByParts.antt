@@ -1,9 +1,9 @@
 -- The runs of a chain that comes part by part.
-use Rattle.std.proofs.Common.{◌≡◌, ◌∙◌, ℕ, ◌+◌, ◌-◌, ◌<◌, ◌≤◌, ◌⊎◌, min, max, inl, inr, List, [], ◌∷◌, ◌++◌, length, slice_index, arith, refl, sym, subst, ap}
+use Rattle.std.proofs.Common.{◌≡◌, ◌∙◌, ℕ, ◌+◌, ◌-◌, ◌<◌, ◌≤◌, ◌⊎◌, min, max, inl, inr, List, [], ◌∷◌, ◌++◌, length, slice_index, arith, refl, sym, subst}
 use Rattle.std.proofs.lemmas.Bool.{cases_lt}
 use Rattle.std.proofs.lemmas.List.{append-nil, append_assoc, get_or_append_left, get_or-append-add, get_or_push, length-append, length_push}
 use Rattle.lb_snapshot.specs.Measured.{load}
-use Rattle.merged_chains.specs.Merged.{AreRuns, IsStart}
+use Rattle.merged_chains.specs.Merged.{AreRuns}
 use Rattle.merged_chains.specs.Windows.{AreEnds, AreOrdered, EndsRun, IsFirstBehind, IsNextEnd, IsWithin, StartWithin}
 use Rattle.merged_chains.proofs.MergedPeaks.{start_rises}
 use Rattle.merged_chains.proofs.Parts.{load_front, load_next}

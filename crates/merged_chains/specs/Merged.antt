@@ -1,8 +1,9 @@
 -- A chain whose elements are merged into runs of consecutive elements, and which runs keep its least division.
 -- The greedy ends are those of the probe in A. Pinar and C. Aykanat, "Fast optimal load balancing algorithms for 1D
 -- partitioning", Journal of Parallel and Distributed Computing 64(8), 2004. Merging is this project's.
-use Rattle.std.specs.Prelude.{◌≡◌, ℕ, ◌+◌, ◌-◌, ◌<◌, ◌≤◌, List, length, map, slice_index}
+use Rattle.std.specs.Prelude.{◌≡◌, ℕ, ◌+◌, ◌-◌, ◌<◌, ◌≤◌, List, ◌++◌, length, map, slice_index}
 use Rattle.lb_snapshot.specs.Measured.{load}
+use Rattle.lb_certificates.specs.Chain.{IsLeastPeak}
 use Rattle.lb_certificates.specs.declared.division.Division.{Division}
 use Rattle.lb_certificates.specs.declared.division.Floor.{Floor}
 use Rattle.lb_certificates.specs.declared.division.Floor.TheVariants.{Zero, Fence}
@@ -34,6 +35,18 @@ pub record AreWindows (loads starts : List ℕ) (blocks low high : ℕ) : Type 0
   pub lower_walk : IsGreedy loads blocks (low - 1) lower
   pub upper_walk : IsGreedy loads blocks high upper
   pub start : (b end : ℕ) → b ≤ blocks → slice_index lower b ≤ end → end ≤ slice_index upper b → IsStart starts end
+
+-- The runs are a merged chain that keeps the least division of the loads: the least bottleneck is from low to high, and
+-- each greedy end within these limits, and within one below low, begins a run.
+pub record IsMerged (loads runs starts : List ℕ) (blocks low high : ℕ) : Type 0 where
+  pub runs_weigh : AreRuns loads runs starts
+  pub bounds : (least : ℕ) × IsLeastPeak loads 0 blocks least × (low ≤ least) × (least ≤ high)
+  pub ends : KeepsEnds loads starts blocks low high
+
+-- whatever the runs of the elements before a part, these runs of the part, which end before these elements, go on with them
+abbrev pub RunOn : List ℕ → ℕ → List ℕ → List ℕ → Type 0
+RunOn part first runs ends =
+    (before earlier starts : List ℕ) → length before ≡ first → AreRuns before earlier starts → AreRuns (before ++ part) (earlier ++ runs) (starts ++ ends)
 
 -- where these runs start
 abbrev pub unmerged : List ℕ → List ℕ → List ℕ

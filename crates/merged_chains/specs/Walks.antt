@@ -1,7 +1,7 @@
 -- A greedy walk that comes to a chain part by part. It is the probe of A. Pinar and C. Aykanat, "Fast optimal load
 -- balancing algorithms for 1D partitioning", Journal of Parallel and Distributed Computing 64(8), 2004: each block takes
 -- as many elements as fit within a limit, in order. Where it stands between two parts is this project's.
-use Rattle.std.specs.Prelude.{◌≡◌, ℕ, ◌+◌, ◌<◌, ◌≤◌, List, ◌++◌, length, slice_index}
+use Rattle.std.specs.Prelude.{◌≡◌, ℕ, ◌<◌, ◌≤◌, List, ◌++◌, length, slice_index, ◌-◌, replicate}
 use Rattle.lb_snapshot.specs.Measured.{load}
 use Rattle.chain_partition.specs.Greedy.{IsGreedy}
 use Rattle.merged_chains.specs.declared.walk.Walk.{Walk}
@@ -16,6 +16,10 @@ pub record IsWalked (loads : List ℕ) (blocks : ℕ) (ends : List ℕ) (walk : 
   pub open_load : walk.closed < blocks → walk.filled ≡ load loads (slice_index ends walk.closed) (length loads)
   pub fits : walk.filled ≤ walk.limit
   pub none_open : walk.closed ≡ blocks → walk.filled ≡ 0
+
+-- the ends of all blocks, where these loads are the whole chain: those that are not closed end behind the last element
+abbrev pub all_ends : List ℕ → List ℕ → ℕ → Walk → List ℕ
+all_ends loads ends blocks walk = ends ++ replicate (blocks - walk.closed) (length loads)
 
 -- Wherever the walk stood before the part, with so many elements before it and whatever ends, the new one stands behind
 -- the part, with these further ends.

@@ -1,5 +1,5 @@
 -- Windows of elements that begin runs of a merged chain, and where the runs of one part of the chain end.
-use Rattle.std.specs.Prelude.{◌≡◌, ℕ, ◌+◌, ◌<◌, ◌≤◌, ◌⊎◌, List, length, slice_index}
+use Rattle.std.specs.Prelude.{◌≡◌, ℕ, ◌<◌, ◌≤◌, ◌⊎◌, List, length, slice_index, ◌++◌}
 use Rattle.std.specs.List.Sorted.{IsNonDecreasing}
 use Rattle.merged_chains.specs.Merged.{IsStart}
 
@@ -8,12 +8,22 @@ pub record WindowBounds : Type 0 where
   pub lower : List ℕ
   pub upper : List ℕ
 
+-- no window is empty
+abbrev pub NoneEmpty : List ℕ → List ℕ → Type 0
+NoneEmpty lower upper =
+    (k : ℕ) → k < length lower → slice_index lower k ≤ slice_index upper k
+
+-- a window is empty
+abbrev pub SomeEmpty : List ℕ → List ℕ → Type 0
+SomeEmpty lower upper =
+    (k : ℕ) × (k < length lower) × (slice_index upper k < slice_index lower k)
+
 -- Window k is the elements from lower[k] to upper[k], both included, and neither bound is below that of an earlier window.
 pub record AreOrdered (lower upper : List ℕ) : Type 0 where
   pub paired : length lower ≡ length upper
   pub lower_rises : IsNonDecreasing lower
   pub upper_rises : IsNonDecreasing upper
-  pub some_element : (k : ℕ) → k < length lower → slice_index lower k ≤ slice_index upper k
+  pub some_element : NoneEmpty lower upper
 
 -- the element lies in one of the windows
 abbrev pub IsWithin : List ℕ → List ℕ → ℕ → Type 0
@@ -24,6 +34,11 @@ IsWithin lower upper element =
 abbrev pub StartWithin : List ℕ → List ℕ → ℕ → List ℕ → Type 0
 StartWithin lower upper last starts =
     (element : ℕ) → element ≤ last → IsWithin lower upper element → IsStart starts element
+
+-- and so it does in the part behind first, up to last, where these elements begin runs too
+abbrev pub KeepsStarts : List ℕ → List ℕ → ℕ → ℕ → List ℕ → Type 0
+KeepsStarts lower upper first last ends =
+    (starts : List ℕ) → StartWithin lower upper first starts → StartWithin lower upper last (starts ++ ends)
 
 -- a run of the part first..last ends before the element: it lies behind the first one, in a window, or it is the last
 abbrev pub EndsRun : List ℕ → List ℕ → ℕ → ℕ → ℕ → Type 0

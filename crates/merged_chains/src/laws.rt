@@ -1,11 +1,11 @@
-ghost use Rattle.std.specs.Prelude.{ℕ, ◌+◌, ◌-◌, ◌<◌, ◌≤◌, ◌↔◌, List, ◌++◌, length, replicate};
-ghost use Rattle.lb_certificates.specs.Chain.{IsLeastPeak};
+ghost use Rattle.std.specs.Prelude.{ℕ, ◌<◌, ◌≤◌, ◌↔◌, List};
 ghost use Rattle.lb_certificates.specs.declared.division.Division.{Division};
 ghost use Rattle.chain_partition.specs.Chosen.{IsChosen};
 ghost use Rattle.chain_partition.specs.Greedy.{CanFit, IsGreedy};
 ghost use Rattle.merged_chains.specs.declared.walk.Walk.{Walk};
-ghost use Rattle.merged_chains.specs.Merged.{AreRuns, AreWindows, KeepsEnds, unmerged_division};
-ghost use Rattle.merged_chains.specs.Walks.{IsWalked};
+ghost use Rattle.merged_chains.specs.Merged.{AreWindows, IsMerged, KeepsEnds, unmerged_division};
+ghost use Rattle.merged_chains.specs.Walks.{IsWalked, all_ends};
+ghost use Rattle.merged_chains.specs.Weights.{FirstWeighs, NextWeighs};
 
 use std::alloc::Allocator;
 
@@ -15,7 +15,8 @@ use std::alloc::Allocator;
 /// of a run in place of each cut and stop, is that of the chain: bottleneck, cuts and least fence. Two walks of the chain,
 /// within one below `low` and within `high`, find windows that keep these ends.
 pub fn merged_law<A: Allocator>()
-    ensures same { (loads runs starts : List ℕ) (blocks low high least : ℕ) (d : Division A) → AreRuns loads runs starts → IsLeastPeak loads 0 blocks least → low ≤ least → least ≤ high → KeepsEnds loads starts blocks low high → IsChosen runs blocks d → IsChosen loads blocks (unmerged_division starts d) }
+    ensures same { (loads runs starts : List ℕ) (blocks low high : ℕ) (d : Division A) → IsMerged loads runs starts blocks low high
+        → IsChosen runs blocks d → IsChosen loads blocks (unmerged_division starts d) }
     ensures windows { (loads starts : List ℕ) (blocks low high : ℕ) → AreWindows loads starts blocks low high → KeepsEnds loads starts blocks low high }
 {}
 
@@ -24,6 +25,14 @@ pub fn merged_law<A: Allocator>()
 /// block that is not closed, are the greedy ends within its limit. So the limit can hold all elements exactly where a block
 /// is left.
 pub fn walk_law()
-    ensures ends { (loads ends : List ℕ) (blocks : ℕ) (walk : Walk) → IsWalked loads blocks ends walk → IsGreedy loads blocks walk.limit (ends ++ replicate (blocks - walk.closed) (length loads)) }
+    ensures ends { (loads ends : List ℕ) (blocks : ℕ) (walk : Walk) → IsWalked loads blocks ends walk → IsGreedy loads blocks walk.limit (all_ends loads ends blocks walk) }
     ensures fits { (loads ends : List ℕ) (blocks : ℕ) (walk : Walk) → IsWalked loads blocks ends walk → 1 ≤ blocks → (CanFit loads blocks walk.limit ↔ (walk.closed < blocks)) }
+{}
+
+/// What the loads that parts of a chain have of a division's ranges say of the chain. The function does nothing: its clauses
+/// are the laws, of any division and any number of blocks. What the first part has of each range is the load of that range
+/// in this part. And the loads of the ranges in the parts so far, with what the next part has, are those in all of them.
+pub fn weights_law<A: Allocator>()
+    ensures first { (part : List ℕ) (blocks : ℕ) (d : Division A) → FirstWeighs part blocks d }
+    ensures next { (before part : List ℕ) (blocks : ℕ) (d : Division A) → NextWeighs before part blocks d }
 {}

@@ -8,9 +8,10 @@
 //! - [`ends_on`]: the [`Ends`] of the blocks as well. Those within one below the lower bound and within the upper bound are
 //!   the [`Windows`].
 //! - [`merge`]: the [`Runs`] of a rank's part. Those of all ranks are the merged chain, short enough for one rank to divide.
-//! - [`merged_law`]: the division of the merged chain is that of the chain.
-//! - [`check_weights`]: checks the division by the loads of its blocks and of the ranges of its fence, which the ranks add
-//!   up. This alone is enough: whatever went wrong before, an `Ok` proves the division least.
+//! - [`unmerge`]: the division of the chain, by that of the merged chain ([`merged_law`]).
+//! - [`loads_of_ranges`]: the [`RangeLoads`] of a part, what it has of each block and of each range of the fence. The ranks
+//!   add them up ([`weights_law`]), and [`check_weights`] checks the division by them. This alone is enough: whatever went
+//!   wrong before, an `Ok` proves the division least.
 //!
 //! Why the merged chain has the same division: A run weighs what its elements weigh, so a block of runs weighs what the
 //! block of their elements weighs. So where a block begins a run, and the element behind the last one that it can take
@@ -24,13 +25,18 @@
 mod bounds;
 mod laws;
 mod merging;
+mod places;
+mod range_loads;
+mod unmerging;
 mod walk;
 mod weights;
 mod windows;
 
 pub use bounds::{Bounds, bounds_by_totals};
-pub use laws::{merged_law, walk_law};
+pub use laws::{merged_law, walk_law, weights_law};
 pub use merging::{Runs, merge};
+pub use range_loads::{RangeLoads, loads_of_ranges};
+pub use unmerging::unmerge;
 pub use walk::{Ends, Walk, ends_on, walk_all_on, walk_on};
 pub use weights::check_weights;
 pub use windows::Windows;

@@ -1,6 +1,6 @@
-ghost use Rattle.std.specs.Prelude.{◌≡◌, ℕ, ◌+◌, ◌<◌, ◌≤◌, ◌^◌, List, ◌++◌, IfOk, length, slice_index};
-ghost use Rattle.merged_chains.specs.Merged.{AreRuns};
-ghost use Rattle.merged_chains.specs.Windows.{AreEnds, AreOrdered, IsFirstBehind, IsNextEnd, StartWithin};
+ghost use Rattle.std.specs.Prelude.{ℕ, ◌+◌, ◌<◌, ◌≤◌, ◌^◌, IfOk, length, slice_index};
+ghost use Rattle.merged_chains.specs.Merged.{RunOn};
+ghost use Rattle.merged_chains.specs.Windows.{AreEnds, AreOrdered, IsFirstBehind, IsNextEnd, KeepsStarts};
 
 use crate::windows::Windows;
 use chain_partition::Chain;
@@ -32,9 +32,9 @@ pub fn merge<A: Allocator + Copy, B: Allocator, C: Allocator>(
     windows: &Windows<C>,
 ) -> Result<Runs<A>, AllocError>
     requires few { first + length part.now < 2 ^ 32 }
-    ensures runs { IfOk result (λ r. (before runs starts : List ℕ) → length before ≡ first → AreRuns before runs starts → AreRuns (before ++ part.now) (runs ++ r.loads.items) (starts ++ r.ends.items)) }
+    ensures runs { IfOk result (λ r. RunOn part.now first r.loads.items r.ends.items) }
     ensures ends { IfOk result (λ r. AreEnds windows.now.lower windows.now.upper first (first + length part.now) (first + length part.now) r.ends.items) }
-    ensures kept { IfOk result (λ r. (starts : List ℕ) → StartWithin windows.now.lower windows.now.upper first starts → StartWithin windows.now.lower windows.now.upper (first + length part.now) (starts ++ r.ends.items)) }
+    ensures kept { IfOk result (λ r. KeepsStarts windows.now.lower windows.now.upper first (first + length part.now) r.ends.items) }
 {
     let lower = windows.lower();
     let upper = windows.upper();

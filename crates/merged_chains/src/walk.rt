@@ -1,6 +1,6 @@
 //! Greedy walks of a chain that comes part by part, each part on a rank of its own.
 
-ghost use Rattle.std.specs.Prelude.{◌≡◌, ℕ, ◌+◌, ◌-◌, ◌<◌, ◌≤◌, ◌^◌, List, [], ◌∷◌, IfOk, length, slice_index_or};
+ghost use Rattle.std.specs.Prelude.{◌≡◌, ℕ, ◌+◌, ◌-◌, ◌<◌, ◌≤◌, ◌^◌, [], ◌∷◌, IfOk, length, slice_index_or};
 ghost use Rattle.chain_partition.specs.Greedy.{IsGreatestEnd};
 ghost use Rattle.merged_chains.specs.Walks.{EndsAt, IsWalked, WalksOn};
 

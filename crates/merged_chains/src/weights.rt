@@ -1,9 +1,9 @@
-ghost use Rattle.std.specs.Prelude.{◌≡◌, ℕ, ◌+◌, ◌-◌, ◌<◌, ◌≤◌, ◌↔◌, List, length, slice_index, IsOk, OnOk, IfErr, MatchBool, MatchOption};
+ghost use Rattle.std.specs.Prelude.{◌≡◌, ℕ, ◌+◌, ◌-◌, ◌<◌, ◌↔◌, List, length, IsOk, OnOk, IfErr, MatchBool, MatchOption};
 ghost use Rattle.std.specs.List.Sorted.{IsNonDecreasing};
 ghost use Rattle.lb_certificates.specs.Chain.{IsDivision, IsLeastDivision};
-ghost use Rattle.lb_certificates.specs.Certificate.{IsCertified, MatchFloor};
+ghost use Rattle.lb_certificates.specs.Certificate.{IsCertified};
 ghost use Rattle.lb_certificates.specs.Flaws.{Falls, HasFlaw, IsFirst};
-ghost use Rattle.merged_chains.specs.Weights.{AreWeights, HasWeightFlaw, HoldsBy, IsFirstHeavy, IsFirstLighter, IsWeighed, NoneHeavy, NoneLighter};
+ghost use Rattle.merged_chains.specs.Weights.{HasWeightFlaw, HoldsBy, IsFirstHeavy, IsFirstLighter, IsWeighed, NoneHeavy, NoneLighter, WhereWeights};
 
 use lb_certificates::{Division, Flaw, Floor};
 use std::alloc::Allocator;
@@ -30,9 +30,10 @@ pub fn check_weights<B: Allocator>(
     requires ranges { length fence_loads.now ≡ pes }
     ensures exact { IsOk result ↔ IsWeighed elements pes division.now block_loads.now fence_loads.now }
     ensures first_flaw { IfErr result (IsFirst (HasWeightFlaw elements pes division.now block_loads.now fence_loads.now)) }
-    ensures of_division { (loads : List ℕ) → length loads ≡ elements → AreWeights loads pes division.now block_loads.now fence_loads.now → (IsOk result ↔ IsCertified loads pes division.now) }
-    ensures least { (loads : List ℕ) → length loads ≡ elements → AreWeights loads pes division.now block_loads.now fence_loads.now → OnOk result (IsLeastDivision loads pes division.now.bottleneck division.now.cuts) }
-    ensures flaw_of_division { (loads : List ℕ) → length loads ≡ elements → AreWeights loads pes division.now block_loads.now fence_loads.now → IfErr result (IsFirst (HasFlaw loads pes division.now)) }
+    ensures of_division { WhereWeights elements pes division.now block_loads.now fence_loads.now (λ loads. IsOk result ↔ IsCertified loads pes division.now) }
+    ensures least { WhereWeights elements pes division.now block_loads.now fence_loads.now
+        (λ loads. OnOk result (IsLeastDivision loads pes division.now.bottleneck division.now.cuts)) }
+    ensures flaw_of_division { WhereWeights elements pes division.now block_loads.now fence_loads.now (λ loads. IfErr result (IsFirst (HasFlaw loads pes division.now))) }
 {
     check_numbers(elements, pes, division, block_loads, fence_loads)
 }

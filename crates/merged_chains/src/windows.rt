@@ -1,5 +1,5 @@
-ghost use Rattle.std.specs.Prelude.{◌≡◌, ℕ, ◌<◌, ◌≤◌, ◌↔◌, IfSome, IsSome, MatchBool, length, slice_index};
-ghost use Rattle.merged_chains.specs.Windows.{AreOrdered};
+ghost use Rattle.std.specs.Prelude.{◌≡◌, ◌↔◌, IfSome, IsSome, MatchBool, length};
+ghost use Rattle.merged_chains.specs.Windows.{AreOrdered, NoneEmpty, SomeEmpty};
 
 use crate::weights::rises;
 use std::alloc::{Allocator, Global};
@@ -73,7 +73,7 @@ fn are_ordered(lower: &[u32], upper: &[u32]) -> bool
 // Whether no window is empty.
 fn none_empty(lower: &[u32], upper: &[u32]) -> bool
     requires { length lower.now ≡ length upper.now }
-    ensures { MatchBool result ((k : ℕ) → k < length lower.now → slice_index lower.now k ≤ slice_index upper.now k) ((k : ℕ) × (k < length lower.now) × (slice_index upper.now k < slice_index lower.now k)) }
+    ensures { MatchBool result (NoneEmpty lower.now upper.now) (SomeEmpty lower.now upper.now) }
 {
     for k in 0..lower.len() {
         if upper[k] < lower[k] {

@@ -1,5 +1,4 @@
 use Rattle.std.proofs.Common.{◌≡◌, ◌+◌, ◌-◌, ◌/◌, ◌%◌, ◌^◌, min, max, arith, rules}
-use Rattle.chain_partition.specs.Search.{Enclose}
 use Rattle.merged_chains.proofs.EvenShares.{least_between, shares_enclose}
 use Rattle.merged_chains.proofs.bounds.bounds_by_totals.Goals as goal
 

@@ -1,5 +1,4 @@
-use Rattle.std.proofs.Common.{◌≡◌, ◌+◌, ◌<◌, min, max, length, slice_index, arith, rules, sym, subst}
-use Rattle.merged_chains.specs.Windows.{IsNextEnd}
+use Rattle.std.proofs.Common.{◌<◌, length, arith, rules}
 use Rattle.merged_chains.proofs.RunsByParts.{next_at_last, next_by_window}
 use Rattle.merged_chains.proofs.merging.end_of_run.Goals as goal
 

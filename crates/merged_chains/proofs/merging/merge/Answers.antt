@@ -1,7 +1,6 @@
-use Rattle.std.proofs.Common.{◌≡◌, ℕ, ◌+◌, ◌-◌, ◌<◌, ◌≤◌, ◌++◌, List, length, slice_index, arith, length-append}
-use Rattle.merged_chains.specs.Merged.{AreRuns}
+use Rattle.std.proofs.Common.{◌≡◌, ℕ, ◌+◌, ◌++◌, length, arith, length-append}
 use Rattle.merged_chains.specs.Windows.{AreEnds, IsNextEnd}
-use Rattle.merged_chains.proofs.RunsByParts.{RunsTo, ends_more, ends_none, part_more, runs_begin, runs_end, same_ends, starts_kept}
+use Rattle.merged_chains.proofs.RunsByParts.{ends_more, ends_none, part_more, runs_begin, runs_end, same_ends, starts_kept}
 use Rattle.merged_chains.proofs.merging.merge.Goals as goal
 
 pub loop-begin-init : goal.loop-begin-init

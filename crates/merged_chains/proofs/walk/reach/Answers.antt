@@ -1,5 +1,4 @@
-use Rattle.std.proofs.Common.{◌≡◌, ◌+◌, ◌≤◌, arith}
-use Rattle.lb_snapshot.specs.Measured.{load}
+use Rattle.std.proofs.Common.{arith}
 use Rattle.chain_partition.proofs.Ranges.{load_nothing}
 use Rattle.chain_partition.proofs.RunningSums.{greatest_between}
 use Rattle.merged_chains.proofs.walk.reach.Goals as goal

@@ -1,4 +1,4 @@
-use Rattle.std.proofs.Common.{◌≡◌, ◌≢◌, ◌+◌, ◌-◌, length, [], arith, refl}
+use Rattle.std.proofs.Common.{◌≡◌, ◌+◌, [], arith, refl}
 use Rattle.lb_snapshot.specs.Measured.{load}
 use Rattle.merged_chains.specs.declared.walk.Walk.{Walk}
 use Rattle.merged_chains.proofs.WalkedParts.{at_begins, stands_closes, stands_ends, stands_stays}

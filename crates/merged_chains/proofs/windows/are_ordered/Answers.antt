@@ -1,4 +1,4 @@
-use Rattle.merged_chains.proofs.OrderedWindows.{not_rising, ordered_answer}
+use Rattle.merged_chains.proofs.OrderedWindows.{not_rising}
 use Rattle.merged_chains.proofs.windows.are_ordered.Goals as goal
 
 pub returns-then-not-rises : goal.returns-then-not-rises
