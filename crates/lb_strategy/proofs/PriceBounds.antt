@@ -5,6 +5,7 @@ use Rattle.std.proofs.Math.Nat.{mod-add-div, mod-lt, mul-pos, div-lt_iff_lt-mul}
 use Rattle.lb_certificates.specs.Naming.{block_cost}
 use Rattle.block_assignment.specs.Table.{Table, AreWithin, IsTable, IsTableOf, cost_at, greatest}
 use Rattle.block_assignment.proofs.Prices.{cost_bounded}
+use Rattle.block_assignment.proofs.Sums.{matrix_of_table}
 use Rattle.lb_strategy.specs.Decisions.{IsGreatestCost, ArePricesBounded}
 
 -- the greatest of some costs is one of them
@@ -36,7 +37,7 @@ greatest_cost sizes cuts t table exact =
       block_inside = block;
       pe_inside = pe;
       reached = sym (exact.exact (at.0 / t.blocks) (at.0 % t.blocks) block pe) ∙ entry t at.0 some ∙ at.2;
-      greatest = λ b p inside below. subst (λ cost. cost ≤ greatest t.costs) (exact.exact b p inside below) (cost_bounded t b p table inside below);
+      greatest = λ b p inside below. subst (λ cost. cost ≤ greatest t.costs) (exact.exact b p inside below) (cost_bounded t b p (matrix_of_table t table) inside below);
     }
 
 pub bounded_by_table : (sizes : List (ℕ × ℕ)) (cuts : List ℕ) (u v : List ℤ) (t : Table) → IsTable t → IsTableOf sizes cuts t → AreWithin (greatest t.costs) u v → ArePricesBounded sizes cuts u v

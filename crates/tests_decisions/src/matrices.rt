@@ -125,7 +125,10 @@ fn wrong_lists_are_refused(rt: HostRuntime) {
 
 #[test]
 fn too_many_blocks(rt: HostRuntime) {
-    let ends = vec![in rt.alloc(); 0; MatrixLimits::BLOCKS as usize + 2].expect(&rt, "out of memory");
+    let ends = vec![in rt.alloc(); 0; MatrixLimits::BLOCKS as usize + 2].expect(
+        &rt,
+        "out of memory",
+    );
     let many = refusal(&rt, &[], &[], &ends);
     drop(ends);
     assert_for(&rt, many == Some(CostError::BlockCount), many);
@@ -138,7 +141,11 @@ fn as_many_bytes_as_allowed(rt: HostRuntime) {
     let bytes = vec![in rt.alloc(); u32::MAX; 32_769].expect(&rt, "out of memory");
     let places = vec![in rt.alloc(); 1; 32_769].expect(&rt, "out of memory");
     let most = matrix(&rt, &bytes[..32_768], &places[..32_768], &[0, 32_768]);
-    assert_for(&rt, is_list(costs(&rt, &most), &[140_737_488_322_560]), "costs");
+    assert_for(
+        &rt,
+        is_list(costs(&rt, &most), &[140_737_488_322_560]),
+        "costs",
+    );
     drop(most);
     let past = refusal(&rt, &bytes, &places, &[0, 32_769]);
     drop(places);
