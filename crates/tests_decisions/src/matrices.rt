@@ -93,6 +93,16 @@ fn three_hundred_blocks(rt: HostRuntime) {
     drop(bytes);
 }
 
+// Why there are no costs, if there are none.
+fn error_of(answer: Result<CostMatrix, CostError>) -> Option<CostError> {
+    let error = match &answer {
+        Ok(_) => None,
+        Err(error) => Some(*error),
+    };
+    drop(answer);
+    error
+}
+
 // Why these lists are refused, if they are.
 fn refusal(
     rt: &(impl Abort + AllocGlobal),
@@ -100,13 +110,7 @@ fn refusal(
     places: &[u32],
     ends: &[u32],
 ) -> Option<CostError> {
-    let answer = answer(rt, bytes, places, ends);
-    let error = match &answer {
-        Ok(_) => None,
-        Err(error) => Some(*error),
-    };
-    drop(answer);
-    error
+    error_of(answer(rt, bytes, places, ends))
 }
 
 #[test]
@@ -134,21 +138,26 @@ fn too_many_blocks(rt: HostRuntime) {
     assert_for(&rt, many == Some(CostError::BlockCount), many);
 }
 
-// So many elements of 2^32 - 1 bytes, all of which move from PE 1: 32,768 of them have 32,768 bytes fewer than 2^47, and
-// one more has too many.
+// The costs of one block of so many elements of 2^32 - 1 bytes each, all of which stand on PE 1.
+fn of_great_elements(rt: &(impl Abort + AllocGlobal), count: u32) -> Result<CostMatrix, CostError> {
+    let bytes = vec![in rt.alloc(); u32::MAX; count as usize].expect(rt, "out of memory");
+    let places = vec![in rt.alloc(); 1; count as usize].expect(rt, "out of memory");
+    let answer = answer(rt, &bytes, &places, &[0, count]);
+    drop(places);
+    drop(bytes);
+    answer
+}
+
+// 32,768 such elements have 32,768 bytes fewer than 2^47, and one more has too many.
 #[test]
 fn as_many_bytes_as_allowed(rt: HostRuntime) {
-    let bytes = vec![in rt.alloc(); u32::MAX; 32_769].expect(&rt, "out of memory");
-    let places = vec![in rt.alloc(); 1; 32_769].expect(&rt, "out of memory");
-    let most = matrix(&rt, &bytes[..32_768], &places[..32_768], &[0, 32_768]);
+    let most = of_great_elements(&rt, 32_768).expect(&rt, "no costs");
     assert_for(
         &rt,
         is_list(costs(&rt, &most), &[140_737_488_322_560]),
         "costs",
     );
     drop(most);
-    let past = refusal(&rt, &bytes, &places, &[0, 32_769]);
-    drop(places);
-    drop(bytes);
+    let past = error_of(of_great_elements(&rt, 32_769));
     assert_for(&rt, past == Some(CostError::TooManyBytes), past);
 }
