@@ -12,6 +12,7 @@ pub mod Keyed
 pub mod Leaving
 pub mod Lending
 pub mod Places
+pub mod Receiving
 pub mod Reasons
 pub mod Taking
 pub mod Traces

@@ -1,9 +1,9 @@
 //! What a PE does with the parcel in its hand.
 
-ghost use Rattle.std.specs.Prelude.{◌≡◌, ℕ, ◌++◌, ◌∷◌, [], ◌<◌, ◌≤◌, List, length, IfOk, IfErr, OnOk, OnErr, IfSome, IsSome, Ok, None, Some, true};
+ghost use Rattle.std.specs.Prelude.{◌≡◌, ℕ, ◌++◌, ◌∷◌, [], ◌<◌, ◌≤◌, List, length, IfOk, IfErr, OnOk, OnErr, IfSome, IsSome, IsTrue, ◌↔◌, Ok, None, Some, true, if◌then◌else◌};
 ghost use Rattle.std.specs.VecDeque.{deque_len, deque_capacity};
 ghost use Rattle.chares.specs.Posting.{traced};
-ghost use Rattle.pe_state.specs.Pes.{PeView, acting, acted_of, pe_after, trace_of, acting_on_letter, acting_on_element, held, executed, passing, shelving, forwarding, installed};
+ghost use Rattle.pe_state.specs.Pes.{PeView, acting, acted_of, pe_after, trace_of, acting_on_letter, acting_on_element, held, received, has_started, executed, passing, shelving, forwarding, installed};
 ghost use Rattle.pe_state.specs.Refusals.{RefusesStep, RefusesAct, RefusesParcel};
 ghost use Rattle.pe_state.specs.Rooms.{found};
 ghost use Rattle.pe_state.specs.Standing.{IsBelow};
@@ -12,10 +12,12 @@ ghost use Rattle.chares.specs.declared.carried.Carried.{Carried};
 ghost use Rattle.chares.specs.declared.entry.Entry.{Entry};
 ghost use Rattle.chares.specs.declared.trace_entry.TraceEntry.{TraceEntry};
 ghost use Rattle.pe_state.specs.declared.error.StepError.TheVariants.{OutOfMemory};
+ghost use Rattle.pe_state.specs.declared.acted.Acted.TheVariants.{Executed};
 
 use crate::acted::Acted;
 use crate::error::StepError;
 use crate::lent;
+use crate::parcel::Parcel;
 use crate::pe::PeState;
 use crate::shelf::unshelve;
 use chare_index::{Gate, Index, Pe};
@@ -89,6 +91,70 @@ impl<C: Chare<A>, H: Openings<C>, A: Allocator + Copy> PeState<C, H, A> {
             Carried::Letter(letter) => { self.act_on_letter(gate, letter, address, tracing, trace) }
             Carried::Element(element) => self.act_on_element(element, address, tracing, trace),
         }
+    }
+}
+
+impl<C: Chare<A>, H: Openings<C>, A: Allocator + Copy> PeState<C, H, A> {
+    /// Receives a parcel and, where that is a letter whose element stands here and has started, acts on it: a receipt
+    /// and then an act, in which the letter never lies in the hand. It returns whether it acted. Any other parcel lies in
+    /// the hand then, as [`receive`](PeState::receive) leaves it.
+    ///
+    /// # Errors
+    ///
+    /// The letter was received and lies in the hand on any of them: [`OutOfMemory`](StepError::OutOfMemory), or what the
+    /// handler returns.
+    pub fn receive_and_act<G: Gate>(
+        &mut self,
+        gate: &G,
+        parcel: Parcel<C, H, A>,
+    ) -> Result<bool, StepError>
+        requires empty { self.old.hand ≡ None }
+        ensures acted { IfOk result (λ acts. IsTrue acts ↔ (acted_of (acting C.step C.pack C.unpack (received self.old parcel)) ≡ Some Executed)) }
+        ensures ok { IfOk result (λ acts. self.new ≡ (if acts
+            then pe_after (received self.old parcel) (acting C.step C.pack C.unpack (received self.old parcel))
+            else received self.old parcel)) }
+        ensures err { OnErr result (self.new ≡ received self.old parcel) }
+        ensures enabled { OnErr result (acted_of (acting C.step C.pack C.unpack (received self.old parcel)) ≡ Some Executed) }
+        ensures refused { IfErr result (RefusesStep (RefusesAct C.refuses (received self.old parcel))) }
+    {
+        match parcel {
+            Carried::Letter(letter) => self.receive_letter(gate, letter),
+            Carried::Element(element) => {
+                self.receive(Carried::Element(element));
+                Ok(false)
+            }
+        }
+    }
+
+    // Receives a letter, and acts on it where its element stands here and has started.
+    fn receive_letter<G: Gate>(&mut self, gate: &G, letter: Letter<A>) -> Result<bool, StepError>
+        requires empty { self.old.hand ≡ None }
+        ensures acted { IfOk result (λ acts. acts ≡ has_started self.old letter.to) }
+        ensures ok { IfOk result (λ acts. self.new ≡ (if acts
+            then (executed C.step C.pack self.old letter).pe
+            else received self.old (Carried.Letter letter))) }
+        ensures err { OnErr result (self.new ≡ received self.old (Carried.Letter letter)) }
+        ensures enabled { OnErr result (has_started self.old letter.to ≡ true) }
+        ensures refused { IfErr result (RefusesStep (RefusesParcel C.refuses self.old (Carried.Letter letter))) }
+    {
+        if !self.has_started(letter.to()) {
+            self.receive(Carried::Letter(letter));
+            return Ok(false);
+        }
+        let mut trace = Vec::new(self.alloc);
+        self.kept = None;
+        self.execute(gate, letter, None, false, &mut trace)?;
+        Ok(true)
+    }
+
+    // Whether an element stands here and has started.
+    fn has_started(&self, index: Index) -> bool
+        ensures value { result ≡ has_started self.now index }
+    {
+        let Some(element) = self.room.element(index) else {
+            return false;
+        };
+        element.progress().started
     }
 }
 
