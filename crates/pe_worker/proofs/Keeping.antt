@@ -1,13 +1,14 @@
 -- What a seated PE keeps in each of its steps.
-use Rattle.std.proofs.Common.{◌≡◌, ℕ, ◌<◌, List, [], ◌∷◌, Option, Some, None, refl, sym, ◌∙◌, subst, ap}
+use Rattle.std.proofs.Common.{◌≡◌, ℕ, ◌<◌, ◌↔◌, List, [], ◌∷◌, Option, Some, None, Bool, true, false, IsTrue, if◌then◌else◌, refl, sym, ◌∙◌, subst, ap}
 use Rattle.std.specs.Prelude.{Result, Ok, Err, OnOk, OnErr, slice_get, drop}
 use Rattle.std.specs.Option.{option_to_list}
 use Rattle.chares.specs.Steps.{Step}
 use Rattle.pup_pack.specs.declared.error.PupError.{PupError}
 use Rattle.pe_state.specs.Histories.{HasHistories}
-use Rattle.pe_state.specs.Pes.{PeView, Parcel, Item, front_address, front_parcel, gave_up, handed_back}
+use Rattle.pe_state.specs.Pes.{PeView, Parcel, Item, acting, front_address, front_parcel, gave_up, handed_back, pe_after, received}
 use Rattle.pe_state.specs.Rooms.{IsKeyed}
-use Rattle.pe_state.proofs.Histories.{gave_up_holds}
+use Rattle.pe_state.proofs.Histories.{gave_up_holds, received_holds}
+use Rattle.pe_state.proofs.Receiving.{Executes, executes_letter}
 use Rattle.pe_queues.specs.Seats.{SeatView, pes, new_seat, after_put, after_take}
 use Rattle.rts_core.specs.Calls.{Call, Receive, HandBack, Look, Send, NoteDone, Act, Depart, Resume, MayCall, IsRunning, after_call, with_call}
 use Rattle.rts_core.specs.Ledgers.{no_ledger, entered_in, IsLocalAccount}
@@ -92,6 +93,22 @@ module _ {C : Type 0} (step : Step C) (fits : C → Type 0) (pack : C → List �
         local = l;
         matches = subst (λ (o : Option Parcel). Matches (entered_in (entered_in w.ledger [] (option_to_list o) []) (parcel ∷ []) [] []) seat) (sym front) (matches_back w.ledger seat parcel [] [] w.matches);
       }
+
+-- a parcel that was received, and executed at once where it is a letter that can be
+pub keeps_executed : {C : Type 0} (step : Step C) (fits : C → Type 0) (pack : C → List ℕ) (unpack : List ℕ → Result (C × ℕ) PupError)
+    (opened : List C) (count : ℕ) (run : Beginning C) (pe : PeView C) (seat : SeatView Parcel)
+    → IsSeated step opened count run pe seat → IsKeyed pe.room → HasHistories step fits pack opened pe
+    → (q : ℕ) (parcel : Parcel) → q < pes seat.post → pe.hand ≡ None
+    → (pe' : PeView C) (acts : Bool) → IsTrue acts ↔ Executes step pack unpack pe parcel
+    → pe' ≡ (if acts then pe_after (received pe parcel) (acting step pack unpack (received pe parcel)) else received pe parcel)
+    → IsSeated step opened count run pe' (after_take seat q parcel)
+keeps_executed {C} step fits pack unpack opened count run pe seat w keyed histories q parcel lt empty pe' false acts is =
+    subst (λ (v : PeView C). IsSeated step opened count run v (after_take seat q parcel)) (sym is) (keeps_received step fits pack unpack opened count run pe seat w keyed histories q parcel lt empty)
+keeps_executed {C} step fits pack unpack opened count run pe seat w keyed histories q parcel lt empty pe' true acts is =
+    let seated = keeps_received step fits pack unpack opened count run pe seat w keyed histories q parcel lt empty in
+    let whole = received_holds step fits pack opened pe parcel histories (executes_letter step pack unpack fits opened pe parcel (acts.0 refl)) in
+    subst (λ (v : PeView C). IsSeated step opened count run v (after_take seat q parcel)) (sym is)
+    (keeps_acted step fits pack unpack opened count run (received pe parcel) (after_take seat q parcel) seated keyed whole)
 
 -- as a PE begins
 pub keeps_new : {C : Type 0} (step : Step C) (opened : List C) (count : ℕ) (run : Beginning C) (pe : PeView C) (seat : SeatView Parcel)

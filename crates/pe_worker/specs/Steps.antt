@@ -1,11 +1,13 @@
 -- What each step of a seated PE makes of its PE and of its seat.
-use Rattle.std.specs.Prelude.{◌≡◌, ℕ, ◌==◌, List, Option, None, Some, slice_get, if◌then◌else◌}
+use Rattle.std.specs.Prelude.{◌≡◌, ℕ, ◌==◌, List, Option, None, Some, Result, slice_get, if◌then◌else◌}
 use Rattle.std.specs.Option.{option_and_then}
 use Rattle.chares.specs.declared.note.Note.{Note}
 use Rattle.chares.specs.Steps.{Step}
 use Rattle.at_sync.specs.Boards.{BoardState}
 use Rattle.barrier.specs.Places.{PlacesView, place_among}
-use Rattle.pe_state.specs.Pes.{PeView, Parcel, front_address, front_parcel, received, looked, gave_up, noted, resumed, departed, waits_at}
+use Rattle.pup_pack.specs.declared.error.PupError.{PupError}
+use Rattle.pe_state.specs.declared.acted.Acted.TheVariants.{Executed}
+use Rattle.pe_state.specs.Pes.{PeView, Parcel, front_address, front_parcel, received, looked, gave_up, noted, resumed, departed, waits_at, acting, acted_of, pe_after}
 use Rattle.pe_queues.specs.Seats.{after_put, after_take}
 use Rattle.rts_core.specs.Events.{board_after}
 use Rattle.pe_worker.specs.Seated.{SeatedView}
@@ -44,6 +46,13 @@ module _ {C : Type 0} where
     pub taken : board_after before note ≡ Some after
     pub done : new.pe ≡ noted old.pe
     pub same_seat : new.seat ≡ old.seat
+
+-- Deliver, and then Act: a parcel was taken from the queue of the PE, and is a letter that its element has executed
+pub record Executes {C : Type 0} (step : Step C) (pack : C → List ℕ) (unpack : List ℕ → Result (C × ℕ) PupError) (old new : SeatedView C) : Type 0 where
+  pub parcel : Parcel
+  pub executed : acted_of (acting step pack unpack (received old.pe parcel)) ≡ Some Executed
+  pub after : new.pe ≡ pe_after (received old.pe parcel) (acting step pack unpack (received old.pe parcel))
+  pub taken : new.seat ≡ after_take old.seat old.pe.me parcel
 
 -- the place, in a copy of the places of a round, of an element that stands in the room and waits for the end of that round
 abbrev pub due_by : {C : Type 0} → PeView C → PlacesView → ℕ → Option ℕ

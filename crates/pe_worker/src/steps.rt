@@ -6,7 +6,7 @@ ghost use Rattle.pe_queues.specs.Seats.{HeldAt, pes};
 ghost use Rattle.pe_state.specs.Pes.{acted_of, acting, front_address, may_resume, wanted, pe_after, resumed, waits_at};
 ghost use Rattle.pe_state.specs.Rooms.{found};
 ghost use Rattle.pe_state.specs.declared.error.StepError.TheVariants.{OutOfMemory, Unpack};
-ghost use Rattle.pe_worker.specs.Steps.{Delivers, Flushes, Looks, Stays};
+ghost use Rattle.pe_worker.specs.Steps.{Delivers, Executes, Flushes, Looks, Stays};
 
 use crate::seated::{OfRun, RunBeginning, SeatedPe};
 use chare_index::{Gate, Index, Round};
@@ -37,6 +37,56 @@ impl<C: Chare<A>, H: Openings<C>, J: RunBeginning<C>, A: Allocator + Copy> Seate
         true
     }
 
+    /// Deliver in one attempt, which waits for nobody. It may fail where another thread is in the way.
+    pub fn try_deliver(&mut self, post: &Post<Parcel<C, H, A>, A>) -> bool
+        requires own { post.now ≡ J.beginning.post }
+        ensures step { MatchBool result (Delivers self.old self.new) (self.new ≡ self.old) }
+        ensures same_me { self.new.pe.me ≡ self.old.pe.me }
+    {
+        let _room = self.pe.room();
+        if self.pe.hand().is_some() {
+            return false;
+        }
+        let me = self.pe.me();
+        let Some(parcel) = post.try_take(&mut self.seat, me) else {
+            return false;
+        };
+        self.pe.receive(parcel);
+        true
+    }
+
+    /// Deliver in one attempt, and then Act, where the parcel is a letter whose element stands here and has started.
+    /// It returns whether it acted, or `None` where there was no parcel or another thread was in the way. A parcel that it did
+    /// not act on lies in the hand.
+    ///
+    /// # Errors
+    ///
+    /// The letter was delivered and lies in the hand on any of them: out of memory, or what a handler returns.
+    pub fn try_deliver_and_act<G: Gate>(
+        &mut self,
+        gate: &G,
+        post: &Post<Parcel<C, H, A>, A>,
+    ) -> Result<Option<bool>, StepError>
+        requires own { post.now ≡ J.beginning.post }
+        ensures step { IfOk result (λ delivered. MatchOption delivered
+            (self.new ≡ self.old)
+            (λ acted. MatchBool acted (Executes C.step C.pack C.unpack self.old self.new) (Delivers self.old self.new))) }
+        ensures err { OnErr result (Delivers self.old self.new) }
+        ensures unpacks { IfErr result (λ error. error ≢ Unpack) }
+        ensures same_me { self.new.pe.me ≡ self.old.pe.me }
+    {
+        let _room = self.pe.room();
+        if self.pe.hand().is_some() {
+            return Ok(None);
+        }
+        let me = self.pe.me();
+        let Some(parcel) = post.try_take(&mut self.seat, me) else {
+            return Ok(None);
+        };
+        let acted = self.pe.receive_and_act(gate, parcel)?;
+        Ok(Some(acted))
+    }
+
     /// Flush: puts the front of the outbox, if it has an address, into the queue of the PE that it is addressed to, and
     /// returns whether it did. It is one push. Where that queue is full the parcel is the front of the outbox again.
     pub fn flush<R: Wait>(&mut self, rt: &R, post: &Post<Parcel<C, H, A>, A>) -> bool
@@ -51,6 +101,24 @@ impl<C: Chare<A>, H: Openings<C>, J: RunBeginning<C>, A: Allocator + Copy> Seate
         };
         let parcel = self.pe.sent();
         let Err(Full(back)) = post.put(rt, &mut self.seat, to, parcel) else {
+            return true;
+        };
+        self.pe.hand_back(back);
+        false
+    }
+
+    /// Flush in one attempt, which waits for nobody. It may fail where another thread is in the way.
+    pub fn try_flush(&mut self, post: &Post<Parcel<C, H, A>, A>) -> bool
+        requires own { post.now ≡ J.beginning.post }
+        ensures step { MatchBool result (Flushes self.old self.new) (Stays self.old self.new) }
+        ensures same_me { self.new.pe.me ≡ self.old.pe.me }
+    {
+        let _room = self.pe.room();
+        let Some(to) = self.pe.front_out() else {
+            return false;
+        };
+        let parcel = self.pe.sent();
+        let Err(back) = post.try_put(&mut self.seat, to, parcel) else {
             return true;
         };
         self.pe.hand_back(back);

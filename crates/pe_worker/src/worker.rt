@@ -22,8 +22,10 @@ use std::sync::Wait;
 use std::thread::{Threads, yield_now};
 use worker_threads::{Ended, Work};
 
-/// For how many turns a note may stay owed while the worker has other things to do, and how many notes may: they go to the
-/// board together, under one lock.
+mod letters;
+
+/// For how many letters a note may stay owed while the worker has other things to do, and how many notes may: they go to
+/// the board together, under one lock.
 const OWED: usize = 64;
 
 /// How many idle turns in a row a worker spins, before it lets another thread have the processor in each.
@@ -40,7 +42,7 @@ pub struct Worker<
 > {
     seated: SeatedPe<C, H, J, A>,
     agenda: Agenda<OfRun<C, H>, A>,
-    // For how many turns the first note has been owed.
+    // For how many letters the first note has been owed. A turn without one counts as one.
     owed: usize,
     // Whether its report was the last that the board waited for.
     completes: bool,
@@ -244,8 +246,8 @@ impl<C: Chare<A>, H: Openings<C> + RunStrategy, J: RunBeginning<C>, A: Allocator
         unreachable!()
     }
 
-    // One turn, in which each kind of step is tried once. It returns whether one was done. A turn in which letters move
-    // takes no lock of the board and no memory, and looks at no element but theirs.
+    // One turn: letters move, and then each other kind of step is tried once. It returns whether one was done. A turn in
+    // which letters move takes no lock of the board and no memory, and looks at no element but theirs.
     fn turn<G: Gate + Sync, V: Watch + Sync, R: Threads + Wait + Sync>(
         &mut self,
         rt: &R,
@@ -257,13 +259,10 @@ impl<C: Chare<A>, H: Openings<C> + RunStrategy, J: RunBeginning<C>, A: Allocator
         ensures unpacks { IfErr result (λ fault. fault ≢ Unpack) }
         ensures no_mismatch { IfErr result (λ fault. fault ≢ Mismatch) }
     {
-        let delivered = self.seated.deliver(rt, &field.post);
-        let looked = self.seated.look(&field.words);
-        let acted = self.act(gate, watch)?;
-        let flushed = self.seated.flush(rt, &field.post);
+        let moved = self.move_letters(gate, watch, field)?;
         let went_on = self.go_on(rt, gate, watch, field)?;
-        let busy = delivered || looked || acted || flushed || went_on;
-        let reported = self.report(rt, watch, field, busy)?;
+        let busy = moved > 0 || went_on;
+        let reported = self.report(rt, watch, field, moved, busy)?;
         let decided = self.decide(rt, gate, watch, field)?;
         Ok(busy || reported || decided)
     }
@@ -353,6 +352,7 @@ impl<C: Chare<A>, H: Openings<C> + RunStrategy, J: RunBeginning<C>, A: Allocator
         rt: &R,
         watch: &V,
         field: &Field<C, H, J, A>,
+        moved: usize,
         busy: bool,
     ) -> Result<bool, Fault>
         ensures same_me { self.new.seated.pe.me ≡ self.old.seated.pe.me }
@@ -364,7 +364,7 @@ impl<C: Chare<A>, H: Openings<C> + RunStrategy, J: RunBeginning<C>, A: Allocator
             return Ok(false);
         }
         if busy && notes < OWED && self.owed < OWED {
-            self.owed += 1;
+            self.owed = self.owed.saturating_add(moved.max(1));
             return Ok(false);
         }
         self.owed = 0;

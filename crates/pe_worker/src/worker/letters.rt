@@ -1,0 +1,110 @@
+//! The letters of a turn.
+
+ghost use Rattle.std.specs.Prelude.{◌≡◌, ◌≢◌, IfErr};
+ghost use Rattle.pe_worker.specs.declared.fault.Fault.TheVariants.{Mismatch, Unpack};
+
+use crate::fault::{Fault, fault_of};
+use crate::field::Field;
+use crate::seated::RunBeginning;
+use crate::watch::Watch;
+use crate::worker::Worker;
+use barrier::RunStrategy;
+use chare_index::Gate;
+use chares::{Chare, Openings};
+use std::alloc::{Allocator, Global};
+
+/// How many times a turn takes a letter and flushes one, before the worker sees to anything else.
+const LETTERS: usize = 64;
+
+impl<C: Chare<A>, H: Openings<C> + RunStrategy, J: RunBeginning<C>, A: Allocator + Copy> Worker<
+    C,
+    H,
+    J,
+    A,
+> {
+    // Takes a letter and flushes one, again and again while there is one to take or to flush, as often as a turn may. It
+    // returns how often.
+    pub(super) fn move_letters<G: Gate, V: Watch>(
+        &mut self,
+        gate: &G,
+        watch: &V,
+        field: &Field<C, H, J, A>,
+    ) -> Result<usize, Fault>
+        ensures same_me { self.new.seated.pe.me ≡ self.old.seated.pe.me }
+        ensures unpacks { IfErr result (λ fault. fault ≢ Unpack) }
+        ensures no_mismatch { IfErr result (λ fault. fault ≢ Mismatch) }
+    {
+        let most = self.most_letters();
+        for moved in 0..most {
+            let taken = self.take_letter(gate, watch, field)?;
+            let flushed = self.flush_letter(field);
+            if !taken && !flushed {
+                return Ok(moved);
+            }
+        }
+        Ok(most)
+    }
+
+    // How often a turn takes and flushes a letter: once where an element is due, since others may wait for what it does.
+    fn most_letters(&self) -> usize {
+        if self.agenda.dues() > 0 {
+            return 1;
+        }
+        LETTERS
+    }
+
+    // Takes a parcel from the queue, if the hand is empty, and acts on it. It returns whether it did anything. Where nobody
+    // follows the steps, a letter whose element stands here goes straight to its handler.
+    fn take_letter<G: Gate, V: Watch>(
+        &mut self,
+        gate: &G,
+        watch: &V,
+        field: &Field<C, H, J, A>,
+    ) -> Result<bool, Fault>
+        ensures same_me { self.new.seated.pe.me ≡ self.old.seated.pe.me }
+        ensures unpacks { IfErr result (λ fault. fault ≢ Unpack) }
+        ensures no_mismatch { IfErr result (λ fault. fault ≢ Mismatch) }
+    {
+        if watch.follows_steps() {
+            self.seated.try_deliver(&field.post);
+            return self.act_on_hand(gate, watch, field);
+        }
+        match self.seated.try_deliver_and_act(gate, &field.post) {
+            Ok(Some(true)) => {
+                self.executed = self.executed.saturating_add(1);
+                Ok(true)
+            }
+            Ok(_) => self.act_on_hand(gate, watch, field),
+            Err(error) => Err(fault_of(error)),
+        }
+    }
+
+    // Looks for what the parcel in the hand wants, and acts on it. It returns whether there is one that it looked for or
+    // acted on.
+    fn act_on_hand<G: Gate, V: Watch>(
+        &mut self,
+        gate: &G,
+        watch: &V,
+        field: &Field<C, H, J, A>,
+    ) -> Result<bool, Fault>
+        ensures same_me { self.new.seated.pe.me ≡ self.old.seated.pe.me }
+        ensures unpacks { IfErr result (λ fault. fault ≢ Unpack) }
+        ensures no_mismatch { IfErr result (λ fault. fault ≢ Mismatch) }
+    {
+        if self.seated.pe().hand().is_none() {
+            return Ok(false);
+        }
+        let looked = self.seated.look(&field.words);
+        let acted = self.act(gate, watch)?;
+        Ok(looked || acted)
+    }
+
+    // Looks for the element of the first letter of the outbox, and flushes the letter. It returns whether it did either.
+    fn flush_letter(&mut self, field: &Field<C, H, J, A>) -> bool
+        ensures same_me { self.new.seated.pe.me ≡ self.old.seated.pe.me }
+    {
+        let looked = self.seated.look(&field.words);
+        let flushed = self.seated.try_flush(&field.post);
+        looked || flushed
+    }
+}
