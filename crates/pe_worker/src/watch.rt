@@ -29,9 +29,9 @@ pub trait Watch {
     fn decided(&self, round: Round, executed: u64);
 
     /// Whether the run is to stop, as after a signal or when its time is up. Each worker asks before it starts an
-    /// element and before each of its turns, without a lock, so the answer has to come fast. Where it is yes, the run
-    /// ends with the fault [`Stopped`](crate::Fault::Stopped), and loses nothing. A handler that is under way is not cut
-    /// off, and a run whose elements have all finished ends as it would have.
+    /// element and before each of its turns, of up to 64 letters, without a lock, so the answer has to come fast. Where it is
+    /// yes, the run ends with the fault [`Stopped`](crate::Fault::Stopped), and loses nothing. A handler that is under way is
+    /// not cut off, and a run whose elements have all finished ends as it would have.
     fn wants_stop(&self) -> bool {
         false
     }
