@@ -11,7 +11,7 @@ use crate::worker::Worker;
 use barrier::RunStrategy;
 use chare_index::Gate;
 use chares::{Chare, Openings};
-use std::alloc::{Allocator, Global};
+use std::alloc::Allocator;
 
 /// How many times a turn takes a letter and flushes one, before the worker sees to anything else.
 const LETTERS: usize = 64;
