@@ -10,7 +10,7 @@ use Rattle.pe_worker.specs.Seated.{SeatedView}
 use Rattle.pe_worker.specs.Steps.{Delivers, Executes}
 
 pub executes_or_delivers : {C : Type 0} (step : Step C) (pack : C → List ℕ) (unpack : List ℕ → Result (C × ℕ) PupError) (old new : SeatedView C) (parcel : Parcel) (acts : Bool)
-    → IsTrue acts ↔ Receiving.Executes step pack unpack old.pe parcel
+    → IsTrue acts ↔ Receiving.ExecutesNow step pack unpack old.pe parcel
     → new.pe ≡ (if acts then pe_after (received old.pe parcel) (acting step pack unpack (received old.pe parcel)) else received old.pe parcel)
     → new.seat ≡ after_take old.seat old.pe.me parcel
     → MatchBool acts (Executes step pack unpack old new) (Delivers old new)

@@ -8,7 +8,7 @@ use Rattle.pe_state.specs.Histories.{HasHistories}
 use Rattle.pe_state.specs.Pes.{PeView, Parcel, Item, acting, front_address, front_parcel, gave_up, handed_back, pe_after, received}
 use Rattle.pe_state.specs.Rooms.{IsKeyed}
 use Rattle.pe_state.proofs.Histories.{gave_up_holds, received_holds}
-use Rattle.pe_state.proofs.Receiving.{Executes, executes_letter}
+use Rattle.pe_state.proofs.Receiving.{ExecutesNow, executes_letter}
 use Rattle.pe_queues.specs.Seats.{SeatView, pes, new_seat, after_put, after_take}
 use Rattle.rts_core.specs.Calls.{Call, Receive, HandBack, Look, Send, NoteDone, Act, Depart, Resume, MayCall, IsRunning, after_call, with_call}
 use Rattle.rts_core.specs.Ledgers.{no_ledger, entered_in, IsLocalAccount}
@@ -99,7 +99,7 @@ pub keeps_executed : {C : Type 0} (step : Step C) (fits : C → Type 0) (pack : 
     (opened : List C) (count : ℕ) (run : Beginning C) (pe : PeView C) (seat : SeatView Parcel)
     → IsSeated step opened count run pe seat → IsKeyed pe.room → HasHistories step fits pack opened pe
     → (q : ℕ) (parcel : Parcel) → q < pes seat.post → pe.hand ≡ None
-    → (pe' : PeView C) (acts : Bool) → IsTrue acts ↔ Executes step pack unpack pe parcel
+    → (pe' : PeView C) (acts : Bool) → IsTrue acts ↔ ExecutesNow step pack unpack pe parcel
     → pe' ≡ (if acts then pe_after (received pe parcel) (acting step pack unpack (received pe parcel)) else received pe parcel)
     → IsSeated step opened count run pe' (after_take seat q parcel)
 keeps_executed {C} step fits pack unpack opened count run pe seat w keyed histories q parcel lt empty pe' false acts is =
