@@ -3,7 +3,7 @@
 ghost use Rattle.std.specs.Prelude.{◌≡◌, ◌≢◌, ℕ, ◌+◌, ◌++◌, ◌∷◌, [], ◌<◌, ◌≤◌, List, length, IfOk, IfErr, OnOk, OnErr, IfSome, IsSome, None, Some, slice_get, true, false};
 ghost use Rattle.std.specs.Option.{option_copied, option_map};
 ghost use Rattle.pe_state.specs.Histories.{IsParcelHistory, HasHistories};
-ghost use Rattle.pe_state.specs.Pes.{PeView, new_pe, placed, received, wanted, hand_wants, looked, at_pe, front_at, unaddressed, is_due, front_parcel, front_address, gave_up, handed_back, noted, held, may_resume, may_depart, departed, waits_at};
+ghost use Rattle.pe_state.specs.Pes.{PeView, new_pe, placed, received, wanted, hand_wants, looked, at_pe, front_at, unaddressed, is_due, front_parcel, front_address, gave_up, handed_back, noted, held, may_resume, may_depart, departed, waits_at, front_wants};
 ghost use Rattle.pe_state.specs.Rooms.{found, IsKeyed};
 ghost use Rattle.pe_state.specs.Standing.{IsBelow};
 ghost use Rattle.pe_state.specs.declared.error.StepError.TheVariants.{OutOfMemory};
@@ -172,6 +172,22 @@ impl<C: Chare<A>, H: Openings<C>, A: Allocator + Copy> PeState<C, H, A> {
         into_parcel(parcel)
     }
 
+    /// The element of the letter at the front of the outbox was looked for, and is believed to be on this PE: gives the
+    /// letter up, and keeps that address. It is a look and then a sending, where the hand is empty.
+    pub fn look_and_send(&mut self, believed: Pe) -> Parcel<C, H, A>
+        requires idle { self.old.hand ≡ None }
+        requires wanted { IsSome (front_wants self.old.outbox) }
+        requires known { believed < H.pes }
+        ensures value { front_parcel self.old.outbox ≡ Some result }
+        ensures ok { self.new ≡ gave_up (looked self.old believed) }
+    {
+        let Some(Addressed { parcel, address: _ }) = self.outbox.pop_front() else {
+            unreachable!()
+        };
+        self.kept = Some(believed);
+        into_parcel(parcel)
+    }
+
     /// Puts a parcel back to the front of the outbox, with the address that was kept. This takes no memory. See "What
     /// `hand_back` is for" in docs/EVENTS.md.
     pub fn hand_back(&mut self, parcel: Parcel<C, H, A>)
@@ -303,6 +319,13 @@ impl<C: Chare<A>, H: Openings<C>, A: Allocator> PeState<C, H, A> {
         if let Some(index) = self.hand_wants() {
             return Some(index);
         }
+        self.front_wants()
+    }
+
+    /// The element that has to be looked for at the front of the outbox: that of a letter without an address.
+    pub fn front_wants(&self) -> Option<Index>
+        ensures value { result ≡ front_wants self.now.outbox }
+    {
         let front = self.outbox.front()?;
         unaddressed(front)
     }

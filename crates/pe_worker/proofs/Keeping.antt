@@ -2,12 +2,13 @@
 use Rattle.std.proofs.Common.{◌≡◌, ℕ, ◌<◌, ◌↔◌, List, [], ◌∷◌, Option, Some, None, Bool, true, false, IsTrue, if◌then◌else◌, refl, sym, ◌∙◌, subst, ap}
 use Rattle.std.specs.Prelude.{Result, Ok, Err, OnOk, OnErr, slice_get, drop}
 use Rattle.std.specs.Option.{option_to_list}
+use Rattle.chares.specs.Elements.{ElementView}
 use Rattle.chares.specs.Steps.{Step}
 use Rattle.pup_pack.specs.declared.error.PupError.{PupError}
 use Rattle.pe_state.specs.Histories.{HasHistories}
-use Rattle.pe_state.specs.Pes.{PeView, Parcel, Item, acting, front_address, front_parcel, gave_up, handed_back, pe_after, received}
+use Rattle.pe_state.specs.Pes.{PeView, Parcel, Item, acting, front_address, front_at, front_parcel, gave_up, hand_wants, handed_back, looked, looked_in, pe_after, received}
 use Rattle.pe_state.specs.Rooms.{IsKeyed}
-use Rattle.pe_state.proofs.Histories.{gave_up_holds, received_holds}
+use Rattle.pe_state.proofs.Histories.{gave_up_holds, looked_holds, received_holds}
 use Rattle.pe_state.proofs.Receiving.{ExecutesNow, executes_letter}
 use Rattle.pe_queues.specs.Seats.{SeatView, pes, new_seat, after_put, after_take}
 use Rattle.rts_core.specs.Calls.{Call, Receive, HandBack, Look, Send, NoteDone, Act, Depart, Resume, MayCall, IsRunning, after_call, with_call}
@@ -109,6 +110,51 @@ keeps_executed {C} step fits pack unpack opened count run pe seat w keyed histor
     let whole = received_holds step fits pack opened pe parcel histories (executes_letter step pack unpack fits opened pe parcel (acts.0 refl)) in
     subst (λ (v : PeView C). IsSeated step opened count run v (after_take seat q parcel)) (sym is)
     (keeps_acted step fits pack unpack opened count run (received pe parcel) (after_take seat q parcel) seated keyed whole)
+
+-- a look leaves the front, the room, and no address
+module _ {C : Type 0} (pe : PeView C) (q : ℕ) where
+  front_with : (outbox : List Item) → front_parcel (front_at q outbox) ≡ front_parcel outbox
+  front_with [] = refl
+  front_with (x ∷ xs) = refl
+
+  looked_front_in : (o : Option ℕ) → front_parcel (looked_in pe q o).outbox ≡ front_parcel pe.outbox
+  looked_front_in (Some e) = refl
+  looked_front_in None = front_with pe.outbox
+
+  pub looked_front : front_parcel (looked pe q).outbox ≡ front_parcel pe.outbox
+  looked_front = looked_front_in (hand_wants pe)
+
+  looked_room_in : (o : Option ℕ) → (looked_in pe q o).room ≡ pe.room
+  looked_room_in (Some e) = refl
+  looked_room_in None = refl
+
+  pub looked_room : (looked pe q).room ≡ pe.room
+  looked_room = looked_room_in (hand_wants pe)
+
+  looked_kept_in : (o : Option ℕ) → record (looked_in pe q o) { kept = None } ≡ looked_in pe q o
+  looked_kept_in (Some e) = refl
+  looked_kept_in None = refl
+
+  -- what was looked for, given up and handed back is what was looked for
+  pub back_looked : (parcel : Parcel) → front_parcel pe.outbox ≡ Some parcel → handed_back (gave_up (looked pe q)) parcel ≡ looked pe q
+  back_looked parcel front = back_same (looked pe q) parcel (looked_front ∙ front) ∙ looked_kept_in (hand_wants pe)
+
+-- a letter that was looked for, and then sent, or handed back
+module _ {C : Type 0} (step : Step C) (fits : C → Type 0) (pack : C → List ℕ) (unpack : List ℕ → Result (C × ℕ) PupError)
+    (opened : List C) (count : ℕ) (run : Beginning C) (pe : PeView C) (seat : SeatView Parcel)
+    (w : IsSeated step opened count run pe seat) (keyed : IsKeyed pe.room) (histories : HasHistories step fits pack opened pe) (q : ℕ) (parcel : Parcel) where
+  pub keeps_looked_sent : q < pes seat.post → front_parcel pe.outbox ≡ Some parcel → IsSeated step opened count run (gave_up (looked pe q)) (after_put seat q parcel)
+  keeps_looked_sent lt front =
+      keeps_sent step fits pack unpack opened count run (looked pe q) seat
+      (keeps_looked step fits pack unpack opened count run pe seat w keyed histories q)
+      (subst (λ (room : List (ℕ × ElementView C)). IsKeyed room) (sym (looked_room pe q)) keyed)
+      (looked_holds step fits pack opened pe q histories)
+      q parcel lt (looked_front pe q ∙ front)
+
+  pub keeps_looked_back : front_parcel pe.outbox ≡ Some parcel → IsSeated step opened count run (handed_back (gave_up (looked pe q)) parcel) seat
+  keeps_looked_back front =
+      subst (λ (v : PeView C). IsSeated step opened count run v seat) (sym (back_looked pe q parcel front))
+      (keeps_looked step fits pack unpack opened count run pe seat w keyed histories q)
 
 -- as a PE begins
 pub keeps_new : {C : Type 0} (step : Step C) (opened : List C) (count : ℕ) (run : Beginning C) (pe : PeView C) (seat : SeatView Parcel)

@@ -40,6 +40,14 @@ module _ {C : Type 0} where
     pub found_at : new.pe ≡ looked old.pe believed
     pub same_seat : new.seat ≡ old.seat
 
+  -- Look, and then Flush: the front of the outbox was looked for, and put into the queue of the PE that it is believed to be on
+  pub record LooksAndFlushes (old new : SeatedView C) : Type 0 where
+    pub to : ℕ
+    pub parcel : Parcel
+    pub front : front_parcel old.pe.outbox ≡ Some parcel
+    pub given : new.pe ≡ gave_up (looked old.pe to)
+    pub put : new.seat ≡ after_put old.seat to parcel
+
   -- Report: the board has the first note
   pub record ReportsNote {A : Type 0} (old new : SeatedView C) (before after : BoardState A) (note : Note) : Type 0 where
     pub first : slice_get old.pe.notes 0 ≡ Some note

@@ -6,7 +6,7 @@ ghost use Rattle.pe_queues.specs.Seats.{HeldAt, pes};
 ghost use Rattle.pe_state.specs.Pes.{acted_of, acting, front_address, may_resume, wanted, pe_after, resumed, waits_at};
 ghost use Rattle.pe_state.specs.Rooms.{found};
 ghost use Rattle.pe_state.specs.declared.error.StepError.TheVariants.{OutOfMemory, Unpack};
-ghost use Rattle.pe_worker.specs.Steps.{Delivers, Executes, Flushes, Looks, Stays};
+ghost use Rattle.pe_worker.specs.Steps.{Delivers, Executes, Flushes, Looks, LooksAndFlushes, Stays};
 
 use crate::seated::{OfRun, RunBeginning, SeatedPe};
 use chare_index::{Gate, Index, Round};
@@ -142,6 +142,38 @@ impl<C: Chare<A>, H: Openings<C>, J: RunBeginning<C>, A: Allocator + Copy> Seate
         }
         self.pe.look(words.look(element));
         true
+    }
+
+    /// Look, and then Flush in one attempt, for a letter without an address at the front of the outbox, where the hand is empty.
+    /// It returns whether the letter was flushed; where it was not, it has an address now. Where there is no such letter, it
+    /// returns `None` and changes nothing.
+    pub fn try_look_and_flush(
+        &mut self,
+        words: &Locations<OfRun<C, H>, A>,
+        post: &Post<Parcel<C, H, A>, A>,
+    ) -> Option<bool>
+        requires own { post.now ≡ J.beginning.post }
+        requires run_pes { words.now.pes ≡ H.pes }
+        ensures step { MatchOption result
+            (self.new ≡ self.old)
+            (λ flushed. MatchBool flushed (LooksAndFlushes self.old self.new) (Looks self.old self.new)) }
+        ensures same_me { self.new.pe.me ≡ self.old.pe.me }
+    {
+        let _room = self.pe.room();
+        if self.pe.hand().is_some() {
+            return None;
+        }
+        let element = self.pe.front_wants()?;
+        if words.len() <= element.get() as usize {
+            return None;
+        }
+        let to = words.look(element);
+        let parcel = self.pe.look_and_send(to);
+        let Err(back) = post.try_put(&mut self.seat, to, parcel) else {
+            return Some(true);
+        };
+        self.pe.hand_back(back);
+        Some(false)
     }
 
     /// Act: executes, forwards or shelves the letter in the hand, or installs the element there, and returns which of
