@@ -118,10 +118,10 @@ impl<C: Chare<A>, H: Openings<C>, J: RunBeginning<C>, A: Allocator + Copy> Seate
             return false;
         };
         let parcel = self.pe.sent();
-        let Err(back) = post.try_put(&mut self.seat, to, parcel) else {
+        let Err(parcel) = post.try_put(&mut self.seat, to, parcel) else {
             return true;
         };
-        self.pe.hand_back(back);
+        self.pe.hand_back(parcel);
         false
     }
 
@@ -169,10 +169,10 @@ impl<C: Chare<A>, H: Openings<C>, J: RunBeginning<C>, A: Allocator + Copy> Seate
         }
         let to = words.look(element);
         let parcel = self.pe.look_and_send(to);
-        let Err(back) = post.try_put(&mut self.seat, to, parcel) else {
+        let Err(parcel) = post.try_put(&mut self.seat, to, parcel) else {
             return Some(true);
         };
-        self.pe.hand_back(back);
+        self.pe.hand_back(parcel);
         Some(false)
     }
 
