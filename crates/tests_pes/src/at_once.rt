@@ -15,10 +15,7 @@ use tests_chares::Relay;
 use tests_fixtures::{Outcome, Refusing, each_refusal};
 
 // Takes the front of the outbox out.
-fn take_front<H: Openings<Tally>>(
-    rt: &impl Abort,
-    at: &mut PeState<Tally, H>,
-) -> Parcel<Tally, H> {
+fn take_front<H: Openings<Tally>>(rt: &impl Abort, at: &mut PeState<Tally, H>) -> Parcel<Tally, H> {
     look_here(at);
     assert!(rt; at.front_out().is_some());
     at.sent()
@@ -65,7 +62,12 @@ fn depart<H: Openings<Tally>>(rt: &impl Abort, at: &mut PeState<Tally, H>) {
 }
 
 // The sum of the first element, and how many entries it has handled.
-fn first_has<H: Openings<Tally>>(rt: &impl Abort, at: &PeState<Tally, H>, sum: u64, entries: usize) {
+fn first_has<H: Openings<Tally>>(
+    rt: &impl Abort,
+    at: &PeState<Tally, H>,
+    sum: u64,
+    entries: usize,
+) {
     let element = at.room().element(index(rt, 0)).expect(rt, "not here");
     assert_for(rt, element.chare().sum() == sum, sum);
     assert_for(rt, element.journal().len() == entries, entries);
