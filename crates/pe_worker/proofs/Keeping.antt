@@ -1,12 +1,12 @@
 -- What a seated PE keeps in each of its steps.
-use Rattle.std.proofs.Common.{◌≡◌, ℕ, ◌<◌, ◌↔◌, List, [], ◌∷◌, Option, Some, None, Bool, true, false, IsTrue, if◌then◌else◌, refl, sym, ◌∙◌, subst, ap}
+use Rattle.std.proofs.Common.{◌≡◌, ℕ, ◌<◌, ◌↔◌, List, [], ◌∷◌, Option, Some, None, IsSome, Bool, true, false, IsTrue, if◌then◌else◌, refl, sym, ◌∙◌, subst, ap}
 use Rattle.std.specs.Prelude.{Result, Ok, Err, OnOk, OnErr, slice_get, drop}
 use Rattle.std.specs.Option.{option_to_list}
 use Rattle.chares.specs.Elements.{ElementView}
 use Rattle.chares.specs.Steps.{Step}
 use Rattle.pup_pack.specs.declared.error.PupError.{PupError}
 use Rattle.pe_state.specs.Histories.{HasHistories}
-use Rattle.pe_state.specs.Pes.{PeView, Parcel, Item, acting, front_address, front_at, front_parcel, gave_up, hand_wants, handed_back, looked, looked_in, pe_after, received}
+use Rattle.pe_state.specs.Pes.{PeView, Parcel, Item, acting, front_address, front_at, front_parcel, front_wants, gave_up, hand_wants, hand_wants_in, handed_back, looked, looked_in, pe_after, received}
 use Rattle.pe_state.specs.Rooms.{IsKeyed}
 use Rattle.pe_state.proofs.Histories.{gave_up_holds, looked_holds, received_holds}
 use Rattle.pe_state.proofs.Receiving.{ExecutesNow, executes_letter}
@@ -134,6 +134,16 @@ module _ {C : Type 0} (pe : PeView C) (q : ℕ) where
   looked_kept_in : (o : Option ℕ) → record (looked_in pe q o) { kept = None } ≡ looked_in pe q o
   looked_kept_in (Some e) = refl
   looked_kept_in None = refl
+
+  with_address : (outbox : List Item) → IsSome (front_wants outbox) → IsSome (front_address (front_at q outbox))
+  with_address [] h = h
+  with_address (x ∷ xs) h = refl
+
+  -- a letter that was looked for has an address when it is given up
+  pub looked_keeps : pe.hand ≡ None → IsSome (front_wants pe.outbox) → IsSome (gave_up (looked pe q)).kept
+  looked_keeps hand some =
+      let looks : looked pe q ≡ looked_in pe q None = ap (λ (o : Option ℕ). looked_in pe q o) (ap (hand_wants_in pe) hand) in
+      subst (λ (v : PeView C). IsSome (front_address v.outbox)) (sym looks) (with_address pe.outbox some)
 
   -- what was looked for, given up and handed back is what was looked for
   pub back_looked : (parcel : Parcel) → front_parcel pe.outbox ≡ Some parcel → handed_back (gave_up (looked pe q)) parcel ≡ looked pe q

@@ -62,6 +62,7 @@ impl<C: Chare<A>, H: Openings<C>, J: RunBeginning<C>, A: Allocator + Copy> Seate
     /// # Errors
     ///
     /// The letter was delivered and lies in the hand on any of them: out of memory, or what a handler returns.
+    #[tactic(auto, using(crate::proofs::Delivering::executes_or_delivers))]
     pub fn try_deliver_and_act<G: Gate>(
         &mut self,
         gate: &G,
@@ -147,6 +148,7 @@ impl<C: Chare<A>, H: Openings<C>, J: RunBeginning<C>, A: Allocator + Copy> Seate
     /// Look, and then Flush in one attempt, for a letter without an address at the front of the outbox, where the hand is empty.
     /// It returns whether the letter was flushed; where it was not, it has an address now. Where there is no such letter, it
     /// returns `None` and changes nothing.
+    #[tactic(auto, using(crate::proofs::Delivering::looks_again, crate::proofs::Keeping::looked_keeps))]
     pub fn try_look_and_flush(
         &mut self,
         words: &Locations<OfRun<C, H>, A>,
