@@ -112,7 +112,7 @@ fn ran_watched<R: Threads + Wait + Sync + Files + Clock + Print + Eprint + Alloc
     progress.finish();
     let is_fault = driven.status() == BAD_FILE;
     let _told = ADVICE.tell(rt.alloc(), errors, asked.file, reason, is_fault);
-    let kept = keep_recorded(rt, asked.trace, tracing, driven.rounds(), &mut writer);
+    let kept = keep_recorded(rt, asked.trace, tracing, &driven, &mut writer);
     let status = dumped(rt, asked, &driven, &mut writer);
     if kept { status } else { NO_OUTPUT }
 }

@@ -3,7 +3,7 @@
 ghost use Rattle.std.specs.Prelude.{IfOk};
 ghost use Rattle.workload.specs.Text.{IsWithin};
 
-use crate::traces::{keep_trace, lost};
+use crate::traces::{keep_trace, lost, pes_of};
 use crate::{ADVICE, dumped};
 use file_faults::Advice;
 use program_words::{BAD_FILE, NO_OUTPUT};
@@ -148,7 +148,7 @@ fn kept_trace<R: Files + Eprint + AllocGlobal, W: Write>(
         return true;
     };
     let outcome = explored.outcome();
-    let pes = u32::try_from(outcome.ends().len()).unwrap_or(u32::MAX);
+    let pes = pes_of(outcome);
     match Timeline::of_steps(rt.alloc(), explored.steps()) {
         Ok(timeline) => keep_trace(rt, name, pes, &timeline, outcome.rounds(), writer),
         Err(error) => lost(rt, name, TraceError::from(error), writer),

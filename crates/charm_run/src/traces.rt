@@ -4,7 +4,7 @@ use chare_index::{Pe, Round};
 use lb_certificates::Snapshot;
 use lb_refinement::Refined;
 use progress_line::Progress;
-use rts_run::{PeStep, Watch};
+use rts_run::{Outcome, PeStep, Watch};
 use run_trace::{Timeline, TraceError, Tracing, write_trace};
 use std::alloc::Global;
 use std::fs::{File, Files};
@@ -12,7 +12,8 @@ use std::io::Write;
 use std::sync::Wait;
 use std::time::Clock;
 use streams::write_out;
-use workload_run::Onlooker;
+use tally::Tally;
+use workload_run::{Driven, Onlooker};
 
 /// The watches of a run over threads: the progress line, and the recorder of a trace.
 #[derive(Drop)]
@@ -55,20 +56,26 @@ pub(crate) fn keep_recorded<R: Clock + Files + Eprint + AllocGlobal, W: Write>(
     rt: &R,
     asked: Option<&str>,
     tracing: Tracing<'_, R>,
-    rounds: &[(Snapshot, Refined)],
+    driven: &Driven<Global>,
     writer: &mut W,
 ) -> bool {
     let Some(name) = asked else {
         return true;
     };
+    let pes = driven.outcome.as_ref().map_or(0, pes_of);
     match tracing.into_timeline() {
-        Ok(Some(timeline)) => keep_trace(rt, name, timeline.pes(), &timeline, rounds, writer),
+        Ok(Some(timeline)) => keep_trace(rt, name, pes, &timeline, driven.rounds(), writer),
         Ok(None) => true,
         Err(error) => lost(rt, name, TraceError::from(error), writer),
     }
 }
 
-/// Writes the trace of what happened, and returns whether that was done. Where it was not, the writer gets a line, and the
+/// The number of PEs of a run.
+pub(crate) fn pes_of(outcome: &Outcome<Tally>) -> u32 {
+    u32::try_from(outcome.ends().len()).unwrap_or(u32::MAX)
+}
+
+/// Writes the trace of what happened on this number of PEs, and returns whether that was done. Where it was not, the writer gets a line, and the
 /// standard error gets the reason.
 pub(crate) fn keep_trace<R: Files + Eprint + AllocGlobal, W: Write>(
     rt: &R,

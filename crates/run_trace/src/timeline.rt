@@ -6,7 +6,7 @@ ghost use Rattle.trace_events.specs.Steps.{event_happening, happenings_from, lis
 use schedules::Step;
 use std::alloc::{AllocError, Allocator, Global};
 use std::marker::Model;
-use trace_events::{Happening, What, happening_of};
+use trace_events::{Happening, happening_of};
 
 /// What happened in a run, in order of time. Contracts see it as a list.
 #[derive(Drop)]
@@ -54,17 +54,6 @@ impl<A: Allocator> Timeline<A> {
         ensures value { result.now ≡ self.now }
     {
         &self.happenings
-    }
-
-    /// One more than the greatest number of a PE that did something; 0 where none did. A PE without elements may do nothing.
-    pub fn pes(&self) -> u32 {
-        let mut pes = 0u32;
-        for happening in &self.happenings {
-            if let What::Done(pe, _, _, _) = happening.what {
-                pes = pes.max(pe.get().saturating_add(1));
-            }
-        }
-        pes
     }
 }
 

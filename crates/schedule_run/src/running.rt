@@ -66,6 +66,7 @@ pub fn follow<A: Allocator + Copy>(
 pub(crate) fn schedule_of(pes: u32, strategy: Strategy) -> Schedule
     ensures pes { result.pes ≡ pes }
     ensures strategy { result.strategy ≡ strategy }
+    ensures steps { result.steps ≡ 18446744073709551615 }
 {
     Schedule {
         pes,

@@ -82,7 +82,8 @@ impl<C: Chare<A>, A: Allocator> Explored<C, A> {
     }
 
     /// The events of its steps, and the one that was refused, if there was one. By them [`replay`](crate::replay) leads to the
-    /// same world and the same fault.
+    /// same world and the same fault, except that a run that ended as [`Idle`](Fault::Idle) ends as [`Stopped`](Fault::Stopped),
+    /// and that an event for which memory was refused may happen now.
     pub fn events<B: Allocator>(&self, alloc: B) -> Result<Vec<Event, B>, AllocError>
         ensures value { IfOk result (λ events. events.items ≡ events_tried self.now) }
     {

@@ -40,7 +40,8 @@ pub trait Suspect<C: Chare<A>, A: Allocator> {
 
 /// Finds a shorter list of events whose run is still bad, and returns that run; or `None` where the run by those of these events
 /// that are enabled is not bad. Chunks of the list are left out. Each candidate is run anew, which also leaves out events that
-/// are no longer enabled, and is kept where it is shorter and still bad. In the end no single event can be left out.
+/// are no longer enabled, and is kept where it is shorter and still bad. In the end no single step can be left out. The event
+/// that was refused, where there is one, stays the last of each candidate, also where the run without it would be bad.
 ///
 /// # Errors
 ///
