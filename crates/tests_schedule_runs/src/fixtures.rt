@@ -1,10 +1,10 @@
-//! What the tests here use: the worked workload, and its runs by a seed.
+//! What the tests here use: the worked workload, and its runs by a seed with their events.
 
 ghost use Rattle.std.specs.Prelude.{◌≡◌, true};
 ghost use Rattle.workload.specs.Text.{IsWithin};
 
 use rts_run::Strategy;
-use schedule_run::{DrivenOnOne, drive_seed};
+use schedule_run::{DrivenOnOne, drive_seed, write_list};
 use std::alloc::{Allocator, Global};
 use std::fmt::Debug;
 use std::process::Abort;
@@ -43,4 +43,17 @@ pub(crate) fn driven(rt: &(impl Abort + AllocGlobal), seed: u64) -> (DrivenOnOne
     let mut text = Vec::new(rt.alloc());
     let driven = drive_seed(rt.alloc(), &workload, Strategy::Least, seed, &mut text);
     (driven, text)
+}
+
+/// The text of the events of its run by a seed.
+pub(crate) fn listed(rt: &(impl Abort + AllocGlobal), seed: u64) -> Vec<u8> {
+    let (driven, text) = driven(rt, seed);
+    drop(text);
+    let Some(explored) = &driven.explored else {
+        rt.abort()
+    };
+    let mut list = Vec::new(rt.alloc());
+    assert_for(rt, write_list(rt.alloc(), explored, &mut list), "written");
+    drop(driven);
+    list
 }

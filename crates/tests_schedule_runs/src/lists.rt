@@ -1,6 +1,6 @@
 //! Lists of events that are read and written, their faults, and readers and writers that fail.
 
-use crate::fixtures::{assert_for, driven};
+use crate::fixtures::{assert_for, driven, listed};
 use event_lists::{EventListError, write_events};
 use rts_core::Event;
 use schedule_run::{ListFault, read_list, report_list, write_list};
@@ -17,22 +17,9 @@ fn read(
     (events, reason.map(|error| error.kind()))
 }
 
-// The text of the events of the worked run by the seed 1.
-fn listed(rt: &(impl Abort + AllocGlobal)) -> Vec<u8> {
-    let (driven, text) = driven(rt, 1);
-    drop(text);
-    let Some(explored) = &driven.explored else {
-        rt.abort()
-    };
-    let mut list = Vec::new(rt.alloc());
-    assert_for(rt, write_list(rt.alloc(), explored, &mut list), "written");
-    drop(driven);
-    list
-}
-
 #[test]
 fn a_list_that_was_written_is_read(rt: HostRuntime) {
-    let list = listed(&rt);
+    let list = listed(&rt, 1);
     for at_once in [1, 7, usize::MAX] {
         let (events, reason) = read(&rt, Ok(Source::new(&list, at_once, None)));
         let Ok(events) = events else { rt.abort() };
@@ -133,7 +120,7 @@ fn is_cut(rt: &(impl Abort + AllocGlobal), list: &[u8], at: usize) -> bool {
 
 #[test]
 fn writers_that_fail(rt: HostRuntime) {
-    let list = listed(&rt);
+    let list = listed(&rt, 1);
     for at in 0..4 {
         assert_for(&rt, is_cut(&rt, &list, at), at);
     }

@@ -1,11 +1,15 @@
-//! Each request for memory refused in turn: of a run by a seed, of runs by two, and of a list.
+//! Each request for memory refused in turn: of a run by a seed, of runs by two, of a list, and of the line of a fault.
 
 use crate::fixtures::{WORKED_TEXT, assert_for, driven, worked};
 use event_lists::EventListError;
 use rts_run::{Fault, Strategy};
-use schedule_run::{ListFault, drive_seed, drive_seeds, read_list, write_list};
-use std::alloc::Global;
+use schedule_run::{
+    ListFault, drive_seed, drive_seeds, read_list, report_list, search, write_list,
+};
+use schedules::Explored;
+use std::alloc::{Allocator, Global};
 use std::process::Abort;
+use tally::Tally;
 use tests_fixtures::{Outcome, Refusing, Source, each_refusal};
 use workload_run::Ended;
 
@@ -14,6 +18,11 @@ const MOST_TURNS: u64 = 5_000;
 
 // The first request after those for the workload.
 const FIRST_TURN: u64 = 4;
+
+// Some requests of steps.
+const FIRST_STEP: u64 = 60;
+
+const LAST_STEP: u64 = 120;
 
 // How a run ended, whether a request was refused, and what was written.
 type Attempt = (Ended, bool, Vec<u8>);
@@ -91,6 +100,51 @@ fn each_request_of_runs_by_two_seeds(rt: HostRuntime) {
     rt.abort()
 }
 
+// How many letters a run left where memory ended it.
+fn held_by<A: Allocator + Copy>(explored: &Explored<Tally<A>, A>) -> Option<u64> {
+    if explored.fault() != Some(Fault::OutOfMemory) {
+        return None;
+    }
+    Some(explored.account().held)
+}
+
+// How many letters the run by this seed leaves where this request is refused, and the number of requests.
+fn left_by(rt: &(impl Abort + AllocGlobal), seed: u64, turn: u64) -> (Option<u64>, u64) {
+    let alloc = Refusing::new(rt.alloc(), turn);
+    let workload = worked(rt, &alloc);
+    let run = search(&alloc, &workload, Strategy::Least, seed);
+    let held = match &run {
+        Ok(explored) => held_by(explored),
+        Err(_) => None,
+    };
+    drop(run);
+    drop(workload);
+    (held, alloc.requests())
+}
+
+// Whether the line of a seed says what its own run leaves where this request is refused; in the runs by two seeds this many other
+// requests are before it.
+fn is_its_own(rt: &(impl Abort + AllocGlobal), seed: u64, turn: u64, before: u64) -> bool {
+    let (Some(held), _) = left_by(rt, seed, turn) else {
+        return false;
+    };
+    let (ended, _, text) = two_seeds(rt, turn.saturating_add(before));
+    let line = format!(in rt.alloc(); "seed {seed} fault memory held {held}\nseeds 2 faults 1\n");
+    let line = line.expect(rt, "out of memory");
+    ended == Ended::Ran(Some(Fault::OutOfMemory)) && text.as_slice() == line.as_bytes()
+}
+
+#[test]
+fn the_line_of_each_seed_is_that_of_its_run(rt: HostRuntime) {
+    // The run by the seed 1, and one request for its line.
+    let (_, requests) = left_by(&rt, 1, 0);
+    let before = requests.saturating_sub(FIRST_TURN).saturating_add(2);
+    for turn in FIRST_STEP..LAST_STEP {
+        assert_for(&rt, is_its_own(&rt, 1, turn, 0), turn);
+        assert_for(&rt, is_its_own(&rt, 2, turn, before), turn);
+    }
+}
+
 #[test]
 fn each_request_of_a_list_that_is_read(rt: HostRuntime) {
     let read = each_refusal(rt.alloc(), 99, |alloc: &Refusing<Global>| {
@@ -122,4 +176,21 @@ fn each_request_of_a_list_that_is_written(rt: HostRuntime) {
     });
     assert_for(&rt, written.is_ok(), "written");
     drop(driven);
+}
+
+#[test]
+fn each_request_of_the_line_of_a_fault(rt: HostRuntime) {
+    let global = rt.alloc();
+    let told = each_refusal(global, 99, |alloc: &Refusing<Global>| {
+        let mut line = Vec::new(global);
+        let status = report_list(alloc, &mut line, ListFault::NotEnabled(12));
+        if (status, line.as_slice()) == (3, b"events: not enabled in line 12\n".as_slice()) {
+            return Outcome::Right;
+        }
+        if (status, line.as_slice()) == (5, b"out of memory\n".as_slice()) {
+            return Outcome::Refused;
+        }
+        Outcome::Wrong
+    });
+    assert_for(&rt, matches!(told, Ok(1..)), "told");
 }

@@ -1,8 +1,11 @@
-//! Tests of runs on one thread: the worked example by seeds and by lists of events, a planted fault, sizes, and refused memory.
+//! Tests of runs on one thread: the worked example by seeds and by lists of events, a planted fault, runs that end early, sizes, and
+//! refused memory.
 #![tactic(auto)]
 
 #[cfg(test)]
 mod desk;
+#[cfg(test)]
+mod endings;
 #[cfg(test)]
 mod expected;
 #[cfg(test)]

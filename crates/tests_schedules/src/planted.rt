@@ -6,15 +6,15 @@ use crate::desk::Desk;
 use crate::fixtures::{assert_for, pe};
 use chares::Chare;
 use rts_core::Event;
-use rts_run::Fault;
+use rts_run::{Fault, RunError, Setting};
 use schedules::{Cast, Explored, Schedule, Suspect, explore, replay, shrink};
 use std::alloc::{AllocError, Allocator, Global};
 use std::marker::Model;
 use std::process::Abort;
 
-// Three desks, closed.
+/// Three desks, closed.
 #[derive(Drop)]
-struct Desks;
+pub(crate) struct Desks;
 
 impl Model for Desks {
     ghost Value = { Unit {0} };
@@ -36,9 +36,9 @@ impl<A: Allocator + Copy> Cast<Desk, A> for Desks {
     }
 }
 
-// A run that ended because a letter went to nobody.
+/// A run that ended because a letter went to nobody.
 #[derive(Drop)]
-struct LostLetter;
+pub(crate) struct LostLetter;
 
 impl Model for LostLetter {
     ghost Value = { Unit {0} };
@@ -86,4 +86,17 @@ fn a_lost_letter_is_found_shrunk_and_repeated(rt: HostRuntime) {
     let again = replay(rt.alloc(), &schedule, three_desks(&rt), &events).expect(&rt, "not enabled");
     assert_for(&rt, again.fault() == Some(Fault::Stranger), seed);
     assert_for(&rt, again.steps().len() == 5, seed);
+}
+
+#[test]
+fn a_list_that_is_not_bad_is_not_shrunk(rt: HostRuntime) {
+    let found = shrink(rt.alloc(), &Schedule::usual(1), &Desks, &[], &LostLetter);
+    let is_none = found.expect(&rt, "refused").is_none();
+    assert_for(&rt, is_none, "no events");
+    let refused = shrink(rt.alloc(), &Schedule::usual(0), &Desks, &[], &LostLetter).err();
+    assert_for(
+        &rt,
+        refused == Some(RunError::Config(Setting::Pes)),
+        "no PE",
+    );
 }

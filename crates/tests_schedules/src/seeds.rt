@@ -6,6 +6,7 @@ use at_sync::Strategy;
 use chain_refinement::Tolerance;
 use chare_index::Pe;
 use rts_core::Event;
+use rts_run::Fault;
 use schedules::{Bias, Explored, Schedule, SplitMix64, explore};
 use std::alloc::AllocError;
 use std::process::Abort;
@@ -69,6 +70,38 @@ fn each_seed_leads_to_its_list(rt: HostRuntime) {
         let run = run.expect(&rt, "the run did not begin");
         assert_for(&rt, run.refused() == None, listed.name);
         expect_text(&rt, text_of(&rt, &run).as_str(), listed.events);
+    }
+}
+
+// How a run by the seed of a list ends after at most this number of events, and how many happened.
+fn ended(rt: &(impl Abort + AllocGlobal), listed: &Listed, steps: usize) -> (Option<Fault>, usize) {
+    let schedule = Schedule {
+        steps: steps as u64,
+        ..schedule_of(listed)
+    };
+    let run = explore(
+        rt.alloc(),
+        &schedule,
+        listed.seed,
+        tallies_of(rt, &listed.work),
+    );
+    let run = run.expect(rt, "the run did not begin");
+    (run.fault(), run.steps().len())
+}
+
+#[test]
+fn the_last_event_that_is_allowed_may_end_the_run_well(rt: HostRuntime) {
+    for listed in &LISTED[..4] {
+        let len = listed.events.lines().count();
+        let found = ended(&rt, listed, len);
+        assert_for(&rt, found == (None, len), (listed.name, found));
+        let short = len.saturating_sub(1);
+        let found = ended(&rt, listed, short);
+        assert_for(
+            &rt,
+            found == (Some(Fault::Stopped), short),
+            (listed.name, found),
+        );
     }
 }
 

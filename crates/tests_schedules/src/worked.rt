@@ -5,7 +5,7 @@ use chare_index::Pe;
 use lb_certificates::Units;
 use rts_core::{Account, Event};
 use rts_run::{Fault, RunError, Setting};
-use schedules::{Bias, Explored, ReplayError, Schedule, explore, replay, replay_enabled};
+use schedules::{Bias, Explored, ReplayError, Schedule, Step, explore, replay, replay_enabled};
 use std::process::Abort;
 use tally::Tally;
 
@@ -144,6 +144,28 @@ fn an_event_that_is_not_enabled_is_reported_by_its_place(rt: HostRuntime) {
         let rest = replay_enabled(rt.alloc(), &Schedule::usual(2), chares, events);
         assert_for(&rt, rest.expect(&rt, "refused").steps().len() == at, at);
     }
+}
+
+#[test]
+fn an_event_that_is_not_enabled_is_left_out(rt: HostRuntime) {
+    let (p, q): (Pe, Pe) = (pe(&rt, 0), pe(&rt, 1));
+    let (e, f) = (index(&rt, 0), index(&rt, 2));
+    let list = [
+        Event::Start(p, e),
+        Event::Start(p, e),
+        Event::Start(q, f),
+        Event::Decide,
+        Event::Look(p),
+    ];
+    let chares = tallies(rt.alloc()).expect(&rt, "out of memory");
+    let run = replay_enabled(rt.alloc(), &Schedule::usual(2), chares, &list);
+    let run = run.expect(&rt, "refused");
+    let wanted = [Event::Start(p, e), Event::Start(q, f), Event::Look(p)];
+    for (at, event) in wanted.iter().enumerate() {
+        let found = run.steps().get(at).map(Step::event);
+        assert_for(&rt, found == Some(*event), (at, found));
+    }
+    assert_for(&rt, run.steps().len() == 3, run.steps().len());
 }
 
 #[test]

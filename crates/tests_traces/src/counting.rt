@@ -36,6 +36,19 @@ pub(crate) fn count(events: &[Value], phase: &str, name: &str) -> u64 {
     count
 }
 
+/// How many slices the row of this PE has.
+pub(crate) fn slices(rt: &(impl Abort + AllocGlobal), text: &str, pe: u64) -> u64 {
+    let trace = Value::from_str(rt.alloc(), text).expect(rt, "no JSON");
+    let events = trace.get("traceEvents").and_then(Value::as_array);
+    let mut count = 0u64;
+    for event in events.expect(rt, "no list of events") {
+        if text_of(event, "ph") == "X" && number_of(event, "tid") == Some(pe) {
+            count = count.saturating_add(1);
+        }
+    }
+    count
+}
+
 /// What happened in a run; its trace has to have this many events of each.
 #[derive(Clone, Copy)]
 pub(crate) struct Expected {

@@ -1,5 +1,5 @@
-//! Tests of traces: of a run over threads and of one by a seed, read back and counted; with memory refused, a clock that fails,
-//! and a writer that fails.
+//! Tests of traces: of a run over threads and of one by a seed, read back and counted; the loads and the times in them; with memory
+//! refused, a clock that fails, and a writer that fails.
 #![tactic(auto)]
 
 #[cfg(test)]
@@ -7,8 +7,12 @@ mod counting;
 #[cfg(test)]
 mod events;
 #[cfg(test)]
+mod loads;
+#[cfg(test)]
 mod refused;
 #[cfg(test)]
 mod seeds;
 #[cfg(test)]
 mod threads;
+#[cfg(test)]
+mod times;

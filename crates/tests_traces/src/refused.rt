@@ -17,8 +17,8 @@ use tests_fixtures::{Outcome, Sink, each_refusal};
 // No round was decided.
 const NO_ROUNDS: [(Snapshot, Refined); 0] = [];
 
-// What a recorder keeps of five calls, over this allocator.
-fn recorded<R: Clock + Wait, A: Allocator + Copy>(
+/// What a recorder keeps of six calls, over this allocator.
+pub(crate) fn recorded<R: Clock + Wait, A: Allocator + Copy>(
     rt: &R,
     alloc: A,
 ) -> Result<Timeline<A>, TraceError> {

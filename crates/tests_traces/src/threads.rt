@@ -1,6 +1,6 @@
 //! The trace of a run over threads.
 
-use crate::counting::{Expected, assert_for, expect_trace, moves_in, text_in};
+use crate::counting::{Expected, assert_for, expect_trace, moves_in, slices, text_in};
 use hot_spot_run::{Chain, run_chain_watched};
 use hot_spot_strip::Mode;
 use rts_run::{Config, Watch};
@@ -20,34 +20,48 @@ fn chain<'a>(cells: &'a [u32]) -> Chain<'a> {
     }
 }
 
-// A run on this number of PEs, traced, and what its trace has to have.
-fn expect_run<R: Threads + Wait + Sync + Clock + Abort + AllocGlobal>(rt: &R, pes: u32) {
+// A run of these strips on this number of PEs. Returns its trace, which has what it has to have.
+fn expect_run<R: Threads + Wait + Sync + Clock + Abort + AllocGlobal>(
+    rt: &R,
+    pes: u32,
+    cells: &[u32],
+) -> String {
     let recorder = Recorder::new(rt, rt.alloc()).expect(rt, "no recorder");
     let config = Config::usual(pes);
-    let outcome = run_chain_watched(rt, rt.alloc(), &config, &recorder, &chain(&[3; 12]));
+    let outcome = run_chain_watched(rt, rt.alloc(), &config, &recorder, &chain(cells));
     let outcome = outcome.expect(rt, "no run");
     assert_for(rt, outcome.fault() == None, pes);
     let timeline = recorder.into_timeline().expect(rt, "no timeline");
-    let text = text_in(rt, pes, &timeline, outcome.rounds());
+    let rows = u32::try_from(outcome.ends().len()).unwrap_or(0);
+    let text = text_in(rt, rows, &timeline, outcome.rounds());
     let expected = Expected {
         pes: u64::from(pes),
-        elements: 12,
+        elements: cells.len() as u64,
         rounds: outcome.rounds().len() as u64,
         moves: moves_in(outcome.rounds()),
         account: outcome.account(),
     };
     assert_for(rt, expected.rounds == 4, expected.rounds);
     expect_trace(rt, &text, &expected);
+    text
 }
 
 #[test]
 fn a_run_on_three_pes(rt: HostRuntime) {
-    expect_run(&rt, 3);
+    let _text = expect_run(&rt, 3, &[3; 12]);
 }
 
 #[test]
 fn a_run_on_one_pe(rt: HostRuntime) {
-    expect_run(&rt, 1);
+    let _text = expect_run(&rt, 1, &[3; 12]);
+}
+
+// Two strips on three PEs are on the first two, and stay there.
+#[test]
+fn a_last_pe_that_does_nothing_has_a_row(rt: HostRuntime) {
+    let text = expect_run(&rt, 3, &[3; 2]);
+    assert_for(&rt, slices(&rt, &text, 1) > 0, 1);
+    assert_for(&rt, slices(&rt, &text, 2) == 0, 2);
 }
 
 #[test]
