@@ -183,14 +183,13 @@ fn each_request_of_the_line_of_a_fault(rt: HostRuntime) {
     let global = rt.alloc();
     let told = each_refusal(global, 99, |alloc: &Refusing<Global>| {
         let mut line = Vec::new(global);
-        let status = report_list(alloc, &mut line, ListFault::NotEnabled(12));
-        if (status, line.as_slice()) == (3, b"events: not enabled in line 12\n".as_slice()) {
-            return Outcome::Right;
+        match report_list(alloc, &mut line, ListFault::NotEnabled(12)) {
+            3 if line.as_slice() == b"events: not enabled in line 12\n".as_slice() => {
+                Outcome::Right
+            }
+            5 if line.as_slice() == b"out of memory\n".as_slice() => Outcome::Refused,
+            _ => Outcome::Wrong,
         }
-        if (status, line.as_slice()) == (5, b"out of memory\n".as_slice()) {
-            return Outcome::Refused;
-        }
-        Outcome::Wrong
     });
     assert_for(&rt, matches!(told, Ok(1..)), "told");
 }

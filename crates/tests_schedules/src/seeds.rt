@@ -91,7 +91,7 @@ fn ended(rt: &(impl Abort + AllocGlobal), listed: &Listed, steps: usize) -> (Opt
 
 #[test]
 fn the_last_event_that_is_allowed_may_end_the_run_well(rt: HostRuntime) {
-    for listed in &LISTED[..4] {
+    for listed in LISTED.iter().take(4) {
         let len = listed.events.lines().count();
         let found = ended(&rt, listed, len);
         assert_for(&rt, found == (None, len), (listed.name, found));

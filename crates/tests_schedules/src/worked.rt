@@ -5,7 +5,7 @@ use chare_index::Pe;
 use lb_certificates::Units;
 use rts_core::{Account, Event};
 use rts_run::{Fault, RunError, Setting};
-use schedules::{Bias, Explored, ReplayError, Schedule, Step, explore, replay, replay_enabled};
+use schedules::{Bias, Explored, ReplayError, Schedule, explore, replay, replay_enabled};
 use std::process::Abort;
 use tally::Tally;
 
@@ -162,7 +162,7 @@ fn an_event_that_is_not_enabled_is_left_out(rt: HostRuntime) {
     let run = run.expect(&rt, "refused");
     let wanted = [Event::Start(p, e), Event::Start(q, f), Event::Look(p)];
     for (at, event) in wanted.iter().enumerate() {
-        let found = run.steps().get(at).map(Step::event);
+        let found = run.steps().get(at).map(|step| step.event());
         assert_for(&rt, found == Some(*event), (at, found));
     }
     assert_for(&rt, run.steps().len() == 3, run.steps().len());
