@@ -105,7 +105,7 @@ fn each_request_of_a_run_by_a_list(rt: HostRuntime) {
     let mut counts = Counts::default();
     for turn in 1..MOST_TURNS {
         if !replay_refuses(&rt, &events, &mut counts, turn) {
-            let many = counts.refused > 20 && counts.early > 50;
+            let many = counts.refused > 9 && counts.early > 50;
             assert_for(&rt, many, (counts.refused, counts.early));
             return;
         }
