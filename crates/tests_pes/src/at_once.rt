@@ -199,10 +199,10 @@ fn attempt(rt: &impl Abort, alloc: &Refusing<Global>) -> Outcome {
     comes_to::<Brand, &Refusing<Global>>(rt, alloc, chare)
 }
 
-// The chare and its place take three requests, its start takes six, and its letter one: the body of the letter that it posts.
+// The chare and its place take three requests, its start takes six, and its letter two: the body of the letter that it posts.
 #[test]
 fn a_letter_without_memory_lies_in_the_hand(rt: HostRuntime) {
     let refusals = each_refusal(rt.alloc(), 20, |alloc| attempt(&rt, alloc));
     let refusals = refusals.expect(&rt, "a refusal was not told");
-    assert_for(&rt, refusals == 10, refusals);
+    assert_for(&rt, refusals == 11, refusals);
 }
