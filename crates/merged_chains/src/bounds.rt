@@ -23,7 +23,8 @@ pub fn bounds_by_totals(total: u64, greatest: Units, pes: u32) -> Bounds
     ensures low { result.low ≡ max greatest (total / pes + min 1 (total % pes)) }
     ensures high { result.high ≡ min (total / pes + greatest) (2 ^ 64 - 1) }
     ensures encloses { (loads : List ℕ) → sum loads ≡ total → IsGreatest loads greatest → Enclose loads pes result.low result.high }
-    ensures least { (loads : List ℕ) (least : ℕ) → sum loads ≡ total → IsGreatest loads greatest → IsLeastPeak loads 0 pes least → (result.low ≤ least) × (least ≤ result.high) }
+    ensures least { (loads : List ℕ) (least : ℕ) → sum loads ≡ total → IsGreatest loads greatest → IsLeastPeak loads 0 pes least
+        → (result.low ≤ least) × (least ≤ result.high) }
 {
     let pes = u64::from(pes);
     Bounds {

@@ -26,7 +26,8 @@ pub fn merged_law<A: Allocator>()
 /// is left.
 pub fn walk_law()
     ensures ends { (loads ends : List ℕ) (blocks : ℕ) (walk : Walk) → IsWalked loads blocks ends walk → IsGreedy loads blocks walk.limit (all_ends loads ends blocks walk) }
-    ensures fits { (loads ends : List ℕ) (blocks : ℕ) (walk : Walk) → IsWalked loads blocks ends walk → 1 ≤ blocks → (CanFit loads blocks walk.limit ↔ (walk.closed < blocks)) }
+    ensures fits { (loads ends : List ℕ) (blocks : ℕ) (walk : Walk) → IsWalked loads blocks ends walk
+        → 1 ≤ blocks → (CanFit loads blocks walk.limit ↔ (walk.closed < blocks)) }
 {}
 
 /// What the loads that parts of a chain have of a division's ranges say of the chain. The function does nothing: its clauses
