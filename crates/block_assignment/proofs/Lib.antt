@@ -3,6 +3,7 @@ pub mod BlockBits
 pub mod Coverings
 pub mod Duality
 pub mod Exchanges
+pub mod HeldCosts
 pub mod Joinings
 pub mod LeastPes
 pub mod ListedRows

@@ -25,17 +25,21 @@ block_cost_small sizes cuts b p h =
     omega (arith, whole, part, length-drop first sizes, h.few)
 
 -- the rows of the first b blocks, with no cost above a bound
-pub record HasRows (most : ℕ) (sizes : List (ℕ × ℕ)) (cuts : List ℕ) (blocks b : ℕ) (costs : List ℕ) : Type 0 where
+pub record HasRowsOf (most : ℕ) (cost : ℕ → ℕ → ℕ) (blocks b : ℕ) (costs : List ℕ) : Type 0 where
   pub counted : length costs ≡ b * blocks
   pub small : All (λ cost. cost ≤ most) costs
-  pub exact : (k p : ℕ) → k < b → p < blocks → slice_index costs (k * blocks + p) ≡ block_cost sizes cuts k p
+  pub exact : (k p : ℕ) → k < b → p < blocks → slice_index costs (k * blocks + p) ≡ cost k p
+
+-- the same, of blocks of elements
+abbrev pub HasRows : ℕ → List (ℕ × ℕ) → List ℕ → ℕ → ℕ → List ℕ → Type 0
+HasRows most sizes cuts = HasRowsOf most (block_cost sizes cuts)
 
 -- one more row
-pub rows_more : (most : ℕ) (sizes : List (ℕ × ℕ)) (cuts : List ℕ) (blocks b : ℕ) (costs row : List ℕ) → ((p : ℕ) → block_cost sizes cuts b p ≤ most) → HasRows most sizes cuts blocks b costs → length row ≡ blocks → ((p : ℕ) → p < blocks → slice_index row p ≡ block_cost sizes cuts b p) → HasRows most sizes cuts blocks (b + 1) (costs ++ row)
-rows_more most sizes cuts blocks b costs row within rows counted exact =
+pub rows_more_of : (most : ℕ) (cost : ℕ → ℕ → ℕ) (blocks b : ℕ) (costs row : List ℕ) → ((p : ℕ) → p < blocks → cost b p ≤ most) → HasRowsOf most cost blocks b costs → length row ≡ blocks → ((p : ℕ) → p < blocks → slice_index row p ≡ cost b p) → HasRowsOf most cost blocks (b + 1) (costs ++ row)
+rows_more_of most cost blocks b costs row within rows counted exact =
     record {
       counted = omega (arith, rows.counted, length-append costs row);
-      small = All-append (λ cost. cost ≤ most) costs row rows.small (λ p d inside. omega (arith, get_or_default row p 0 d inside, exact p (omega arith), within p));
+      small = All-append (λ cost. cost ≤ most) costs row rows.small (λ p d inside. omega (arith, get_or_default row p 0 d inside, exact p (omega arith), within p (omega arith)));
       exact = λ k p before inside. elim (cases_lt k b) [
         | inl earlier ↦
             let below : k * blocks + p < length costs = omega (arith, rows.counted, mul-add-lt k blocks p b earlier inside) in
@@ -44,9 +48,13 @@ rows_more most sizes cuts blocks b costs row within rows counted exact =
             let e : k ≡ b = omega arith in
             let turned : b * blocks + p - b * blocks ≡ p = omega arith in
             let read : slice_index (costs ++ row) (b * blocks + p) ≡ slice_index row (b * blocks + p - b * blocks) = get_or-append_right costs row (b * blocks) (b * blocks + p) 0 rows.counted (omega arith) in
-            subst (λ n. slice_index (costs ++ row) (n * blocks + p) ≡ block_cost sizes cuts n p) (sym e) (read ∙ ap (λ n. slice_index row n) turned ∙ exact p inside)
+            subst (λ n. slice_index (costs ++ row) (n * blocks + p) ≡ cost n p) (sym e) (read ∙ ap (λ n. slice_index row n) turned ∙ exact p inside)
       ];
     }
+
+pub rows_more : (most : ℕ) (sizes : List (ℕ × ℕ)) (cuts : List ℕ) (blocks b : ℕ) (costs row : List ℕ) → ((p : ℕ) → block_cost sizes cuts b p ≤ most) → HasRows most sizes cuts blocks b costs → length row ≡ blocks → ((p : ℕ) → p < blocks → slice_index row p ≡ block_cost sizes cuts b p) → HasRows most sizes cuts blocks (b + 1) (costs ++ row)
+rows_more most sizes cuts blocks b costs row within =
+    rows_more_of most (block_cost sizes cuts) blocks b costs row (λ p _. within p)
 
 -- the rows of all blocks are a table
 pub table_of_rows : (most_blocks most : ℕ) (sizes : List (ℕ × ℕ)) (cuts : List ℕ) (blocks : ℕ) (costs : List ℕ) → 1 ≤ blocks → blocks ≤ most_blocks → HasRows most sizes cuts blocks blocks costs → IsWithin most_blocks most (record { blocks = blocks; costs = costs })

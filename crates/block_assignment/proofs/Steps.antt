@@ -1,5 +1,5 @@
 -- What one more step of a loop puts down.
-use Rattle.std.proofs.Common.{◌≡◌, ◌≢◌, ℕ, ◌+◌, ◌-◌, ◌*◌, ◌^◌, ◌<◌, ◌≤◌, ◌↔◌, inl, inr, cond, List, [], set, length, length-set, get_or, slice_index, ℤ, pos, neg_ℤ, ◌-ℤ◌, to_z, of_z, w64, arith, ap, sym, subst, ◌∙◌}
+use Rattle.std.proofs.Common.{◌≡◌, ◌≢◌, ℕ, ◌+◌, ◌-◌, ◌<◌, ◌≤◌, ◌↔◌, inl, inr, cond, List, [], set, length, length-set, get_or, slice_index, ℤ, pos, neg_ℤ, ◌-ℤ◌, to_z, of_z, w64, arith, ap, sym, subst, ◌∙◌}
 use Rattle.std.proofs.lemmas.Bool.{cases_eq, eq-eqb, ne_eqb}
 use Rattle.std.proofs.lemmas.Int.{to_z-of_z}
 use Rattle.std.proofs.lemmas.List.{get_or-set_same, get_or-set_other}

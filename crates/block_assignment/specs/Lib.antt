@@ -1,3 +1,4 @@
+pub mod Held
 pub mod Least
 pub mod Lists
 pub mod Search

@@ -24,7 +24,7 @@ impl From<AllocError> for NameError {
 /// Why no [`CostMatrix`](crate::CostMatrix) was made. The variants stand in the order in which they are looked for.
 #[derive(Clone, Copy, Debug, PartialEq, Eq, Error)]
 pub enum CostError {
-    /// There are not as many places as sizes.
+    /// There are not as many places as sizes, or in a table not a number for each block and each PE.
     #[error("not as many places as sizes")]
     Unpaired,
     /// The number of blocks is not 1 to [`MatrixLimits::BLOCKS`](crate::MatrixLimits::BLOCKS).
@@ -33,7 +33,7 @@ pub enum CostError {
     /// The cuts do not divide the elements into consecutive blocks.
     #[error("the cuts do not divide the elements")]
     Undivided,
-    /// The sizes add up to more than [`MatrixLimits::BYTES`](crate::MatrixLimits::BYTES).
+    /// The sizes, or the numbers of a table, add up to more than [`MatrixLimits::BYTES`](crate::MatrixLimits::BYTES).
     #[error("more than 128 TiB in all")]
     TooManyBytes,
     /// No memory was left.

@@ -4,12 +4,14 @@
 //! - [`name_blocks`]: the first of the cheapest [`Naming`](lb_certificates::Naming)s with its
 //!   [`Prices`](lb_certificates::Prices), or a [`NameError`].
 //! - [`CostMatrix`] and [`name_blocks_of`]: the same for elements that are plain lists, within the [`MatrixLimits`] in
-//!   place of a snapshot's limits; why there is no such matrix is a [`CostError`].
+//!   place of a snapshot's limits, or for a table of the bytes of each block on each PE; why there is no such matrix is a
+//!   [`CostError`].
 //!
 //! ```
 //! use block_assignment::{CostTable, name_blocks};
 //! use chare_index::Pe;
-//! use lb_certificates::{Cuts, Sizes, check_naming};
+//! use lb_certificates::{Cuts, check_naming};
+//! use lb_snapshot::Sizes;
 //!
 //! // Three elements in two blocks: the bytes and the PE of each, and the cuts.
 //! let (zero, one) = (Pe::new(0).unwrap(), Pe::new(1).unwrap());
@@ -29,6 +31,7 @@ mod assignment;
 mod block_set;
 mod costs;
 mod error;
+mod held_rows;
 mod least;
 mod limits;
 mod matrix;

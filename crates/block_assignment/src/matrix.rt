@@ -3,12 +3,15 @@
 ghost use Rattle.std.specs.Prelude.{◌≡◌, ℕ, ◌-◌, ◌<◌, ◌≤◌, [], length, slice_index, sum, sum_by, IfErr, IfOk, OnOk};
 ghost use Rattle.std.specs.List.{zip};
 ghost use Rattle.lb_certificates.specs.Naming.{naming_cost, moved_bytes, IsNaming};
+ghost use Rattle.lb_certificates.specs.Held.{WhereHeld};
+ghost use Rattle.block_assignment.specs.Held.{AreHeldBytes, HasHeldCosts, IsHeldRefusal};
 ghost use Rattle.block_assignment.specs.Lists.{AreBlocksOf, IsRefusal};
 ghost use Rattle.block_assignment.specs.Table.{IsMatrix, IsTableOf, cost_at};
 ghost use Rattle.block_assignment.specs.declared.limits.TheConstants.MatrixLimits.{BYTES};
 
 use crate::costs::Costs;
 use crate::error::CostError;
+use crate::held_rows::{check_table, costs_by_table};
 use crate::limits::MatrixLimits;
 use lb_certificates::Cuts;
 use std::alloc::{AllocError, Allocator, Global};
@@ -59,6 +62,29 @@ impl<A: Allocator + Copy> CostMatrix<A> {
         let costs = costs_of(alloc, bytes, places, cuts)?;
         Ok(CostMatrix {
             count: (cuts.len() - 1) as u32,
+            costs,
+        })
+    }
+
+    /// The costs by a table alone, whoever added it up. `held` has the bytes of the first block that are on each PE, those
+    /// of the second, and so on, of as many PEs as blocks. Where it is the table of some elements and cuts, and each element
+    /// is on one of these PEs, this is their matrix. The table is walked over three times.
+    ///
+    /// # Errors
+    ///
+    /// The first that applies of [`Unpaired`](CostError::Unpaired), where there is not a number for each block and each PE,
+    /// [`BlockCount`](CostError::BlockCount), [`TooManyBytes`](CostError::TooManyBytes) and
+    /// [`OutOfMemory`](CostError::OutOfMemory).
+    pub fn of_held(alloc: A, held: &[u64], blocks: u32) -> Result<Self, CostError>
+        ensures exact { IfOk result (HasHeldCosts blocks held.now) }
+        ensures matrix { IfOk result (λ matrix. WhereHeld blocks held.now (λ sizes cuts. IsTableOf sizes cuts matrix)) }
+        ensures accepted { OnOk result (AreHeldBytes blocks held.now) }
+        ensures refused { IfErr result (IsHeldRefusal blocks held.now) }
+    {
+        check_table(held, blocks)?;
+        let costs = costs_by_table(alloc, held, blocks)?;
+        Ok(CostMatrix {
+            count: blocks,
             costs,
         })
     }

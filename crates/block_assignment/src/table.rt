@@ -6,7 +6,8 @@ ghost use Rattle.block_assignment.specs.Table.{Table, IsTable, IsTableOf, cost_a
 
 use crate::costs::Costs;
 use chare_index::{Limits, Pe};
-use lb_certificates::{Cuts, Sizes};
+use lb_certificates::Cuts;
+use lb_snapshot::Sizes;
 use std::alloc::{AllocError, Allocator, Global};
 use std::marker::Model;
 

@@ -1,4 +1,4 @@
-ghost use Rattle.std.specs.Prelude.{◌≡◌, sum};
+ghost use Rattle.std.specs.Prelude.{◌≡◌, ◌*◌, ◌^◌, ◌≤◌, length, sum};
 
 use lb_snapshot::Units;
 
@@ -6,9 +6,17 @@ use lb_snapshot::Units;
 pub fn total(loads: &[Units]) -> u128
     ensures value { result ≡ sum loads.now }
 {
+    small_total(loads)
+}
+
+/// The sum of these numbers, and how large it is at most.
+pub(crate) fn small_total(numbers: &[u64]) -> u128
+    ensures value { result ≡ sum numbers.now }
+    ensures small { result ≤ length numbers.now * 2 ^ 64 }
+{
     let mut total = 0;
-    for &units in loads {
-        total += u128::from(units);
+    for &number in numbers {
+        total += u128::from(number);
     }
     total
 }

@@ -1,4 +1,4 @@
-use Rattle.std.proofs.Common.{◌≡◌, ℕ, ◌+◌, ◌^◌, ◌<◌, ◌≤◌, slice_index, arith, ◌∙◌, ap, subst, sym}
+use Rattle.std.proofs.Common.{◌≡◌, ℕ, ◌<◌, ◌≤◌, slice_index, arith, ◌∙◌, ap, subst, sym}
 use Rattle.block_assignment.specs.declared.limits.TheConstants.MatrixLimits.{BYTES}
 use Rattle.block_assignment.specs.Table.{Table, cost_at, greatest}
 use Rattle.block_assignment.specs.Search.{State, IsSized, IsMatched, IsTight}

@@ -1,4 +1,4 @@
-use Rattle.std.proofs.Common.{◌≡◌, ◌≤◌, ℕ, List, IfOk, subst}
+use Rattle.std.proofs.Common.{◌≤◌, ℕ, List, IfOk, subst}
 use Rattle.lb_certificates.specs.Naming.{IsFirstCheapest, IsNaming, Proves, naming_cost}
 use Rattle.block_assignment.specs.Table.{Table, cost_at, greatest, AreWithin}
 use Rattle.block_assignment.proofs.assignment.name_blocks.Goals as goal

@@ -3,7 +3,7 @@ use Rattle.std.specs.List.{zip}
 use Rattle.std.proofs.lemmas.List.{get_or-replicate, take_all}
 use Rattle.lb_certificates.specs.Naming.{moved_bytes}
 use Rattle.lb_certificates.proofs.BlockCosts.{taken_off}
-use Rattle.block_assignment.proofs.ListedRows.{bytes_of_zip, pair_at, zip_counted}
+use Rattle.lb_certificates.proofs.ListedElements.{bytes_of_zip, pair_at, zip_counted}
 use Rattle.block_assignment.proofs.Steps.{taken_there, taken_nowhere}
 use Rattle.block_assignment.proofs.matrix.fill_row.Goals as goal
 use Rattle.block_assignment.proofs.matrix.fill_row.Goals.{then-place-row, else-place-row}

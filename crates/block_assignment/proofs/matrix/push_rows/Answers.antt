@@ -1,9 +1,9 @@
-use Rattle.std.proofs.Common.{◌≡◌, ℕ, ◌+◌, ◌-◌, ◌<◌, ◌≤◌, ◌++◌, List, length, take, drop, slice_index, sum, sum_by, arith, rules, subst, ◌∙◌}
+use Rattle.std.proofs.Common.{◌≡◌, ℕ, ◌+◌, ◌-◌, ◌<◌, ◌≤◌, ◌++◌, List, length, slice_index, sum_by, arith, rules, subst}
 use Rattle.std.specs.List.{zip}
 use Rattle.lb_certificates.specs.Naming.{block_cost, moved_bytes}
-use Rattle.lb_certificates.proofs.Chains.{block_within}
 use Rattle.block_assignment.specs.declared.limits.TheConstants.MatrixLimits.{BLOCKS, BYTES}
-use Rattle.block_assignment.proofs.ListedRows.{bytes_of_zip, cost_in_all, part_of_zip, part_small}
+use Rattle.lb_certificates.proofs.ListedElements.{bytes_of_zip, part_of_zip}
+use Rattle.block_assignment.proofs.ListedRows.{cost_in_all, part_small}
 use Rattle.block_assignment.proofs.Rows.{HasRows, rows_more, table_of_rows, exact_of_rows}
 use Rattle.block_assignment.proofs.matrix.push_rows.Goals as goal
 

@@ -1,5 +1,4 @@
-use Rattle.std.proofs.Common.{◌≡◌, ◌+◌, ◌-◌, ◌*◌, ◌<◌, ◌≤◌, ℕ, List, [], length, take, drop, slice_index_or, arith, ap, sym, ◌∙◌}
-use Rattle.block_assignment.specs.Least.{rows}
+use Rattle.std.proofs.Common.{◌≡◌, ◌+◌, ◌-◌, ◌*◌, ◌<◌, ℕ, List, [], length, take, drop, slice_index_or, arith, ap, sym, ◌∙◌}
 use Rattle.block_assignment.proofs.WordRows.{row_counted, row_inside, row_is, rows_counted}
 use Rattle.block_assignment.proofs.block_set.BlockSets.of.Goals as goal
 

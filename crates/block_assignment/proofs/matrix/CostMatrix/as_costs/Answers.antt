@@ -1,5 +1,5 @@
 use Rattle.std.proofs.Common.{List, ℕ, ap, sym, ◌∙◌, subst}
-use Rattle.block_assignment.specs.Table.{Table, IsMatrix}
+use Rattle.block_assignment.specs.Table.{IsMatrix}
 use Rattle.block_assignment.proofs.matrix.CostMatrix.as_costs.Goals as goal
 
 pub new-requires : goal.new-requires

@@ -1,4 +1,4 @@
-use Rattle.std.proofs.Common.{◌≡◌, ◌<◌, arith, sym, subst}
+use Rattle.std.proofs.Common.{◌≡◌, ◌<◌, sym, subst}
 use Rattle.block_assignment.specs.Table.{Table, cost_at}
 use Rattle.block_assignment.proofs.matrix.CostMatrix.cost.Goals as goal
 

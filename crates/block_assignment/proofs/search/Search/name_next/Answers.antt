@@ -2,7 +2,7 @@ use Rattle.std.proofs.Common.{◌≡◌, ◌<◌, ◌+◌, ◌-◌, ℕ, List, M
 use Rattle.std.proofs.lemmas.List.{length-take, take_all}
 use Rattle.std.proofs.lemmas.Option.{IfSome_then}
 use Rattle.block_assignment.specs.Table.{Table}
-use Rattle.block_assignment.specs.Search.{State, IsNearest, IsUnscanned}
+use Rattle.block_assignment.specs.Search.{IsNearest, IsUnscanned}
 use Rattle.block_assignment.proofs.Prices.{small_from_matched, small_kept}
 use Rattle.block_assignment.proofs.Trees.{not_all_scanned}
 use Rattle.block_assignment.proofs.Unscanned.{IsWithout, one_less_listed, taken_out}

@@ -1,5 +1,5 @@
 use Rattle.std.proofs.Common.{List, ℕ, ap, sym, ◌∙◌, subst}
-use Rattle.block_assignment.specs.Table.{Table, IsMatrix, IsTable}
+use Rattle.block_assignment.specs.Table.{IsMatrix, IsTable}
 use Rattle.block_assignment.proofs.Sums.{matrix_of_table}
 use Rattle.block_assignment.proofs.table.CostTable.as_costs.Goals as goal
 
