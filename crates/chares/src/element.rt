@@ -1,18 +1,20 @@
 //! An element on a PE.
 
-ghost use Rattle.std.specs.Prelude.{◌≡◌, ◌≢◌, ℕ, List, ◌+◌, ◌∷◌, ◌++◌, [], ◌<◌, ◌≤◌, length, false, true, IfOk, IfErr, OnOk, OnErr, Some, None, slice_get, vec_len, vec_capacity};
-ghost use Rattle.chare_index.specs.declared.limits.TheConstants.Limits.{ROUND};
+ghost use Rattle.std.specs.Prelude.{◌≡◌, ◌≢◌, ℕ, List, ◌+◌, ◌∷◌, ◌++◌, [], ◌<◌, ◌≤◌, length, false, true, IfOk, IfErr, IfSome, OnOk, OnErr, Some, None, slice_get, vec_len, vec_capacity};
+ghost use Rattle.chare_index.specs.declared.limits.TheConstants.Limits.{LOAD, ROUND};
 ghost use Rattle.chares.specs.declared.entry.Entry.{Entry};
 ghost use Rattle.chares.specs.declared.sends.SendError.TheVariants.{OutOfMemory};
 ghost use Rattle.chares.specs.Elements.{ElementView, opening_element, sent_by, note_of, ran, MayReturn};
 ghost use Rattle.chares.specs.declared.trace_entry.TraceEntry.{TraceEntry};
+ghost use Rattle.chares.specs.Keeping.{IsLight};
 ghost use Rattle.chares.specs.Posting.{with_execution, with_resumption};
 ghost use Rattle.chares.specs.Progressing.{note_at, synced_mark};
 
 use crate::chare::{Chare, Here};
 use crate::entry::Entry;
+use crate::kept_mark::KeptMark;
 use crate::letter::Letter;
-use crate::note::{Mark, Note};
+use crate::note::Note;
 use crate::progress::{Ending, Progress};
 use crate::sends::{SendError, Sends};
 use crate::state_bytes::StateBytes;
@@ -29,7 +31,7 @@ pub struct Element<C: Chare<A>, A: Allocator = Global> {
     chare: C,
     journal: Vec<Entry<Letter<A>>, A>,
     progress: Progress,
-    marks: Vec<Mark, A>,
+    marks: Vec<KeptMark, A>,
 }
 
 impl<C: Chare<A>, A: Allocator> Model for Element<C, A> {
@@ -97,7 +99,7 @@ impl<C: Chare<A>, A: Allocator> Element<C, A> {
     }
 
     /// Its marks of the rounds that it has seen.
-    pub fn marks(&self) -> &[Mark]
+    pub fn marks(&self) -> &[KeptMark]
         ensures value { result.now ≡ self.now.marks }
     {
         self.marks.as_slice()
@@ -106,7 +108,7 @@ impl<C: Chare<A>, A: Allocator> Element<C, A> {
 
 impl<C: Chare<A>, A: Allocator> Element<C, A> {
     /// All but its chare, which is dropped.
-    pub(crate) fn into_parts(self) -> (Index, Vec<Entry<Letter<A>>, A>, Progress, Vec<Mark, A>)
+    pub(crate) fn into_parts(self) -> (Index, Vec<Entry<Letter<A>>, A>, Progress, Vec<KeptMark, A>)
         ensures index { result.0 ≡ self.index }
         ensures journal { result.1.items ≡ self.journal }
         ensures progress { result.2 ≡ self.progress }
@@ -129,7 +131,7 @@ impl<C: Chare<A>, A: Allocator> Element<C, A> {
         chare: C,
         journal: Vec<Entry<Letter<A>>, A>,
         progress: Progress,
-        marks: Vec<Mark, A>,
+        marks: Vec<KeptMark, A>,
     ) -> Self
         requires before_last_round { progress.round < ROUND }
         ensures value { result ≡ record { index = index; chare = chare; journal = journal.items; progress = progress; marks = marks.items } }
@@ -248,10 +250,11 @@ impl<C: Chare<A>, A: Allocator> Element<C, A> {
         let ending = progress.ending(effect);
         let note = owed(&self.chare, &progress, ending, self.index, pe);
         self.progress = progress.ended(ending);
+        let kept = KeptMark::resumed(round, pe);
         let Ok(()) = self.journal.push(Entry::Resumption(round)) else {
             unreachable!()
         };
-        let Ok(()) = self.marks.push(Mark::Resumed(round, pe)) else {
+        let Ok(()) = self.marks.push(kept) else {
             unreachable!()
         };
         mark(&mut self.marks, &note);
@@ -267,8 +270,10 @@ fn owed<C: Chare<A>, A: Allocator>(
     index: Index,
     pe: Pe,
 ) -> Option<Note>
-    requires { progress.now.round < ROUND }
-    ensures { result ≡ note_at progress.now index (length (C.pack chare.now)) pe ending }
+    requires before_last_round { progress.now.round < ROUND }
+    requires light { progress.now.load ≤ LOAD }
+    ensures value { result ≡ note_at progress.now index (length (C.pack chare.now)) pe ending }
+    ensures light { IfSome result IsLight }
 {
     match ending {
         Ending::Runs => None,
@@ -282,8 +287,9 @@ fn owed<C: Chare<A>, A: Allocator>(
 }
 
 // Adds the mark of a note by which an element waits; any other note leaves no mark.
-fn mark<A: Allocator>(marks: &mut Vec<Mark, A>, note: &Option<Note>)
-    requires { vec_len marks.old < vec_capacity marks.old }
+fn mark<A: Allocator>(marks: &mut Vec<KeptMark, A>, note: &Option<Note>)
+    requires room { vec_len marks.old < vec_capacity marks.old }
+    requires light { IfSome note.now IsLight }
     ensures { marks.new.items ≡ marks.old.items ++ synced_mark note.now }
 {
     let Some(note) = note else {
@@ -292,7 +298,8 @@ fn mark<A: Allocator>(marks: &mut Vec<Mark, A>, note: &Option<Note>)
     if note.is_finish() {
         return;
     }
-    let Ok(()) = marks.push(Mark::Synced(*note)) else {
+    let kept = KeptMark::synced(*note).unwrap();
+    let Ok(()) = marks.push(kept) else {
         unreachable!()
     };
 }

@@ -8,8 +8,8 @@
 //! - [`Packed`]: an element on its way; [`PackedElement`]: one whose bytes are the pack of what its journal
 //!   says.
 //! - [`Carried`] and [`Addressed`]: what goes from PE to PE, and where.
-//! - [`Note`], with [`StateBytes`], and [`Mark`]: what an element reports to the board, and what it keeps of
-//!   that.
+//! - [`Note`], with [`StateBytes`], and [`Mark`], with [`KeptMark`]: what an element reports to the board, and what
+//!   it keeps of that.
 //! - [`TraceEntry`]: what an event adds to the trace of a run.
 #![tactic(auto)]
 
@@ -18,6 +18,7 @@ mod carried;
 mod chare;
 mod element;
 mod entry;
+mod kept_mark;
 mod letter;
 mod note;
 mod packed;
@@ -30,6 +31,7 @@ pub use carried::{Addressed, Carried};
 pub use chare::{Chare, Effect, Here, Openings};
 pub use element::{Element, Unread};
 pub use entry::Entry;
+pub use kept_mark::KeptMark;
 pub use letter::{Letter, LetterId};
 pub use note::{Mark, Note};
 pub use packed::{Packed, PackedElement, Packing};

@@ -7,8 +7,8 @@ ghost use Rattle.chares.specs.Elements.{ElementView, PackedView, packed, unpacke
 use crate::chare::{Chare, Openings};
 use crate::element::Element;
 use crate::entry::Entry;
+use crate::kept_mark::KeptMark;
 use crate::letter::Letter;
-use crate::note::Mark;
 use crate::progress::Progress;
 use chare_index::Index;
 use pup_pack::PupError;
@@ -22,7 +22,7 @@ struct Luggage<A: Allocator> {
     bytes: Vec<u8, A>,
     journal: Vec<Entry<Letter<A>>, A>,
     progress: Progress,
-    marks: Vec<Mark, A>,
+    marks: Vec<KeptMark, A>,
 }
 
 /// An element on its way, with its state packed. It is as small as a pointer, since queues move it. Contracts see it as the
@@ -81,7 +81,7 @@ impl<A: Allocator> Packed<A> {
     }
 
     /// Its marks of the rounds that it has seen.
-    pub fn marks(&self) -> &[Mark]
+    pub fn marks(&self) -> &[KeptMark]
         ensures value { result.now ≡ self.now.marks }
     {
         self.luggage.marks.as_slice()
@@ -196,7 +196,7 @@ impl<C: Chare<A>, H: Openings<C>, A: Allocator> PackedElement<C, H, A> {
     }
 
     /// Its marks of the rounds that it has seen.
-    pub fn marks(&self) -> &[Mark]
+    pub fn marks(&self) -> &[KeptMark]
         ensures value { result.now ≡ self.now.marks }
     {
         self.packed.marks()

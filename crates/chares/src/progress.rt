@@ -1,6 +1,6 @@
 //! How far an element has come, and how the effect of a handler changes that.
 
-ghost use Rattle.std.specs.Prelude.{◌≡◌, ◌<◌, false};
+ghost use Rattle.std.specs.Prelude.{◌≡◌, ◌<◌, ◌≤◌, false};
 ghost use Rattle.chare_index.specs.declared.limits.TheConstants.Limits.{ROUND};
 ghost use Rattle.chares.specs.Progressing.{begun, charged, ending, ended};
 
@@ -64,6 +64,7 @@ impl Progress {
     /// The progress with the units of one more handler added, up to the limit of a load.
     pub fn charged(&self, units: Units) -> Self
         ensures value { result ≡ charged self.now units }
+        ensures light { result.load ≤ Limits.LOAD }
     {
         Progress {
             load: self.load.saturating_add(units).min(Limits::LOAD),

@@ -7,7 +7,7 @@ ghost use Rattle.round_marks.specs.Marked.{AreMarked, AreSynced, IsMeasuredAs, I
 
 use at_sync::Board;
 use chare_index::{Index, Limits, Pe, Round};
-use chares::{Mark, Note};
+use chares::{KeptMark, Mark, Note};
 use lb_snapshot::{Snapshot, Units};
 use std::alloc::Allocator;
 
@@ -25,7 +25,7 @@ pub fn marks_agree<A: Allocator>(
     e: Index,
     home: Pe,
     place: Option<Pe>,
-    marks: &[Mark],
+    marks: &[KeptMark],
 ) -> bool
     ensures agree { IsTrue result ↔ AreMarked board.now e home place marks.now }
 {
@@ -37,15 +37,15 @@ pub fn marks_agree<A: Allocator>(
 }
 
 // Whether element `e` reached AtSync for the rounds as their snapshots say.
-fn are_synced<A: Allocator>(board: &Board<A>, e: Index, marks: &[Mark]) -> bool
+fn are_synced<A: Allocator>(board: &Board<A>, e: Index, marks: &[KeptMark]) -> bool
     ensures { IsTrue result ↔ AreSynced board.now e marks.now }
 {
     let mut reached = 0;
     for mark in marks {
-        let Mark::Synced(note) = mark else {
+        let Mark::Synced(note) = mark.get() else {
             continue;
         };
-        if !is_next_sync(board, e, reached, note) {
+        if !is_next_sync(board, e, reached, &note) {
             return false;
         }
         reached += 1;
@@ -92,7 +92,7 @@ fn is_measured_as<A: Allocator>(
 }
 
 // Whether each mark of a resumption of element `e` is right.
-fn are_resumed<A: Allocator>(board: &Board<A>, e: Index, home: Pe, marks: &[Mark]) -> bool
+fn are_resumed<A: Allocator>(board: &Board<A>, e: Index, home: Pe, marks: &[KeptMark]) -> bool
     requires member { e < elements board.now.database }
     ensures { IsTrue result ↔ All (IsResumptionMark board.now e home) marks.now }
 {
@@ -102,13 +102,13 @@ fn are_resumed<A: Allocator>(board: &Board<A>, e: Index, home: Pe, marks: &[Mark
 }
 
 // Whether this mark is right, if it is of a resumption.
-fn is_resumption_mark<A: Allocator>(board: &Board<A>, e: Index, home: Pe, mark: &Mark) -> bool
+fn is_resumption_mark<A: Allocator>(board: &Board<A>, e: Index, home: Pe, mark: &KeptMark) -> bool
     requires member { e < elements board.now.database }
     ensures { IsTrue result ↔ IsResumptionMark board.now e home mark.now }
 {
-    match mark {
+    match mark.get() {
         Mark::Synced(_) => true,
-        Mark::Resumed(round, pe) => is_resumption(board, e, home, *round, *pe),
+        Mark::Resumed(round, pe) => is_resumption(board, e, home, round, pe),
     }
 }
 
@@ -124,12 +124,12 @@ fn is_resumption<A: Allocator>(board: &Board<A>, e: Index, home: Pe, round: Roun
 }
 
 // Whether each resumption is after a later round than the one before.
-fn resumed_in_order(marks: &[Mark]) -> bool
+fn resumed_in_order(marks: &[KeptMark]) -> bool
     ensures { IsTrue result ↔ IsStrictlyIncreasing (rounds_resumed marks.now) }
 {
     let mut least = 0;
     for mark in marks {
-        let Mark::Resumed(round, _) = mark else {
+        let Mark::Resumed(round, _) = mark.get() else {
             continue;
         };
         if round.get() < least {
@@ -141,11 +141,14 @@ fn resumed_in_order(marks: &[Mark]) -> bool
 }
 
 // Whether an element is where its last mark says, if that is of a resumption.
-fn stands_as_marked(place: Option<Pe>, marks: &[Mark]) -> bool
+fn stands_as_marked(place: Option<Pe>, marks: &[KeptMark]) -> bool
     ensures { IsTrue result ↔ IfSome (slice_get marks.now (length marks.now - 1)) (StandsAsMarked place) }
 {
-    match marks.last() {
-        Some(Mark::Resumed(_, pe)) => place == Some(*pe),
-        _ => true,
+    let Some(last) = marks.last() else {
+        return true;
+    };
+    match last.get() {
+        Mark::Synced(_) => true,
+        Mark::Resumed(_, pe) => place == Some(pe),
     }
 }

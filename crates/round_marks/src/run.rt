@@ -8,7 +8,7 @@ ghost use Rattle.round_marks.specs.Runs.{AreAllMarked, IsMarked, IsMarkedOn, IsM
 use crate::marks::marks_agree;
 use at_sync::Board;
 use chare_index::{Index, Limits, Pe, opening_pe};
-use chares::{Carried, Chare, Element, Mark};
+use chares::{Carried, Chare, Element, KeptMark};
 use pe_state::{HeldParcel, Item, PeEnd};
 use std::alloc::Allocator;
 
@@ -46,7 +46,7 @@ pub fn element_agrees<A: Allocator>(
     board: &Board<A>,
     e: Index,
     place: Option<Pe>,
-    marks: &[Mark],
+    marks: &[KeptMark],
 ) -> bool
     ensures agree { IsTrue result ↔ IsMarked board.now e place marks.now }
 {

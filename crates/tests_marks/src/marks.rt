@@ -5,7 +5,7 @@ use crate::fixtures::{
     assert_for, decide, decided_board, index, new_board, pe, round, state_bytes,
 };
 use at_sync::Board;
-use chares::{Mark, Note};
+use chares::{KeptMark, Note};
 use lb_snapshot::Units;
 use round_marks::{element_agrees, marks_agree};
 use std::process::Abort;
@@ -26,19 +26,19 @@ use Kept::{Finished, Resumed, Synced};
 // What a row shows, the element, the PE in whose room it is, if it is in one, and its marks.
 type Row = (&'static str, u32, Option<u32>, &'static [Kept]);
 
-fn mark(rt: &impl Abort, kept: Kept) -> Mark {
+fn mark(rt: &impl Abort, kept: Kept) -> KeptMark {
     match kept {
         Synced(e, number, load, bytes, at) => {
             let bytes = state_bytes(rt, bytes);
             let note = Note::Sync(index(rt, e), round(rt, number), load, bytes, pe(rt, at));
-            Mark::Synced(note)
+            KeptMark::synced(note).expect(rt, "no such load")
         }
-        Finished(e) => Mark::Synced(Note::Finish(index(rt, e))),
-        Resumed(number, at) => Mark::Resumed(round(rt, number), pe(rt, at)),
+        Finished(e) => KeptMark::synced(Note::Finish(index(rt, e))).expect(rt, "a load"),
+        Resumed(number, at) => KeptMark::resumed(round(rt, number), pe(rt, at)),
     }
 }
 
-fn marks(rt: &(impl Abort + AllocGlobal), kept: &[Kept]) -> Vec<Mark> {
+fn marks(rt: &(impl Abort + AllocGlobal), kept: &[Kept]) -> Vec<KeptMark> {
     let mut marks = Vec::new(rt.alloc());
     for mark_kept in kept {
         let mark = mark(rt, *mark_kept);
@@ -366,7 +366,7 @@ fn no_round_is_to_go_on_after_before_one_is_decided(rt: HostRuntime) {
 fn an_element_starts_at_the_home_that_is_given(rt: HostRuntime) {
     let board = new_board(&rt);
     let (e0, at) = (index(&rt, 0), pe(&rt, 1));
-    let marks = [Mark::Resumed(round(&rt, 0), at)];
+    let marks = [KeptMark::resumed(round(&rt, 0), at)];
     assert!(rt; marks_agree(&board, e0, at, Some(at), &marks));
     assert!(rt; !element_agrees(&board, e0, Some(at), &marks));
 }

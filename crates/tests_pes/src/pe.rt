@@ -5,7 +5,7 @@ ghost use Rattle.std.specs.Prelude.{◌≡◌, ◌∷◌, [], length, slice_get,
 
 use crate::fixtures::{assert_for, index, pe, round, state_bytes};
 use chare_index::NoGate;
-use chares::{Mark, Note, Openings};
+use chares::{KeptMark, Mark, Note, Openings};
 use pe_state::{Acted, Parcel, PeState};
 use std::marker::Brand;
 use std::mem::size_of;
@@ -230,7 +230,10 @@ fn moved<H: Openings<Tally>>(rt: &impl Abort, at: &PeState<Tally, H>, sum: u64, 
         pe(rt, 1),
     );
     let marks = [Mark::Resumed(round(rt, 0), pe(rt, 1)), Mark::Synced(synced)];
-    assert!(rt; element.marks() == marks.as_slice());
+    assert!(rt; element.marks().len() == marks.len());
+    for (kept, mark) in element.marks().iter().zip(marks.iter()) {
+        assert!(rt; kept.get() == *mark);
+    }
 }
 
 // The second letter to element 1 arrives where the element was, and is forwarded behind it.
@@ -328,4 +331,9 @@ fn a_letter_waits_for_its_element_to_arrive(rt: HostRuntime) {
 #[test]
 fn a_parcel_is_small(rt: HostRuntime) {
     assert!(rt; size_of::<Parcel<Tally, Brand>>() <= 64);
+}
+
+#[test]
+fn a_kept_mark_is_small(rt: HostRuntime) {
+    assert!(rt; size_of::<KeptMark>() == 16);
 }

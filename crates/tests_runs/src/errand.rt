@@ -9,7 +9,7 @@ ghost use Rattle.tests_runs.specs.Errands.{RefusesAll, empty_letters};
 
 use chare_index::{Gate, Index, Round};
 use chares::{Chare, Effect, Here, SendError, Sends};
-use lb_certificates::Units;
+use lb_snapshot::Units;
 use pup_pack::{Fields, Pup, PupError};
 use std::alloc::Allocator;
 use std::marker::Model;

@@ -1,7 +1,7 @@
 //! The number and the text of each fault.
 
 use crate::fixtures::assert_for;
-use rts_run::Fault;
+use pe_worker::Fault;
 use std::process::Abort;
 
 // A fault, its number, and its text.

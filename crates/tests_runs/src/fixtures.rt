@@ -4,10 +4,11 @@
 ghost use Rattle.std.specs.Prelude.{◌≡◌, true};
 
 use crate::errand::Errand;
+use at_sync::Strategy;
 use chare_index::{Gate, Index, NoGate, Pe, Round};
 use chares::StateBytes;
 use rts_core::Account;
-use rts_run::{Config, Outcome, Strategy, run};
+use rts_run::{Config, Outcome, run};
 use std::fmt::Debug;
 use std::process::Abort;
 use std::sync::Wait;

@@ -3,7 +3,8 @@
 use crate::errand::Errand;
 use crate::fixtures::{assert_for, patient, run_errands_past};
 use chare_index::Gate;
-use rts_run::{Config, Fault};
+use pe_worker::Fault;
+use rts_run::Config;
 use std::process::Abort;
 use std::sync::Wait;
 use std::sync::atomic::{AtomicU64, Ordering};

@@ -2,7 +2,7 @@
 
 use crate::errand::Errand;
 use crate::fixtures::{assert_for, patient, run_errands};
-use lb_certificates::Units;
+use lb_snapshot::Units;
 use rts_run::Outcome;
 use std::process::Abort;
 use std::sync::Wait;

@@ -2,9 +2,11 @@
 
 use crate::fixtures::assert_for;
 use crate::found::compare;
+use at_sync::Strategy;
 use chare_index::NoGate;
 use chares::Chare;
-use rts_run::{Config, Fault, Outcome, Strategy, run};
+use pe_worker::Fault;
+use rts_run::{Config, Outcome, run};
 use std::alloc::Global;
 use std::process::Abort;
 use std::sync::Wait;

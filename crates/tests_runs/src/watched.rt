@@ -3,7 +3,8 @@
 use crate::fixtures::{assert_for, expect_text, patient};
 use crate::tallies::{EXAMPLE, EXAMPLE_TEXT, tallies, text_of};
 use chare_index::{NoGate, Round};
-use rts_run::{Watch, run_watched};
+use pe_worker::Watch;
+use rts_run::run_watched;
 use std::sync::atomic::{AtomicU64, Ordering};
 
 // Keeps the arguments of the calls for the first two rounds, and counts all calls.

@@ -2,7 +2,7 @@
 
 use crate::fixtures::assert_for;
 use chares::SendError;
-use rts_core::StepError;
+use pe_state::StepError;
 use std::fmt::Display;
 use std::process::Abort;
 

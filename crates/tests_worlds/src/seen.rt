@@ -2,10 +2,12 @@
 
 use chare_index::{Index, Pe, Round};
 use chares::{
-    Carried, Chare, Element, Entry, Letter, LetterId, Mark, Note, Openings, Packed, Progress,
+    Carried, Chare, Element, Entry, KeptMark, Letter, LetterId, Mark, Note, Openings, Packed,
+    Progress,
 };
 use lb_snapshot::Units;
-use rts_core::{HeldParcel, Item, Parcel, PeState, Queue, World};
+use pe_state::{HeldParcel, Item, Parcel, PeState};
+use rts_core::{Queue, World};
 use std::alloc::Allocator;
 use std::process::Abort;
 
@@ -304,8 +306,8 @@ fn add_journal<A: Allocator>(
     }
 }
 
-fn add_marks(rt: &impl Abort, seen: &mut Vec<Seen>, e: Index, marks: &[Mark]) {
+fn add_marks(rt: &impl Abort, seen: &mut Vec<Seen>, e: Index, marks: &[KeptMark]) {
     for mark in marks {
-        add(rt, seen, Seen::Mark(e, *mark));
+        add(rt, seen, Seen::Mark(e, mark.get()));
     }
 }

@@ -6,9 +6,8 @@ use crate::fixtures::assert_for;
 use at_sync::Strategy;
 use chare_index::Pe;
 use chares::{Carried, Chare, Entry, Letter, Openings, TraceEntry};
-use rts_core::{
-    Account, Event, HeldParcel, Parcel, PeState, Queue, Reports, Room, StepError, World,
-};
+use pe_state::{HeldParcel, Parcel, PeState, Room, StepError};
+use rts_core::{Account, Event, Queue, Reports, World};
 use std::alloc::{AllocError, Allocator};
 use std::process::Abort;
 

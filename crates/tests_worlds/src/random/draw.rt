@@ -3,8 +3,9 @@
 use crate::fixtures::{index, pe};
 use chare_index::{Index, Pe, Round};
 use chares::{Chare, Openings};
+use pe_state::PeState;
 use pup_pack::Bytes;
-use rts_core::{Event, PeState, World};
+use rts_core::{Event, World};
 use std::alloc::Allocator;
 use std::process::Abort;
 use tally::Tally;

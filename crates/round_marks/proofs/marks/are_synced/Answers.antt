@@ -1,4 +1,4 @@
-use Rattle.std.proofs.Common.{length, ap, arith}
+use Rattle.std.proofs.Common.{length, ap, sym, ◌∙◌, arith}
 use Rattle.std.proofs.lemmas.Bool.{false≢true, iff_false, le-leb, leb-true}
 use Rattle.round_marks.proofs.Reached.{walked, walked_by}
 use Rattle.round_marks.proofs.marks.are_synced.Goals as goal
@@ -6,7 +6,7 @@ use Rattle.round_marks.proofs.marks.are_synced.Goals as goal
 pub returns-then-not-is_next_sync : goal.returns-then-not-is_next_sync
 returns-then-not-is_next_sync g c = (
   λ t. absurd (false≢true t),
-  λ h. absurd (iff_false c.is_next_sync.ensures.value c.if-not-is_next_sync.true (walked_by c.args.board.now c.args.e c.loop-mark.reached c.loop-mark.mark-index c.args.marks.now c.mark-item.result c.in-Synced.note c.loop-mark-test.true c.mark-item.is c.in-Synced.is c.loop-mark.invariant.same h)),
+  λ h. absurd (iff_false c.is_next_sync.ensures.value c.if-not-is_next_sync.true (walked_by c.args.board.now c.args.e c.loop-mark.reached c.loop-mark.mark-index c.args.marks.now c.mark-item.result c.in-Synced.note c.loop-mark-test.true c.mark-item.is (sym c.get.ensures.value ∙ c.in-Synced.is) c.loop-mark.invariant.same h)),
 )
 
 pub returns : goal.returns

@@ -82,7 +82,7 @@ returns-clause-note g c =
     let logged = where_answered c.log.result _ c.if-is_err-3.ensures.value c.log.ensures.ok in
     let all = c.n.ensures.value ∙ ap (λ p. p.n) logged in
     note_after g.C.Chare.step g.C.Pup.pack _ _ _ _ _ (Letter c.args.letter) _ _ _ _ _ _ c.self.view_is all
-    (record { input_is = ap Letter c.body.ensures.value; state_is = c.in-Ok.ensures.state; effect_is = c.in-Ok.ensures.effect; work_is = c.charged-progress.ensures.value; end_is = c.ending-ending.ensures.value; note_is = c.owed-note.ensures })
+    (record { input_is = ap Letter c.body.ensures.value; state_is = c.in-Ok.ensures.state; effect_is = c.in-Ok.ensures.effect; work_is = c.charged-progress.ensures.value; end_is = c.ending-ending.ensures.value; note_is = c.owed-note.ensures.value })
 
 pub returns-clause-sends : goal.returns-clause-sends
 returns-clause-sends g c =
@@ -97,7 +97,7 @@ returns-clause-element g c =
     let logged = where_answered c.log.result _ c.if-is_err-3.ensures.value c.log.ensures.ok in
     let all = c.n.ensures.value ∙ ap (λ p. p.n) logged in
     element_after g.C.Chare.step g.C.Pup.pack _ _ _ _ _ (Letter c.args.letter) _ _ _ _ _ _ c.self.view_is all
-    (record { input_is = ap Letter c.body.ensures.value; state_is = c.in-Ok.ensures.state; effect_is = c.in-Ok.ensures.effect; work_is = c.charged-progress.ensures.value; end_is = c.ending-ending.ensures.value; note_is = c.owed-note.ensures })
+    (record { input_is = ap Letter c.body.ensures.value; state_is = c.in-Ok.ensures.state; effect_is = c.in-Ok.ensures.effect; work_is = c.charged-progress.ensures.value; end_is = c.ending-ending.ensures.value; note_is = c.owed-note.ensures.value })
     _ _ _
     (c.in-Ok-push.ensures.items ∙ ap (λ v. v ++ Letter c.args.letter ∷ []) c.reserve.ensures.items)
     c.ended-self-inside.ensures.value

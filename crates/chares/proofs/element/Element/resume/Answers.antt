@@ -101,7 +101,7 @@ returns-in-Err-clause-taken_back g c =
 
 pub returns-clause-note : goal.returns-clause-note
 returns-clause-note g c = note_after g.C.Chare.step g.C.Pup.pack _ _ _ _ _ (Resumption c.args.round) _ _ _ _ _ _ c.self.view_is (c.n.ensures.value ∙ ap (λ p. p.n) c.in_ok-log.ensures.ok)
-    (record { input_is = refl; state_is = c.in-Ok.ensures.state; effect_is = c.in-Ok.ensures.effect; work_is = c.charged-progress.ensures.value ∙ ap (λ p. charged p c.in-Ok.effect.units) c.resumed.ensures.value; end_is = c.ending-ending.ensures.value; note_is = c.owed-note.ensures })
+    (record { input_is = refl; state_is = c.in-Ok.ensures.state; effect_is = c.in-Ok.ensures.effect; work_is = c.charged-progress.ensures.value ∙ ap (λ p. charged p c.in-Ok.effect.units) c.resumed.ensures.value; end_is = c.ending-ending.ensures.value; note_is = c.owed-note.ensures.value })
 
 pub returns-clause-sends : goal.returns-clause-sends
 returns-clause-sends g c =
@@ -111,11 +111,11 @@ returns-clause-sends g c =
 pub returns-clause-element : goal.returns-clause-element
 returns-clause-element g c =
     element_after g.C.Chare.step g.C.Pup.pack _ _ _ _ _ (Resumption c.args.round) _ _ _ _ _ _ c.self.view_is (c.n.ensures.value ∙ ap (λ p. p.n) c.in_ok-log.ensures.ok)
-    (record { input_is = refl; state_is = c.in-Ok.ensures.state; effect_is = c.in-Ok.ensures.effect; work_is = c.charged-progress.ensures.value ∙ ap (λ p. charged p c.in-Ok.effect.units) c.resumed.ensures.value; end_is = c.ending-ending.ensures.value; note_is = c.owed-note.ensures })
+    (record { input_is = refl; state_is = c.in-Ok.ensures.state; effect_is = c.in-Ok.ensures.effect; work_is = c.charged-progress.ensures.value ∙ ap (λ p. charged p c.in-Ok.effect.units) c.resumed.ensures.value; end_is = c.ending-ending.ensures.value; note_is = c.owed-note.ensures.value })
     _ _ _
     (c.in-Ok-push.ensures.items ∙ ap (λ v. v ++ Resumption c.args.round ∷ []) c.reserve.ensures.items)
     c.ended-self-inside.ensures.value
-    (c.mark.ensures ∙ ap (λ v. v ++ synced_mark c.owed-note.result) (c.in-Ok-push-2.ensures.items ∙ ap (λ v. v ++ Resumed c.args.round c.args.pe ∷ []) c.reserve-2.ensures.items) ∙ append_assoc c.self.inside.marks.items (Resumed c.args.round c.args.pe ∷ []) (synced_mark c.owed-note.result))
+    (c.mark.ensures ∙ ap (λ v. v ++ synced_mark c.owed-note.result) (c.in-Ok-push-2.ensures.items ∙ ap (λ v. v ++ c.resumed-kept.result ∷ []) c.reserve-2.ensures.items ∙ ap (λ m. c.self.inside.marks.items ++ m ∷ []) c.resumed-kept.ensures.value) ∙ append_assoc c.self.inside.marks.items (Resumed c.args.round c.args.pe ∷ []) (synced_mark c.owed-note.result))
 
 pub invariant_of-self-2 : goal.invariant_of-self-2
 invariant_of-self-2 g c =
