@@ -11,7 +11,7 @@ use crate::seated::{OfRun, RunBeginning, SeatedPe};
 use barrier::{BoardSize, RoundPlaces, RunBoard, RunStrategy};
 use chare_index::{Gate, Index, Limits, Pe, Round};
 use chares::{Chare, Note, Openings, StateBytes};
-use lb_certificates::Units;
+use lb_snapshot::Units;
 use pe_queues::Locations;
 use pe_state::StepError;
 use std::alloc::Allocator;

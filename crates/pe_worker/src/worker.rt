@@ -28,6 +28,9 @@ mod letters;
 /// the board together, under one lock.
 const OWED: usize = 64;
 
+/// How many elements go on in a turn, before the worker sees to anything else.
+const ELEMENTS: usize = 64;
+
 /// How many idle turns in a row a worker spins, before it lets another thread have the processor in each.
 const SPINS: u64 = 64;
 
@@ -298,7 +301,7 @@ impl<C: Chare<A>, H: Openings<C> + RunStrategy, J: RunBeginning<C>, A: Allocator
         }
     }
 
-    // Lets one element go on that is due.
+    // Lets elements go on that are due, as many as a turn may.
     fn go_on<G: Gate, V: Watch, R: Wait>(
         &mut self,
         rt: &R,
@@ -313,6 +316,25 @@ impl<C: Chare<A>, H: Openings<C> + RunStrategy, J: RunBeginning<C>, A: Allocator
         if self.see_round(rt, field).is_err() {
             return Err(Fault::OutOfMemory);
         }
+        for gone_on in 0..ELEMENTS {
+            if !self.go_on_next(gate, watch, field)? {
+                return Ok(gone_on > 0);
+            }
+        }
+        Ok(true)
+    }
+
+    // Lets the element go on that is due next.
+    fn go_on_next<G: Gate, V: Watch>(
+        &mut self,
+        gate: &G,
+        watch: &V,
+        field: &Field<C, H, J, A>,
+    ) -> Result<bool, Fault>
+        ensures same_me { self.new.seated.pe.me ≡ self.old.seated.pe.me }
+        ensures unpacks { IfErr result (λ fault. fault ≢ Unpack) }
+        ensures no_mismatch { IfErr result (λ fault. fault ≢ Mismatch) }
+    {
         let Some(element) = self.agenda.next_due() else {
             return Ok(false);
         };
