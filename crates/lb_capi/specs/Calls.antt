@@ -8,7 +8,7 @@ use Rattle.lb_lists.specs.Runs.{Listed}
 use Rattle.lb_lists.specs.declared.error.RunError.{RunError}
 use Rattle.lb_lists.specs.declared.error.RunError.TheVariants.{BadInput, BadLoad, OutOfMemory}
 use Rattle.lb_lists.specs.declared.error.RefineError.{RefineError}
-use Rattle.lb_lists.specs.declared.error.RefineError.TheVariants.{BadTolerance, Run}
+use Rattle.lb_lists.specs.declared.error.RefineError.TheVariants.{BadTolerance, TooLarge, Run}
 use Rattle.lb_lists.specs.declared.scaling.ScaleError.{ScaleError}
 use Rattle.lb_lists.specs.declared.scaling.ScaleError.TheVariants as Scale
 
@@ -77,6 +77,7 @@ refusal_status BadLoad = negsuc 2
 abbrev pub refine_status : RefineError → ℤ
 refine_status BadTolerance = negsuc 6
 refine_status (Run error) = refusal_status error
+refine_status TooLarge = negsuc 7
 
 -- the status that says why loads were not scaled
 abbrev pub scale_status : ScaleError → ℤ

@@ -1,6 +1,9 @@
 pub mod Certificates
 pub mod EvenShares
+pub mod HeldNames
+pub mod ListedDivisions
 pub mod MergedPeaks
+pub mod NarrowedBounds
 pub mod OrderedWindows
 pub mod PartWeights
 pub mod Parts

@@ -1,7 +1,7 @@
 -- The loads of ranges in a chain that comes part by part.
-use Rattle.std.proofs.Common.{◌≡◌, ◌∙◌, ℕ, ◌+◌, ◌-◌, ◌<◌, ◌≤◌, min, max, inl, inr, List, [], ◌∷◌, ◌++◌, length, slice_index, sum, take, arith, ap, refl, subst}
+use Rattle.std.proofs.Common.{◌≡◌, ◌∙◌, ℕ, ◌+◌, ◌-◌, ◌<◌, ◌≤◌, min, max, inl, inr, List, [], ◌++◌, length, set, slice_index, sum, take, arith, ap, refl, subst}
 use Rattle.std.proofs.lemmas.Bool.{cases_lt}
-use Rattle.std.proofs.lemmas.List.{get_or_append_left, get_or_push, take-append-le, take_all, take_min}
+use Rattle.std.proofs.lemmas.List.{get_or-set_other, get_or-set_same, take-append-le, take_all, take_min}
 use Rattle.lb_snapshot.specs.Measured.{load}
 use Rattle.lb_certificates.specs.declared.division.Division.{Division}
 use Rattle.lb_certificates.specs.declared.division.Floor.{Floor}
@@ -62,13 +62,13 @@ load_named xs x first a b c e weighs one other =
     subst (λ n. x ≡ load xs (c - first) (n - first)) other (subst (λ n. x ≡ load xs (n - first) (b - first)) one weighs)
 
 -- one more number
-pub numbers_more : (f : ℕ → ℕ) (numbers : List ℕ) (n x : ℕ) → length numbers ≡ n → ((b : ℕ) → b < n → slice_index numbers b ≡ f b) → x ≡ f n → (b : ℕ) → b < n + 1 → slice_index (numbers ++ x ∷ []) b ≡ f b
-numbers_more f numbers n x counted so_far last b below =
+pub numbers_set : (f : ℕ → ℕ) (numbers : List ℕ) (n x : ℕ) → n < length numbers → ((b : ℕ) → b < n → slice_index numbers b ≡ f b) → x ≡ f n → (b : ℕ) → b < n + 1 → slice_index (set numbers n x) b ≡ f b
+numbers_set f numbers n x inside so_far last b below =
     elim (cases_lt b n) [
-      | inl earlier ↦ get_or_append_left numbers (x ∷ []) 0 b (omega (arith, counted)) ∙ so_far b earlier
+      | inl earlier ↦ get_or-set_other numbers n b x 0 (omega arith) ∙ so_far b earlier
       | inr latest ↦
           let same : n ≡ b = omega arith in
-          get_or_push numbers x 0 b (counted ∙ same) ∙ last ∙ ap f same
+          subst (λ k. slice_index (set numbers n x) k ≡ f k) same (get_or-set_same numbers n x 0 inside ∙ last)
     ]
 
 -- what holds of the stops holds of a fence's

@@ -3,8 +3,9 @@ use Rattle.std.proofs.Common.{◌≡◌, ◌∙◌, ℕ, ◌+◌, ◌-◌, ◌<�
 use Rattle.std.proofs.lemmas.Bool.{cases_lt}
 use Rattle.std.proofs.lemmas.List.{append-nil, append_assoc, get_or_append_left, get_or-append-add, get_or_push, length-append, length_push}
 use Rattle.lb_snapshot.specs.Measured.{load}
-use Rattle.merged_chains.specs.Merged.{AreRuns}
-use Rattle.merged_chains.specs.Windows.{AreEnds, AreOrdered, EndsRun, IsFirstBehind, IsNextEnd, IsWithin, StartWithin}
+use Rattle.merged_chains.specs.Lists.{AreRunsWithin}
+use Rattle.merged_chains.specs.Merged.{AreRuns, RunOn}
+use Rattle.merged_chains.specs.Windows.{AreEnds, AreOrdered, EndsRun, IsFirstBehind, IsNextEnd, IsWithin, KeepsStarts, StartWithin, WindowBounds}
 use Rattle.merged_chains.proofs.MergedPeaks.{start_rises}
 use Rattle.merged_chains.proofs.Parts.{load_front, load_next}
 
@@ -164,3 +165,9 @@ next_at_last lower upper window element last ordered first before none =
 pub same_ends : (lower upper lower' upper' ends : List ℕ) (first last begin all : ℕ) → lower ≡ lower' → upper ≡ upper' → last ≡ all → begin ≡ all → AreEnds lower upper first last begin ends → AreEnds lower' upper' first all all ends
 same_ends lower upper lower' upper' ends first last begin all lower_is upper_is last_is begin_is h =
     subst (λ list. AreEnds list upper' first all all ends) lower_is (subst (λ list. AreEnds lower list first all all ends) upper_is (subst (λ n. AreEnds lower upper first n all ends) last_is (subst (λ n. AreEnds lower upper first last n ends) begin_is h)))
+
+-- the runs of a part, by other names of the part and its windows
+pub runs_within : (part loads : List ℕ) (first : ℕ) (windows : WindowBounds) (lower upper runs ends : List ℕ) → part ≡ loads → windows ≡ record { lower = lower; upper = upper } → length runs ≡ length ends → RunOn part first runs ends → AreEnds windows.lower windows.upper first (first + length part) (first + length part) ends → KeepsStarts windows.lower windows.upper first (first + length part) ends → AreRunsWithin loads first lower upper runs ends
+runs_within part loads first windows lower upper runs ends part_is windows_are paired run_on ends_at kept =
+    let found : AreRunsWithin part first windows.lower windows.upper runs ends = record { paired = paired; run_on = run_on; ends_at = ends_at; kept = kept } in
+    subst (λ (w : WindowBounds). AreRunsWithin loads first w.lower w.upper runs ends) windows_are (subst (λ l. AreRunsWithin l first windows.lower windows.upper runs ends) part_is found)

@@ -10,6 +10,7 @@ use Rattle.chain_partition.specs.Greedy.{CanFit, IsGreatestEnd, IsGreedy}
 use Rattle.chain_partition.proofs.Ranges.{load_nothing}
 use Rattle.chain_partition.proofs.GreedyCuts.{greedy_full, greedy_inside, greedy_none, greedy_push, greedy_push_last, greedy_short}
 use Rattle.merged_chains.specs.declared.walk.Walk.{Walk}
+use Rattle.merged_chains.specs.Narrowing.{walk_at}
 use Rattle.merged_chains.specs.Walks.{EndsAt, IsWalked, WalksOn}
 use Rattle.merged_chains.proofs.Parts.{load_front, load_join, load_next}
 
@@ -217,6 +218,23 @@ walks_more part blocks old now k d new inside kept walked step i e below =
           let same : k ≡ i = omega arith in
           let here : WalksOn part blocks (get_or old k e) new = subst (λ w. WalksOn part blocks w new) (get_or_default now k d e inside ∙ kept k e (omega arith)) step in
           subst (λ n. WalksOn part blocks (get_or old n e) (get_or (set now k new) n e)) same (subst (λ w. WalksOn part blocks (get_or old k e) w) (sym (get_or-set_same now k new e inside)) here)
+    ]
+
+-- one more of the walks in three lists
+pub lists_more : (part : List ℕ) (blocks : ℕ) (limits closed_old filled_old closed filled : List ℕ) (n : ℕ) (new : Walk) → n < length closed → n < length filled → slice_index closed n ≡ slice_index closed_old n → slice_index filled n ≡ slice_index filled_old n → ((k : ℕ) → k < n → WalksOn part blocks (walk_at limits closed_old filled_old k) (walk_at limits closed filled k)) → WalksOn part blocks (walk_at limits closed filled n) new → (k : ℕ) → k < n + 1 → WalksOn part blocks (walk_at limits closed_old filled_old k) (walk_at limits (set closed n new.closed) (set filled n new.filled) k)
+lists_more part blocks limits closed_old filled_old closed filled n new in_closed in_filled closed_kept filled_kept walked step k below =
+    elim (cases_lt k n) [
+      | inl earlier ↦
+          let one : slice_index (set closed n new.closed) k ≡ slice_index closed k = get_or-set_other closed n k new.closed 0 (omega arith) in
+          let other : slice_index (set filled n new.filled) k ≡ slice_index filled k = get_or-set_other filled n k new.filled 0 (omega arith) in
+          rw (one, other) (walked k earlier)
+      | inr latest ↦
+          let same : n ≡ k = omega arith in
+          let one : slice_index (set closed n new.closed) n ≡ new.closed = get_or-set_same closed n new.closed 0 in_closed in
+          let other : slice_index (set filled n new.filled) n ≡ new.filled = get_or-set_same filled n new.filled 0 in_filled in
+          let begins : WalksOn part blocks (walk_at limits closed_old filled_old n) new = rw (← closed_kept, ← filled_kept) step in
+          let here : WalksOn part blocks (walk_at limits closed_old filled_old n) (walk_at limits (set closed n new.closed) (set filled n new.filled) n) = rw (one, other) (subst (λ limit. WalksOn part blocks (walk_at limits closed_old filled_old n) (record { limit = limit; closed = new.closed; filled = new.filled })) step.limit begins) in
+          subst (λ m. WalksOn part blocks (walk_at limits closed_old filled_old m) (walk_at limits (set closed n new.closed) (set filled n new.filled) m)) same here
     ]
 
 -- a block from the last element on is empty

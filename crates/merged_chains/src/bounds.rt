@@ -3,7 +3,7 @@ ghost use Rattle.lb_certificates.specs.Chain.{IsLeastPeak};
 ghost use Rattle.chain_partition.specs.Search.{Enclose};
 ghost use Rattle.merged_chains.specs.Totals.{IsGreatest};
 
-use lb_certificates::Units;
+use lb_snapshot::Units;
 
 /// Two limits that enclose the least bottleneck, in work units: no limit below `low` can hold all elements, and `high` can.
 #[derive(Clone, Copy, Debug, PartialEq, Eq)]

@@ -1,10 +1,10 @@
-ghost use Rattle.std.specs.Prelude.{ℕ, ◌+◌, ◌<◌, ◌≤◌, ◌^◌, IfOk, length, slice_index};
+ghost use Rattle.std.specs.Prelude.{◌≡◌, ℕ, ◌+◌, ◌<◌, ◌≤◌, ◌^◌, IfOk, length, slice_index};
 ghost use Rattle.merged_chains.specs.Merged.{RunOn};
 ghost use Rattle.merged_chains.specs.Windows.{AreEnds, AreOrdered, IsFirstBehind, IsNextEnd, KeepsStarts};
 
 use crate::windows::Windows;
 use chain_partition::Chain;
-use lb_certificates::Units;
+use lb_snapshot::Units;
 use std::alloc::{AllocError, Allocator, Global};
 
 /// The runs of a part of a chain, in order. The runs of all parts, one part behind the other, are the merged chain; its
@@ -25,13 +25,14 @@ pub struct Runs<A: Allocator = Global> {
 /// # Errors
 ///
 /// Out of memory, where one of the two lists, with a number for each run, was refused.
-pub fn merge<A: Allocator + Copy, B: Allocator, C: Allocator>(
+pub fn merge<A: Allocator + Copy, B: Allocator>(
     alloc: A,
     part: &Chain<'_, B>,
     first: u32,
-    windows: &Windows<C>,
+    windows: &Windows<'_>,
 ) -> Result<Runs<A>, AllocError>
     requires few { first + length part.now < 2 ^ 32 }
+    ensures paired { IfOk result (λ r. length r.loads.items ≡ length r.ends.items) }
     ensures runs { IfOk result (λ r. RunOn part.now first r.loads.items r.ends.items) }
     ensures ends { IfOk result (λ r. AreEnds windows.now.lower windows.now.upper first (first + length part.now) (first + length part.now) r.ends.items) }
     ensures kept { IfOk result (λ r. KeepsStarts windows.now.lower windows.now.upper first (first + length part.now) r.ends.items) }

@@ -1,4 +1,4 @@
-ghost use Rattle.std.specs.Prelude.{◌≡◌, ◌+◌, ◌-◌, ◌≤◌, [], IfOk, vec_len};
+ghost use Rattle.std.specs.Prelude.{◌≡◌, ◌+◌, ◌-◌, ◌≤◌, [], IfOk, length, vec_len};
 ghost use Rattle.lb_snapshot.specs.Measured.{load};
 ghost use Rattle.lb_certificates.specs.Certificate.{MatchFloor};
 ghost use Rattle.merged_chains.specs.Weights.{ArePartWeights, AreRangeLoads};
@@ -65,14 +65,55 @@ fn loads_between<A: Allocator, B: Allocator>(
     ensures counted { IfOk result (λ loads. vec_len loads ≡ pes) }
     ensures weigh { IfOk result (λ loads. AreRangeLoads part.now first pes behind places.now loads.items) }
 {
-    let mut loads = Vec::with_capacity(alloc, pes as usize)?;
+    let mut loads = vec![in alloc; 0; pes as usize]?;
+    write_loads(part, first, places, behind, &mut loads);
+    Ok(loads)
+}
+
+/// Writes the loads that a part has of the blocks between these cuts, one for each entry of the list, as
+/// [`loads_of_ranges`] finds them. It takes no memory.
+pub fn write_block_loads<B: Allocator>(
+    part: &Chain<'_, B>,
+    first: u32,
+    cuts: &[u32],
+    loads: &mut [u64],
+)
+    ensures weigh { AreRangeLoads part.now first (length loads.old) 0 cuts.now loads.new }
+{
+    write_loads(part, first, cuts, 0, loads);
+}
+
+/// Writes the loads that a part has of the ranges between these stops in the same way.
+pub fn write_fence_loads<B: Allocator>(
+    part: &Chain<'_, B>,
+    first: u32,
+    stops: &[u32],
+    loads: &mut [u64],
+)
+    ensures weigh { AreRangeLoads part.now first (length loads.old) 1 stops.now loads.new }
+{
+    write_loads(part, first, stops, 1, loads);
+}
+
+// Writes the loads from each place to `behind` elements behind the next, within a part. A place that the list does not have
+// is 0.
+fn write_loads<B: Allocator>(
+    part: &Chain<'_, B>,
+    first: u32,
+    places: &[u32],
+    behind: u32,
+    loads: &mut [u64],
+)
+    requires few { behind ≤ 1 }
+    ensures same_room { length loads.new ≡ length loads.old }
+    ensures weigh { AreRangeLoads part.now first (length loads.old) behind places.now loads.new }
+{
     let mut begin = u64::from(place_of(places, 0));
-    for b in 0..pes {
-        let end = u64::from(place_of(places, b as usize + 1));
-        loads.push_reserved(load_within(part, first, begin, end + u64::from(behind)));
+    for b in 0..loads.len() {
+        let end = u64::from(place_of(places, b + 1));
+        loads[b] = load_within(part, first, begin, end + u64::from(behind));
         begin = end;
     }
-    Ok(loads)
 }
 
 // What the part has of the elements `begin..end` of the chain.

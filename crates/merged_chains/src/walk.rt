@@ -3,6 +3,7 @@
 ghost use Rattle.std.specs.Prelude.{◌≡◌, ℕ, ◌+◌, ◌-◌, ◌<◌, ◌≤◌, ◌^◌, [], ◌∷◌, IfOk, length, slice_index_or};
 ghost use Rattle.chain_partition.specs.Greedy.{IsGreatestEnd};
 ghost use Rattle.merged_chains.specs.Walks.{EndsAt, IsWalked, WalksOn};
+ghost use Rattle.merged_chains.specs.Narrowing.{walk_at};
 
 use chain_partition::Chain;
 use std::alloc::{AllocError, Allocator, Global};
@@ -81,6 +82,32 @@ pub fn walk_all_on<B: Allocator>(part: &Chain<'_, B>, pes: u32, walks: &mut [Wal
     }
 }
 
+/// Walks on as [`walk_all_on`] does, with walks that are three lists: their limits, the numbers of blocks that they have
+/// closed, and the loads of their open blocks.
+pub fn walk_lists_on<B: Allocator>(
+    part: &Chain<'_, B>,
+    pes: u32,
+    limits: &[u64],
+    closed: &mut [u32],
+    filled: &mut [u64],
+)
+    requires closed { length closed.old ≡ length limits.now }
+    requires filled { length filled.old ≡ length limits.now }
+    ensures walked { (i : ℕ) → i < length limits.now
+        → WalksOn part.now pes (walk_at limits.now closed.old filled.old i) (walk_at limits.now closed.new filled.new i) }
+{
+    for i in 0..limits.len() {
+        let walk = Walk {
+            limit: limits[i],
+            closed: closed[i],
+            filled: filled[i],
+        };
+        let behind = walk_on(part, pes, walk);
+        closed[i] = behind.closed;
+        filled[i] = behind.filled;
+    }
+}
+
 /// Walks on as [`walk_on`] does, and tells the ends of the blocks that the walk closes within the part. The part's first
 /// element is number `first` of the chain.
 ///
@@ -96,6 +123,7 @@ pub fn ends_on<A: Allocator, B: Allocator>(
 ) -> Result<Ends<A>, AllocError>
     requires few { first + length part.now < 2 ^ 32 }
     ensures limit { IfOk result (λ r. r.walk.limit ≡ walk.limit) }
+    ensures counted { IfOk result (λ r. length r.ends.items ≤ pes) }
     ensures walked { IfOk result (λ r. EndsAt part.now pes walk first r.ends.items r.walk) }
 {
     let mut ends = Vec::with_capacity(alloc, pes.saturating_sub(walk.closed) as usize)?;

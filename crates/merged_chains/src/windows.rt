@@ -2,37 +2,35 @@ ghost use Rattle.std.specs.Prelude.{◌≡◌, ◌↔◌, IfSome, IsSome, MatchB
 ghost use Rattle.merged_chains.specs.Windows.{AreOrdered, NoneEmpty, SomeEmpty};
 
 use crate::weights::rises;
-use std::alloc::{Allocator, Global};
 use std::marker::Model;
 
 /// Windows of a chain's elements: each element in one of them begins a run of the merged chain. The first and the last
 /// elements of the windows are the ends of two greedy walks, within a lower and within a higher limit. Contracts see both
 /// lists.
-#[derive(Drop)]
-#[derive_where(Debug)]
-pub struct Windows<A: Allocator = Global> {
-    lower: Vec<u32, A>,
-    upper: Vec<u32, A>,
+#[derive(Debug, Drop)]
+pub struct Windows<'a> {
+    lower: &'a [u32],
+    upper: &'a [u32],
 }
 
-impl<A: Allocator> Model for Windows<A> {
+impl<'a> Model for Windows<'a> {
     ghost use Rattle.merged_chains.specs.Windows.{AreOrdered, WindowBounds};
 
     ghost Value = { WindowBounds };
 
-    ghost view = { λ w. record { lower = w.lower.items; upper = w.upper.items } };
+    ghost view = { λ w. record { lower = w.lower.now; upper = w.upper.now } };
 
-    ghost invariant = { λ w. AreOrdered w.lower.items w.upper.items };
+    ghost invariant = { λ w. AreOrdered w.lower.now w.upper.now };
 }
 
-impl<A: Allocator> Windows<A> {
+impl<'a> Windows<'a> {
     /// The windows from each of these first elements to the last one beside it, both included; none where the lists differ
     /// in length, a window is empty, or a bound is below that of the window before.
-    pub fn new(lower: Vec<u32, A>, upper: Vec<u32, A>) -> Option<Self>
-        ensures made { IfSome result (λ windows. windows ≡ record { lower = lower.items; upper = upper.items }) }
-        ensures when { IsSome result ↔ AreOrdered lower.items upper.items }
+    pub fn new(lower: &'a [u32], upper: &'a [u32]) -> Option<Self>
+        ensures made { IfSome result (λ windows. windows ≡ record { lower = lower.now; upper = upper.now }) }
+        ensures when { IsSome result ↔ AreOrdered lower.now upper.now }
     {
-        if !are_ordered(lower.as_slice(), upper.as_slice()) {
+        if !are_ordered(lower, upper) {
             return None;
         }
         Some(Windows { lower, upper })
@@ -42,7 +40,7 @@ impl<A: Allocator> Windows<A> {
     pub fn lower(&self) -> &[u32]
         ensures value { result.now ≡ self.now.lower }
     {
-        self.lower.as_slice()
+        self.lower
     }
 
     /// The last elements of the windows, in order.
@@ -50,7 +48,7 @@ impl<A: Allocator> Windows<A> {
         ensures value { result.now ≡ self.now.upper }
         ensures ordered { AreOrdered self.now.lower self.now.upper }
     {
-        self.upper.as_slice()
+        self.upper
     }
 }
 

@@ -3,7 +3,7 @@
 ghost use Rattle.std.specs.Prelude.{◌≡◌, true};
 
 use chain_partition::Chain;
-use lb_certificates::Units;
+use lb_snapshot::Units;
 use std::fmt::Debug;
 use std::process::Abort;
 
@@ -37,4 +37,11 @@ pub(crate) fn is_list<T: Copy + PartialEq>(list: Vec<T>, items: &[T]) -> bool {
     let found = list.as_slice() == items;
     drop(list);
     found
+}
+
+/// Adds items to a list.
+pub(crate) fn push_all<T: Copy>(rt: &impl Abort, list: &mut Vec<T>, items: &[T]) {
+    for &item in items {
+        list.push(item).expect(rt, "out of memory");
+    }
 }

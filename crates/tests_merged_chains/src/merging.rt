@@ -1,6 +1,7 @@
 use crate::fixtures::{BLOCKS, PARTS, assert_for, chain, is_list, list};
 use chain_partition::divide_chain;
-use lb_certificates::{Division, Floor, Units};
+use lb_certificates::{Division, Floor};
+use lb_snapshot::Units;
 use merged_chains::{Runs, Windows, bounds_by_totals, merge, unmerge};
 
 // The windows of the greedy ends within 17 and within 26.
@@ -22,7 +23,7 @@ const STARTS: [u32; 9] = [0, 5, 6, 7, 8, 9, 10, 11, 12];
 
 #[test]
 fn each_part_has_its_runs(rt: HostRuntime) {
-    let windows = Windows::new(list(&rt, &LOWER), list(&rt, &UPPER)).expect(&rt, "no windows");
+    let windows = Windows::new(&LOWER, &UPPER).expect(&rt, "no windows");
     for k in 0..3 {
         let (first, units) = PARTS[k];
         let part = chain(&rt, units);
@@ -66,7 +67,7 @@ fn windows_are_in_order(rt: HostRuntime) {
         (&[0, 5], &[0, 4]),
     ];
     for &(lower, upper) in &REFUSED {
-        let windows = Windows::new(list(&rt, lower), list(&rt, upper));
+        let windows = Windows::new(lower, upper);
         assert_for(&rt, windows.is_none(), (lower.len(), upper.len()));
         drop(windows);
     }

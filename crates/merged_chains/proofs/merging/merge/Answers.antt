@@ -1,4 +1,5 @@
-use Rattle.std.proofs.Common.{◌≡◌, ℕ, ◌+◌, ◌++◌, length, arith, length-append}
+use Rattle.std.proofs.Common.{◌≡◌, ℕ, ◌+◌, ◌++◌, length, arith, ap, length-append, refl, sym, ◌∙◌}
+use Rattle.std.proofs.lemmas.List.{length_push}
 use Rattle.merged_chains.specs.Windows.{AreEnds, IsNextEnd}
 use Rattle.merged_chains.proofs.RunsByParts.{ends_more, ends_none, part_more, runs_begin, runs_end, same_ends, starts_kept}
 use Rattle.merged_chains.proofs.merging.merge.Goals as goal
@@ -9,6 +10,7 @@ loop-begin-init g c =
       from = omega arith;
       to = omega arith;
       inside = omega arith;
+      paired = rw (c.new-loads.ensures.items, c.new-ends.ensures.items) refl;
       before = λ k inside. absurd (omega (arith, inside));
       runs = λ before runs starts counted are. rw (c.new-loads.ensures.items, c.new-ends.ensures.items) (runs_begin before c.args.part.now runs starts c.args.first counted are);
       ends = rw c.new-ends.ensures.items (ends_none c.lower-lower.result.now c.upper-upper.result.now c.args.first (c.args.first + c.len.result));
@@ -23,6 +25,7 @@ loop-begin-preserved g c =
       from = omega (arith, old.from, next.ends.0);
       to = next.ends.1;
       inside = c.first_behind-window.ensures.first.inside;
+      paired = rw (c.in_ok-push.ensures.items, c.in_ok-push-2.ensures.items) (length_push c.loop-begin.loads.items c.load-load.result ∙ ap (λ n. n + 1) old.paired ∙ sym (length_push c.loop-begin.ends.items end));
       before = λ k earlier. omega (arith, c.first_behind-window.ensures.first.before k earlier, next.ends.0);
       runs = λ before runs starts counted are. rw (c.in_ok-push.ensures.items, c.in_ok-push-2.ensures.items) (part_more before c.args.part.now runs starts c.loop-begin.loads.items c.loop-begin.ends.items c.args.first c.loop-begin.begin end c.load-load.result counted (old.runs before runs starts counted are) old.from next.ends.0 c.load-load.ensures.value);
       ends = rw c.in_ok-push-2.ensures.items (ends_more c.lower-lower.result.now c.upper-upper.result.now c.loop-begin.ends.items c.args.first (c.args.first + c.len.result) c.loop-begin.begin end old.ends old.from next);

@@ -9,6 +9,7 @@ loop-closed-init g c =
     record {
       inside = omega arith;
       stands = rw c.in_ok-ends.ensures.items (at_begins c.args.part.now c.args.pes c.args.walk c.args.first);
+      counted = omega (arith, c.in_ok-ends.ensures.len);
       room = omega (arith, c.in_ok-ends.ensures.len, c.in_ok-ends.ensures.capacity, c.saturating_sub.ensures);
     }
 
@@ -21,6 +22,7 @@ loop-closed-preserved g c =
     record {
       inside = c.reach-end.ensures.greatest.inside;
       stands = rw c.push_reserved.ensures.items (at_closes c.args.part.now c.args.pes c.args.walk c.args.first c.loop-closed.ends.items c.loop-closed.closed c.loop-closed.begin c.loop-closed.filled c.saturating_sub-in-loop-closed.result c.reach-end.result c.loop-closed.invariant.stands (omega arith) c.reach-end.ensures.onward c.reach-end.ensures.greatest c.saturating_sub-in-loop-closed.ensures (omega arith));
+      counted = omega (arith, c.loop-closed.invariant.counted, c.push_reserved.ensures.len);
       room = omega (arith, c.loop-closed.invariant.room, c.push_reserved.ensures.len, c.push_reserved.ensures.capacity);
     }
 

@@ -1,8 +1,8 @@
-use Rattle.std.proofs.Common.{◌≡◌, ℕ, ◌+◌, ◌-◌, slice_index, arith}
-use Rattle.std.proofs.lemmas.List.{length_push}
+use Rattle.std.proofs.Common.{◌≡◌, ℕ, ◌+◌, ◌-◌, ◌∙◌, slice_index, arith}
+use Rattle.std.proofs.lemmas.List.{length-set}
 use Rattle.lb_snapshot.specs.Measured.{load}
-use Rattle.merged_chains.proofs.PartWeights.{load_named, numbers_more}
-use Rattle.merged_chains.proofs.range_loads.loads_between.Goals as goal
+use Rattle.merged_chains.proofs.PartWeights.{load_named, numbers_set}
+use Rattle.merged_chains.proofs.range_loads.write_loads.Goals as goal
 
 pub loop-b-preserved : goal.loop-b-preserved
 loop-b-preserved g c =
@@ -14,8 +14,6 @@ loop-b-preserved g c =
     let last : c.load_within.result ≡ f c.loop-b.b = load_named part c.load_within.result first c.loop-b.begin (c.from-end.result + c.from.result) (slice_index c.args.places.now c.loop-b.b) (slice_index c.args.places.now (c.loop-b.b + 1) + c.args.behind) c.load_within.ensures.value old.begins end in
     record {
       begins = omega (arith, c.place_of.ensures.value, c.from-end.ensures);
-      counted = rw c.push_reserved.ensures.items (omega (arith, length_push c.loop-b.loads.items c.load_within.result, old.counted));
-      filled = omega (arith, c.push_reserved.ensures.len, old.filled);
-      room = omega (arith, c.push_reserved.ensures.capacity, old.room);
-      weigh = rw c.push_reserved.ensures.items (numbers_more f c.loop-b.loads.items c.loop-b.b c.load_within.result old.counted old.weigh last);
+      same_room = length-set c.loop-b.loads c.loop-b.b c.load_within.result ∙ old.same_room;
+      weigh = numbers_set f c.loop-b.loads c.loop-b.b c.load_within.result (omega (arith, c.loop-b-test.true, old.same_room)) old.weigh last;
     }
