@@ -26,11 +26,12 @@ ghost use Rattle.lb_lists.specs.declared.refined_checking.RefinedFlaw.{RefinedFl
 ghost use Rattle.lb_lists.specs.RefinedRooms.{standing_in, told_in, HasRefinedRoom, IsStandingIn};
 ghost use Rattle.lb_lists.specs.Refinings.{IsRefinedRun};
 ghost use Rattle.lb_lists.specs.Rooms.{claim_in, HasRoom};
-ghost use Rattle.lb_lists.specs.Runs.{sizes_of, AreSmall, IsAsked};
+ghost use Rattle.lb_lists.specs.Runs.{sizes_of, AreSmall, FitsSnapshot, IsAsked};
 ghost use Rattle.lb_lists.specs.Scales.{IsFirstScaleFault, IsMeasured, IsRoomFor, IsScaled};
 ghost use Rattle.lb_lists.specs.declared.scaling.ScaleError.TheVariants.{NotANumber, Negative, Infinite};
 ghost use Rattle.lb_capi.specs.Calls.{claim_of, refine_status, refusal_status, room_of, run_of, refined_claim_of, scale_status, standing_room_of};
 
+mod parts;
 #[cfg(test)]
 mod tests;
 
@@ -42,12 +43,12 @@ use lb_lists::{
 use std::alloc::Global;
 
 // The number of this interface.
-const ABI: u32 = 1;
+const ABI: u32 = 2;
 
 /// The number of this interface. It changes where the arguments of a call or their meaning change.
 #[unsafe(no_mangle)]
 pub extern "C" fn tezgumi_abi() -> u32
-    ensures value { result ≡ 1 }
+    ensures value { result ≡ 2 }
 {
     ABI
 }
@@ -64,8 +65,9 @@ fn status_of(error: RunError) -> i32
 }
 
 /// Plans a run for `pes` PEs, writes the PE on which each element is to run, the bottleneck and the bytes that move, and
-/// returns 0. It returns -1 where the lists are no run, `pes` is not 1 to 256 or there is not one new place for each element;
-/// -3 where only a load is too great; -2 where memory was refused. Then nothing was written.
+/// returns 0. A run has up to 4,294,967,295 elements on 1 to 4,096 PEs, with sizes that add up to at most 2^47 bytes. It
+/// returns -1 where the lists are no run, `pes` is not 1 to 4,096 or there is not one new place for each element; then -3
+/// where the loads add up to 2^63 or more; then -2 where memory was refused. Then nothing was written.
 #[unsafe(no_mangle)]
 pub extern "C" fn tezgumi_plan(
     alloc: Global,
@@ -173,9 +175,10 @@ pub extern "C" fn tezgumi_decide(
 }
 
 /// Checks what somebody claims of a run and `pes` PEs: returns 0 where every part is right, and otherwise the number of its
-/// first flaw. It returns -1 where the lists are no run, or `pes` is not 1 to 256; -3 where only a load is too great; -2 where
-/// memory was refused. A list of the claim may have any length: a wrong length is a flaw of the claim, and of a list that is
-/// too long only as much is copied as shows that it is.
+/// first flaw. The limits of a run are those of [`tezgumi_plan`]. It returns -1 where the lists are no run, or `pes` is not 1
+/// to 4,096; then -3 where the loads add up to 2^63 or more; then -2 where memory was refused. A list of the claim may have
+/// any length: a wrong length is a flaw of the claim, and of a list that is too long only as much is copied as shows that it
+/// is.
 #[unsafe(no_mangle)]
 pub extern "C" fn tezgumi_check(
     alloc: Global,
@@ -235,6 +238,7 @@ fn refine_status_of(error: RefineError) -> i32
     match error {
         RefineError::BadTolerance => -7,
         RefineError::Run(error) => status_of(error),
+        RefineError::TooLarge => -8,
     }
 }
 
@@ -248,11 +252,13 @@ fn flag_of(near: bool) -> u32
 /// Decides for a run and `pes` PEs within a tolerance, in thousandths above the least possible load of the heaviest block. It
 /// writes what [`tezgumi_decide`] does, and in `least` the least possible load, which the stops prove. `least_cuts` are those
 /// of the least division. `near` is 1 where the cuts are near the present ones: of all cuts within the tolerance, in the
-/// present order of the PEs, those that move the fewest bytes. Then `order` and `present` have that order and the present cuts,
-/// and the steps prove that no such cuts move fewer bytes, where their lists have the capacity for all `steps_count` of them.
-/// Where `near` is 0 the decision is the plan, and these lists are left unchanged. It returns -7 where the tolerance is above
-/// 1,000, before all else; otherwise as [`tezgumi_decide`], where also `least_cuts`, `present` and `step_starts` have `pes + 1`
-/// entries, `order` has `pes`, and `step_rises` as many as `step_places`.
+/// present order of the PEs, those that move the fewest bytes. Then `order` and `present` have that order and the present
+/// cuts, and the steps prove that no such cuts move fewer bytes, where their lists have the capacity for all `steps_count` of
+/// them. Where `near` is 0 the decision is the plan, and these lists are left unchanged. It returns -7 where the tolerance is
+/// above 1,000, before all else; otherwise as [`tezgumi_decide`], where also `least_cuts`, `present` and `step_starts` have
+/// `pes + 1` entries, `order` has `pes`, and `step_rises` as many as `step_places`; and -8, after -1 and -3 and before -2,
+/// where the run is too large for a tolerance: more than 65,536 elements, more than 256 PEs before or after, a load of 2^47
+/// or more, or a size above 1,048,576 bytes.
 #[unsafe(no_mangle)]
 pub extern "C" fn tezgumi_refine(
     alloc: Global,
@@ -281,7 +287,7 @@ pub extern "C" fn tezgumi_refine(
     step_rises: &mut [u64],
     steps_count: &mut usize,
 ) -> i32
-    ensures statuses { (result ≡ pos 0) ⊎ (result ≡ negsuc 0) ⊎ (result ≡ negsuc 1) ⊎ (result ≡ negsuc 2) ⊎ (result ≡ negsuc 6) }
+    ensures statuses { (result ≡ pos 0) ⊎ (result ≡ negsuc 0) ⊎ (result ≡ negsuc 1) ⊎ (result ≡ negsuc 2) ⊎ (result ≡ negsuc 6) ⊎ (result ≡ negsuc 7) }
     ensures refined { result ≡ pos 0 → (heights : List (List (ℕ × ℕ)))
         × IsRefinedRun (run_of loads.now bytes.now places.now procs) pes tolerance (near.new == 1)
         (told_in least.new moved.new stops_count.new
@@ -311,6 +317,11 @@ pub extern "C" fn tezgumi_refine(
         ↔ ((tolerance ≤ 1000) × (IsAsked (run_of loads.now bytes.now places.now procs) pes
         × HasRefinedRoom (length loads.now) pes (room_of new_places.old cuts.old stops.old names.old block_prices.old pe_prices.old)
         (standing_room_of least_cuts.old order.old present.old step_starts.old step_places.old step_rises.old)) × ¬ (AreSmall loads.now)) }
+    ensures too_large { result ≡ negsuc 7
+        ↔ ((tolerance ≤ 1000) × (IsAsked (run_of loads.now bytes.now places.now procs) pes
+        × HasRefinedRoom (length loads.now) pes (room_of new_places.old cuts.old stops.old names.old block_prices.old pe_prices.old)
+        (standing_room_of least_cuts.old order.old present.old step_starts.old step_places.old step_rises.old)) × AreSmall loads.now
+        × ¬ (FitsSnapshot (run_of loads.now bytes.now places.now procs) pes)) }
     ensures kept { result ≢ pos 0
         → room_of new_places.new cuts.new stops.new names.new block_prices.new pe_prices.new
         ≡ room_of new_places.old cuts.old stops.old names.old block_prices.old pe_prices.old }
@@ -359,7 +370,8 @@ pub extern "C" fn tezgumi_refine(
 /// Checks what somebody claims to be a decision for a run and `pes` PEs within a tolerance whose cuts are near the present
 /// ones. It returns 0 where every part is right, and otherwise the number of its first flaw, and writes the block, the stop,
 /// the block and the PE, or the block and the place that this flaw names. It returns -7 where the tolerance is above 1,000,
-/// before all else; otherwise as [`tezgumi_check`]. A list of the claim may have any length.
+/// before all else; otherwise as [`tezgumi_check`], and -8, after -1 and -3 and before -2, where the run is too large for a
+/// tolerance, as in [`tezgumi_refine`]. A list of the claim may have any length.
 #[unsafe(no_mangle)]
 pub extern "C" fn tezgumi_check_refined<'a>(
     alloc: Global,
@@ -399,11 +411,14 @@ pub extern "C" fn tezgumi_check_refined<'a>(
         × IsFirstRefinedFlaw (run_of loads.now bytes.now places.now procs) pes tolerance
         (refined_claim_of (claim_of least moved new_places.now cuts.now stops.now names.now block_prices.now pe_prices.now)
         (standing_room_of least_cuts.now order.now present.now step_starts.now step_places.now step_rises.now)) flaw }
-    ensures refusals { (n : ℕ) → result ≡ negsuc n → (n < 3) ⊎ (n ≡ 6) }
+    ensures refusals { (n : ℕ) → result ≡ negsuc n → (n < 3) ⊎ (n ≡ 6) ⊎ (n ≡ 7) }
     ensures tolerance { result ≡ negsuc 6 ↔ (1000 < tolerance) }
     ensures input { result ≡ negsuc 0 ↔ ((tolerance ≤ 1000) × ¬ (IsAsked (run_of loads.now bytes.now places.now procs) pes)) }
     ensures load { result ≡ negsuc 2
         ↔ ((tolerance ≤ 1000) × IsAsked (run_of loads.now bytes.now places.now procs) pes × ¬ (AreSmall loads.now)) }
+    ensures too_large { result ≡ negsuc 7
+        ↔ ((tolerance ≤ 1000) × IsAsked (run_of loads.now bytes.now places.now procs) pes × AreSmall loads.now
+        × ¬ (FitsSnapshot (run_of loads.now bytes.now places.now procs) pes)) }
     ensures kept_right { result ≡ pos 0 → (at_first.new ≡ at_first.old) × (at_second.new ≡ at_second.old) }
     ensures kept_refused { (n : ℕ) → result ≡ negsuc n → (at_first.new ≡ at_first.old) × (at_second.new ≡ at_second.old) }
 {
@@ -453,13 +468,15 @@ fn scale_status_of(error: ScaleError) -> i32
     }
 }
 
-/// Counts measured loads in the finest unit of a power of two in which none is above the limit of a load, each rounded down,
-/// writes the counts and the unit, and returns 0. It returns -1 where there is not one count for each load, or there are more
-/// than 65,536; otherwise, for the first load that is wrong, -4 where it is not a number, -5 where it is below 0 and -6 where
-/// it is infinite. Then nothing was written.
+/// Counts measured loads in the finest unit of a power of two in which none is above the limit, each rounded down, writes the
+/// counts and the unit, and returns 0. The limit is 2^47 - 1 for up to 65,536 loads, and half as great for each time that
+/// there may be twice as many, so that the counts add up to less than 2^63. It returns -1 where there is not one count for
+/// each load, or there are more than 4,294,967,295; otherwise, for the first load that is wrong, -4 where it is not a number,
+/// -5 where it is below 0 and -6 where it is infinite. Then nothing was written.
 #[unsafe(no_mangle)]
 pub extern "C" fn tezgumi_scale(loads: &[f64], scaled: &mut [u64], unit: &mut f64) -> i32
     ensures scaled { result ≡ pos 0 → IsScaled loads.now unit.new scaled.new }
+    ensures small { result ≡ pos 0 → AreSmall scaled.new }
     ensures succeeds { result ≡ pos 0 ↔ (IsRoomFor (length scaled.old) loads.now × All IsMeasured loads.now) }
     ensures input { result ≡ negsuc 0 ↔ ¬ (IsRoomFor (length scaled.old) loads.now) }
     ensures not_a_number { result ≡ negsuc 3 → IsFirstScaleFault loads.now NotANumber }

@@ -54,7 +54,7 @@ fn status_with(alloc: Global, bottleneck: u64, moved: u64, pe_prices: &[i64]) ->
 
 #[test]
 fn the_number_of_the_interface(rt: HostRuntime) {
-    assert!(rt; tezgumi_abi() == 1);
+    assert!(rt; tezgumi_abi() == 2);
 }
 
 #[test]

@@ -1,5 +1,5 @@
 -- The steps of all blocks in one list, block after block.
-use Rattle.std.proofs.Common.{◌≡◌, ℕ, ◌+◌, ◌<◌, ◌≤◌, List, [], ◌∷◌, ◌++◌, length, take, drop, map, ap, refl, sym, arith, ◌∙◌}
+use Rattle.std.proofs.Common.{◌≡◌, ℕ, ◌+◌, ◌<◌, ◌≤◌, List, [], ◌∷◌, ◌++◌, length, take, drop, ap, refl, sym, arith, ◌∙◌}
 use Rattle.std.proofs.lemmas.List.{append_assoc, length-append, length-map, map-append}
 use Rattle.lb_lists.specs.RefinedRooms.{AreStepsIn, StandingLists}
 use Rattle.lb_lists.specs.Steps.{all_steps, first_steps, places_of, rises_of}

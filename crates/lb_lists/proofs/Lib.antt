@@ -1,9 +1,11 @@
 pub mod Blocks
 pub mod Claims
+pub mod ElementNames
 pub mod FirstFlaws
 pub mod FlatSteps
 pub mod Greatest
 pub mod HeightRows
+pub mod LoadLimits
 pub mod NearLeast
 pub mod OnePlan
 pub mod Plans

@@ -3,12 +3,12 @@ use Rattle.std.proofs.Common.{◌≡◌, ℕ, ℤ, List, [], ◌∷◌, length, 
 use Rattle.chain_partition.specs.Chosen.{IsChosen, IsLeastFloor}
 use Rattle.lb_certificates.specs.Certificate.{IsCertified, HoldsFor}
 use Rattle.lb_certificates.specs.Chain.{IsLeastDivision}
-use Rattle.lb_certificates.specs.Naming.{bytes_moved, IsLeastNaming, IsNamed}
+use Rattle.lb_certificates.specs.Naming.{bytes_moved, IsLeastNaming}
 use Rattle.lb_certificates.specs.declared.division.Division.{Division}
 use Rattle.lb_certificates.specs.declared.division.Floor.{Floor}
 use Rattle.lb_certificates.specs.declared.division.Floor.TheVariants.{Zero, Fence}
 use Rattle.lb_certificates.proofs.LeastDivisions.{least_from_certified}
-use Rattle.lb_lists.specs.Claims.{division_of, floor_of, Claimed, IsRightClaim}
+use Rattle.lb_lists.specs.Claims.{division_of, floor_of, Claimed, IsNamedRun, IsRightClaim}
 use Rattle.lb_lists.specs.Places.{ArePlaces}
 use Rattle.lb_lists.specs.Plans.{stops_in, IsPlan}
 use Rattle.lb_lists.specs.Runs.{sizes_of, Listed}
@@ -64,7 +64,7 @@ chosen_written run pes d bottleneck cuts stops chosen bottleneck_is cuts_are sto
     subst (IsChosen run.loads pes) (sym (division_written d bottleneck cuts stops bottleneck_is cuts_are stops_are)) (chosen_by_stops run.loads pes d chosen)
 
 -- a certified division and its names, written down, are a right claim
-pub right_written : {A : Type 0} (run : Listed) (pes : ℕ) (d : Division A) (names : List ℕ) (u v : List ℤ) (n : ℕ) (claim : Claimed) → IsCertified run.loads pes d → IsNamed (sizes_of run) d.cuts names u v → claim.bottleneck ≡ d.bottleneck → claim.moved ≡ bytes_moved (sizes_of run) d.cuts names → n ≡ length run.loads → ArePlaces d.cuts names n claim.new_places → claim.cuts ≡ d.cuts → claim.stops ≡ stops_in d.floor → claim.names ≡ names → claim.block_prices ≡ u → claim.pe_prices ≡ v → IsRightClaim run pes claim
+pub right_written : {A : Type 0} (run : Listed) (pes : ℕ) (d : Division A) (names : List ℕ) (u v : List ℤ) (n : ℕ) (claim : Claimed) → IsCertified run.loads pes d → IsNamedRun (sizes_of run) d.cuts names u v → claim.bottleneck ≡ d.bottleneck → claim.moved ≡ bytes_moved (sizes_of run) d.cuts names → n ≡ length run.loads → ArePlaces d.cuts names n claim.new_places → claim.cuts ≡ d.cuts → claim.stops ≡ stops_in d.floor → claim.names ≡ names → claim.block_prices ≡ u → claim.pe_prices ≡ v → IsRightClaim run pes claim
 right_written run pes d names u v n claim certified named bottleneck moves counted placed cuts stops names_are u_are v_are =
     record {
       division = subst (IsCertified run.loads pes) (sym (division_written d claim.bottleneck claim.cuts claim.stops bottleneck cuts stops)) (certified_by_stops run.loads pes d certified);

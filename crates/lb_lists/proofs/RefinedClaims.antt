@@ -1,6 +1,6 @@
 -- The refinement of a claim is the same whatever holds its lists; the first flaw of a claim, from what the checkers of refinements
 -- and namings answer; and what a right claim implies.
-use Rattle.std.proofs.Common.{◌≡◌, ℕ, ℤ, List, Option, None, Some, inl, inr, length, arith, ap, refl, subst, sym, ◌∙◌}
+use Rattle.std.proofs.Common.{◌≡◌, ℕ, ℤ, List, Option, None, Some, inl, inr, length, arith, subst}
 use Rattle.std.specs.Prelude.{MatchOption}
 use Rattle.lb_certificates.specs.Flaws.{HasNamingFlaw, IsFirst}
 use Rattle.lb_certificates.specs.Naming.{blocks_between, bytes_moved, IsCheapest, IsNamed}
@@ -12,9 +12,8 @@ use Rattle.chain_refinement.specs.Refinement.{IsRefinement}
 use Rattle.chain_refinement.specs.declared.flaw.RefinementFlaw.{RefinementFlaw}
 use Rattle.chain_refinement.specs.declared.flaw.RefinementFlaw.TheVariants.{Least, PeCount, NameCount, NameRange, NameTwice, CutCount, NoDivision, Heavy, HeightCount, HeightStart, Steep, HeightLow}
 use Rattle.chain_refinement.proofs.Bounds.{fewest_from_proved}
-use Rattle.lb_lists.specs.Claims.{right_moved, Claimed, IsFlawTold, IsNamedRight, IsToldRight}
-use Rattle.lb_lists.specs.Places.{ArePlaces}
-use Rattle.lb_lists.specs.RefinedClaims.{claimed_refinement, refinement_of, AreNamesRight, IsBestWithin, IsFirstRefinedFlaw, IsNamesFlaw, IsRefinedRight, IsRightRefined, RefinedClaimed}
+use Rattle.lb_lists.specs.Claims.{right_moved, Claimed, IsFlawTold, IsToldRight}
+use Rattle.lb_lists.specs.RefinedClaims.{claimed_refinement, refinement_of, AreNamesRight, IsBestWithin, IsFirstRefinedFlaw, IsNamedSmall, IsNamesFlaw, IsRightRefined, RefinedClaimed}
 use Rattle.lb_lists.specs.declared.refined_checking.RefinedFlaw.{RefinedFlaw}
 use Rattle.lb_lists.specs.Runs.{sizes_of, IsRun, Listed}
 use Rattle.lb_lists.proofs.Claims.{certified_claimed, flaws_agree}
@@ -79,11 +78,11 @@ in_names run claim sizes cuts names u v flaw parts first =
 -- the first flaw in the bytes and places that a claim states beside right names
 pub in_told : (run : Listed) (claim : Claimed) (sizes : List (ℕ × ℕ)) (cuts names : List ℕ) (u v : List ℤ) (moved count : ℕ) (result : Option Flaw) → AreNamesOf run claim sizes cuts names u v → IsNamed sizes cuts names u v → moved ≡ bytes_moved sizes cuts names → count ≡ length run.loads → MatchOption result (IsToldRight moved count claim) (IsFlawTold moved count claim) → MatchOption result (AreNamesRight run claim) (IsNamesFlaw run claim)
 in_told run claim sizes cuts names u v moved count result parts right moves counted told =
-    let named : IsNamedRight run claim = of_names run claim sizes cuts names u v IsNamed parts right in
+    let named : IsNamedSmall run claim = of_names run claim sizes cuts names u v IsNamed parts right in
     let moved_is : moved ≡ right_moved run claim = of_names run claim sizes cuts names u v (λ s c n x y. moved ≡ bytes_moved s c n) parts moves in
     told_by run claim result named (subst (λ m. MatchOption result (IsToldRight m (length run.loads) claim) (IsFlawTold m (length run.loads) claim)) moved_is (subst (λ n. MatchOption result (IsToldRight moved n claim) (IsFlawTold moved n claim)) counted told))
   where
-    told_by : (run : Listed) (claim : Claimed) (result : Option Flaw) → IsNamedRight run claim → MatchOption result (IsToldRight (right_moved run claim) (length run.loads) claim) (IsFlawTold (right_moved run claim) (length run.loads) claim) → MatchOption result (AreNamesRight run claim) (IsNamesFlaw run claim)
+    told_by : (run : Listed) (claim : Claimed) (result : Option Flaw) → IsNamedSmall run claim → MatchOption result (IsToldRight (right_moved run claim) (length run.loads) claim) (IsFlawTold (right_moved run claim) (length run.loads) claim) → MatchOption result (AreNamesRight run claim) (IsNamesFlaw run claim)
     told_by run claim None named told = record { named = named; moved = told.0; placed = told.1 }
     told_by run claim (Some flaw) named told = inr (named, told)
 

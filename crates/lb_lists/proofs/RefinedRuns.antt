@@ -1,6 +1,5 @@
 -- What is decided within a tolerance, as plain lists.
 use Rattle.std.proofs.Common.{◌≡◌, ℕ, ◌+◌, ◌<◌, ◌≤◌, Bool, List, [], length, arith, ap, refl, subst, sym, ◌∙◌, inl, inr, true, false}
-use Rattle.chain_partition.specs.Chosen.{IsChosen}
 use Rattle.chain_partition.proofs.ChosenOnce.{only_from_chosen}
 use Rattle.lb_certificates.specs.Certificate.{HoldsFor}
 use Rattle.lb_certificates.specs.Naming.{bytes_moved, IsLeastNaming}
@@ -19,7 +18,7 @@ use Rattle.lb_refinement.specs.declared.refined.Refined.TheVariants.{Near, Plann
 use Rattle.lb_lists.specs.Claims.{division_of}
 use Rattle.lb_lists.specs.Plans.{stops_in, IsPlan}
 use Rattle.lb_lists.specs.RefinedRooms.{told_of_kept, told_of_plan, IsStandingIn, IsStandingLeft, StandingLists}
-use Rattle.lb_lists.specs.Refinings.{told_division, IsRefinedRun, IsToldNear, IsToldPlan, IsToldRight, Standing, Told}
+use Rattle.lb_lists.specs.Refinings.{told_division, IsRefinedRun, IsToldNear, IsToldPlan, Standing, Told}
 use Rattle.lb_lists.specs.Runs.{sizes_of, Listed}
 use Rattle.lb_lists.proofs.Plans.{certified_by_stops, chosen_by_stops}
 

@@ -5,10 +5,11 @@ use Rattle.std.proofs.lemmas.Bool.{cases_lt}
 use Rattle.std.proofs.lemmas.List.{length-take, take_all}
 use Rattle.std.specs.Prelude.{MatchOption}
 use Rattle.lb_certificates.specs.Certificate.{HoldsFor, IsCertified, MatchFloor}
-use Rattle.lb_certificates.specs.Flaws.{HasFlaw, HasNamingFlaw, IsFirst, flaw_number}
+use Rattle.lb_certificates.specs.Flaws.{HasFlaw, HasNamingFlawWithin, IsFirst, flaw_number}
 use Rattle.lb_certificates.specs.Naming.{blocks_between}
 use Rattle.lb_certificates.specs.declared.flaw.Flaw.{Flaw}
 use Rattle.lb_certificates.specs.declared.flaw.Flaw.TheVariants.{CutCount, CutStart, CutOrder, CutEnd, Heavy, FenceCount, NameCount, NameRange, NameTwice, PriceCount, PriceHigh, PriceGap}
+use Rattle.lb_lists.specs.declared.limits.TheConstants.RunLimits.{PES}
 use Rattle.lb_lists.specs.Claims.{claimed_division, division_of, floor_of, shortened, Claimed, IsFirstFlaw, IsNamedRight, IsRightClaim}
 use Rattle.lb_lists.specs.Runs.{sizes_of, Listed}
 
@@ -30,7 +31,7 @@ whole xs n m past short = take_all m xs (omega (arith, past, short, length-take 
 still_long : {T : Type 0} (xs : List T) (n m : ℕ) → n < m → n < length xs → length (take m xs) ≢ n
 still_long xs n m past long same = absurd (omega (arith, past, long, same, length-take m xs))
 
--- the flaws of a division as plain lists, and of a naming
+-- the flaws of a division as plain lists
 abbrev DivisionFlaw : List ℕ → ℕ → ℕ → List ℕ → List ℕ → Flaw → Type 0
 DivisionFlaw loads pes bottleneck cuts stops = HasFlaw loads pes (division_of {A = Unit {0}} bottleneck cuts stops)
 
@@ -73,39 +74,43 @@ stops_as_whole loads pes bottleneck cuts stops flaw first = elim (cases_lt (pes 
   | inr short ↦ subst (λ s. IsFirst (DivisionFlaw loads pes bottleneck cuts s) flaw) (take_all (pes + 2) stops (omega (arith, short))) first
 ]
 
+-- the flaws of a naming of the blocks of a run
+abbrev NamesFlaw : List (ℕ × ℕ) → List ℕ → List ℕ → List ℤ → List ℤ → Flaw → Type 0
+NamesFlaw sizes cuts names u v = HasNamingFlawWithin PES sizes cuts names u v
+
 -- names that are too many
-to_name_count : (sizes : List (ℕ × ℕ)) (cuts names others : List ℕ) (u v : List ℤ) → length others ≢ blocks_between cuts → (flaw : Flaw) → flaw_number flaw ≤ 12 → HasNamingFlaw sizes cuts names u v flaw → HasNamingFlaw sizes cuts others u v flaw
+to_name_count : (sizes : List (ℕ × ℕ)) (cuts names others : List ℕ) (u v : List ℤ) → length others ≢ blocks_between cuts → (flaw : Flaw) → flaw_number flaw ≤ 12 → NamesFlaw sizes cuts names u v flaw → NamesFlaw sizes cuts others u v flaw
 to_name_count sizes cuts names others u v wrong NameCount few found = wrong
 to_name_count sizes cuts names others u v wrong NameRange few found = absurd (omega (arith, few))
 to_name_count sizes cuts names others u v wrong NameTwice few found = absurd (omega (arith, few))
 to_name_count sizes cuts names others u v wrong PriceGap few found = absurd (omega (arith, few))
 to_name_count sizes cuts names others u v wrong _ few found = found
 
-names_as_whole : (sizes : List (ℕ × ℕ)) (cuts names : List ℕ) (u v : List ℤ) (pes : ℕ) (flaw : Flaw) → blocks_between cuts ≡ pes → IsFirst (HasNamingFlaw sizes cuts (take (pes + 1) names) u v) flaw → IsFirst (HasNamingFlaw sizes cuts names u v) flaw
+names_as_whole : (sizes : List (ℕ × ℕ)) (cuts names : List ℕ) (u v : List ℤ) (pes : ℕ) (flaw : Flaw) → blocks_between cuts ≡ pes → IsFirst (NamesFlaw sizes cuts (take (pes + 1) names) u v) flaw → IsFirst (NamesFlaw sizes cuts names u v) flaw
 names_as_whole sizes cuts names u v pes flaw blocks first = elim (cases_lt pes (length names)) [
   | inl long ↦
       let short : List ℕ = take (pes + 1) names in
       let wrong : length short ≢ blocks_between cuts = λ same. still_long names pes (pes + 1) (omega arith) long (same ∙ blocks) in
       let also : length names ≢ blocks_between cuts = λ same. absurd (omega (arith, long, same, blocks)) in
-      same_first (HasNamingFlaw sizes cuts short u v) (HasNamingFlaw sizes cuts names u v) NameCount wrong (to_name_count sizes cuts short names u v also) (to_name_count sizes cuts names short u v wrong) flaw first
-  | inr short ↦ subst (λ n. IsFirst (HasNamingFlaw sizes cuts n u v) flaw) (take_all (pes + 1) names (omega (arith, short))) first
+      same_first (NamesFlaw sizes cuts short u v) (NamesFlaw sizes cuts names u v) NameCount wrong (to_name_count sizes cuts short names u v also) (to_name_count sizes cuts names short u v wrong) flaw first
+  | inr short ↦ subst (λ n. IsFirst (NamesFlaw sizes cuts n u v) flaw) (take_all (pes + 1) names (omega (arith, short))) first
 ]
 
 -- prices of blocks or of PEs that are too many
 abbrev AreMiscounted : ℕ → List ℤ → List ℤ → Type 0
 AreMiscounted n u v = (length u ≢ n) ⊎ (length v ≢ n)
 
-to_price_count : (sizes : List (ℕ × ℕ)) (cuts names : List ℕ) (u v w x : List ℤ) → AreMiscounted (blocks_between cuts) w x → (flaw : Flaw) → flaw_number flaw ≤ 15 → HasNamingFlaw sizes cuts names u v flaw → HasNamingFlaw sizes cuts names w x flaw
+to_price_count : (sizes : List (ℕ × ℕ)) (cuts names : List ℕ) (u v w x : List ℤ) → AreMiscounted (blocks_between cuts) w x → (flaw : Flaw) → flaw_number flaw ≤ 15 → NamesFlaw sizes cuts names u v flaw → NamesFlaw sizes cuts names w x flaw
 to_price_count sizes cuts names u v w x wrong PriceCount few found = wrong
 to_price_count sizes cuts names u v w x wrong (PriceHigh b p) few found = absurd (omega (arith, few))
 to_price_count sizes cuts names u v w x wrong PriceGap few found = absurd (omega (arith, few))
 to_price_count sizes cuts names u v w x wrong _ few found = found
 
-miscounted : (sizes : List (ℕ × ℕ)) (cuts names : List ℕ) (u v w x : List ℤ) (flaw : Flaw) → AreMiscounted (blocks_between cuts) u v → AreMiscounted (blocks_between cuts) w x → IsFirst (HasNamingFlaw sizes cuts names u v) flaw → IsFirst (HasNamingFlaw sizes cuts names w x) flaw
+miscounted : (sizes : List (ℕ × ℕ)) (cuts names : List ℕ) (u v w x : List ℤ) (flaw : Flaw) → AreMiscounted (blocks_between cuts) u v → AreMiscounted (blocks_between cuts) w x → IsFirst (NamesFlaw sizes cuts names u v) flaw → IsFirst (NamesFlaw sizes cuts names w x) flaw
 miscounted sizes cuts names u v w x flaw wrong also first =
-    same_first (HasNamingFlaw sizes cuts names u v) (HasNamingFlaw sizes cuts names w x) PriceCount wrong (to_price_count sizes cuts names u v w x also) (to_price_count sizes cuts names w x u v wrong) flaw first
+    same_first (NamesFlaw sizes cuts names u v) (NamesFlaw sizes cuts names w x) PriceCount wrong (to_price_count sizes cuts names u v w x also) (to_price_count sizes cuts names w x u v wrong) flaw first
 
-prices_as_whole : (sizes : List (ℕ × ℕ)) (cuts names : List ℕ) (u v : List ℤ) (pes : ℕ) (flaw : Flaw) → blocks_between cuts ≡ pes → IsFirst (HasNamingFlaw sizes cuts names (take (pes + 1) u) (take (pes + 1) v)) flaw → IsFirst (HasNamingFlaw sizes cuts names u v) flaw
+prices_as_whole : (sizes : List (ℕ × ℕ)) (cuts names : List ℕ) (u v : List ℤ) (pes : ℕ) (flaw : Flaw) → blocks_between cuts ≡ pes → IsFirst (NamesFlaw sizes cuts names (take (pes + 1) u) (take (pes + 1) v)) flaw → IsFirst (NamesFlaw sizes cuts names u v) flaw
 prices_as_whole sizes cuts names u v pes flaw blocks first = elim (cases_lt pes (length u)) [
   | inl long ↦
       let wrong = still_long u pes (pes + 1) (omega arith) long in
@@ -115,8 +120,8 @@ prices_as_whole sizes cuts names u v pes flaw blocks first = elim (cases_lt pes 
         let wrong = still_long v pes (pes + 1) (omega arith) long in
         miscounted sizes cuts names (take (pes + 1) u) (take (pes + 1) v) u v flaw (inr (λ same. wrong (same ∙ blocks))) (inr (λ same. absurd (omega (arith, long, same, blocks)))) first
     | inr short_v ↦
-        let with_u = subst (λ w. IsFirst (HasNamingFlaw sizes cuts names w (take (pes + 1) v)) flaw) (take_all (pes + 1) u (omega (arith, short_u))) first in
-        subst (λ w. IsFirst (HasNamingFlaw sizes cuts names u w) flaw) (take_all (pes + 1) v (omega (arith, short_v))) with_u
+        let with_u = subst (λ w. IsFirst (NamesFlaw sizes cuts names w (take (pes + 1) v)) flaw) (take_all (pes + 1) u (omega (arith, short_u))) first in
+        subst (λ w. IsFirst (NamesFlaw sizes cuts names u w) flaw) (take_all (pes + 1) v (omega (arith, short_v))) with_u
   ]
 ]
 
@@ -151,11 +156,11 @@ same_claim run pes claim certified named =
     let v : take (pes + 1) claim.pe_prices ≡ claim.pe_prices = whole claim.pe_prices pes (pes + 1) (omega arith) (omega (arith, named.proved.pe_prices, blocks)) in
     put_together claim (take (pes + 2) claim.cuts) (take (pes + 2) claim.stops) (take (pes + 1) claim.names) (take (pes + 1) claim.block_prices) (take (pes + 1) claim.pe_prices) (cuts_whole run.loads pes claim certified) (stops_whole run.loads pes claim certified) names u v
 
-naming_as_whole : (run : Listed) (pes : ℕ) (claim : Claimed) (flaw : Flaw) → IsCertified run.loads pes (claimed_division (shortened pes claim)) → IsFirst (HasNamingFlaw (sizes_of run) (take (pes + 2) claim.cuts) (take (pes + 1) claim.names) (take (pes + 1) claim.block_prices) (take (pes + 1) claim.pe_prices)) flaw → IsFirst (HasNamingFlaw (sizes_of run) claim.cuts claim.names claim.block_prices claim.pe_prices) flaw
+naming_as_whole : (run : Listed) (pes : ℕ) (claim : Claimed) (flaw : Flaw) → IsCertified run.loads pes (claimed_division (shortened pes claim)) → IsFirst (NamesFlaw (sizes_of run) (take (pes + 2) claim.cuts) (take (pes + 1) claim.names) (take (pes + 1) claim.block_prices) (take (pes + 1) claim.pe_prices)) flaw → IsFirst (NamesFlaw (sizes_of run) claim.cuts claim.names claim.block_prices claim.pe_prices) flaw
 naming_as_whole run pes claim flaw certified first =
     let cuts = cuts_whole run.loads pes claim certified in
     let blocks : blocks_between claim.cuts ≡ pes = ap blocks_between (sym cuts) ∙ of_blocks run.loads pes claim certified in
-    let with_cuts = subst (λ c. IsFirst (HasNamingFlaw (sizes_of run) c (take (pes + 1) claim.names) (take (pes + 1) claim.block_prices) (take (pes + 1) claim.pe_prices)) flaw) cuts first in
+    let with_cuts = subst (λ c. IsFirst (NamesFlaw (sizes_of run) c (take (pes + 1) claim.names) (take (pes + 1) claim.block_prices) (take (pes + 1) claim.pe_prices)) flaw) cuts first in
     prices_as_whole (sizes_of run) claim.cuts claim.names claim.block_prices claim.pe_prices pes flaw blocks (names_as_whole (sizes_of run) claim.cuts claim.names (take (pes + 1) claim.block_prices) (take (pes + 1) claim.pe_prices) pes flaw blocks with_cuts)
 
 pub whole_claim : (run : Listed) (pes : ℕ) (claim : Claimed) (found : Option Flaw) → MatchOption found (IsRightClaim run pes (shortened pes claim)) (IsFirstFlaw run pes (shortened pes claim)) → MatchOption found (IsRightClaim run pes claim) (IsFirstFlaw run pes claim)

@@ -112,22 +112,20 @@ nothing_wrong (fin true (suc m) e) number above bounded = absurd (above (is_abov
 
 -- ---- the power of a load
 
-pub fits_in : (n d s l j : ℕ) → n ≡ d * 2 ^ s → d < 2 * 2 ^ l → j ≡ l + s - 46 → n / 2 ^ j ≤ 140737488355327
-fits_in n d s l j is above power =
+pub fits_in : (n d s l j w : ℕ) → 1 ≤ w → n ≡ d * 2 ^ s → d < 2 * 2 ^ l → j ≡ l + s - (w - 1) → n / 2 ^ j < 2 ^ w
+fits_in n d s l j w some is above power =
     let whole : 2 * 2 ^ l * 2 ^ s ≡ 2 ^ (1 + (l + s)) = sym (pow-add 2 1 (l + s) ∙ ap (λ p. 2 * p) (pow-add 2 l s) ∙ sym (mul_assoc 2 (2 ^ l) (2 ^ s))) in
     let below : n < 2 ^ (1 + (l + s)) = omega (arith, is, whole, mul-lt-mul_of_pos_right above (pow_pos s)) in
-    let within : 2 ^ (1 + (l + s)) ≤ 2 ^ (47 + j) = pow_mono (omega (arith, power)) in
-    let limit : 2 ^ (47 + j) ≡ 140737488355328 * 2 ^ j = pow-add 2 47 j in
-    let small : n / 2 ^ j < 140737488355328 = (div-lt_iff_lt-mul (pow_pos j)).1 (omega (arith, below, within, limit)) in
-    omega (arith, small)
+    let within : 2 ^ (1 + (l + s)) ≤ 2 ^ (w + j) = pow_mono (omega (arith, power, some)) in
+    let limit : n < 2 ^ w * 2 ^ j = subst (λ m. n < m) (pow-add 2 w j) (omega (arith, below, within)) in
+    (div-lt_iff_lt-mul (pow_pos j)).1 limit
 
-pub passes_below : (n d s l j k : ℕ) → n ≡ d * 2 ^ s → 2 ^ l ≤ d → j ≡ l + s - 46 → k < j → 140737488355327 < n / 2 ^ k
-passes_below n d s l j k is above power less =
+pub passes_below : (n d s l j k w : ℕ) → 1 ≤ w → n ≡ d * 2 ^ s → 2 ^ l ≤ d → j ≡ l + s - (w - 1) → k < j → 2 ^ w ≤ n / 2 ^ k
+passes_below n d s l j k w some is above power less =
     let reached : 2 ^ (l + s) ≤ n = omega (arith, is, pow-add 2 l s, mul-le-mul_right (2 ^ s) above) in
-    let limit : 2 ^ (47 + k) ≡ 140737488355328 * 2 ^ k = pow-add 2 47 k in
-    let within : 2 ^ (47 + k) ≤ 2 ^ (l + s) = pow_mono (omega (arith, power, less)) in
-    let great : 140737488355328 ≤ n / 2 ^ k = (le-div_iff_mul-le (pow_pos k)).1 (omega (arith, reached, within, limit)) in
-    omega (arith, great)
+    let within : 2 ^ (w + k) ≤ 2 ^ (l + s) = pow_mono (omega (arith, power, less)) in
+    let limit : 2 ^ w * 2 ^ k ≤ n = subst (λ m. m ≤ n) (pow-add 2 w k) (omega (arith, reached, within)) in
+    (le-div_iff_mul-le (pow_pos k)).1 limit
 
 -- ---- the test against 0 that a body makes
 
@@ -163,7 +161,7 @@ shifted_up n d s p is more =
     let power : d * 2 ^ s ≡ d * 2 ^ (s - p) * 2 ^ p = ap (λ k. d * 2 ^ k) (omega (arith, more)) ∙ ap (λ q. d * q) (pow-add 2 (s - p) p) ∙ sym (mul_assoc d (2 ^ (s - p)) (2 ^ p)) in
     ap (λ k. k / 2 ^ p) (is ∙ power) ∙ mul-div_cancel (d * 2 ^ (s - p)) (pow_pos p)
 
-pub up_few : (n d s p : ℕ) → n ≡ d * 2 ^ s → p ≤ s → (d ≡ 0 → s ≡ 0) → n / 2 ^ p ≤ 140737488355327 → s - p < 64
+pub up_few : (n d s p : ℕ) → n ≡ d * 2 ^ s → p ≤ s → (d ≡ 0 → s ≡ 0) → n / 2 ^ p < 2 ^ 47 → s - p < 64
 up_few n zero s p is more empty small = omega (arith, empty refl)
 up_few n (suc d) s p is more empty small = elim (cases_lt (s - p) 64) [
   | inl few ↦ few
@@ -173,37 +171,37 @@ up_few n (suc d) s p is more empty small = elim (cases_lt (s - p) 64) [
       absurd (omega (arith, great, times, shifted_up n (suc d) s p is more, small))
 ]
 
-pub up_by : (n d s p : ℕ) → n ≡ d * 2 ^ s → p ≤ s → n / 2 ^ p ≤ 140737488355327 → d * 2 ^ (s - p) % 18446744073709551616 ≡ n / 2 ^ p
+pub up_by : (n d s p : ℕ) → n ≡ d * 2 ^ s → p ≤ s → n / 2 ^ p < 2 ^ 47 → d * 2 ^ (s - p) % 18446744073709551616 ≡ n / 2 ^ p
 up_by n d s p is more small =
     let whole = shifted_up n d s p is more in
     mod-eq_of_lt (omega (arith, whole, small)) ∙ sym whole
 
 -- ---- the power of all loads
 
-pub smaller_in : (n j k : ℕ) → j ≤ k → n / 2 ^ j ≤ 140737488355327 → n / 2 ^ k ≤ 140737488355327
-smaller_in n j k more small =
-    let under : n < 140737488355328 * 2 ^ j = (div-lt_iff_lt-mul (pow_pos j)).0 (omega (arith, small)) in
-    let grown : 140737488355328 * 2 ^ j ≤ 140737488355328 * 2 ^ k = mul-le-mul_left 140737488355328 (pow_mono more) in
-    let still : n / 2 ^ k < 140737488355328 = (div-lt_iff_lt-mul (pow_pos k)).1 (omega (arith, under, grown)) in
+pub smaller_in : (limit n j k : ℕ) → j ≤ k → n / 2 ^ j ≤ limit → n / 2 ^ k ≤ limit
+smaller_in limit n j k more small =
+    let under : n < (limit + 1) * 2 ^ j = (div-lt_iff_lt-mul (pow_pos j)).0 (omega (arith, small)) in
+    let grown : (limit + 1) * 2 ^ j ≤ (limit + 1) * 2 ^ k = mul-le-mul_left (limit + 1) (pow_mono more) in
+    let still : n / 2 ^ k < limit + 1 = (div-lt_iff_lt-mul (pow_pos k)).1 (omega (arith, under, grown)) in
     omega (arith, still)
 
-pub all_smaller : (loads : List Float) (j k : ℕ) → j ≤ k → AreSmallIn j loads → AreSmallIn k loads
-all_smaller loads j k more small i d inside = smaller_in (ticks (slice_index_or loads i d)) j k more (small i d inside)
+pub all_smaller : (limit : ℕ) (loads : List Float) (j k : ℕ) → j ≤ k → AreSmallIn limit j loads → AreSmallIn limit k loads
+all_smaller limit loads j k more small i d inside = smaller_in limit (ticks (slice_index_or loads i d)) j k more (small i d inside)
 
-pub least_of_more : (loads : List Float) (i power needed greatest : ℕ) → i < length loads → greatest ≡ max power needed → ((p : ℕ) → p < power → ¬ (AreSmallIn p (take i loads))) → ((p : ℕ) → p < needed → 140737488355327 < ticks (slice_index_or loads i nan) / 2 ^ p) → (p : ℕ) → p < greatest → ¬ (AreSmallIn p (take (i + 1) loads))
-least_of_more loads i power needed greatest inside is least passes p less small = elim (cases_lt p power) [
+pub least_of_more : (limit : ℕ) (loads : List Float) (i power needed greatest : ℕ) → i < length loads → greatest ≡ max power needed → ((p : ℕ) → p < power → ¬ (AreSmallIn limit p (take i loads))) → ((p : ℕ) → p < needed → limit < ticks (slice_index_or loads i nan) / 2 ^ p) → (p : ℕ) → p < greatest → ¬ (AreSmallIn limit p (take (i + 1) loads))
+least_of_more limit loads i power needed greatest inside is least passes p less small = elim (cases_lt p power) [
   | inl earlier ↦ least p earlier (λ k d within. rest k d within)
   | inr later ↦
-      let this : ticks (slice_index_or (take (i + 1) loads) i nan) / 2 ^ p ≤ 140737488355327 = small i nan (omega (arith, length-take (i + 1) loads, inside)) in
+      let this : ticks (slice_index_or (take (i + 1) loads) i nan) / 2 ^ p ≤ limit = small i nan (omega (arith, length-take (i + 1) loads, inside)) in
       let same : slice_index_or (take (i + 1) loads) i nan ≡ slice_index_or loads i nan = get_or-take (i + 1) loads i nan (omega arith) in
-      absurd (omega (arith, subst (λ x. ticks x / 2 ^ p ≤ 140737488355327) same this, passes p (omega (arith, less, is, later))))
+      absurd (omega (arith, subst (λ x. ticks x / 2 ^ p ≤ limit) same this, passes p (omega (arith, less, is, later))))
 ]
   where
-    rest : (k : ℕ) (d : Float) → k < length (take i loads) → ticks (slice_index_or (take i loads) k d) / 2 ^ p ≤ 140737488355327
+    rest : (k : ℕ) (d : Float) → k < length (take i loads) → ticks (slice_index_or (take i loads) k d) / 2 ^ p ≤ limit
     rest k d within =
         let below : k < i = omega (arith, within, length-take i loads) in
         let same : slice_index_or (take (i + 1) loads) k d ≡ slice_index_or (take i loads) k d = get_or-take (i + 1) loads k d (omega (arith, below)) ∙ sym (get_or-take i loads k d below) in
-        subst (λ x. ticks x / 2 ^ p ≤ 140737488355327) same (small k d (omega (arith, within, length-take (i + 1) loads, inside, below)))
+        subst (λ x. ticks x / 2 ^ p ≤ limit) same (small k d (omega (arith, within, length-take (i + 1) loads, inside, below)))
 
 -- ---- a unit from its bits
 

@@ -2,13 +2,14 @@
 use Rattle.std.specs.Prelude.{◌≡◌, ◌≢◌, ◌⊎◌, ℕ, ◌+◌, List, [], ◌∷◌, length, take, ℤ}
 use Rattle.lb_certificates.specs.Certificate.{IsCertified}
 use Rattle.lb_certificates.specs.Chain.{IsLeastDivision}
-use Rattle.lb_certificates.specs.Flaws.{HasFlaw, HasNamingFlaw, IsFirst}
-use Rattle.lb_certificates.specs.Naming.{bytes_moved, IsCheapest, IsNamed}
+use Rattle.lb_certificates.specs.Flaws.{HasFlaw, HasNamingFlawWithin, IsFirst}
+use Rattle.lb_certificates.specs.Naming.{bytes_moved, IsCheapest, IsNamedWithin}
 use Rattle.lb_certificates.specs.declared.division.Division.{Division}
 use Rattle.lb_certificates.specs.declared.division.Floor.{Floor}
 use Rattle.lb_certificates.specs.declared.division.Floor.TheVariants.{Zero, Fence}
 use Rattle.lb_certificates.specs.declared.flaw.Flaw.{Flaw}
 use Rattle.lb_certificates.specs.declared.flaw.Flaw.TheVariants.{MovedWrong, MovesWrong}
+use Rattle.lb_lists.specs.declared.limits.TheConstants.RunLimits.{PES}
 use Rattle.lb_lists.specs.Places.{ArePlaces}
 use Rattle.lb_lists.specs.Runs.{Listed, sizes_of}
 
@@ -51,9 +52,18 @@ shortened pes claim =
       pe_prices = take (pes + 1) claim.pe_prices;
     }
 
+-- the cuts divide all elements into no more blocks than a run has PEs, the names are a naming of these, and the prices prove it
+abbrev pub IsNamedRun : List (ℕ × ℕ) → List ℕ → List ℕ → List ℤ → List ℤ → Type 0
+IsNamedRun sizes cuts names u v = IsNamedWithin PES sizes cuts names u v
+
 -- the names and prices that are claimed are right
 abbrev pub IsNamedRight : Listed → Claimed → Type 0
-IsNamedRight run claim = IsNamed (sizes_of run) claim.cuts claim.names claim.block_prices claim.pe_prices
+IsNamedRight run claim = IsNamedRun (sizes_of run) claim.cuts claim.names claim.block_prices claim.pe_prices
+
+-- a flaw of the names and prices that are claimed, whatever else is wrong
+abbrev pub HasNamesFlaw : Listed → Claimed → Flaw → Type 0
+HasNamesFlaw run claim flaw =
+    HasNamingFlawWithin PES (sizes_of run) claim.cuts claim.names claim.block_prices claim.pe_prices flaw
 
 -- the bytes that the claimed names move
 abbrev pub right_moved : Listed → Claimed → ℕ
@@ -95,7 +105,7 @@ IsDivisionFlaw run pes claim flaw = IsFirst (HasFlaw run.loads pes (claimed_divi
 -- the first flaw of the names and prices, of a certified division
 abbrev pub IsNamingFlaw : Listed → ℕ → Claimed → Flaw → Type 0
 IsNamingFlaw run pes claim flaw =
-    IsCertified run.loads pes (claimed_division claim) × IsFirst (HasNamingFlaw (sizes_of run) claim.cuts claim.names claim.block_prices claim.pe_prices) flaw
+    IsCertified run.loads pes (claimed_division claim) × IsFirst (HasNamesFlaw run claim) flaw
 
 -- a wrong number of bytes moved, where the division and the names are right
 abbrev pub IsMovedFlaw : Listed → ℕ → Claimed → Flaw → Type 0

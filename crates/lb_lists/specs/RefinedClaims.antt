@@ -1,15 +1,15 @@
 -- What somebody claims to be a decision within a tolerance, when the claim is right, and what is the first flaw of one that
 -- is not.
-use Rattle.std.specs.Prelude.{◌≡◌, ◌≢◌, ◌⊎◌, ℕ, List, length}
+use Rattle.std.specs.Prelude.{◌≡◌, ◌⊎◌, ℕ, List, length}
 use Rattle.lb_certificates.specs.Chain.{IsLeastDivision}
 use Rattle.lb_certificates.specs.Flaws.{flaw_number, flaw_place, HasNamingFlaw, IsFirst}
-use Rattle.lb_certificates.specs.Naming.{IsCheapest}
+use Rattle.lb_certificates.specs.Naming.{IsCheapest, IsNamed}
 use Rattle.lb_certificates.specs.declared.flaw.Flaw.{Flaw}
 use Rattle.chain_refinement.specs.Flaws.{refinement_flaw_number, refinement_flaw_place, HasRefinementFlaw, IsFirstRefinementFlaw}
 use Rattle.chain_refinement.specs.Refinement.{AreFewest, IsRefinement}
 use Rattle.chain_refinement.specs.Tolerances.{limit_of}
 use Rattle.chain_refinement.specs.declared.refinement.Refinement.{Refinement}
-use Rattle.lb_lists.specs.Claims.{division_of, right_moved, Claimed, IsFlawTold, IsNamedRight, IsPlacedRight}
+use Rattle.lb_lists.specs.Claims.{division_of, right_moved, Claimed, IsFlawTold, IsPlacedRight}
 use Rattle.lb_lists.specs.Runs.{sizes_of, Listed}
 use Rattle.lb_lists.specs.Steps.{heights_in}
 use Rattle.lb_lists.specs.declared.refined_checking.RefinedFlaw.{RefinedFlaw}
@@ -46,9 +46,14 @@ abbrev pub IsRefinedRight : Listed → ℕ → ℕ → RefinedClaimed → Type 0
 IsRefinedRight run pes thousandths claim =
     IsRefinement run.loads (sizes_of run) pes (claimed_refinement thousandths claim)
 
+-- the names of no more blocks than a snapshot has PEs are right, and their prices
+abbrev pub IsNamedSmall : Listed → Claimed → Type 0
+IsNamedSmall run claim =
+    IsNamed (sizes_of run) claim.cuts claim.names claim.block_prices claim.pe_prices
+
 -- the names, the prices, the bytes and the places are right
 pub record AreNamesRight (run : Listed) (claim : Claimed) : Type 0 where
-  pub named : IsNamedRight run claim
+  pub named : IsNamedSmall run claim
   pub moved : claim.moved ≡ right_moved run claim
   pub placed : IsPlacedRight run claim
 
@@ -71,7 +76,7 @@ pub record IsBestWithin (run : Listed) (pes thousandths : ℕ) (claim : RefinedC
 abbrev pub IsNamesFlaw : Listed → Claimed → Flaw → Type 0
 IsNamesFlaw run claim flaw =
     IsFirst (HasNamingFlaw (sizes_of run) claim.cuts claim.names claim.block_prices claim.pe_prices) flaw
-    ⊎ (IsNamedRight run claim × IsFlawTold (right_moved run claim) (length run.loads) claim flaw)
+    ⊎ (IsNamedSmall run claim × IsFlawTold (right_moved run claim) (length run.loads) claim flaw)
 
 -- the first flaw of a claim that is not right: of its refinement, or where that is right of the decision
 abbrev pub IsFirstRefinedFlaw : Listed → ℕ → ℕ → RefinedClaimed → RefinedFlaw → Type 0

@@ -1,5 +1,5 @@
 -- A decision within a tolerance as plain lists.
-use Rattle.std.specs.Prelude.{◌≡◌, ◌⊎◌, Bool, true, false, ℕ, ◌<◌, ◌≤◌, List, length, ℤ}
+use Rattle.std.specs.Prelude.{◌≡◌, ◌⊎◌, Bool, true, false, ℕ, ◌<◌, ◌≤◌, List, ℤ}
 use Rattle.chain_partition.specs.Chosen.{IsChosen}
 use Rattle.lb_certificates.specs.Certificate.{IsCertified}
 use Rattle.lb_certificates.specs.Naming.{bytes_moved, IsLeastNaming, IsNamed}

@@ -1,8 +1,8 @@
 -- Loads that were measured as binary64 numbers, counted in whole units.
-use Rattle.std.specs.Prelude.{◌≡◌, ◌⊎◌, ℕ, ◌*◌, ◌/◌, ◌^◌, ◌<◌, ◌≤◌, List, length, map, take, All, true, false, slice_index_or}
+use Rattle.std.specs.Prelude.{◌≡◌, ◌⊎◌, ℕ, zero, suc, ◌+◌, ◌-◌, ◌*◌, ◌/◌, ◌^◌, ◌<◌, ◌≤◌, nat_le, if◌then◌else◌, List, length, map, take, All, true, false, slice_index_or}
 use Rattle.std.specs.Float.{Float, nan, inf, fin, float_zero}
 use lib.Ieee.{up, down}
-use Rattle.chare_index.specs.declared.limits.TheConstants.Limits.{ELEMENTS, LOAD}
+use Rattle.lb_lists.specs.declared.limits.TheConstants.RunLimits.{ELEMENTS}
 use Rattle.lb_lists.specs.declared.scaling.ScaleError.{ScaleError}
 use Rattle.lb_lists.specs.declared.scaling.ScaleError.TheVariants.{BadInput, NotANumber, Negative, Infinite}
 
@@ -50,9 +50,21 @@ in_ticks loads = map ticks loads
 abbrev pub counts : ℕ → List Float → List ℕ
 counts power loads = map (λ load. ticks load / 2 ^ power) loads
 
--- none of them is above the limit of a load
-abbrev pub AreSmallIn : ℕ → List Float → Type 0
-AreSmallIn power loads = All (λ load. ticks load / 2 ^ power ≤ LOAD) loads
+-- none of these numbers of units is above a limit
+abbrev pub AreSmallIn : ℕ → ℕ → List Float → Type 0
+AreSmallIn limit power loads = All (λ load. ticks load / 2 ^ power ≤ limit) loads
+
+-- the least number k, from `first` to `more` above it, for which 2^k is not below n
+abbrev pub least_power : ℕ → ℕ → ℕ → ℕ
+least_power zero first n = first
+least_power (suc more) first n =
+    if nat_le n (2 ^ first) then first else least_power more (first + 1) n
+
+-- The limit of each of n scaled loads, by which they add up to less than 2^63: it is the greatest number of 63 - k bits,
+-- where k is the least number from 16 on for which 2^k is not below n. So of up to 65,536 loads it is that of a snapshot's
+-- load.
+abbrev pub load_limit : ℕ → ℕ
+load_limit n = 2 ^ (63 - least_power 16 16 n) - 1
 
 -- The unit is a power of two, and the loads are counted in it, rounded down: none of these counts is above the limit, and
 -- in no finer unit would that be so.
@@ -61,5 +73,5 @@ pub record IsScaled (loads : List Float) (unit : Float) (scaled : List ℕ) : Ty
   pub measured : IsMeasured unit
   pub unit_is : ticks unit ≡ 2 ^ power
   pub counted : scaled ≡ counts power loads
-  pub small : AreSmallIn power loads
-  pub finest : (other : ℕ) → other < power → ¬ (AreSmallIn other loads)
+  pub small : AreSmallIn (load_limit (length loads)) power loads
+  pub finest : (other : ℕ) → other < power → ¬ (AreSmallIn (load_limit (length loads)) other loads)

@@ -1,19 +1,17 @@
-ghost use Rattle.std.specs.Prelude.{◌≡◌, ◌<◌, ◌≤◌, None, IfOk, OnOk, IfErr, MatchBool, MatchOption, length};
+ghost use Rattle.std.specs.Prelude.{◌≡◌, ◌<◌, ◌≤◌, None, IfOk, OnOk, IfErr, MatchBool, MatchOption, length, vec_len};
 ghost use Rattle.lb_certificates.specs.Chain.{IsDivision};
 ghost use Rattle.lb_certificates.specs.Flaws.{flaw_number};
 ghost use Rattle.lb_certificates.specs.Naming.{blocks_between};
 ghost use Rattle.lb_lists.specs.Claims.{division_of, floor_of, IsBest, IsFirstFlaw, IsFlawTold, IsRightClaim, IsToldRight};
 ghost use Rattle.lb_lists.specs.Places.{ArePlaces};
-ghost use Rattle.lb_lists.specs.Runs.{sizes_of, AreSmall, IsAsked, IsRefusal, Listed};
+ghost use Rattle.lb_lists.specs.Runs.{AreSmall, IsAsked, IsRefusal};
 
 use crate::claim::{Claim, shorten};
 use crate::error::RunError;
-use crate::measured::{Measured, measure};
 use crate::places::are_places;
-use crate::run::Run;
-use chare_index::Limits;
+use crate::run::{Run, are_small, is_asked};
 use lb_certificates::{
-    Cuts, Division, Flaw, Floor, Naming, PriceList, Prices, Stops, check_division, check_naming,
+    Cuts, Division, Flaw, Floor, Naming, PriceList, Prices, Stops, check_chain, check_naming_of,
 };
 use std::alloc::{AllocError, Allocator};
 
@@ -55,27 +53,35 @@ pub(crate) fn prices_from<A: Allocator + Copy>(
     })
 }
 
-// The lists of a claim, in the form that the checkers take.
+// The lists of a claim, in the form that the checkers take, and room for what one block costs on each PE.
 #[derive(Drop)]
 struct Parts<A: Allocator> {
     division: Division<A>,
     naming: Naming<A>,
     prices: Prices<A>,
+    costs: Vec<u64, A>,
 }
 
-// The lists of this claim.
-fn parts_of<A: Allocator + Copy>(alloc: A, claim: &Claim<'_>) -> Result<Parts<A>, AllocError>
+// The lists of this claim for `pes` PEs.
+fn parts_of<A: Allocator + Copy>(
+    alloc: A,
+    claim: &Claim<'_>,
+    pes: u32,
+) -> Result<Parts<A>, AllocError>
     ensures division { IfOk result (λ p. p.division ≡ division_of claim.now.bottleneck claim.now.cuts claim.now.stops) }
     ensures naming { IfOk result (λ p. p.naming ≡ claim.now.names) }
     ensures block_prices { IfOk result (λ p. p.prices.u ≡ claim.now.block_prices) }
     ensures pe_prices { IfOk result (λ p. p.prices.v ≡ claim.now.pe_prices) }
+    ensures costs { IfOk result (λ p. vec_len p.costs ≡ pes) }
 {
     let division = division_from(alloc, claim)?;
     let naming = Naming::new(Vec::from_slice(alloc, claim.names)?);
+    let prices = prices_from(alloc, claim)?;
     Ok(Parts {
         division,
         naming,
-        prices: prices_from(alloc, claim)?,
+        prices,
+        costs: vec![in alloc; 0u64; pes as usize]?,
     })
 }
 
@@ -83,7 +89,6 @@ fn parts_of<A: Allocator + Copy>(alloc: A, claim: &Claim<'_>) -> Result<Parts<A>
 fn is_placed(count: usize, claim: &Claim<'_>) -> bool
     requires some_block { 0 < blocks_between claim.now.cuts }
     requires divides { IsDivision 0 count (blocks_between claim.now.cuts) claim.now.cuts }
-    requires few { count ≤ Limits.ELEMENTS }
     requires named { length claim.now.names ≡ blocks_between claim.now.cuts }
     ensures { MatchBool result (ArePlaces claim.now.cuts claim.now.names count claim.now.new_places)
         (¬ (ArePlaces claim.now.cuts claim.now.names count claim.now.new_places)) }
@@ -98,7 +103,6 @@ fn is_placed(count: usize, claim: &Claim<'_>) -> bool
 pub(crate) fn flaw_told(moved: u64, count: usize, claim: &Claim<'_>) -> Option<Flaw>
     requires some_block { 0 < blocks_between claim.now.cuts }
     requires divides { IsDivision 0 count (blocks_between claim.now.cuts) claim.now.cuts }
-    requires few { count ≤ Limits.ELEMENTS }
     requires named { length claim.now.names ≡ blocks_between claim.now.cuts }
     ensures { MatchOption result (IsToldRight moved count claim.now) (IsFlawTold moved count claim.now) }
 {
@@ -113,31 +117,33 @@ pub(crate) fn flaw_told(moved: u64, count: usize, claim: &Claim<'_>) -> Option<F
 
 // The first flaw of a claim with these parts.
 fn first_flaw<A: Allocator>(
-    measured: &Measured<A>,
+    run: &Run<'_>,
     pes: u32,
     claim: &Claim<'_>,
-    parts: &Parts<A>,
+    parts: &mut Parts<A>,
 ) -> Option<Flaw>
-    requires division { parts.now.division ≡ division_of claim.now.bottleneck claim.now.cuts claim.now.stops }
-    requires naming { parts.now.naming ≡ claim.now.names }
-    requires block_prices { parts.now.prices.u ≡ claim.now.block_prices }
-    requires pe_prices { parts.now.prices.v ≡ claim.now.pe_prices }
-    ensures { (run : Listed) → measured.now.loads ≡ run.loads → measured.now.sizes ≡ sizes_of run
-        → MatchOption result (IsRightClaim run pes claim.now) (IsFirstFlaw run pes claim.now) }
+    requires run { IsAsked run.now pes }
+    requires division { parts.old.division ≡ division_of claim.now.bottleneck claim.now.cuts claim.now.stops }
+    requires naming { parts.old.naming ≡ claim.now.names }
+    requires block_prices { parts.old.prices.u ≡ claim.now.block_prices }
+    requires pe_prices { parts.old.prices.v ≡ claim.now.pe_prices }
+    requires costs { vec_len parts.old.costs ≡ pes }
+    ensures { MatchOption result (IsRightClaim run.now pes claim.now) (IsFirstFlaw run.now pes claim.now) }
 {
-    let loads = &measured.loads;
     let division = &parts.division;
-    if let Err(flaw) = check_division(loads, pes, division) {
+    if let Err(flaw) = check_chain(run.loads, pes, division) {
         return Some(flaw);
     }
-    match check_naming(
-        &measured.sizes,
+    match check_naming_of(
+        run.bytes,
+        run.places,
         &division.cuts,
         &parts.naming,
         &parts.prices,
+        &mut parts.costs,
     ) {
         Err(flaw) => Some(flaw),
-        Ok(moved) => flaw_told(moved, loads.len(), claim),
+        Ok(moved) => flaw_told(moved, run.loads.len(), claim),
     }
 }
 
@@ -147,13 +153,12 @@ fn first_flaw<A: Allocator>(
 /// element the name of its block.
 ///
 /// Any claim may be passed. Its flaws are looked for in the order of [`Flaw`], where [`MovesWrong`](Flaw::MovesWrong) means a
-/// wrong place. Of a list that is too long, only as much is copied as shows that it is.
+/// wrong place. The run's lists and the places are only read, and of a certificate's list that is too long only as much is
+/// copied as shows that it is.
 ///
 /// # Errors
 ///
-/// [`BadInput`](RunError::BadInput) where the lists describe no run, or `pes` is not 1 to
-/// [`Limits::PES`](chare_index::Limits::PES); [`BadLoad`](RunError::BadLoad) where a load is too great;
-/// [`OutOfMemory`](RunError::OutOfMemory) where memory was refused.
+/// As [`plan_run`](crate::plan_run).
 pub fn check_claim<A: Allocator + Copy>(
     alloc: A,
     run: &Run<'_>,
@@ -166,17 +171,18 @@ pub fn check_claim<A: Allocator + Copy>(
     ensures small { OnOk result (AreSmall run.now.loads) }
     ensures refused { IfErr result (IsRefusal (IsAsked run.now pes) (AreSmall run.now.loads)) }
 {
-    let measured = match measure(alloc, run, pes) {
-        Ok(measured) => measured,
-        Err(refused) => return Err(refused),
-    };
+    if !is_asked(run, pes) {
+        return Err(RunError::BadInput);
+    }
+    if !are_small(run.loads) {
+        return Err(RunError::BadLoad);
+    }
     let short = shorten(claim, pes);
-    let Ok(parts) = parts_of(alloc, &short) else {
+    let Ok(mut parts) = parts_of(alloc, &short, pes) else {
         return Err(RunError::OutOfMemory);
     };
-    let flaw = first_flaw(&measured, pes, &short, &parts);
+    let flaw = first_flaw(run, pes, &short, &mut parts);
     drop(parts);
-    drop(measured);
     Ok(flaw)
 }
 

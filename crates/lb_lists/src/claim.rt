@@ -1,6 +1,6 @@
 ghost use Rattle.std.specs.Prelude.{◌≡◌, ◌≤◌, take};
 ghost use Rattle.lb_lists.specs.Claims.{shortened};
-ghost use Rattle.chare_index.specs.declared.limits.TheConstants.Limits.{PES};
+ghost use Rattle.lb_lists.specs.declared.limits.TheConstants.RunLimits.{PES};
 
 use std::marker::Model;
 

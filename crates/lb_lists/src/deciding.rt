@@ -10,10 +10,9 @@ ghost use Rattle.lb_lists.specs.Rooms.{claim_in, lists_in, HasListsOf, HasRoom};
 ghost use Rattle.lb_lists.specs.Runs.{sizes_of, AreSmall, IsAsked, IsRefusal};
 
 use crate::error::RunError;
-use crate::plan::{Plan, decide};
+use crate::plan::{Plan, plan_run};
 use crate::planning::{Planned, write_plan};
 use crate::run::Run;
-use chare_index::Limits;
 use lb_certificates::Floor;
 use std::alloc::Allocator;
 
@@ -80,7 +79,6 @@ pub(crate) fn has_room(room: &Room<'_>, elements: usize, pes: u32) -> bool
 pub(crate) fn write_decision<A: Allocator>(plan: &Plan<A>, room: &mut Room<'_>) -> Decided
     requires divides { IsDivision 0 (length room.old.new_places.now) (blocks_between plan.now.division.cuts) plan.now.division.cuts }
     requires some_block { 0 < blocks_between plan.now.division.cuts }
-    requires few { length room.old.new_places.now ≤ Limits.ELEMENTS }
     requires cuts { length room.old.cuts.now ≡ length plan.now.division.cuts }
     requires stops { length (stops_in plan.now.division.floor) ≤ length room.old.stops.now }
     requires names { length room.old.names.now ≡ length plan.now.naming }
@@ -140,7 +138,7 @@ pub fn decide_into<A: Allocator + Copy>(
     if !has_room(room, run.loads.len(), pes) {
         return Err(RunError::BadInput);
     }
-    let plan = match decide(alloc, run, pes) {
+    let plan = match plan_run(alloc, run, pes) {
         Ok(plan) => plan,
         Err(refused) => return Err(refused),
     };

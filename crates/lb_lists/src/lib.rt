@@ -1,14 +1,15 @@
-//! The planner and its checker over plain slices, for callers that hold no [`Snapshot`](lb_certificates::Snapshot). The C
+//! The planner and its checker over plain slices, for callers that hold no [`Snapshot`](lb_snapshot::Snapshot). The C
 //! interface calls it, and a program in Rattle may.
 //!
-//! - [`Run`]: the elements of a run, as lists.
-//! - [`plan_run`]: decides; [`plan_into`] writes the place of each element, and [`decide_into`] the whole decision, into a
-//!   [`Room`] of the caller.
-//! - [`refine_run`]: decides within a tolerance; [`refine_into`] writes the decision into a [`Room`] and a [`StandingRoom`],
-//!   or returns a [`RefineError`].
+//! - [`Run`]: the elements of a run, as lists, within the [`RunLimits`]. The lists are read where they are: none is copied, but
+//!   for a tolerance.
+//! - [`plan_run`]: decides, as a [`Plan`]; [`plan_into`] writes the place of each element, and [`decide_into`] the whole
+//!   decision, into a [`Room`] of the caller.
+//! - [`refine_run`]: decides within a tolerance, for a run within the limits of a snapshot; [`refine_into`] writes the decision
+//!   into a [`Room`] and a [`StandingRoom`], or returns a [`RefineError`].
 //! - [`check_claim`]: whether a [`Claim`] is right, whoever made it, or its first flaw; [`number_of`]: the number of a flaw.
-//! - [`check_refined`]: whether a [`RefinedClaim`] of a decision within a tolerance is right, or its first [`RefinedFlaw`], with
-//!   its [number](number_of_refined) and its [place](place_of_refined).
+//! - [`check_refined`]: whether a [`RefinedClaim`] of a decision within a tolerance is right, or its first [`RefinedFlaw`],
+//!   with its [number](number_of_refined) and its [place](place_of_refined).
 //! - [`scale_loads`]: loads in seconds as whole numbers, or a [`ScaleError`].
 //! - [`RunError`]: why a run was not planned, or a claim not checked.
 //! - [`one_plan`]: the law that a run has one plan; [`near_least`]: the law that a plan of scaled loads is nearly least.
@@ -35,7 +36,7 @@ mod claim;
 mod deciding;
 mod error;
 mod laws;
-mod measured;
+mod limits;
 mod places;
 mod plan;
 mod planning;
@@ -45,6 +46,7 @@ mod refined_writing;
 mod refining;
 mod run;
 mod scaling;
+mod snapshot;
 mod steps;
 
 pub use checking::{check_claim, number_of};
@@ -52,7 +54,9 @@ pub use claim::Claim;
 pub use deciding::{Decided, Room, decide_into};
 pub use error::{RefineError, RunError};
 pub use laws::{near_least, one_plan};
-pub use planning::{Planned, plan_into, plan_run};
+pub use limits::RunLimits;
+pub use plan::{Plan, plan_run};
+pub use planning::{Planned, plan_into};
 pub use refined_checking::{RefinedFlaw, check_refined, number_of_refined, place_of_refined};
 pub use refined_claim::RefinedClaim;
 pub use refining::{RefinedNumbers, StandingRoom, refine_into, refine_run};

@@ -5,13 +5,10 @@ ghost use Rattle.lb_certificates.specs.Chain.{IsDivision};
 ghost use Rattle.lb_certificates.specs.Naming.{blocks_between};
 ghost use Rattle.lb_lists.specs.Places.{ArePlaces};
 
-use chare_index::Limits;
-
 /// Writes the name of each element's block.
 pub(crate) fn write_places(cuts: &[u32], names: &[u32], new_places: &mut [u32])
     requires divides { IsDivision 0 (length new_places.old) (blocks_between cuts.now) cuts.now }
     requires some_block { 0 < blocks_between cuts.now }
-    requires few { length new_places.old ≤ Limits.ELEMENTS }
     requires named { length names.now ≡ blocks_between cuts.now }
     ensures placed { ArePlaces cuts.now names.now (length new_places.old) new_places.new }
 {
@@ -24,7 +21,6 @@ pub(crate) fn write_places(cuts: &[u32], names: &[u32], new_places: &mut [u32])
 pub(crate) fn are_places(cuts: &[u32], names: &[u32], new_places: &[u32]) -> bool
     requires divides { IsDivision 0 (length new_places.now) (blocks_between cuts.now) cuts.now }
     requires some_block { 0 < blocks_between cuts.now }
-    requires few { length new_places.now ≤ Limits.ELEMENTS }
     requires named { length names.now ≡ blocks_between cuts.now }
     ensures { MatchBool result (ArePlaces cuts.now names.now (length new_places.now) new_places.now)
         (¬ (ArePlaces cuts.now names.now (length new_places.now) new_places.now)) }

@@ -7,16 +7,17 @@ ghost use Rattle.chain_refinement.specs.Flaws.{refinement_flaw_number, refinemen
 ghost use Rattle.lb_lists.specs.Claims.{division_of};
 ghost use Rattle.lb_lists.specs.RefinedClaims.{refined_flaw_number, refined_flaw_place, refinement_of, AreNamesRight, IsBestWithin};
 ghost use Rattle.lb_lists.specs.RefinedClaims.{IsFirstRefinedFlaw, IsNamesFlaw, IsRightRefined};
-ghost use Rattle.lb_lists.specs.Runs.{sizes_of, AreSmall, IsAsked, IsRefineRefusal, Listed};
+ghost use Rattle.lb_lists.specs.Runs.{sizes_of, AreSmall, FitsSnapshot, IsAsked, IsRefineRefusal, Listed};
 ghost use Rattle.lb_lists.specs.Steps.{heights_in};
 
 use crate::checking::{flaw_told, floor_from, number_of, prices_from};
 use crate::error::{RefineError, RunError};
-use crate::planning::snapshot_of;
 use crate::refined_claim::RefinedClaim;
 use crate::run::Run;
+use crate::snapshot::snapshot_of;
 use chain_refinement::{Heights, Refinement, RefinementFlaw, Steps, Tolerance, check_refinement};
-use lb_certificates::{Cuts, Division, Flaw, Naming, Prices, Snapshot, check_naming};
+use lb_certificates::{Cuts, Division, Flaw, Naming, Prices, check_naming};
+use lb_snapshot::Snapshot;
 use std::alloc::{AllocError, Allocator};
 
 /// What is wrong with a claim of a decision within a tolerance.
@@ -189,7 +190,7 @@ fn first_refined_flaw<A: Allocator>(
 /// # Errors
 ///
 /// [`BadTolerance`](RefineError::BadTolerance) where it is above [`Tolerance::MOST`]; then as
-/// [`check_claim`](crate::check_claim).
+/// [`refine_run`](crate::refine_run).
 pub fn check_refined<A: Allocator + Copy>(
     alloc: A,
     run: &Run<'_>,
@@ -202,14 +203,15 @@ pub fn check_refined<A: Allocator + Copy>(
     ensures small_tolerance { OnOk result (thousandths ≤ 1000) }
     ensures asked { OnOk result (IsAsked run.now pes) }
     ensures small { OnOk result (AreSmall run.now.loads) }
-    ensures refused { IfErr result (IsRefineRefusal thousandths (IsAsked run.now pes) (AreSmall run.now.loads)) }
+    ensures fits { OnOk result (FitsSnapshot run.now pes) }
+    ensures refused { IfErr result (IsRefineRefusal thousandths (IsAsked run.now pes) (AreSmall run.now.loads) (FitsSnapshot run.now pes)) }
 {
     let Some(tolerance) = Tolerance::new(thousandths) else {
         return Err(RefineError::BadTolerance);
     };
     let snapshot = match snapshot_of(alloc, run, pes) {
         Ok(snapshot) => snapshot,
-        Err(refused) => return Err(RefineError::Run(refused)),
+        Err(refused) => return Err(refused),
     };
     let Ok(parts) = refined_parts(alloc, tolerance, claim) else {
         return Err(RefineError::Run(RunError::OutOfMemory));

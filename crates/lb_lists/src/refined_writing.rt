@@ -14,7 +14,6 @@ use crate::plan::Plan;
 use crate::refining::{RefinedNumbers, StandingRoom};
 use crate::steps::FlatSteps;
 use chain_refinement::Refinement;
-use chare_index::Limits;
 use lb_certificates::Division;
 use lb_refinement::Kept;
 use lb_strategy::Decision;
@@ -28,7 +27,6 @@ pub(crate) fn write_planned<A: Allocator>(
 ) -> RefinedNumbers
     requires divides { IsDivision 0 (length room.old.new_places.now) (blocks_between decision.division.cuts) decision.division.cuts }
     requires some_block { 0 < blocks_between decision.division.cuts }
-    requires few { length room.old.new_places.now ≤ Limits.ELEMENTS }
     requires cuts { length room.old.cuts.now ≡ length decision.division.cuts }
     requires stops { length (stops_in decision.division.floor) ≤ length room.old.stops.now }
     requires names { length room.old.names.now ≡ length decision.naming }
@@ -98,7 +96,6 @@ pub(crate) fn write_near<A: Allocator>(
 ) -> RefinedNumbers
     requires divides { IsDivision 0 (length room.old.new_places.now) (blocks_between kept.refinement.cuts) kept.refinement.cuts }
     requires some_block { 0 < blocks_between kept.refinement.cuts }
-    requires few { length room.old.new_places.now ≤ Limits.ELEMENTS }
     requires cuts { length room.old.cuts.now ≡ length kept.refinement.cuts }
     requires stops { length (stops_in kept.refinement.least.floor) ≤ length room.old.stops.now }
     requires names { length room.old.names.now ≡ length kept.naming }

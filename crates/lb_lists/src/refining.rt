@@ -15,13 +15,13 @@ ghost use Rattle.lb_lists.specs.Places.{ArePlaces};
 ghost use Rattle.lb_lists.specs.RefinedRooms.{standing_in, standing_lists_in, told_in, HasRefinedRoom, HasStandingListsOf, HasStandingRoom, IsStandingIn};
 ghost use Rattle.lb_lists.specs.Rooms.{lists_in, HasListsOf};
 ghost use Rattle.lb_lists.specs.Refinings.{IsRefinedRun};
-ghost use Rattle.lb_lists.specs.Runs.{sizes_of, AreSmall, IsAsked, IsRefineRefusal, IsRefusal};
+ghost use Rattle.lb_lists.specs.Runs.{sizes_of, AreSmall, FitsSnapshot, IsAsked, IsRefineRefusal, IsSnapshotRefusal};
 
 use crate::deciding::{Room, has_room};
 use crate::error::{RefineError, RunError};
-use crate::planning::snapshot_of;
 use crate::refined_writing::{write_near, write_planned};
 use crate::run::Run;
+use crate::snapshot::snapshot_of;
 use crate::steps::flat_steps;
 use chain_refinement::Tolerance;
 use lb_refinement::{Refined, refine};
@@ -62,17 +62,19 @@ pub struct RefinedNumbers {
     pub steps: usize,
 }
 
-/// Decides on which of `pes` PEs each element of a run continues, within a tolerance, as [`refine`] does.
+/// Decides on which of `pes` PEs each element of a run continues, within a tolerance, as [`refine`] does. Its search keeps
+/// tables of elements by PEs, so the run has to be within the limits of a snapshot.
 ///
 /// # Errors
 ///
-/// As [`plan_run`](crate::plan_run).
+/// As [`plan_run`](crate::plan_run), and before memory is asked for [`TooLarge`](RefineError::TooLarge) where the run is past
+/// these limits. [`BadTolerance`](RefineError::BadTolerance) is never returned.
 pub fn refine_run<A: Allocator + Copy>(
     alloc: A,
     run: &Run<'_>,
     pes: u32,
     tolerance: Tolerance,
-) -> Result<Refined<A>, RunError>
+) -> Result<Refined<A>, RefineError>
     ensures refined { IfOk result (IsRefined run.now.loads (sizes_of run.now) pes tolerance) }
     ensures blocks { IfOk result (λ r. IsDivision 0 (length run.now.loads) pes (refined_cuts r)) }
     ensures naming { IfOk result (λ r. IsNaming pes (refined_names r)) }
@@ -85,7 +87,8 @@ pub fn refine_run<A: Allocator + Copy>(
     ensures bounded { IfOk result (ArePricesSmall (sizes_of run.now)) }
     ensures asked { OnOk result (IsAsked run.now pes) }
     ensures small { OnOk result (AreSmall run.now.loads) }
-    ensures refused { IfErr result (IsRefusal (IsAsked run.now pes) (AreSmall run.now.loads)) }
+    ensures fits { OnOk result (FitsSnapshot run.now pes) }
+    ensures refused { IfErr result (IsSnapshotRefusal (IsAsked run.now pes) (AreSmall run.now.loads) (FitsSnapshot run.now pes)) }
 {
     let snapshot = match snapshot_of(alloc, run, pes) {
         Ok(snapshot) => snapshot,
@@ -95,7 +98,7 @@ pub fn refine_run<A: Allocator + Copy>(
     drop(snapshot);
     match refined {
         Ok(refined) => Ok(refined),
-        Err(_) => Err(RunError::OutOfMemory),
+        Err(_) => Err(RefineError::Run(RunError::OutOfMemory)),
     }
 }
 
@@ -154,9 +157,10 @@ pub fn refine_into<A: Allocator + Copy>(
     ensures small_tolerance { OnOk result (thousandths ≤ 1000) }
     ensures asked { OnOk result (IsAsked run.now pes × HasRefinedRoom (length run.now.loads) pes (lists_in room.old) (standing_lists_in standing.old)) }
     ensures small { OnOk result (AreSmall run.now.loads) }
+    ensures fits { OnOk result (FitsSnapshot run.now pes) }
     ensures refused { IfErr result (IsRefineRefusal thousandths
         (IsAsked run.now pes × HasRefinedRoom (length run.now.loads) pes (lists_in room.old) (standing_lists_in standing.old))
-        (AreSmall run.now.loads)) }
+        (AreSmall run.now.loads) (FitsSnapshot run.now pes)) }
     ensures kept { OnErr result (lists_in room.new ≡ lists_in room.old) }
     ensures standing_kept { OnErr result (standing_lists_in standing.new ≡ standing_lists_in standing.old) }
 {
@@ -168,7 +172,7 @@ pub fn refine_into<A: Allocator + Copy>(
     }
     let refined = match refine_run(alloc, run, pes, tolerance) {
         Ok(refined) => refined,
-        Err(refused) => return Err(RefineError::Run(refused)),
+        Err(refused) => return Err(refused),
     };
     match refined {
         Refined::Planned(decision) => Ok(write_planned(decision, room, standing)),

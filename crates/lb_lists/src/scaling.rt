@@ -2,17 +2,18 @@
 
 ghost use Rattle.std.specs.Prelude.{◌≡◌, ◌≢◌, ◌⊎◌, ◌<◌, ◌≤◌, ◌+◌, ◌-◌, ◌*◌, ◌/◌, ◌^◌, ◌↔◌, ℕ, All, IfOk, IfErr, OnOk, OnErr, MatchOption, length, max, take, from_bits};
 ghost use Rattle.std.specs.Float.{binary64};
-ghost use Rattle.lb_lists.specs.Scales.{counts, ticks, AreSmallIn, IsFirstScaleFault, IsLoadFault, IsMeasured, IsRoomFor, IsScaled, IsScaleRefusal};
+ghost use Rattle.lb_lists.specs.Runs.{AreSmall};
+ghost use Rattle.lb_lists.specs.Scales.{counts, load_limit, ticks, AreSmallIn, IsFirstScaleFault, IsLoadFault, IsMeasured, IsRoomFor, IsScaled, IsScaleRefusal};
 
-use chare_index::Limits;
-use lb_certificates::Units;
+use crate::limits::RunLimits;
+use lb_snapshot::Units;
 use thiserror::Error;
 
 /// Why loads were not scaled. Of several reasons, the first in this order is given; of several bad loads, the fault of the
 /// first.
 #[derive(Clone, Copy, Debug, PartialEq, Eq, Error)]
 pub enum ScaleError {
-    /// There is not one scaled load for each load, or there are more than [`Limits::ELEMENTS`].
+    /// There is not one scaled load for each load, or there are more than [`RunLimits::ELEMENTS`].
     #[error("bad input")]
     BadInput,
     /// A load is not a number.
@@ -75,18 +76,30 @@ fn parts_of(load: f64) -> (u64, u32)
     (digits + HIDDEN, field as u32 - 1)
 }
 
-// The least power of two in which a load is small.
-fn power_for(load: f64) -> u32
-    requires { IsMeasured load }
-    ensures small { ticks load / 2 ^ result ≤ Limits.LOAD }
-    ensures least { (power : ℕ) → power < result → Limits.LOAD < ticks load / 2 ^ power }
+// The greatest number of bits that each of this number of scaled loads may have.
+fn bits_for(count: usize) -> u32
+    requires { count < 2 ^ 32 }
+    ensures limit { load_limit count ≡ 2 ^ result - 1 }
+    ensures many { count ≤ 2 ^ (63 - result) }
+    ensures some { 31 ≤ result }
+    ensures few { result ≤ 47 }
+{
+    62 - (count.max(65_536) - 1).ilog2()
+}
+
+// The least power of two in which a load has at most this number of bits.
+fn power_for(load: f64, bits: u32) -> u32
+    requires measured { IsMeasured load }
+    requires some { 31 ≤ bits }
+    ensures small { ticks load / 2 ^ result < 2 ^ bits }
+    ensures least { (power : ℕ) → power < result → 2 ^ bits ≤ ticks load / 2 ^ power }
     ensures bound { result < 2098 }
 {
     let (digits, shift) = parts_of(load);
     if digits == 0 {
         return 0;
     }
-    (digits.ilog2() + shift).saturating_sub(46)
+    (digits.ilog2() + shift).saturating_sub(bits - 1)
 }
 
 // The greater of two powers.
@@ -96,16 +109,17 @@ fn greater(power: u32, other: u32) -> u32
     power.max(other)
 }
 
-// The least power of two in which all loads are small.
-fn power_of(loads: &[f64]) -> u32
-    requires { All IsMeasured loads.now }
-    ensures small { AreSmallIn result loads.now }
-    ensures least { (power : ℕ) → power < result → ¬ (AreSmallIn power loads.now) }
+// The least power of two in which each load has at most this number of bits.
+fn power_of(loads: &[f64], bits: u32) -> u32
+    requires measured { All IsMeasured loads.now }
+    requires some { 31 ≤ bits }
+    ensures small { AreSmallIn (2 ^ bits - 1) result loads.now }
+    ensures least { (power : ℕ) → power < result → ¬ (AreSmallIn (2 ^ bits - 1) power loads.now) }
     ensures bound { result < 2098 }
 {
     let mut power = 0;
     for &load in loads {
-        power = greater(power, power_for(load));
+        power = greater(power, power_for(load, bits));
     }
     power
 }
@@ -113,7 +127,7 @@ fn power_of(loads: &[f64]) -> u32
 // The number of units of this power in a load, rounded down.
 fn count_of(load: f64, power: u32) -> u64
     requires measured { IsMeasured load }
-    requires small { ticks load / 2 ^ power ≤ Limits.LOAD }
+    requires small { ticks load / 2 ^ power < 2 ^ 47 }
     ensures { result ≡ ticks load / 2 ^ power }
 {
     let (digits, shift) = parts_of(load);
@@ -127,7 +141,7 @@ fn count_of(load: f64, power: u32) -> u64
 fn write_counts(loads: &[f64], power: u32, scaled: &mut [u64])
     requires counted { length scaled.old ≡ length loads.now }
     requires measured { All IsMeasured loads.now }
-    requires small { AreSmallIn power loads.now }
+    requires small { AreSmallIn (2 ^ 47 - 1) power loads.now }
     ensures { scaled.new ≡ counts power loads.now }
 {
     for i in 0..loads.len() {
@@ -148,8 +162,9 @@ fn unit_of(power: u32) -> f64
 }
 
 /// Counts measured loads, for example in seconds, in a unit that it chooses: the least power of two in which no count is above
-/// [`Limits::LOAD`](chare_index::Limits::LOAD), so that the counts can be planned. Each count is rounded down. The unit is
-/// returned; a bottleneck times the unit is in seconds again.
+/// the limit, which is 2^47 - 1 for up to 65,536 loads, and half as great for each time that there may be twice as many. So the
+/// counts add up to less than 2^63, and can be planned. Each count is rounded down. The unit is returned; a bottleneck times
+/// the unit is in seconds again.
 ///
 /// Rounding takes less than one unit from each element. So a division that is least for the counts is, in seconds, nearly least
 /// for the loads: the heaviest block of any other is lighter by at most one unit for each element
@@ -160,17 +175,18 @@ fn unit_of(power: u32) -> f64
 /// A [`ScaleError`], in its order. After an error nothing was written.
 pub fn scale_loads(loads: &[f64], scaled: &mut [Units]) -> Result<f64, ScaleError>
     ensures scaled { IfOk result (λ unit. IsScaled loads.now unit scaled.new) }
+    ensures small { OnOk result (AreSmall scaled.new) }
     ensures measured { OnOk result (IsRoomFor (length scaled.old) loads.now × All IsMeasured loads.now) }
     ensures refused { IfErr result (IsScaleRefusal loads.now (length scaled.old)) }
     ensures kept { OnErr result (scaled.new ≡ scaled.old) }
 {
-    if scaled.len() != loads.len() || loads.len() > Limits::ELEMENTS as usize {
+    if scaled.len() != loads.len() || loads.len() > RunLimits::ELEMENTS as usize {
         return Err(ScaleError::BadInput);
     }
     if let Some(fault) = first_fault(loads) {
         return Err(fault);
     }
-    let power = power_of(loads);
+    let power = power_of(loads, bits_for(loads.len()));
     write_counts(loads, power, scaled);
     Ok(unit_of(power))
 }

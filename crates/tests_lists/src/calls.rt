@@ -1,23 +1,22 @@
 //! The example by each call, and each reason to refuse.
 
 use crate::fixtures::{assert_for, example, right_claim, same};
-use chare_index::Limits;
 use lb_certificates::Flaw;
 use lb_lists::{
-    Claim, Decided, Planned, Room, Run, RunError, check_claim, decide_into, number_of, plan_into,
-    plan_run,
+    Claim, Decided, Planned, Room, Run, RunError, RunLimits, check_claim, decide_into, number_of,
+    plan_into, plan_run,
 };
 use std::alloc::Global;
 
 // Whether the decision on the example has its cuts, its names and its bytes.
 fn is_decided(alloc: Global) -> bool {
-    let Ok(decision) = plan_run(alloc, &example(), 2) else {
+    let Ok(plan) = plan_run(alloc, &example(), 2) else {
         return false;
     };
-    let decided = same(decision.division.cuts.as_slice(), &[0, 2, 3])
-        && same(decision.naming.as_slice(), &[1, 0])
-        && decision.moved == 10;
-    drop(decision);
+    let decided = same(plan.division.cuts.as_slice(), &[0, 2, 3])
+        && same(plan.naming.as_slice(), &[1, 0])
+        && plan.moved == 10;
+    drop(plan);
     decided
 }
 
@@ -71,7 +70,8 @@ struct Row<'a> {
     error: RunError,
 }
 
-const TOO_GREAT: u64 = Limits::LOAD + 1;
+// With one unit more, the greatest sum of loads and 1.
+const TOO_GREAT: u64 = RunLimits::LOAD;
 
 const ROWS: [Row<'static>; 8] = [
     Row {
@@ -99,10 +99,10 @@ const ROWS: [Row<'static>; 8] = [
         error: RunError::BadInput,
     },
     Row {
-        loads: &[1, 1],
-        bytes: &[1, 1_048_577],
+        loads: &[1, TOO_GREAT],
+        bytes: &[1, 1],
         places: &[0, 0],
-        procs: 2,
+        procs: 4_097,
         pes: 2,
         error: RunError::BadInput,
     },
@@ -127,7 +127,7 @@ const ROWS: [Row<'static>; 8] = [
         bytes: &[1, 1],
         places: &[0, 0],
         procs: 2,
-        pes: 257,
+        pes: 4_097,
         error: RunError::BadInput,
     },
     Row {

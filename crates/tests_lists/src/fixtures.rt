@@ -13,6 +13,11 @@ pub(crate) fn assert_for<R: Debug + Copy>(rt: &impl Abort, holds: bool, row: R)
     assert!(rt; holds, "{row:?}");
 }
 
+/// Adds an item to a list.
+pub(crate) fn push<T: Copy>(rt: &impl Abort, items: &mut Vec<T>, item: T) {
+    items.push(item).expect(rt, "out of memory");
+}
+
 /// Whether these are the same items.
 pub(crate) fn same<T: PartialEq>(some: &[T], others: &[T]) -> bool {
     some == others

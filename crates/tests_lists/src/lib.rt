@@ -1,5 +1,5 @@
-//! Tests of the planner over lists: the example, each reason to refuse, and each request for memory refused in turn; and
-//! decisions within a tolerance. They use public calls only; the answers were worked out by hand.
+//! Tests of the planner over lists: the example, each reason to refuse, and each request for memory refused in turn; runs past
+//! the limits of a snapshot; and decisions within a tolerance. They use public calls only; the answers were worked out by hand.
 #![tactic(auto)]
 
 #[cfg(test)]
@@ -10,3 +10,5 @@ mod fixtures;
 mod refined;
 #[cfg(test)]
 mod requests;
+#[cfg(test)]
+mod wide_runs;

@@ -193,7 +193,11 @@ fn is_standing_empty(lists: &Lists) -> bool {
         && same(&lists.step_rises, &[7; STEPS])
 }
 
-const TOO_GREAT: u64 = 140_737_488_355_328;
+// With one unit more, the loads add up to 2^63.
+const TOO_GREAT: u64 = 9_223_372_036_854_775_807;
+
+// The least load that is too great for a tolerance: 2^47.
+const TOO_HEAVY: u64 = 140_737_488_355_328;
 
 #[test]
 fn reasons_to_refuse_in_their_order(rt: HostRuntime) {
@@ -216,6 +220,40 @@ fn reasons_to_refuse_in_their_order(rt: HostRuntime) {
     assert!(rt; is_refused(alloc, &astray, 1_000, input));
     assert!(rt; is_refused(alloc, &short, 0, input));
     assert!(rt; is_refused(alloc, &heavy, 0, RefineError::Run(RunError::BadLoad)));
+}
+
+#[test]
+fn a_run_that_is_too_large(rt: HostRuntime) {
+    let alloc = rt.alloc();
+    let heavy = Run {
+        loads: &[1, TOO_HEAVY, 1, 2, 7, 8, 6, 2, 1, 1],
+        ..ten()
+    };
+    let light = Run {
+        loads: &[1, TOO_HEAVY - 1, 1, 2, 7, 8, 6, 2, 1, 1],
+        ..ten()
+    };
+    let wide = Run {
+        bytes: &[10, 1_048_577, 10, 20, 60, 90, 70, 20, 10, 10],
+        ..ten()
+    };
+    let slim = Run {
+        bytes: &[10, 1_048_576, 10, 20, 60, 90, 70, 20, 10, 10],
+        ..ten()
+    };
+    let spread = Run {
+        procs: 257,
+        ..ten()
+    };
+    let mut lists = EMPTY;
+    assert!(rt; is_refused(alloc, &heavy, 1_000, RefineError::TooLarge));
+    assert!(rt; is_refused(alloc, &wide, 0, RefineError::TooLarge));
+    assert!(rt; is_refused(alloc, &spread, 0, RefineError::TooLarge));
+    assert!(rt; is_refused(alloc, &spread, 1_001, RefineError::BadTolerance));
+    assert!(rt;
+        written(alloc, &light, 0, STEPS, &mut lists).is_ok_and(|d| d.least == TOO_HEAVY - 1)
+    );
+    assert!(rt; written(alloc, &slim, 0, STEPS, &mut lists).is_ok_and(|d| d.least == 12));
 }
 
 // The claim of these lists.

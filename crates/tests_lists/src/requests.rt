@@ -6,17 +6,12 @@ use std::alloc::Global;
 use std::process::Abort;
 use tests_fixtures::{Outcome, Refusing, each_refusal};
 
-// The lists of a snapshot: the loads, and the sizes with their places.
-const SNAPSHOT: u64 = 2;
-
-// The requests of a plan for a snapshot, without the list of its moves.
+// The requests of a plan: the running sums, the cuts and the stops, the costs and room for those of one block, and the lists of
+// the search for names.
 const PLANNING: u64 = 16;
 
-// The list of the moves of a decision.
-const MOVES: u64 = 1;
-
-// The cuts, stops, names and both prices of a claim.
-const CLAIM: u64 = 5;
+// The cuts, stops, names and both prices of a claim, and room for the costs of one block.
+const CLAIM: u64 = 6;
 
 // More requests than any call here makes.
 const MOST_TURNS: u64 = 40;
@@ -39,9 +34,9 @@ fn assert_requests<F: Fn(&Refusing<Global>) -> Outcome>(
 // The outcome of a decision on the example.
 fn decides(alloc: Lent<'_>) -> Outcome {
     match plan_run(alloc, &example(), 2) {
-        Ok(decision) => {
-            let right = decision.moved == 10 && same(decision.naming.as_slice(), &[1, 0]);
-            drop(decision);
+        Ok(plan) => {
+            let right = plan.moved == 10 && same(plan.naming.as_slice(), &[1, 0]);
+            drop(plan);
             if right {
                 Outcome::Right
             } else {
@@ -105,20 +100,20 @@ fn checks(alloc: Lent<'_>) -> Outcome {
 
 #[test]
 fn decisions(rt: HostRuntime) {
-    assert_requests(&rt, decides, SNAPSHOT + PLANNING + MOVES);
+    assert_requests(&rt, decides, PLANNING);
 }
 
 #[test]
 fn plans_that_are_written(rt: HostRuntime) {
-    assert_requests(&rt, plans, SNAPSHOT + PLANNING);
+    assert_requests(&rt, plans, PLANNING);
 }
 
 #[test]
 fn decisions_that_are_written(rt: HostRuntime) {
-    assert_requests(&rt, writes, SNAPSHOT + PLANNING);
+    assert_requests(&rt, writes, PLANNING);
 }
 
 #[test]
 fn claims(rt: HostRuntime) {
-    assert_requests(&rt, checks, SNAPSHOT + CLAIM);
+    assert_requests(&rt, checks, CLAIM);
 }

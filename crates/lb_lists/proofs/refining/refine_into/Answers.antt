@@ -1,4 +1,4 @@
-use Rattle.std.proofs.Common.{◌≡◌, ◌≤◌, [], length, rules, arith, ap, refl, subst, sym, ◌∙◌}
+use Rattle.std.proofs.Common.{◌≤◌, [], length, arith, ap, refl, subst, sym}
 use Rattle.lb_refinement.specs.Refined.{IsRefined}
 use Rattle.lb_lists.specs.RefinedRooms.{standing_lists_in, HasRefinedRoom, IsStandingIn}
 use Rattle.lb_lists.specs.Rooms.{lists_in}
@@ -12,7 +12,7 @@ pub returns-in_default-flat_steps-clause-refused : goal.returns-in_default-flat_
 returns-in_default-flat_steps-clause-refused g c =
     let few : c.args.thousandths ≤ 1000 = c.in-Some.ensures.when.0 refl in
     let room = subst (λ (r : Listed). HasRefinedRoom (length r.loads) c.args.pes (lists_in c.args.room.now) (standing_lists_in c.args.standing.now)) c.run.view_is (c.if-not-has_refined_room.ensures.0 refl) in
-    (few, ((c.in-Ok.ensures.asked, room), c.in-Ok.ensures.small))
+    (few, ((c.in-Ok.ensures.asked, room), c.in-Ok.ensures.small, c.in-Ok.ensures.fits))
 
 pub write_near-requires-clause-stops : goal.write_near-requires-clause-stops
 write_near-requires-clause-stops g c =

@@ -1,4 +1,4 @@
-use Rattle.std.proofs.Common.{◌≡◌, ◌+◌, ◌++◌, ◌∷◌, ℕ, List, [], length, take, slice_index_or, rules, ap, subst, sym, ◌∙◌}
+use Rattle.std.proofs.Common.{◌≡◌, ◌+◌, ◌++◌, ◌∷◌, [], length, take, slice_index_or, rules, ap, sym, ◌∙◌}
 use Rattle.std.proofs.lemmas.List.{length-map, take_more}
 use Rattle.lb_lists.specs.Steps.{all_steps, first_steps, places_of, rises_of}
 use Rattle.lb_lists.proofs.FlatSteps.{places-more, rises-more, starts-more}

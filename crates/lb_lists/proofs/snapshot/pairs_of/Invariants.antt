@@ -1,6 +1,6 @@
 use Rattle.std.proofs.Common.{◌≡◌, ◌≤◌, ◌-◌, length, take}
 use Rattle.std.specs.List.{zip}
-use Rattle.lb_lists.proofs.measured.pairs_of.Given as goal
+use Rattle.lb_lists.proofs.snapshot.pairs_of.Given as goal
 
 abbrev pub invariant-loop-first : goal.invariant-loop-first
 invariant-loop-first g l =

@@ -1,6 +1,6 @@
 use Rattle.std.proofs.Common.{length-set, arith, ◌∙◌}
 use Rattle.lb_lists.proofs.Zipped.{one_more_pair}
-use Rattle.lb_lists.proofs.measured.write_pairs.Goals as goal
+use Rattle.lb_lists.proofs.snapshot.write_pairs.Goals as goal
 
 pub loop-i-preserved : goal.loop-i-preserved
 loop-i-preserved c =

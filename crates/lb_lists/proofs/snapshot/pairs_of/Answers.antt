@@ -1,7 +1,7 @@
 use Rattle.std.proofs.Common.{◌+◌, ◌≤◌, arith, ◌∙◌}
 use Rattle.std.specs.List.{zip}
 use Rattle.lb_lists.proofs.Zipped.{all_pairs, one_more_block}
-use Rattle.lb_lists.proofs.measured.pairs_of.Goals as goal
+use Rattle.lb_lists.proofs.snapshot.pairs_of.Goals as goal
 
 pub loop-first-preserved : goal.loop-first-preserved
 loop-first-preserved g c =

@@ -1,6 +1,6 @@
 use Rattle.std.proofs.Common.{◌≡◌, ◌-◌, length, take}
 use Rattle.std.specs.List.{between, zip}
-use Rattle.lb_lists.proofs.measured.write_pairs.Given as goal
+use Rattle.lb_lists.proofs.snapshot.write_pairs.Given as goal
 
 abbrev pub invariant-loop-i : goal.invariant-loop-i
 invariant-loop-i l =

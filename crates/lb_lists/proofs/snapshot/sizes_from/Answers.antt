@@ -3,7 +3,7 @@ use Rattle.std.specs.Prelude.{All}
 use Rattle.chare_index.specs.declared.limits.TheConstants.Limits.{STATE_BYTES}
 use Rattle.lb_snapshot.proofs.Made.{made_where}
 use Rattle.lb_lists.proofs.Zipped.{all_firsts, zip_length}
-use Rattle.lb_lists.proofs.measured.sizes_from.Goals as goal
+use Rattle.lb_lists.proofs.snapshot.sizes_from.Goals as goal
 
 pub unwrap-requires : goal.unwrap-requires
 unwrap-requires g c =
