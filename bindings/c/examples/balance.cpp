@@ -1,4 +1,4 @@
-// The largest run there may be, from C++: its loads drift for some steps, and each step is decided and checked.
+// A million elements on 1,024 PEs, from C++: their loads drift for some steps, and each step is decided and checked.
 #include <chrono>
 #include <cstdint>
 #include <cstdio>
@@ -34,13 +34,13 @@ double milliseconds(std::chrono::steady_clock::time_point from)
 
 int main()
 {
-    const std::uint32_t n = TEZGUMI_ELEMENTS, pes = TEZGUMI_PES;
+    const std::uint32_t n = 1000000, pes = 1024;
     std::vector<std::uint64_t> loads(n);
     std::vector<std::uint32_t> bytes(n, 4096), places(n);
-    for (std::uint32_t i = 0; i < n; i++) places[i] = i / (n / pes);
+    for (std::uint32_t i = 0; i < n; i++) places[i] = static_cast<std::uint32_t>(std::uint64_t{i} * pes / n);
     Decision decision(n, pes);
     for (std::uint32_t step = 0; step < 3; step++) {
-        for (std::uint32_t i = 0; i < n; i++) loads[i] = 1000 + (i + step * 512) % n / 16;
+        for (std::uint32_t i = 0; i < n; i++) loads[i] = 1000 + (i + step * 8192) % n / 16;
         const tezgumi_run run{n, pes, loads.data(), bytes.data(), places.data()};
         const auto begin = std::chrono::steady_clock::now();
         std::int32_t status = decision.decide(run);

@@ -30,7 +30,7 @@ static int read_dump(FILE *file, dump *d)
     d->step = word(head + 4);
     d->run.procs = word(head + 8);
     d->run.n = word(head + 12);
-    if (d->run.n > TEZGUMI_ELEMENTS) return 0;
+    if (d->run.n > TEZGUMI_DUMP_ELEMENTS) return 0;
     d->run.loads = d->loads = (uint64_t *)malloc((d->run.n + 1) * sizeof *d->loads);
     d->run.bytes = d->bytes = (uint32_t *)malloc((d->run.n + 1) * sizeof *d->bytes);
     d->run.places = d->places = (uint32_t *)malloc((d->run.n + 1) * sizeof *d->places);

@@ -21,6 +21,7 @@
  *      They look for null, misaligned and overlapping lists and for wrong lengths first, and answer TEZGUMI_BAD_INPUT,
  *      where an export would be undefined. A list without elements may be null or misaligned: it is not passed on.
  *
+ * The lists of a run may be long: they are read where they are, and none is copied, but for a decision within a tolerance.
  * Every call takes its memory by malloc and realloc and gives it back by free before it returns. It keeps nothing, so
  * any number of threads may call at once; 32 KiB of stack are enough. The three functions belong to one allocator, which
  * aligns a block to each power of two up to 16 that divides its size, as the C library's do. Do not call from a signal
@@ -42,22 +43,29 @@ extern "C" {
 #endif
 
 /* The number of this interface. A library fits this header where its tezgumi_abi() answers the same. */
-#define TEZGUMI_ABI 1u
+#define TEZGUMI_ABI 2u
 
-/* Limits. Each is the greatest value that is taken. */
-#define TEZGUMI_ELEMENTS 65536u                /* elements of a run, from 0 */
-#define TEZGUMI_PES 256u                       /* PEs, from 1 */
-#define TEZGUMI_LOAD UINT64_C(140737488355327) /* load of an element, from 0, in any unit: 2^47 - 1 */
-#define TEZGUMI_STATE_BYTES 1048576u           /* packed size of an element, from 0, in bytes */
-#define TEZGUMI_TOLERANCE 1000u                /* tolerance, from 0, in thousandths of the least possible load */
+/* Limits of a run. Each is the greatest value that is taken. */
+#define TEZGUMI_ELEMENTS 4294967295u                       /* elements, from 0: 2^32 - 1 */
+#define TEZGUMI_PES 4096u                                  /* PEs, from 1 */
+#define TEZGUMI_TOTAL_LOAD UINT64_C(9223372036854775807)   /* loads of all elements together, in any unit: 2^63 - 1 */
+#define TEZGUMI_TOTAL_BYTES UINT64_C(140737488355328)      /* packed sizes of all elements together, in bytes: 2^47 */
+#define TEZGUMI_TOLERANCE 1000u                            /* tolerance, from 0, in thousandths of the least possible load */
+
+/* Limits of a dump, and of a decision within a tolerance. */
+#define TEZGUMI_DUMP_ELEMENTS 65536u                       /* elements, from 0 */
+#define TEZGUMI_DUMP_PES 256u                              /* PEs, from 1, as many as there are and as many as there are to be */
+#define TEZGUMI_DUMP_LOAD UINT64_C(140737488355327)        /* load of an element, from 0: 2^47 - 1 */
+#define TEZGUMI_DUMP_STATE_BYTES 1048576u                  /* packed size of an element, from 0, in bytes: 2^20 */
 
 /* What a call answers. After any answer but TEZGUMI_OK a call that plans has written nothing. */
 enum {
     /* Planned; or the claim is right. */
     TEZGUMI_OK = 0,
     /* Below 0 the call was refused. Of several reasons the first of these is given. */
-    TEZGUMI_BAD_INPUT = -1, /* a length, a place that is not below procs, no PE, or a limit other than TEZGUMI_LOAD */
-    TEZGUMI_BAD_LOAD = -3,  /* all else is in order, and a load is above TEZGUMI_LOAD */
+    TEZGUMI_BAD_INPUT = -1, /* a length, a place that is not below procs, no PE, or a limit but TEZGUMI_TOTAL_LOAD */
+    TEZGUMI_BAD_LOAD = -3,  /* all else is in order, and the loads add up to more than TEZGUMI_TOTAL_LOAD */
+    TEZGUMI_TOO_LARGE = -8, /* the run is in order, and past a limit of a decision within a tolerance, which was asked for */
     TEZGUMI_NO_MEMORY = -2, /* all is in order, and malloc or realloc refused */
     TEZGUMI_NOT_A_NUMBER = -4, /* of loads to be scaled the first that is wrong is not a number */
     TEZGUMI_NEGATIVE = -5,     /* or it is below 0 */
@@ -84,7 +92,7 @@ enum {
     TEZGUMI_MOVED_WRONG = 18, /* the bytes moved are not those that the names move */
     TEZGUMI_PLACES_WRONG = 19, /* there is not one place for each element, or one is not the name of its block */
     /* The flaws of cuts near the present ones, which tezgumi_check_refined alone reports, before 12 to 19. */
-    TEZGUMI_PE_COUNT = 20,     /* there is no PE, or there are more than TEZGUMI_PES */
+    TEZGUMI_PE_COUNT = 20,     /* there is no PE, or there are more than TEZGUMI_DUMP_PES */
     TEZGUMI_ORDER_COUNT = 21,  /* there are not pes PEs in the order */
     TEZGUMI_ORDER_RANGE = 22,  /* a PE of the order is not below pes */
     TEZGUMI_ORDER_TWICE = 23,  /* a PE stands in the order twice */
@@ -103,8 +111,9 @@ static inline const char *tezgumi_status_name(int32_t status)
     switch (status) {
     case TEZGUMI_OK: return "ok";
     case TEZGUMI_BAD_INPUT: return "bad input";
-    case TEZGUMI_BAD_LOAD: return "a load is too great";
+    case TEZGUMI_BAD_LOAD: return "the loads add up to too much";
     case TEZGUMI_NO_MEMORY: return "out of memory";
+    case TEZGUMI_TOO_LARGE: return "too large for a tolerance";
     case TEZGUMI_NOT_A_NUMBER: return "a load is not a number";
     case TEZGUMI_NEGATIVE: return "a load is negative";
     case TEZGUMI_INFINITE: return "a load is infinite";
@@ -151,7 +160,9 @@ uint32_t tezgumi_abi(void);
 /* Plans a run for the PEs 0 .. pes - 1.
  *
  * loads, bytes and places have one entry for each element: its load, its packed size and its present PE, which is below
- * procs, the number of PEs that the run has now. procs may be less or more than pes. new_places has as many entries.
+ * procs, the number of PEs that the run has now. procs may be less or more than pes. new_places has as many entries. All loads
+ * together are TEZGUMI_TOTAL_LOAD at most, and all packed sizes TEZGUMI_TOTAL_BYTES; elements and PEs, before and after, are
+ * TEZGUMI_ELEMENTS and TEZGUMI_PES at most. Each call below that takes a run has these limits.
  *
  * TEZGUMI_OK: *bottleneck is the load of the heaviest block, which is least; *moved is the bytes of all elements that
  * move, which are fewest for these blocks; new_places[i] is the PE of element i from now on. Each block but the last
@@ -167,7 +178,7 @@ int32_t tezgumi_plan(
  * cuts and stops have pes + 1 entries, names, block_prices and pe_prices have pes. Block b is the elements
  * cuts[b] .. cuts[b + 1] - 1, and runs on PE names[b]. The first *stops_count stops are the fence that proves the
  * bottleneck least: pes + 1, or 0 where the bottleneck is 0. The prices of blocks and PEs prove the names cheapest. With C
- * for the greatest number of bytes that a block moves to some PE, which is 2^36 at most, each price of a block is 0 .. C
+ * for the greatest number of bytes that a block moves to some PE, which is 2^47 at most, each price of a block is 0 .. C
  * and each price of a PE is -C .. 0. */
 int32_t tezgumi_decide(
     const uint64_t *loads, size_t loads_len, const uint32_t *bytes, size_t bytes_len,
@@ -196,6 +207,10 @@ int32_t tezgumi_check(
 /* Decides within a tolerance: so many thousandths, TEZGUMI_TOLERANCE at most, above the least possible load of the heaviest
  * block, the limit rounded down.
  *
+ * The search keeps tables of elements by PEs, so it takes smaller runs than the other calls: TEZGUMI_DUMP_ELEMENTS elements and
+ * TEZGUMI_DUMP_PES PEs at most, before and after, loads of TEZGUMI_DUMP_LOAD at most each, and packed sizes of
+ * TEZGUMI_DUMP_STATE_BYTES at most each. A run that is in order and past one of these is TEZGUMI_TOO_LARGE.
+ *
  * Where the elements of each PE stand together, the PEs keep the order in which they stand. Of all cuts that keep each block
  * within the limit it takes those that move the fewest bytes, and of these the nearest to the present ones; then the cheapest
  * names for these blocks. Where that moves no fewer bytes than the plan does, and where the elements of some PE do not stand
@@ -210,7 +225,8 @@ int32_t tezgumi_check(
  * step_places[s] on the height is greater by step_rises[s] bytes. step_starts has pes + 1 entries, step_places and step_rises
  * have any number, the same for both. They are written where *steps_count is not above that, and otherwise left as they were:
  * who wants them calls again with more room.
- * Otherwise TEZGUMI_BAD_TOLERANCE, TEZGUMI_BAD_INPUT, TEZGUMI_BAD_LOAD or TEZGUMI_NO_MEMORY, and nothing is written. */
+ * Otherwise TEZGUMI_BAD_TOLERANCE, TEZGUMI_BAD_INPUT, TEZGUMI_BAD_LOAD, TEZGUMI_TOO_LARGE or TEZGUMI_NO_MEMORY, and nothing is
+ * written. */
 int32_t tezgumi_refine(
     const uint64_t *loads, size_t loads_len, const uint32_t *bytes, size_t bytes_len,
     const uint32_t *places, size_t places_len, uint32_t procs, uint32_t pes, uint32_t tolerance,
@@ -223,14 +239,15 @@ int32_t tezgumi_refine(
     uint64_t *step_rises, size_t step_rises_len, size_t *steps_count);
 
 /* Checks what somebody claims to be a decision within a tolerance whose cuts are near the present ones: the claim's numbers and
- * lengths may be any. The lists are those of tezgumi_refine. It takes memory as the claim's lists and steps do.
+ * lengths may be any. The lists and the limits of the run are those of tezgumi_refine. It takes memory as the claim's lists
+ * and steps do.
  *
  * TEZGUMI_OK exactly where every part of the claim is right. Then least is the least possible load of the heaviest block, no
  * cuts within the tolerance move fewer bytes in this order of the PEs, no naming of the blocks moves fewer, and new_places are
  * the names of the elements' blocks. Above 0: the first flaw of the claim, 1 to 11 and 20 to 30 being looked for before 12 to
  * 19; *at_first and *at_second are then what it names: the block, the stop (from 1), the block and the PE, or the block and
- * the place, and 0 where it names nothing. Otherwise TEZGUMI_BAD_TOLERANCE, TEZGUMI_BAD_INPUT, TEZGUMI_BAD_LOAD or
- * TEZGUMI_NO_MEMORY, after which nothing is known of the claim. Both are written after a flaw alone. */
+ * the place, and 0 where it names nothing. Otherwise TEZGUMI_BAD_TOLERANCE, TEZGUMI_BAD_INPUT, TEZGUMI_BAD_LOAD,
+ * TEZGUMI_TOO_LARGE or TEZGUMI_NO_MEMORY, after which nothing is known of the claim. Both are written after a flaw alone. */
 int32_t tezgumi_check_refined(
     const uint64_t *loads, size_t loads_len, const uint32_t *bytes, size_t bytes_len,
     const uint32_t *places, size_t places_len, uint32_t procs, uint32_t pes, uint32_t tolerance,
@@ -246,9 +263,10 @@ int32_t tezgumi_check_refined(
 /* Counts loads that were measured, in seconds say, in a unit that it chooses, so that they can be planned.
  *
  * scaled has as many entries as loads, of which there are TEZGUMI_ELEMENTS at most. TEZGUMI_OK: *unit is the least power of
- * two in which no count is above TEZGUMI_LOAD, and not below 2^-1074; scaled[i] is loads[i] / *unit, rounded down. So a
- * bottleneck times *unit is in seconds, and n elements have no division whose heaviest block is lighter, in seconds, by
- * more than n units than that of the division that is least for the counts. This is proved.
+ * two in which no count is above 2^47 - 1, and not below 2^-1074; scaled[i] is loads[i] / *unit, rounded down. Of more than
+ * 65,536 elements, and of 2^k at most for the least such k, no count is above 2^(63 - k) - 1. So all counts add up to
+ * TEZGUMI_TOTAL_LOAD at most. A bottleneck times *unit is in seconds, and n elements have no division whose heaviest block is
+ * lighter, in seconds, by more than n units than that of the division that is least for the counts. This is proved.
  * Otherwise TEZGUMI_BAD_INPUT, or what is wrong with the first load that is wrong: TEZGUMI_NOT_A_NUMBER, TEZGUMI_NEGATIVE
  * (which minus infinity is, and -0 is not) or TEZGUMI_INFINITE; and nothing is written. It takes no memory. */
 int32_t tezgumi_scale(const double *loads, size_t loads_len, uint64_t *scaled, size_t scaled_len, double *unit);
@@ -291,7 +309,7 @@ static inline int32_t tezgumi_decision_room(tezgumi_decision *d, uint32_t n, uin
     const size_t words = ((size_t)n + 3 * (size_t)pes + 2) * sizeof(uint32_t);
     if (!d) return TEZGUMI_BAD_INPUT;
     memset(d, 0, sizeof *d);
-    if (n > TEZGUMI_ELEMENTS || pes < 1 || pes > TEZGUMI_PES) return TEZGUMI_BAD_INPUT;
+    if (pes < 1 || pes > TEZGUMI_PES) return TEZGUMI_BAD_INPUT;
     d->room = calloc(1, prices + words);
     if (!d->room) return TEZGUMI_NO_MEMORY;
     d->n = n;
@@ -356,14 +374,15 @@ static inline int32_t tezgumi_steps_room(tezgumi_refinement *d, size_t count)
     return TEZGUMI_OK;
 }
 
-/* Gets room for a decision within a tolerance on n elements and pes PEs, as tezgumi_decision_room does. tezgumi_refine_run gets
- * room for more steps where it needs it. */
+/* Gets room for a decision within a tolerance on n elements and pes PEs, as tezgumi_decision_room does, or answers
+ * TEZGUMI_TOO_LARGE where such a decision is for fewer. tezgumi_refine_run gets room for more steps where it needs it. */
 static inline int32_t tezgumi_refinement_room(tezgumi_refinement *d, uint32_t n, uint32_t pes)
 {
     const size_t starts = ((size_t)pes + 1) * sizeof(size_t), words = (3 * (size_t)pes + 2) * sizeof(uint32_t);
     int32_t status;
     if (!d) return TEZGUMI_BAD_INPUT;
     memset(d, 0, sizeof *d);
+    if (pes >= 1 && pes <= TEZGUMI_PES && (n > TEZGUMI_DUMP_ELEMENTS || pes > TEZGUMI_DUMP_PES)) return TEZGUMI_TOO_LARGE;
     status = tezgumi_decision_room(&d->decision, n, pes);
     if (status != TEZGUMI_OK) return status;
     d->room = calloc(1, starts + words);
@@ -440,10 +459,10 @@ static inline void tezgumi_decision_areas(const tezgumi_decision *d, size_t stop
     areas[5] = tezgumi_area_of(d->pe_prices, d->pes, sizeof *d->pe_prices);
 }
 
-/* Whether both are there, speak of the same elements, and keep the limits of elements and PEs. */
+/* Whether both are there, speak of the same elements, and keep the limit of PEs. */
 static inline int tezgumi_fit(const tezgumi_run *r, const tezgumi_decision *d)
 {
-    return r && d && r->n == d->n && r->n <= TEZGUMI_ELEMENTS && d->pes >= 1 && d->pes <= TEZGUMI_PES;
+    return r && d && r->n == d->n && d->pes >= 1 && d->pes <= TEZGUMI_PES;
 }
 
 /* The list or, where it has no entry and may be null or misaligned, an address that nothing is read from or written to. */
@@ -477,7 +496,7 @@ static inline int32_t tezgumi_plan_run(
     tezgumi_area areas[6];
     uint64_t none = 0, found = 0, bytes_moved = 0;
     int32_t status;
-    if (!r || r->n > TEZGUMI_ELEMENTS) return TEZGUMI_BAD_INPUT;
+    if (!r) return TEZGUMI_BAD_INPUT;
     tezgumi_run_areas(r, areas);
     areas[3] = tezgumi_area_of(new_places, r->n, sizeof *new_places);
     areas[4] = tezgumi_area_of(bottleneck, bottleneck ? 1 : 0, sizeof *bottleneck);

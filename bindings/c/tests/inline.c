@@ -83,9 +83,7 @@ static void plans(void)
     same("no PE", tezgumi_plan_run(&run, 0, to, NULL, NULL), TEZGUMI_BAD_INPUT);
     same("no run", tezgumi_plan_run(NULL, P, to, NULL, NULL), TEZGUMI_BAD_INPUT);
     same("no places to write", tezgumi_plan_run(&run, P, NULL, NULL, NULL), TEZGUMI_BAD_INPUT);
-    run.n = TEZGUMI_ELEMENTS + 1;
-    same("too many elements", tezgumi_plan_run(&run, P, to, NULL, NULL), TEZGUMI_BAD_INPUT);
-    run = right_run;
+    same("too many PEs", tezgumi_plan_run(&run, TEZGUMI_PES + 1, to, NULL, NULL), TEZGUMI_BAD_INPUT);
     run.loads = NULL;
     same("no loads", tezgumi_plan_run(&run, P, to, NULL, NULL), TEZGUMI_BAD_INPUT);
     run = right_run;
@@ -128,8 +126,7 @@ static void decisions(void)
     tezgumi_decision d, spoilt;
     same("no decision", tezgumi_decision_room(NULL, N, P), TEZGUMI_BAD_INPUT);
     same("room for no PE", tezgumi_decision_room(&d, N, 0), TEZGUMI_BAD_INPUT);
-    same("room for 257 PEs", tezgumi_decision_room(&d, N, TEZGUMI_PES + 1), TEZGUMI_BAD_INPUT);
-    same("room for 65,537 elements", tezgumi_decision_room(&d, TEZGUMI_ELEMENTS + 1, P), TEZGUMI_BAD_INPUT);
+    same("room for 4,097 PEs", tezgumi_decision_room(&d, N, TEZGUMI_PES + 1), TEZGUMI_BAD_INPUT);
     test("nothing to free", d.room == NULL);
     same("decided into no room", tezgumi_decide_run(&run, &d), TEZGUMI_BAD_INPUT);
     tezgumi_decision_free(&d);

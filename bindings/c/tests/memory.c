@@ -1,12 +1,12 @@
 /* Refuses each request for memory in turn: out of memory, nothing written, all given back, and the same call then
- * succeeds. Claims with long lists, which take no more memory than others. And full runs in threads of 32 KiB of stack, side
- * by side. Linked with
+ * succeeds, also on 300 PEs. Claims with long lists, which take no more memory than others; a long run, whose lists are not
+ * copied. And full runs in threads of 32 KiB of stack, side by side. Linked with
  * -Wl,--wrap=malloc,--wrap=calloc,--wrap=realloc,--wrap=free -pthread. */
 #include "harness.h"
 #include <pthread.h>
 #include <tezgumi.h>
 
-enum { N = 3, P = 2, MANY = 65536, PES = 256, THREADS = 4, STACK = 32768 };
+enum { N = 3, P = 2, MANY = 65536, PES = 256, MORE = 300, THREADS = 4, STACK = 32768 };
 
 /* While it counts: how many requests are still granted, how many there were, how many blocks are held, and how many bytes
  * the greatest request was for. The compiler takes it that malloc and its kin touch nothing of this file, so all is
@@ -86,46 +86,87 @@ typedef struct {
     size_t starts[Q + 1], steps_count;
 } output;
 
-static int32_t call_plan(output *o)
+static int32_t call_plan(void *given)
 {
+    output *o = (output *)given;
     return tezgumi_plan(loads, N, bytes, N, places, N, P, P, o->new_places, N, &o->bottleneck, &o->moved);
 }
 
-static int32_t call_decide(output *o)
+static int32_t call_decide(void *given)
 {
+    output *o = (output *)given;
     return tezgumi_decide(loads, N, bytes, N, places, N, P, P, o->new_places, N, &o->bottleneck, &o->moved, o->cuts, P + 1,
         o->stops, P + 1, &o->stops_count, o->names, P, o->block_prices, P, o->pe_prices, P);
 }
 
-static int32_t call_check(output *o)
+static int32_t call_check(void *given)
 {
+    output *o = (output *)given;
     return tezgumi_check(loads, N, bytes, N, places, N, P, P, o->new_places, N, o->bottleneck, o->moved, o->cuts, P + 1,
         o->stops, o->stops_count, o->names, P, o->block_prices, P, o->pe_prices, P);
 }
 
-static int32_t call_refine(output *o)
+static int32_t call_refine(void *given)
 {
+    output *o = (output *)given;
     return tezgumi_refine(ten_loads, TEN, ten_bytes, TEN, ten_places, TEN, Q, Q, THOUSANDTHS, o->ten_new, TEN, &o->least,
         &o->bottleneck, &o->moved, &o->near_present, o->near_cuts, Q + 1, o->ten_stops, Q + 1, &o->stops_count, o->ten_names, Q, o->u, Q, o->v, Q,
         o->least_cuts, Q + 1, o->order, Q, o->present, Q + 1, o->starts, Q + 1, o->at, STEPS, o->rises, STEPS,
         &o->steps_count);
 }
 
-static int32_t call_check_refined(output *o)
+static int32_t call_check_refined(void *given)
 {
+    output *o = (output *)given;
     return tezgumi_check_refined(ten_loads, TEN, ten_bytes, TEN, ten_places, TEN, Q, Q, THOUSANDTHS, o->ten_new, TEN,
         o->least, o->moved, o->near_cuts, Q + 1, o->ten_stops, o->stops_count, o->ten_names, Q, o->u, Q, o->v, Q,
         o->least_cuts, Q + 1, o->order, Q, o->present, Q + 1, o->starts, Q + 1, o->at, o->steps_count, o->rises,
         o->steps_count, &o->cuts[0], &o->cuts[1]);
 }
 
-static void each_refused(const char *name, int32_t (*call)(output *), const output *given)
+/* What is decided on as many elements as PEs, which are more than a dump has. */
+typedef struct {
+    uint32_t new_places[MORE], cuts[MORE + 1], stops[MORE + 1], names[MORE];
+    int64_t block_prices[MORE], pe_prices[MORE];
+    uint64_t bottleneck, moved;
+    size_t stops_count;
+} more_output;
+
+static uint64_t more_loads[MORE];
+static uint32_t more_bytes[MORE], more_places[MORE];
+
+static int32_t more_plan(void *given)
+{
+    more_output *o = (more_output *)given;
+    return tezgumi_plan(more_loads, MORE, more_bytes, MORE, more_places, MORE, MORE, MORE, o->new_places, MORE, &o->bottleneck, &o->moved);
+}
+
+static int32_t more_decide(void *given)
+{
+    more_output *o = (more_output *)given;
+    return tezgumi_decide(more_loads, MORE, more_bytes, MORE, more_places, MORE, MORE, MORE, o->new_places, MORE, &o->bottleneck,
+        &o->moved, o->cuts, MORE + 1, o->stops, MORE + 1, &o->stops_count, o->names, MORE, o->block_prices, MORE, o->pe_prices, MORE);
+}
+
+static int32_t more_check(void *given)
+{
+    more_output *o = (more_output *)given;
+    return tezgumi_check(more_loads, MORE, more_bytes, MORE, more_places, MORE, MORE, MORE, o->new_places, MORE, o->bottleneck,
+        o->moved, o->cuts, MORE + 1, o->stops, o->stops_count, o->names, MORE, o->block_prices, MORE, o->pe_prices, MORE);
+}
+
+/* Calls with what is given, of so many bytes, which is copied to be written to, and refuses each request in turn. */
+static void each_refused(const char *name, int32_t (*call)(void *), const void *given, size_t size)
 {
     long turn;
     int right = 1, kept = 1, back = 1;
     int32_t status = TEZGUMI_NO_MEMORY;
+    static union {
+        output few;
+        more_output more;
+    } o;
     for (turn = 0; status == TEZGUMI_NO_MEMORY && turn < 1000; turn++) {
-        output o = *given;
+        memcpy(&o, given, size);
         granted = turn;
         requests = held = 0;
         counting = 1;
@@ -133,7 +174,7 @@ static void each_refused(const char *name, int32_t (*call)(output *), const outp
         counting = 0;
         back = back && held == 0;
         right = right && (status == TEZGUMI_NO_MEMORY || (status == TEZGUMI_OK && requests == turn));
-        kept = kept && (status == TEZGUMI_OK || !memcmp(&o, given, sizeof o));
+        kept = kept && (status == TEZGUMI_OK || !memcmp(&o, given, size));
     }
     printf("%s: %ld requests, each refused in turn\n", name, requests);
     test("there are requests, and without one the call is out of memory", right && requests > 0);
@@ -173,10 +214,44 @@ static void long_lists(const output *o)
     }
 }
 
+/* 300 elements on 300 PEs: each of them is a block, and stays. */
+static void on_more_pes(void)
+{
+    static more_output empty, decided;
+    uint32_t i;
+    memset(&empty, 0x5a, sizeof empty);
+    decided = empty;
+    for (i = 0; i < MORE; i++) {
+        more_loads[i] = 7;
+        more_bytes[i] = 10 + i;
+        more_places[i] = i;
+    }
+    if (more_decide(&decided) != TEZGUMI_OK) exit(1);
+    test("300 elements on 300 PEs stay", decided.bottleneck == 7 && decided.moved == 0 && decided.stops_count == MORE + 1);
+    each_refused("plan for 300 PEs", more_plan, &empty, sizeof empty);
+    each_refused("decide for 300 PEs", more_decide, &empty, sizeof empty);
+    each_refused("check for 300 PEs", more_check, &decided, sizeof decided);
+}
+
+static uint64_t many_loads[MANY];
+static uint32_t many_bytes[MANY], many_places[MANY];
+
+/* No list of a long run is copied: each request is for less than the shortest of them. */
+static void a_long_run(void)
+{
+    static uint32_t to[MANY];
+    uint64_t bottleneck, moved;
+    greatest = 0;
+    granted = 1000;
+    counting = 1;
+    same("65,536 elements on two PEs", tezgumi_plan(many_loads, MANY, many_bytes, MANY, many_places, MANY, 2, 2, to, MANY, &bottleneck,
+        &moved), TEZGUMI_OK);
+    counting = 0;
+    test("no request is for as much as a list of them", greatest < MANY * sizeof(uint32_t));
+}
+
 static void *decide_much(void *arg)
 {
-    static uint64_t many_loads[MANY];
-    static uint32_t many_bytes[MANY], many_places[MANY];
     const tezgumi_run many = {MANY, PES, many_loads, many_bytes, many_places};
     tezgumi_decision *d = (tezgumi_decision *)arg;
     return tezgumi_decide_run(&many, d) == TEZGUMI_OK && tezgumi_check_run(&many, d) == TEZGUMI_OK ? arg : NULL;
@@ -184,8 +259,6 @@ static void *decide_much(void *arg)
 
 static void *refine_much(void *arg)
 {
-    static uint64_t many_loads[MANY];
-    static uint32_t many_bytes[MANY], many_places[MANY];
     const tezgumi_run many = {MANY, PES, many_loads, many_bytes, many_places};
     tezgumi_refinement *d = (tezgumi_refinement *)arg;
     return tezgumi_refine_run(&many, 20, d) == TEZGUMI_OK && tezgumi_check_refinement(&many, d, NULL) == TEZGUMI_OK ? arg : NULL;
@@ -206,18 +279,19 @@ static int a_thread_refines(void)
     return right;
 }
 
-static int threads_decide(void)
+/* So many threads decide, on so many PEs each. */
+static int threads_decide(int count, uint32_t pes)
 {
     tezgumi_decision decisions[THREADS];
     pthread_t threads[THREADS];
     pthread_attr_t small;
     int t, right = 1;
     if (pthread_attr_init(&small) || pthread_attr_setstacksize(&small, STACK)) return 0;
-    for (t = 0; t < THREADS; t++) {
-        if (tezgumi_decision_room(&decisions[t], MANY, PES) != TEZGUMI_OK) return 0;
+    for (t = 0; t < count; t++) {
+        if (tezgumi_decision_room(&decisions[t], MANY, pes) != TEZGUMI_OK) return 0;
         if (pthread_create(&threads[t], &small, decide_much, &decisions[t])) return 0;
     }
-    for (t = 0; t < THREADS; t++) {
+    for (t = 0; t < count; t++) {
         void *answer = NULL;
         right = pthread_join(threads[t], &answer) == 0 && answer == &decisions[t] && right;
         tezgumi_decision_free(&decisions[t]);
@@ -231,13 +305,15 @@ int main(void)
     memset(&empty, 0x5a, sizeof empty);
     decided = empty;
     if (call_decide(&decided) != TEZGUMI_OK) return 1;
-    each_refused("plan", call_plan, &empty);
-    each_refused("decide", call_decide, &empty);
-    each_refused("check", call_check, &decided);
+    each_refused("plan", call_plan, &empty, sizeof empty);
+    each_refused("decide", call_decide, &empty, sizeof empty);
+    each_refused("check", call_check, &decided, sizeof decided);
     long_lists(&decided);
+    on_more_pes();
+    a_long_run();
     if (call_refine(&decided) != TEZGUMI_OK || decided.near_present != 1) return 1;
-    each_refused("refine", call_refine, &empty);
-    each_refused("check within a tolerance", call_check_refined, &decided);
+    each_refused("refine", call_refine, &empty, sizeof empty);
+    each_refused("check within a tolerance", call_check_refined, &decided, sizeof decided);
     {
         tezgumi_decision d;
         int32_t status;
@@ -249,6 +325,7 @@ int main(void)
         tezgumi_decision_free(&d);
     }
     test("a thread of 32 KiB of stack decides within a tolerance", a_thread_refines());
-    test("threads of 32 KiB of stack decide and check the greatest number of elements", threads_decide());
+    test("threads of 32 KiB of stack decide and check 65,536 elements", threads_decide(THREADS, PES));
+    test("and one on the greatest number of PEs", threads_decide(1, TEZGUMI_PES));
     return failures != 0;
 }

@@ -119,20 +119,61 @@ static void refused(const char *what, uint32_t procs, uint32_t pes, output o, in
     test("nothing is written", !memcmp(&o, &before, sizeof o));
 }
 
-/* A load that is too great, where all else is in order. */
-static void the_load(void)
+/* A run that is refused leaves the decision as it is, and so is the check of one that is near the present cuts. */
+static void run_refused(const char *what, const tezgumi_run *run, tezgumi_refinement *d, int32_t status)
 {
-    const uint64_t heavy[1] = {TEZGUMI_LOAD + 1};
-    const uint32_t size[1] = {1}, place[1] = {0};
-    const tezgumi_run run = {1, 1, heavy, size, place};
+    d->least = 5;
+    d->near_present = 0;
+    same(what, tezgumi_refine_run(run, 0, d), status);
+    test("and nothing is written", d->least == 5 && d->decision.cuts[1] == 0);
+    d->near_present = 1;
+    same("also of a check", tezgumi_check_refinement(run, d, NULL), status);
+}
+
+/* Loads that add up to too much, and runs that are in order and past a limit of a tolerance. */
+static void the_limits(void)
+{
+    const uint64_t heaviest[2] = {TEZGUMI_TOTAL_LOAD, 1}, heavy[2] = {1, TEZGUMI_DUMP_LOAD + 1}, light[2] = {1, TEZGUMI_DUMP_LOAD};
+    const uint32_t sizes[2] = {1, TEZGUMI_DUMP_STATE_BYTES}, large[2] = {1, TEZGUMI_DUMP_STATE_BYTES + 1}, zero[2] = {0, 0};
+    const uint32_t last[2] = {0, TEZGUMI_DUMP_PES};
+    const tezgumi_run most = {2, TEZGUMI_DUMP_PES, light, sizes, zero}, too_heavy = {2, 1, heaviest, sizes, zero};
+    const tezgumi_run heavy_one = {2, 1, heavy, sizes, zero}, large_one = {2, 1, light, large, zero};
+    const tezgumi_run more_pes = {2, TEZGUMI_DUMP_PES + 1, light, sizes, last};
     tezgumi_refinement d;
-    tezgumi_refinement_room(&d, 1, 1);
-    d.least = 5;
-    same("too great a load", tezgumi_refine_run(&run, 0, &d), TEZGUMI_BAD_LOAD);
-    test("and nothing is written", d.least == 5 && d.decision.cuts[1] == 0);
-    d.near_present = 1;
-    same("also of a check", tezgumi_check_refinement(&run, &d, NULL), TEZGUMI_BAD_LOAD);
+    tezgumi_refinement_room(&d, 2, TEZGUMI_DUMP_PES);
+    same("the greatest numbers", tezgumi_refine_run(&most, 0, &d), TEZGUMI_OK);
+    same("are right", tezgumi_check_refinement(&most, &d, NULL), TEZGUMI_OK);
     tezgumi_refinement_free(&d);
+    tezgumi_refinement_room(&d, 2, 1);
+    run_refused("loads that add up to 2^63", &too_heavy, &d, TEZGUMI_BAD_LOAD);
+    run_refused("a load of 2^47", &heavy_one, &d, TEZGUMI_TOO_LARGE);
+    run_refused("a size of 2^20 and one more", &large_one, &d, TEZGUMI_TOO_LARGE);
+    run_refused("257 PEs before", &more_pes, &d, TEZGUMI_TOO_LARGE);
+    same("too great a tolerance is said before", tezgumi_refine_run(&heavy_one, 1001, &d), TEZGUMI_BAD_TOLERANCE);
+    tezgumi_refinement_free(&d);
+}
+
+/* 65,537 elements and 257 PEs, for which tezgumi_refinement_room has no room: the exports refuse them too. */
+static void more_than_there_is_room_for(void)
+{
+    enum { MANY = TEZGUMI_DUMP_ELEMENTS + 1, PES = TEZGUMI_DUMP_PES + 1, MORE = 6 * MANY };
+    static uint64_t no_loads[MANY], rises[1];
+    static uint32_t words[MANY], room[MORE];
+    static int64_t prices[2 * PES];
+    static size_t starts[PES + 1];
+    uint64_t least = 5, bottleneck = 5, moved = 5;
+    uint32_t near_present = 5;
+    size_t count = 5, steps = 5;
+    int k;
+    for (k = 0; k < 2; k++) {
+        const size_t n = k == 0 ? MANY : 2, p = k == 0 ? 2 : PES;
+        same(k == 0 ? "65,537 elements" : "257 PEs",
+            tezgumi_refine(no_loads, n, words, n, words, n, 1, (uint32_t)p, 0, room, n, &least, &bottleneck, &moved, &near_present, room + MANY,
+                p + 1, room + 2 * MANY, p + 1, &count, room + 3 * MANY, p, prices, p, prices + PES, p, room + 4 * MANY, p + 1, room + 5 * MANY, p,
+                room + 5 * MANY + PES, p + 1, starts, p + 1, room, 0, rises, 0, &steps),
+            TEZGUMI_TOO_LARGE);
+        test("and nothing is written", least == 5 && bottleneck == 5 && moved == 5 && near_present == 5 && count == 5 && steps == 5);
+    }
 }
 
 static void the_refusals(void)
@@ -159,7 +200,8 @@ static void the_refusals(void)
     SHORT(present_len);
     SHORT(starts_len);
     SHORT(steps_len);
-    the_load();
+    the_limits();
+    more_than_there_is_room_for();
 }
 
 /* The check of a claim with one number changed answers this flaw, and what it names. */
@@ -265,6 +307,10 @@ static void the_struct(void)
     test("all is given back", !d.room && !d.steps && !d.decision.room);
     tezgumi_refinement_free(NULL);
     same("room for too many PEs", tezgumi_refinement_room(&d, N, TEZGUMI_PES + 1), TEZGUMI_BAD_INPUT);
+    same("room for none", tezgumi_refinement_room(&d, TEZGUMI_ELEMENTS, 0), TEZGUMI_BAD_INPUT);
+    same("room for 257 PEs", tezgumi_refinement_room(&d, N, TEZGUMI_DUMP_PES + 1), TEZGUMI_TOO_LARGE);
+    same("room for 65,537 elements", tezgumi_refinement_room(&d, TEZGUMI_DUMP_ELEMENTS + 1, P), TEZGUMI_TOO_LARGE);
+    test("nothing to free", !d.room && !d.steps && !d.decision.room);
     same("room for nothing", tezgumi_refinement_room(NULL, N, P), TEZGUMI_BAD_INPUT);
 }
 

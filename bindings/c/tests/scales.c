@@ -5,29 +5,35 @@
 #include <math.h>
 #include <tezgumi.h>
 
-enum { N = 7, TIMES = 2000 };
+enum { N = 7, TIMES = 2000, MANY = 131073 };
 
-/* The least power of two, from 2^-1074 on, in which the greatest load counts TEZGUMI_LOAD at most. */
-static int exponent_of(const double *loads, size_t n)
+/* The least power of two, from 2^-1074 on, in which the greatest load counts less than 2^bits. */
+static int exponent_of(const double *loads, size_t n, int bits)
 {
     int exponent = 1023;
     double greatest = 0;
     size_t i;
     for (i = 0; i < n; i++) greatest = loads[i] > greatest ? loads[i] : greatest;
-    while (exponent > -1074 && ldexp(greatest, 1 - exponent) < (double)TEZGUMI_LOAD + 1) exponent--;
+    while (exponent > -1074 && ldexp(greatest, 1 - exponent) < ldexp(1, bits)) exponent--;
     return exponent;
+}
+
+/* Whether the loads are counted so, into room for as many counts. */
+static int are_scaled(const double *loads, size_t n, int bits, uint64_t *counts)
+{
+    double unit = 7;
+    const int exponent = exponent_of(loads, n, bits);
+    size_t i;
+    if (tezgumi_scale_loads(loads, n, counts, &unit) != TEZGUMI_OK || unit != ldexp(1, exponent)) return 0;
+    for (i = 0; i < n; i++)
+        if ((double)counts[i] >= ldexp(1, bits) || (double)counts[i] != floor(ldexp(loads[i], -exponent))) return 0;
+    return 1;
 }
 
 static int is_scaled(const double *loads, size_t n)
 {
     uint64_t counts[N];
-    double unit = 7;
-    const int exponent = exponent_of(loads, n);
-    size_t i;
-    if (tezgumi_scale_loads(loads, n, counts, &unit) != TEZGUMI_OK || unit != ldexp(1, exponent)) return 0;
-    for (i = 0; i < n; i++)
-        if (counts[i] > TEZGUMI_LOAD || (double)counts[i] != floor(ldexp(loads[i], -exponent))) return 0;
-    return 1;
+    return are_scaled(loads, n, 47, counts);
 }
 
 /* A double of any exponent from the least to the greatest, by a generator of 64 bits. */
@@ -56,6 +62,23 @@ static void by_search(void)
     }
     test("2,000 lists at random", right);
     test("no load", is_scaled(NULL, 0));
+}
+
+/* Of more than 65,536 loads a count has fewer bits, so that all of them add up to less than 2^63. */
+static void many(void)
+{
+    static double loads[MANY];
+    static uint64_t counts[MANY];
+    uint64_t state = 1;
+    size_t i;
+    for (i = 0; i < MANY; i++) loads[i] = next_load(&state, -60, 30);
+    loads[65535] = loads[65536] = loads[131071] = loads[131072] = ldexp(1, 40);
+    test("65,536 loads", are_scaled(loads, 65536, 47, counts));
+    test("65,537 loads", are_scaled(loads, 65537, 46, counts));
+    test("131,072 loads", are_scaled(loads, 131072, 46, counts));
+    test("131,073 loads", are_scaled(loads, MANY, 45, counts));
+    for (i = 0; i < MANY; i++) loads[i] = 1;
+    test("as many equal loads", are_scaled(loads, MANY, 45, counts) && counts[0] == UINT64_C(1) << 44);
 }
 
 static void refused(const char *what, const double *loads, size_t n, int32_t wanted)
@@ -88,7 +111,7 @@ static void refusals(void)
     refused("one below 0", negative, 3, TEZGUMI_NEGATIVE);
     refused("minus infinity", below_all, 2, TEZGUMI_NEGATIVE);
     refused("no list", NULL, 2, TEZGUMI_BAD_INPUT);
-    refused("too many", infinite, TEZGUMI_ELEMENTS + 1, TEZGUMI_BAD_INPUT);
+    refused("too many", infinite, (size_t)TEZGUMI_ELEMENTS + 1, TEZGUMI_BAD_INPUT);
     refused("a misaligned list", misaligned, 2, TEZGUMI_BAD_INPUT);
     same("no room", tezgumi_scale_loads(room.loads, 2, NULL, &unit), TEZGUMI_BAD_INPUT);
     same("over the loads", tezgumi_scale_loads(room.loads, 2, room.counts + 1, &unit), TEZGUMI_BAD_INPUT);
@@ -100,6 +123,7 @@ static void refusals(void)
 int main(void)
 {
     by_search();
+    many();
     refusals();
     return failures != 0;
 }

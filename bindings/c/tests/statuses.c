@@ -2,7 +2,7 @@
 #include "harness.h"
 #include <tezgumi.h>
 
-enum { N = 3, P = 2, MANY = 65537 };
+enum { N = 3, P = 2, FULL = 32769 };
 
 /* Elements of loads 1, 1 and 2 on PEs 0, 1 and 0. Two blocks have a bottleneck of 2, and begin at elements 0 and 2. The
  * first on PE 1 and the second on PE 0 moves element 0 alone, of 10 bytes; the other way round moves 9 + 8. */
@@ -90,20 +90,18 @@ static void refused(const char *what, const input *i, int32_t status)
 
 static void the_inputs(void)
 {
-    static const uint64_t heavy[N] = {1, TEZGUMI_LOAD + 1, 2};
-    static const uint32_t large[N] = {10, TEZGUMI_STATE_BYTES + 1, 8}, astray[N] = {0, 2, 0};
-    static uint64_t many_loads[MANY];
-    static uint32_t many_words[MANY];
+    static const uint64_t heavy[N] = {1, TEZGUMI_TOTAL_LOAD - 1, 1}, wrapped[N] = {UINT64_MAX, 1, 1};
+    static const uint32_t astray[N] = {0, 2, 0};
     input i = right_input;
     i.procs = 0;
     refused("no PE before", &i, TEZGUMI_BAD_INPUT);
     i.procs = TEZGUMI_PES + 1;
-    refused("257 PEs before", &i, TEZGUMI_BAD_INPUT);
+    refused("4,097 PEs before", &i, TEZGUMI_BAD_INPUT);
     i = right_input;
     i.pes = 0;
     refused("no PE after", &i, TEZGUMI_BAD_INPUT);
     i.pes = TEZGUMI_PES + 1;
-    refused("257 PEs after", &i, TEZGUMI_BAD_INPUT);
+    refused("4,097 PEs after", &i, TEZGUMI_BAD_INPUT);
     i = right_input;
     i.loads_len = N - 1;
     refused("a load less", &i, TEZGUMI_BAD_INPUT);
@@ -117,16 +115,58 @@ static void the_inputs(void)
     i.places = astray;
     refused("a place that is no PE", &i, TEZGUMI_BAD_INPUT);
     i.loads = heavy;
-    refused("and a load that is too great", &i, TEZGUMI_BAD_INPUT);
+    refused("and loads that add up to too much", &i, TEZGUMI_BAD_INPUT);
     i.places = places;
-    refused("a load that is too great", &i, TEZGUMI_BAD_LOAD);
-    i = right_input;
-    i.bytes = large;
-    refused("a size that is too great", &i, TEZGUMI_BAD_INPUT);
-    i.loads = many_loads;
-    i.bytes = i.places = many_words;
-    i.loads_len = i.bytes_len = i.places_len = MANY;
-    refused("65,537 elements", &i, TEZGUMI_BAD_INPUT);
+    refused("loads that add up to 2^63", &i, TEZGUMI_BAD_LOAD);
+    i.loads = wrapped;
+    refused("loads that add up to 2^64 and 1", &i, TEZGUMI_BAD_LOAD);
+}
+
+/* 32,768 of the greatest sizes of 32 bits and one more, which is given: 2^47 in all where it is 2^15. */
+static void the_sizes(void)
+{
+    static uint64_t no_loads[FULL];
+    static uint32_t sizes[FULL], stands[FULL];
+    static uint32_t to[FULL];
+    const tezgumi_run run = {FULL, 1, no_loads, sizes, stands};
+    input i = {no_loads, sizes, stands, FULL, FULL, FULL, 1, P};
+    uint64_t bottleneck = 7, moved = 7;
+    uint32_t k;
+    for (k = 0; k < FULL - 1; k++) sizes[k] = UINT32_MAX;
+    sizes[FULL - 1] = 32768;
+    same("sizes that add up to 2^47", tezgumi_plan_run(&run, P, to, &bottleneck, &moved), TEZGUMI_OK);
+    test("stay where they are", bottleneck == 0 && moved == 0);
+    sizes[FULL - 1]++;
+    refused("a byte more", &i, TEZGUMI_BAD_INPUT);
+    sizes[0] = 0;
+    same("and without one of them", tezgumi_plan_run(&run, P, to, &bottleneck, &moved), TEZGUMI_OK);
+}
+
+/* One heavy element and a light one, on the greatest PE there may be: each limit but the number of elements is met. */
+static void the_greatest_numbers(void)
+{
+    static const uint64_t all[2] = {TEZGUMI_TOTAL_LOAD - 5, 5}, half[1] = {UINT64_C(1) << 62};
+    static const uint32_t sizes[2] = {UINT32_MAX, 1}, last[2] = {TEZGUMI_PES - 1, TEZGUMI_PES - 1};
+    const tezgumi_run run = {2, TEZGUMI_PES, all, sizes, last}, one = {1, TEZGUMI_PES, half, sizes, last};
+    tezgumi_decision d;
+    tezgumi_decision_room(&d, 2, TEZGUMI_PES);
+    same("loads that add up to 2^63 - 1", tezgumi_decide_run(&run, &d), TEZGUMI_OK);
+    test("the heavy one is a block, and stays", d.bottleneck == TEZGUMI_TOTAL_LOAD - 5 && d.new_places[0] == TEZGUMI_PES - 1);
+    test("the light one moves", d.moved == 1 && d.new_places[1] != TEZGUMI_PES - 1);
+    same("and that is right", tezgumi_check_run(&run, &d), TEZGUMI_OK);
+    d.bottleneck--;
+    same("but no bottleneck less", tezgumi_check_run(&run, &d), TEZGUMI_HEAVY);
+    tezgumi_decision_free(&d);
+    tezgumi_decision_room(&d, 2, 1);
+    same("all on one PE", tezgumi_decide_run(&run, &d), TEZGUMI_OK);
+    test("all load and all bytes", d.bottleneck == TEZGUMI_TOTAL_LOAD && d.moved == UINT64_C(4294967296));
+    same("is right", tezgumi_check_run(&run, &d), TEZGUMI_OK);
+    tezgumi_decision_free(&d);
+    tezgumi_decision_room(&d, 1, 2);
+    same("one load of 2^62", tezgumi_decide_run(&one, &d), TEZGUMI_OK);
+    test("is the bottleneck", d.bottleneck == half[0]);
+    same("and that is right", tezgumi_check_run(&one, &d), TEZGUMI_OK);
+    tezgumi_decision_free(&d);
 }
 
 static void the_room(void)
@@ -187,31 +227,32 @@ static void the_flaws(void)
     FLAW(TEZGUMI_PRICE_HIGH, o.block_prices[1] = INT64_MAX; o.pe_prices[0] = INT64_MAX);
 }
 
-/* The greatest of everything. A block of 256 elements of the greatest load weighs 2^8 times as much. */
+/* The greatest of everything that a dump holds. A block of 256 elements of the greatest load weighs 2^8 times as much. */
 static void the_limits(void)
 {
-    static uint64_t all_loads[TEZGUMI_ELEMENTS];
-    static uint32_t all_bytes[TEZGUMI_ELEMENTS], all_places[TEZGUMI_ELEMENTS];
-    const tezgumi_run run = {TEZGUMI_ELEMENTS, TEZGUMI_PES, all_loads, all_bytes, all_places};
+    enum { ELEMENTS = TEZGUMI_DUMP_ELEMENTS, PES = TEZGUMI_DUMP_PES };
+    static uint64_t all_loads[ELEMENTS];
+    static uint32_t all_bytes[ELEMENTS], all_places[ELEMENTS];
+    const tezgumi_run run = {ELEMENTS, PES, all_loads, all_bytes, all_places};
     tezgumi_decision d;
     uint32_t i, right = 0;
-    for (i = 0; i < TEZGUMI_ELEMENTS; i++) {
-        all_loads[i] = TEZGUMI_LOAD;
-        all_bytes[i] = TEZGUMI_STATE_BYTES;
-        all_places[i] = TEZGUMI_PES - 1 - i / 256;
+    for (i = 0; i < ELEMENTS; i++) {
+        all_loads[i] = TEZGUMI_DUMP_LOAD;
+        all_bytes[i] = TEZGUMI_DUMP_STATE_BYTES;
+        all_places[i] = PES - 1 - i / 256;
     }
-    tezgumi_decision_room(&d, run.n, TEZGUMI_PES);
+    tezgumi_decision_room(&d, run.n, PES);
     same("the greatest run is decided", tezgumi_decide_run(&run, &d), TEZGUMI_OK);
-    test("256 of the greatest loads", d.bottleneck == TEZGUMI_LOAD * 256);
+    test("256 of the greatest loads", d.bottleneck == TEZGUMI_DUMP_LOAD * 256);
     same("nothing moves", (long long)d.moved, 0);
-    for (i = 0; i < TEZGUMI_ELEMENTS; i++) right += d.new_places[i] == all_places[i];
-    same("each element stays", right, TEZGUMI_ELEMENTS);
+    for (i = 0; i < ELEMENTS; i++) right += d.new_places[i] == all_places[i];
+    same("each element stays", right, ELEMENTS);
     same("the greatest decision is right", tezgumi_check_run(&run, &d), TEZGUMI_OK);
     tezgumi_decision_free(&d);
     tezgumi_decision_room(&d, run.n, 1);
     same("all on one PE", tezgumi_decide_run(&run, &d), TEZGUMI_OK);
-    test("65,536 of the greatest loads", d.bottleneck == TEZGUMI_LOAD * TEZGUMI_ELEMENTS);
-    test("all but 256 of the greatest sizes move", d.moved == (uint64_t)TEZGUMI_STATE_BYTES * (TEZGUMI_ELEMENTS - 256));
+    test("65,536 of the greatest loads", d.bottleneck == TEZGUMI_DUMP_LOAD * ELEMENTS);
+    test("all but 256 of the greatest sizes move", d.moved == (uint64_t)TEZGUMI_DUMP_STATE_BYTES * (ELEMENTS - 256));
     same("and that is right", tezgumi_check_run(&run, &d), TEZGUMI_OK);
     tezgumi_decision_free(&d);
 }
@@ -219,10 +260,10 @@ static void the_limits(void)
 static void the_names(void)
 {
     int32_t a, b, distinct = 1;
-    for (a = -7; a <= 31; a++)
-        for (b = -7; b < a; b++) distinct = distinct && strcmp(tezgumi_status_name(a), tezgumi_status_name(b));
+    for (a = -8; a <= 31; a++)
+        for (b = -8; b < a; b++) distinct = distinct && strcmp(tezgumi_status_name(a), tezgumi_status_name(b));
     test("each status has a name of its own", distinct);
-    test("another has none", !strcmp(tezgumi_status_name(31), "unknown status") && !strcmp(tezgumi_status_name(-8), "unknown status"));
+    test("another has none", !strcmp(tezgumi_status_name(31), "unknown status") && !strcmp(tezgumi_status_name(-9), "unknown status"));
     same("the library fits the header", tezgumi_abi(), TEZGUMI_ABI);
 }
 
@@ -230,6 +271,8 @@ int main(void)
 {
     the_example();
     the_inputs();
+    the_sizes();
+    the_greatest_numbers();
     the_room();
     the_flaws();
     the_limits();

@@ -38,8 +38,9 @@ class Browser:
 
         def put_pipes():  # the protocol is spoken on the descriptors 3 and 4
             high = [os.dup(asks), os.dup(answers)]
-            os.dup2(high[0], 3)
-            os.dup2(high[1], 4)
+            for place, pipe in zip((3, 4), high):
+                os.dup2(pipe, place)
+                os.set_inheritable(place, True)  # which dup2 leaves as it is where the two are the same
 
         self.process = subprocess.Popen(
             words, stdin=subprocess.DEVNULL, stdout=subprocess.DEVNULL, stderr=subprocess.DEVNULL, preexec_fn=put_pipes,

@@ -59,9 +59,14 @@ def flaw_of_names(run, claim):
     return None
 
 
-def block_cost(run, claim, block, pe):
+def block_costs(run, claim, block):
+    """The bytes of a block that stand elsewhere, for each PE."""
     part = range(claim["cuts"][block], claim["cuts"][block + 1])
-    return sum(run["bytes"][i] for i in part if run["places"][i] != pe)
+    costs = [sum(run["bytes"][i] for i in part)] * claim["pes"]
+    for i in part:
+        if run["places"][i] < claim["pes"]:
+            costs[run["places"][i]] -= run["bytes"][i]
+    return costs
 
 
 def flaw_of_prices(run, claim):
@@ -69,8 +74,8 @@ def flaw_of_prices(run, claim):
     if len(u) != pes or len(v) != pes:
         return "PriceCount"
     for block in range(pes):
-        for pe in range(pes):
-            if u[block] + v[pe] > block_cost(run, claim, block, pe):
+        for pe, cost in enumerate(block_costs(run, claim, block)):
+            if u[block] + v[pe] > cost:
                 return f"PriceHigh {block} {pe}"
     if sum(u) + sum(v) != moved_by_names(run, claim):
         return "PriceGap"
@@ -78,7 +83,7 @@ def flaw_of_prices(run, claim):
 
 
 def moved_by_names(run, claim):
-    return sum(block_cost(run, claim, block, pe) for block, pe in enumerate(claim["names"]))
+    return sum(block_costs(run, claim, block)[pe] for block, pe in enumerate(claim["names"]))
 
 
 def flaw_of_moves(run, claim):

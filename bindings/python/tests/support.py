@@ -91,16 +91,16 @@ def random_run(seed, elements=24, pes=8):
     """A run, and a number of PEs to plan for: every fourth has few loads but 0, and every fifth ones near the limit."""
     rng = random.Random(seed)
     count, procs = rng.randint(0, elements), rng.randint(1, pes)
-    top = tezgumi.LOAD if seed % 5 == 0 else rng.choice((1, 3, 10, 1000))
+    top = tezgumi.DUMP_LOAD if seed % 5 == 0 else rng.choice((1, 3, 10, 1000))
     loads = [0 if seed % 4 == 0 and rng.random() < 0.7 else rng.randint(0, top) for _ in range(count)]
-    sizes = [rng.choice((0, 1, rng.randint(0, 9), rng.randint(0, tezgumi.STATE_BYTES))) for _ in range(count)]
+    sizes = [rng.choice((0, 1, rng.randint(0, 9), rng.randint(0, tezgumi.DUMP_STATE_BYTES))) for _ in range(count)]
     places = [rng.randrange(procs) for _ in range(count)]
     if seed % 3 == 0:
         places.sort()
     return tezgumi.Run(procs, loads, sizes, places, step=seed), rng.randint(1, pes)
 
 
-def large_run(elements=tezgumi.ELEMENTS, pes=tezgumi.PES, seed=1):
+def large_run(elements=tezgumi.DUMP_ELEMENTS, pes=tezgumi.DUMP_PES, seed=1):
     rng = np.random.default_rng(seed)
     places = np.arange(elements) * pes // max(elements, 1)
     return tezgumi.Run(pes, rng.integers(0, 1000, elements), rng.integers(0, 100_000, elements), places)

@@ -133,7 +133,7 @@ class Writing(TimedTest):
 
     def test_full_and_empty_runs(self):
         run = large_run()
-        most = replace(run, loads=np.full(len(run), tezgumi.LOAD), bytes=np.full(len(run), tezgumi.STATE_BYTES))
+        most = replace(run, loads=np.full(len(run), tezgumi.DUMP_LOAD), bytes=np.full(len(run), tezgumi.DUMP_STATE_BYTES))
         for one in (run, most, tezgumi.Run(256, [], [], [])):
             self.assertEqual(tezgumi.decode(tezgumi.encode(one)), (one, None))
         self.assertEqual(tezgumi.decode(tezgumi.encode(run, version=1)), (run, None))
@@ -149,6 +149,22 @@ class Writing(TimedTest):
         run = replace(THREE, loads=[0, 0, 0])
         decision = tezgumi.Decision(2, [0, 0, 0], 0, 9, [0, 3, 3], [], [0, 1], [9, 0], [0, 0], [(1, 1, 0)])
         self.assertEqual(tezgumi.decode(tezgumi.encode(run, decision)), (run, decision))
+
+    def test_runs_that_are_larger_than_a_dump(self):
+        many, run, decision = [0] * 65_537, *tezgumi.decode(THREE_2)
+        wide = tezgumi.Decision(257, [1, 1, 0], 2, 10, [0] * 258, [], range(257), [0] * 257, [0] * 257, [(0, 0, 1)])
+        for given, text in (
+                ((tezgumi.Run(2, many, many, many),), "^there are 65537 elements, and a dump has at most 65536$"),
+                ((replace(run, procs=257), decision), "^the run has 257 PEs, and a dump has at most 256$"),
+                ((replace(run, loads=[1, 2**47, 1]),), "^element 1 has the load 140737488355328, and in a dump it has at most 140737488355327$"),
+                ((replace(run, bytes=[1, 1, 2**20 + 1]),), "^element 2 has 1048577 bytes, and in a dump it has at most 1048576$"),
+                ((run, wide), "^the decision is for 257 PEs, and a dump has at most 256$")):
+            for version in (1, 2) if len(given) == 1 else (2,):
+                self.assertRaisesRegex(tezgumi.InputError, text, tezgumi.encode, *given, version=version)
+        with tempfile.TemporaryDirectory() as folder:
+            path = os.path.join(folder, "mine.lbd2")
+            self.assertRaises(tezgumi.InputError, tezgumi.write_dump, path, tezgumi.Run(2, many, many, many))
+            self.assertFalse(os.path.exists(path))
 
     def test_what_a_format_has_no_room_for(self):
         run, decision = tezgumi.decode(THREE_2)

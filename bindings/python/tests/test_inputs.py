@@ -1,10 +1,13 @@
 """Runs and decisions: what they take, what they refuse and why, and how they are shown."""
+import array
 from dataclasses import FrozenInstanceError, replace
+from unittest import mock
 
 import numpy as np
 
 import tezgumi
-from support import THREE, TimedTest, front, large_run
+from support import THREE, TimedTest, front
+from tezgumi import runs
 
 
 class Taken(TimedTest):
@@ -20,9 +23,27 @@ class Taken(TimedTest):
         self.assertEqual(len(tezgumi.Run(1, range(0), np.array([]), ())), 0)
 
     def test_the_greatest_numbers(self):
-        run = tezgumi.Run(256, [tezgumi.LOAD], [tezgumi.STATE_BYTES], [255], step=2**32 - 1)
-        self.assertEqual((run.loads[0], run.bytes[0], run.places[0]), (2**47 - 1, 2**20, 255))
-        self.assertEqual(len(large_run()), 65_536)
+        run = tezgumi.Run(4096, [tezgumi.TOTAL_LOAD], [2**32 - 1], [4095], step=2**32 - 1)
+        self.assertEqual((run.loads[0], run.bytes[0], run.places[0]), (2**63 - 1, 2**32 - 1, 4095))
+        sizes = np.append(np.full(2**15, 2**32 - 1, np.uint32), np.uint32(2**15))
+        run = tezgumi.Run(1, np.zeros(2**15 + 1, int), sizes, np.zeros(2**15 + 1, int))
+        self.assertEqual(int(run.bytes.sum(dtype=np.uint64)), tezgumi.TOTAL_BYTES)
+
+    def test_what_has_a_buffer(self):
+        loads, sizes, places = (array.array(kind, numbers) for kind, numbers in (("Q", [1, 1, 2]), ("I", [10, 9, 8]), ("I", [0, 1, 0])))
+        for make in (lambda numbers: numbers, memoryview, np.asarray):
+            lists = [make(numbers) for numbers in (loads, sizes, places)]
+            self.assertEqual(tezgumi.Run(2, *lists, step=5), THREE)
+            seen = tezgumi.Run(2, *lists, step=5, copy=False)
+            self.assertEqual(seen, THREE)
+            for numbers, own in ((seen.loads, loads), (seen.bytes, sizes), (seen.places, places)):
+                self.assertEqual(numbers.__array_interface__["data"][0], own.buffer_info()[0])
+                self.assertFalse(numbers.flags.writeable)
+            self.assertEqual(tezgumi.decide(seen).places.tolist(), [1, 1, 0])
+        other = array.array("q", [1, 1, 2])
+        seen = tezgumi.Run(2, other, sizes, places, step=5, copy=False)
+        self.assertEqual(seen, THREE)
+        self.assertNotEqual(seen.loads.__array_interface__["data"][0], other.buffer_info()[0])
 
     def test_a_run_is_a_copy_that_stays(self):
         loads = np.array([1, 1, 2], np.uint64)
@@ -69,11 +90,11 @@ class Refused(TimedTest):
             replace(THREE, **changed)
 
     def test_a_load(self):
-        text = "^element 1 has too great a load: 140737488355328, and at most 140737488355327 is taken$"
-        self.refuses(text, tezgumi.LoadError, loads=[1, 2**47, 1])
+        text = "^element 1 has too great a load: 9223372036854775808, and at most 9223372036854775807 is taken$"
+        self.refuses(text, tezgumi.LoadError, loads=[1, 2**63, 1])
         self.refuses("^element 2 has too great a load", tezgumi.LoadError, loads=[1, 1, 2**70])
         self.refuses("^element 1 has too great a load", tezgumi.LoadError, loads=np.array([1, np.uint64(2**63), 2], object))
-        self.refuses("^element 0 has the load -1, and not a whole number from 0 to 140737488355327$", loads=[-1, 1, 1])
+        self.refuses("^element 0 has the load -1, and not a whole number from 0 to 9223372036854775807$", loads=[-1, 1, 1])
         self.refuses("^element 1 has the load 1.5, and not a whole number", loads=[1, 1.5, 1])
         self.refuses("^element 0 has the load nan", loads=np.array([np.nan, 1, 1]))
         self.refuses("^element 0 has the load 1.0", loads=np.array([1.0, 1.0, 1.0]))
@@ -82,9 +103,21 @@ class Refused(TimedTest):
         self.refuses("^element 0 has the load '1'", loads=["1", "2", "3"])
         self.refuses("^element 1 has the load -1", loads=[2**63, -1, 1][::-1])
 
+    def test_loads_that_add_up_to_too_much(self):
+        for loads, whole in (([2**62, 2**62, 0], 2**63), ([2**63 - 1, 2**63 - 1, 3], 2**64 + 1), ([1, 2**63 - 1, 0], 2**63)):
+            text = f"^the loads add up to {whole}, and at most 9223372036854775807 is taken$"
+            self.refuses(text, tezgumi.LoadError, loads=loads)
+        self.assertEqual(replace(THREE, loads=[2**62, 2**62 - 1, 0]).loads.tolist(), [2**62, 2**62 - 1, 0])
+
+    def test_packed_sizes_that_add_up_to_too_much(self):
+        sizes = np.append(np.full(2**15, 2**32 - 1, np.uint32), np.uint32(2**15 + 1))
+        text = "^the packed sizes add up to 140737488355329, and at most 140737488355328 bytes are taken$"
+        with self.assertRaisesRegex(tezgumi.InputError, text):
+            tezgumi.Run(1, np.full(sizes.size, 2**60), sizes, np.zeros(sizes.size, int))
+
     def test_a_packed_size(self):
-        self.refuses("^element 2 has more than 1048576 bytes: 1048577$", bytes=[1, 1, 2**20 + 1])
-        self.refuses("^element 0 has the packed size -3, and not a whole number from 0 to 1048576$", bytes=[-3, 1, 1])
+        self.refuses("^element 2 has more than 4294967295 bytes: 4294967296$", bytes=[1, 1, 2**32])
+        self.refuses("^element 0 has the packed size -3, and not a whole number from 0 to 4294967295$", bytes=[-3, 1, 1])
 
     def test_a_place(self):
         self.refuses("^element 1 is on no processor: its place is 2, and with 2 PEs it is 0 to 1$", places=[0, 2, 0])
@@ -92,8 +125,8 @@ class Refused(TimedTest):
         self.refuses("^element 1 is on no processor: its place is 1, and with 1 PEs", procs=1)
 
     def test_numbers_of_pes_and_steps(self):
-        for procs in (0, 257, -1, True):
-            self.refuses("^procs is .*; it has to be 1 to 256$", procs=procs)
+        for procs in (0, 4097, -1, True):
+            self.refuses("^procs is .*; it has to be 1 to 4096$", procs=procs)
         self.refuses("^procs is 2.0, which is no whole number$", procs=2.0)
         self.refuses("^step is 4294967296; it has to be 0 to 4294967295$", step=2**32)
 
@@ -102,12 +135,12 @@ class Refused(TimedTest):
         self.refuses("^loads: a list of one dimension is wanted, and not of 2$", loads=[[1], [2], [3]])
         self.refuses("^bytes: a list of one dimension is wanted, and not of 0$", bytes=5)
         self.refuses("^places: a list of whole numbers is wanted", places=[[1], [2, 3]])
-        many = [0] * 65_537
-        with self.assertRaisesRegex(tezgumi.InputError, "^there are 65537 elements, and at most 65536 are taken$"):
-            tezgumi.Run(1, many, many, many)
+        text = "^there are 3 elements, and at most 2 are taken$"
+        with mock.patch.object(runs, "ELEMENTS", 2), self.assertRaisesRegex(tezgumi.InputError, text):
+            replace(THREE)
 
     def test_a_place_is_told_before_a_load_that_is_too_great(self):
-        self.refuses("^element 2 is on no processor", loads=[2**47, 1, 1], places=[0, 0, 2])
+        self.refuses("^element 2 is on no processor", loads=[2**63, 1, 1], places=[0, 0, 2])
 
     def test_a_decision(self):
         decision = tezgumi.Decision(2, [1, 1, 0], 2, 10, [0, 2, 3], [0, 1, 2], [1, 0], [10, 1], [-1, 0], [(0, 0, 1)])

@@ -142,7 +142,7 @@ class Written(InAFolder):
         self.assertIn("<title>Three</title>", read_bytes(self.path).decode())
         for words, status, text in (
                 (("page", dumps[0]), 2, "-o"), (("page", "-o", self.path), 2, "FILE"), (("page",), 3, "dump: read failed"),
-                (("page", dumps[0], "-o", self.path, "--procs", "0"), 2, "0 is not 1 to 256"),
+                (("page", dumps[0], "-o", self.path, "--procs", "0"), 2, "0 is not 1 to 4096"),
                 (("page", dumps[0], "README.md", "-o", self.path), 3, "dump: not LBD1 or LBD2 (in README.md)"),
                 (("page", dumps[0], "-o", self.path, "--trace", "README.md"), 3, "trace: no JSON"),
                 (("page", dumps[0], "-o", os.path.join(self.folder, "a", "b")), 5, "No such file")):
@@ -368,12 +368,12 @@ class Seen(InAFolder):
         self.assertEqual({row[17] for row in self.open(rounds).rows("all-rounds")}, {"holds"})
 
     def test_the_greatest_numbers(self):
-        most = tezgumi.Run(2, [tezgumi.LOAD] * 9, [tezgumi.STATE_BYTES] * 9, [0] * 9, step=2**32 - 1)
+        most = tezgumi.Run(2, [tezgumi.DUMP_LOAD] * 9, [tezgumi.DUMP_STATE_BYTES] * 9, [0] * 9, step=2**32 - 1)
         low, high = -2**63, 2**63 - 1
         forged = [replace(RIGHT, block_prices=one, pe_prices=other) for one, other in (
             ([high, high], [high, high]), ([low, low], [low, low]), ([high, 1], [low, 0]), ([low, high], [0, low]))]
         rows = self.open([(most, decided(most)), *((THREE, one) for one in forged)]).rows("all-rounds")
-        self.assertEqual((rows[0][4], rows[0][17]), (str(9 * tezgumi.LOAD), "holds"))
+        self.assertEqual((rows[0][4], rows[0][17]), (str(9 * tezgumi.DUMP_LOAD), "holds"))
         self.assertEqual([row[17] for row in rows[1:]], ["PriceHigh 0 0", "PriceGap", "PriceHigh 0 1", "PriceHigh 1 0"])
 
     def test_rounds_with_little_in_them(self):

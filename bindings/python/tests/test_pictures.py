@@ -36,7 +36,7 @@ def small():
 
 def runs():
     """Runs of many sizes, each with a number of PEs to plan for."""
-    scattered = replace(large_run(), places=np.random.default_rng(2).integers(0, 256, tezgumi.ELEMENTS))
+    scattered = replace(large_run(), places=np.random.default_rng(2).integers(0, 256, tezgumi.DUMP_ELEMENTS))
     return {
         "none": (tezgumi.Run(3, [], [], []), 3),
         "one": (tezgumi.Run(1, [5], [7], [0]), 1),
@@ -50,7 +50,7 @@ def runs():
         "65,536": (large_run(), 256),
         "65,536 on 8": (large_run(pes=8), 8),
         "scattered": (scattered, 256),
-        "greatest": (tezgumi.Run(2, [tezgumi.LOAD] * 9, [tezgumi.STATE_BYTES] * 9, [0] * 9), 2),
+        "greatest": (tezgumi.Run(2, [tezgumi.DUMP_LOAD] * 9, [tezgumi.DUMP_STATE_BYTES] * 9, [0] * 9), 2),
     }
 
 

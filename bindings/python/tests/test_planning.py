@@ -82,17 +82,17 @@ class Calls(TimedTest):
         plain = tezgumi.Run(16, run.loads.tolist(), run.bytes.tolist(), run.places.tolist(), step=12)
         self.assertEqual(tezgumi.decide(plain), tezgumi.decide(run))
 
-    def test_the_most_elements_and_the_greatest_numbers(self):
-        count = tezgumi.ELEMENTS
-        run = tezgumi.Run(256, np.full(count, tezgumi.LOAD), np.full(count, tezgumi.STATE_BYTES), np.arange(count) % 256)
+    def test_the_most_elements_and_the_greatest_numbers_of_a_dump(self):
+        count, load, size = tezgumi.DUMP_ELEMENTS, tezgumi.DUMP_LOAD, tezgumi.DUMP_STATE_BYTES
+        run = tezgumi.Run(256, np.full(count, load), np.full(count, size), np.arange(count) % 256)
         decision = tezgumi.decide(run)
-        self.assertEqual(decision.bottleneck, 256 * tezgumi.LOAD)
-        self.assertEqual(decision.moved, (count - 256) * tezgumi.STATE_BYTES)
+        self.assertEqual(decision.bottleneck, 256 * load)
+        self.assertEqual(decision.moved, (count - 256) * size)
         self.assertTrue(tezgumi.check(run, decision))
 
     def test_more_and_fewer_pes_than_the_run_has(self):
         run = front()
-        for pes in (1, 7, 256):
+        for pes in (1, 7, 256, 4096):
             decision = tezgumi.decide(run, pes)
             self.assertEqual((decision.pes, len(decision.cuts), len(decision.names)), (pes, pes + 1, pes))
             self.assertTrue(tezgumi.check(run, decision))
@@ -111,8 +111,8 @@ class Calls(TimedTest):
 
     def test_wrong_numbers_of_pes(self):
         for call in (tezgumi.plan, tezgumi.decide):
-            for pes in (0, 257, -1, True):
-                self.assertRaisesRegex(tezgumi.InputError, "^pes is .*; it has to be 1 to 256$", call, THREE, pes)
+            for pes in (0, 4097, -1, True):
+                self.assertRaisesRegex(tezgumi.InputError, "^pes is .*; it has to be 1 to 4096$", call, THREE, pes)
             self.assertRaisesRegex(tezgumi.InputError, "^pes is 2.0, which is no whole number$", call, THREE, 2.0)
 
     def test_what_is_answered_stays(self):
@@ -140,13 +140,16 @@ class Statuses(TimedTest):
     def test_input(self):
         text = "^the library refuses the run or the number of PEs$"
         self.assert_refused(tezgumi.InputError, text, self.forced(places=np.array([0, 2, 0], np.uint32)))
-        self.assert_refused(tezgumi.InputError, text, self.forced(bytes=np.array([0, 2**20 + 1, 0], np.uint32)))
-        self.assert_refused(tezgumi.InputError, text, self.forced(procs=257))
+        many = 2**15 + 1
+        self.assert_refused(tezgumi.InputError, text, self.forced(
+            loads=np.zeros(many, np.uint64), bytes=np.full(many, 2**32 - 1, np.uint32), places=np.zeros(many, np.uint32)))
+        self.assert_refused(tezgumi.InputError, text, self.forced(procs=4097))
         self.assert_refused(tezgumi.InputError, text, self.forced(places=np.array([0, 1], np.uint32)))
 
     def test_load(self):
-        wide = np.array([1, 2**47, 1], np.uint64)
-        self.assert_refused(tezgumi.LoadError, "^the library refuses a load as too great$", self.forced(loads=wide))
+        wide = np.array([0, 2**63 - 1, 1], np.uint64)
+        text = "^the library refuses the loads, which add up to too much$"
+        self.assert_refused(tezgumi.LoadError, text, self.forced(loads=wide))
         both = self.forced(loads=wide, procs=0)
         self.assert_refused(tezgumi.InputError, "^the library refuses the run", both)
 
@@ -194,12 +197,12 @@ class FiguresOfPlans(TimedTest):
         self.assertEqual((figures.imbalance_before, figures.imbalance_after, figures.greatest_after), (1.0, 1.0, 0))
 
     def test_sums_past_53_bits_are_exact(self):
-        count = tezgumi.ELEMENTS
-        run = tezgumi.Run(2, np.full(count, tezgumi.LOAD), np.zeros(count, int), np.arange(count) % 2)
+        count, load = tezgumi.DUMP_ELEMENTS, tezgumi.DUMP_LOAD
+        run = tezgumi.Run(2, np.full(count, load), np.zeros(count, int), np.arange(count) % 2)
         loads = tezgumi.pe_loads(run, run.places, 2)
-        self.assertEqual(loads.tolist(), [count // 2 * tezgumi.LOAD] * 2)
+        self.assertEqual(loads.tolist(), [count // 2 * load] * 2)
         figures = tezgumi.figures(run, tezgumi.Plan(2, np.arange(count) % 2, 0, 0))
-        self.assertEqual((figures.total_load, figures.imbalance_after), (count * tezgumi.LOAD, 1.0))
+        self.assertEqual((figures.total_load, figures.imbalance_after), (count * load, 1.0))
         self.assertIn("4,611,686,018,427,355,136.00", str(figures))
 
     def test_a_sweep(self):

@@ -72,7 +72,7 @@ class Program(TimedTest):
     def test_words_that_are_not_understood(self):
         for words, text in (
                 ((), "FILE"), (("a", "b"), "unrecognized"), (("a", "--procs"), "expected one argument"),
-                (("a", "--procs", "0"), "0 is not 1 to 256"), (("a", "--procs", "257"), "257 is not 1 to 256"),
+                (("a", "--procs", "0"), "0 is not 1 to 4096"), (("a", "--procs", "4097"), "4097 is not 1 to 4096"),
                 (("a", "--procs", "2,x"), "'2,x' is no list of whole numbers"),
                 (("a", "--tolerance", "1001"), "'1001' is not 0 to 1000"), (("a", "--tolerance", "2%"), "'2%' is not 0 to 1000")):
             status, out, errors = call(*words)

@@ -109,7 +109,7 @@ class TheExample(TimedTest):
     def test_odd_runs(self):
         for run in (
                 tezgumi.Run(3, [], [], []), tezgumi.Run(2, [0, 0, 0], [5, 6, 7], [1, 1, 0]),
-                tezgumi.Run(2, [1, 100, 1, 1], [5, 6, 7, 8], [1, 1, 0, 0]), tezgumi.Run(1, [tezgumi.LOAD], [1], [0])):
+                tezgumi.Run(2, [1, 100, 1, 1], [5, 6, 7, 8], [1, 1, 0, 0]), tezgumi.Run(1, [tezgumi.DUMP_LOAD], [1], [0])):
             for tolerance in (0, 20, 1000):
                 decision = tezgumi.decide(run, tolerance=tolerance)
                 self.assertEqual((str(tezgumi.check(run, decision)), decision.moved), ("check: ok", 0))
@@ -208,10 +208,21 @@ class Refused(TimedTest):
 
     def test_statuses(self):
         run = replace(TEN)
-        object.__setattr__(run, "procs", 257)
+        object.__setattr__(run, "procs", 4097)
         for call in (lambda: tezgumi.decide(run, 3, tolerance=5), lambda: tezgumi.check(run, near())):
             self.assertRaisesRegex(tezgumi.InputError, "^the library refuses the run or the number of PEs$", call)
         run = replace(TEN)
-        object.__setattr__(run, "loads", np.full(10, 2**47, np.uint64))
+        object.__setattr__(run, "loads", np.full(10, 2**60, np.uint64))
         for call in (lambda: tezgumi.decide(run, tolerance=5), lambda: tezgumi.check(run, near())):
-            self.assertRaisesRegex(tezgumi.LoadError, "^the library refuses a load as too great$", call)
+            self.assertRaisesRegex(tezgumi.LoadError, "^the library refuses the loads, which add up to too much$", call)
+
+    def test_runs_past_the_limits_of_a_tolerance(self):
+        text = r"^a tolerance is for at most 65,536 elements, of less than 2\^47 units and at most 1 MiB each, and 256 PEs$"
+        many, pes = [0] * 65_537, replace(TEN, procs=257)
+        heavy, large = replace(TEN, loads=[1] * 9 + [2**47]), replace(TEN, bytes=[2**20 + 1] + [1] * 9)
+        for run, count in ((pes, 3), (TEN, 257), (heavy, 3), (large, 3), (tezgumi.Run(3, many, many, many), 3)):
+            for call in (tezgumi.plan, tezgumi.decide):
+                self.assertRaisesRegex(tezgumi.InputError, text, call, run, count, tolerance=5)
+        for run in (heavy, large, pes):
+            self.assertRaisesRegex(tezgumi.InputError, text, tezgumi.check, run, near())
+            self.assertTrue(tezgumi.check(run, tezgumi.decide(run, 3)))

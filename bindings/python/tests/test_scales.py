@@ -6,6 +6,7 @@ import numpy as np
 
 import tezgumi
 from support import TimedTest
+from tezgumi import scales
 
 
 def run(loads, **words):
@@ -28,8 +29,14 @@ class Scaled(TimedTest):
             found = run(loads, scale=True)
             counts = [int(Fraction(float(load)) / Fraction(found.unit)) for load in loads]
             self.assertEqual(found.loads.tolist(), counts)
-            self.assertLessEqual(max(counts), tezgumi.LOAD)
-            self.assertGreater(2 * max(counts) + 1, tezgumi.LOAD)
+            self.assertLessEqual(max(counts), 2**47 - 1)
+            self.assertGreater(2 * max(counts) + 1, 2**47 - 1)
+
+    def test_more_loads_have_fewer_bits(self):
+        for count, bits in ((65_536, 47), (65_537, 46), (131_072, 46), (131_073, 45), (1_000_000, 43)):
+            found = run(np.ones(count), scale=True)
+            self.assertEqual((found.unit, int(found.loads[0])), (2.0**(1 - bits), 2**(bits - 1)))
+            self.assertEqual(found.loads.tolist(), [2**(bits - 1)] * count)
 
     def test_a_plan_in_seconds(self):
         found = run([0.1, 0.2, 0.3], scale=True)
@@ -56,8 +63,11 @@ class Scaled(TimedTest):
                 self.assertRaisesRegex(tezgumi.InputError, text, run, [1.0, load], **words)
             self.assertRaisesRegex(tezgumi.InputError, "one dimension", run, np.zeros((1, 2)), **words)
         self.assertRaisesRegex(tezgumi.InputError, "a list of numbers", run, [1.0, "a"], scale=True)
-        self.assertRaisesRegex(tezgumi.InputError, "65536 are taken", run, np.zeros(65_537), scale=True)
+        self.assertRaisesRegex(tezgumi.InputError, "there are 3 elements, and at most 2 are taken", scales.scaled, np.zeros(3), 2)
         self.assertRaisesRegex(tezgumi.LoadError, "element 0 has too great a load", run, [1e30, 1.0], unit=0.5)
+        self.assertRaisesRegex(tezgumi.LoadError, "element 1 has too great a load: 9.22.*e.18", run, [0.5, 2.0**63], unit=1.0)
+        self.assertEqual(run([2.0**62, 2.0**61], unit=1.0).loads.tolist(), [2**62, 2**61])
+        self.assertRaisesRegex(tezgumi.LoadError, "the loads add up to 9223372036854775808", run, [2.0**62, 2.0**62], unit=1.0)
         self.assertRaisesRegex(tezgumi.InputError, "leave one out", run, [1.0], scale=True, unit=0.5)
         for unit in (0, -1.0, float("nan"), float("inf"), "a"):
             self.assertRaisesRegex(tezgumi.InputError, "^unit is ", run, [1.0], unit=unit)

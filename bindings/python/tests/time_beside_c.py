@@ -20,7 +20,7 @@ sys.path[:0] = [os.path.dirname(HERE), HERE]
 import numpy as np
 
 import tezgumi
-from tezgumi.library import candidates
+from tezgumi.library import place
 
 INCLUDE = os.path.join(os.path.dirname(os.path.dirname(HERE)), "c", "include")
 SOURCE = r"""
@@ -51,7 +51,7 @@ double call(int kind, uint32_t n, uint32_t pes, const uint64_t *loads, const uin
 
 def compiled(folder):
     path = os.path.join(folder, "caller.so")
-    library = os.path.abspath(candidates()[0])
+    library = os.path.abspath(place())
     words = ["cc", "-O2", "-std=c99", "-shared", "-fPIC", "-I", INCLUDE, "-x", "c", "-", "-x", "none", library, "-o", path]
     subprocess.run(words, input=SOURCE.encode(), check=True)
     caller = ctypes.CDLL(path, mode=ctypes.RTLD_GLOBAL)
@@ -67,7 +67,7 @@ def timed(call):
 
 
 def main(rounds):
-    count, pes = tezgumi.ELEMENTS, tezgumi.PES
+    count, pes = 65_536, 256
     index = np.arange(count)
     front = 200 - np.minimum(np.abs(index - 40_000) // 20, 200)
     lists = (20 + index * 7 % 13 + front, np.uint64), (200 + index * 599 % 801, np.uint32), (index * pes // count, np.uint32)

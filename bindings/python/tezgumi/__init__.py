@@ -38,13 +38,14 @@ from .errors import DumpError, InputError, LibraryError, LoadError, OutOfMemory,
 from .figures import Figures, Sweep, figures, pe_loads, sweep, table
 from .page import page
 from .planning import check, decide, plan
-from .runs import ELEMENTS, LOAD, MOVE, PES, STATE_BYTES, TOLERANCE, Decision, NearDecision, Plan, Run
+from .runs import DUMP_ELEMENTS, DUMP_LOAD, DUMP_PES, DUMP_STATE_BYTES, ELEMENTS, MOVE, PES, TOLERANCE, TOTAL_BYTES, TOTAL_LOAD
+from .runs import Decision, NearDecision, Plan, Run
 from .texts import replay_text
 from .version import __version__
 
 __all__ = [
-    "ELEMENTS", "LOAD", "MOVE", "PES", "STATE_BYTES", "Decision", "Dump", "DumpError", "Figures", "Flaw", "InputError",
-    "LibraryError", "LoadError", "NearDecision", "OutOfMemory", "Plan", "Run", "Sweep", "TOLERANCE", "TezgumiError", "TraceError",
-    "Verdict", "__version__", "check", "decide", "decode", "encode", "figures", "page", "pe_loads", "plan", "read_dump",
-    "replay_text", "sweep", "table", "write_dump",
+    "DUMP_ELEMENTS", "DUMP_LOAD", "DUMP_PES", "DUMP_STATE_BYTES", "Decision", "Dump", "DumpError", "ELEMENTS", "Figures", "Flaw",
+    "InputError", "LibraryError", "LoadError", "MOVE", "NearDecision", "OutOfMemory", "PES", "Plan", "Run", "Sweep", "TOLERANCE",
+    "TOTAL_BYTES", "TOTAL_LOAD", "TezgumiError", "TraceError", "Verdict", "__version__", "check", "decide", "decode", "encode",
+    "figures", "page", "pe_loads", "plan", "read_dump", "replay_text", "sweep", "table", "write_dump",
 ]

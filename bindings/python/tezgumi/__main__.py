@@ -41,7 +41,7 @@ def _parser() -> argparse.ArgumentParser:
     parser.add_argument("file", metavar="FILE", help="a dump, LBD1 or LBD2")
     parser.add_argument("--version", action="version", version=f"tezgumi {tezgumi.__version__}")
     parser.add_argument(
-        "--procs", type=_counts, metavar="P[,P..]", help="numbers of PEs to plan for, 1 to 256; of several a row each")
+        "--procs", type=_counts, metavar="P[,P..]", help="numbers of PEs to plan for, 1 to 4096; of several a row each")
     parser.add_argument(
         "--tolerance", type=_tolerance, metavar="N",
         help="decide within N thousandths of the least load, 0 to 1000, where fewer bytes move by that")
@@ -59,7 +59,7 @@ def _page_parser() -> argparse.ArgumentParser:
     parser.add_argument("--trace", metavar="FILE", help="what happened in the run, in the Trace Event Format")
     parser.add_argument("--title", metavar="TEXT", help="what stands above the page; the names of the files, if left out")
     parser.add_argument(
-        "--procs", type=_count, metavar="P", help="decide anew for so many PEs, 1 to 256, and leave recorded decisions aside")
+        "--procs", type=_count, metavar="P", help="decide anew for so many PEs, 1 to 4096, and leave recorded decisions aside")
     parser.add_argument(
         "--tolerance", type=_tolerance, metavar="N",
         help="decide anew within N thousandths of the least load, 0 to 1000, where fewer bytes move by that")

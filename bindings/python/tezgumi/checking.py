@@ -101,7 +101,7 @@ def numbers_of(run: Run, decision: Decision, flaw: Flaw) -> Tuple[int, ...]:
 
 
 def running_sums(numbers: NDArray[Any]) -> NDArray[np.uint64]:
-    """The sum of the first k numbers, for each k: exact, as at most 65,536 numbers of 47 bits are 63 bits."""
+    """The sum of the first k numbers, for each k: exact, as all loads together are 63 bits, and all packed sizes fewer."""
     sums = np.zeros(len(numbers) + 1, np.uint64)
     np.cumsum(numbers, dtype=np.uint64, out=sums[1:])
     return sums
@@ -118,14 +118,20 @@ def _first(found: NDArray[np.bool_]) -> int:
 
 
 def _first_high_price(run: Run, decision: Decision) -> Tuple[int, ...]:
-    # Block by block, what it would move to each PE: its bytes less those that stand there. Sums of prices may pass 64 bits.
-    sums = running_sums(run.bytes)
-    pe_prices = decision.pe_prices.tolist()
+    # Block by block, what it would move to each PE: its bytes less those that stand there.
+    pes = decision.pes
     for block, price in enumerate(decision.block_prices.tolist()):
         part = slice(int(decision.cuts[block]), int(decision.cuts[block + 1]))
-        there = np.bincount(run.places[part], weights=run.bytes[part], minlength=decision.pes).astype(np.int64)
-        total = int(sums[part.stop] - sums[part.start])
-        for pe in range(decision.pes):
-            if price + pe_prices[pe] > total - int(there[pe]):
-                return block, pe
+        there = np.bincount(run.places[part], weights=run.bytes[part], minlength=pes)[:pes].astype(np.int64)
+        moved = int(run.bytes[part].sum(dtype=np.uint64)) - there
+        above = np.flatnonzero(_are_above(price, decision.pe_prices, moved))
+        if above.size:
+            return block, int(above[0])
     return ()
+
+
+def _are_above(price: int, prices: NDArray[np.int64], moved: NDArray[np.int64]) -> NDArray[np.bool_]:
+    # Whether the price and each of the others are together above the bytes. Great ones may add up to more than 64 bits.
+    if abs(price) < 2**62:
+        return prices > moved - price
+    return np.array([price + other > most for other, most in zip(prices.tolist(), moved.tolist())], bool)

@@ -10,7 +10,7 @@ from numpy.typing import NDArray
 
 from .errors import DumpError, InputError
 from .lists import whole_number
-from .runs import ELEMENTS, LOAD, MOVE, PES, STATE_BYTES, Decision, NearDecision, Run
+from .runs import DUMP_ELEMENTS, DUMP_LOAD, DUMP_PES, DUMP_STATE_BYTES, MOVE, Decision, NearDecision, Run
 
 _ROW = {
     1: np.dtype([("load", ">u4"), ("bytes", ">u4"), ("place", ">u4")]),
@@ -38,7 +38,8 @@ def read_dump(path: _Path) -> Dump:
 
 
 def write_dump(path: _Path, run: Run, decision: Decision | None = None, version: int = 2) -> None:
-    """Writes a dump into a file: LBD2, or with version=1 LBD1, which has loads below 2**32 and no decision."""
+    """Writes a dump into a file: LBD2, or with version=1 LBD1, which has loads below 2**32 and no decision. InputError tells what
+    the format does not hold: a dump has DUMP_ELEMENTS and DUMP_PES at most, and each element DUMP_LOAD and DUMP_STATE_BYTES."""
     data = encode(run, decision, version)
     with open(path, "wb") as file:
         file.write(data)
@@ -49,8 +50,8 @@ def decode(data: Union[bytes, bytearray, memoryview]) -> Dump:
     text = _Text(bytes(data))
     version = text.letters()
     step = text.word()
-    procs = text.ruled_word(lambda n: 1 <= n <= PES, f"procs out of 1..{PES}")
-    count = text.ruled_word(lambda n: n <= ELEMENTS, f"more than {ELEMENTS} elements")
+    procs = text.ruled_word(lambda n: 1 <= n <= DUMP_PES, f"procs out of 1..{DUMP_PES}")
+    count = text.ruled_word(lambda n: n <= DUMP_ELEMENTS, f"more than {DUMP_ELEMENTS} elements")
     rows = text.rows(_ROW[version], count, lambda rows: _element_faults(rows, procs))
     run = Run(procs, rows["load"], rows["bytes"], rows["place"], step)
     decision = None
@@ -66,6 +67,7 @@ def encode(run: Run, decision: Decision | None = None, version: int = 2) -> byte
         raise InputError(f"version is {version!r}, and the formats are 1 and 2")
     if isinstance(decision, NearDecision):
         raise InputError("a dump records a decision of the plan, and this one is within a tolerance")
+    _refuse_large(run)
     rows = np.empty(len(run), _ROW[version])
     if version == 1:
         _refuse_for_lbd1(run, decision)
@@ -81,8 +83,8 @@ def encode(run: Run, decision: Decision | None = None, version: int = 2) -> byte
 def _element_faults(rows: _Rows, procs: int) -> _Faults:
     # The fields of an element in order: which rows break each rule, the fault, and what to tell of it.
     return (
-        ("load", rows["load"] > LOAD, "element {} has too great a load", f"at most {LOAD}"),
-        ("bytes", rows["bytes"] > STATE_BYTES, f"element {{}} has more than {STATE_BYTES} bytes", "the packed size"),
+        ("load", rows["load"] > DUMP_LOAD, "element {} has too great a load", f"at most {DUMP_LOAD}"),
+        ("bytes", rows["bytes"] > DUMP_STATE_BYTES, f"element {{}} has more than {DUMP_STATE_BYTES} bytes", "the packed size"),
         ("place", rows["place"] >= procs, "element {} is on no processor", f"the run has {procs} PEs"),
     )
 
@@ -91,8 +93,8 @@ def _move_faults(rows: _Rows, count: int) -> _Faults:
     fault = "move {} is out of range"
     return (
         ("element", rows["element"] >= count, fault, f"an element of {count}"),
-        ("present", rows["present"] >= PES, fault, "its present PE"),
-        ("planned", rows["planned"] >= PES, fault, "its planned PE"),
+        ("present", rows["present"] >= DUMP_PES, fault, "its present PE"),
+        ("planned", rows["planned"] >= DUMP_PES, fault, "its planned PE"),
     )
 
 
@@ -173,7 +175,7 @@ class _Text:
 
 
 def _decision(text: _Text, run: Run) -> Decision:
-    pes = text.ruled_word(lambda n: 1 <= n <= PES, f"target out of 1..{PES}")
+    pes = text.ruled_word(lambda n: 1 <= n <= DUMP_PES, f"target out of 1..{DUMP_PES}")
     bottleneck = text.long()
     cuts = text.numbers(">u4", pes + 1)
     is_fence = text.ruled_word(lambda n: n <= 1, "floor is not 0 or 1")
@@ -191,6 +193,19 @@ def _places_after(run: Run, moves: _Rows) -> NDArray[np.uint32]:
     places = run.places.copy()
     places[moves["element"]] = moves["planned"]
     return places
+
+
+def _refuse_large(run: Run) -> None:
+    # A run may be larger than the formats are made for.
+    if len(run) > DUMP_ELEMENTS:
+        raise InputError(f"there are {len(run)} elements, and a dump has at most {DUMP_ELEMENTS}")
+    if run.procs > DUMP_PES:
+        raise InputError(f"the run has {run.procs} PEs, and a dump has at most {DUMP_PES}")
+    for numbers, most, told in ((run.loads, DUMP_LOAD, "the load {}"), (run.bytes, DUMP_STATE_BYTES, "{} bytes")):
+        above = numbers > most
+        if above.any():
+            element = int(np.argmax(above))
+            raise InputError(f"element {element} has {told.format(int(numbers[element]))}, and in a dump it has at most {most}")
 
 
 def _refuse_for_lbd1(run: Run, decision: Decision | None) -> None:
@@ -217,7 +232,9 @@ def _decision_bytes(run: Run, decision: Decision) -> bytes:
 def _refuse_unspelled(run: Run, decision: Decision) -> None:
     # The format has no room for lists of other lengths, and its places are those that the moves lead to.
     d = decision
-    pes = whole_number(d.pes, 1, PES, "pes")
+    if d.pes > DUMP_PES:
+        raise InputError(f"the decision is for {d.pes} PEs, and a dump has at most {DUMP_PES}")
+    pes = whole_number(d.pes, 1, DUMP_PES, "pes")
     for name, wanted in (("cuts", pes + 1), ("names", pes), ("block_prices", pes), ("pe_prices", pes)):
         if len(getattr(d, name)) != wanted:
             raise InputError(f"there are {len(getattr(d, name))} {name}, and for {pes} PEs a dump has {wanted}")

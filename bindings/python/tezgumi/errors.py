@@ -10,7 +10,7 @@ class InputError(TezgumiError, ValueError):
 
 
 class LoadError(InputError):
-    """All else is in order, and a load is above the greatest one."""
+    """All else is in order, and a load is above the greatest one, or the loads add up to more than that."""
 
 
 class OutOfMemory(TezgumiError, MemoryError):

@@ -12,6 +12,10 @@ from .planning import plan as plan_for
 from .runs import Plan, Run, on_no_processor
 
 
+PART = 2**20
+"""Loads are added up by so many elements at once."""
+
+
 class _Printer(Protocol):
     """What IPython hands to a value that is to be shown."""
 
@@ -135,27 +139,38 @@ def figures(run: Run, plan: Plan) -> Figures:
         moved_elements=int(np.count_nonzero(moves)),
         moved_bytes=int(run.bytes.sum(dtype=np.uint64, where=moves)),
         total_bytes=int(run.bytes.sum(dtype=np.uint64)),
-        leaving_bytes=_most_bytes(run.bytes[moves], run.places[moves]),
-        entering_bytes=_most_bytes(run.bytes[moves], plan.places[moves]),
+        leaving_bytes=int(_sums(run.bytes[moves], run.places[moves], run.procs).max()),
+        entering_bytes=int(_sums(run.bytes[moves], plan.places[moves], plan.pes).max()),
     )
 
 
 def pe_loads(run: Run, places: ArrayLike, pes: int) -> NDArray[np.uint64]:
     """The load of each PE where the elements stand at these places. Exact."""
-    stands = np.asarray(places, dtype=np.int64)
+    stands = np.asarray(places)
+    if not np.can_cast(stands.dtype, np.int64):
+        stands = stands.astype(np.int64)
     run.refuse_other_places(stands)
     if stands.size and int(stands.max()) >= pes:
         element = int(np.argmax(stands >= pes))
         raise on_no_processor(element, int(stands[element]), pes)
-    # A double holds sums up to 53 bits: those of the lower 24 bits of 65,536 loads have 40, and those of the rest 39.
-    low, high = (np.bincount(stands, weights=part, minlength=pes) for part in (run.loads & 0xFFFFFF, run.loads >> 24))
-    return low.astype(np.uint64) + (high.astype(np.uint64) << np.uint64(24))
+    return _sums(run.loads, stands, pes)
+
+
+def _sums(numbers: NDArray[Any], places: NDArray[Any], pes: int) -> NDArray[np.uint64]:
+    # A double holds sums up to 53 bits: those of the lower 32 bits of 2^20 numbers have 52, and those of the rest fewer.
+    sums = np.zeros(pes, np.uint64)
+    for first in range(0, len(numbers), PART):
+        part, stands = numbers[first:first + PART].astype(np.uint64), places[first:first + PART]
+        for shift in (0, 32) if int(part.max()) >> 32 else (0,):
+            halves = part >> np.uint64(shift) & np.uint64(2**32 - 1)
+            sums += np.bincount(stands, weights=halves, minlength=pes).astype(np.uint64) << np.uint64(shift)
+    return sums
 
 
 def sweep(run: Run, counts: Iterable[int] | None = None) -> Sweep:
-    """The figures of the plan for each number of PEs, as a Sweep; for 1, 2, 4 .. 256 and the run's own, if none are named."""
+    """The figures of the plan for each number of PEs, as a Sweep. If none are named, for 1, 2, 4 .. 256, and on to the run's own."""
     if counts is None:
-        counts = sorted({2**k for k in range(9)} | {run.procs})
+        counts = sorted({2**k for k in range(13) if k <= 8 or 2**k < run.procs} | {run.procs})
     return Sweep(figures(run, plan_for(run, pes)) for pes in counts)
 
 
@@ -186,12 +201,9 @@ def _deviation(loads: NDArray[Any], total: int) -> float:
 
 
 def _empty(places: NDArray[Any], pes: int) -> int:
-    return pes - len(np.unique(places))
-
-
-def _most_bytes(sizes: NDArray[Any], places: NDArray[Any]) -> int:
-    # Sums of at most 65,536 sizes of 21 bits are doubles.
-    return int(np.bincount(np.asarray(places, dtype=np.int64), weights=sizes).max(initial=0))
+    taken = np.zeros(pes, bool)
+    taken[places] = True
+    return pes - int(np.count_nonzero(taken))
 
 
 def _hundredths(number: int, parts: int) -> str:

@@ -10,7 +10,7 @@ from numpy.typing import NDArray
 
 from .errors import LibraryError
 
-ABI = 1
+ABI = 2
 """The number of the interface that these calls are written for."""
 
 _WORD, _LONG, _COUNT, _POINTER, _STATUS = ctypes.c_uint32, ctypes.c_uint64, ctypes.c_size_t, ctypes.c_void_p, ctypes.c_int32

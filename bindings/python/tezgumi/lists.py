@@ -1,5 +1,5 @@
-"""Lists of whole numbers: taken from numpy arrays, plain lists and what else numpy reads (a series of pandas, say), tested,
-and kept as arrays that nobody writes to."""
+"""Lists of whole numbers: taken from numpy arrays, plain lists and what else numpy reads (a series of pandas, or what has a
+buffer, as array.array and memoryview), tested, and kept as arrays that nobody writes to."""
 from __future__ import annotations
 
 import operator
@@ -20,7 +20,7 @@ def frozen(
     """The numbers as an array of this type that cannot be written to, each from the least of the type to `most`.
 
     Nothing is rounded or wrapped. The first number that does not fit is handed to `refuse` with its index, which answers
-    the exception. Without `copy` an array that has the type is not copied, and its owner can still write to it.
+    the exception. Without `copy` an array or a buffer that has the type is not copied, and its owner can still write to it.
     """
     limits = np.iinfo(kind)
     most = int(limits.max) if most is None else most
@@ -42,6 +42,14 @@ def whole_number(value: Any, least: int, most: int, name: str) -> int:
     if isinstance(value, (bool, np.bool_)) or not least <= number <= most:
         raise InputError(f"{name} is {value!r}; it has to be {least} to {most}")
     return number
+
+
+def total(numbers: NDArray[Any]) -> int:
+    """The sum of whole numbers from 0 on, exact."""
+    if len(numbers) * int(numbers.max(initial=0)) < 2**64:
+        return int(numbers.sum(dtype=np.uint64))
+    low, high = numbers & np.uint64(2**32 - 1), numbers >> np.uint64(32)
+    return int(low.sum(dtype=np.uint64)) + (int(high.sum(dtype=np.uint64)) << 32)
 
 
 def shown(array: NDArray[Any], ends: int = 3) -> str:

@@ -18,11 +18,12 @@ _Array = TypeVar("_Array", bound="NDArray[Any]")
 
 
 def plan(run: Run, pes: int | None = None, tolerance: int | None = None) -> Plan:
-    """The plan for `pes` PEs, 1 to 256; for as many as the run has, if none are named.
+    """The plan for `pes` PEs, 1 to 4,096; for as many as the run has, if none are named.
 
     With a tolerance, 0 to 1000, the heaviest block may weigh so many thousandths more than the least one can, the limit
     rounded down, and where the elements of each PE stand together the fewest bytes move for which that is so, in the order
-    in which the PEs stand. Never more bytes move than without one, and none where the present places keep to the limit.
+    in which the PEs stand. Never more bytes move than without one, and none where the present places keep to the limit. A
+    tolerance is for smaller runs: those that a dump holds.
     """
     pes = _pes(run, pes)
     if tolerance is not None:

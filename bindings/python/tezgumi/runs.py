@@ -8,21 +8,31 @@ import numpy as np
 from numpy.typing import ArrayLike, NDArray
 
 from .errors import InputError, LoadError
-from .lists import frozen, same_fields, shown, whole_number
+from .lists import frozen, same_fields, shown, total, whole_number
 from .scales import are_floats, in_units, scaled, unit_of
 
-ELEMENTS = 65_536
+ELEMENTS = 4_294_967_295
 """At most so many elements."""
-PES = 256
+PES = 4_096
 """At most so many processing elements (PEs), and at least one."""
-LOAD = 140_737_488_355_327
-"""The greatest load of an element, in work units: 47 bits."""
-STATE_BYTES = 1_048_576
-"""The greatest packed size of an element, in bytes."""
+TOTAL_LOAD = 9_223_372_036_854_775_807
+"""The greatest load of all elements together, in work units: 63 bits."""
+TOTAL_BYTES = 140_737_488_355_328
+"""The greatest packed size of all elements together, in bytes: 2**47."""
 TOLERANCE = 1_000
 """The greatest tolerance, in thousandths of the least load that the heaviest block can have."""
 
+DUMP_ELEMENTS = 65_536
+"""At most so many elements of a dump, and of a run that is decided within a tolerance."""
+DUMP_PES = 256
+"""At most so many PEs of the same."""
+DUMP_LOAD = 140_737_488_355_327
+"""The greatest load of an element of the same, in work units: 47 bits."""
+DUMP_STATE_BYTES = 1_048_576
+"""The greatest packed size of an element of the same, in bytes."""
+
 _WORD, _LONG = 2**32 - 1, 2**64 - 1
+_SIZE = _WORD  # of one element: it is a number of 32 bits
 
 MOVE = np.dtype([("element", np.uint32), ("present", np.uint32), ("planned", np.uint32)])
 """A move: the index of an element, the PE on which it stands, and the PE on which it is to run."""
@@ -47,12 +57,13 @@ class _Record:
 class Run(_Record):
     """A chain of elements, in order, on `procs` PEs: the load, the packed size and the present PE of each.
 
-    The lists may be numpy arrays or plain lists of whole numbers. They are copied, and cannot be written to; with copy=False
-    an array that has the type already is taken as it is, and must not be written to while the run is in use.
-    `replace(run, procs=4)` of dataclasses makes another run.
+    The lists may be numpy arrays or plain lists of whole numbers, or what else has them in a buffer, as array.array. They are
+    copied, and cannot be written to; with copy=False one that has the type already is taken as it is, and must not be written
+    to while the run is in use. `replace(run, procs=4)` of dataclasses makes another run. All loads together are TOTAL_LOAD at
+    most, and all packed sizes TOTAL_BYTES.
 
     A float is refused, but as a load where it is asked for. With scale=True the loads are measured, in seconds say, and are
-    counted in the finest unit of a power of two that the limit of a load allows, each rounded down; with unit=0.001 floats
+    counted in the finest unit of a power of two that the limit of loads allows, each rounded down; with unit=0.001 floats
     are counted in that unit, each rounded to the nearest, and whole numbers are counts in it already. `unit` has the unit,
     or None. A bottleneck times the unit is in seconds again; and for scaled loads it is proved that no division has a
     heaviest block that is lighter, in seconds, than that of the plan by more than as many units as there are elements.
@@ -75,15 +86,23 @@ class Run(_Record):
     def __post_init__(self, copy: bool, scale: bool) -> None:
         self._keep("procs", whole_number(self.procs, 1, PES, "procs"))
         self._keep("step", whole_number(self.step, 0, _WORD, "step"))
-        self._keep("bytes", frozen(self.bytes, np.uint32, "bytes", _wrong_bytes, STATE_BYTES, copy))
+        self._keep("bytes", frozen(self.bytes, np.uint32, "bytes", _wrong_bytes, _SIZE, copy))
         self._keep("places", frozen(self.places, np.uint32, "places", self._wrong_place, self.procs - 1, copy))
         self._count(scale)
-        self._keep("loads", frozen(self.loads, np.uint64, "loads", _wrong_load, LOAD, copy))
+        self._keep("loads", frozen(self.loads, np.uint64, "loads", _wrong_load, TOTAL_LOAD, copy))
         counts = len(self.loads), len(self.bytes), len(self.places)
         if len(set(counts)) > 1:
             raise InputError("there are {} loads, {} packed sizes and {} places; an element has one of each".format(*counts))
         if counts[0] > ELEMENTS:
             raise InputError(f"there are {counts[0]} elements, and at most {ELEMENTS} are taken")
+        self._refuse_totals()
+
+    def _refuse_totals(self) -> None:
+        size, load = total(self.bytes), total(self.loads)
+        if size > TOTAL_BYTES:
+            raise InputError(f"the packed sizes add up to {size}, and at most {TOTAL_BYTES} bytes are taken")
+        if load > TOTAL_LOAD:
+            raise LoadError(f"the loads add up to {load}, and at most {TOTAL_LOAD} is taken")
 
     def _count(self, scale: bool) -> None:
         if scale and self.unit is not None:
@@ -95,7 +114,7 @@ class Run(_Record):
         elif self.unit is not None:
             self._keep("unit", unit_of(self.unit))
             if are_floats(self.loads):
-                self._keep("loads", in_units(self.loads, self.unit, LOAD))
+                self._keep("loads", in_units(self.loads, self.unit, TOTAL_LOAD))
 
     def _wrong_place(self, index: int, value: Any) -> InputError:
         return on_no_processor(index, value, self.procs)
@@ -134,15 +153,15 @@ def on_no_processor(index: int, place: Any, pes: int) -> InputError:
 
 
 def _wrong_load(index: int, value: Any) -> InputError:
-    if isinstance(value, int) and not isinstance(value, bool) and value > LOAD:
-        return LoadError(f"element {index} has too great a load: {value}, and at most {LOAD} is taken")
-    return InputError(f"element {index} has the load {value!r}, and not a whole number from 0 to {LOAD}")
+    if isinstance(value, int) and not isinstance(value, bool) and value > TOTAL_LOAD:
+        return LoadError(f"element {index} has too great a load: {value}, and at most {TOTAL_LOAD} is taken")
+    return InputError(f"element {index} has the load {value!r}, and not a whole number from 0 to {TOTAL_LOAD}")
 
 
 def _wrong_bytes(index: int, value: Any) -> InputError:
-    if isinstance(value, int) and not isinstance(value, bool) and value > STATE_BYTES:
-        return InputError(f"element {index} has more than {STATE_BYTES} bytes: {value}")
-    return InputError(f"element {index} has the packed size {value!r}, and not a whole number from 0 to {STATE_BYTES}")
+    if isinstance(value, int) and not isinstance(value, bool) and value > _SIZE:
+        return InputError(f"element {index} has more than {_SIZE} bytes: {value}")
+    return InputError(f"element {index} has the packed size {value!r}, and not a whole number from 0 to {_SIZE}")
 
 
 @dataclass(frozen=True, eq=False, repr=False)

@@ -17,9 +17,10 @@ _WRONG = {-4: "which is not a number", -5: "which is negative", -6: "which is in
 def scaled(loads: ArrayLike, most: int) -> Tuple[NDArray[np.uint64], float]:
     """The loads counted in a unit that the library chooses, and the unit.
 
-    It is the least power of two in which no count is above the greatest load. Each count is rounded down, which is proved;
-    and that no division's heaviest block is lighter, in seconds, than that of a least division of the counts by more than
-    as many units as there are elements. No more than `most` loads are taken.
+    It is the least power of two in which no count has more than 47 bits, or so many fewer, where there are more than 65,536
+    loads, that all counts add up to TOTAL_LOAD at most. Each count is rounded down, which is proved; and that no division's
+    heaviest block is lighter, in seconds, than that of a least division of the counts by more than as many units as there are
+    elements. No more than `most` loads are taken.
     """
     values = measured(loads)
     if values.size > most:
@@ -41,8 +42,8 @@ def in_units(loads: ArrayLike, unit: float, most: int) -> NDArray[np.uint64]:
             raise _first_wrong(values, status)
     with np.errstate(over="ignore"):
         counts: NDArray[np.float64] = np.rint(values / unit)
-    if counts.size and not counts.max() <= most:
-        index = int(np.argmax(~(counts <= most)))
+    if counts.size and not counts.max() < most + 1:
+        index = int(np.argmax(~(counts < most + 1)))
         raise LoadError(f"element {index} has too great a load: {values[index]!s} is more than {most} units of {unit!r}")
     return np.asarray(counts, np.uint64)
 

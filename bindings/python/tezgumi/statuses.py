@@ -8,8 +8,9 @@ from .errors import InputError, LoadError, OutOfMemory, TezgumiError
 _FAILURES: Dict[int, Tuple[Type[TezgumiError], str]] = {
     -1: (InputError, "the library refuses the run or the number of PEs"),
     -2: (OutOfMemory, "out of memory"),
-    -3: (LoadError, "the library refuses a load as too great"),
+    -3: (LoadError, "the library refuses the loads, which add up to too much"),
     -7: (InputError, "the library refuses the tolerance as too great"),
+    -8: (InputError, "a tolerance is for at most 65,536 elements, of less than 2^47 units and at most 1 MiB each, and 256 PEs"),
 }
 
 

@@ -3,11 +3,14 @@ import numpy as np
 
 import tezgumi
 
-from .palette import FAINT, INK, QUIET
+from .chain import draw_boxes, draw_steps
+from .palette import FAINT, INK, MANY, QUIET
 from .paper import count_axis, number_axis, points_high, points_wide, text_width
 
 PAIRS = 40
 """So many PEs have a pair of bars each; for more the loads before are a line."""
+BARS = 512
+"""So many bars there are at most: of more PEs, each stands for several."""
 
 
 def draw_bars(axes, run, decision, palette):
@@ -16,7 +19,9 @@ def draw_bars(axes, run, decision, palette):
     before = tezgumi.pe_loads(run, run.places, pes).astype(float)
     after = tezgumi.pe_loads(run, decision.places, pes).astype(float)
     unit = axes.figure.scale
-    if pes <= PAIRS:
+    if pes > MANY:
+        _draw_groups(axes, before, after, palette)
+    elif pes <= PAIRS:
         axes.bar(np.arange(pes) - 0.2, before, 0.38, facecolor=FAINT, edgecolor=QUIET, linewidth=0.7 * unit)
         _draw_after(axes, after[:decision.pes], palette, 0.2, 0.38)
     else:
@@ -28,6 +33,21 @@ def draw_bars(axes, run, decision, palette):
     number_axis(axes.yaxis, top)
     _number_pes(axes, pes)
     axes.set_ylabel("load of a PE", fontsize=axes.figure.text_size, color=INK)
+
+
+def of_each(pes):
+    """A bar stands for so many PEs, and has the greatest of their loads."""
+    return -(-pes // BARS) if pes > MANY else 1
+
+
+def _draw_groups(axes, before, after, palette):
+    """Bars of a few PEs each, in the color of the one with the greatest load, and the loads before as a line."""
+    pes = len(before)
+    starts = np.arange(0, pes, of_each(pes))
+    edges = np.append(starts, pes) - 0.5
+    heaviest = [start + int(np.argmax(after[start:start + of_each(pes)])) for start in starts]
+    draw_boxes(axes, edges, after[heaviest], palette.colors[heaviest])
+    draw_steps(axes, edges, np.maximum.reduceat(before, starts), 0.9)
 
 
 def draw_limits(axes, decision, average):

@@ -4,13 +4,15 @@ from matplotlib.collections import LineCollection, PolyCollection
 
 import tezgumi
 
-from .palette import FAINT, INK, KEPT, QUIET
+from .palette import FAINT, INK, KEPT, MANY, QUIET
 from .paper import count_axis, number_axis, points_wide, text_width
 
 MARKS = 64
 """So many cuts or stops have a mark of their own shape; more are thin lines."""
 BINS = 900
 """So many steps the outline of the loads has at most; each then stands for several elements."""
+DENSE = 512
+"""So many thin lines are told apart: of more cuts or stops each second, third .. is drawn."""
 
 
 def draw_loads(axes, run, decision, palette):
@@ -19,14 +21,11 @@ def draw_loads(axes, run, decision, palette):
     Answers of how many.
     """
     width = max(1, -(-len(run) // BINS))
-    outline = []
-    for first, end, pe in _blocks(decision):
-        edges, means, tops = _steps(run.loads[first:end], first, width)
-        axes.stairs(
-            means, edges, fill=True, facecolor=palette.color(pe), edgecolor=palette.pattern_ink(pe), linewidth=0,
-            hatch=palette.pattern(pe))
-        outline.append((edges[:-1], tops))
-    _outline(axes, run, outline)
+    blocks = _blocks(decision)
+    if len(blocks) > MANY:
+        _draw_many(axes, run, blocks, width, palette)
+    else:
+        _draw_few(axes, run, blocks, width, palette)
     top = max(float(run.loads.max(initial=0)), 1) * 1.04
     axes.set_ylim(0, top)
     _chain_limits(axes, run)
@@ -34,6 +33,37 @@ def draw_loads(axes, run, decision, palette):
     axes.set_ylabel("load of an element", fontsize=axes.figure.text_size, color=INK)
     axes.tick_params(bottom=False, labelbottom=False)
     return width
+
+
+def _draw_few(axes, run, blocks, width, palette):
+    outline = []
+    for first, end, pe in blocks:
+        edges, means, tops = _steps(run.loads[first:end], first, width)
+        axes.stairs(
+            means, edges, fill=True, facecolor=palette.color(pe), edgecolor=palette.pattern_ink(pe), linewidth=0,
+            hatch=palette.pattern(pe))
+        outline.append((edges[:-1], tops))
+    _outline(axes, run, outline)
+
+
+def _draw_many(axes, run, blocks, width, palette):
+    """The steps of very many blocks at once, each in the color of its PE: of so many no one has a pattern."""
+    starts, pes = np.array([(start, pe) for first, end, pe in blocks for start in range(first, end, width)]).T
+    edges = np.append(starts, len(run)) - 0.5
+    draw_boxes(axes, edges, np.add.reduceat(run.loads, starts) / np.diff(edges), palette.colors[pes])
+    draw_steps(axes, edges, np.maximum.reduceat(run.loads, starts), 0.5)
+
+
+def draw_boxes(axes, edges, tops, colors):
+    """Rectangles from 0 up to the tops. A dot has the color of one of them, so that those narrower than a dot do not fade."""
+    left, right, bottom = edges[:-1], edges[1:], np.zeros(len(tops))
+    corners = np.stack([[left, bottom], [left, tops], [right, tops], [right, bottom]]).transpose(2, 0, 1)
+    axes.add_collection(PolyCollection(corners, facecolors=colors, linewidths=0, antialiaseds=False))
+
+
+def draw_steps(axes, edges, tops, width):
+    """A line along the tops."""
+    axes.plot(np.repeat(edges, 2)[1:-1], np.repeat(tops, 2), color=INK, linewidth=width * axes.figure.scale)
 
 
 def _outline(axes, run, steps):
@@ -64,7 +94,16 @@ def draw_cuts(axes, run, decision):
         axes.vlines(places, 0, 1, transform=above, color=QUIET, linewidth=0.6 * unit, zorder=0.5)
         _draw_marks(axes, places, 1.05, "v", transform=above)
     else:
-        axes.vlines(places, 1.015, 1.075, transform=above, color=INK, linewidth=0.5 * unit, clip_on=False)
+        axes.vlines(thinned(places), 1.015, 1.075, transform=above, color=INK, linewidth=0.5 * unit, clip_on=False)
+
+
+def every(count):
+    """Of so many thin lines each first, second, third .. is drawn."""
+    return max(1, -(-count // DENSE))
+
+
+def thinned(places):
+    return places[::every(len(places))]
 
 
 def draw_present(axes, run, decision):
@@ -82,7 +121,7 @@ def draw_fence(axes, run, decision):
     stops = np.unique(decision.stops).astype(float)
     unit = axes.figure.scale
     if len(stops) > MARKS:
-        axes.vlines(stops, 0.25, 0.95, color=INK, linewidth=0.5 * unit)
+        axes.vlines(thinned(stops), 0.25, 0.95, color=INK, linewidth=0.5 * unit)
         return
     _draw_marks(axes, stops, 0.80, "^")
     pairs = sorted(set(zip(decision.stops.tolist(), decision.stops[1:].tolist())))

@@ -11,6 +11,8 @@ from matplotlib.colors import to_rgb
 COLORS = ("#0072B2", "#E69F00", "#009E73", "#CC79A7", "#56B4E9", "#D55E00", "#F0E442")
 PATTERNS = ("", "////", "oo", "xxxx")
 INK, QUIET, FAINT, KEPT = "#1a1a1a", "#555555", "#d0d0d0", "#a8a8a8"
+MANY = 256
+"""More blocks or PEs than this are drawn at once: each is about as narrow as a dot."""
 
 
 class Palette:

@@ -111,6 +111,6 @@ def number_axis(axis, top):
 
 def count_axis(axis, count, room):
     """Ticks at whole numbers below a count: at each, or where there is no room for so many at each second, fifth, tenth .."""
-    step = next(digit * 10**power for power in range(6) for digit in (1, 2, 5) if count <= room * digit * 10**power)
+    step = next(digit * 10**power for power in range(10) for digit in (1, 2, 5) if count <= room * digit * 10**power)
     axis.set_major_locator(FixedLocator(range(0, count, step)))
     axis.set_major_formatter(FuncFormatter(lambda number, _: f"{number:,.0f}"))

@@ -9,12 +9,14 @@ from matplotlib.ticker import FixedLocator, FuncFormatter, NullLocator, ScalarFo
 
 import tezgumi
 
-from .bars import PAIRS, draw_bars, draw_limits
-from .chain import MARKS, draw_cuts, draw_fence, draw_loads, draw_moves, draw_places, draw_present, marked_cuts, number_elements
-from .palette import COLORS, INK, QUIET, Palette
+from .bars import PAIRS, draw_bars, draw_limits, of_each
+from .chain import DENSE, MARKS, draw_cuts, draw_fence, draw_loads, draw_moves, draw_places, draw_present, every, marked_cuts
+from .chain import number_elements
+from .palette import COLORS, INK, MANY, QUIET, Palette
 from .paper import Sheet, few_letters, points_wide, text_width
 
 LEFT, WIDTH, NOTES = 0.95, 10.75, 8.75
+_ENDINGS = {2: "nd", 3: "rd"}
 
 
 def decision(
@@ -30,13 +32,20 @@ def decision(
     """
     _refuse_undrawable(run, made)
     sheet = Sheet(medium, 8.3)
-    palette = Palette(max(run.procs, made.pes), np.union1d(run.places, made.places), sheet.scale)
     figures = tezgumi.figures(run, made)
+    palette = _palette(run, made, sheet.scale)
     sheet.write(LEFT, 0.18, title or f"{len(run):,} elements", size=1.35, weight="bold")
     _draw_chain(sheet, run, made, palette)
     _draw_loads_of_pes(sheet, run, made, palette, figures)
     _write_figures(sheet, made, figures, checked)
     return sheet
+
+
+def _palette(run, made, scale):
+    pes = max(run.procs, made.pes)
+    used = np.zeros(pes, bool)
+    used[run.places] = used[made.places] = True
+    return Palette(pes, np.flatnonzero(used), scale)
 
 
 def _refuse_undrawable(run, made):
@@ -72,7 +81,7 @@ def _told_blocks(run, made, width):
     cuts = marked_cuts(run, made)
     text = f"{made.pes} block{'s' if made.pes > 1 else ''}"
     if len(cuts):
-        text += f", cut at {'▼' if len(cuts) <= MARKS else '|'}"
+        text += f", {_each(cuts)}cut at {'▼' if len(cuts) <= MARKS else '|'}"
     if isinstance(made, tezgumi.NearDecision):
         kept = int(np.count_nonzero(made.places == run.places))
         text += f", today at {'▽' if len(cuts) <= MARKS else '|'}; {kept:,} of {len(run):,} elements kept (grey)"
@@ -80,17 +89,26 @@ def _told_blocks(run, made, width):
     if empty:
         text += f"; {empty} without elements"
     if width > 1:
-        text += f".  Filled: the mean of {width} elements; line: the greatest of them"
+        few = f"up to {width:,} elements of a block" if made.pes - empty > MANY else f"{width} elements"
+        text += f".  Filled: the mean of {few}; line: the greatest of them"
     return text
+
+
+def _each(lines):
+    """That each second, third .. of the lines is drawn, where they are too many for more."""
+    step = every(len(lines))
+    return "" if step == 1 else f"each {step}{_ENDINGS.get(step, 'th')} "
 
 
 def _told_fence(made):
     if not len(made.stops):
         return "no fence: the bottleneck is 0"
-    mark = "▲" if len(np.unique(made.stops)) <= MARKS else "|"
+    stops = np.unique(made.stops)
+    mark = "▲" if len(stops) <= MARKS else "|"
+    fence = f"fence {mark}" if len(stops) <= DENSE else f"fence, {_each(stops)}stop {mark}"
     load = few_letters(made.least if isinstance(made, tezgumi.NearDecision) else made.bottleneck)
     told = f"the elements from each stop to the next, both included, weigh {load} or more"
-    return f"fence {mark}: {told}, so no division is lighter"
+    return f"{fence}: {told}, so no division is lighter"
 
 
 def _draw_loads_of_pes(sheet, run, made, palette, figures):
@@ -98,6 +116,8 @@ def _draw_loads_of_pes(sheet, run, made, palette, figures):
     draw_bars(axes, run, made, palette)
     draw_limits(axes, made, figures.average_after)
     told = "left: before, right: after" if max(run.procs, made.pes) <= PAIRS else "line: before, filled: after"
+    if of_each(max(run.procs, made.pes)) > 1:
+        told += f"; the greatest of {of_each(max(run.procs, made.pes))} PEs"
     axes.set_xlabel(f"PE ({told})", fontsize=sheet.text_size, color=INK)
 
 

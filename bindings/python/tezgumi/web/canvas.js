@@ -31,8 +31,8 @@ function ticks(top, many) {
 // Whole numbers from the first to the last, each or each second, fifth, tenth .., as there is room for.
 function wholeTicks(first, last, room) {
   let step = 1;
-  for (const digit of [1, 2, 5, 10, 20, 50, 100, 200, 500, 1000, 2000, 5000, 10000, 20000, 50000]) {
-    step = digit;
+  for (let k = 0; k < 29; k++) {
+    step = [1, 2, 5][k % 3] * 10 ** Math.floor(k / 3);
     if ((last - first) / step <= room) break;
   }
   const found = [];

@@ -1,5 +1,6 @@
 // The chain of one round: where its elements stand, where they are decided to go, what moves, and the fence.
 
+const MOST_MARKS = 300; // of more edges of blocks or stops than this each second, third .. is drawn
 const CHAIN = { margin: { left: LEFT, right: 10 }, ruler: 18, strip: 34, band: 40, row: 17 };
 let chain = null; // what is drawn
 let chainPart = new Part(1, 1, () => undefined);
@@ -10,7 +11,7 @@ function chainOf(held, even) {
   const count = run.loads.length;
   const sums = runningSums(run.loads);
   const byCount = even || sums[count] === 0n;
-  const starts = Float64Array.from(sums, byCount ? (_, i) => i : Number);
+  const starts = byCount ? Float64Array.from(sums.keys()) : plain(sums);
   const planned = decision?.planned.length === count ? decision.planned : null;
   const moving = new Float64Array(count + 1); // the width of what moves, before each element
   for (let i = 0; i < count; i++) {
@@ -65,6 +66,7 @@ function drawChain() {
   const view = { context, x, left: margin.left, right: margin.left + inner, inner, colors: pageColors() };
   if (chain.count === 0) return noteChain("There are no elements.");
   Object.assign(view, seen(view));
+  view.every = everyMark(view);
   chooseColors(view);
   drawRuler(view);
   drawPlaces(view, chain.run.places, ruler, "stand on");
@@ -85,6 +87,13 @@ function seen(view) {
   return { first, last, single: last - first < view.inner / 2 };
 }
 
+// Of the edges of blocks and the stops that are seen, each first, second, third .. is drawn.
+function everyMark({ first, last }) {
+  if (!chain.planned) return 1;
+  const within = (marks) => marks.reduce((count, at, k) => count + (at >= first && at <= last && at !== marks[k - 1]), 0);
+  return Math.max(1, Math.ceil(Math.max(within(chain.decision.cuts), within(chain.decision.stops)) / MOST_MARKS));
+}
+
 // The PEs that are seen have each a color and a pattern of its own, where they are few enough for that.
 function chooseColors({ first, last }) {
   const pes = new Set();
@@ -102,6 +111,9 @@ function noteSeen(view) {
   const parts = [];
   if (!view.single) {
     parts.push("Elements narrower than a dot are drawn together, in the color of the one in its middle: go nearer to see each.");
+  }
+  if (view.every > 1) {
+    parts.push(`Of the edges of blocks and the stops one in ${told(view.every)} is drawn.`);
   }
   if (chain.byCount && chain.sums[chain.count] === 0n) parts.push("No element has any load, so all are as wide.");
   if (chain.decision === null) parts.push("There is no decision on this round.");
@@ -242,7 +254,7 @@ function drawArrowHead(context, x, y, colors) {
 }
 
 // The edges of the blocks, and those that are above the limit.
-function drawBlocks({ context, x, left, right, colors }, top) {
+function drawBlocks({ context, x, left, right, colors, every }, top) {
   const { cuts, bottleneck, pes } = chain.decision;
   const limit = chain.decision.limit ?? bottleneck;
   for (let b = 0; b < pes; b++) {
@@ -250,7 +262,7 @@ function drawBlocks({ context, x, left, right, colors }, top) {
     const end = x(chain.starts[cuts[b + 1]]);
     if (end < left || begin > right) continue;
     context.fillStyle = colors.ink;
-    if (b > 0 && begin >= left) context.fillRect(begin - 0.75, top - 3, 1.5, CHAIN.strip + 6);
+    if (b > 0 && b % every === 0 && begin >= left) context.fillRect(begin - 0.75, top - 3, 1.5, CHAIN.strip + 6);
     if (chain.sums[cuts[b + 1]] - chain.sums[cuts[b]] > limit) frameBad(context, begin, end, top, CHAIN.strip);
   }
 }
@@ -265,8 +277,9 @@ function frameBad(context, begin, end, top, height) {
 // The load that the fence proves to be least: of a decision within a tolerance it is below its own bottleneck.
 const leastOf = (decision) => (decision.near ? decision.least : decision.bottleneck);
 
-// The stops, each a triangle below its element, and between two of them a bracket with what lies there.
-function drawFence({ context, x, left, right, colors }, top) {
+// The stops, each a triangle below its element, and between two of them a bracket with what lies there; of very many stops the
+// brackets alone that have too little in them.
+function drawFence({ context, x, left, right, colors, every }, top) {
   const { stops } = chain.decision;
   const bottleneck = leastOf(chain.decision);
   context.fillStyle = colors.quiet;
@@ -274,11 +287,15 @@ function drawFence({ context, x, left, right, colors }, top) {
   context.fillText("fence", LEFT - 6, top + 6);
   const inside = Array.from(stops, (stop) => stop < chain.count);
   for (let k = 0; k < stops.length; k++) {
-    if (inside[k]) drawStop(context, (x(chain.starts[stops[k]]) + x(chain.starts[stops[k] + 1])) / 2, top, left, right, colors);
+    if (inside[k] && k % every === 0) {
+      drawStop(context, (x(chain.starts[stops[k]]) + x(chain.starts[stops[k] + 1])) / 2, top, left, right, colors);
+    }
     if (k === 0 || !inside[k] || !inside[k - 1] || stops[k - 1] > stops[k]) continue;
     const weight = chain.sums[stops[k] + 1] - chain.sums[stops[k - 1]];
+    const isLight = weight < bottleneck;
+    if (every > 1 && !isLight) continue;
     const [begin, end] = [x(chain.starts[stops[k - 1]]), x(chain.starts[stops[k] + 1])];
-    drawBracket(context, begin, end, top + 14 + (k % 2) * CHAIN.row, weight, weight < bottleneck, { left, right, colors });
+    drawBracket(context, begin, end, top + 14 + (k % 2) * CHAIN.row, weight, isLight, { left, right, colors });
   }
 }
 

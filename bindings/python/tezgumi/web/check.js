@@ -30,10 +30,10 @@ function namingFlaw({ sizes, places }, { pes, cuts, names, blockPrices, pePrices
   if (new Set(names).size < pes) return ["NameTwice"];
   if (blockPrices.length !== pes || pePrices.length !== pes) return ["PriceCount"];
   let cost = 0n, prices = 0n;
-  const wanted = [];
+  const wanted = [], [ofBlocks, ofPes] = exactPrices(blockPrices, pePrices);
   for (let b = 0; b < pes; b++) {
     const elsewhere = bytesElsewhere(sizes, places, cuts[b], cuts[b + 1], pes);
-    for (let p = 0; p < pes; p++) if (blockPrices[b] + pePrices[p] > elsewhere[p]) return ["PriceHigh", b, p];
+    for (let p = 0; p < pes; p++) if (ofBlocks[b] + ofPes[p] > elsewhere[p]) return ["PriceHigh", b, p];
     cost += BigInt(elsewhere[names[b]]);
     prices += blockPrices[b] + pePrices[b];
     for (let i = cuts[b]; i < cuts[b + 1]; i++) if (places[i] !== names[b]) wanted.push([i, places[i], names[b]]);
@@ -44,6 +44,13 @@ function namingFlaw({ sizes, places }, { pes, cuts, names, blockPrices, pePrices
   for (let b = 0; b < pes; b++) for (let i = cuts[b]; i < cuts[b + 1]; i++) if (!goes(i, b)) return ["MovesWrong"];
   const same = moves.length === wanted.length && planned.length === places.length;
   return same && wanted.every((move, k) => move.every((x, j) => x === moves[k][j])) ? null : ["MovesWrong"];
+}
+
+// The prices as plain numbers, where all are so small that two of them together are exact, and else as they are.
+function exactPrices(blockPrices, pePrices) {
+  const both = [blockPrices, pePrices];
+  if (both.some((prices) => prices.some((price) => price < -(2 ** 52) || price > 2 ** 52))) return both;
+  return both.map((prices) => Float64Array.from(prices, Number));
 }
 
 // The bytes of a block whose elements stand on another PE, for each PE.

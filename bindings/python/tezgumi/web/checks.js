@@ -38,7 +38,14 @@ const NEAR = [
 ];
 
 const stepsOf = (d) => (d.near ? NEAR : [...DIVISION, ...NAMING]);
-const flawOf = (run, d) => (d.near ? nearFlaw(run, d) : firstFlaw(run, d));
+
+// The first flaw of a decision or null. It is looked for once, as that takes a while for very many elements or PEs.
+const flaws = new WeakMap();
+
+function flawOf(run, d) {
+  if (!flaws.has(d)) flaws.set(d, d.near ? nearFlaw(run, d) : firstFlaw(run, d));
+  return flaws.get(d);
+}
 
 // What is wrong, in words: with the decision, the run, and the numbers of the flaw.
 const FLAWS = {
@@ -89,8 +96,15 @@ function pairThatFalls(numbers) {
   return `${told(numbers[k - 1])} and ${told(numbers[k])}`;
 }
 
+// The bytes that a block moves to a PE.
+function bytesTo({ sizes, places }, { cuts }, b, pe) {
+  let bytes = 0;
+  for (let i = cuts[b]; i < cuts[b + 1]; i++) if (places[i] !== pe) bytes += sizes[i];
+  return bytes;
+}
+
 function costOf(d, run) {
-  return Array.from(d.names, (pe, b) => BigInt(blockCosts(run, d, b)[pe])).reduce((sum, bytes) => sum + bytes, 0n);
+  return Array.from(d.names, (pe, b) => BigInt(bytesTo(run, d, b, pe))).reduce((sum, bytes) => sum + bytes, 0n);
 }
 
 // The first move, in the list or by the names, that the other does not have.
@@ -184,7 +198,7 @@ function priceTable(held) {
   const divided = dividesChain(d, held.run.loads.length);
   const rows = Array.from(d.names, (pe, b) => {
     const price = d.pePrices[pe] ?? null;
-    const bytes = divided ? blockCosts(held.run, d, b)[pe] ?? null : null;
+    const bytes = divided && pe < d.pes ? bytesTo(held.run, d, b, pe) : null;
     return [b, d.blockPrices[b], pe, price, price === null ? null : d.blockPrices[b] + price, bytes];
   });
   return table(["block", "its price", "goes to PE", "price of that PE", "together", "bytes that move"], rows);
@@ -206,7 +220,7 @@ async function checkAll(tell) {
 
 async function verdictOf(r) {
   if (!page.rounds[r].decision) return "no decision";
-  const held = await readRound(r);
+  const held = await (keptRounds.get(r) ?? readRound(r));
   return held === null ? "left out" : flawLine(flawOf(held.run, held.decision));
 }
 

@@ -42,7 +42,13 @@ async function readLoads() {
   return page.rounds.map((_, r) => ({ before: read[2 * r][1], after: read[2 * r + 1][1] }));
 }
 
-const plain = (numbers) => Float64Array.from(numbers, Number);
+// By a loop, which is far faster than to map them.
+function plain(numbers) {
+  const made = new Float64Array(numbers.length);
+  for (let i = 0; i < made.length; i++) made[i] = Number(numbers[i]);
+  return made;
+}
+
 const signed = (numbers) => BigInt64Array.from(numbers, unfolded);
 
 // A round with its elements: the run, and the decision where there is one. null where they were left out.

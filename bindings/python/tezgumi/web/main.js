@@ -177,7 +177,7 @@ function believeNone() {
 }
 
 // The lines that check, as the page shows them.
-const CHECK = [firstFlaw, divisionFlaw, namingFlaw, bytesElsewhere, runningSums, falls];
+const CHECK = [firstFlaw, divisionFlaw, namingFlaw, exactPrices, bytesElsewhere, runningSums, falls];
 const HEIGHTS = [nearFlaw, orderFlaw, heightsFlaw, bottleneckFlaw, leastStarts, heightsOf, bytesBefore];
 const anyNear = () => page.rounds.some((one) => one.decision && one.decision.tolerance !== null);
 
