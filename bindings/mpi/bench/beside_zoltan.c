@@ -18,7 +18,6 @@ static const char *const parts[PARTS] = {"gather", "plan", "check", "agree", "mo
 typedef struct {
     cells cells;
     by_zoltan zoltan;
-    tezgumi_mpi_chain chain;
     double imbalance; /* sum over the turns of the greatest load over the average */
     uint64_t bytes;
     double *seconds;      /* one for each turn, of the slowest rank */
@@ -65,7 +64,7 @@ static uint64_t turn_by_tezgumi(method *m, int turn)
     tezgumi_mpi_report report;
     const double begin = MPI_Wtime();
     const uint32_t count = cells_here(&m->cells, mine);
-    if (tezgumi_mpi_rebalance(MPI_COMM_WORLD, mine, count, &callbacks, NULL, &m->chain, &report) != TEZGUMI_OK)
+    if (tezgumi_mpi_rebalance(MPI_COMM_WORLD, mine, count, &callbacks, NULL, NULL, &report) != TEZGUMI_OK)
         MPI_Abort(MPI_COMM_WORLD, 1);
     m->seconds[turn] = slowest(MPI_Wtime() - begin);
     m->parts[0][turn] = slowest(report.gather_seconds);
@@ -135,7 +134,6 @@ static void close_method(method *m)
 {
     int k;
     by_zoltan_close(&m->zoltan);
-    tezgumi_mpi_chain_free(&m->chain);
     cells_close(&m->cells);
     free(m->seconds);
     for (k = 0; k < PARTS; k++) free(m->parts[k]);

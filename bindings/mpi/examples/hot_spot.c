@@ -124,7 +124,7 @@ static uint64_t work(application *a, int step)
 static void balance(application *a)
 {
     const tezgumi_mpi_callbacks callbacks = {cells_pack, cells_unpack, cells_drop, &a->chain_of_cells};
-    tezgumi_mpi_options options = {0, 0, 0, 0};
+    tezgumi_mpi_options options = {0, 0, 0, 0, 0};
     tezgumi_mpi_report report;
     const uint32_t count = cells_here(&a->chain_of_cells, a->mine);
     int status;

@@ -9,14 +9,24 @@
  *   - the greatest load of a rank is the least that any such ranges have, or within a tolerance of it where that is asked;
  *   - of all ways to hand these ranges to the ranks, the one taken moves the fewest bytes.
  *
- * It works in three steps, which can also be called one by one:
+ * Where each rank holds a part of consecutive elements, whichever rank holds which, no rank sees all elements, and there may
+ * be 2^32 - 1 of them. Two steps do it, which can also be called one by one, with plain lists:
+ *
+ *   1. tezgumi_mpi_decide_part: the ranks find the least ranges together, by numbers of their parts and a few runs of
+ *      elements, and prove them by sums over all ranks. The ranks compare a fingerprint of what they decided.
+ *   2. tezgumi_mpi_move_part: what leaves a rank is packed and exchanged, and what arrives is unpacked.
+ *
+ * Otherwise each rank gets to know all elements, which are few then, in three steps:
  *
  *   1. tezgumi_mpi_gather: all ranks learn index, load and packed size of all elements, 16 bytes of each.
  *   2. tezgumi_mpi_decide: each rank plans by itself, and checks the plan by the separate checker. Nothing is broadcast: the
  *      same input has the same plan, as is proved of the planner. The ranks compare a fingerprint of what they decided.
- *   3. tezgumi_mpi_move: what leaves a rank is packed and exchanged, and what arrives is unpacked.
+ *   3. tezgumi_mpi_move: as above.
  *
- * What is proved is the plan and its check, behind tezgumi.h. This library is plain C over them: tested, and not proved.
+ * Both ways have the same ranges, on the same ranks. tezgumi_mpi_rebalance takes the first one where it can.
+ *
+ * What is proved is the plan and its check, behind tezgumi.h and tezgumi_parts.h. This library is plain C over them: tested,
+ * and not proved.
  *
  * All functions that take a communicator are collective over it: every rank calls them, in the same order. They return the
  * same status on all ranks, so all go on or none does: if anything fails on one rank, be it a callback, a request for memory
@@ -24,8 +34,8 @@
  * Errors of MPI itself are the exception. The communicator's error handler gets them, which ends the program if it is not
  * set otherwise; a rank whose handler returns returns TEZGUMI_MPI_ERROR, and nothing is known of the others.
  *
- * Limits: those of tezgumi.h. 65,536 elements, 256 ranks, 1 MiB an element, loads up to 140,737,488,355,327. The ranks have
- * the same byte order. The library keeps nothing between calls, so threads may rebalance over different communicators.
+ * Limits, below: those of what is gathered, and those of parts. The ranks have the same byte order. The library keeps nothing
+ * between calls, so threads may rebalance over different communicators.
  */
 #ifndef TEZGUMI_MPI_H
 #define TEZGUMI_MPI_H
@@ -37,6 +47,19 @@
 extern "C" {
 #endif
 
+/* Limits where all elements are gathered. Each is the greatest value that is taken. */
+#define TEZGUMI_MPI_GATHERED_ELEMENTS 65536u
+#define TEZGUMI_MPI_GATHERED_RANKS 256u
+#define TEZGUMI_MPI_GATHERED_LOAD UINT64_C(140737488355327) /* load of an element: 2^47 - 1 */
+#define TEZGUMI_MPI_GATHERED_BYTES 1048576u                 /* packed size of an element: 1 MiB */
+
+/* Limits where each rank holds a part of consecutive elements. All loads together are below 2^63. */
+#define TEZGUMI_MPI_ELEMENTS 4294967295u                  /* elements of all ranks */
+#define TEZGUMI_MPI_RANKS 65536u                          /* ranks, with the option keep_order, */
+#define TEZGUMI_MPI_NAMED_RANKS 4096u                     /* and without it */
+#define TEZGUMI_MPI_BYTES 1073741824u                     /* packed size of an element: 1 GiB */
+#define TEZGUMI_MPI_TOTAL_BYTES UINT64_C(140737488355328) /* of all elements: 2^47 */
+
 /* What a call answers, beside TEZGUMI_OK, TEZGUMI_BAD_INPUT, TEZGUMI_NO_MEMORY and TEZGUMI_BAD_LOAD of tezgumi.h. */
 enum {
     TEZGUMI_MPI_BAD_INDEX = -10,  /* an index is held twice, or is past the end, so that another is held by nobody */
@@ -44,7 +67,8 @@ enum {
     TEZGUMI_MPI_DISAGREE = -12,   /* the ranks decided differently: unlike options, chains or libraries */
     TEZGUMI_MPI_CALLBACK = -13,   /* a callback answered other than 0 */
     TEZGUMI_MPI_LIBRARY = -14,    /* the libtezgumi that runs does not fit the header that this was compiled with */
-    TEZGUMI_MPI_ERROR = -15       /* an MPI call failed on this rank */
+    TEZGUMI_MPI_ERROR = -15,      /* an MPI call failed on this rank */
+    TEZGUMI_MPI_SCATTERED = -16   /* a rank's elements are not consecutive, and all are too many to be gathered */
 };
 
 /* The status in words, those of tezgumi.h included. */
@@ -86,6 +110,9 @@ typedef struct {
      * is at most 1 + tolerance times the least possible one those are taken that move the fewest bytes; where that moves no
      * fewer than the least ranges do, and where a rank's elements are scattered, these. tezgumi_refine of tezgumi.h decides. */
     int refine;
+    /* 1: block b goes to rank b, whatever that moves, so that neighbours along the chain are neighbouring ranks. No table of
+     * ranks by ranks is made, so this is for more than TEZGUMI_MPI_NAMED_RANKS too. Not together with refine. */
+    int keep_order;
 } tezgumi_mpi_options;
 
 /* What happened. All but the seconds is of all ranks together, and the same on all. After a refusal only failed_rank,
@@ -104,6 +131,11 @@ typedef struct {
     double check_seconds;     /* the checking, */
     double agree_seconds;     /* the comparing with other ranks, which waits for the last of them, */
     double move_seconds;      /* and the packing, exchanging and unpacking */
+    double walk_seconds;      /* where parts were divided: the passes and the search for windows, */
+    double name_seconds;      /* and the naming, with its check */
+    uint32_t gathered;        /* elements that each rank got to know; where parts were divided, runs of elements */
+    uint32_t passes;          /* where parts were divided: passes over all ranks, which narrow the bounds, */
+    uint32_t retries;         /* and 1 where the checker refused the first division, and a wider search found another */
 } tezgumi_mpi_report;
 
 /* All elements, as every rank knows them. It begins as all 0, can be used again and again, and ends with
@@ -126,16 +158,82 @@ void tezgumi_mpi_chain_free(tezgumi_mpi_chain *chain);
  * and 0 if it holds elements that are not consecutive: then the range is from the least to the greatest. Not collective. */
 int tezgumi_mpi_range(const tezgumi_mpi_chain *chain, int rank, uint32_t *first, uint32_t *end);
 
-/* Gather, decide and move in one call.
+/* Decide and move in one call.
  *
- * mine are the count elements that this rank holds. options and report may be null. chain may be null too; otherwise it
- * says afterwards where each element is: tezgumi_mpi_range then gives the range of each rank.
+ * mine are the count elements that this rank holds, in any order. options and report may be null. chain may be null too;
+ * otherwise it says afterwards where each element is: tezgumi_mpi_range then gives the range of each rank.
  *
- * TEZGUMI_OK: all elements are where they belong. Otherwise the refusals of the three steps, in their order. Nothing has
- * moved, but where the status is TEZGUMI_MPI_CALLBACK and there were several exchanges. */
+ * Where chain is null, refine is 0 and each rank's elements are consecutive, no rank sees all elements. Otherwise they are
+ * gathered. Where that is because of scattered elements alone, and there are more than TEZGUMI_MPI_GATHERED_ELEMENTS or
+ * TEZGUMI_MPI_GATHERED_RANKS, the status is TEZGUMI_MPI_SCATTERED, and failed_rank one that holds such elements.
+ *
+ * TEZGUMI_OK: all elements are where they belong. Otherwise the refusals of the steps, in their order. Nothing has
+ * moved, but where the status is TEZGUMI_MPI_CALLBACK and there were several exchanges. (Elements are then scattered. Where they
+ * are too many to be gathered, call the steps for parts by themselves: tezgumi_mpi_move_part goes on where it ended.) */
 int tezgumi_mpi_rebalance(MPI_Comm comm, const tezgumi_mpi_element *mine, uint32_t count,
     const tezgumi_mpi_callbacks *callbacks, const tezgumi_mpi_options *options, tezgumi_mpi_chain *chain,
     tezgumi_mpi_report *report);
+
+/* ---- Parts of consecutive elements ---- */
+
+/* The part of the chain that this rank holds: the elements first .. first + count - 1. */
+typedef struct {
+    const uint64_t *loads; /* count: the load of each; null is allowed where count is 0, and for tezgumi_mpi_move_part */
+    const uint32_t *bytes; /* count: the packed size of each; null is allowed where count is 0 */
+    uint32_t first;        /* of no meaning where count is 0 */
+    uint32_t count;
+} tezgumi_mpi_part;
+
+/* How the chain lies on the ranks, and how it is to lie: the same on all ranks, but for the last three. It begins as all 0, can be
+ * used again and again, and ends with tezgumi_mpi_layout_free. It takes 24 bytes for each rank. */
+typedef struct {
+    uint32_t n;         /* elements of all ranks */
+    uint32_t ranks;     /* ranks of the communicator */
+    uint32_t *firsts;   /* ranks: rank r holds the elements firsts[r] .. firsts[r] + counts[r] - 1; */
+    uint32_t *counts;   /* ranks: how many these are */
+    uint32_t *cuts;     /* ranks + 1: by the decision block b is the elements cuts[b] .. cuts[b + 1] - 1, */
+    uint32_t *names;    /* ranks: and goes to rank names[b] */
+    uint32_t *sent;     /* ranks: how many elements of a move under way have gone from here to each rank, */
+    uint32_t *received; /* ranks: and come here from each */
+    void *room;         /* what tezgumi_mpi_layout_free gives back */
+} tezgumi_mpi_layout;
+
+/* Gives the room back and makes all of *layout null and 0. layout may be null. Not collective. */
+void tezgumi_mpi_layout_free(tezgumi_mpi_layout *layout);
+
+/* Step 1 for parts. Fills the layout: firsts and counts as the parts are now, cuts and names by the decision, which is the same
+ * as that of tezgumi_mpi_decide; they are the present ranges where the tolerance lets all be. With keep_order that is where
+ * the ranks hold the chain in their own order too. It begins the report anew.
+ *
+ * How: the bounds of the least possible greatest load follow from totals, and are narrowed, where that saves much, by passes
+ * that try up to 64 limits each. Elements that may begin a block of some such division stay single, and those between are
+ * merged into runs, few enough to be gathered. All ranks divide the runs, and prove the division by its loads, summed up
+ * over the ranks. A rank needs its part, what is gathered, some lists with an entry for each rank, and, unless the order is
+ * kept, two tables of 8 bytes for each two ranks.
+ *
+ * In this order: TEZGUMI_MPI_LIBRARY; TEZGUMI_BAD_INPUT where there are too many ranks, a null pointer, or two groups of ranks (an
+ * intercommunicator); TEZGUMI_NO_MEMORY; TEZGUMI_BAD_INPUT for too many elements; TEZGUMI_MPI_BAD_INDEX where a part does not
+ * begin where the one before it ends, failed_at being its first element; TEZGUMI_BAD_INPUT for an element of too many bytes, or
+ * too many of all; TEZGUMI_BAD_LOAD where all loads are too great, failed_at being an element of the greatest load;
+ * TEZGUMI_BAD_INPUT for the tolerance, or refine; TEZGUMI_MPI_DISAGREE where the options differ; then TEZGUMI_NO_MEMORY;
+ * TEZGUMI_MPI_WRONG_PLAN; TEZGUMI_MPI_DISAGREE. After any of these the layout has no elements and no ranks. */
+int tezgumi_mpi_decide_part(MPI_Comm comm, const tezgumi_mpi_part *part, const tezgumi_mpi_options *options,
+    tezgumi_mpi_layout *layout, tezgumi_mpi_report *report);
+
+/* Step 2 for parts. Moves each element to the rank that cuts and names say, whoever wrote these: they may come from another
+ * partitioner. Then firsts and counts are the new ranges. part is as it was for step 1.
+ *
+ * Each exchange is done as a whole or not at all: elements are dropped where they were when all ranks have unpacked what
+ * arrived. After TEZGUMI_MPI_CALLBACK the exchanges before have moved their elements, that of the failure is undone, and the
+ * same call goes on where it ended: firsts, counts and part are still as before the move.
+ *
+ * TEZGUMI_BAD_INPUT where a pointer is null, the layout is of another number of ranks, the part is not what it says, the cuts do
+ * not divide the elements, or the names are not all ranks; TEZGUMI_NO_MEMORY; TEZGUMI_MPI_DISAGREE where the layouts or the
+ * room differ: nothing has moved. */
+int tezgumi_mpi_move_part(MPI_Comm comm, const tezgumi_mpi_part *part, tezgumi_mpi_layout *layout,
+    const tezgumi_mpi_callbacks *callbacks, const tezgumi_mpi_options *options, tezgumi_mpi_report *report);
+
+/* ---- All elements on all ranks ---- */
 
 /* Step 1. Fills the chain, with new_places equal to places, and begins the report anew.
  *

@@ -10,6 +10,7 @@ const char *tezgumi_mpi_status_name(int status)
     case TEZGUMI_MPI_CALLBACK: return "a callback failed";
     case TEZGUMI_MPI_LIBRARY: return "the library does not fit its header";
     case TEZGUMI_MPI_ERROR: return "an MPI call failed";
+    case TEZGUMI_MPI_SCATTERED: return "scattered elements are too many to be gathered";
     default: return tezgumi_status_name(status);
     }
 }
@@ -27,7 +28,7 @@ uint64_t tezgumi_mpi_fingerprint(uint64_t before, const uint32_t *words, size_t 
 static int64_t coded(tezgumi_mpi_outcome outcome, int rank)
 {
     if (outcome.status == TEZGUMI_OK) return 0;
-    return -(int64_t)((uint64_t)-outcome.status << 40 | (uint64_t)rank << 32 | outcome.at);
+    return -(int64_t)((uint64_t)-outcome.status << 52 | (uint64_t)rank << 32 | outcome.at);
 }
 
 int tezgumi_mpi_agree(MPI_Comm comm, tezgumi_mpi_outcome mine, uint64_t fingerprint, tezgumi_mpi_report *report)
@@ -45,7 +46,7 @@ int tezgumi_mpi_agree(MPI_Comm comm, tezgumi_mpi_outcome mine, uint64_t fingerpr
     if (MPI_Allreduce(told, least, 3, MPI_INT64_T, MPI_MIN, comm) != MPI_SUCCESS) return TEZGUMI_MPI_ERROR;
     if (least[0] == 0) return least[1] == -least[2] ? TEZGUMI_OK : TEZGUMI_MPI_DISAGREE;
     code = (uint64_t)-least[0];
-    report->failed_rank = (int)(code >> 32 & 255);
+    report->failed_rank = (int)(code >> 32 & 0xfffff);
     report->failed_at = (uint32_t)code;
-    return -(int)(code >> 40);
+    return -(int)(code >> 52);
 }

@@ -4,7 +4,7 @@
 /* Whether the elements of each rank are one range. */
 static int in_ranges(const tezgumi_mpi_chain *chain)
 {
-    unsigned char seen[TEZGUMI_PES] = {0};
+    unsigned char seen[TEZGUMI_MPI_GATHERED_RANKS] = {0};
     uint32_t i;
     for (i = 0; i < chain->n; i++) {
         if (i && chain->places[i] == chain->places[i - 1]) continue;
@@ -14,10 +14,19 @@ static int in_ranges(const tezgumi_mpi_chain *chain)
     return 1;
 }
 
+/* Whether the ranks hold the chain in their own order. */
+static int in_order(const tezgumi_mpi_chain *chain)
+{
+    uint32_t i;
+    for (i = 1; i < chain->n; i++)
+        if (chain->places[i] < chain->places[i - 1]) return 0;
+    return 1;
+}
+
 /* The greatest load of a rank at present, and the load of all. */
 static uint64_t max_load(const tezgumi_mpi_chain *chain, uint64_t *total)
 {
-    uint64_t loads[TEZGUMI_PES] = {0}, most = 0;
+    uint64_t loads[TEZGUMI_MPI_GATHERED_RANKS] = {0}, most = 0;
     uint32_t i;
     *total = 0;
     for (i = 0; i < chain->n; i++) {
@@ -46,19 +55,23 @@ static void count_moves(const tezgumi_mpi_chain *chain, verdict *v)
     }
 }
 
+int tezgumi_mpi_is_enough(uint64_t load, uint64_t least, double tolerance)
+{
+    return load <= least || (double)(load - least) <= tolerance * (double)least;
+}
+
 /* Whether the greatest load is good enough: for refine by the limit in whole numbers that was decided within. */
 static int is_enough(uint64_t load, const tezgumi_refinement *d, const tezgumi_mpi_options *options)
 {
-    const uint64_t least = options->refine ? d->least : d->decision.bottleneck;
-    if (options->refine) return load <= least || load - least <= least / 1000 * d->tolerance + least % 1000 * d->tolerance / 1000;
-    return load <= least || (double)(load - least) <= options->tolerance * (double)least;
+    if (!options->refine) return tezgumi_mpi_is_enough(load, d->decision.bottleneck, options->tolerance);
+    return load <= d->least || load - d->least <= d->least / 1000 * d->tolerance + d->least % 1000 * d->tolerance / 1000;
 }
 
 /* The decided places, or the present ones where these are good enough: also elements of 0 bytes stay then. */
 static void choose(const tezgumi_mpi_chain *chain, const tezgumi_refinement *d, const tezgumi_mpi_options *options, verdict *v)
 {
     const uint64_t before = max_load(chain, &v->total);
-    const int stays = in_ranges(chain) && is_enough(before, d, options);
+    const int stays = (options->keep_order ? in_order(chain) : in_ranges(chain)) && is_enough(before, d, options);
     v->places = stays ? chain->places : d->decision.new_places;
     v->max_load_before = before;
     v->max_load_after = stays ? before : d->decision.bottleneck;
@@ -88,8 +101,16 @@ static int decide(const tezgumi_run *run, const tezgumi_mpi_options *options, te
     }
     status = tezgumi_decision_room(of, run->n, ranks);
     if (status != TEZGUMI_OK) return status;
-    if (!options->skip_check) return tezgumi_decide_run(run, of);
+    if (!options->skip_check || options->keep_order) return tezgumi_decide_run(run, of);
     return tezgumi_plan_run(run, ranks, of->new_places, &of->bottleneck, &of->moved);
+}
+
+/* Lets block b go to rank b. */
+static void keep_order(tezgumi_decision *d)
+{
+    uint32_t b, i;
+    for (b = 0; b < d->pes; b++)
+        for (i = d->cuts[b]; i < d->cuts[b + 1]; i++) d->new_places[i] = b;
 }
 
 /* Plans and checks; the outcome's second part is the flaw that was found. */
@@ -111,13 +132,14 @@ static tezgumi_mpi_outcome plan(const tezgumi_mpi_chain *chain, const tezgumi_mp
 /* Whether all that decide is given is in order. */
 static int usable(MPI_Comm comm, const tezgumi_mpi_chain *chain, const tezgumi_mpi_options *options)
 {
-    return tezgumi_mpi_fits(comm, chain) && options->tolerance >= 0 && (!options->refine || options->tolerance <= 1);
+    if (options->refine && (options->keep_order || options->tolerance > 1)) return 0;
+    return tezgumi_mpi_fits(comm, chain) && options->tolerance >= 0;
 }
 
 int tezgumi_mpi_decide(MPI_Comm comm, tezgumi_mpi_chain *chain, const tezgumi_mpi_options *options,
     tezgumi_mpi_report *report)
 {
-    const tezgumi_mpi_options defaults = {0, 0, 0, 0};
+    const tezgumi_mpi_options defaults = {0, 0, 0, 0, 0};
     tezgumi_mpi_outcome outcome = {TEZGUMI_BAD_INPUT, 0};
     tezgumi_mpi_report unread;
     tezgumi_refinement d;
@@ -131,6 +153,7 @@ int tezgumi_mpi_decide(MPI_Comm comm, tezgumi_mpi_chain *chain, const tezgumi_mp
     if (!report) report = &unread;
     if (usable(comm, chain, options)) outcome = plan(chain, options, &d, report);
     if (outcome.status == TEZGUMI_OK) {
+        if (options->keep_order) keep_order(&d.decision);
         choose(chain, &d, options, &v);
         print = tezgumi_mpi_fingerprint(TEZGUMI_MPI_FINGERPRINT, v.places, chain->n);
     }

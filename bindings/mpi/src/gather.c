@@ -51,21 +51,21 @@ typedef struct {
     const tezgumi_mpi_element *mine;
     int ranks;
     uint32_t n;
-    int bytes[TEZGUMI_PES], starts[TEZGUMI_PES]; /* of the elements of each rank among all */
+    int bytes[TEZGUMI_MPI_GATHERED_RANKS], starts[TEZGUMI_MPI_GATHERED_RANKS]; /* of the elements of each rank among all */
 } counts;
 
 /* The reason for which a rank has nothing to give, or TEZGUMI_OK. */
 static int refusal(const tezgumi_mpi_element *mine, uint32_t count, const tezgumi_mpi_chain *chain)
 {
     if (tezgumi_abi() != TEZGUMI_ABI) return TEZGUMI_MPI_LIBRARY;
-    if (!chain || (count && !mine) || count > TEZGUMI_ELEMENTS) return TEZGUMI_BAD_INPUT;
+    if (!chain || (count && !mine) || count > TEZGUMI_MPI_GATHERED_ELEMENTS) return TEZGUMI_BAD_INPUT;
     return TEZGUMI_OK;
 }
 
 /* Learns the number of elements of each rank, or the reason why a rank tells none: all ranks see the same numbers. */
 static int learn_counts(counts *c, int told, tezgumi_mpi_report *report)
 {
-    int all[TEZGUMI_PES], r, status = TEZGUMI_OK;
+    int all[TEZGUMI_MPI_GATHERED_RANKS], r, status = TEZGUMI_OK;
     if (MPI_Allgather(&told, 1, MPI_INT, all, 1, MPI_INT, c->comm) != MPI_SUCCESS) return TEZGUMI_MPI_ERROR;
     c->n = 0;
     for (r = 0; r < c->ranks; r++) {
@@ -79,7 +79,7 @@ static int learn_counts(counts *c, int told, tezgumi_mpi_report *report)
         c->n += (uint32_t)all[r];
     }
     if (status != TEZGUMI_OK) return status;
-    return c->n <= TEZGUMI_ELEMENTS ? TEZGUMI_OK : TEZGUMI_BAD_INPUT;
+    return c->n <= TEZGUMI_MPI_GATHERED_ELEMENTS ? TEZGUMI_OK : TEZGUMI_BAD_INPUT;
 }
 
 /* Notes a refusal that every rank finds by itself. */
@@ -114,8 +114,8 @@ static int keep_limits(const tezgumi_mpi_chain *chain, tezgumi_mpi_report *repor
 {
     uint32_t i, heavy = UINT32_MAX;
     for (i = 0; i < chain->n; i++) {
-        if (chain->bytes[i] > TEZGUMI_STATE_BYTES) return refuse(TEZGUMI_BAD_INPUT, chain->places[i], i, report);
-        if (chain->loads[i] > TEZGUMI_LOAD && heavy == UINT32_MAX) heavy = i;
+        if (chain->bytes[i] > TEZGUMI_MPI_GATHERED_BYTES) return refuse(TEZGUMI_BAD_INPUT, chain->places[i], i, report);
+        if (chain->loads[i] > TEZGUMI_MPI_GATHERED_LOAD && heavy == UINT32_MAX) heavy = i;
     }
     if (heavy == UINT32_MAX) return TEZGUMI_OK;
     return refuse(TEZGUMI_BAD_LOAD, chain->places[heavy], heavy, report);
@@ -145,7 +145,7 @@ static int gather(MPI_Comm comm, int refused, const tezgumi_mpi_element *mine, u
     int status, groups = 0;
     if (MPI_Comm_test_inter(comm, &groups) != MPI_SUCCESS || MPI_Comm_size(comm, &c.ranks) != MPI_SUCCESS)
         return TEZGUMI_MPI_ERROR;
-    if (groups || c.ranks > (int)TEZGUMI_PES) return TEZGUMI_BAD_INPUT;
+    if (groups || c.ranks > (int)TEZGUMI_MPI_GATHERED_RANKS) return TEZGUMI_BAD_INPUT;
     c.comm = comm;
     c.mine = mine;
     status = refused == TEZGUMI_OK ? refusal(mine, count, chain) : refused;
@@ -162,6 +162,7 @@ int tezgumi_mpi_gather_or(MPI_Comm comm, int refused, const tezgumi_mpi_element 
     report->failed_rank = -1;
     status = gather(comm, refused, mine, count, chain, report);
     if (status != TEZGUMI_OK && chain) chain->n = chain->ranks = 0;
+    if (status == TEZGUMI_OK) report->gathered = chain->n;
     report->gather_seconds = MPI_Wtime() - begin;
     return status;
 }

@@ -3,6 +3,8 @@
 #define TEZGUMI_MPI_INTERNAL_H
 
 #include "tezgumi_mpi.h"
+#include <limits.h>
+#include <tezgumi_parts.h>
 
 /* How one rank fared. */
 typedef struct {
@@ -26,6 +28,32 @@ uint64_t tezgumi_mpi_fingerprint(uint64_t before, const uint32_t *words, size_t 
  * fingerprints differ, it is TEZGUMI_MPI_DISAGREE. One Allreduce. */
 int tezgumi_mpi_agree(MPI_Comm comm, tezgumi_mpi_outcome mine, uint64_t fingerprint, tezgumi_mpi_report *report);
 
+/* How many bytes an element takes in a buffer, so that the next one is aligned for every type. */
+static inline size_t tezgumi_mpi_padded(uint32_t bytes)
+{
+    return ((size_t)bytes + 15) / 16 * 16;
+}
+
+/* Whether an element does not fit any more beside so many bytes: one that is greater than the room goes alone. */
+static inline int tezgumi_mpi_is_full(size_t used, size_t bytes, size_t room)
+{
+    return used > 0 && used + bytes > room;
+}
+
+/* The room of an exchange by the options, which may be null. */
+size_t tezgumi_mpi_room_of(const tezgumi_mpi_options *options);
+
+/* Whether a greatest load is good enough, where this is the least possible one. */
+int tezgumi_mpi_is_enough(uint64_t load, uint64_t least, double tolerance);
+
+/* The seconds since a time, which becomes now. */
+static inline double tezgumi_mpi_lap(double *since)
+{
+    const double before = *since;
+    *since = MPI_Wtime();
+    return *since - before;
+}
+
 /* Whether all is there and the chain was gathered from as many ranks. */
 int tezgumi_mpi_fits(MPI_Comm comm, const tezgumi_mpi_chain *chain);
 
@@ -42,15 +70,94 @@ typedef struct {
     void *memory;               /* to be freed */
 } tezgumi_mpi_schedule;
 
-/* How many bytes an element takes in a buffer, so that the next one is aligned for every type. */
-static inline size_t tezgumi_mpi_padded(uint32_t bytes)
-{
-    return ((size_t)bytes + 15) / 16 * 16;
-}
-
 /* Deals the moves of a chain out to rounds: in each, every rank sends at most room bytes and receives at most room bytes, or
  * a single element. TEZGUMI_NO_MEMORY where malloc refused. */
 int tezgumi_mpi_schedule_of(
     const tezgumi_mpi_chain *chain, int rank, size_t room, tezgumi_mpi_schedule *schedule);
+
+/* ---- Parts ---- */
+
+/* What each rank tells all others of its part. */
+typedef struct {
+    uint64_t first, count;
+    uint64_t load;     /* of all its elements; UINT64_MAX where 64 bits do not hold it */
+    uint64_t greatest; /* the greatest load of one, */
+    uint64_t bytes;    /* the size of all, */
+    uint64_t largest;  /* and of the largest */
+    uint64_t options;  /* a fingerprint of its options; 0 where they are out of order */
+} tezgumi_mpi_summary;
+
+/* Windows: each element in one of them begins a run of the merged chain. Both lists rise. */
+typedef struct {
+    uint32_t count;  /* as many as ranks at most */
+    uint32_t *lower; /* the first element of each */
+    uint32_t *upper; /* and the last one */
+} tezgumi_mpi_windows;
+
+/* A decision on parts under way. Lists have an entry for each rank, if they do not say otherwise. */
+typedef struct {
+    MPI_Comm comm;
+    uint32_t rank, ranks;
+    const tezgumi_mpi_part *part;
+    const tezgumi_mpi_options *options;
+    tezgumi_mpi_layout *layout;
+    tezgumi_mpi_report *report;
+    tezgumi_mpi_summary *told;        /* by rank */
+    uint32_t *order;                  /* the ranks that hold elements, in the order of their parts, */
+    uint32_t parts;                   /* as many as these */
+    int previous, next, last;         /* the ranks whose parts are before and behind this one, and that of the last part */
+    uint64_t total, greatest;         /* load of all elements, and the greatest load of one */
+    uint64_t before;                  /* load of all elements before this part */
+    uint64_t heaviest;                /* load of the heaviest rank */
+    uint64_t low, high;               /* the bounds of the bottleneck */
+    int has_walked;                   /* whether the windows are those of walks within these bounds */
+    tezgumi_mpi_windows windows;
+    uint64_t bottleneck;
+    uint32_t *stops;                  /* ranks + 1 */
+    size_t stops_count;
+    uint64_t *block_loads, *fence_loads; /* one behind the other */
+    int *counts, *starts;             /* of what the ranks gather */
+    void *room;                       /* that of the lists */
+} tezgumi_mpi_search;
+
+/* Room for a layout on so many ranks, from the last time or anew. TEZGUMI_NO_MEMORY where malloc refused. */
+int tezgumi_mpi_layout_room(tezgumi_mpi_layout *layout, uint32_t ranks);
+
+/* tezgumi_mpi_decide_part, on a rank that has found a reason to refuse already, or TEZGUMI_OK. */
+int tezgumi_mpi_decide_part_or(MPI_Comm comm, int refused, const tezgumi_mpi_part *part, const tezgumi_mpi_options *options,
+    tezgumi_mpi_layout *layout, tezgumi_mpi_report *report);
+
+/* The status of an export that was called in order: where it takes its input for bad, something before went wrong. */
+static inline int tezgumi_mpi_inner(int status)
+{
+    return status == TEZGUMI_BAD_INPUT || status == TEZGUMI_BAD_LOAD ? TEZGUMI_MPI_WRONG_PLAN : status;
+}
+
+/* So many runs are gathered without a search for fewer: a search takes messages from rank to rank, and the time of a pass over
+ * all elements. */
+uint64_t tezgumi_mpi_enough(const tezgumi_mpi_search *s);
+
+/* What the functions below return is the same on all ranks. */
+
+/* Learns how the parts lie and what they add up to, or why they are refused. */
+int tezgumi_mpi_learn_parts(tezgumi_mpi_search *s);
+
+/* The windows of this part by the bounds alone, without messages. */
+void tezgumi_mpi_windows_by_totals(tezgumi_mpi_search *s);
+
+/* The windows of all parts, by bounds that passes over all ranks have narrowed. */
+int tezgumi_mpi_windows_by_walks(tezgumi_mpi_search *s);
+
+/* The runs that the windows make of the elements first .. last - 1. */
+uint64_t tezgumi_mpi_runs_of(const tezgumi_mpi_windows *windows, uint32_t first, uint32_t last);
+
+/* Gathers the runs of all parts and divides them: the layout's cuts, the stops and the bottleneck. */
+int tezgumi_mpi_divide_runs(tezgumi_mpi_search *s);
+
+/* Checks the division by its loads, added up over all ranks. TEZGUMI_MPI_WRONG_PLAN where it has a flaw. */
+int tezgumi_mpi_check_division(tezgumi_mpi_search *s);
+
+/* Names the blocks: the layout's names, and the bytes that move. */
+int tezgumi_mpi_name_blocks(tezgumi_mpi_search *s);
 
 #endif

@@ -7,8 +7,8 @@
 /* One direction of an exchange: the bytes for each peer, and where they stand in the buffer. */
 typedef struct {
     unsigned char *buffer;
-    int bytes[TEZGUMI_PES], starts[TEZGUMI_PES];
-    size_t next[TEZGUMI_PES]; /* where the next element of a peer stands */
+    int bytes[TEZGUMI_MPI_GATHERED_RANKS], starts[TEZGUMI_MPI_GATHERED_RANKS];
+    size_t next[TEZGUMI_MPI_GATHERED_RANKS]; /* where the next element of a peer stands */
 } lane;
 
 /* A move under way. */
@@ -146,7 +146,7 @@ static int usable(MPI_Comm comm, const tezgumi_mpi_chain *chain, const tezgumi_m
     return 1;
 }
 
-static size_t room_of(const tezgumi_mpi_options *options)
+size_t tezgumi_mpi_room_of(const tezgumi_mpi_options *options)
 {
     if (!options || options->room == 0) return DEFAULT_ROOM;
     return options->room < GREATEST_ROOM ? options->room : GREATEST_ROOM;
@@ -206,7 +206,7 @@ int tezgumi_mpi_move(MPI_Comm comm, tezgumi_mpi_chain *chain, const tezgumi_mpi_
     m.chain = chain;
     m.callbacks = callbacks;
     status = usable(comm, chain, callbacks) ? TEZGUMI_OK : TEZGUMI_BAD_INPUT;
-    status = move(&m, room_of(options), status, report);
+    status = move(&m, tezgumi_mpi_room_of(options), status, report);
     report->move_seconds = MPI_Wtime() - begin;
     return status;
 }

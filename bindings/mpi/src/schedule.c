@@ -12,17 +12,12 @@ static size_t used_in(const gate *g, uint32_t round)
     return g->round == round ? g->used : 0;
 }
 
-static int is_full(size_t used, size_t bytes, size_t room)
-{
-    return used > 0 && used + bytes > room;
-}
-
 /* Lets an element out of one rank and into another, in the first round to which both have come, or in the next. Rounds of a
  * rank only rise, so an exchange between two ranks does not wait for one between two others. */
 static uint32_t let_through(gate *out, gate *in, size_t bytes, size_t room)
 {
     uint32_t round = out->round > in->round ? out->round : in->round;
-    if (is_full(used_in(out, round), bytes, room) || is_full(used_in(in, round), bytes, room)) round++;
+    if (tezgumi_mpi_is_full(used_in(out, round), bytes, room) || tezgumi_mpi_is_full(used_in(in, round), bytes, room)) round++;
     out->used = used_in(out, round) + bytes;
     in->used = used_in(in, round) + bytes;
     return out->round = in->round = round;
@@ -32,7 +27,7 @@ static uint32_t let_through(gate *out, gate *in, size_t bytes, size_t room)
 static void choose_rounds(const tezgumi_mpi_chain *chain, int rank, size_t room, uint32_t *round_of,
     tezgumi_mpi_schedule *s)
 {
-    gate out[TEZGUMI_PES], in[TEZGUMI_PES];
+    gate out[TEZGUMI_MPI_GATHERED_RANKS], in[TEZGUMI_MPI_GATHERED_RANKS];
     uint32_t i;
     memset(out, 0, sizeof out);
     memset(in, 0, sizeof in);

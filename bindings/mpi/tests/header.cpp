@@ -2,6 +2,7 @@
 #include <cstdio>
 #include <vector>
 #include <tezgumi_mpi.h>
+#include <tezgumi_parts.h>
 
 static int pack(void *app, uint32_t index, void *to, uint32_t bytes)
 {

@@ -1,9 +1,10 @@
 /* Each request for memory is refused in turn, on each rank in turn, those of the planner included: all ranks answer that
  * memory is out, nothing has moved, and all memory is given back. Link with --wrap for malloc, calloc, realloc and free, and
- * with the static planner. */
-#include "harness.h"
+ * with the static planner, and for tezgumi_mpi_enough. */
+#include "parts.h"
 
 static field f;
+static int as_parts;       /* 1 while elements are dealt out as parts, and no chain is asked for */
 static int counting;       /* 1 while requests are those of the libraries */
 static unsigned requests;  /* of this rank since the last call */
 static unsigned refuse_at; /* the request to refuse, or 0 */
@@ -69,19 +70,20 @@ static void drop_uncounted(void *app, uint32_t index)
 static int rebalance_counted(int skip_check, int refine, tezgumi_mpi_report *report)
 {
     static tezgumi_mpi_element mine[FIELD_MOST];
-    const tezgumi_mpi_options options = {0, 1000, skip_check, refine};
+    const tezgumi_mpi_options options = {0, 1000, skip_check, refine, 0};
     const tezgumi_mpi_callbacks callbacks = {field_pack, unpack_uncounted, drop_uncounted, &f};
     tezgumi_mpi_chain chain = {0};
     uint32_t count;
     int status;
-    deal(&f, 60, 3, refine ? IN_ORDER : SCATTERED);
+    if (as_parts) deal_parts(&f, 60, 3, EVEN, 1);
+    else deal(&f, 60, 3, refine ? IN_ORDER : SCATTERED);
     f.fail_pack = fail_pack;
     f.fail_unpack = fail_unpack;
     count = elements_of(&f, mine);
     requests = 0;
     live = 0;
     counting = 1;
-    status = tezgumi_mpi_rebalance(MPI_COMM_WORLD, mine, count, &callbacks, &options, &chain, report);
+    status = tezgumi_mpi_rebalance(MPI_COMM_WORLD, mine, count, &callbacks, &options, as_parts ? NULL : &chain, report);
     tezgumi_mpi_chain_free(&chain);
     counting = 0;
     EXPECT(live == 0);
@@ -115,7 +117,7 @@ static void on_each_rank(int skip_check, int refine)
     for (on = 0; on < ranks; on++) {
         const unsigned refused = refuse_each(on, skip_check, refine);
         if (rank == on) EXPECT(refused == requests);
-        EXPECT(refused >= (ranks == 1 ? 4u : 7u));
+        EXPECT(refused >= (as_parts ? 3u : ranks == 1 ? 4u : 7u));
     }
 }
 
@@ -138,13 +140,32 @@ static void checked(void) { on_each_rank(0, 0); }
 static void unchecked(void) { on_each_rank(1, 0); }
 static void refined(void) { on_each_rank(0, 1); }
 
+static void of_parts(void)
+{
+    as_parts = 1;
+    on_each_rank(0, 0);
+    enough = 0; /* with walks */
+    on_each_rank(1, 0);
+    enough = UINT64_MAX;
+    as_parts = 0;
+}
+
+static void after_callbacks_of_parts(void)
+{
+    as_parts = 1;
+    after_callbacks();
+    as_parts = 0;
+}
+
 int main(int argc, char **argv)
 {
     begin_tests(&argc, &argv);
     run_test("memory refused on one rank", checked);
     run_test("memory refused on one rank, without the checker", unchecked);
     run_test("memory refused on one rank, within a tolerance", refined);
+    run_test("memory refused on one rank, of parts", of_parts);
     if (ranks > 1) run_test("memory is given back after a callback that failed", after_callbacks);
+    if (ranks > 1) run_test("memory of parts is given back after a callback that failed", after_callbacks_of_parts);
     field_free(&f);
     return end_tests();
 }

@@ -20,7 +20,7 @@ static void deal_twelve(void)
 
 static int rebalance_within(double tolerance)
 {
-    const tezgumi_mpi_options options = {tolerance, 0, 0, 0};
+    const tezgumi_mpi_options options = {tolerance, 0, 0, 0, 0};
     deal_twelve();
     return rebalance(&f, &options, NULL, &report);
 }
@@ -53,7 +53,7 @@ static void tolerance(void)
 /* Ranges are made, whatever the tolerance. */
 static void tolerance_of_scattered(void)
 {
-    const tezgumi_mpi_options options = {1e9, 0, 0, 0};
+    const tezgumi_mpi_options options = {1e9, 0, 0, 0, 0};
     tezgumi_mpi_chain chain = {0};
     uint32_t first, end;
     deal(&f, 100, 2, SCATTERED);
@@ -84,7 +84,7 @@ static void unlike_tolerances(void)
 static int move_ring(size_t room)
 {
     static tezgumi_mpi_element mine[FIELD_MOST];
-    const tezgumi_mpi_options options = {0, room, 0, 0};
+    const tezgumi_mpi_options options = {0, room, 0, 0, 0};
     const tezgumi_mpi_callbacks callbacks = callbacks_of(&f);
     tezgumi_mpi_chain chain = {0};
     uint32_t i;
@@ -119,7 +119,7 @@ static void room(void)
 static void room_to_receive(void)
 {
     static tezgumi_mpi_element mine[FIELD_MOST];
-    const tezgumi_mpi_options options = {0, 128, 0, 0};
+    const tezgumi_mpi_options options = {0, 128, 0, 0, 0};
     const tezgumi_mpi_callbacks callbacks = callbacks_of(&f);
     tezgumi_mpi_chain chain = {0};
     uint32_t i;
@@ -161,7 +161,7 @@ static void drop_and_count(void *app, uint32_t index)
 static void room_is_kept(void)
 {
     static tezgumi_mpi_element mine[FIELD_MOST];
-    const tezgumi_mpi_options options = {0, 2000, 0, 0};
+    const tezgumi_mpi_options options = {0, 2000, 0, 0, 0};
     const tezgumi_mpi_callbacks callbacks = {pack_and_count, field_unpack, drop_and_count, &f};
     uint32_t most;
     deal(&f, 1000, 7, SCATTERED);
@@ -175,7 +175,7 @@ static void room_is_kept(void)
 
 static void without_check(void)
 {
-    const tezgumi_mpi_options options = {0, 0, 1, 0};
+    const tezgumi_mpi_options options = {0, 0, 1, 0, 0};
     tezgumi_mpi_chain checked = {0}, unchecked = {0};
     deal(&f, 300, 5, SCATTERED);
     EXPECT(rebalance(&f, NULL, &checked, &report) == TEZGUMI_OK && report.check_seconds > 0);
@@ -200,7 +200,7 @@ static void great_loads(void)
 {
     uint32_t i;
     deal(&f, 1000, 1, IN_ORDER);
-    for (i = 0; i < f.n; i++) f.load[i] = TEZGUMI_LOAD - i % 2;
+    for (i = 0; i < f.n; i++) f.load[i] = TEZGUMI_MPI_GATHERED_LOAD - i % 2;
     EXPECT(rebalance(&f, NULL, NULL, &report) == TEZGUMI_OK);
     EXPECT(rebalance(&f, NULL, NULL, &report) == TEZGUMI_OK);
     EXPECT(report.elements_moved == 0 && report.max_load_before == report.max_load_after);

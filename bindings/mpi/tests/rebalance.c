@@ -233,25 +233,25 @@ static int take_word(void *app, uint32_t index, const void *from, uint32_t bytes
 /* As many elements as may be, all on the last rank, without a drop. */
 static void most_elements(void)
 {
-    static tezgumi_mpi_element mine[TEZGUMI_ELEMENTS];
-    static uint32_t words[TEZGUMI_ELEMENTS];
+    static tezgumi_mpi_element mine[TEZGUMI_MPI_GATHERED_ELEMENTS];
+    static uint32_t words[TEZGUMI_MPI_GATHERED_ELEMENTS];
     const tezgumi_mpi_callbacks callbacks = {copy_word, take_word, NULL, words};
-    const uint32_t count = rank == ranks - 1 ? TEZGUMI_ELEMENTS : 0;
+    const uint32_t count = rank == ranks - 1 ? TEZGUMI_MPI_GATHERED_ELEMENTS : 0;
     tezgumi_mpi_chain chain = {0};
     tezgumi_mpi_report report;
     uint32_t i, first, end;
     for (i = 0; i < count; i++) {
         words[i] = 3 * i + 1;
         mine[i].index = i;
-        mine[i].load = TEZGUMI_LOAD;
+        mine[i].load = TEZGUMI_MPI_GATHERED_LOAD;
         mine[i].bytes = sizeof *words;
     }
     EXPECT(tezgumi_mpi_rebalance(MPI_COMM_WORLD, mine, count, &callbacks, NULL, &chain, &report) == TEZGUMI_OK);
-    EXPECT(report.max_load_before == TEZGUMI_ELEMENTS * TEZGUMI_LOAD);
-    EXPECT(report.max_load_after == ((TEZGUMI_ELEMENTS + (uint32_t)ranks - 1) / (uint32_t)ranks) * TEZGUMI_LOAD);
+    EXPECT(report.max_load_before == TEZGUMI_MPI_GATHERED_ELEMENTS * TEZGUMI_MPI_GATHERED_LOAD);
+    EXPECT(report.max_load_after == ((TEZGUMI_MPI_GATHERED_ELEMENTS + (uint32_t)ranks - 1) / (uint32_t)ranks) * TEZGUMI_MPI_GATHERED_LOAD);
     EXPECT(tezgumi_mpi_range(&chain, rank, &first, &end));
     for (i = first; i < end; i++) EXPECT(words[i] == 3 * i + 1);
-    EXPECT(sum_of_ranks(end - first) == TEZGUMI_ELEMENTS);
+    EXPECT(sum_of_ranks(end - first) == TEZGUMI_MPI_GATHERED_ELEMENTS);
     tezgumi_mpi_chain_free(&chain);
 }
 
@@ -261,7 +261,7 @@ static void greatest_elements(void)
     uint32_t i;
     deal(&f, 6, 2, IN_ORDER);
     for (i = 0; i < f.n; i++) {
-        f.size[i] = TEZGUMI_STATE_BYTES;
+        f.size[i] = TEZGUMI_MPI_GATHERED_BYTES;
         f.load[i] = 1;
         f.dealt[i] = 0;
     }

@@ -87,7 +87,7 @@ static uint64_t greatest(const uint32_t *places)
 /* One rebalance within a tolerance of so many thousandths, judged beside that without one. */
 static void judge(uint32_t n, uint32_t seed, dealing how, uint32_t thousandths)
 {
-    const tezgumi_mpi_options options = {thousandths / 1000.0, 0, 0, 1};
+    const tezgumi_mpi_options options = {thousandths / 1000.0, 0, 0, 1, 0};
     tezgumi_mpi_chain chain = {0};
     uint32_t order[8];
     uint64_t least, limit, all = 0, planned;
@@ -130,7 +130,7 @@ static void none(void) { judge(0, 1, IN_ORDER, 20); }
 /* 10 elements of load 1 and 10 bytes a rank, and 2 of those of rank 1 on rank 0: loads of 12 and 8, where 10 is least. */
 static int rebalance_twelve(double tolerance, int refine)
 {
-    const tezgumi_mpi_options options = {tolerance, 0, 0, refine};
+    const tezgumi_mpi_options options = {tolerance, 0, 0, refine, 0};
     uint32_t i;
     deal(&f, 10 * (uint32_t)ranks, 1, IN_ORDER);
     for (i = 0; i < f.n; i++) {
@@ -170,7 +170,7 @@ static void unlike_options(void)
 
 static void without_check(void)
 {
-    const tezgumi_mpi_options checked = {0.05, 0, 0, 1}, unchecked = {0.05, 0, 1, 1};
+    const tezgumi_mpi_options checked = {0.05, 0, 0, 1, 0}, unchecked = {0.05, 0, 1, 1, 0};
     tezgumi_mpi_chain one = {0}, other = {0};
     deal(&f, 300, 5, IN_ORDER);
     EXPECT(rebalance(&f, &checked, &one, &report) == TEZGUMI_OK && report.check_seconds > 0);

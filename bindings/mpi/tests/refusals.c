@@ -2,7 +2,7 @@
 #include "harness.h"
 
 static field f;
-static tezgumi_mpi_element mine[TEZGUMI_ELEMENTS + 1];
+static tezgumi_mpi_element mine[TEZGUMI_MPI_GATHERED_ELEMENTS + 1];
 static tezgumi_mpi_report report;
 
 /* The last rank is the one that does something wrong. */
@@ -27,6 +27,17 @@ static int try_with(uint32_t count)
 {
     const tezgumi_mpi_callbacks callbacks = callbacks_of(&f);
     return tezgumi_mpi_rebalance(MPI_COMM_WORLD, mine, count, &callbacks, NULL, NULL, &report);
+}
+
+/* The same where a chain is asked for, so that all elements are gathered. */
+static int try_gathered(uint32_t count)
+{
+    const tezgumi_mpi_callbacks callbacks = callbacks_of(&f);
+    tezgumi_mpi_chain chain = {0};
+    const int status = tezgumi_mpi_rebalance(MPI_COMM_WORLD, mine, count, &callbacks, NULL, &chain, &report);
+    EXPECT(chain.n == 0);
+    tezgumi_mpi_chain_free(&chain);
+    return status;
 }
 
 /* 20 elements, 5 of which at least are on the last rank. */
@@ -76,30 +87,34 @@ static void greatest_index(void)
 static void too_many_bytes(void)
 {
     const uint32_t count = deal_some();
-    if (wrong_here()) mine[position(18)].bytes = TEZGUMI_STATE_BYTES + 1;
-    if (wrong_here()) mine[position(17)].load = TEZGUMI_LOAD + 1;
-    expect_refused(try_with(count), TEZGUMI_BAD_INPUT, 18);
+    if (wrong_here()) mine[position(18)].bytes = TEZGUMI_MPI_GATHERED_BYTES + 1;
+    if (wrong_here()) mine[position(17)].load = TEZGUMI_MPI_GATHERED_LOAD + 1;
+    expect_refused(try_gathered(count), TEZGUMI_BAD_INPUT, 18);
 }
 
 static void too_great_a_load(void)
 {
     const uint32_t count = deal_some();
-    if (wrong_here()) mine[position(18)].load = mine[position(19)].load = TEZGUMI_LOAD + 1;
-    expect_refused(try_with(count), TEZGUMI_BAD_LOAD, 18);
+    if (wrong_here()) mine[position(18)].load = mine[position(19)].load = TEZGUMI_MPI_GATHERED_LOAD + 1;
+    expect_refused(try_gathered(count), TEZGUMI_BAD_LOAD, 18);
 }
 
 static void too_many_on_a_rank(void)
 {
     const uint32_t count = deal_some();
-    expect_refused(try_with(wrong_here() ? TEZGUMI_ELEMENTS + 1 : count), TEZGUMI_BAD_INPUT, 0);
+    const uint32_t too_many = wrong_here() ? TEZGUMI_MPI_GATHERED_ELEMENTS + 1 : count;
+    expect_refused(try_gathered(too_many), TEZGUMI_BAD_INPUT, 0);
+    expect_refused(try_with(too_many), TEZGUMI_MPI_SCATTERED, 0);
 }
 
 static void too_many_in_all(void)
 {
     const uint32_t count = deal_some();
-    const int status = try_with(wrong_here() ? TEZGUMI_ELEMENTS : count);
+    const uint32_t most = wrong_here() ? TEZGUMI_MPI_GATHERED_ELEMENTS : count;
+    const int status = try_gathered(most);
     if (ranks == 1) EXPECT(status == TEZGUMI_MPI_BAD_INDEX);
     else EXPECT(status == TEZGUMI_BAD_INPUT && report.failed_rank == -1);
+    if (ranks > 1) expect_refused(try_with(most), TEZGUMI_MPI_SCATTERED, 0);
 }
 
 static void no_elements(void)
@@ -224,7 +239,7 @@ static void gather_ring(tezgumi_mpi_chain *chain)
 static void fail_in_second(int from, int while_packing)
 {
     const tezgumi_mpi_callbacks callbacks = callbacks_of(&f);
-    const tezgumi_mpi_options options = {0, 4 * 64, 0, 0};
+    const tezgumi_mpi_options options = {0, 4 * 64, 0, 0, 0};
     const uint32_t bad = 12 * (uint32_t)from + 5;
     tezgumi_mpi_chain chain = {0};
     uint32_t i, moved;
@@ -278,7 +293,7 @@ static void callback_in_one_call(void)
 /* Two ranks fail in different ways: all return what has the least value. */
 static void two_reasons(void)
 {
-    const tezgumi_mpi_options options = {rank == 0 ? -1 : 0, 0, 0, 0};
+    const tezgumi_mpi_options options = {rank == 0 ? -1 : 0, 0, 0, 0, 0};
     const tezgumi_mpi_callbacks callbacks = callbacks_of(&f);
     tezgumi_mpi_chain chain = {0};
     gather_ring(&chain);
@@ -297,7 +312,7 @@ static void two_reasons(void)
 static void names(void)
 {
     int status;
-    for (status = TEZGUMI_MPI_ERROR; status <= TEZGUMI_MPI_BAD_INDEX; status++)
+    for (status = TEZGUMI_MPI_SCATTERED; status <= TEZGUMI_MPI_BAD_INDEX; status++)
         EXPECT(strcmp(tezgumi_mpi_status_name(status), tezgumi_mpi_status_name(1000)) != 0);
     EXPECT(strcmp(tezgumi_mpi_status_name(TEZGUMI_BAD_LOAD), tezgumi_status_name(TEZGUMI_BAD_LOAD)) == 0);
 }

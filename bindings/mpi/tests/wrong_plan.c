@@ -103,7 +103,7 @@ static void expect_left(void)
 static int decide_wrongly(int skip_check, int refine, tezgumi_mpi_chain *chain)
 {
     static tezgumi_mpi_element mine[FIELD_MOST];
-    const tezgumi_mpi_options options = {refine ? 0.5 : 0, 0, skip_check, refine};
+    const tezgumi_mpi_options options = {refine ? 0.5 : 0, 0, skip_check, refine, 0};
     int status;
     deal(&f, 50, 2, refine ? IN_ORDER : SCATTERED);
     EXPECT(tezgumi_mpi_gather(MPI_COMM_WORLD, mine, elements_of(&f, mine), chain, &report) == TEZGUMI_OK);
@@ -163,10 +163,12 @@ static void other_library(void)
 
 static void failing_mpi(void)
 {
+    tezgumi_mpi_chain chain = {0};
     deal(&f, 50, 2, SCATTERED);
     mpi_fails = 1;
-    EXPECT(rebalance(&f, NULL, NULL, &report) == TEZGUMI_MPI_ERROR);
+    EXPECT(rebalance(&f, NULL, &chain, &report) == TEZGUMI_MPI_ERROR);
     mpi_fails = 0;
+    tezgumi_mpi_chain_free(&chain);
     expect_left();
 }
 
