@@ -5,7 +5,7 @@ use crate::claim::Claim;
 use crate::follow::steps_of;
 use crate::levels::Levels;
 use chare_index::Pe;
-use lb_certificates::Units;
+use lb_snapshot::Units;
 use std::alloc::Allocator;
 use std::marker::Model;
 

@@ -12,7 +12,7 @@ use crate::moved::moved_by;
 use crate::parts::{bounded_of, check_cuts, check_least, check_names};
 use crate::reordered::Reordered;
 use crate::steep::first_steep;
-use lb_certificates::Snapshot;
+use lb_snapshot::Snapshot;
 use std::alloc::Allocator;
 
 /// Checks cuts and names for `pes` PEs, whoever made them. `Ok` means that no block is above the limit, that the limit is as

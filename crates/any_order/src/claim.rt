@@ -7,7 +7,7 @@ ghost use Rattle.any_order.specs.Internal.{AreMeasured, IsAt};
 
 use crate::row::{At, at_start, moved_on};
 use chare_index::Pe;
-use lb_certificates::Units;
+use lb_snapshot::Units;
 use std::marker::Model;
 
 /// A chain, a limit, and bounds for a number of blocks and for one more. Contracts see it as the record of the parts.

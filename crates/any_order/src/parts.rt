@@ -12,7 +12,8 @@ use crate::bounded::Bounded;
 use crate::flaw::ReorderedFlaw;
 use crate::reordered::Reordered;
 use chare_index::Limits;
-use lb_certificates::{Loads, Snapshot, check_division};
+use lb_certificates::check_division;
+use lb_snapshot::{Loads, Snapshot};
 use std::alloc::Allocator;
 
 /// What a reordered division claims of the elements. The limit is far below what 64 bits hold, since the division is a least

@@ -3,7 +3,7 @@
 ghost use Rattle.std.specs.Prelude.{◌<◌, ◌^◌, length};
 
 use chare_index::Pe;
-use lb_certificates::Units;
+use lb_snapshot::Units;
 use std::alloc::{AllocError, Allocator};
 
 /// A chain of elements, the runs of them on each PE, and the widest blocks within a limit.

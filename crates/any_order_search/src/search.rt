@@ -10,7 +10,8 @@ use crate::row::{NONE, free_at};
 use crate::sized::is_small;
 use any_order::{Bounds, Reordered, check_reordered};
 use chain_refinement::Tolerance;
-use lb_certificates::{Cuts, Division, Naming, Sizes, Snapshot, Units};
+use lb_certificates::{Cuts, Division, Naming};
+use lb_snapshot::{Sizes, Snapshot, Units};
 use present_order::PresentOrder;
 use std::alloc::{AllocError, Allocator};
 

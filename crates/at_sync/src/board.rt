@@ -10,9 +10,9 @@ ghost use Rattle.at_sync.specs.Refusals.{RefusesDecision, RefusesFinish, databas
 use crate::error::BoardError;
 use crate::strategy::Strategy;
 use chare_index::{Gate, Index, Limits, Pe, Round};
-use lb_certificates::{Snapshot, Units};
 use lb_database::LoadDb;
 use lb_refinement::Refined;
+use lb_snapshot::{Snapshot, Units};
 use std::alloc::{AllocError, Allocator, Global};
 use std::marker::Model;
 use std::thread::Threads;

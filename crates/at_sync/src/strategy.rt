@@ -9,8 +9,8 @@ ghost use Rattle.at_sync.specs.Strategies.{IsBest, IsDecidedBy, PlacesAll, strat
 
 use chain_refinement::Tolerance;
 use chare_index::{Gate, Limits};
-use lb_certificates::Snapshot;
 use lb_refinement::{Refined, refine, refine_with};
+use lb_snapshot::Snapshot;
 use lb_strategy::{Decision, PlanError, plan, plan_with};
 use std::alloc::{AllocError, Allocator};
 use std::thread::Threads;

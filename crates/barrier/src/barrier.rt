@@ -6,7 +6,7 @@ use crate::board_size::BoardSize;
 use crate::run_board::RunBoard;
 use at_sync::{Board, BoardError};
 use chare_index::{Gate, Index, Limits, Pe, Round};
-use lb_certificates::Units;
+use lb_snapshot::Units;
 use std::alloc::{Allocator, Global};
 use std::sync::{Mutex, MutexGuard, Wait};
 use std::thread::Threads;

@@ -9,7 +9,7 @@ use crate::board_size::BoardSize;
 use crate::round_places::RoundPlaces;
 use at_sync::{Board, BoardError};
 use chare_index::{Gate, Index, Limits, Pe, Round};
-use lb_certificates::Units;
+use lb_snapshot::Units;
 use std::alloc::{Allocator, Global};
 use std::marker::{Model, PhantomData};
 use std::thread::Threads;

@@ -3,7 +3,8 @@ ghost use Rattle.lb_snapshot.specs.Measured.{load};
 ghost use Rattle.chain_partition.specs.Sums.{AppendsSamples, IsChain, IsRefused, IsSampled};
 
 use crate::error::ChainError;
-use lb_certificates::{Loads, Units, total};
+use lb_certificates::total;
+use lb_snapshot::{Loads, Units};
 use std::alloc::{AllocError, Allocator, Global};
 use std::marker::Model;
 

@@ -8,7 +8,8 @@ use crate::chain::Chain;
 use crate::search::{least_bottleneck, opening};
 use crate::walk::greedy_ends;
 use chare_index::Limits;
-use lb_certificates::{Cuts, Division, Floor, Loads, Stops, Units};
+use lb_certificates::{Cuts, Division, Floor, Stops};
+use lb_snapshot::{Loads, Units};
 use std::alloc::{AllocError, Allocator};
 
 /// The division of these loads into `pes` blocks, 1 to 256, whose heaviest block is lightest. Its blocks take as

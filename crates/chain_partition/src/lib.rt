@@ -9,7 +9,7 @@
 //!
 //! ```
 //! use chain_partition::divide;
-//! use lb_certificates::Loads;
+//! use lb_snapshot::Loads;
 //!
 //! // Five elements in two blocks: 1 2 3 and 4 5.
 //! let loads = Loads::new(vec![in alloc; 1, 2, 3, 4, 5]?).ok_or("too many")?;

@@ -4,7 +4,7 @@ ghost use Rattle.chain_partition.specs.Sums.{IsSampled};
 
 use crate::chain::{load_between, push_samples, samples_of};
 use chare_index::Limits;
-use lb_certificates::{Loads, Units};
+use lb_snapshot::{Loads, Units};
 use std::alloc::{AllocError, Allocator, Global};
 use std::marker::Model;
 

@@ -7,7 +7,8 @@ use crate::outcome::Probe;
 use crate::prefix::Prefix;
 use crate::walk::greedy_ends;
 use chare_index::Limits;
-use lb_certificates::{Cuts, Loads, Stops, Units};
+use lb_certificates::{Cuts, Stops};
+use lb_snapshot::{Loads, Units};
 use std::alloc::{AllocError, Allocator};
 
 /// Fills `pes` blocks in order, each with as many elements as fit within the limit: the probe of A. Pinar and C. Aykanat, JPDC

@@ -8,7 +8,7 @@ ghost use Rattle.chain_partition.specs.Search.{Enclose, Shows};
 ghost use Rattle.chain_partition.specs.Sums.{IsSampled};
 
 use crate::walk::end_of_block;
-use lb_certificates::Units;
+use lb_snapshot::Units;
 
 /// What the walk within one limit shows of other limits.
 #[derive(Clone, Copy)]

@@ -11,7 +11,8 @@ use crate::chain::Chain;
 use crate::division::division_at;
 use crate::search::{Bound, Bounds, bound_within, opening};
 use chare_index::{Gate, Limits};
-use lb_certificates::{Division, Loads, Units};
+use lb_certificates::Division;
+use lb_snapshot::{Loads, Units};
 use std::alloc::{AllocError, Allocator};
 use std::thread::{self, Threads};
 

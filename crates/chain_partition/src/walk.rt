@@ -6,7 +6,7 @@ ghost use Rattle.chain_partition.specs.Greedy.{IsBracket, IsGreatestEnd, IsGreed
 ghost use Rattle.chain_partition.specs.Sums.{IsSampled};
 
 use crate::chain::STRIDE;
-use lb_certificates::Units;
+use lb_snapshot::Units;
 use std::alloc::{AllocError, Allocator};
 
 /// Where a block ends, and the load of its elements.

@@ -17,7 +17,8 @@ use crate::refinement::Refinement;
 use crate::steep::first_steep;
 use crate::walk::{Window, slid};
 use chare_index::Limits;
-use lb_certificates::{Loads, Snapshot, Units, check_division};
+use lb_certificates::check_division;
+use lb_snapshot::{Loads, Snapshot, Units};
 use std::alloc::Allocator;
 
 /// Checks a refinement for `pes` PEs, whoever made it. `Ok` means that no block is above the limit, that the limit is as far

@@ -1,6 +1,6 @@
 use crate::heights::Steps;
 use chare_index::Pe;
-use lb_certificates::Units;
+use lb_snapshot::Units;
 use std::alloc::Allocator;
 use std::marker::Model;
 

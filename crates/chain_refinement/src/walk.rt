@@ -8,7 +8,7 @@ ghost use Rattle.chain_refinement.specs.Refinement.{height, held, held_before, h
 ghost use Rattle.chain_refinement.specs.Walks.{IsClimbed, IsWindow};
 
 use chare_index::Pe;
-use lb_certificates::Units;
+use lb_snapshot::Units;
 
 /// The widest block within a limit that ends at some place.
 #[derive(Clone, Copy, Debug)]

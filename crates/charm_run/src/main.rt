@@ -19,10 +19,11 @@ ghost use Rattle.std.specs.Prelude.{None};
 
 use crate::one_thread::{run_by_list, run_by_seed, run_by_seeds};
 use crate::traces::{Onlookers, keep_recorded, lost};
+use at_sync::Strategy;
+use chain_refinement::Tolerance;
 use file_faults::Advice;
 use program_words::{BAD_FILE, NO_OUTPUT, on_words, refused};
 use progress_line::Progress;
-use rts_run::{Strategy, Tolerance};
 use run_command_line::{Asked, Task, asked, refuse};
 use run_trace::Tracing;
 use std::alloc::Global;

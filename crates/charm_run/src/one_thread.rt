@@ -5,11 +5,12 @@ ghost use Rattle.workload.specs.Text.{IsWithin};
 
 use crate::traces::{keep_trace, lost, pes_of};
 use crate::{ADVICE, dumped};
+use at_sync::Strategy;
+use chain_refinement::Tolerance;
 use file_faults::Advice;
 use program_words::{BAD_FILE, NO_OUTPUT};
-use rts_run::{Strategy, Tolerance};
 use run_command_line::Asked;
-use run_trace::{Timeline, TraceError};
+use run_trace::Timeline;
 use schedule_run::{
     DrivenOnOne, ListFault, drive_events, drive_seed, drive_seeds, read_list, read_workload,
     report_list, write_list,
@@ -18,6 +19,7 @@ use std::alloc::Global;
 use std::fs::{File, Files};
 use std::io::{self, Write};
 use streams::{Noted, write_out};
+use trace_events::TraceError;
 use workload::Workload;
 
 /// What to do about a list of events with a fault.

@@ -1,11 +1,12 @@
 //! The trace of a run, in the file that is asked for.
 
 use chare_index::{Pe, Round};
-use lb_certificates::Snapshot;
 use lb_refinement::Refined;
+use lb_snapshot::Snapshot;
+use pe_worker::{PeStep, Watch};
 use progress_line::Progress;
-use rts_run::{Outcome, PeStep, Watch};
-use run_trace::{Timeline, TraceError, Tracing, write_trace};
+use rts_run::Outcome;
+use run_trace::{Timeline, Tracing};
 use std::alloc::Global;
 use std::fs::{File, Files};
 use std::io::Write;
@@ -13,6 +14,7 @@ use std::sync::Wait;
 use std::time::Clock;
 use streams::write_out;
 use tally::Tally;
+use trace_events::{TraceError, write_trace};
 use workload_run::{Driven, Onlooker};
 
 /// The watches of a run over threads: the progress line, and the recorder of a trace.

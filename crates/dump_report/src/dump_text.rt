@@ -7,10 +7,10 @@ ghost use Rattle.lb_strategy.specs.declared.error.PlanError.TheVariants.{OutOfMe
 
 use chain_refinement::Tolerance;
 use chare_index::Limits;
-use lb_certificates::Snapshot;
-use lb_dump::Dump;
+use dump_format::Dump;
 use lb_refinement::refine;
 use lb_replay::Ended;
+use lb_snapshot::Snapshot;
 use lb_strategy::{PlanError, plan};
 use load_report::{Style, push_planned, push_present, push_recorded, push_refined};
 use std::alloc::{AllocError, Allocator};

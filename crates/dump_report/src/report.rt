@@ -5,7 +5,8 @@ ghost use Rattle.lb_replay.specs.declared.ended.Ended.TheVariants.{Dump};
 
 use crate::dump_text::dump_text;
 use chain_refinement::Tolerance;
-use lb_dump::{DumpError, read_from};
+use dump_format::DumpError;
+use lb_dump::read_from;
 use lb_replay::Ended;
 use load_report::Style;
 use std::alloc::Allocator;

@@ -4,7 +4,7 @@ ghost use Rattle.std.specs.Prelude.{◌≡◌, ℕ, List, None, Some, codes, IfN
 ghost use Rattle.dump_report.specs.Tellings.{IsTold, advice, fault_said, fault_words, line_about};
 ghost use Rattle.file_faults.specs.Telling.{Tells};
 
-use lb_dump::DumpError;
+use dump_format::DumpError;
 use lb_replay::{Ended, dump_advice};
 use std::alloc::Allocator;
 use std::fmt::{self, Display, Formatter};

@@ -10,11 +10,14 @@ mod help;
 mod words;
 
 use crate::words::{RunOptions, read_options};
-use hot_spot_run::{Chain, ChainError, run_chain_watched, text_of};
-use hot_spot_strip::{Mode, Strip};
+use at_sync::Strategy;
+use chain_refinement::Tolerance;
+use hot_spot_run::{run_chain_watched, text_of};
+use hot_spot_strip::{Chain, ChainError, Mode, Strip};
+use pe_worker::Watch;
 use program_words::{NO_OUTPUT, RUN_FAULT, on_words, refused};
-use rts_run::{Config, Outcome, Strategy, Tolerance, Watch};
-use run_trace::{TraceError, Tracing, write_trace};
+use rts_run::{Config, Outcome};
+use run_trace::Tracing;
 use std::alloc::AllocError;
 use std::fs::{File, Files};
 use std::io;
@@ -23,6 +26,7 @@ use std::sync::Wait;
 use std::thread::Threads;
 use std::time::{Clock, Instant};
 use streams::write_out;
+use trace_events::{TraceError, write_trace};
 
 /// Cells of each strip.
 const CELLS: u32 = 16;

@@ -8,8 +8,9 @@ ghost use Rattle.run_account.specs.RunAccounts.{IsRunAccount, left_world};
 
 use chare_index::NoGate;
 use hot_spot_strip::{Chain, ChainError, Strip};
+use pe_worker::{NoWatch, Watch};
 use pup_pack::Pup;
-use rts_run::{Config, NoWatch, Outcome, RunError, Watch, run_watched};
+use rts_run::{Config, Outcome, RunError, run_watched};
 use std::alloc::Allocator;
 use std::sync::Wait;
 use std::thread::Threads;

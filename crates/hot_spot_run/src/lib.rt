@@ -4,8 +4,8 @@
 //! - [`text_of`]: a line for each round, and the checksum of all cells; [`checksum`] alone.
 //!
 //! ```
-//! use hot_spot_run::{Chain, run_chain, text_of};
-//! use hot_spot_strip::Mode;
+//! use hot_spot_run::{run_chain, text_of};
+//! use hot_spot_strip::{Chain, Mode};
 //! use rts_run::Config;
 //!
 //! // Three strips of two cells on two PEs, not balanced. Each cell takes one unit of work in the one round.
@@ -30,6 +30,5 @@ mod sums;
 mod text;
 
 pub use chain::{run_chain, run_chain_watched};
-pub use hot_spot_strip::{Chain, ChainError};
 pub use sums::checksum;
 pub use text::text_of;

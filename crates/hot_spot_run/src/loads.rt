@@ -2,7 +2,7 @@
 
 use chare_index::{Index, Limits, opening_pe};
 use hot_spot_strip::{Chain, cell_work};
-use lb_certificates::Snapshot;
+use lb_snapshot::Snapshot;
 use std::alloc::Allocator;
 
 /// The greatest load of a PE, and that of all PEs together.

@@ -3,7 +3,7 @@
 ghost use Rattle.std.specs.Prelude.{◌≡◌, ℕ, ◌+◌, ◌≤◌, length};
 ghost use Rattle.lb_certificates.specs.Chain.{IsDivision, peak};
 
-use lb_certificates::Loads;
+use lb_snapshot::Loads;
 use std::alloc::Allocator;
 
 // The greatest load of a block between these cuts.

@@ -9,8 +9,8 @@
 //! ```
 //! use chain_refinement::Tolerance;
 //! use chare_index::Pe;
-//! use lb_certificates::{Loads, Sizes, Snapshot};
 //! use lb_refinement::refine;
+//! use lb_snapshot::{Loads, Sizes, Snapshot};
 //!
 //! // Four elements on two PEs, with loads of 5 and 7. The least possible is 6, and 7 is within 200 thousandths of it.
 //! let (zero, one) = (Pe::new(0).unwrap(), Pe::new(1).unwrap());

@@ -3,8 +3,8 @@ ghost use Rattle.lb_replay.specs.Internal.{ended_at};
 ghost use Rattle.lb_replay.specs.Statuses.{status_of};
 
 use crate::fault::Fault;
+use dump_format::DumpError;
 use lb_certificates::Flaw;
-use lb_dump::DumpError;
 use lb_strategy::PlanError;
 
 /// How a replay or a check ended.

@@ -3,8 +3,8 @@ ghost use Rattle.std.specs.String.{string_bytes};
 ghost use Rattle.lb_replay.specs.Internal.{without_memory};
 ghost use Rattle.lb_replay.specs.Text.{dump_advice, dump_line, fault_line, flaw_line, flaw_name};
 
+use dump_format::DumpError;
 use lb_certificates::Flaw;
-use lb_dump::DumpError;
 use lb_strategy::PlanError;
 use std::alloc::{AllocError, AllocFailed, Allocator};
 

@@ -13,8 +13,9 @@ ghost use Rattle.lb_replay.specs.Text.{limit_line, refined_text};
 
 use crate::fault::Fault;
 use chain_refinement::Tolerance;
-use lb_certificates::{Floor, Loads, Snapshot};
+use lb_certificates::Floor;
 use lb_refinement::Refined;
+use lb_snapshot::{Loads, Snapshot};
 use lb_strategy::{Decision, PlanError};
 use std::alloc::{AllocError, Allocator};
 

@@ -6,7 +6,8 @@ ghost use Rattle.lb_strategy.specs.Decisions.{right_moves, IsFirstFlaw, IsNamedR
 
 use crate::decision::Decision;
 use crate::moves::are_moves;
-use lb_certificates::{Flaw, Loads, Sizes, Snapshot, check_division, check_naming};
+use lb_certificates::{Flaw, check_division, check_naming};
+use lb_snapshot::{Loads, Sizes, Snapshot};
 use std::alloc::Allocator;
 
 /// Checks a decision for `pes` PEs on this snapshot, whoever made it. `Ok` means that no division of the elements into `pes`

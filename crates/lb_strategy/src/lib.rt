@@ -7,7 +7,7 @@
 //!
 //! ```
 //! use chare_index::Pe;
-//! use lb_certificates::{Loads, Sizes, Snapshot};
+//! use lb_snapshot::{Loads, Sizes, Snapshot};
 //! use lb_strategy::{check, plan};
 //!
 //! // Three elements on two PEs: their loads, and the bytes and the PE of each.

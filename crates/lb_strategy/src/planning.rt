@@ -13,7 +13,8 @@ use crate::moves::moves_of;
 use block_assignment::{CostTable, name_blocks};
 use chain_partition::{divide, divide_with};
 use chare_index::{Gate, Limits};
-use lb_certificates::{Cuts, Division, Naming, Prices, Sizes, Snapshot};
+use lb_certificates::{Cuts, Division, Naming, Prices};
+use lb_snapshot::{Sizes, Snapshot};
 use std::alloc::Allocator;
 use std::thread::Threads;
 

@@ -9,8 +9,8 @@ ghost use Rattle.load_report.specs.Figures.{spread_of};
 
 use crate::deviation::deviation_of;
 use chare_index::{Limits, Pe};
-use lb_certificates::{Loads, Snapshot, Units};
 use lb_refinement::Refined;
+use lb_snapshot::{Loads, Snapshot, Units};
 use lb_strategy::Decision;
 use std::alloc::Allocator;
 

@@ -7,8 +7,8 @@ ghost use Rattle.lb_refinement.specs.Refined.{refined_cuts, refined_names};
 ghost use Rattle.load_report.specs.Figures.{IsPlacement, IsRefinedFor, planned_places, present_places};
 
 use chare_index::{Index, Limits};
-use lb_certificates::Snapshot;
 use lb_refinement::Refined;
+use lb_snapshot::Snapshot;
 use lb_strategy::Decision;
 use std::alloc::{AllocError, Allocator};
 

@@ -15,8 +15,8 @@ use crate::places::{planned_places, present_places, refined_places};
 use crate::style::Style;
 use crate::traffic::Traffic;
 use chare_index::{Index, Pe};
-use lb_certificates::Snapshot;
 use lb_refinement::Refined;
+use lb_snapshot::Snapshot;
 use lb_strategy::{Decision, check};
 use std::alloc::{AllocError, Allocator};
 

@@ -7,7 +7,7 @@ ghost use Rattle.load_report.specs.Figures.{IsPlacement, moving, traffic_of};
 use crate::figures::greatest_load;
 use crate::places::present_places;
 use chare_index::Pe;
-use lb_certificates::Snapshot;
+use lb_snapshot::Snapshot;
 use std::alloc::{AllocError, Allocator};
 
 /// The traffic of the PEs with the most bytes to send and to receive, where elements move.

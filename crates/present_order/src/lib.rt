@@ -6,7 +6,7 @@
 //!
 //! ```
 //! use chare_index::Pe;
-//! use lb_certificates::Sizes;
+//! use lb_snapshot::Sizes;
 //! use present_order::present_order;
 //!
 //! // Three elements, of which the first two are on PE 2 and the last is on PE 0.

@@ -4,7 +4,8 @@ ghost use Rattle.present_order.specs.NoOrders.{HasNoOrder};
 
 use crate::runs::{runs_of, with_idle};
 use chare_index::Limits;
-use lb_certificates::{Cuts, Naming, Sizes};
+use lb_certificates::{Cuts, Naming};
+use lb_snapshot::Sizes;
 use std::alloc::{AllocError, Allocator, Global};
 
 /// The PEs in the order of their elements along a chain, with the cuts between these elements.

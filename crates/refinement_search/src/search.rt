@@ -17,7 +17,8 @@ use crate::spans::{first_places, last_places};
 use crate::starts::least_starts;
 use chain_refinement::{Heights, Refinement, Tolerance};
 use chare_index::Pe;
-use lb_certificates::{Cuts, Division, Naming, Snapshot, Units};
+use lb_certificates::{Cuts, Division, Naming};
+use lb_snapshot::{Snapshot, Units};
 use std::alloc::{AllocError, Allocator};
 
 /// Cuts of this snapshot's elements within a tolerance above the least division that move the fewest bytes, where the PEs keep

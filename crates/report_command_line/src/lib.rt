@@ -2,7 +2,8 @@
 //! and writes the texts for what it refuses, for help and for the version.
 //!
 //! ```
-//! use report_command_line::{NO_WORDS, asked, numbers, words_status};
+//! use program_words::{NO_WORDS, words_status};
+//! use report_command_line::{asked, numbers};
 //!
 //! let words = [
 //!     "lb_report",
@@ -28,7 +29,6 @@ mod request;
 mod spelled;
 mod words;
 
-pub use program_words::{NO_WORDS, words_status};
 pub use request::Asked;
 pub use spelled::{NumbersError, numbers, refuse_numbers};
 pub use words::asked;

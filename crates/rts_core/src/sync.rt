@@ -16,7 +16,7 @@ use crate::reports::Reports;
 use at_sync::Board;
 use chare_index::{Index, Limits, Pe, Round};
 use chares::{Chare, Note, Openings, StateBytes, TraceEntry};
-use lb_certificates::Units;
+use lb_snapshot::Units;
 use pe_state::{PeState, StepError};
 use std::alloc::{AllocError, Allocator};
 

@@ -2,7 +2,8 @@
 //! and writes the texts for what it refuses, for help and for the version.
 //!
 //! ```
-//! use run_command_line::{NO_WORDS, Task, asked, words_status};
+//! use program_words::{NO_WORDS, words_status};
+//! use run_command_line::{Task, asked};
 //!
 //! let words = ["charm_run", "--dump", "rounds", "--progress", "ring.work"];
 //! let asked_for = asked(alloc, &words).ok().ok_or("refused")?;
@@ -24,6 +25,5 @@ mod help;
 mod request;
 mod words;
 
-pub use program_words::{NO_WORDS, words_status};
 pub use request::{Asked, Clash, Task};
 pub use words::{asked, refuse};

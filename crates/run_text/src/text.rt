@@ -9,10 +9,11 @@ ghost use Rattle.run_text.specs.Sums.{AreTallies, element_sums};
 ghost use Rattle.run_text.specs.Text.{account_line, blank_number, decision_end, ending_line, fault_line, fault_word, outcome_text, round_line, round_lines, round_start, sums_line};
 
 use crate::sums::sums_of;
-use lb_certificates::Snapshot;
 use lb_refinement::Refined;
+use lb_snapshot::Snapshot;
+use pe_worker::Fault;
 use rts_core::Account;
-use rts_run::{Fault, Outcome};
+use rts_run::Outcome;
 use std::alloc::{AllocError, Allocator};
 use tally::Tally;
 

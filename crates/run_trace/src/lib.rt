@@ -1,6 +1,6 @@
 //! What happened in a run, in order of time, for a trace that chrome://tracing and Perfetto show.
 //!
-//! - [`Recorder`]: a [`Watch`](rts_run::Watch) that keeps each step of a run over threads, with its time. [`Tracing`]: a recorder or
+//! - [`Recorder`]: a [`Watch`](pe_worker::Watch) that keeps each step of a run over threads, with its time. [`Tracing`]: a recorder or
 //!   none, so that one call of a run serves both.
 //! - [`Timeline`]: what happened: of a recorder, or of the steps of a run on one thread, by their numbers.
 //! - [`write_trace`]: writes the trace of what happened.
@@ -13,5 +13,4 @@ mod tracing;
 
 pub use recorder::Recorder;
 pub use timeline::Timeline;
-pub use trace_events::{Deed, Happening, TraceError, What, write_trace};
 pub use tracing::Tracing;

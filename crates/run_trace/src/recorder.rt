@@ -3,7 +3,7 @@
 use crate::row::Row;
 use crate::timeline::Timeline;
 use chare_index::{Limits, Pe, Round};
-use rts_run::{PeStep, Watch};
+use pe_worker::{PeStep, Watch};
 use std::alloc::{AllocError, Allocator, Global};
 use std::collections::VecDeque;
 use std::sync::{Mutex, Wait};

@@ -3,7 +3,7 @@
 ghost use Rattle.std.specs.Prelude.{◌≡◌, ◌++◌, ◌∷◌, [], true, MatchBool, MatchResult};
 
 use chare_index::{Pe, Round};
-use rts_run::PeStep;
+use pe_worker::PeStep;
 use std::alloc::{AllocError, Allocator};
 use trace_events::{Deed, Happening, What};
 

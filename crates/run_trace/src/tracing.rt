@@ -6,7 +6,7 @@ ghost use Rattle.run_trace.specs.declared.tracing.Tracing.TheVariants.{Off};
 use crate::recorder::Recorder;
 use crate::timeline::Timeline;
 use chare_index::{Pe, Round};
-use rts_run::{PeStep, Watch};
+use pe_worker::{PeStep, Watch};
 use std::alloc::{AllocError, Allocator, Global};
 use std::sync::Wait;
 use std::time::Clock;

@@ -12,9 +12,9 @@ ghost use Rattle.workload_run.specs.declared.ended.Ended.TheVariants.{OutOfMemor
 
 use crate::on_one::DrivenOnOne;
 use crate::running::{follow, search};
+use at_sync::Strategy;
 use pup_pack::Pup;
 use rts_core::Event;
-use rts_run::Strategy;
 use schedules::{Explored, ReplayError};
 use std::alloc::Allocator;
 use std::io::Write;

@@ -5,9 +5,9 @@ ghost use Rattle.schedule_run.specs.OneThread.{IsRunOnOne, RefusesRun};
 ghost use Rattle.schedules.specs.Replays.{Follows};
 ghost use Rattle.workload.specs.Text.{IsWithin};
 
+use at_sync::Strategy;
 use pup_pack::Pup;
 use rts_core::Event;
-use rts_run::Strategy;
 use schedules::{Bias, Explored, ReplayError, Schedule, explore, replay};
 use std::alloc::{AllocError, Allocator};
 use tally::Tally;

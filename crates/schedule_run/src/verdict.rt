@@ -4,7 +4,7 @@ ghost use Rattle.std.specs.Prelude.{IfOk};
 ghost use Rattle.schedule_run.specs.Seeds.{IsVerdict};
 
 use chares::Chare;
-use rts_run::Fault;
+use pe_worker::Fault;
 use schedules::{Cast, Schedule, explore};
 use std::alloc::{AllocError, Allocator};
 

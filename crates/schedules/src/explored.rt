@@ -10,10 +10,11 @@ ghost use Rattle.schedules.specs.Courses.{events_tried, left_by};
 use crate::step::Step;
 use chare_index::{Index, Pe};
 use chares::{Chare, Element};
-use lb_certificates::Snapshot;
 use lb_refinement::Refined;
+use lb_snapshot::Snapshot;
+use pe_worker::Fault;
 use rts_core::{Account, Event};
-use rts_run::{Fault, Outcome};
+use rts_run::Outcome;
 use std::alloc::{AllocError, Allocator, Global};
 use std::marker::Model;
 

@@ -25,7 +25,7 @@ use std::marker::Brand;
 ///
 /// The clause `explored` says of the result: the steps lead from the opening to the world that is left, each of them enabled;
 /// each letter that was posted is in one place or was executed once, by its own element; each element is what its journal says;
-/// and without a fault every element has finished and no letter is held. It ends as [`Stopped`](rts_run::Fault::Stopped) only
+/// and without a fault every element has finished and no letter is held. It ends as [`Stopped`](pe_worker::Fault::Stopped) only
 /// where it has taken as many steps as the schedule allows.
 ///
 /// # Errors

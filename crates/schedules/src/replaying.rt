@@ -20,7 +20,7 @@ use std::marker::Brand;
 /// same world again. Of the schedule only the number of PEs and the strategy matter.
 ///
 /// Where a handler refuses an event the run ends with that fault, and the rest of the list is not run. Without such a fault all
-/// events have happened, and the run is [`Stopped`](rts_run::Fault::Stopped) where it is not done.
+/// events have happened, and the run is [`Stopped`](pe_worker::Fault::Stopped) where it is not done.
 ///
 /// # Errors
 ///

@@ -2,7 +2,8 @@
 //! them, and writes the texts for what it refuses, for help and for the version.
 //!
 //! ```
-//! use sim_command_line::{NO_WORDS, asked, words_status};
+//! use program_words::{NO_WORDS, words_status};
+//! use sim_command_line::asked;
 //!
 //! let words = ["lb_sim", "--procs", "2", "steps.lbd1"];
 //! let asked_for = asked(alloc, &words).ok().ok_or("refused")?;
@@ -18,5 +19,4 @@
 mod help;
 mod words;
 
-pub use program_words::{NO_WORDS, words_status};
 pub use words::{asked, refuse_both};

@@ -4,7 +4,7 @@ ghost use Rattle.std.specs.Prelude.{◌<◌, ◌≤◌};
 
 use chain_refinement::Tolerance;
 use chare_index::Pe;
-use lb_certificates::{Loads, Sizes, Snapshot};
+use lb_snapshot::{Loads, Sizes, Snapshot};
 use std::process::Abort;
 
 // The generator of chains: that of D. E. Knuth's MMIX, of which the upper 31 bits are taken.

@@ -4,7 +4,7 @@ ghost use Rattle.std.specs.Prelude.{◌≡◌, true};
 
 use chain_refinement::Tolerance;
 use chare_index::Pe;
-use lb_certificates::{Loads, Sizes, Snapshot, Units};
+use lb_snapshot::{Loads, Sizes, Snapshot, Units};
 use std::fmt::Debug;
 use std::process::Abort;
 

@@ -1,6 +1,6 @@
 //! Claims that benches/refinement/check_any_order.py makes and judges, and decisions that search_any_order.py beside it finds.
 
-use lb_certificates::Units;
+use lb_snapshot::Units;
 
 /// A chain, its least division, and a claim for it as a list of its numbers: the bottleneck, the tolerance, the cuts, the
 /// names, and the steps of both bounds, with their numbers.

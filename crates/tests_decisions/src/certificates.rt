@@ -7,7 +7,8 @@ use crate::fixtures::{
 };
 use crate::reference;
 use chare_index::{Limits, Pe};
-use lb_certificates::{Cuts, Division, Flaw, Loads, Sizes, Snapshot, Stops, Units, check_division};
+use lb_certificates::{Cuts, Division, Flaw, Stops, check_division};
+use lb_snapshot::{Loads, Sizes, Snapshot, Units};
 use lb_strategy::Moves;
 use std::process::Abort;
 

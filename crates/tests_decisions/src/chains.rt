@@ -3,7 +3,8 @@
 use crate::fixtures::{assert_for, ends_of, is_division, is_list};
 use chain_partition::{Chain, ChainError, divide_chain, divide_chain_with, probe_chain};
 use chare_index::NoGate;
-use lb_certificates::{Division, Floor, Units, check_chain, total};
+use lb_certificates::{Division, Floor, check_chain, total};
+use lb_snapshot::Units;
 use std::process::Abort;
 
 // Half of the least sum that is refused.

@@ -9,7 +9,8 @@ use crate::fixtures::{
 };
 use block_assignment::NameError;
 use chare_index::{Index, Pe};
-use lb_certificates::{Division, Flaw, Naming, Sizes, Snapshot, Units};
+use lb_certificates::{Division, Flaw, Naming};
+use lb_snapshot::{Sizes, Snapshot, Units};
 use lb_strategy::{Decision, Moves, PlanError, check, plan};
 use std::process::Abort;
 

@@ -8,7 +8,8 @@ use crate::fixtures::{
 };
 use crate::reference;
 use chain_partition::{Prefix, Probe, divide, probe, probe_on};
-use lb_certificates::{Division, Flaw, Loads, Units, check_division};
+use lb_certificates::{Division, Flaw, check_division};
+use lb_snapshot::{Loads, Units};
 use std::process::Abort;
 
 fn divided(rt: &(impl Abort + AllocGlobal), loads: &Loads, pes: u32) -> Division

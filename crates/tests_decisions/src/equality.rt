@@ -4,7 +4,8 @@ use crate::fixtures::{
     DIVISION, EXAMPLE, Element, MOVING, NAMING, assert_for, decision, decision_with, division,
     fenced, loads, sizes, snapshot, unfenced,
 };
-use lb_certificates::{Division, Snapshot};
+use lb_certificates::Division;
+use lb_snapshot::Snapshot;
 use std::process::Abort;
 
 // Whether the decision with these parts equals the example's.

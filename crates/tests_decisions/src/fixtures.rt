@@ -5,9 +5,8 @@ ghost use Rattle.std.specs.Prelude.{◌≡◌, length, true};
 use block_assignment::CostTable;
 use chain_partition::{Prefix, Probe};
 use chare_index::{Index, Pe};
-use lb_certificates::{
-    Cuts, Division, Flaw, Floor, Loads, Naming, PriceList, Prices, Sizes, Snapshot, Stops, Units,
-};
+use lb_certificates::{Cuts, Division, Flaw, Floor, Naming, PriceList, Prices, Stops};
+use lb_snapshot::{Loads, Sizes, Snapshot, Units};
 use lb_strategy::{Decision, Moves};
 use std::fmt::Debug;
 use std::process::Abort;

@@ -25,6 +25,8 @@ mod matrices;
 mod naming_checks;
 #[cfg(test)]
 mod namings;
+#[cfg(test)]
+mod plain_namings;
 pub mod reference;
 #[cfg(test)]
 mod walks;

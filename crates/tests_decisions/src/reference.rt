@@ -4,7 +4,7 @@ ghost use Rattle.std.specs.Prelude.{◌≡◌, ◌≤◌, min, max, length, Matc
 ghost use Rattle.std.specs.Option.{option_map_or};
 ghost use Rattle.lb_certificates.specs.Chain.{IsLeastPeak, HasNoDivision};
 
-use lb_certificates::Loads;
+use lb_snapshot::Loads;
 use std::alloc::Allocator;
 
 /// The least peak of all divisions of these loads into `pes` blocks, or `None` where there is none: some elements and no PE. It

@@ -4,7 +4,7 @@ ghost use Rattle.std.specs.Prelude.{◌≤◌};
 
 use crate::fixtures::{assert_for, ends_of, list, prefix, push};
 use chain_partition::{Probe, probe_on};
-use lb_certificates::Units;
+use lb_snapshot::Units;
 use std::process::Abort;
 
 // Where a block ends that begins at `first` and takes as many elements as fit, one by one.

@@ -9,7 +9,8 @@ use crate::fixtures::{
 };
 use chain_partition::divide_with;
 use chare_index::{Gate, NoGate};
-use lb_certificates::{Division, Loads, Snapshot, Units};
+use lb_certificates::Division;
+use lb_snapshot::{Loads, Snapshot, Units};
 use lb_strategy::{Decision, check, plan_with};
 use std::process::Abort;
 use std::sync::atomic::{AtomicU64, Ordering};

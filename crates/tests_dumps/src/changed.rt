@@ -2,7 +2,8 @@
 
 use crate::feeding::{expect_with_its_piece, give, has_fault};
 use crate::fixtures::{assert_for, changed, comes_to};
-use lb_dump::{DumpError, decode};
+use dump_format::DumpError;
+use lb_dump::decode;
 use std::process::Abort;
 use tests_fixtures::RECORDED_DUMP;
 

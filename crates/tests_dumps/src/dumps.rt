@@ -6,7 +6,9 @@ use crate::feeding::{
     fed_byte_by_byte, give, has_fault,
 };
 use crate::fixtures::{assert_for, changed, comes_to, decodes_to, has_text, is_example, same};
-use lb_dump::{DumpError, decode, format_laws, write_to};
+use dump_format::{DumpError, format_laws};
+use dump_writing::write_to;
+use lb_dump::decode;
 use lb_snapshot::Snapshot;
 use std::alloc::Global;
 use std::process::Abort;

@@ -1,7 +1,8 @@
 //! Ways in which a text comes to a reader, and when the reader reports its fault.
 
 use crate::fixtures::{assert_for, comes_to, decodes_to};
-use lb_dump::{Dump, DumpError, DumpReader, read_from};
+use dump_format::{Dump, DumpError};
+use lb_dump::{DumpReader, read_from};
 use std::alloc::Global;
 use std::process::Abort;
 use tests_fixtures::Source;

@@ -3,7 +3,9 @@
 
 ghost use Rattle.std.specs.Prelude.{◌≡◌, true};
 
-use lb_dump::{Dump, DumpError, decode, encode, encode_dump};
+use dump_format::{Dump, DumpError};
+use dump_writing::{encode, encode_dump};
+use lb_dump::decode;
 use lb_snapshot::Snapshot;
 use std::alloc::Global;
 use std::fmt::Debug;

@@ -4,7 +4,9 @@
 use crate::feeding::{ends_there, is_fed_by_bytes, is_read, is_read_by_bytes};
 use crate::fixtures::{assert_for, has_text, list, push, same};
 use chare_index::Pe;
-use lb_dump::{Dump, DumpError, decode, write_to};
+use dump_format::{Dump, DumpError};
+use dump_writing::write_to;
+use lb_dump::decode;
 use lb_snapshot::{Loads, Sizes, Snapshot, Units};
 use std::process::Abort;
 use tests_fixtures::{Sink, push_element};

@@ -4,7 +4,9 @@
 use crate::feeding::{ends_there, is_fed_by_bytes, is_read, is_read_by_bytes};
 use crate::fixtures::{assert_for, has_dump_text, push, same};
 use crate::parts::{Decided, Element, Elements, Move, dump, has_parts, snapshot, text_of};
-use lb_dump::{Dump, DumpError, Recorded, decode, read_from, write_dump};
+use dump_format::{Dump, DumpError, Recorded};
+use dump_writing::write_dump;
+use lb_dump::{decode, read_from};
 use lb_snapshot::Snapshot;
 use lb_strategy::{check, plan};
 use std::process::Abort;

@@ -5,7 +5,7 @@ use crate::fixtures::assert_for;
 use crate::parts::{
     DECIDED, Decided, EXAMPLE, Move, is_decided_so, is_taken_so, recorded, snapshot,
 };
-use lb_dump::{Dump, Recorded};
+use dump_format::{Dump, Recorded};
 use lb_snapshot::Snapshot;
 use std::process::Abort;
 

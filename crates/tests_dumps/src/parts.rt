@@ -3,8 +3,8 @@
 
 use crate::fixtures::{list, push, same};
 use chare_index::{Index, Pe};
+use dump_format::{Dump, Recorded};
 use lb_certificates::{Cuts, Division, Floor, Naming, PriceList, Prices, Stops};
-use lb_dump::{Dump, Recorded};
 use lb_snapshot::{Loads, Sizes, Snapshot, Units};
 use lb_strategy::{Decision, Moves};
 use std::process::Abort;

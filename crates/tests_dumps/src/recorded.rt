@@ -6,8 +6,10 @@ use crate::feeding::{
 };
 use crate::fixtures::{assert_for, has_dump_text, list, same};
 use crate::parts::{DECIDED, Decided, EXAMPLE, dump, has_parts};
+use dump_format::{Dump, DumpError};
+use dump_writing::write_dump;
 use lb_certificates::Flaw;
-use lb_dump::{Dump, DumpError, decode, write_dump};
+use lb_dump::decode;
 use lb_strategy::check;
 use std::process::Abort;
 use tests_fixtures::{EXAMPLE_DUMP, RECORDED_DUMP};

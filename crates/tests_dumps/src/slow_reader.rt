@@ -2,8 +2,9 @@
 //! one byte: its first fault, or its numbers.
 
 use crate::fixtures::{assert_for, changed, push, same};
+use dump_format::{Dump, DumpError, Recorded};
 use lb_certificates::Floor;
-use lb_dump::{Dump, DumpError, Recorded, decode};
+use lb_dump::decode;
 use lb_snapshot::Snapshot;
 use lb_strategy::Decision;
 use std::process::Abort;

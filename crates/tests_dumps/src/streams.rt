@@ -3,7 +3,9 @@
 use crate::feeding::is_read;
 use crate::fixtures::{assert_for, changed, comes_to, same};
 use crate::parts::{DECIDED, EXAMPLE, dump};
-use lb_dump::{Dump, DumpError, read_from, write_dump, write_to};
+use dump_format::{Dump, DumpError};
+use dump_writing::{write_dump, write_to};
+use lb_dump::read_from;
 use lb_snapshot::Snapshot;
 use std::alloc::Global;
 use std::io::ErrorKind;

@@ -2,7 +2,9 @@
 
 use crate::fixtures::{assert_for, has_dump_text, has_text, push};
 use crate::parts::{Decided, Element, Elements, dump, has_parts, snapshot, text_of};
-use lb_dump::{Dump, DumpError, decode, encode, write_to};
+use dump_format::{Dump, DumpError};
+use dump_writing::{encode, write_to};
+use lb_dump::decode;
 use lb_snapshot::{Snapshot, Units};
 use lb_strategy::check;
 use std::process::Abort;

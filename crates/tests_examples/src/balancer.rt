@@ -22,7 +22,8 @@ fn a_snapshot(rt: HostRuntime) -> Result<(), Fail> {
 #[test]
 fn a_division_is_checked(rt: HostRuntime) -> Result<(), Fail> {
     let alloc = rt.alloc();
-    use lb_certificates::{Cuts, Division, Floor, Loads, Stops, check_division};
+    use lb_certificates::{Cuts, Division, Floor, Stops, check_division};
+    use lb_snapshot::Loads;
 
     let loads = Loads::new(vec![in alloc; 1, 2, 3, 4, 5]?).ok_or("too many")?;
     let division = Division {
@@ -39,7 +40,7 @@ fn a_division_is_checked(rt: HostRuntime) -> Result<(), Fail> {
 fn a_chain_is_divided(rt: HostRuntime) -> Result<(), Fail> {
     let alloc = rt.alloc();
     use chain_partition::divide;
-    use lb_certificates::Loads;
+    use lb_snapshot::Loads;
 
     // Five elements in two blocks: 1 2 3 and 4 5.
     let loads = Loads::new(vec![in alloc; 1, 2, 3, 4, 5]?).ok_or("too many")?;
@@ -55,7 +56,8 @@ fn blocks_are_named(rt: HostRuntime) -> Result<(), Fail> {
     let alloc = rt.alloc();
     use block_assignment::{CostTable, name_blocks};
     use chare_index::Pe;
-    use lb_certificates::{Cuts, Sizes, check_naming};
+    use lb_certificates::{Cuts, check_naming};
+    use lb_snapshot::Sizes;
 
     // Three elements in two blocks: the bytes and the PE of each, and the cuts.
     let (zero, one) = (Pe::new(0).unwrap(), Pe::new(1).unwrap());
@@ -76,7 +78,7 @@ fn blocks_are_named(rt: HostRuntime) -> Result<(), Fail> {
 fn a_snapshot_is_planned(rt: HostRuntime) -> Result<(), Fail> {
     let alloc = rt.alloc();
     use chare_index::Pe;
-    use lb_certificates::{Loads, Sizes, Snapshot};
+    use lb_snapshot::{Loads, Sizes, Snapshot};
     use lb_strategy::{check, plan};
 
     // Three elements on two PEs: their loads, and the bytes and the PE of each.
@@ -117,7 +119,7 @@ fn loads_are_measured(rt: HostRuntime) -> Result<(), Fail> {
 fn pes_stand_in_an_order(rt: HostRuntime) -> Result<(), Fail> {
     let alloc = rt.alloc();
     use chare_index::Pe;
-    use lb_certificates::Sizes;
+    use lb_snapshot::Sizes;
     use present_order::present_order;
 
     // Three elements, of which the first two are on PE 2 and the last is on PE 0.
@@ -135,8 +137,8 @@ fn a_snapshot_is_refined(rt: HostRuntime) -> Result<(), Fail> {
     let alloc = rt.alloc();
     use chain_refinement::Tolerance;
     use chare_index::Pe;
-    use lb_certificates::{Loads, Sizes, Snapshot};
     use lb_refinement::refine;
+    use lb_snapshot::{Loads, Sizes, Snapshot};
 
     // Four elements on two PEs, with loads of 5 and 7. The least possible is 6, and 7 is within 200 thousandths of it.
     let (zero, one) = (Pe::new(0).unwrap(), Pe::new(1).unwrap());

@@ -21,7 +21,8 @@ fn words_of_a_program(rt: HostRuntime) -> Result<(), Fail> {
 #[test]
 fn words_of_lb_sim(rt: HostRuntime) -> Result<(), Fail> {
     let alloc = rt.alloc();
-    use sim_command_line::{NO_WORDS, asked, words_status};
+    use program_words::{NO_WORDS, words_status};
+    use sim_command_line::asked;
 
     let words = ["lb_sim", "--procs", "2", "steps.lbd1"];
     let asked_for = asked(alloc, &words).ok().ok_or("refused")?;
@@ -38,7 +39,8 @@ fn words_of_lb_sim(rt: HostRuntime) -> Result<(), Fail> {
 #[test]
 fn words_of_lb_report(rt: HostRuntime) -> Result<(), Fail> {
     let alloc = rt.alloc();
-    use report_command_line::{NO_WORDS, asked, numbers, words_status};
+    use program_words::{NO_WORDS, words_status};
+    use report_command_line::{asked, numbers};
 
     let words = [
         "lb_report",
@@ -63,7 +65,8 @@ fn words_of_lb_report(rt: HostRuntime) -> Result<(), Fail> {
 #[test]
 fn words_of_charm_run(rt: HostRuntime) -> Result<(), Fail> {
     let alloc = rt.alloc();
-    use run_command_line::{NO_WORDS, Task, asked, words_status};
+    use program_words::{NO_WORDS, words_status};
+    use run_command_line::{Task, asked};
 
     let words = ["charm_run", "--dump", "rounds", "--progress", "ring.work"];
     let asked_for = asked(alloc, &words).ok().ok_or("refused")?;
@@ -187,8 +190,8 @@ fn moves_are_reported(rt: HostRuntime) -> Result<(), Fail> {
 #[test]
 fn a_chain_is_run(rt: HostRuntime) -> Result<(), Fail> {
     let alloc = rt.alloc();
-    use hot_spot_run::{Chain, run_chain, text_of};
-    use hot_spot_strip::Mode;
+    use hot_spot_run::{run_chain, text_of};
+    use hot_spot_strip::{Chain, Mode};
     use rts_run::Config;
 
     // Three strips of two cells on two PEs, not balanced. Each cell takes one unit of work in the one round.

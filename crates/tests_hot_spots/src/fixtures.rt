@@ -2,9 +2,9 @@
 
 ghost use Rattle.std.specs.Prelude.{◌≡◌, true};
 
-use hot_spot_run::Chain;
-use hot_spot_strip::Mode;
-use rts_run::{Config, Strategy};
+use at_sync::Strategy;
+use hot_spot_strip::{Chain, Mode};
+use rts_run::Config;
 use std::fmt::Debug;
 use std::process::Abort;
 

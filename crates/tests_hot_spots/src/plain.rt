@@ -1,8 +1,7 @@
 //! The cells of a chain by a plain loop, and mixing against numbers from outside.
 
 use crate::fixtures::assert_for;
-use hot_spot_run::Chain;
-use hot_spot_strip::{cell_work, mix, mixed};
+use hot_spot_strip::{Chain, cell_work, mix, mixed};
 use std::alloc::AllocError;
 use std::process::Abort;
 

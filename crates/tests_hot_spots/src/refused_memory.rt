@@ -1,9 +1,10 @@
 //! A small run, with each of its requests for memory refused in turn.
 
 use crate::fixtures::{assert_for, chain, patient};
-use hot_spot_run::{ChainError, checksum, run_chain};
-use hot_spot_strip::{Mode, Strip};
-use rts_run::{Fault, Outcome};
+use hot_spot_run::{checksum, run_chain};
+use hot_spot_strip::{ChainError, Mode, Strip};
+use pe_worker::Fault;
+use rts_run::Outcome;
 use std::alloc::Global;
 use std::process::Abort;
 use std::sync::Wait;

@@ -2,8 +2,8 @@
 
 use crate::fixtures::{assert_for, chain, patient};
 use crate::plain::plain_checksum;
-use hot_spot_run::{Chain, checksum, run_chain, text_of};
-use hot_spot_strip::Mode;
+use hot_spot_run::{checksum, run_chain, text_of};
+use hot_spot_strip::{Chain, Mode};
 use rts_run::Config;
 use std::process::Abort;
 use std::sync::Wait;

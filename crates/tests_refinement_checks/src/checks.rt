@@ -3,7 +3,8 @@ use crate::rows::{
     FORGED_CUTS, FORGED_HEIGHTS, Forged, REFINEMENTS, ROWS, Row, TEN_ELEMENTS, TEN_LOADS,
 };
 use chain_refinement::{Heights, Refinement, RefinementFlaw, Steps, Tolerance, check_refinement};
-use lb_certificates::{Cuts, Division, Floor, Naming, Stops, Units};
+use lb_certificates::{Cuts, Division, Floor, Naming, Stops};
+use lb_snapshot::Units;
 use std::process::Abort;
 
 // The result of the check of these parts.

@@ -4,7 +4,8 @@ ghost use Rattle.std.specs.Prelude.{◌≡◌, true};
 
 use chain_refinement::{Heights, Refinement, RefinementFlaw, Steps, Tolerance};
 use chare_index::Pe;
-use lb_certificates::{Cuts, Division, Floor, Loads, Naming, Sizes, Snapshot, Stops, Units};
+use lb_certificates::{Cuts, Division, Floor, Naming, Stops};
+use lb_snapshot::{Loads, Sizes, Snapshot, Units};
 use std::process::Abort;
 
 /// A refinement as plain lists. An empty fence is the floor zero.

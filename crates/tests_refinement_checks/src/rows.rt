@@ -3,7 +3,8 @@
 
 use crate::fixtures::Parts;
 use chain_refinement::RefinementFlaw;
-use lb_certificates::{Flaw, Units};
+use lb_certificates::Flaw;
+use lb_snapshot::Units;
 
 /// The loads of the ten elements of the example, and their bytes and PEs.
 pub(crate) const TEN_LOADS: [Units; 10] = [1, 1, 1, 2, 7, 8, 6, 2, 1, 1];

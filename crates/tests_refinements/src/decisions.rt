@@ -5,8 +5,8 @@ ghost use Rattle.std.specs.Prelude.{◌<◌, ◌≤◌};
 use crate::fixtures::assert_for;
 use chain_refinement::{Tolerance, check_refinement};
 use chare_index::Pe;
-use lb_certificates::{Loads, Sizes, Snapshot};
 use lb_refinement::{Refined, refine};
+use lb_snapshot::{Loads, Sizes, Snapshot};
 use lb_strategy::check;
 use std::process::Abort;
 

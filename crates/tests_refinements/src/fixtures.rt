@@ -3,7 +3,7 @@
 ghost use Rattle.std.specs.Prelude.{◌≡◌, true};
 
 use chare_index::Pe;
-use lb_certificates::Sizes;
+use lb_snapshot::Sizes;
 use std::fmt::Debug;
 use std::process::Abort;
 

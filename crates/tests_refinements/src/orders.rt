@@ -4,7 +4,7 @@
 ghost use Rattle.std.specs.Prelude.{◌≤◌};
 
 use crate::fixtures::{assert_for, same, standing};
-use lb_certificates::Sizes;
+use lb_snapshot::Sizes;
 use present_order::{PresentOrder, present_order};
 use std::alloc::{AllocError, Allocator};
 use std::process::Abort;

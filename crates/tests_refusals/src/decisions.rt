@@ -10,7 +10,8 @@ use chain_partition::{
     probe_on,
 };
 use chare_index::{Index, NoGate};
-use lb_certificates::{Cuts, Division, Floor, Loads, Naming, Prices, Sizes, Snapshot};
+use lb_certificates::{Cuts, Division, Floor, Naming, Prices};
+use lb_snapshot::{Loads, Sizes, Snapshot};
 use lb_strategy::{Decision, PlanError, check, plan, plan_with};
 use std::alloc::{AllocError, Allocator};
 use std::process::Abort;

@@ -1,8 +1,10 @@
 //! Dumps, read and written.
 
 use crate::fixtures::{Lent, assert_requests_on, is_copied, same, snapshot};
-use lb_certificates::Snapshot;
-use lb_dump::{Dump, DumpError, DumpReader, decode, encode, encode_dump, read_from, write_dump};
+use dump_format::{Dump, DumpError};
+use dump_writing::{encode, encode_dump, write_dump};
+use lb_dump::{DumpReader, decode, read_from};
+use lb_snapshot::Snapshot;
 use std::alloc::{AllocError, Allocator, Global};
 use std::process::Abort;
 use tests_fixtures::{EXAMPLE_DUMP, Outcome, RECORDED_DUMP, is_example};

@@ -4,7 +4,8 @@ ghost use Rattle.std.specs.Prelude.{◌≡◌, true};
 
 use block_assignment::CostTable;
 use chain_partition::Prefix;
-use lb_certificates::{Cuts, Loads, Sizes, Snapshot};
+use lb_certificates::Cuts;
+use lb_snapshot::{Loads, Sizes, Snapshot};
 use std::alloc::{AllocError, Allocator, Global};
 use std::fmt::Debug;
 use std::process::Abort;

@@ -1,9 +1,11 @@
 //! Whole checks of the decision of a dump: right, forged, or none; and dumps with a fault, which a replay reports too.
 
 use crate::fixtures::{DECIDED, RIGHT, TEXT, assert_for, checks, replays};
-use lb_certificates::{Flaw, Loads, Sizes, Snapshot};
-use lb_dump::{Dump, DumpError, Recorded, encode_dump};
+use dump_format::{Dump, DumpError, Recorded};
+use dump_writing::encode_dump;
+use lb_certificates::Flaw;
 use lb_replay::Ended;
+use lb_snapshot::{Loads, Sizes, Snapshot};
 use lb_strategy::plan;
 use std::alloc::{AllocError, Allocator, Global};
 use std::process::Abort;

@@ -2,7 +2,8 @@
 
 use crate::fixtures::{assert_for, same};
 use lb_replay::{Clash, Task};
-use sim_command_line::{asked, refuse_both, words_status};
+use program_words::words_status;
+use sim_command_line::{asked, refuse_both};
 use std::alloc::Global;
 
 // Arguments that ask for a replay.

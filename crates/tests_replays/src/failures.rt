@@ -3,7 +3,7 @@
 ghost use Rattle.lb_replay.specs.Requests.{MayRun};
 
 use crate::fixtures::{DECIDED, REPLAY, RIGHT, TEXT, assert_for, ended, ends, has, is_end};
-use lb_dump::DumpError;
+use dump_format::DumpError;
 use lb_replay::{Ended, Task};
 use std::io::{self, ErrorKind, Write};
 use tests_fixtures::{EXAMPLE_DUMP, Sink, Source};

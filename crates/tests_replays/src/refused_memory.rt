@@ -3,8 +3,9 @@
 use crate::fixtures::{DECIDED, RIGHT, TEXT, assert_for};
 use crate::tolerances::{TEN, WITHIN};
 use chain_refinement::Tolerance;
+use dump_format::DumpError;
 use lb_certificates::Flaw;
-use lb_dump::{DumpError, read_from};
+use lb_dump::read_from;
 use lb_replay::{Ended, simulate, verify};
 use lb_strategy::PlanError;
 use std::alloc::Global;

@@ -5,7 +5,7 @@ ghost use Rattle.std.specs.Option.{ForSome};
 
 use crate::fixtures::{ON_ONE, TEXT, assert_for, ends, is_end, kind, replays};
 use chare_index::Limits;
-use lb_dump::DumpError;
+use dump_format::DumpError;
 use lb_replay::{Ended, Task, replay_file};
 use std::alloc::AllocError;
 use std::io::{self, ErrorKind, Read};

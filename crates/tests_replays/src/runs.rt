@@ -3,8 +3,8 @@
 ghost use Rattle.lb_replay.specs.Requests.{MayRun};
 
 use crate::fixtures::{DECIDED, ON_ONE, REPLAY, RIGHT, TEXT, assert_for, kind, same};
+use dump_format::DumpError;
 use lb_certificates::Flaw;
-use lb_dump::DumpError;
 use lb_replay::{Ended, Task, run};
 use lb_strategy::PlanError;
 use std::io::{self, ErrorKind, Read};

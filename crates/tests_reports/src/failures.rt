@@ -1,8 +1,8 @@
 //! A writer that fails at a given call, and memory refused at each request.
 
 use crate::fixtures::{THREE, VALUES, assert_for};
+use dump_format::DumpError;
 use dump_report::report_dump;
-use lb_dump::DumpError;
 use lb_replay::Ended;
 use lb_strategy::PlanError;
 use std::alloc::Global;

@@ -1,8 +1,8 @@
 //! Reports on worked dumps, one after another.
 
 use crate::fixtures::{THREE, VALUES, assert_for, reports};
+use dump_format::DumpError;
 use dump_report::report_dump;
-use lb_dump::DumpError;
 use lb_replay::Ended;
 use load_report::Style;
 use std::test::Fail;

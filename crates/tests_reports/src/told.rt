@@ -1,9 +1,9 @@
 //! What is printed where no whole report was written.
 
 use crate::fixtures::assert_for;
+use dump_format::DumpError;
 use dump_report::tell;
 use lb_certificates::Flaw;
-use lb_dump::DumpError;
 use lb_replay::Ended;
 use lb_strategy::PlanError;
 use std::alloc::AllocError;

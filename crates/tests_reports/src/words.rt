@@ -1,7 +1,8 @@
 //! The arguments of a command line.
 
 use crate::fixtures::assert_for;
-use report_command_line::{NumbersError, asked, numbers, refuse_numbers, words_status};
+use program_words::words_status;
+use report_command_line::{NumbersError, asked, numbers, refuse_numbers};
 use std::alloc::Global;
 
 // Whether this text is read as `count` numbers, the last of them this one; or as none.

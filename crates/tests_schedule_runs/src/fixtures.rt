@@ -3,7 +3,7 @@
 ghost use Rattle.std.specs.Prelude.{◌≡◌, true};
 ghost use Rattle.workload.specs.Text.{IsWithin};
 
-use rts_run::Strategy;
+use at_sync::Strategy;
 use schedule_run::{DrivenOnOne, drive_seed, write_list};
 use std::alloc::{Allocator, Global};
 use std::fmt::Debug;

@@ -1,8 +1,9 @@
 //! Each request for memory refused in turn: of a run by a seed, of runs by two, of a list, and of the line of a fault.
 
 use crate::fixtures::{WORKED_TEXT, assert_for, driven, worked};
+use at_sync::Strategy;
 use event_lists::EventListError;
-use rts_run::{Fault, Strategy};
+use pe_worker::Fault;
 use schedule_run::{
     ListFault, drive_seed, drive_seeds, read_list, report_list, search, write_list,
 };

@@ -1,9 +1,10 @@
 //! Runs of the worked workload by a seed and by its events, whose text is that of a run over threads.
 
 use crate::fixtures::{WORKED_TEXT, assert_for, driven, worked};
+use at_sync::Strategy;
 use chare_index::Pe;
+use pe_worker::Fault;
 use rts_core::Event;
-use rts_run::{Fault, Strategy};
 use schedule_run::{drive_events, drive_seed, follow, search};
 use schedules::ReplayError;
 use std::io::ErrorKind;

@@ -1,7 +1,7 @@
 //! Runs by seeds, beside lists that a separate program drew, and runs by many.
 
 use crate::fixtures::{assert_for, listed, worked};
-use rts_run::Strategy;
+use at_sync::Strategy;
 use schedule_run::drive_seeds;
 use std::process::Abort;
 use tests_fixtures::Sink;

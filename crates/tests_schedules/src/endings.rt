@@ -3,8 +3,8 @@
 use crate::desk::Desk;
 use crate::fixtures::{assert_for, index, pe};
 use chares::Chare;
+use pe_worker::Fault;
 use rts_core::{Account, Event};
-use rts_run::Fault;
 use schedules::{Explored, Schedule, explore};
 use std::alloc::Global;
 use std::process::Abort;

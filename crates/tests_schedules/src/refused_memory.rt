@@ -2,8 +2,9 @@
 
 use crate::fixtures::{assert_for, index, pe, tallies};
 use crate::planted::{Desks, LostLetter};
+use pe_worker::Fault;
 use rts_core::{Account, Event};
-use rts_run::{Fault, RunError};
+use rts_run::RunError;
 use schedules::{Explored, ReplayError, Schedule, explore, replay, shrink};
 use std::alloc::Allocator;
 use std::process::Abort;

@@ -2,8 +2,9 @@
 
 use crate::desk::Desk;
 use crate::fixtures::assert_for;
+use pe_worker::Fault;
 use rts_core::Account;
-use rts_run::{Fault, RunError, Setting};
+use rts_run::{RunError, Setting};
 use schedules::{Schedule, explore};
 use std::process::Abort;
 

@@ -2,9 +2,10 @@
 
 use crate::fixtures::{assert_for, index, pe, tallies};
 use chare_index::Pe;
-use lb_certificates::Units;
+use lb_snapshot::Units;
+use pe_worker::Fault;
 use rts_core::{Account, Event};
-use rts_run::{Fault, RunError, Setting};
+use rts_run::{RunError, Setting};
 use schedules::{Bias, Explored, ReplayError, Schedule, explore, replay, replay_enabled};
 use std::process::Abort;
 use tally::Tally;

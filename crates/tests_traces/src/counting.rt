@@ -1,7 +1,7 @@
 //! What is in a trace, counted through the reader of JSON.
 
-use lb_certificates::Snapshot;
 use lb_refinement::Refined;
+use lb_snapshot::Snapshot;
 use rts_core::Account;
 use run_trace::Timeline;
 use serde_json::Value;

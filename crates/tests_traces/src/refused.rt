@@ -2,10 +2,10 @@
 
 use crate::counting::assert_for;
 use chare_index::{Index, Pe, Round};
-use lb_certificates::Snapshot;
 use lb_refinement::Refined;
-use rts_run::{PeStep, Watch};
-use run_trace::{Deed, Recorder, Timeline, TraceError, What, write_trace};
+use lb_snapshot::Snapshot;
+use pe_worker::{PeStep, Watch};
+use run_trace::{Recorder, Timeline};
 use std::alloc::{AllocError, Allocator, Global};
 use std::cell::Cell;
 use std::io::{self, ErrorKind};
@@ -13,6 +13,7 @@ use std::process::Abort;
 use std::sync::Wait;
 use std::time::{Clock, Duration};
 use tests_fixtures::{Outcome, Sink, each_refusal};
+use trace_events::{Deed, TraceError, What, write_trace};
 
 // No round was decided.
 const NO_ROUNDS: [(Snapshot, Refined); 0] = [];

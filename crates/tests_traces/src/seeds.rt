@@ -1,8 +1,7 @@
 //! The trace of a run by a seed, whose times are the numbers of its steps.
 
 use crate::counting::{Expected, assert_for, expect_trace, moves_in, text_in};
-use hot_spot_run::Chain;
-use hot_spot_strip::Mode;
+use hot_spot_strip::{Chain, Mode};
 use run_trace::Timeline;
 use schedules::{Schedule, explore};
 use std::process::Abort;

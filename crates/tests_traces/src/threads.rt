@@ -1,9 +1,10 @@
 //! The trace of a run over threads.
 
 use crate::counting::{Expected, assert_for, expect_trace, moves_in, slices, text_in};
-use hot_spot_run::{Chain, run_chain_watched};
-use hot_spot_strip::Mode;
-use rts_run::{Config, Watch};
+use hot_spot_run::run_chain_watched;
+use hot_spot_strip::{Chain, Mode};
+use pe_worker::Watch;
+use rts_run::Config;
 use run_trace::{Recorder, Tracing};
 use std::process::Abort;
 use std::sync::Wait;

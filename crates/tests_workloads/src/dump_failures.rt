@@ -4,9 +4,9 @@
 use crate::dumps::{FORMATS, Round, texts_of};
 use crate::fixtures::{WORKED, assert_for, driven};
 use crate::kept::{Faults, KeptFiles, NO_FAULTS, Store};
-use lb_certificates::{Loads, Sizes, Snapshot};
-use lb_dump::DumpError;
+use dump_format::DumpError;
 use lb_refinement::Refined;
+use lb_snapshot::{Loads, Sizes, Snapshot};
 use lb_strategy::plan;
 use std::alloc::{AllocError, Allocator, Global};
 use std::io::ErrorKind;

@@ -2,10 +2,11 @@
 
 use crate::fixtures::{WORKED, assert_for, driven};
 use crate::kept::{KeptFiles, NO_FAULTS, Store};
-use lb_certificates::Snapshot;
-use lb_dump::{Dump, Recorded, decode};
+use dump_format::{Dump, Recorded};
+use lb_dump::decode;
 use lb_refinement::Refined;
 use lb_replay::{Ended, simulate, verify};
+use lb_snapshot::Snapshot;
 use lb_strategy::check;
 use std::alloc::Global;
 use std::process::Abort;

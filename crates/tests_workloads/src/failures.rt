@@ -1,7 +1,7 @@
 //! Readers and writers that fail, once or for good.
 
 use crate::fixtures::{TURNS, WORKED, WORKED_TEXT, assert_for};
-use rts_run::Strategy;
+use at_sync::Strategy;
 use std::alloc::Global;
 use std::io::ErrorKind;
 use std::process::Abort;

@@ -1,9 +1,10 @@
 //! Workloads in files: one that is opened, one that is not, one whose read fails, and the onlooker of a run.
 
 use crate::fixtures::{TURNS, WORKED, WORKED_TEXT, assert_for};
+use at_sync::Strategy;
 use chare_index::Round;
 use file_faults::Advice;
-use rts_run::{Strategy, Watch};
+use pe_worker::Watch;
 use std::io::{self, Error, ErrorKind};
 use std::process::Abort;
 use std::sync::Wait;

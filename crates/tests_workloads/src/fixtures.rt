@@ -2,7 +2,7 @@
 
 ghost use Rattle.std.specs.Prelude.{◌≡◌, true};
 
-use rts_run::Strategy;
+use at_sync::Strategy;
 use std::alloc::Global;
 use std::fmt::Debug;
 use std::process::Abort;

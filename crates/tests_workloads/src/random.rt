@@ -2,7 +2,8 @@
 
 use crate::dumps::{Round, is_right, text_of};
 use crate::fixtures::{assert_for, driven};
-use lb_dump::{Dump, decode};
+use dump_format::Dump;
+use lb_dump::decode;
 use lb_refinement::Refined;
 use lb_strategy::{Decision, check};
 use std::alloc::{AllocError, Global};

@@ -1,7 +1,8 @@
 //! The worked workload, with each of its requests for memory refused in turn.
 
 use crate::fixtures::{TURNS, WORKED, WORKED_TEXT, assert_for};
-use rts_run::{Fault, Strategy};
+use at_sync::Strategy;
+use pe_worker::Fault;
 use std::process::Abort;
 use std::sync::Wait;
 use std::thread::Threads;

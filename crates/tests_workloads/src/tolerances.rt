@@ -2,9 +2,10 @@
 
 use crate::dumps::text_of;
 use crate::fixtures::{TURNS, WORKED, WORKED_TEXT, assert_for};
+use at_sync::Strategy;
+use chain_refinement::Tolerance;
 use lb_dump::decode;
 use lb_refinement::Refined;
-use rts_run::{Strategy, Tolerance};
 use std::alloc::Global;
 use std::process::Abort;
 use std::sync::Wait;

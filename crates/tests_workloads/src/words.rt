@@ -1,7 +1,8 @@
 //! The arguments of a command line that asks for the run of a workload.
 
 use crate::fixtures::assert_for;
-use run_command_line::{Asked, Clash, NO_WORDS, Task, asked, refuse, words_status};
+use program_words::{NO_WORDS, words_status};
+use run_command_line::{Asked, Clash, Task, asked, refuse};
 use std::alloc::Global;
 
 // Arguments, and what they ask for; `None` where they are refused.

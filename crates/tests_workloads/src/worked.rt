@@ -1,7 +1,7 @@
 //! Worked workloads: what is printed of their runs, and the line of each fault of a workload.
 
 use crate::fixtures::{WORKED, WORKED_TEXT, assert_for, driven, tells};
-use lb_certificates::Snapshot;
+use lb_snapshot::Snapshot;
 use std::alloc::Global;
 use workload::WorkError;
 use workload_run::Ended;

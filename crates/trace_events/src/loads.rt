@@ -6,8 +6,8 @@ ghost use Rattle.trace_events.specs.Shown.{IsBehind};
 use crate::event::TraceEvent;
 use crate::happening::{Happening, What};
 use chare_index::Round;
-use lb_certificates::Snapshot;
 use lb_refinement::Refined;
+use lb_snapshot::Snapshot;
 use std::alloc::{AllocError, Allocator};
 
 /// Adds the load of each PE in each round that was decided.

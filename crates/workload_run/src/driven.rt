@@ -3,8 +3,8 @@ ghost use Rattle.std.specs.Option.{option_map_or};
 ghost use Rattle.workload_run.specs.Statuses.{status_of};
 
 use crate::ended::Ended;
-use lb_certificates::Snapshot;
 use lb_refinement::Refined;
+use lb_snapshot::Snapshot;
 use rts_run::Outcome;
 use std::alloc::{Allocator, Global};
 use tally::Tally;

@@ -4,8 +4,8 @@ ghost use Rattle.workload_run.specs.Dumping.{AsksFor, AsksInTurn, AsksOnce, MayF
 
 use crate::round_dump::{DumpFormat, write_round};
 use dump_format::DumpError;
-use lb_certificates::Snapshot;
 use lb_refinement::Refined;
+use lb_snapshot::Snapshot;
 use std::alloc::{AllocError, Allocator};
 use std::io::{self, Write};
 use streams::Noted;

@@ -1,7 +1,7 @@
 ghost use Rattle.std.specs.Prelude.{◌≡◌};
 ghost use Rattle.workload_run.specs.Statuses.{status_of};
 
-use rts_run::Fault;
+use pe_worker::Fault;
 use workload::WorkError;
 
 /// How the run of a workload ended.

@@ -1,5 +1,5 @@
+use pe_worker::{NoWatch, Watch};
 use progress_line::Progress;
-use rts_run::{NoWatch, Watch};
 use std::time::Clock;
 
 /// A watch of the run of a workload. What is written does not depend on it, unless it asks the run to stop.

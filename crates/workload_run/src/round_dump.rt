@@ -4,8 +4,8 @@ ghost use Rattle.workload_run.specs.Dumping.{MayFail, PutsRound, recorded, recor
 
 use dump_format::{Dump, DumpError, Recorded};
 use dump_writing::{write_dump, write_to};
-use lb_certificates::Snapshot;
 use lb_refinement::Refined;
+use lb_snapshot::Snapshot;
 use std::alloc::{AllocError, Allocator};
 use std::io::Write;
 
