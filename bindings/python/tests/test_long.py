@@ -181,7 +181,7 @@ class Refused(TimedTest):
 
 
 class Drawn(TimedTest):
-    limit = 120
+    limit = 300
 
     def test_pictures(self):
         try:
@@ -234,7 +234,7 @@ class Drawn(TimedTest):
                 self.look_at(seen.open(path, 1280, 900), run, decision)
 
     def look_at(self, page, run, decision):
-        page.wait("document.documentElement.dataset.checked", 60)
+        page.wait("document.documentElement.dataset.checked", 200)
         self.assertEqual(page.errors, [])
         row = page.rows("all-rounds")[0]
         self.assertEqual([int(row[k]) for k in (2, 3, 8, 15)], [MILLION, 4096, decision.bottleneck, decision.moved])

@@ -55,7 +55,7 @@ fn random_parts<'a>(
         let count = numbers.below((left.len() as u64).wrapping_add(1)) as usize;
         let (part, behind) = left.split_at_checked(count).expect(rt, "too long a part");
         parts.push((first, part)).expect(rt, "out of memory");
-        first = first.wrapping_add(count as u32);
+        first = first.wrapping_add(count.min(u32::MAX as usize) as u32);
         left = behind;
     }
     parts.push((first, left)).expect(rt, "out of memory");
@@ -124,7 +124,7 @@ fn parts_find_the_division_of_the_chain(rt: HostRuntime) {
         let mut numbers = Numbers { state: seed };
         let loads = random_loads(&rt, &mut numbers);
         let parts = random_parts(&rt, &mut numbers, &loads);
-        let pes = 1 + numbers.below(6) as u32 % 6;
+        let pes = 1 + (numbers.below(6) % 6) as u32;
         compare(&rt, &loads, &parts, pes, seed);
         drop(parts);
         drop(loads);
