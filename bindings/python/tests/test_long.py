@@ -1,4 +1,7 @@
-"""Runs past the limits of a dump: beside a plain search for the least bottleneck and a plain checker, spoilt, counted and drawn."""
+"""Runs past the limits of a dump: beside a plain search for the least bottleneck and a plain checker, spoilt, counted and drawn.
+
+TEZGUMI_CHAINS=10000 in the environment compares so many random chains, in a minute.
+"""
 import os
 import random
 import tempfile
@@ -15,7 +18,7 @@ import tezgumi
 from support import TimedTest, as_lists, large_run
 from test_checking import forge
 
-CHAINS = 1000
+CHAINS = int(os.environ.get("TEZGUMI_CHAINS", "1000"))
 MILLION = 1_000_000
 SECONDS = 5
 """Of processor time, so that a machine with other work to do fails nothing."""
