@@ -1,6 +1,6 @@
 -- The first of a list, as `front` looks it up.
 use Rattle.std.proofs.Common.{◌≡◌, ℕ, ◌<◌, List, [], ◌∷◌, Option, Some, None, true, false, length, drop, slice_get, slice_index_or, ap, sym, ◌∙◌, refl, arith}
-use Rattle.pe_state.specs.Pes.{PeView, Item, front_address, front_at, front_wants, unaddressed, gave_up, hand_wants_in, looked, looked_in}
+use Rattle.pe_state.specs.Pes.{PeView, Item, at_pe, front_address, front_at, front_wants, unaddressed, gave_up, hand_wants_in, looked, looked_in}
 
 pub first_is : {A : Type 0} (xs : List A) (x : A) → x ≡ slice_index_or xs 0 x → 0 < length xs → Some x ≡ slice_get xs 0
 first_is [] x e h = absurd (omega arith)
@@ -26,6 +26,10 @@ none_addressed (y ∷ ys) h = absurd (let b = h (omega arith) in cc)
 pub none_first : {A : Type 0} (xs : List A) → (0 < length xs → false ≡ true) → None ≡ slice_get xs 0
 none_first [] h = refl
 none_first (y ∷ ys) h = absurd (let b = h (omega arith) in cc)
+
+-- the front with an address
+pub front_again : (q : ℕ) (old xs new : List Item) (x : Item) → old ≡ x ∷ xs → new ≡ at_pe q x ∷ xs → new ≡ front_at q old
+front_again q old xs new x e f = f ∙ sym (ap (front_at q) e)
 
 -- the front was looked for, and given up
 pub looked_and_gave_up : {C : Type 0} (pe v : PeView C) (q : ℕ) (x : Item) (xs : List Item) → v ≡ pe → pe.hand ≡ None → v.outbox ≡ x ∷ xs → record v { outbox = xs; kept = Some q } ≡ gave_up (looked pe q)

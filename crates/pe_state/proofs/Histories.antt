@@ -120,7 +120,7 @@ module _ {C : Type 0} (step : Step C) (fits : C → Type 0) (pack : C → List �
   resumed_holds pe e round h = handled_holds pe e (Resumption round) pe.hand h h.hand
 
   -- Look
-  looked_in_holds : (pe : PeView C) (q : ℕ) (o : Option ℕ) → HasHistories step fits pack opened pe → HasHistories step fits pack opened (looked_in pe q o)
+  pub looked_in_holds : (pe : PeView C) (q : ℕ) (o : Option ℕ) → HasHistories step fits pack opened pe → HasHistories step fits pack opened (looked_in pe q o)
   looked_in_holds pe q (Some e) h =
       record { same_array = h.same_array; room = h.room; hand = at_hand pe.hand h.hand; outbox = h.outbox }
     where

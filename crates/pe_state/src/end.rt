@@ -1,7 +1,8 @@
-//! A PE as a run left it.
+//! What a PE holds.
 
 ghost use Rattle.std.specs.Prelude.{◌≡◌, ◌≤◌, IfSome};
 ghost use Rattle.std.specs.Option.{option_copied};
+ghost use Rattle.pe_state.specs.Pes.{new_pe};
 ghost use Rattle.pe_state.specs.Rooms.{IsKeyed, found};
 ghost use Rattle.pe_state.specs.Taking.{taken};
 
@@ -13,23 +14,34 @@ use std::alloc::{Allocator, Global};
 use std::collections::VecDeque;
 use std::marker::Model;
 
-/// A PE as a run left it, to be read, and to take its elements from. [`into_end`](crate::PeState::into_end) makes it, and
-/// says what holds of it; its type does not name the array of the run. Contracts see it as the record `PeView`.
+/// What a PE holds, to be read. A run leaves it at its end, and its elements may then be taken from it. A
+/// [`PeState`](crate::PeState) holds one: [`as_end`](crate::PeState::as_end) lends it, and
+/// [`into_end`](crate::PeState::into_end) gives it away and says what holds of it; its type does not name the array of the
+/// run. Contracts see it as the record `PeView`.
 #[derive(Drop)]
 pub struct PeEnd<C: Chare<A>, A: Allocator = Global> {
     pub(crate) me: Pe,
+    // How many elements there are on all PEs.
     pub(crate) n: u32,
+    // The elements that stand here.
     pub(crate) room: Room<C, A>,
+    // What was taken from the queue last, with the PE that a look gave.
     pub(crate) hand: Option<Item<A>>,
+    // Letters that came before their element, in the order in which they came.
     pub(crate) shelf: VecDeque<Letter<A>, A>,
+    // What leaves this PE, the first first.
     pub(crate) outbox: VecDeque<Item<A>, A>,
+    // What it owes the board, the first first.
     pub(crate) notes: VecDeque<Note, A>,
+    // How many letters it has posted.
     pub(crate) count: u64,
+    // The address of the parcel that it has just given up. While it has one, a place of the outbox stays free.
     pub(crate) kept: Option<Pe>,
 }
 
 impl<C: Chare<A>, A: Allocator> Model for PeEnd<C, A> {
-    ghost use Rattle.std.specs.Prelude.{◌≤◌};
+    ghost use Rattle.std.specs.Prelude.{◌<◌, ◌≤◌, IsSome};
+    ghost use Rattle.std.specs.VecDeque.{deque_len, deque_capacity};
     ghost use Rattle.chare_index.specs.declared.limits.TheConstants.Limits.{LETTERS};
     ghost use Rattle.pe_state.specs.Pes.{PeView};
 
@@ -47,7 +59,26 @@ impl<C: Chare<A>, A: Allocator> Model for PeEnd<C, A> {
       kept = p.kept;
     } };
 
-    ghost invariant = { λ p. p.count ≤ LETTERS };
+    ghost invariant = { λ p. (p.count ≤ LETTERS) × (IsSome p.kept → deque_len p.outbox < deque_capacity p.outbox) };
+}
+
+impl<C: Chare<A>, A: Allocator + Copy> PeEnd<C, A> {
+    /// PE `me` of an array of `n` elements, before any is placed.
+    pub(crate) fn new(alloc: A, me: Pe, n: u32) -> Self
+        ensures value { result ≡ new_pe me n }
+    {
+        PeEnd {
+            me,
+            n,
+            room: Room::new(alloc),
+            hand: None,
+            shelf: VecDeque::new(alloc),
+            outbox: VecDeque::new(alloc),
+            notes: VecDeque::new(alloc),
+            count: 0,
+            kept: None,
+        }
+    }
 }
 
 impl<C: Chare<A>, A: Allocator> PeEnd<C, A> {
@@ -98,21 +129,21 @@ impl<C: Chare<A>, A: Allocator> PeEnd<C, A> {
         &self.shelf
     }
 
-    /// The parcels that were to leave it, the first first, with the PEs that they were to go to.
+    /// The parcels that leave it, the first first, with the PEs that they go to.
     pub fn outbox(&self) -> &VecDeque<Item<A>, A>
         ensures value { result.now.items ≡ self.now.outbox }
     {
         &self.outbox
     }
 
-    /// What it owed the board, the first first.
+    /// What it owes the board, the first first.
     pub fn notes(&self) -> &VecDeque<Note, A>
         ensures value { result.now.items ≡ self.now.notes }
     {
         &self.notes
     }
 
-    /// How many letters it had posted.
+    /// How many letters it has posted.
     pub fn count(&self) -> u64
         ensures value { result ≡ self.now.count }
         ensures few { result ≤ Limits.LETTERS }
@@ -120,7 +151,7 @@ impl<C: Chare<A>, A: Allocator> PeEnd<C, A> {
         self.count
     }
 
-    /// The address of a parcel that it had just given up, which might have been handed back.
+    /// The address of the parcel that it has just given up, which may be handed back.
     pub fn kept(&self) -> Option<Pe>
         ensures value { result ≡ self.now.kept }
     {

@@ -2,7 +2,7 @@
 //! for nobody; docs/EVENTS.md tells the protocol.
 //!
 //! - [`PeState`]: a PE, with a call for its part of each event.
-//! - [`PeEnd`]: a PE as a run left it, and [`Elements`], the elements of such PEs by value.
+//! - [`PeEnd`]: what a PE holds, as a run leaves it, and [`Elements`], the elements of such PEs by value.
 //! - [`Parcel`], with [`HeldParcel`], [`Item`] and [`into_held`]: what is carried from PE to PE, and what a PE holds of
 //!   that.
 //! - [`Room`]: the elements that stand on a PE, and [`Entries`], a walk over them.

@@ -1,7 +1,7 @@
 //! A PE.
 
 ghost use Rattle.std.specs.Prelude.{◌≡◌, ◌≢◌, ℕ, ◌+◌, ◌++◌, ◌∷◌, [], ◌<◌, ◌≤◌, List, length, IfOk, IfErr, OnOk, OnErr, IfSome, IsSome, None, Some, slice_get, true, false};
-ghost use Rattle.std.specs.Option.{option_copied, option_map};
+ghost use Rattle.std.specs.Option.{option_map};
 ghost use Rattle.pe_state.specs.Histories.{IsParcelHistory, HasHistories};
 ghost use Rattle.pe_state.specs.Pes.{PeView, new_pe, placed, received, wanted, hand_wants, looked, at_pe, front_at, unaddressed, is_due, front_parcel, front_address, gave_up, handed_back, noted, held, may_resume, may_depart, departed, waits_at, front_wants};
 ghost use Rattle.pe_state.specs.Rooms.{found, IsKeyed};
@@ -13,9 +13,8 @@ use crate::error::StepError;
 use crate::parcel::{HeldParcel, Item, Parcel, into_held, into_parcel};
 use crate::room::Room;
 use chare_index::{Index, Limits, Pe, Round};
-use chares::{Addressed, Carried, Chare, Letter, Note, Openings, Progress};
+use chares::{Addressed, Carried, Chare, Note, Openings, Progress};
 use std::alloc::{AllocError, Allocator, Global};
-use std::collections::VecDeque;
 use std::marker::{Model, PhantomData};
 
 mod acting;
@@ -29,70 +28,24 @@ mod handlers;
 /// it, so that [`hand_back`](PeState::hand_back) can put the parcel back.
 #[derive(Drop)]
 pub struct PeState<C: Chare<A>, H: Openings<C>, A: Allocator = Global> {
-    me: Pe,
-    // How many PEs there are, and how many elements.
+    // What it holds.
+    end: PeEnd<C, A>,
+    // How many PEs there are.
     pes: u32,
-    n: u32,
-    // The elements that stand here.
-    room: Room<C, A>,
-    // What was taken from the queue last, with the PE that a look gave.
-    hand: Option<Item<A>>,
-    // Letters that came before their element, in the order in which they came.
-    shelf: VecDeque<Letter<A>, A>,
-    // What leaves this PE, the first first.
-    outbox: VecDeque<Item<A>, A>,
-    // What it owes the board, the first first.
-    notes: VecDeque<Note, A>,
-    // How many letters it has posted.
-    count: u64,
-    // The address of the parcel that it has just given up. While it has one, a place of the outbox stays free.
-    kept: Option<Pe>,
     alloc: A,
     of: PhantomData<H>,
 }
 
 impl<C: Chare<A>, H: Openings<C>, A: Allocator> Model for PeState<C, H, A> {
-    ghost use Rattle.std.specs.Prelude.{◌≡◌, ◌<◌, ◌≤◌, IsSome};
-    ghost use Rattle.std.specs.VecDeque.{deque_len, deque_capacity};
-    ghost use Rattle.chare_index.specs.declared.limits.TheConstants.Limits.{ELEMENTS, LETTERS};
-    ghost use Rattle.pe_state.specs.Histories.{HasHistories};
+    ghost use Rattle.std.specs.Prelude.{◌≡◌};
     ghost use Rattle.pe_state.specs.Pes.{PeView};
-    ghost use Rattle.pe_state.specs.Standing.{IsHandBelow, AreBelow, IsBelow};
+    ghost use Rattle.pe_state.specs.Standing.{IsOfRun};
 
     ghost Value = { PeView C };
 
-    ghost view = { λ p. record {
-      me = p.me;
-      n = p.n;
-      room = p.room;
-      hand = p.hand;
-      shelf = p.shelf.items;
-      outbox = p.outbox.items;
-      notes = p.notes.items;
-      count = p.count;
-      kept = p.kept;
-    } };
+    ghost view = { λ p. p.end };
 
-    ghost invariant = { λ p.
-        HasHistories C.step C.fits C.pack H.opened (record {
-          me = p.me;
-          n = p.n;
-          room = p.room;
-          hand = p.hand;
-          shelf = p.shelf.items;
-          outbox = p.outbox.items;
-          notes = p.notes.items;
-          count = p.count;
-          kept = p.kept;
-        })
-        × (p.n ≤ ELEMENTS)
-        × (p.pes ≡ H.pes)
-        × (p.me < H.pes)
-        × (p.count ≤ LETTERS)
-        × IsHandBelow H.pes p.hand
-        × AreBelow H.pes p.outbox.items
-        × IsBelow H.pes p.kept
-        × (IsSome p.kept → deque_len p.outbox < deque_capacity p.outbox) };
+    ghost invariant = { λ p. (p.pes ≡ H.pes) × IsOfRun C.step C.fits C.pack H.opened H.pes p.end };
 }
 
 impl<C: Chare<A>, H: Openings<C>, A: Allocator + Copy> PeState<C, H, A> {
@@ -105,16 +58,8 @@ impl<C: Chare<A>, H: Openings<C>, A: Allocator + Copy> PeState<C, H, A> {
         ensures value { result ≡ new_pe me n }
     {
         PeState {
-            me,
+            end: PeEnd::new(alloc, me, n),
             pes,
-            n,
-            room: Room::new(alloc),
-            hand: None,
-            shelf: VecDeque::new(alloc),
-            outbox: VecDeque::new(alloc),
-            notes: VecDeque::new(alloc),
-            count: 0,
-            kept: None,
             alloc,
             of: PhantomData,
         }
@@ -128,8 +73,9 @@ impl<C: Chare<A>, H: Openings<C>, A: Allocator + Copy> PeState<C, H, A> {
         ensures ok { OnOk result (self.new ≡ placed self.old index chare) }
         ensures err { OnErr result (self.new ≡ self.old) }
     {
-        self.room.place(self.alloc, index, chare)?;
-        self.kept = None;
+        let end = &mut self.end;
+        end.room.place(self.alloc, index, chare)?;
+        end.kept = None;
         Ok(())
     }
 
@@ -138,11 +84,12 @@ impl<C: Chare<A>, H: Openings<C>, A: Allocator + Copy> PeState<C, H, A> {
         requires empty { self.old.hand ≡ None }
         ensures ok { self.new ≡ received self.old parcel }
     {
-        self.hand = Some(Addressed {
+        let end = &mut self.end;
+        end.hand = Some(Addressed {
             parcel: into_held(parcel),
             address: None,
         });
-        self.kept = None;
+        end.kept = None;
     }
 
     /// The element that [`wants`](PeState::wants) names was looked for, and is believed to be on this PE.
@@ -165,10 +112,11 @@ impl<C: Chare<A>, H: Openings<C>, A: Allocator + Copy> PeState<C, H, A> {
         ensures value { front_parcel self.old.outbox ≡ Some result }
         ensures ok { self.new ≡ gave_up self.old }
     {
-        let Some(Addressed { parcel, address }) = self.outbox.pop_front() else {
+        let end = &mut self.end;
+        let Some(Addressed { parcel, address }) = end.outbox.pop_front() else {
             unreachable!()
         };
-        self.kept = address;
+        end.kept = address;
         into_parcel(parcel)
     }
 
@@ -181,10 +129,11 @@ impl<C: Chare<A>, H: Openings<C>, A: Allocator + Copy> PeState<C, H, A> {
         ensures value { front_parcel self.old.outbox ≡ Some result }
         ensures ok { self.new ≡ gave_up (looked self.old believed) }
     {
-        let Some(Addressed { parcel, address: _ }) = self.outbox.pop_front() else {
+        let end = &mut self.end;
+        let Some(Addressed { parcel, address: _ }) = end.outbox.pop_front() else {
             unreachable!()
         };
-        self.kept = Some(believed);
+        end.kept = Some(believed);
         into_parcel(parcel)
     }
 
@@ -194,9 +143,10 @@ impl<C: Chare<A>, H: Openings<C>, A: Allocator + Copy> PeState<C, H, A> {
         requires kept { IsSome self.old.kept }
         ensures ok { self.new ≡ handed_back self.old parcel }
     {
-        let address = self.kept.take();
+        let end = &mut self.end;
+        let address = end.kept.take();
         let parcel = into_held(parcel);
-        self.outbox
+        end.outbox
             .push_front_reserved(Addressed { parcel, address });
     }
 
@@ -205,8 +155,9 @@ impl<C: Chare<A>, H: Openings<C>, A: Allocator + Copy> PeState<C, H, A> {
         requires owed { IsSome (slice_get self.old.notes 0) }
         ensures ok { self.new ≡ noted self.old }
     {
-        let _note = self.notes.pop_front();
-        self.kept = None;
+        let end = &mut self.end;
+        let _note = end.notes.pop_front();
+        end.kept = None;
     }
 
     /// Packs an element, which stands here and waits for the end of its round, and puts it into the outbox, addressed
@@ -221,24 +172,32 @@ impl<C: Chare<A>, H: Openings<C>, A: Allocator + Copy> PeState<C, H, A> {
         ensures only_memory { IfErr result (λ error. error ≡ OutOfMemory) }
         ensures fits { OnOk result (IfSome (found index self.old.room) (λ el. C.fits el.chare)) }
     {
-        self.outbox.reserve(1)?;
-        let element = self.room.depart(self.alloc, index)?;
-        self.outbox.push_back_reserved(Addressed {
+        let end = &mut self.end;
+        end.outbox.reserve(1)?;
+        let element = end.room.depart(self.alloc, index)?;
+        end.outbox.push_back_reserved(Addressed {
             parcel: Carried::Element(element),
             address: Some(to),
         });
-        self.kept = None;
+        end.kept = None;
         Ok(())
     }
 }
 
 impl<C: Chare<A>, H: Openings<C>, A: Allocator> PeState<C, H, A> {
+    /// What it holds. [`PeEnd`] has its readers.
+    pub fn as_end(&self) -> &PeEnd<C, A>
+        ensures value { result.now ≡ self.now }
+    {
+        &self.end
+    }
+
     /// Its number.
     pub fn me(&self) -> Pe
         ensures value { result ≡ self.now.me }
         ensures below { result < H.pes }
     {
-        self.me
+        self.end.me()
     }
 
     /// How many PEs there are.
@@ -254,7 +213,7 @@ impl<C: Chare<A>, H: Openings<C>, A: Allocator> PeState<C, H, A> {
         ensures array { result ≡ length H.opened }
         ensures few { result ≤ Limits.ELEMENTS }
     {
-        self.n
+        self.end.n()
     }
 
     /// The elements that stand here. The clauses `keyed` and `histories` say what holds of every room and of every PE,
@@ -264,51 +223,7 @@ impl<C: Chare<A>, H: Openings<C>, A: Allocator> PeState<C, H, A> {
         ensures keyed { IsKeyed self.now.room }
         ensures histories { HasHistories C.step C.fits C.pack H.opened self.now }
     {
-        self.room.known();
-        &self.room
-    }
-
-    /// The parcel in its hand, with the PE that a look gave.
-    pub fn hand(&self) -> Option<&Item<A>>
-        ensures value { option_copied result ≡ self.now.hand }
-    {
-        self.hand.as_ref()
-    }
-
-    /// The letters that came before their element, in the order in which they came.
-    pub fn shelf(&self) -> &VecDeque<Letter<A>, A>
-        ensures value { result.now.items ≡ self.now.shelf }
-    {
-        &self.shelf
-    }
-
-    /// The parcels that leave this PE, the first first, with the PEs that they go to.
-    pub fn outbox(&self) -> &VecDeque<Item<A>, A>
-        ensures value { result.now.items ≡ self.now.outbox }
-    {
-        &self.outbox
-    }
-
-    /// What it owes the board, the first first.
-    pub fn notes(&self) -> &VecDeque<Note, A>
-        ensures value { result.now.items ≡ self.now.notes }
-    {
-        &self.notes
-    }
-
-    /// How many letters it has posted.
-    pub fn count(&self) -> u64
-        ensures value { result ≡ self.now.count }
-        ensures few { result ≤ Limits.LETTERS }
-    {
-        self.count
-    }
-
-    /// The address of the parcel that it has just given up, which may be handed back.
-    pub fn kept(&self) -> Option<Pe>
-        ensures value { result ≡ self.now.kept }
-    {
-        self.kept
+        self.end.room()
     }
 
     /// The element that has to be looked for: that of a letter in the hand without a look, where it does not stand here,
@@ -326,7 +241,7 @@ impl<C: Chare<A>, H: Openings<C>, A: Allocator> PeState<C, H, A> {
     pub fn front_wants(&self) -> Option<Index>
         ensures value { result ≡ front_wants self.now.outbox }
     {
-        let front = self.outbox.front()?;
+        let front = self.end.outbox().front()?;
         unaddressed(front)
     }
 
@@ -335,7 +250,7 @@ impl<C: Chare<A>, H: Openings<C>, A: Allocator> PeState<C, H, A> {
         ensures value { result ≡ front_address self.now.outbox }
         ensures below { IfSome result (λ to. to < H.pes) }
     {
-        let front = self.outbox.front()?;
+        let front = self.end.outbox().front()?;
         front.address
     }
 
@@ -343,7 +258,7 @@ impl<C: Chare<A>, H: Openings<C>, A: Allocator> PeState<C, H, A> {
     pub fn next_note(&self) -> Option<Note>
         ensures value { result ≡ slice_get self.now.notes 0 }
     {
-        let note = self.notes.front()?;
+        let note = self.end.notes().front()?;
         Some(*note)
     }
 
@@ -351,7 +266,7 @@ impl<C: Chare<A>, H: Openings<C>, A: Allocator> PeState<C, H, A> {
     pub fn may_resume(&self, index: Index, round: Round) -> bool
         ensures value { result ≡ may_resume self.now index round }
     {
-        let Some(element) = self.room.element(index) else {
+        let Some(element) = self.end.room().element(index) else {
             return false;
         };
         is_due(element.progress(), round)
@@ -361,7 +276,7 @@ impl<C: Chare<A>, H: Openings<C>, A: Allocator> PeState<C, H, A> {
     pub fn may_depart(&self, index: Index) -> bool
         ensures value { result ≡ may_depart self.now index }
     {
-        let Some(element) = self.room.element(index) else {
+        let Some(element) = self.end.room().element(index) else {
             return false;
         };
         element.progress().synced
@@ -375,7 +290,7 @@ impl<C: Chare<A>, H: Openings<C>, A: Allocator> PeState<C, H, A> {
         ensures departs { IfSome result (λ round. may_depart self.now index ≡ true) }
         ensures within { IfSome result (λ round. index < length H.opened) }
     {
-        let element = self.room.element(index)?;
+        let element = self.end.room().element(index)?;
         let progress = element.progress();
         if !progress.synced {
             return None;
@@ -385,36 +300,12 @@ impl<C: Chare<A>, H: Openings<C>, A: Allocator> PeState<C, H, A> {
 }
 
 impl<C: Chare<A>, H: Openings<C>, A: Allocator> PeState<C, H, A> {
-    /// The PE as the run leaves it. This takes no memory. The clause `histories` says what its type said.
+    /// What it holds, as the run leaves it. This takes no memory. The clause `histories` says what its type said.
     pub fn into_end(self) -> PeEnd<C, A>
         ensures value { result ≡ self }
         ensures histories { HasHistories C.step C.fits C.pack H.opened self }
     {
-        let PeState {
-            me,
-            pes: _,
-            n,
-            room,
-            hand,
-            shelf,
-            outbox,
-            notes,
-            count,
-            kept,
-            alloc: _,
-            of: _,
-        } = self;
-        PeEnd {
-            me,
-            n,
-            room,
-            hand,
-            shelf,
-            outbox,
-            notes,
-            count,
-            kept,
-        }
+        self.end
     }
 }
 
@@ -425,7 +316,8 @@ impl<C: Chare<A>, H: Openings<C>, A: Allocator> PeState<C, H, A> {
         requires history { IsParcelHistory C.step C.fits C.pack H.opened parcel }
         ensures ok { self.new ≡ held self.old parcel look }
     {
-        self.hand = Some(Addressed {
+        let end = &mut self.end;
+        end.hand = Some(Addressed {
             parcel,
             address: look,
         });
@@ -436,8 +328,9 @@ impl<C: Chare<A>, H: Openings<C>, A: Allocator> PeState<C, H, A> {
         requires known { to < H.pes }
         ensures ok { self.new ≡ record self.old { hand = option_map (at_pe to) self.old.hand; kept = None } }
     {
-        self.kept = None;
-        let Some(Addressed { parcel, address: _ }) = self.hand.take() else {
+        let end = &mut self.end;
+        end.kept = None;
+        let Some(Addressed { parcel, address: _ }) = end.hand.take() else {
             return;
         };
         self.hold(parcel, Some(to));
@@ -449,11 +342,12 @@ impl<C: Chare<A>, H: Openings<C>, A: Allocator> PeState<C, H, A> {
         requires known { to < H.pes }
         ensures ok { self.new ≡ record self.old { outbox = front_at to self.old.outbox; kept = None } }
     {
-        self.kept = None;
-        let Some(Addressed { parcel, address: _ }) = self.outbox.pop_front() else {
+        let end = &mut self.end;
+        end.kept = None;
+        let Some(Addressed { parcel, address: _ }) = end.outbox.pop_front() else {
             return;
         };
-        self.outbox.push_front_reserved(Addressed {
+        end.outbox.push_front_reserved(Addressed {
             parcel,
             address: Some(to),
         });
@@ -465,9 +359,9 @@ impl<C: Chare<A>, H: Openings<C>, A: Allocator> PeState<C, H, A> {
     fn hand_wants(&self) -> Option<Index>
         ensures value { result ≡ hand_wants self.now }
     {
-        let item = self.hand.as_ref()?;
+        let item = self.end.hand()?;
         let index = unaddressed(item)?;
-        if self.room.element(index).is_some() {
+        if self.end.room().element(index).is_some() {
             return None;
         }
         Some(index)

@@ -26,7 +26,7 @@ impl<C: Chare<A>, H: Openings<C>, J: RunBeginning<C>, A: Allocator + Copy> Seate
         ensures same_me { self.new.pe.me ≡ self.old.pe.me }
     {
         let _room = self.pe.room();
-        if self.pe.hand().is_some() {
+        if self.pe.as_end().hand().is_some() {
             return false;
         }
         let me = self.pe.me();
@@ -44,7 +44,7 @@ impl<C: Chare<A>, H: Openings<C>, J: RunBeginning<C>, A: Allocator + Copy> Seate
         ensures same_me { self.new.pe.me ≡ self.old.pe.me }
     {
         let _room = self.pe.room();
-        if self.pe.hand().is_some() {
+        if self.pe.as_end().hand().is_some() {
             return false;
         }
         let me = self.pe.me();
@@ -77,7 +77,7 @@ impl<C: Chare<A>, H: Openings<C>, J: RunBeginning<C>, A: Allocator + Copy> Seate
         ensures same_me { self.new.pe.me ≡ self.old.pe.me }
     {
         let _room = self.pe.room();
-        if self.pe.hand().is_some() {
+        if self.pe.as_end().hand().is_some() {
             return Ok(None);
         }
         let me = self.pe.me();
@@ -162,7 +162,7 @@ impl<C: Chare<A>, H: Openings<C>, J: RunBeginning<C>, A: Allocator + Copy> Seate
         ensures same_me { self.new.pe.me ≡ self.old.pe.me }
     {
         let _room = self.pe.room();
-        if self.pe.hand().is_some() {
+        if self.pe.as_end().hand().is_some() {
             return None;
         }
         let element = self.pe.front_wants()?;

@@ -22,7 +22,7 @@ pub(crate) fn before_act<V: Watch, C: Chare<A>, H: Openings<C>, A: Allocator>(
     if !watch.follows_steps() {
         return None;
     }
-    let item = pe.hand()?;
+    let item = pe.as_end().hand()?;
     watch.begins_step(pe.me());
     match &item.parcel {
         Carried::Letter(letter) => Some(InHand::Letter(letter.id(), letter.to())),
@@ -38,7 +38,7 @@ pub(crate) fn after_act<V: Watch, C: Chare<A>, H: Openings<C>, A: Allocator>(
     acted: Option<Acted>,
 ) {
     if let Some(step) = act_of(held, acted) {
-        watch.made_step(pe.me(), step, pe.count());
+        watch.made_step(pe.me(), step, pe.as_end().count());
     }
 }
 
@@ -78,7 +78,7 @@ pub(crate) fn after<V: Watch, C: Chare<A>, H: Openings<C>, A: Allocator>(
     step: PeStep,
 ) {
     if watch.follows_steps() {
-        watch.made_step(pe.me(), step, pe.count());
+        watch.made_step(pe.me(), step, pe.as_end().count());
     }
 }
 
@@ -96,5 +96,5 @@ pub(crate) fn after_going_on<V: Watch, C: Chare<A>, H: Openings<C>, J: BoardSize
         Some(place) if place != pe.me() => PeStep::Departed(element, place),
         _ => PeStep::Resumed(element, places.round()),
     };
-    watch.made_step(pe.me(), step, pe.count());
+    watch.made_step(pe.me(), step, pe.as_end().count());
 }

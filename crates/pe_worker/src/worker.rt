@@ -381,7 +381,7 @@ impl<C: Chare<A>, H: Openings<C> + RunStrategy, J: RunBeginning<C>, A: Allocator
         ensures unpacks { IfErr result (λ fault. fault ≢ Unpack) }
         ensures no_mismatch { IfErr result (λ fault. fault ≢ Mismatch) }
     {
-        let notes = self.seated.pe().notes().len();
+        let notes = self.seated.pe().as_end().notes().len();
         if notes == 0 {
             return Ok(false);
         }
@@ -443,7 +443,7 @@ impl<C: Chare<A>, H: Openings<C> + RunStrategy, J: RunBeginning<C>, A: Allocator
 fn arriving<C: Chare<A>, H: Openings<C> + RunStrategy, A: Allocator>(
     pe: &PeState<C, H, A>,
 ) -> Option<Index> {
-    let item = pe.hand()?;
+    let item = pe.as_end().hand()?;
     let Carried::Element(element) = &item.parcel else {
         return None;
     };

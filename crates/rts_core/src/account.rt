@@ -8,7 +8,7 @@ ghost use Rattle.rts_core.specs.Places.{letters_in, letters_at};
 use crate::queue::Queue;
 use chare_index::Limits;
 use chares::{Carried, Chare, Openings};
-use pe_state::{HeldParcel, Item, Parcel, PeState};
+use pe_state::{HeldParcel, Item, Parcel, PeEnd, PeState};
 use std::alloc::Allocator;
 
 /// How many letters of a world were posted, how many of them were executed, and how many are held. A letter is held while
@@ -31,7 +31,7 @@ pub(crate) fn posted_by<C: Chare<A>, H: Openings<C>, A: Allocator>(pes: &[PeStat
 {
     let mut posted = 0;
     for pe in pes {
-        posted += pe.count();
+        posted += pe.as_end().count();
     }
     posted
 }
@@ -43,7 +43,7 @@ pub(crate) fn held_by<C: Chare<A>, H: Openings<C>, A: Allocator>(pes: &[PeState<
 {
     let mut held = 0;
     for pe in pes {
-        held += held_on(pe);
+        held += held_on(pe.as_end());
     }
     held
 }
@@ -61,18 +61,18 @@ pub(crate) fn queued_in<C: Chare<A>, H: Openings<C>, A: Allocator>(queues: &[Que
     queued
 }
 
-// How many letters a PE holds.
+/// How many letters a PE holds.
 #[tactic(auto, using(crate::proofs::Counts::parts))]
-fn held_on<C: Chare<A>, H: Openings<C>, A: Allocator>(pe: &PeState<C, H, A>) -> u64
+pub fn held_on<C: Chare<A>, A: Allocator>(pe: &PeEnd<C, A>) -> u64
     requires few { length (letters_at pe.now) < 2 ^ 64 }
     ensures value { result ≡ length (letters_at pe.now) }
 {
-    in_hand(pe) + in_outbox(pe) + on_shelf(pe)
+    in_hand(pe) + in_outbox(pe) + pe.shelf().len() as u64
 }
 
 // How many letters are in the hand of a PE.
 #[tactic(auto, using(crate::proofs::Counts::hand_one))]
-fn in_hand<C: Chare<A>, H: Openings<C>, A: Allocator>(pe: &PeState<C, H, A>) -> u64
+fn in_hand<C: Chare<A>, A: Allocator>(pe: &PeEnd<C, A>) -> u64
     ensures value { result ≡ length (flat_map (λ x. letters_in x.parcel) (option_to_list pe.now.hand)) }
 {
     let Some(item) = pe.hand() else {
@@ -82,7 +82,7 @@ fn in_hand<C: Chare<A>, H: Openings<C>, A: Allocator>(pe: &PeState<C, H, A>) -> 
 }
 
 // How many letters are in the outbox of a PE.
-fn in_outbox<C: Chare<A>, H: Openings<C>, A: Allocator>(pe: &PeState<C, H, A>) -> u64
+fn in_outbox<C: Chare<A>, A: Allocator>(pe: &PeEnd<C, A>) -> u64
     requires few { length (flat_map (λ x. letters_in x.parcel) pe.now.outbox) < 2 ^ 64 }
     ensures value { result ≡ length (flat_map (λ x. letters_in x.parcel) pe.now.outbox) }
 {
@@ -90,15 +90,8 @@ fn in_outbox<C: Chare<A>, H: Openings<C>, A: Allocator>(pe: &PeState<C, H, A>) -
     addressed(front) + addressed(back)
 }
 
-// How many letters are on the shelf of a PE.
-fn on_shelf<C: Chare<A>, H: Openings<C>, A: Allocator>(pe: &PeState<C, H, A>) -> u64
-    ensures value { result ≡ length pe.now.shelf }
-{
-    pe.shelf().len() as u64
-}
-
-/// How many of these items, which a PE holds in its outbox, are letters.
-pub fn addressed<A: Allocator>(items: &[Item<A>]) -> u64
+// How many of these items, which a PE holds in its outbox, are letters.
+fn addressed<A: Allocator>(items: &[Item<A>]) -> u64
     requires few { length (flat_map (λ x. letters_in x.parcel) items.now) < 2 ^ 64 }
     ensures value { result ≡ length (flat_map (λ x. letters_in x.parcel) items.now) }
 {

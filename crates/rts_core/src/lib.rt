@@ -15,7 +15,7 @@ mod sync;
 mod transport;
 mod world;
 
-pub use account::{Account, addressed, letters_held};
+pub use account::{Account, held_on, letters_held};
 pub use event::Event;
 pub use laws::{account_laws, local_account_laws};
 pub use opening::{opening_pes, opening_queues, opening_words};

@@ -58,7 +58,7 @@ pub(crate) fn deliver<C: Chare<A>, H: Openings<C>, A: Allocator + Copy>(
 )
     ensures { (pe.new, queue.new) ≡ or_same (pe.old, queue.old) (delivered pe.old queue.old) }
 {
-    if !pe.hand().is_none() {
+    if !pe.as_end().hand().is_none() {
         return;
     }
     let Some(parcel) = queue.take() else {

@@ -2,13 +2,12 @@
 
 ghost use Rattle.std.specs.Prelude.{◌≡◌, ◌+◌, ◌*◌, ◌^◌, ◌<◌, ◌≤◌, length, map, sum_by};
 ghost use Rattle.std.specs.List.{flat_map};
-ghost use Rattle.std.specs.Option.{option_to_list};
 ghost use Rattle.rts_core.specs.Places.{letters_in, letters_at};
 
 use chare_index::Limits;
 use chares::Chare;
 use pe_state::{HeldParcel, PeEnd};
-use rts_core::{addressed, letters_held};
+use rts_core::{held_on, letters_held};
 use std::alloc::Allocator;
 
 /// How many letters these PEs have posted.
@@ -46,35 +45,6 @@ pub(crate) fn queued_in<A: Allocator>(queues: &[Vec<HeldParcel<A>, A>]) -> u64
         queued += among(queue);
     }
     queued
-}
-
-// How many letters a PE holds.
-#[tactic(auto, using(rts_core::proofs::Counts::parts))]
-fn held_on<C: Chare<A>, A: Allocator>(end: &PeEnd<C, A>) -> u64
-    requires few { length (letters_at end.now) < 2 ^ 64 }
-    ensures value { result ≡ length (letters_at end.now) }
-{
-    in_hand(end) + in_outbox(end) + end.shelf().len() as u64
-}
-
-// How many letters are in the hand of a PE.
-#[tactic(auto, using(rts_core::proofs::Counts::hand_one))]
-fn in_hand<C: Chare<A>, A: Allocator>(end: &PeEnd<C, A>) -> u64
-    ensures value { result ≡ length (flat_map (λ x. letters_in x.parcel) (option_to_list end.now.hand)) }
-{
-    let Some(item) = end.hand() else {
-        return 0;
-    };
-    letters_held(&item.parcel)
-}
-
-// How many letters are in the outbox of a PE.
-fn in_outbox<C: Chare<A>, A: Allocator>(end: &PeEnd<C, A>) -> u64
-    requires few { length (flat_map (λ x. letters_in x.parcel) end.now.outbox) < 2 ^ 64 }
-    ensures value { result ≡ length (flat_map (λ x. letters_in x.parcel) end.now.outbox) }
-{
-    let (front, back) = end.outbox().as_slices();
-    addressed(front) + addressed(back)
 }
 
 // How many of these parcels are letters.

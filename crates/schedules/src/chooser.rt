@@ -184,7 +184,8 @@ impl<A: Allocator> Chooser<A> {
         let waits = !queue.parcels().is_empty();
         self.looks.put(number, pe.wants().is_some());
         self.flushes.put(number, pe.front_out().is_some());
-        self.delivers.put(number, waits && pe.hand().is_none());
+        self.delivers
+            .put(number, waits && pe.as_end().hand().is_none());
         self.acts.put(number, may_act(pe));
         self.reports.put(number, pe.next_note().is_some());
     }
@@ -243,7 +244,7 @@ fn short(number: usize) -> u32 {
 // Whether a PE may act on what is in its hand: not on a letter whose element has not started, or that has to be looked up
 // first.
 fn may_act<C: Chare<A>, H: Openings<C>, A: Allocator>(pe: &PeState<C, H, A>) -> bool {
-    let Some(item) = pe.hand() else {
+    let Some(item) = pe.as_end().hand() else {
         return false;
     };
     let Carried::Letter(letter) = &item.parcel else {

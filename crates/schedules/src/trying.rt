@@ -115,7 +115,7 @@ fn may_deliver<C: Chare<A>, H: Openings<C>, A: Allocator>(world: &World<C, H, A>
     let Some(queue) = world.queue(p) else {
         return false;
     };
-    pe.hand().is_none() && !queue.parcels().is_empty()
+    pe.as_end().hand().is_none() && !queue.parcels().is_empty()
 }
 
 // Whether PE p owes a note that the board takes.

@@ -84,7 +84,8 @@ impl<C: Chare<A>, H: Openings<C>, A: Allocator + Copy> PeState<C, H, A> {
         ensures trace { OnOk result (trace.new.items ≡ traced tracing trace.old.items (trace_of (acting C.step C.pack C.unpack self.old))) }
         ensures same_trace { OnErr result (trace.new.items ≡ trace.old.items) }
     {
-        let Some(Addressed { parcel, address }) = self.hand.take() else {
+        let end = &mut self.end;
+        let Some(Addressed { parcel, address }) = end.hand.take() else {
             return Ok(None);
         };
         match parcel {
@@ -142,7 +143,8 @@ impl<C: Chare<A>, H: Openings<C>, A: Allocator + Copy> PeState<C, H, A> {
             return Ok(false);
         }
         let mut trace = Vec::new(self.alloc);
-        self.kept = None;
+        let end = &mut self.end;
+        end.kept = None;
         self.execute(gate, letter, None, false, &mut trace)?;
         Ok(true)
     }
@@ -151,7 +153,7 @@ impl<C: Chare<A>, H: Openings<C>, A: Allocator + Copy> PeState<C, H, A> {
     fn has_started(&self, index: Index) -> bool
         ensures value { result ≡ has_started self.now index }
     {
-        let Some(element) = self.room.element(index) else {
+        let Some(element) = self.end.room().element(index) else {
             return false;
         };
         element.progress().started
@@ -178,7 +180,7 @@ impl<C: Chare<A>, H: Openings<C>, A: Allocator + Copy> PeState<C, H, A> {
         ensures trace { OnOk result (trace.new.items ≡ traced tracing trace.old.items (trace_of (acting_on_letter C.step C.pack self.old letter look))) }
         ensures same_trace { OnErr result (trace.new.items ≡ trace.old.items) }
     {
-        let Some(element) = self.room.element(letter.to()) else {
+        let Some(element) = self.end.room().element(letter.to()) else {
             return self.pass_on(letter, look, tracing, trace);
         };
         if !element.progress().started {
@@ -207,23 +209,24 @@ impl<C: Chare<A>, H: Openings<C>, A: Allocator + Copy> PeState<C, H, A> {
         ensures trace { OnOk result (trace.new.items ≡ traced tracing trace.old.items (executed C.step C.pack self.old letter).trace) }
         ensures same_trace { OnErr result (trace.new.items ≡ trace.old.items) }
     {
-        let Ok(()) = self.notes.reserve(1) else {
+        let end = &mut self.end;
+        let Ok(()) = end.notes.reserve(1) else {
             self.hold(Carried::Letter(letter), look);
             return Err(StepError::OutOfMemory);
         };
-        let Ok(()) = self.outbox.reserve(1) else {
+        let Ok(()) = end.outbox.reserve(1) else {
             self.hold(Carried::Letter(letter), look);
             return Err(StepError::OutOfMemory);
         };
         let handled = lent::execute(
             self.alloc,
             gate,
-            self.me,
-            self.n,
+            end.me,
+            end.n,
             letter,
-            &mut self.room,
-            &mut self.outbox,
-            &mut self.count,
+            &mut end.room,
+            &mut end.outbox,
+            &mut end.count,
             tracing,
             trace,
         );
@@ -235,8 +238,8 @@ impl<C: Chare<A>, H: Openings<C>, A: Allocator + Copy> PeState<C, H, A> {
                 return Err(StepError::from(error));
             }
         };
-        lent::owe(&mut self.notes, note);
-        self.kept = None;
+        lent::owe(&mut end.notes, note);
+        end.kept = None;
         Ok(())
     }
 
@@ -263,7 +266,7 @@ impl<C: Chare<A>, H: Openings<C>, A: Allocator + Copy> PeState<C, H, A> {
             self.hold(Carried::Letter(letter), look);
             return Ok(None);
         };
-        if to == self.me {
+        if to == self.end.me() {
             self.shelve(letter, to, tracing, trace)?;
             return Ok(Some(Acted::Shelved));
         }
@@ -286,17 +289,18 @@ impl<C: Chare<A>, H: Openings<C>, A: Allocator + Copy> PeState<C, H, A> {
         ensures trace { OnOk result (trace.new.items ≡ traced tracing trace.old.items (shelving self.old letter).trace) }
         ensures same_trace { OnErr result (trace.new.items ≡ trace.old.items) }
     {
+        let end = &mut self.end;
         let Ok(()) = reserve_entry(trace, tracing) else {
             self.hold(Carried::Letter(letter), Some(look));
             return Err(AllocError);
         };
         let id = letter.id();
-        if let Err(refused) = self.shelf.push_back(letter) {
+        if let Err(refused) = end.shelf.push_back(letter) {
             self.hold(Carried::Letter(refused.value), Some(look));
             return Err(AllocError);
         }
         add_entry(trace, tracing, TraceEntry::Shelved(id));
-        self.kept = None;
+        end.kept = None;
         Ok(())
     }
 
@@ -316,21 +320,22 @@ impl<C: Chare<A>, H: Openings<C>, A: Allocator + Copy> PeState<C, H, A> {
         ensures trace { OnOk result (trace.new.items ≡ traced tracing trace.old.items (forwarding self.old letter to).trace) }
         ensures same_trace { OnErr result (trace.new.items ≡ trace.old.items) }
     {
+        let end = &mut self.end;
         let Ok(()) = reserve_entry(trace, tracing) else {
             self.hold(Carried::Letter(letter), Some(to));
             return Err(AllocError);
         };
-        let Ok(()) = self.outbox.reserve(1) else {
+        let Ok(()) = end.outbox.reserve(1) else {
             self.hold(Carried::Letter(letter), Some(to));
             return Err(AllocError);
         };
         add_entry(trace, tracing, TraceEntry::Forwarded(letter.id()));
         letter.hop();
-        self.outbox.push_back_reserved(Addressed {
+        end.outbox.push_back_reserved(Addressed {
             parcel: Carried::Letter(letter),
             address: Some(to),
         });
-        self.kept = None;
+        end.kept = None;
         Ok(())
     }
 }
@@ -356,7 +361,7 @@ impl<C: Chare<A>, H: Openings<C>, A: Allocator + Copy> PeState<C, H, A> {
         ensures trace { OnOk result (trace.new.items ≡ traced tracing trace.old.items (trace_of (acting_on_element C.step C.pack C.unpack self.old element))) }
         ensures same_trace { OnErr result (trace.new.items ≡ trace.old.items) }
     {
-        if self.room.element(element.index()).is_some() {
+        if self.end.room().element(element.index()).is_some() {
             self.hold(Carried::Element(element), look);
             return Ok(None);
         }
@@ -390,27 +395,28 @@ impl<C: Chare<A>, H: Openings<C>, A: Allocator + Copy> PeState<C, H, A> {
         ensures trace { OnOk result (trace.new.items ≡ traced tracing trace.old.items (TraceEntry.Installed element.index ∷ [])) }
         ensures same_trace { OnErr result (trace.new.items ≡ trace.old.items) }
     {
+        let end = &mut self.end;
         let Ok(()) = reserve_entry(trace, tracing) else {
             self.hold(Carried::Element(element), look);
             return Err(AllocError);
         };
-        let Ok(()) = self.outbox.reserve(self.shelf.len()) else {
+        let Ok(()) = end.outbox.reserve(end.shelf.len()) else {
             self.hold(Carried::Element(element), look);
             return Err(AllocError);
         };
-        let Ok(mut rest) = VecDeque::with_capacity(self.alloc, self.shelf.len()) else {
+        let Ok(mut rest) = VecDeque::with_capacity(self.alloc, end.shelf.len()) else {
             self.hold(Carried::Element(element), look);
             return Err(AllocError);
         };
         let index = element.index();
-        if let Err(refused) = self.room.install(element, chare) {
+        if let Err(refused) = end.room.install(element, chare) {
             self.hold(Carried::Element(refused.value), look);
             return Err(AllocError);
         }
         add_entry(trace, tracing, TraceEntry::Installed(index));
-        unshelve(index, self.me, &mut self.shelf, &mut rest, &mut self.outbox);
-        self.shelf = rest;
-        self.kept = None;
+        unshelve(index, end.me, &mut end.shelf, &mut rest, &mut end.outbox);
+        end.shelf = rest;
+        end.kept = None;
         Ok(())
     }
 }

@@ -68,23 +68,24 @@ impl<C: Chare<A>, H: Openings<C>, A: Allocator + Copy> PeState<C, H, A> {
         ensures trace { OnOk result (trace.new.items ≡ traced tracing trace.old.items (resume_entries C.step C.pack self.old index round)) }
         ensures same_trace { OnErr result (trace.new.items ≡ trace.old.items) }
     {
-        self.notes.reserve(1)?;
-        self.outbox.reserve(1)?;
+        let end = &mut self.end;
+        end.notes.reserve(1)?;
+        end.outbox.reserve(1)?;
         let note = lent::resume(
             self.alloc,
             gate,
-            self.me,
-            self.n,
+            end.me,
+            end.n,
             index,
             round,
-            &mut self.room,
-            &mut self.outbox,
-            &mut self.count,
+            &mut end.room,
+            &mut end.outbox,
+            &mut end.count,
             tracing,
             trace,
         )?;
-        lent::owe(&mut self.notes, note);
-        self.kept = None;
+        lent::owe(&mut end.notes, note);
+        end.kept = None;
         Ok(())
     }
 }

@@ -91,7 +91,7 @@ impl<C: Chare<A>, H: Openings<C> + RunStrategy, J: RunBeginning<C>, A: Allocator
         ensures unpacks { IfErr result (λ fault. fault ≢ Unpack) }
         ensures no_mismatch { IfErr result (λ fault. fault ≢ Mismatch) }
     {
-        if self.seated.pe().hand().is_none() {
+        if self.seated.pe().as_end().hand().is_none() {
             return Ok(false);
         }
         let looked = self.seated.look(&field.words);

@@ -19,22 +19,22 @@ pass_on-requires-clause-below g c = c.requires.below
 
 pub returns-in_default-clause-answer : goal.returns-in_default-clause-answer
 returns-in_default-clause-answer g c =
-    let none = sym (c.in_default.ensures.value ∙ ap (λ k. found k c.self.inside.room) c.to.ensures.value ∙ ap (λ (v : PeView g.row.C.Denot). found c.args.letter.to v.room) c.self.view_is) in
+    let none = sym (c.in_default.ensures.value ∙ ap (λ k. found k c.room.result.now) c.to.ensures.value ∙ ap (λ r. found c.args.letter.to r) c.room.ensures.value ∙ ap (λ (v : PeView g.row.C.Denot). found c.args.letter.to v.room) c.self.view_is) in
     rw none c.pass_on.ensures.answer
 
 pub returns-in_default-clause-ok : goal.returns-in_default-clause-ok
 returns-in_default-clause-ok g c =
-    let none = sym (c.in_default.ensures.value ∙ ap (λ k. found k c.self.inside.room) c.to.ensures.value ∙ ap (λ (v : PeView g.row.C.Denot). found c.args.letter.to v.room) c.self.view_is) in
+    let none = sym (c.in_default.ensures.value ∙ ap (λ k. found k c.room.result.now) c.to.ensures.value ∙ ap (λ r. found c.args.letter.to r) c.room.ensures.value ∙ ap (λ (v : PeView g.row.C.Denot). found c.args.letter.to v.room) c.self.view_is) in
     rw none c.pass_on.ensures.ok
 
 pub returns-in_default-clause-enabled : goal.returns-in_default-clause-enabled
 returns-in_default-clause-enabled g c =
-    let none = sym (c.in_default.ensures.value ∙ ap (λ k. found k c.self.inside.room) c.to.ensures.value ∙ ap (λ (v : PeView g.row.C.Denot). found c.args.letter.to v.room) c.self.view_is) in
+    let none = sym (c.in_default.ensures.value ∙ ap (λ k. found k c.room.result.now) c.to.ensures.value ∙ ap (λ r. found c.args.letter.to r) c.room.ensures.value ∙ ap (λ (v : PeView g.row.C.Denot). found c.args.letter.to v.room) c.self.view_is) in
     rw none c.pass_on.ensures.enabled
 
 pub returns-in_default-clause-trace : goal.returns-in_default-clause-trace
 returns-in_default-clause-trace g c =
-    let none = sym (c.in_default.ensures.value ∙ ap (λ k. found k c.self.inside.room) c.to.ensures.value ∙ ap (λ (v : PeView g.row.C.Denot). found c.args.letter.to v.room) c.self.view_is) in
+    let none = sym (c.in_default.ensures.value ∙ ap (λ k. found k c.room.result.now) c.to.ensures.value ∙ ap (λ r. found c.args.letter.to r) c.room.ensures.value ∙ ap (λ (v : PeView g.row.C.Denot). found c.args.letter.to v.room) c.self.view_is) in
     rw none c.pass_on.ensures.trace
 
 pub returns-in_default-clause-err : goal.returns-in_default-clause-err
@@ -50,19 +50,19 @@ returns-in_default-clause-same_trace g c = c.pass_on.ensures.same_trace
 
 pub returns-then-not-progress-clause-answer : goal.returns-then-not-progress-clause-answer
 returns-then-not-progress-clause-answer g c =
-    let some = sym (c.in-Some.ensures.value ∙ ap (λ k. found k c.self.inside.room) c.to.ensures.value ∙ ap (λ (v : PeView g.row.C.Denot). found c.args.letter.to v.room) c.self.view_is) in
+    let some = sym (c.in-Some.ensures.value ∙ ap (λ k. found k c.room.result.now) c.to.ensures.value ∙ ap (λ r. found c.args.letter.to r) c.room.ensures.value ∙ ap (λ (v : PeView g.row.C.Denot). found c.args.letter.to v.room) c.self.view_is) in
     let w = waits g.C.Chare.step g.C.Pup.pack g.C.Pup.unpack c.args.self.now c.args.letter c.args.look _ _ _ some c.progress.ensures.value c.if-not-progress.true in
     sym (ap acted_of w)
 
 pub returns-then-not-progress-clause-ok : goal.returns-then-not-progress-clause-ok
 returns-then-not-progress-clause-ok g c =
-    let some = sym (c.in-Some.ensures.value ∙ ap (λ k. found k c.self.inside.room) c.to.ensures.value ∙ ap (λ (v : PeView g.row.C.Denot). found c.args.letter.to v.room) c.self.view_is) in
+    let some = sym (c.in-Some.ensures.value ∙ ap (λ k. found k c.room.result.now) c.to.ensures.value ∙ ap (λ r. found c.args.letter.to r) c.room.ensures.value ∙ ap (λ (v : PeView g.row.C.Denot). found c.args.letter.to v.room) c.self.view_is) in
     let w = waits g.C.Chare.step g.C.Pup.pack g.C.Pup.unpack c.args.self.now c.args.letter c.args.look _ _ _ some c.progress.ensures.value c.if-not-progress.true in
     c.hold.ensures.ok ∙ sym (ap (pe_after (held c.args.self.now (Carried.Letter c.args.letter) c.args.look)) w)
 
 pub returns-then-not-progress-clause-trace : goal.returns-then-not-progress-clause-trace
 returns-then-not-progress-clause-trace g c =
-    let some = sym (c.in-Some.ensures.value ∙ ap (λ k. found k c.self.inside.room) c.to.ensures.value ∙ ap (λ (v : PeView g.row.C.Denot). found c.args.letter.to v.room) c.self.view_is) in
+    let some = sym (c.in-Some.ensures.value ∙ ap (λ k. found k c.room.result.now) c.to.ensures.value ∙ ap (λ r. found c.args.letter.to r) c.room.ensures.value ∙ ap (λ (v : PeView g.row.C.Denot). found c.args.letter.to v.room) c.self.view_is) in
     let w = waits g.C.Chare.step g.C.Pup.pack g.C.Pup.unpack c.args.self.now c.args.letter c.args.look _ _ _ some c.progress.ensures.value c.if-not-progress.true in
     rw w (traced_none c.args.tracing c.args.trace.now.items)
 
@@ -70,7 +70,7 @@ returns-then-not-progress-clause-trace g c =
 
 pub execute-requires-clause-stands : goal.execute-requires-clause-stands
 execute-requires-clause-stands g c =
-    let some = sym (c.in-Some.ensures.value ∙ ap (λ k. found k c.self.inside.room) c.to.ensures.value ∙ ap (λ (v : PeView g.row.C.Denot). found c.args.letter.to v.room) c.self.view_is) in
+    let some = sym (c.in-Some.ensures.value ∙ ap (λ k. found k c.room.result.now) c.to.ensures.value ∙ ap (λ r. found c.args.letter.to r) c.room.ensures.value ∙ ap (λ (v : PeView g.row.C.Denot). found c.args.letter.to v.room) c.self.view_is) in
     rw some refl
 
 pub returns-in_err-execute-clause-answer : goal.returns-in_err-execute-clause-answer
@@ -84,7 +84,7 @@ returns-in_err-execute-clause-err g c = whatever _ _ c.in_err-execute.ensures.er
 
 pub returns-in_err-execute-clause-enabled : goal.returns-in_err-execute-clause-enabled
 returns-in_err-execute-clause-enabled g c =
-    let some = sym (c.in-Some.ensures.value ∙ ap (λ k. found k c.self.inside.room) c.to.ensures.value ∙ ap (λ (v : PeView g.row.C.Denot). found c.args.letter.to v.room) c.self.view_is) in
+    let some = sym (c.in-Some.ensures.value ∙ ap (λ k. found k c.room.result.now) c.to.ensures.value ∙ ap (λ r. found c.args.letter.to r) c.room.ensures.value ∙ ap (λ (v : PeView g.row.C.Denot). found c.args.letter.to v.room) c.self.view_is) in
     let r = runs g.C.Chare.step g.C.Pup.pack g.C.Pup.unpack c.args.self.now c.args.letter c.args.look _ _ _ some c.progress.ensures.value c.if-not-progress.false in
     whatever _ _ (ap is_some r)
 
@@ -99,18 +99,18 @@ returns-in_err-execute-clause-same_trace g c = whatever _ _ c.in_err-execute.ens
 
 pub returns-clause-answer : goal.returns-clause-answer
 returns-clause-answer g c =
-    let some = sym (c.in-Some.ensures.value ∙ ap (λ k. found k c.self.inside.room) c.to.ensures.value ∙ ap (λ (v : PeView g.row.C.Denot). found c.args.letter.to v.room) c.self.view_is) in
+    let some = sym (c.in-Some.ensures.value ∙ ap (λ k. found k c.room.result.now) c.to.ensures.value ∙ ap (λ r. found c.args.letter.to r) c.room.ensures.value ∙ ap (λ (v : PeView g.row.C.Denot). found c.args.letter.to v.room) c.self.view_is) in
     let r = runs g.C.Chare.step g.C.Pup.pack g.C.Pup.unpack c.args.self.now c.args.letter c.args.look _ _ _ some c.progress.ensures.value c.if-not-progress.false in
     sym (ap acted_of r)
 
 pub returns-clause-ok : goal.returns-clause-ok
 returns-clause-ok g c =
-    let some = sym (c.in-Some.ensures.value ∙ ap (λ k. found k c.self.inside.room) c.to.ensures.value ∙ ap (λ (v : PeView g.row.C.Denot). found c.args.letter.to v.room) c.self.view_is) in
+    let some = sym (c.in-Some.ensures.value ∙ ap (λ k. found k c.room.result.now) c.to.ensures.value ∙ ap (λ r. found c.args.letter.to r) c.room.ensures.value ∙ ap (λ (v : PeView g.row.C.Denot). found c.args.letter.to v.room) c.self.view_is) in
     let r = runs g.C.Chare.step g.C.Pup.pack g.C.Pup.unpack c.args.self.now c.args.letter c.args.look _ _ _ some c.progress.ensures.value c.if-not-progress.false in
     c.in_ok-execute.ensures.ok ∙ sym (ap (pe_after (held c.args.self.now (Carried.Letter c.args.letter) c.args.look)) r)
 
 pub returns-clause-trace : goal.returns-clause-trace
 returns-clause-trace g c =
-    let some = sym (c.in-Some.ensures.value ∙ ap (λ k. found k c.self.inside.room) c.to.ensures.value ∙ ap (λ (v : PeView g.row.C.Denot). found c.args.letter.to v.room) c.self.view_is) in
+    let some = sym (c.in-Some.ensures.value ∙ ap (λ k. found k c.room.result.now) c.to.ensures.value ∙ ap (λ r. found c.args.letter.to r) c.room.ensures.value ∙ ap (λ (v : PeView g.row.C.Denot). found c.args.letter.to v.room) c.self.view_is) in
     let r = runs g.C.Chare.step g.C.Pup.pack g.C.Pup.unpack c.args.self.now c.args.letter c.args.look _ _ _ some c.progress.ensures.value c.if-not-progress.false in
     c.in_ok-execute.ensures.trace ∙ sym (ap (λ a. traced c.args.tracing c.args.trace.now.items (trace_of a)) r)

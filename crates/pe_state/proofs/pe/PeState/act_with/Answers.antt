@@ -7,10 +7,11 @@ use Rattle.pe_state.proofs.Histories.{emptied_holds}
 use Rattle.pe_state.proofs.Traces.{traced_none}
 use Rattle.pe_state.proofs.Acting.{Holds, held_again, idle, same_hand, after_same, acting_on_letter, acting_on_element, refuses_letter, memory_refuses}
 use Rattle.pe_state.specs.Refusals.{RefusesAct}
+use Rattle.pe_state.proofs.Runs.{same_run}
 use Rattle.pe_state.proofs.pe.PeState.act_with.Goals as goal
 
-in_letter : (g : _) (c : goal.After-act_on_letter g) → Holds c.args.self.now (record { me = c.self.inside.me; n = c.self.inside.n; room = c.self.inside.room; hand = c.self.inside.hand; shelf = c.self.inside.shelf.items; outbox = c.self.inside.outbox.items; notes = c.self.inside.notes.items; count = c.self.inside.count; kept = c.self.inside.kept }) c.in-Some.field-0 (Letter c.in-Letter.letter) c.in-Some.field-0.address
-in_letter g c = record { view_is = sym c.self.view_is; in_hand = sym c.take.ensures.value ∙ c.in-Some.is; parcel_is = c.in-Letter.is; look_is = refl }
+in_letter : (g : _) (c : goal.After-act_on_letter g) → Holds c.args.self.now (record { me = c.end.inside.me; n = c.end.inside.n; room = c.end.inside.room; hand = c.end.inside.hand; shelf = c.end.inside.shelf.items; outbox = c.end.inside.outbox.items; notes = c.end.inside.notes.items; count = c.end.inside.count; kept = c.end.inside.kept }) c.in-Some.field-0 (Letter c.in-Letter.letter) c.in-Some.field-0.address
+in_letter g c = record { view_is = sym (c.end.view_is ∙ c.self.view_is); in_hand = sym c.take.ensures.value ∙ c.in-Some.is; parcel_is = c.in-Letter.is; look_is = refl }
 
 pub returns-in-Letter-clause-answer : goal.returns-in-Letter-clause-answer
 returns-in-Letter-clause-answer g c = rw (acting_on_letter g.C.Chare.step g.C.Pup.pack g.C.Pup.unpack _ _ c.take.new.self _ _ _ (in_letter g c)) c.act_on_letter.ensures.answer
@@ -30,8 +31,8 @@ returns-in-Letter-clause-trace g c = rw (acting_on_letter g.C.Chare.step g.C.Pup
 pub returns-in-Letter-clause-same_trace : goal.returns-in-Letter-clause-same_trace
 returns-in-Letter-clause-same_trace g c = c.act_on_letter.ensures.same_trace
 
-in_element : (g : _) (c : goal.After-act_on_element g) → Holds c.args.self.now (record { me = c.self.inside.me; n = c.self.inside.n; room = c.self.inside.room; hand = c.self.inside.hand; shelf = c.self.inside.shelf.items; outbox = c.self.inside.outbox.items; notes = c.self.inside.notes.items; count = c.self.inside.count; kept = c.self.inside.kept }) c.in-Some.field-0 (Element c.in-Element.element) c.in-Some.field-0.address
-in_element g c = record { view_is = sym c.self.view_is; in_hand = sym c.take.ensures.value ∙ c.in-Some.is; parcel_is = c.in-Element.is; look_is = refl }
+in_element : (g : _) (c : goal.After-act_on_element g) → Holds c.args.self.now (record { me = c.end.inside.me; n = c.end.inside.n; room = c.end.inside.room; hand = c.end.inside.hand; shelf = c.end.inside.shelf.items; outbox = c.end.inside.outbox.items; notes = c.end.inside.notes.items; count = c.end.inside.count; kept = c.end.inside.kept }) c.in-Some.field-0 (Element c.in-Element.element) c.in-Some.field-0.address
+in_element g c = record { view_is = sym (c.end.view_is ∙ c.self.view_is); in_hand = sym c.take.ensures.value ∙ c.in-Some.is; parcel_is = c.in-Element.is; look_is = refl }
 
 pub returns-in-Element-clause-answer : goal.returns-in-Element-clause-answer
 returns-in-Element-clause-answer g c = rw (acting_on_element g.C.Chare.step g.C.Pup.pack g.C.Pup.unpack _ _ c.take.new.self _ _ _ (in_element g c)) c.act_on_element.ensures.answer
@@ -57,49 +58,52 @@ returns-in-Letter-clause-refused g c = rw (refuses_letter g.C.Chare.refuses _ _ 
 pub returns-in-Element-clause-refused : goal.returns-in-Element-clause-refused
 returns-in-Element-clause-refused g c = memory_refuses (RefusesAct g.C.Chare.refuses c.args.self.now) _ c.act_on_element.ensures.only_memory
 
+pub invariant_of-end : goal.invariant_of-end
+invariant_of-end g c = (c.end.invariant.0, c.end.invariant.1)
+
 pub invariant_of-self : goal.invariant_of-self
 invariant_of-self g c =
-    let i = c.self.invariant in
-    (emptied_holds g.C.Chare.step g.C.Pup.fits g.C.Pup.pack g.H.Openings.opened _ _ c.in_default.ensures.after i.0, i.1, i.2, i.3, i.4, subst (λ h. IsHandBelow g.H.Openings.pes h) (sym c.in_default.ensures.after) tt, i.6, i.7, i.8)
+    let i = same_run c.end.view_is c.self.invariant.1 in
+    (c.self.invariant.0, record { histories = emptied_holds g.C.Chare.step g.C.Pup.fits g.C.Pup.pack g.H.Openings.opened _ _ c.in_default.ensures.after i.histories; few = i.few; me = i.me; hand = subst (λ h. IsHandBelow g.H.Openings.pes h) (sym c.in_default.ensures.after) tt; outbox = i.outbox; kept = i.kept })
 
 pub returns-in_default-clause-answer : goal.returns-in_default-clause-answer
 returns-in_default-clause-answer g c =
-    let nothing = idle g.C.Chare.step g.C.Pup.pack g.C.Pup.unpack c.args.self.now _ c.self.view_is c.in_default.ensures.value in
+    let nothing = idle g.C.Chare.step g.C.Pup.pack g.C.Pup.unpack c.args.self.now _ (c.end.view_is ∙ c.self.view_is) c.in_default.ensures.value in
     sym (ap acted_of nothing)
 
 pub returns-in_default-clause-ok : goal.returns-in_default-clause-ok
 returns-in_default-clause-ok g c =
-    let nothing = idle g.C.Chare.step g.C.Pup.pack g.C.Pup.unpack c.args.self.now _ c.self.view_is c.in_default.ensures.value in
-    same_hand c.args.self.now _ c.take.new.self c.self.view_is c.in_default.ensures.after c.in_default.ensures.value ∙ sym (ap (pe_after c.args.self.now) nothing)
+    let nothing = idle g.C.Chare.step g.C.Pup.pack g.C.Pup.unpack c.args.self.now _ (c.end.view_is ∙ c.self.view_is) c.in_default.ensures.value in
+    same_hand c.args.self.now _ c.take.new.self (c.end.view_is ∙ c.self.view_is) c.in_default.ensures.after c.in_default.ensures.value ∙ sym (ap (pe_after c.args.self.now) nothing)
 
 pub returns-in_default-clause-trace : goal.returns-in_default-clause-trace
 returns-in_default-clause-trace g c =
-    let nothing = idle g.C.Chare.step g.C.Pup.pack g.C.Pup.unpack c.args.self.now _ c.self.view_is c.in_default.ensures.value in
+    let nothing = idle g.C.Chare.step g.C.Pup.pack g.C.Pup.unpack c.args.self.now _ (c.end.view_is ∙ c.self.view_is) c.in_default.ensures.value in
     rw nothing (traced_none c.args.tracing c.args.trace.now.items)
 
 pub invariant_of-self-in-Letter : goal.invariant_of-self-in-Letter
 invariant_of-self-in-Letter g c =
-    let i = c.self.invariant in
-    (emptied_holds g.C.Chare.step g.C.Pup.fits g.C.Pup.pack g.H.Openings.opened _ _ c.in-Some.ensures.after i.0, i.1, i.2, i.3, i.4, subst (λ h. IsHandBelow g.H.Openings.pes h) (sym c.in-Some.ensures.after) tt, i.6, i.7, i.8)
+    let i = same_run c.end.view_is c.self.invariant.1 in
+    (c.self.invariant.0, record { histories = emptied_holds g.C.Chare.step g.C.Pup.fits g.C.Pup.pack g.H.Openings.opened _ _ c.in-Some.ensures.after i.histories; few = i.few; me = i.me; hand = subst (λ h. IsHandBelow g.H.Openings.pes h) (sym c.in-Some.ensures.after) tt; outbox = i.outbox; kept = i.kept })
 
 pub invariant_of-self-in-Element : goal.invariant_of-self-in-Element
 invariant_of-self-in-Element g c =
-    let i = c.self.invariant in
-    (emptied_holds g.C.Chare.step g.C.Pup.fits g.C.Pup.pack g.H.Openings.opened _ _ c.in-Some.ensures.after i.0, i.1, i.2, i.3, i.4, subst (λ h. IsHandBelow g.H.Openings.pes h) (sym c.in-Some.ensures.after) tt, i.6, i.7, i.8)
+    let i = same_run c.end.view_is c.self.invariant.1 in
+    (c.self.invariant.0, record { histories = emptied_holds g.C.Chare.step g.C.Pup.fits g.C.Pup.pack g.H.Openings.opened _ _ c.in-Some.ensures.after i.histories; few = i.few; me = i.me; hand = subst (λ h. IsHandBelow g.H.Openings.pes h) (sym c.in-Some.ensures.after) tt; outbox = i.outbox; kept = i.kept })
 
 pub act_on_letter-requires-clause-empty : goal.act_on_letter-requires-clause-empty
 act_on_letter-requires-clause-empty g c = c.in-Some.ensures.after
 
 pub act_on_letter-requires-clause-below : goal.act_on_letter-requires-clause-below
-act_on_letter-requires-clause-below g c = subst (λ h. IsHandBelow g.H.Openings.pes h) (sym c.in-Some.ensures.value) c.self.invariant.5
+act_on_letter-requires-clause-below g c = subst (λ h. IsHandBelow g.H.Openings.pes h) (sym c.in-Some.ensures.value) (same_run c.end.view_is c.self.invariant.1).hand
 
 pub act_on_element-requires-clause-empty : goal.act_on_element-requires-clause-empty
 act_on_element-requires-clause-empty g c = c.in-Some.ensures.after
 
 pub act_on_element-requires-clause-below : goal.act_on_element-requires-clause-below
-act_on_element-requires-clause-below g c = subst (λ h. IsHandBelow g.H.Openings.pes h) (sym c.in-Some.ensures.value) c.self.invariant.5
+act_on_element-requires-clause-below g c = subst (λ h. IsHandBelow g.H.Openings.pes h) (sym c.in-Some.ensures.value) (same_run c.end.view_is c.self.invariant.1).hand
 
 pub act_on_element-requires-clause-consistent : goal.act_on_element-requires-clause-consistent
 act_on_element-requires-clause-consistent g c =
-    let taken : IsParcelHistory g.C.Chare.step g.C.Pup.fits g.C.Pup.pack g.H.Openings.opened c.in-Some.field-0.parcel = subst (λ (o : Option Item). IfSome o (λ x. IsParcelHistory g.C.Chare.step g.C.Pup.fits g.C.Pup.pack g.H.Openings.opened x.parcel)) (sym c.in-Some.ensures.value) c.self.invariant.0.hand in
+    let taken : IsParcelHistory g.C.Chare.step g.C.Pup.fits g.C.Pup.pack g.H.Openings.opened c.in-Some.field-0.parcel = subst (λ (o : Option Item). IfSome o (λ x. IsParcelHistory g.C.Chare.step g.C.Pup.fits g.C.Pup.pack g.H.Openings.opened x.parcel)) (sym c.in-Some.ensures.value) (same_run c.end.view_is c.self.invariant.1).histories.hand in
     subst (λ (p : Parcel). IsParcelHistory g.C.Chare.step g.C.Pup.fits g.C.Pup.pack g.H.Openings.opened p) c.in-Element.is taken

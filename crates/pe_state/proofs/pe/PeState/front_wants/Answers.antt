@@ -8,7 +8,8 @@ returns-in_err-front g c =
     record {
       value =
           c.from_residual.ensures
-          ∙ none_wanted c.self.inside.outbox.items (λ some. c.in_err-front.ensures.variant.1 (omega (arith, some)))
+          ∙ none_wanted c.outbox.result.now.items (λ some. c.in_err-front.ensures.variant.1 (omega (arith, some)))
+          ∙ ap front_wants c.outbox.ensures.value
           ∙ ap (λ (p : PeView g.row.C.Denot). front_wants p.outbox) c.self.view_is;
     }
 
@@ -17,6 +18,7 @@ returns g c =
     record {
       value =
           c.unaddressed.ensures.value
-          ∙ front_wants_is c.self.inside.outbox.items c.in_ok-front.front.now c.in_ok-front.ensures.lookup (omega (arith, c.in_ok-front.ensures.variant.0 refl))
+          ∙ front_wants_is c.outbox.result.now.items c.in_ok-front.front.now c.in_ok-front.ensures.lookup (omega (arith, c.in_ok-front.ensures.variant.0 refl))
+          ∙ ap front_wants c.outbox.ensures.value
           ∙ ap (λ (p : PeView g.row.C.Denot). front_wants p.outbox) c.self.view_is;
     }

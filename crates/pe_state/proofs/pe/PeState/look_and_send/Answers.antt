@@ -3,18 +3,22 @@ use Rattle.pe_state.specs.Pes.{PeView, front_parcel}
 use Rattle.pe_state.proofs.Below.{rest_below}
 use Rattle.pe_state.proofs.Fronts.{looked_and_gave_up}
 use Rattle.pe_state.proofs.Histories.{still_holds, gave_up_holds, first_holds}
+use Rattle.pe_state.proofs.Runs.{same_run}
 use Rattle.pe_state.proofs.pe.PeState.look_and_send.Goals as goal
 
 pub returns-clause-ok : goal.returns-clause-ok
-returns-clause-ok g c = looked_and_gave_up c.args.self.now _ c.args.believed _ _ c.self.view_is c.requires.idle c.in-Some.ensures.items
+returns-clause-ok g c = looked_and_gave_up c.args.self.now _ c.args.believed _ _ (c.end.view_is ∙ c.self.view_is) c.requires.idle c.in-Some.ensures.items
 
-pub invariant_of-self : goal.invariant_of-self
-invariant_of-self g c =
-    let i = c.self.invariant in
-    (still_holds (gave_up_holds g.C.Chare.step g.C.Pup.fits g.C.Pup.pack g.H.Openings.opened _ i.0) refl refl refl (sym (ap (drop 1) c.in-Some.ensures.items)), i.1, i.2, i.3, i.4, i.5, rest_below _ _ _ _ c.in-Some.ensures.items i.6, c.requires.known, λ k. omega (arith, c.in-Some.ensures.len, c.in-Some.ensures.capacity))
+pub invariant_of-end-2 : goal.invariant_of-end-2
+invariant_of-end-2 g c = (c.end.invariant.0, λ k. omega (arith, c.in-Some.ensures.len, c.in-Some.ensures.capacity))
+
+pub invariant_of-self-2 : goal.invariant_of-self-2
+invariant_of-self-2 g c =
+    let i = same_run c.end.view_is c.self.invariant.1 in
+    (c.self.invariant.0, record { histories = still_holds (gave_up_holds g.C.Chare.step g.C.Pup.fits g.C.Pup.pack g.H.Openings.opened _ i.histories) refl refl refl (sym (ap (drop 1) c.in-Some.ensures.items)); few = i.few; me = i.me; hand = i.hand; outbox = rest_below _ _ _ _ c.in-Some.ensures.items i.outbox; kept = c.requires.known })
 
 pub returns-clause-value : goal.returns-clause-value
-returns-clause-value g c = ap (λ (p : PeView g.row.C.Denot). front_parcel p.outbox) (sym c.self.view_is) ∙ ap front_parcel c.in-Some.ensures.items ∙ ap Some (sym c.into_parcel.ensures.value)
+returns-clause-value g c = ap (λ (p : PeView g.row.C.Denot). front_parcel p.outbox) (sym (c.end.view_is ∙ c.self.view_is)) ∙ ap front_parcel c.in-Some.ensures.items ∙ ap Some (sym c.into_parcel.ensures.value)
 
 pub into_parcel-requires : goal.into_parcel-requires
-into_parcel-requires g c = record { history = first_holds g.C.Chare.step g.C.Pup.fits g.C.Pup.pack g.H.Openings.opened _ _ _ c.in-Some.ensures.items c.self.invariant.0.outbox }
+into_parcel-requires g c = record { history = first_holds g.C.Chare.step g.C.Pup.fits g.C.Pup.pack g.H.Openings.opened _ _ _ c.in-Some.ensures.items (same_run c.end.view_is c.self.invariant.1).histories.outbox }

@@ -1,11 +1,15 @@
 use Rattle.std.proofs.Common.{rules, refl}
 use Rattle.pe_state.proofs.Histories.{still_holds}
+use Rattle.pe_state.proofs.Runs.{same_run}
 use Rattle.pe_state.proofs.pe.PeState.note_done.Goals as goal
 
 pub returns : goal.returns
 returns g c = search rules
 
+pub invariant_of-end : goal.invariant_of-end
+invariant_of-end g c = (c.end.invariant.0, λ k. absurd (cc))
+
 pub invariant_of-self : goal.invariant_of-self
 invariant_of-self g c =
-    let i = c.self.invariant in
-    (still_holds i.0 refl refl refl refl, i.1, i.2, i.3, i.4, i.5, i.6, tt, λ k. absurd (cc))
+    let i = same_run c.end.view_is c.self.invariant.1 in
+    (c.self.invariant.0, record { histories = still_holds i.histories refl refl refl refl; few = i.few; me = i.me; hand = i.hand; outbox = i.outbox; kept = tt })

@@ -7,21 +7,25 @@ use Rattle.pe_state.proofs.Acting.{whatever}
 use Rattle.pe_state.proofs.Below.{posted_below}
 use Rattle.pe_state.proofs.Handling.{handled_is}
 use Rattle.pe_state.proofs.Histories.{still_holds, handler_holds, member_of}
-use Rattle.pe_state.proofs.Keeping.{same_view, outbox_below, place_stays, no_answer, out_of_memory, refused_so}
+use Rattle.pe_state.proofs.Keeping.{same_view, outbox_below, no_answer, out_of_memory, refused_so}
+use Rattle.pe_state.proofs.Runs.{same_run}
 use Rattle.pe_state.proofs.pe.PeState.resume_with.Goals as goal
 
 -- no memory for a note
 
+pub invariant_of-end : goal.invariant_of-end
+invariant_of-end g c = (c.end.invariant.0, c.end.invariant.1)
+
 pub invariant_of-self : goal.invariant_of-self
 invariant_of-self g c =
-    let i = c.self.invariant in
-    (still_holds i.0 refl refl refl refl, i.1, i.2, i.3, i.4, i.5, i.6, i.7, i.8)
+    let i = same_run c.end.view_is c.self.invariant.1 in
+    (c.self.invariant.0, record { histories = still_holds i.histories refl refl refl refl; few = i.few; me = i.me; hand = i.hand; outbox = i.outbox; kept = i.kept })
 
 pub returns-in_err-reserve-clause-ok : goal.returns-in_err-reserve-clause-ok
 returns-in_err-reserve-clause-ok g c = no_answer _ _ c.from_residual.ensures.0
 
 pub returns-in_err-reserve-clause-err : goal.returns-in_err-reserve-clause-err
-returns-in_err-reserve-clause-err g c = whatever _ _ (same_view _ _ _ _ _ _ refl refl c.reserve.ensures.items refl c.self.view_is)
+returns-in_err-reserve-clause-err g c = whatever _ _ (same_view _ _ _ _ _ _ refl refl c.reserve.ensures.items refl (c.end.view_is ∙ c.self.view_is))
 
 pub returns-in_err-reserve-clause-refused : goal.returns-in_err-reserve-clause-refused
 returns-in_err-reserve-clause-refused g c = out_of_memory (RefusesResume g.C.Chare.refuses c.args.self.now c.args.index c.args.round) _ c.from_residual.ensures.1
@@ -36,14 +40,14 @@ returns-in_err-reserve-clause-same_trace g c = whatever _ _ refl
 
 pub invariant_of-self-in_err-reserve-2 : goal.invariant_of-self-in_err-reserve-2
 invariant_of-self-in_err-reserve-2 g c =
-    let i = c.self.invariant in
-    (still_holds i.0 refl refl refl c.reserve-2.ensures.items, i.1, i.2, i.3, i.4, i.5, outbox_below _ _ _ c.reserve-2.ensures.items i.6, i.7, λ k. place_stays _ _ _ _ c.reserve-2.ensures.len c.reserve-2.ensures.capacity (i.8 k))
+    let i = same_run c.end.view_is c.self.invariant.1 in
+    (c.self.invariant.0, record { histories = still_holds i.histories refl refl refl c.reserve-2.ensures.items; few = i.few; me = i.me; hand = i.hand; outbox = outbox_below _ _ _ c.reserve-2.ensures.items i.outbox; kept = i.kept })
 
 pub returns-in_err-reserve-2-clause-ok : goal.returns-in_err-reserve-2-clause-ok
 returns-in_err-reserve-2-clause-ok g c = no_answer _ _ c.from_residual-in_err-reserve-2.ensures.0
 
 pub returns-in_err-reserve-2-clause-err : goal.returns-in_err-reserve-2-clause-err
-returns-in_err-reserve-2-clause-err g c = whatever _ _ (same_view _ _ _ _ _ _ refl c.reserve-2.ensures.items c.reserve.ensures.items refl c.self.view_is)
+returns-in_err-reserve-2-clause-err g c = whatever _ _ (same_view _ _ _ _ _ _ refl c.reserve-2.ensures.items c.reserve.ensures.items refl (c.end.view_is ∙ c.self.view_is))
 
 pub returns-in_err-reserve-2-clause-refused : goal.returns-in_err-reserve-2-clause-refused
 returns-in_err-reserve-2-clause-refused g c = out_of_memory (RefusesResume g.C.Chare.refuses c.args.self.now c.args.index c.args.round) _ c.from_residual-in_err-reserve-2.ensures.1
@@ -55,15 +59,15 @@ pub returns-in_err-reserve-2-clause-same_trace : goal.returns-in_err-reserve-2-c
 returns-in_err-reserve-2-clause-same_trace g c = whatever _ _ refl
 
 pub resume-requires-clause-member : goal.resume-requires-clause-member
-resume-requires-clause-member g c = member_of c.args.index c.self.invariant.0
+resume-requires-clause-member g c = member_of c.args.index (same_run c.end.view_is c.self.invariant.1).histories
 
 -- the handler is refused
 
 pub invariant_of-self-in_err-note : goal.invariant_of-self-in_err-note
 invariant_of-self-in_err-note g c =
-    let i = c.self.invariant in
+    let i = same_run c.end.view_is c.self.invariant.1 in
     let a = c.in_err-note.ensures in
-    (still_holds i.0 refl a.same_room refl (a.same_outbox ∙ c.reserve-2.ensures.items), i.1, i.2, i.3, a.numbered, i.5, outbox_below _ _ _ (a.same_outbox ∙ c.reserve-2.ensures.items) i.6, i.7, λ k. a.place)
+    (c.self.invariant.0, record { histories = still_holds i.histories refl a.same_room refl (a.same_outbox ∙ c.reserve-2.ensures.items); few = i.few; me = i.me; hand = i.hand; outbox = outbox_below _ _ _ (a.same_outbox ∙ c.reserve-2.ensures.items) i.outbox; kept = i.kept })
 
 pub returns-in_err-note-clause-ok : goal.returns-in_err-note-clause-ok
 returns-in_err-note-clause-ok g c = no_answer _ _ c.from_residual-in_err-note.ensures.0
@@ -71,12 +75,12 @@ returns-in_err-note-clause-ok g c = no_answer _ _ c.from_residual-in_err-note.en
 pub returns-in_err-note-clause-err : goal.returns-in_err-note-clause-err
 returns-in_err-note-clause-err g c =
     let a = c.in_err-note.ensures in
-    whatever _ _ (same_view _ _ _ _ _ _ a.same_room (a.same_outbox ∙ c.reserve-2.ensures.items) c.reserve.ensures.items a.same_count c.self.view_is)
+    whatever _ _ (same_view _ _ _ _ _ _ a.same_room (a.same_outbox ∙ c.reserve-2.ensures.items) c.reserve.ensures.items a.same_count (c.end.view_is ∙ c.self.view_is))
 
 pub returns-in_err-note-clause-refused : goal.returns-in_err-note-clause-refused
 returns-in_err-note-clause-refused g c =
     refused_so (RefusesResume g.C.Chare.refuses c.args.self.now c.args.index c.args.round) _ _ c.from_residual-in_err-note.ensures.1
-    (λ k. subst (λ (v : PeView g.row.C.Denot). RefusesResume g.C.Chare.refuses v c.args.index c.args.round c.in_err-note.field-0.0) c.self.view_is (c.in_err-note.ensures.refused k))
+    (λ k. subst (λ (v : PeView g.row.C.Denot). RefusesResume g.C.Chare.refuses v c.args.index c.args.round c.in_err-note.field-0.0) (c.end.view_is ∙ c.self.view_is) (c.in_err-note.ensures.refused k))
 
 pub returns-in_err-note-clause-trace : goal.returns-in_err-note-clause-trace
 returns-in_err-note-clause-trace g c = no_answer _ _ c.from_residual-in_err-note.ensures.0
@@ -86,20 +90,25 @@ returns-in_err-note-clause-same_trace g c = whatever _ _ c.in_err-note.ensures.s
 
 -- the handler answers
 
+pub invariant_of-end-2 : goal.invariant_of-end-2
+invariant_of-end-2 g c =
+    let a = c.in_ok-note.ensures in
+    (a.numbered, λ k. a.place)
+
 pub invariant_of-self-2 : goal.invariant_of-self-2
 invariant_of-self-2 g c =
-    let i = c.self.invariant in
+    let i = same_run c.end.view_is c.self.invariant.1 in
     let a = c.in_ok-note.ensures in
-    let after = handler_holds g.C.Chare.step g.C.Pup.fits g.C.Pup.pack g.H.Openings.opened c.args.index (Resumption c.args.round) _ _ i.0 i.0.hand refl a.room refl c.reserve-2.ensures.items a.outbox in
-    (after, i.1, i.2, i.3, a.numbered, i.5, outbox_below _ _ _ a.outbox (posted_below _ c.self.inside.me c.self.inside.count c.reserve-2.new.self.items _ (outbox_below _ _ _ c.reserve-2.ensures.items i.6)), tt, λ k. a.place)
+    let after = handler_holds g.C.Chare.step g.C.Pup.fits g.C.Pup.pack g.H.Openings.opened c.args.index (Resumption c.args.round) _ _ i.histories i.histories.hand refl a.room refl c.reserve-2.ensures.items a.outbox in
+    (c.self.invariant.0, record { histories = after; few = i.few; me = i.me; hand = i.hand; outbox = outbox_below _ _ _ a.outbox (posted_below _ c.end.inside.me c.end.inside.count c.reserve-2.new.self.items _ (outbox_below _ _ _ c.reserve-2.ensures.items i.outbox)); kept = tt })
 
 pub returns-clause-ok : goal.returns-clause-ok
 returns-clause-ok g c =
     let a = c.in_ok-note.ensures in
     handled_is g.C.Chare.step g.C.Pup.pack _ _ c.args.index (Resumption c.args.round) c.args.self.now.hand _ _ _ _ _ _ _
-    c.self.view_is (ap (λ p. p.hand) c.self.view_is) a.room c.reserve-2.ensures.items a.outbox c.reserve.ensures.items a.note c.owe.ensures.owed a.count
+    (c.end.view_is ∙ c.self.view_is) (ap (λ p. p.hand) (c.end.view_is ∙ c.self.view_is)) a.room c.reserve-2.ensures.items a.outbox c.reserve.ensures.items a.note c.owe.ensures.owed a.count
 
 pub returns-clause-trace : goal.returns-clause-trace
 returns-clause-trace g c =
     c.in_ok-note.ensures.trace
-    ∙ ap (λ (v : PeView g.row.C.Denot). traced c.args.tracing c.args.trace.now.items (resume_entries g.C.Chare.step g.C.Pup.pack v c.args.index c.args.round)) c.self.view_is
+    ∙ ap (λ (v : PeView g.row.C.Denot). traced c.args.tracing c.args.trace.now.items (resume_entries g.C.Chare.step g.C.Pup.pack v c.args.index c.args.round)) (c.end.view_is ∙ c.self.view_is)
