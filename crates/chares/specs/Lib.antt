@@ -1,5 +1,6 @@
 pub mod Bodies
 pub mod Elements
+pub mod Journals
 pub mod Keeping
 pub mod Letters
 pub mod Posting

@@ -11,7 +11,7 @@ ghost use Rattle.chares.specs.Posting.{with_execution, with_resumption};
 ghost use Rattle.chares.specs.Progressing.{note_at, synced_mark};
 
 use crate::chare::{Chare, Here};
-use crate::entry::Entry;
+use crate::journal::Journal;
 use crate::kept_mark::KeptMark;
 use crate::letter::Letter;
 use crate::note::Note;
@@ -29,7 +29,7 @@ use std::marker::Model;
 pub struct Element<C: Chare<A>, A: Allocator = Global> {
     index: Index,
     chare: C,
-    journal: Vec<Entry<Letter<A>>, A>,
+    journal: Journal<A>,
     progress: Progress,
     marks: Vec<KeptMark, A>,
 }
@@ -41,7 +41,7 @@ impl<C: Chare<A>, A: Allocator> Model for Element<C, A> {
 
     ghost Value = { ElementView C };
 
-    ghost view = { λ e. record { index = e.index; chare = e.chare; journal = e.journal.items; progress = e.progress; marks = e.marks.items } };
+    ghost view = { λ e. record { index = e.index; chare = e.chare; journal = e.journal.entries; progress = e.progress; marks = e.marks.items } };
 
     ghost invariant = { λ e. e.progress.round < ROUND };
 }
@@ -56,7 +56,7 @@ impl<C: Chare<A>, A: Allocator> Element<C, A> {
         Element {
             index,
             chare,
-            journal: Vec::new(alloc),
+            journal: Journal::new(alloc),
             progress: Progress::opening(),
             marks: Vec::new(alloc),
         }
@@ -84,10 +84,10 @@ impl<C: Chare<A>, A: Allocator> Element<C, A> {
     }
 
     /// The letters and resumptions that it has handled, in order.
-    pub fn journal(&self) -> &[Entry<Letter<A>>]
-        ensures value { result.now ≡ self.now.journal }
+    pub fn journal(&self) -> &Journal<A>
+        ensures value { result.now.entries ≡ self.now.journal }
     {
-        self.journal.as_slice()
+        &self.journal
     }
 
     /// How far it has come.
@@ -108,9 +108,9 @@ impl<C: Chare<A>, A: Allocator> Element<C, A> {
 
 impl<C: Chare<A>, A: Allocator> Element<C, A> {
     /// All but its chare, which is dropped.
-    pub(crate) fn into_parts(self) -> (Index, Vec<Entry<Letter<A>>, A>, Progress, Vec<KeptMark, A>)
+    pub(crate) fn into_parts(self) -> (Index, Journal<A>, Progress, Vec<KeptMark, A>)
         ensures index { result.0 ≡ self.index }
-        ensures journal { result.1.items ≡ self.journal }
+        ensures journal { result.1.entries ≡ self.journal }
         ensures progress { result.2 ≡ self.progress }
         ensures marks { result.3.items ≡ self.marks }
         ensures before_last_round { self.progress.round < ROUND }
@@ -129,12 +129,12 @@ impl<C: Chare<A>, A: Allocator> Element<C, A> {
     pub(crate) fn from_parts(
         index: Index,
         chare: C,
-        journal: Vec<Entry<Letter<A>>, A>,
+        journal: Journal<A>,
         progress: Progress,
         marks: Vec<KeptMark, A>,
     ) -> Self
         requires before_last_round { progress.round < ROUND }
-        ensures value { result ≡ record { index = index; chare = chare; journal = journal.items; progress = progress; marks = marks.items } }
+        ensures value { result ≡ record { index = index; chare = chare; journal = journal.entries; progress = progress; marks = marks.items } }
     {
         Element {
             index,
@@ -175,7 +175,7 @@ impl<C: Chare<A>, A: Allocator> Element<C, A> {
         ensures refused { IfErr result (λ unread. MayReturn C.refuses self.old sends.old.n sends.old.count (Entry.Letter letter.body) unread.error) }
         ensures taken_back { OnErr result (sends.new ≡ sends.old) }
     {
-        if self.journal.reserve(1).is_err() || self.marks.reserve(1).is_err() {
+        if self.journal.reserve_letter().is_err() || self.marks.reserve(1).is_err() {
             let error = SendError::OutOfMemory;
             return Err(Unread { letter, error });
         }
@@ -204,9 +204,7 @@ impl<C: Chare<A>, A: Allocator> Element<C, A> {
         let ending = progress.ending(effect);
         let note = owed(&self.chare, &progress, ending, self.index, pe);
         self.progress = progress.ended(ending);
-        let Ok(()) = self.journal.push(Entry::Letter(letter)) else {
-            unreachable!()
-        };
+        self.journal.push_letter(letter);
         mark(&mut self.marks, &note);
         Ok(note)
     }
@@ -230,7 +228,7 @@ impl<C: Chare<A>, A: Allocator> Element<C, A> {
         ensures refused { IfErr result (λ error. MayReturn C.refuses self.old sends.old.n sends.old.count (Entry.Resumption round) error) }
         ensures taken_back { OnErr result (sends.new ≡ sends.old) }
     {
-        self.journal.reserve(1)?;
+        self.journal.reserve_resumption()?;
         self.marks.reserve(2)?;
         let (count, waiting, logged) = (sends.count(), sends.waiting(), sends.logged());
         sends.log(TraceEntry::Resumed(self.index, round))?;
@@ -251,9 +249,7 @@ impl<C: Chare<A>, A: Allocator> Element<C, A> {
         let note = owed(&self.chare, &progress, ending, self.index, pe);
         self.progress = progress.ended(ending);
         let kept = KeptMark::resumed(round, pe);
-        let Ok(()) = self.journal.push(Entry::Resumption(round)) else {
-            unreachable!()
-        };
+        self.journal.push_resumption(round);
         let Ok(()) = self.marks.push(kept) else {
             unreachable!()
         };

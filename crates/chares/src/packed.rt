@@ -6,9 +6,8 @@ ghost use Rattle.chares.specs.Elements.{ElementView, PackedView, packed, unpacke
 
 use crate::chare::{Chare, Openings};
 use crate::element::Element;
-use crate::entry::Entry;
+use crate::journal::Journal;
 use crate::kept_mark::KeptMark;
-use crate::letter::Letter;
 use crate::progress::Progress;
 use chare_index::Index;
 use pup_pack::PupError;
@@ -20,7 +19,7 @@ use std::marker::{Model, PhantomData};
 struct Luggage<A: Allocator> {
     index: Index,
     bytes: Vec<u8, A>,
-    journal: Vec<Entry<Letter<A>>, A>,
+    journal: Journal<A>,
     progress: Progress,
     marks: Vec<KeptMark, A>,
 }
@@ -43,7 +42,7 @@ impl<A: Allocator> Model for Packed<A> {
     ghost view = { λ e. record {
       index = e.luggage.value.index;
       bytes = e.luggage.value.bytes.items;
-      journal = e.luggage.value.journal.items;
+      journal = e.luggage.value.journal.entries;
       progress = e.luggage.value.progress;
       marks = e.luggage.value.marks.items;
     } };
@@ -67,10 +66,10 @@ impl<A: Allocator> Packed<A> {
     }
 
     /// The letters and resumptions that it has handled, in order.
-    pub fn journal(&self) -> &[Entry<Letter<A>>]
-        ensures value { result.now ≡ self.now.journal }
+    pub fn journal(&self) -> &Journal<A>
+        ensures value { result.now.entries ≡ self.now.journal }
     {
-        self.luggage.journal.as_slice()
+        &self.luggage.journal
     }
 
     /// How far it has come.
@@ -182,8 +181,8 @@ impl<C: Chare<A>, H: Openings<C>, A: Allocator> PackedElement<C, H, A> {
     }
 
     /// The letters and resumptions that it has handled, in order.
-    pub fn journal(&self) -> &[Entry<Letter<A>>]
-        ensures value { result.now ≡ self.now.journal }
+    pub fn journal(&self) -> &Journal<A>
+        ensures value { result.now.entries ≡ self.now.journal }
     {
         self.packed.journal()
     }
@@ -234,7 +233,7 @@ impl<A: Allocator> Packing<A> {
         let luggage = Luggage {
             index: element.index(),
             bytes,
-            journal: Vec::new(alloc),
+            journal: Journal::new(alloc),
             progress: element.progress(),
             marks: Vec::new(alloc),
         };
