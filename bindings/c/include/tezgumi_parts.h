@@ -9,14 +9,14 @@
  *   2. tezgumi_part_limits, tezgumi_part_walk, tezgumi_part_narrow: closer limits. A message with the state of up to 64 walks,
  *      one for each limit that is tried, goes from part to part in the order of the chain, and from the last one to all.
  *      May be done again, or left out.
- *   3. tezgumi_part_ends: two more walks, within low - 1 and within high, and where their blocks end in each part. The ends of
- *      all parts, and the number of elements for each block that is not closed behind the last part, are windows: end b of the
+ *   3. tezgumi_part_ends: two more walks, within low - 1 (where low is not 0) and within high, and where their blocks end in
+ *      each part. The ends of all parts, and the number of elements for each block that is not closed behind the last part, are windows: end b of the
  *      first walk to end b of the second.
  *   4. tezgumi_part_merge: the runs of a part, of which each element in a window begins one. Those of all parts, one behind the
  *      other, are the merged chain, which everybody gets.
  *   5. tezgumi_divide: divides the merged chain. With the first element of the run in place of each cut and stop, this is the
  *      division of the chain. (Where low and high meet in step 2, the ends of the walk within high, behind a 0, are the
- *      cuts, those of the other are the stops, and nothing need be merged.)
+ *      cuts, those of the other are the stops, of which there are none where both are 0, and nothing need be merged.)
  *   6. tezgumi_part_loads: what a part has of each block, and of each range of the fence. Added up over all parts they are what
  *      tezgumi_check_division takes. This alone is the proof: whatever went wrong before, where it answers TEZGUMI_OK the
  *      division is least. Where it does not, go back to step 3 with the limits of step 1.
@@ -25,11 +25,11 @@
  *
  * These are exports, as those of tezgumi.h: what they answer is proved, lists are pointers and lengths in elements, memory is
  * taken and given back by malloc, realloc and free, and the caller owes what tezgumi.h says. pes is the number of blocks and of
- * processes, 1 to 65,536; loads are in any unit, and those of all elements add up to less than 2^63.
+ * processes, 1 to 65,536 where loads are read; loads are in any unit, and those of all elements add up to less than 2^63.
  *
  * What a call answers, where it does not say otherwise: TEZGUMI_OK; TEZGUMI_BAD_INPUT, where a length is not what the call names,
- * pes is 0 or too great, bounds or windows are not in order, or elements have numbers of 2^32 - 1 or more; TEZGUMI_BAD_LOAD, where
- * the loads, or the total, add up to 2^63 or more; TEZGUMI_NO_MEMORY. After a refusal nothing is written.
+ * pes is 0 or too great, windows are not in order, or elements have numbers of 2^32 - 1 or more; TEZGUMI_BAD_LOAD, where the loads,
+ * or the total, add up to 2^63 or more; TEZGUMI_NO_MEMORY. After a refusal nothing is written.
  */
 #ifndef TEZGUMI_PARTS_H
 #define TEZGUMI_PARTS_H
@@ -42,14 +42,14 @@ extern "C" {
 
 #define TEZGUMI_PART_PES 65536u /* the greatest number of blocks of a division */
 #define TEZGUMI_NAMED_PES 4096u /* and of blocks that can be named by a table of bytes */
-#define TEZGUMI_PART_LIMITS 64u /* limits that tezgumi_part_limits chooses at most */
+#define TEZGUMI_PART_LIMITS 64u /* limits of one pass, as tezgumi_mpi.h has them: 65 times as close */
 
 /* The least possible load of the heaviest block is *low .. *high, where the loads of all elements add up to total, and the
  * greatest of them is greatest. It takes no memory. */
 int32_t tezgumi_part_bounds(uint64_t total, uint64_t greatest, uint32_t pes, uint64_t *low, uint64_t *high);
 
 /* Chooses limits to try between low and high, evenly and in order: *limits_count of them, limits_len at most, and none where
- * low and high are the same. It takes no memory. */
+ * low and high are the same. It refuses bounds that are not in order. It takes no memory. */
 int32_t tezgumi_part_limits(uint64_t low, uint64_t high, uint64_t *limits, size_t limits_len, size_t *limits_count);
 
 /* Walks on over a part, with each of these limits: a block takes as many elements as fit within the limit, in order. closed
@@ -60,7 +60,7 @@ int32_t tezgumi_part_walk(
     uint32_t *closed, size_t closed_len, uint64_t *filled, size_t filled_len);
 
 /* Narrows the bounds by walks that have come behind the last part: a limit can hold all elements where fewer than pes blocks
- * are closed. It takes no memory. */
+ * are closed. It refuses the limit 2^64 - 1. It takes no memory. */
 int32_t tezgumi_part_narrow(
     uint32_t pes, const uint64_t *limits, size_t limits_len, const uint32_t *closed, size_t closed_len,
     uint64_t *low, uint64_t *high);
@@ -100,7 +100,7 @@ int32_t tezgumi_check_division(
     const uint32_t *stops, size_t stops_len, const uint64_t *block_loads, size_t block_loads_len,
     const uint64_t *fence_loads, size_t fence_loads_len);
 
-/* What a part has of each block, in bytes: held has one entry fewer than cuts. It takes no memory. */
+/* What a part has of each block, in bytes: held has one entry fewer than cuts, however many these are. It takes no memory. */
 int32_t tezgumi_part_held(
     const uint32_t *bytes, size_t bytes_len, uint32_t first, const uint32_t *cuts, size_t cuts_len,
     uint64_t *held, size_t held_len);
@@ -112,8 +112,8 @@ int32_t tezgumi_name(
     const uint64_t *held, size_t held_len, uint32_t pes, uint32_t *names, size_t names_len,
     int64_t *block_prices, size_t block_prices_len, int64_t *pe_prices, size_t pe_prices_len, uint64_t *moved);
 
-/* Checks names by the table of tezgumi_name: TEZGUMI_OK exactly where no other names move fewer bytes than these, which move
- * so many. Above 0: the first flaw, as tezgumi_check reports it. */
+/* Checks names by the table of tezgumi_name, with any pes but 0: TEZGUMI_OK exactly where these names move so many bytes and the
+ * prices prove that no others move fewer. Above 0: the first flaw, as tezgumi_check reports it. */
 int32_t tezgumi_check_names(
     const uint64_t *held, size_t held_len, uint32_t pes, const uint32_t *names, size_t names_len,
     const int64_t *block_prices, size_t block_prices_len, const int64_t *pe_prices, size_t pe_prices_len, uint64_t moved);

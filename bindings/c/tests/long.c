@@ -2,8 +2,9 @@
  * the prices added up here, so that no naming moves fewer bytes. */
 #define _DEFAULT_SOURCE
 #include "harness.h"
+#include <stdlib.h>
 #include <sys/mman.h>
-#include <tezgumi.h>
+#include <tezgumi_parts.h>
 
 enum { MILLION = 1000000 };
 
@@ -174,10 +175,57 @@ static void the_largest_room(void)
     test("all is given back", !d.room && !d.new_places);
 }
 
+/* As many blocks in parts as there may be, each of one element, and one more. */
+static void most_blocks(void)
+{
+    enum { BLOCKS = TEZGUMI_PART_PES };
+    static uint32_t cuts[BLOCKS + 2], stops[BLOCKS + 2];
+    static uint64_t of_blocks[BLOCKS], of_ranges[BLOCKS];
+    uint64_t bottleneck = 0;
+    size_t count = 0;
+    uint32_t i;
+    int apart = 1;
+    for (i = 0; i < BLOCKS; i++) loads[i] = 1;
+    same("65,536 blocks", tezgumi_divide(loads, BLOCKS, BLOCKS, &bottleneck, cuts, BLOCKS + 1, stops, BLOCKS + 1, &count), TEZGUMI_OK);
+    for (i = 0; i <= BLOCKS; i++) apart = apart && cuts[i] == i;
+    test("have an element each", bottleneck == 1 && apart && count == BLOCKS + 1);
+    same("their loads", tezgumi_part_loads(loads, BLOCKS, 0, BLOCKS, cuts, BLOCKS + 1, stops, count, of_blocks, BLOCKS, of_ranges, BLOCKS),
+        TEZGUMI_OK);
+    same("prove them least", tezgumi_check_division(BLOCKS, BLOCKS, bottleneck, cuts, BLOCKS + 1, stops, count, of_blocks, BLOCKS,
+        of_ranges, BLOCKS), TEZGUMI_OK);
+    same("65,537 blocks", tezgumi_divide(loads, BLOCKS, BLOCKS + 1, &bottleneck, cuts, BLOCKS + 2, stops, BLOCKS + 2, &count),
+        TEZGUMI_BAD_INPUT);
+}
+
+/* As many blocks as can be named by a table, each with a byte on the next PE alone, and one more. */
+static void most_names(void)
+{
+    enum { PES = TEZGUMI_NAMED_PES, MORE = PES + 1 };
+    static uint32_t names[MORE];
+    static int64_t of_blocks[MORE], of_pes[MORE];
+    uint64_t *held = (uint64_t *)calloc((size_t)MORE * MORE, sizeof *held), moved = 7;
+    uint32_t b;
+    int next = 1;
+    if (!held) {
+        test("a table of 4,097 PEs", 0);
+        return;
+    }
+    same("4,097 names", tezgumi_name(held, (size_t)MORE * MORE, MORE, names, MORE, of_blocks, MORE, of_pes, MORE, &moved), TEZGUMI_BAD_INPUT);
+    test("nothing is written", moved == 7);
+    for (b = 0; b < PES; b++) held[(size_t)b * PES + (b + 1) % PES] = 1;
+    same("4,096 names", tezgumi_name(held, (size_t)PES * PES, PES, names, PES, of_blocks, PES, of_pes, PES, &moved), TEZGUMI_OK);
+    for (b = 0; b < PES; b++) next = next && names[b] == (b + 1) % PES;
+    test("are those of the next PEs", next && moved == 0);
+    same("and are cheapest", tezgumi_check_names(held, (size_t)PES * PES, PES, names, PES, of_blocks, PES, of_pes, PES, 0), TEZGUMI_OK);
+    free(held);
+}
+
 int main(void)
 {
     by_search();
     too_many();
     the_largest_room();
+    most_blocks();
+    most_names();
     return failures != 0;
 }

@@ -104,6 +104,7 @@ static void the_plan(void)
     o.tolerance = 0;
     same("without a tolerance", refine(P, P, &o), TEZGUMI_OK);
     test("it is the plan", o.near_present == 0 && o.moved == 130 && o.least == 12 && are(o.cuts, 4, o.least_cuts));
+    test("of which the heaviest has 12, with its fence", o.bottleneck == 12 && o.stops_count == 4);
     test("and order, present cuts and steps are left", o.steps_count == 0 && are(o.order, 3, before.order)
         && are(o.present, 4, before.present) && !memcmp(o.step_starts, before.step_starts, sizeof o.step_starts));
     o = empty_output();

@@ -32,8 +32,6 @@ ghost use Rattle.lb_lists.specs.declared.scaling.ScaleError.TheVariants.{NotANum
 ghost use Rattle.lb_capi.specs.Calls.{claim_of, refine_status, refusal_status, room_of, run_of, refined_claim_of, scale_status, standing_room_of};
 
 mod parts;
-#[cfg(test)]
-mod tests;
 
 use lb_lists::{
     Claim, RefineError, RefinedClaim, Room, Run, RunError, ScaleError, StandingRoom, check_claim,

@@ -16,9 +16,11 @@
 //!    and [`tezgumi_check_names`] checks the names.
 //!
 //! A call returns 0, or -1 for bad input, then -3 where the loads add up to 2^63 or more, then -2 where memory was refused. After
-//! a refusal nothing was written. `pes` is the number of blocks, 1 to 65,536.
+//! a refusal nothing was written. `pes` is the number of blocks, 1 to 65,536; [`tezgumi_name`] takes up to 4,096, and
+//! [`tezgumi_part_held`] and [`tezgumi_check_names`] refuse no number as too great.
 
 ghost use Rattle.std.specs.Prelude.{◌≡◌, ◌≢◌, ◌↔◌, ◌⊎◌, ◌<◌, ◌≤◌, ◌+◌, ◌-◌, ◌/◌, ◌%◌, ◌^◌, ℕ, [], All, IsTrue, List, length, max, min, sum, take, drop, pos, negsuc};
+ghost use Rattle.block_assignment.specs.Table.{AreWithin};
 ghost use Rattle.chain_partition.specs.Chosen.{IsChosen};
 ghost use Rattle.chain_partition.specs.Search.{Enclose};
 ghost use Rattle.lb_certificates.specs.Certificate.{IsCertified};
@@ -34,9 +36,6 @@ ghost use Rattle.merged_chains.specs.Narrowing.{walk_at, AreBetween, AreSpread, 
 ghost use Rattle.merged_chains.specs.Totals.{IsGreatest};
 ghost use Rattle.merged_chains.specs.Walks.{EndsAt, WalksOn};
 ghost use Rattle.merged_chains.specs.Weights.{ArePartWeights, AreRangeLoads, HasWeightFlaw, IsWeighed, WhereWeights};
-
-#[cfg(test)]
-mod tests;
 
 use lb_lists::number_of;
 use merged_chains::{
@@ -200,6 +199,10 @@ pub extern "C" fn tezgumi_part_ends(
     ensures walked { result ≡ pos 0
         → EndsAt loads.now pes (walk_of limit closed.old filled.old) first (take ends_count.new ends.new) (walk_of limit closed.new filled.new) }
     ensures counted { result ≡ pos 0 → ends_count.new ≤ pes }
+    ensures few { result ≡ pos 0 → closed.new ≤ pes }
+    ensures fits { filled.old ≤ limit → filled.new ≤ limit }
+    ensures each { result ≡ pos 0 → closed.old ≤ pes → closed.old + ends_count.new ≡ closed.new }
+    ensures inside { result ≡ pos 0 → All (λ end. (first ≤ end) × (end ≤ first + length loads.now)) (take ends_count.new ends.new) }
     ensures behind { result ≡ pos 0 → drop ends_count.new ends.new ≡ drop ends_count.new ends.old }
     ensures input { result ≡ negsuc 0 ↔ ¬ (IsEndAsked loads.now first pes ends.old) }
     ensures load { result ≡ negsuc 2 ↔ (IsEndAsked loads.now first pes ends.old × (2 ^ 63 ≤ sum loads.now)) }
@@ -327,9 +330,9 @@ pub extern "C" fn tezgumi_part_loads(
 }
 
 /// Checks a division of `elements` elements by the loads of its blocks and of the ranges of its fence alone, whoever added them
-/// up: returns 0 where it is least, and otherwise the number of its first flaw, as `tezgumi_check` numbers them. The cuts and the
-/// stops may be any lists; no stops are the floor of a bottleneck of 0. It returns -1 where `pes` is not 1 to 65,536 or there are
-/// not `pes` loads of each kind, and -2 where memory for copies of the cuts and the stops was refused.
+/// up: returns 0 where it is right and its fence proves it least, and otherwise the number of its first flaw, as `tezgumi_check`
+/// numbers them. The cuts and the stops may be any lists; no stops are the floor of a bottleneck of 0. It returns -1 where `pes` is
+/// not 1 to 65,536 or there are not `pes` loads of each kind, and -2 where memory for copies of the cuts and the stops was refused.
 #[unsafe(no_mangle)]
 pub extern "C" fn tezgumi_check_division(
     alloc: Global,
@@ -371,9 +374,9 @@ pub extern "C" fn tezgumi_check_division(
     }
 }
 
-/// Writes how many bytes a part has of each block between these cuts: its elements' packed sizes. Those of all parts, a row for
-/// each, are what the names of the blocks are found from. It returns -1 where an element of the part has the number 2^32 - 1 or
-/// more, or there is not one cut more than entries in `held`.
+/// Writes how many bytes a part has of each block between these cuts: its elements' packed sizes. On each rank they are a column
+/// of the table that [`tezgumi_name`] takes. It returns -1 where an element of the part has the number 2^32 - 1 or more, or there
+/// is not one cut more than entries in `held`.
 #[unsafe(no_mangle)]
 pub extern "C" fn tezgumi_part_held(
     bytes: &[u32],
@@ -412,6 +415,7 @@ pub extern "C" fn tezgumi_name(
     ensures least { result ≡ pos 0 → IsFirstCheapest pes (held_moved pes held.now) names.new }
     ensures moved { result ≡ pos 0 → moved.new ≡ held_moved pes held.now names.new }
     ensures proved { result ≡ pos 0 → Proves pes (held_cost pes held.now) moved.new block_prices.new pe_prices.new }
+    ensures bounded { result ≡ pos 0 → (most : ℕ) → ((b p : ℕ) → b < pes → p < pes → held_cost pes held.now b p ≤ most) → AreWithin most block_prices.new pe_prices.new }
     ensures of_blocks { WhereHeld pes held.now (λ sizes cuts. result ≡ pos 0 → IsLeastNaming sizes cuts pes names.new) }
     ensures moved_of_blocks { WhereHeld pes held.now (λ sizes cuts. result ≡ pos 0 → moved.new ≡ bytes_moved sizes cuts names.new) }
     ensures input { result ≡ negsuc 0 ↔ ¬ (IsNamesAsked pes held.now names.old block_prices.old pe_prices.old) }

@@ -1,8 +1,13 @@
 -- Names of the blocks of a table.
-use Rattle.std.proofs.Common.{◌≡◌, ◌∙◌, ℕ, ◌*◌, List, ℤ, length, slice_index, subst, sym}
-use Rattle.std.specs.Prelude.{pos, ◌+ℤ◌, ◌≤ℤ◌}
+use Rattle.std.proofs.Common.{◌≡◌, ◌∙◌, ℕ, ◌+◌, ◌*◌, ◌/◌, ◌%◌, ◌<◌, ◌≤◌, List, ℤ, length, slice_index, arith, ap, subst, sym}
+use Rattle.std.proofs.Math.Nat.{mod-add-div, mod-lt, div-lt_iff_lt-mul}
+use Rattle.std.proofs.lemmas.Int.{ints}
+use Rattle.std.proofs.lemmas.List.{get_or_default}
+use Rattle.std.proofs.lemmas.List.Elements.{All-weaker}
+use Rattle.std.specs.Prelude.{pos, neg_ℤ, ◌+ℤ◌, ◌≤ℤ◌}
 use Rattle.block_assignment.specs.Held.{HasHeldCosts}
-use Rattle.block_assignment.specs.Table.{Table, cost_at}
+use Rattle.block_assignment.specs.Table.{Table, AreWithin, IsMatrix, cost_at, greatest}
+use Rattle.block_assignment.proofs.Prices.{greatest_small}
 use Rattle.lb_certificates.specs.Held.{held_cost, held_moved, IsHeld}
 use Rattle.lb_certificates.specs.Naming.{bytes_moved, naming_cost, price_at, IsFirstCheapest, IsLeastNaming, IsNaming, Proves}
 use Rattle.lb_certificates.proofs.HeldTables.{moved_by_table}
@@ -33,6 +38,28 @@ proves_of_held blocks held names t moved u v costs naming cost_is proves =
       low = λ b p block pe. subst (λ n. (price_at u b +ℤ price_at v p) ≤ℤ pos n) (costs.exact b p block pe) (by_blocks.low b p block pe);
       adds_up = by_blocks.adds_up;
     }
+
+-- the cost at a place of the table is that of a block on a PE
+cost_at_place : (t : Table) (i : ℕ) → 0 < t.blocks → cost_at t (i / t.blocks) (i % t.blocks) ≡ slice_index t.costs i
+cost_at_place t i some = ap (slice_index t.costs) (omega (arith, mod-add-div i t.blocks))
+
+-- where no block costs more than so much on any PE, no price goes further
+pub bounded_of_held : (blocks : ℕ) (held : List ℕ) (t : Table) (u v : List ℤ) → HasHeldCosts blocks held t → IsMatrix t → AreWithin (greatest t.costs) u v → (most : ℕ) → ((b p : ℕ) → b < blocks → p < blocks → held_cost blocks held b p ≤ most) → AreWithin most u v
+bounded_of_held blocks held t u v costs matrix within most small =
+    record {
+      block_prices = All-weaker (λ price. (pos 0 ≤ℤ price) × (price ≤ℤ pos (greatest t.costs))) (λ price. (pos 0 ≤ℤ price) × (price ≤ℤ pos most)) (λ price h. (h.0, omega (arith, ints, h.1, less))) u within.block_prices;
+      pe_prices = All-weaker (λ price. (neg_ℤ (pos (greatest t.costs)) ≤ℤ price) × (price ≤ℤ pos 0)) (λ price. (neg_ℤ (pos most) ≤ℤ price) × (price ≤ℤ pos 0)) (λ price h. (omega (arith, ints, h.0, less), h.1)) v within.pe_prices;
+    }
+  where
+    some : 0 < t.blocks
+    some = omega (arith, matrix.some_block)
+
+    less : greatest t.costs ≤ most
+    less = greatest_small t.costs most (λ i d inside.
+        let block : i / t.blocks < t.blocks = (div-lt_iff_lt-mul some).1 (omega (arith, inside, matrix.square)) in
+        let pe : i % t.blocks < t.blocks = mod-lt i some in
+        let entry : slice_index t.costs i ≡ held_cost blocks held (i / t.blocks) (i % t.blocks) = sym (cost_at_place t i some) ∙ costs.exact (i / t.blocks) (i % t.blocks) (subst (λ n. i / t.blocks < n) costs.counted block) (subst (λ n. i % t.blocks < n) costs.counted pe) in
+        omega (arith, get_or_default t.costs i d 0 inside, entry, small (i / t.blocks) (i % t.blocks) (subst (λ n. i / t.blocks < n) costs.counted block) (subst (λ n. i % t.blocks < n) costs.counted pe)))
 
 -- by the table of elements and cuts
 pub least_of_blocks : (blocks : ℕ) (sizes : List (ℕ × ℕ)) (cuts held names : List ℕ) → length held ≡ blocks * blocks → IsHeld blocks sizes cuts held → IsFirstCheapest blocks (held_moved blocks held) names → IsLeastNaming sizes cuts blocks names

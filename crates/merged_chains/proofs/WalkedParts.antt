@@ -191,9 +191,15 @@ stands_closes part blocks walk closed first filled room end stands left onward g
     let found = stands offset in
     (found.0 ++ (offset + end) ∷ [], at_closes part blocks walk offset found.0 closed first filled room end found.1 left onward greatest room_is short)
 
-pub stands_stays : (part : List ℕ) (blocks : ℕ) (walk : Walk) (first filled room end : ℕ) (new : Walk) → Stands part blocks walk new.closed first filled → new.closed < blocks → first ≤ end → IsGreatestEnd part first room end → room ≡ walk.limit - filled → end ≡ length part → new.limit ≡ walk.limit → new.filled ≡ filled + load part first end → WalksOn part blocks walk new
-stands_stays part blocks walk first filled room end new stands left onward greatest room_is whole limit_is load_is =
-    record { limit = limit_is; walked = walked }
+pub stands_stays : (part : List ℕ) (blocks : ℕ) (walk : Walk) (first filled room end : ℕ) (new : Walk) → Stands part blocks walk new.closed first filled → new.closed < blocks → first ≤ end → IsGreatestEnd part first room end → room ≡ walk.limit - filled → end ≡ length part → new.limit ≡ walk.limit → new.filled ≡ filled + load part first end → walk.closed ≤ new.closed → (walk.filled ≤ walk.limit → filled ≤ walk.limit) → WalksOn part blocks walk new
+stands_stays part blocks walk first filled room end new stands left onward greatest room_is whole limit_is load_is further within =
+    record {
+      limit = limit_is;
+      few = omega arith;
+      onward = λ _. further;
+      fits = λ small. omega (arith, within small, greatest.fits, load_is);
+      walked = walked;
+    }
   where
     walked : (before ends : List ℕ) → IsWalked before blocks ends walk → (more : List ℕ) × IsWalked (before ++ part) blocks (ends ++ more) new
     walked before ends h =
@@ -202,7 +208,13 @@ stands_stays part blocks walk first filled room end new stands left onward great
 
 pub stands_ends : (part : List ℕ) (blocks : ℕ) (walk : Walk) (closed first filled : ℕ) (new : Walk) → Stands part blocks walk closed first filled → (walk.closed ≤ blocks → closed ≡ blocks) → new.limit ≡ walk.limit → new.closed ≡ blocks → new.filled ≡ 0 → WalksOn part blocks walk new
 stands_ends part blocks walk closed first filled new stands closed_is limit_is same empty =
-    record { limit = limit_is; walked = walked }
+    record {
+      limit = limit_is;
+      few = omega arith;
+      onward = λ few. omega arith;
+      fits = λ _. omega arith;
+      walked = walked;
+    }
   where
     walked : (before ends : List ℕ) → IsWalked before blocks ends walk → (more : List ℕ) × IsWalked (before ++ part) blocks (ends ++ more) new
     walked before ends h =

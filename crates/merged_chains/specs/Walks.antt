@@ -27,7 +27,12 @@ abbrev pub EndsAt : List ℕ → ℕ → Walk → ℕ → List ℕ → Walk → 
 EndsAt part blocks walk offset more new =
     (before ends : List ℕ) → length before ≡ offset → IsWalked before blocks ends walk → IsWalked (before ++ part) blocks (ends ++ more) new
 
--- the new walk is the old one behind the part, with some further ends
+-- The new walk is the old one behind the part, with some further ends. Whatever the numbers of the old one, which may be no
+-- walk of any chain, no more blocks are closed than there are; none is opened again, and the open one keeps within the limit,
+-- where it did so before.
 pub record WalksOn (part : List ℕ) (blocks : ℕ) (walk new : Walk) : Type 0 where
   pub limit : new.limit ≡ walk.limit
+  pub few : new.closed ≤ blocks
+  pub onward : walk.closed ≤ blocks → walk.closed ≤ new.closed
+  pub fits : walk.filled ≤ walk.limit → new.filled ≤ walk.limit
   pub walked : (before ends : List ℕ) → IsWalked before blocks ends walk → (more : List ℕ) × IsWalked (before ++ part) blocks (ends ++ more) new

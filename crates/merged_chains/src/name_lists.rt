@@ -2,8 +2,8 @@
 //! PE, those of the second, and so on, of as many PEs as blocks. Those of one PE are what
 //! [`write_block_bytes`](crate::write_block_bytes) writes on it.
 
-ghost use Rattle.std.specs.Prelude.{◌≡◌, ◌≢◌, ◌*◌, ◌≤◌, ◌<◌, [], None, Ok, MatchOption, IfOk, IfErr, OnOk, OnErr, length};
-ghost use Rattle.block_assignment.specs.Table.{cost_at};
+ghost use Rattle.std.specs.Prelude.{◌≡◌, ◌≢◌, ℕ, ◌*◌, ◌≤◌, ◌<◌, [], None, Ok, MatchOption, IfOk, IfErr, OnOk, OnErr, length};
+ghost use Rattle.block_assignment.specs.Table.{cost_at, AreWithin};
 ghost use Rattle.lb_certificates.specs.Held.{held_cost, held_moved, IsNamedBy, WhereHeld};
 ghost use Rattle.lb_certificates.specs.Naming.{bytes_moved, naming_cost, IsCheapest, IsFirstCheapest, IsLeastNaming, IsNaming, Proves};
 ghost use Rattle.merged_chains.specs.Lists.{IsNamesAsked, IsPartRefusal, IsTableAsked};
@@ -32,6 +32,7 @@ pub fn name_table<A: Allocator + Copy>(
     ensures least { OnOk result (IsFirstCheapest pes (held_moved pes held.now) names.new) }
     ensures moved { IfOk result (λ moved. moved ≡ held_moved pes held.now names.new) }
     ensures proved { IfOk result (λ moved. Proves pes (held_cost pes held.now) moved block_prices.new pe_prices.new) }
+    ensures bounded { IfOk result (λ _. (most : ℕ) → ((b p : ℕ) → b < pes → p < pes → held_cost pes held.now b p ≤ most) → AreWithin most block_prices.new pe_prices.new) }
     ensures of_blocks { WhereHeld pes held.now (λ sizes cuts. OnOk result (IsLeastNaming sizes cuts pes names.new)) }
     ensures moved_of_blocks { WhereHeld pes held.now (λ sizes cuts. IfOk result (λ moved. moved ≡ bytes_moved sizes cuts names.new)) }
     ensures asked { OnOk result (IsNamesAsked pes held.now names.old block_prices.old pe_prices.old) }

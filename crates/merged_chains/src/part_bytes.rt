@@ -7,7 +7,8 @@ use crate::places::place_of;
 /// Writes how many bytes a part of a chain has of each block between these cuts, one for each entry of the list: the packed
 /// sizes of its elements, the first of which is number `first` of the chain. A cut that the list does not have is 0.
 ///
-/// Those of all parts, row by row, are what names of the blocks are found from.
+/// A table of these numbers, in which row `b` has the bytes of block `b` on each PE, is what
+/// [`name_table`](crate::name_table) finds the names of the blocks from: the numbers of one part are a column of it.
 pub fn write_block_bytes(bytes: &[u32], first: u32, cuts: &[u32], held: &mut [u64])
     requires few { length bytes.now < 2 ^ 32 }
     ensures held { AreRangeLoads bytes.now first (length held.old) 0 cuts.now held.new }

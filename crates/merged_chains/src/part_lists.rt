@@ -79,6 +79,10 @@ pub fn end_part<A: Allocator + Copy>(
     ensures walked { IfOk result (λ count. EndsAt loads.now pes walk.old first (take count ends.new) walk.new) }
     ensures limit { walk.new.limit ≡ walk.old.limit }
     ensures counted { IfOk result (λ count. count ≤ pes) }
+    ensures few { OnOk result (walk.new.closed ≤ pes) }
+    ensures fits { walk.old.filled ≤ walk.old.limit → walk.new.filled ≤ walk.old.limit }
+    ensures each { walk.old.closed ≤ pes → IfOk result (λ count. walk.old.closed + count ≡ walk.new.closed) }
+    ensures inside { IfOk result (λ count. All (λ end. (first ≤ end) × (end ≤ first + length loads.now)) (take count ends.new)) }
     ensures behind { IfOk result (λ count. drop count ends.new ≡ drop count ends.old) }
     ensures asked { OnOk result (IsEndAsked loads.now first pes ends.old) }
     ensures light { OnOk result (sum loads.now < 2 ^ 63) }

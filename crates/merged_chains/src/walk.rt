@@ -1,6 +1,6 @@
 //! Greedy walks of a chain that comes part by part, each part on a rank of its own.
 
-ghost use Rattle.std.specs.Prelude.{◌≡◌, ℕ, ◌+◌, ◌-◌, ◌<◌, ◌≤◌, ◌^◌, [], ◌∷◌, IfOk, length, slice_index_or};
+ghost use Rattle.std.specs.Prelude.{◌≡◌, ℕ, ◌+◌, ◌-◌, ◌<◌, ◌≤◌, ◌^◌, [], ◌∷◌, All, IfOk, length, slice_index_or};
 ghost use Rattle.chain_partition.specs.Greedy.{IsGreatestEnd};
 ghost use Rattle.merged_chains.specs.Walks.{EndsAt, IsWalked, WalksOn};
 ghost use Rattle.merged_chains.specs.Narrowing.{walk_at};
@@ -45,7 +45,8 @@ pub struct Ends<A: Allocator = Global> {
 }
 
 /// Walks on over the next part of the chain, with `pes` blocks in all. The walks of the parts, in turn, are the walk of
-/// the chain. Each block's end is found by binary search, and no memory is taken.
+/// the chain. Each block's end is found by binary search, and no memory is taken. Where the walk has numbers that no chain
+/// gives, no more than `pes` blocks are closed behind the part all the same.
 pub fn walk_on<B: Allocator>(part: &Chain<'_, B>, pes: u32, walk: Walk) -> Walk
     ensures walked { WalksOn part.now pes walk result }
 {
@@ -124,6 +125,10 @@ pub fn ends_on<A: Allocator, B: Allocator>(
     requires few { first + length part.now < 2 ^ 32 }
     ensures limit { IfOk result (λ r. r.walk.limit ≡ walk.limit) }
     ensures counted { IfOk result (λ r. length r.ends.items ≤ pes) }
+    ensures few { IfOk result (λ r. r.walk.closed ≤ pes) }
+    ensures fits { walk.filled ≤ walk.limit → IfOk result (λ r. r.walk.filled ≤ walk.limit) }
+    ensures each { walk.closed ≤ pes → IfOk result (λ r. walk.closed + length r.ends.items ≡ r.walk.closed) }
+    ensures inside { IfOk result (λ r. All (λ end. (first ≤ end) × (end ≤ first + length part.now)) r.ends.items) }
     ensures walked { IfOk result (λ r. EndsAt part.now pes walk first r.ends.items r.walk) }
 {
     let mut ends = Vec::with_capacity(alloc, pes.saturating_sub(walk.closed) as usize)?;

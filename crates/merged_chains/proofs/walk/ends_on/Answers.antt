@@ -1,4 +1,5 @@
-use Rattle.std.proofs.Common.{◌≡◌, ◌+◌, arith, refl}
+use Rattle.std.proofs.Common.{◌≡◌, ◌+◌, ◌≤◌, length, arith, refl}
+use Rattle.std.proofs.lemmas.List.Elements.{All-nil, All-push}
 use Rattle.lb_snapshot.specs.Measured.{load}
 use Rattle.merged_chains.specs.declared.walk.Walk.{Walk}
 use Rattle.merged_chains.proofs.WalkedParts.{at_begins, at_closes, at_ends, at_stays}
@@ -10,6 +11,8 @@ loop-closed-init g c =
       inside = omega arith;
       stands = rw c.in_ok-ends.ensures.items (at_begins c.args.part.now c.args.pes c.args.walk c.args.first);
       counted = omega (arith, c.in_ok-ends.ensures.len);
+      fits = λ small. small;
+      inside_part = rw c.in_ok-ends.ensures.items (All-nil (λ end. (c.args.first ≤ end) × (end ≤ c.args.first + length c.args.part.now)));
       room = omega (arith, c.in_ok-ends.ensures.len, c.in_ok-ends.ensures.capacity, c.saturating_sub.ensures);
     }
 
@@ -23,6 +26,8 @@ loop-closed-preserved g c =
       inside = c.reach-end.ensures.greatest.inside;
       stands = rw c.push_reserved.ensures.items (at_closes c.args.part.now c.args.pes c.args.walk c.args.first c.loop-closed.ends.items c.loop-closed.closed c.loop-closed.begin c.loop-closed.filled c.saturating_sub-in-loop-closed.result c.reach-end.result c.loop-closed.invariant.stands (omega arith) c.reach-end.ensures.onward c.reach-end.ensures.greatest c.saturating_sub-in-loop-closed.ensures (omega arith));
       counted = omega (arith, c.loop-closed.invariant.counted, c.push_reserved.ensures.len);
+      fits = λ _. omega arith;
+      inside_part = rw c.push_reserved.ensures.items (All-push (λ end. (c.args.first ≤ end) × (end ≤ c.args.first + length c.args.part.now)) c.loop-closed.ends.items (c.args.first + c.reach-end.result) c.loop-closed.invariant.inside_part (omega arith, omega (arith, c.reach-end.ensures.greatest.inside)));
       room = omega (arith, c.loop-closed.invariant.room, c.push_reserved.ensures.len, c.push_reserved.ensures.capacity);
     }
 
