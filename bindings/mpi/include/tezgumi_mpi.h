@@ -195,6 +195,7 @@ typedef struct {
     uint32_t *names;    /* ranks: and goes to rank names[b] */
     uint32_t *sent;     /* ranks: how many elements of a move under way have gone from here to each rank, */
     uint32_t *received; /* ranks: and come here from each */
+    uint64_t move;      /* a fingerprint of that move; 0 before its first exchange, and where there is none */
     void *room;         /* what tezgumi_mpi_layout_free gives back */
 } tezgumi_mpi_layout;
 
@@ -211,12 +212,13 @@ void tezgumi_mpi_layout_free(tezgumi_mpi_layout *layout);
  * over the ranks. A rank needs its part, what is gathered, some lists with an entry for each rank, and, unless the order is
  * kept, two tables of 8 bytes for each two ranks.
  *
- * In this order: TEZGUMI_MPI_LIBRARY; TEZGUMI_BAD_INPUT where there are too many ranks, a null pointer, or two groups of ranks (an
- * intercommunicator); TEZGUMI_NO_MEMORY; TEZGUMI_BAD_INPUT for too many elements; TEZGUMI_MPI_BAD_INDEX where a part does not
- * begin where the one before it ends, failed_at being its first element; TEZGUMI_BAD_INPUT for an element of too many bytes, or
+ * In this order: TEZGUMI_BAD_INPUT where there are two groups of ranks (an intercommunicator), and the layout is as it was;
+ * TEZGUMI_MPI_LIBRARY; TEZGUMI_BAD_INPUT for too many ranks or a null pointer; TEZGUMI_NO_MEMORY; TEZGUMI_BAD_INPUT for too many
+ * elements; TEZGUMI_MPI_BAD_INDEX where a part does not begin where the one before it ends, failed_at being its first element; TEZGUMI_BAD_INPUT for an element of too many bytes, or
  * too many of all; TEZGUMI_BAD_LOAD where all loads are too great, failed_at being an element of the greatest load;
- * TEZGUMI_BAD_INPUT for the tolerance, or refine; TEZGUMI_MPI_DISAGREE where the options differ; then TEZGUMI_NO_MEMORY;
- * TEZGUMI_MPI_WRONG_PLAN; TEZGUMI_MPI_DISAGREE. After any of these the layout has no elements and no ranks. */
+ * TEZGUMI_BAD_INPUT for the tolerance, or refine; TEZGUMI_MPI_DISAGREE where the options differ; then TEZGUMI_NO_MEMORY,
+ * which is also the answer to 2^31 runs or more to gather; TEZGUMI_MPI_WRONG_PLAN; TEZGUMI_MPI_DISAGREE. After any of these the
+ * layout has no elements and no ranks. */
 int tezgumi_mpi_decide_part(MPI_Comm comm, const tezgumi_mpi_part *part, const tezgumi_mpi_options *options,
     tezgumi_mpi_layout *layout, tezgumi_mpi_report *report);
 
@@ -225,11 +227,11 @@ int tezgumi_mpi_decide_part(MPI_Comm comm, const tezgumi_mpi_part *part, const t
  *
  * Each exchange is done as a whole or not at all: elements are dropped where they were when all ranks have unpacked what
  * arrived. After TEZGUMI_MPI_CALLBACK the exchanges before have moved their elements, that of the failure is undone, and the
- * same call goes on where it ended: firsts, counts and part are still as before the move.
+ * same call, with the same cuts and names, goes on where it ended: firsts, counts and part are still as before the move.
  *
- * TEZGUMI_BAD_INPUT where a pointer is null, the layout is of another number of ranks, the part is not what it says, the cuts do
- * not divide the elements, or the names are not all ranks; TEZGUMI_NO_MEMORY; TEZGUMI_MPI_DISAGREE where the layouts or the
- * room differ: nothing has moved. */
+ * TEZGUMI_BAD_INPUT where there are two groups of ranks, a pointer is null, the layout is of another number of ranks, the part is
+ * not what it says, the cuts do not divide the elements, the names are not all ranks, or a move by other cuts or names has
+ * not ended; TEZGUMI_NO_MEMORY; TEZGUMI_MPI_DISAGREE where the layouts or the room differ: nothing has moved. */
 int tezgumi_mpi_move_part(MPI_Comm comm, const tezgumi_mpi_part *part, tezgumi_mpi_layout *layout,
     const tezgumi_mpi_callbacks *callbacks, const tezgumi_mpi_options *options, tezgumi_mpi_report *report);
 

@@ -16,6 +16,7 @@ int tezgumi_mpi_layout_room(tezgumi_mpi_layout *layout, uint32_t ranks)
         if (!layout->room) return TEZGUMI_NO_MEMORY;
     }
     layout->ranks = ranks;
+    layout->move = 0;
     layout->firsts = (uint32_t *)layout->room;
     layout->counts = layout->firsts + ranks;
     layout->names = layout->counts + ranks;

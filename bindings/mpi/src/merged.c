@@ -31,7 +31,8 @@ static int merge(const tezgumi_mpi_search *s, runs *own)
     if (status != TEZGUMI_OK || part->count == 0) return status;
     status = tezgumi_part_merge(part->loads, part->count, part->first, w->lower, w->count, w->upper, w->count, own->loads,
         own->count, own->ends, own->count, &count);
-    if (status == TEZGUMI_OK && (count > own->count || count > INT_MAX)) return TEZGUMI_MPI_WRONG_PLAN;
+    if (status == TEZGUMI_OK && count > own->count) return TEZGUMI_MPI_WRONG_PLAN;
+    if (status == TEZGUMI_OK && count > INT_MAX) return TEZGUMI_NO_MEMORY; /* no int counts them, and so MPI does not */
     own->count = count;
     return tezgumi_mpi_inner(status);
 }
@@ -51,7 +52,7 @@ static int learn_counts(tezgumi_mpi_search *s, int status, size_t count, uint64_
     }
     for (k = 0; k < s->parts && status == TEZGUMI_OK; k++) {
         r = s->order[k];
-        if (*all + (uint64_t)s->counts[r] > INT_MAX) return TEZGUMI_MPI_WRONG_PLAN;
+        if (*all + (uint64_t)s->counts[r] > INT_MAX) return TEZGUMI_NO_MEMORY;
         s->starts[r] = (int)*all;
         *all += (uint64_t)s->counts[r];
     }

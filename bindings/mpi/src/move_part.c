@@ -36,6 +36,7 @@ typedef struct {
     const tezgumi_mpi_callbacks *callbacks;
     size_t room;
     side out, in;
+    uint64_t print;    /* a fingerprint of who sends what to whom */
     uint64_t *totals;  /* of what each rank sends here: bytes, and those of the largest */
     uint32_t unpacked; /* elements that were unpacked in this round */
     void *lists, *buffers;
@@ -128,16 +129,27 @@ static int is_usable(const mover *m)
     return 1;
 }
 
-/* A fingerprint of who sends what to whom, and of the room. */
-static uint64_t print_of(const mover *m)
+/* A fingerprint of who sends what to whom; never 0. */
+static uint64_t print_of(const tezgumi_mpi_layout *l)
 {
-    const tezgumi_mpi_layout *l = m->layout;
-    const uint32_t words[2] = {l->n, (uint32_t)m->room};
-    uint64_t print = tezgumi_mpi_fingerprint(TEZGUMI_MPI_FINGERPRINT, words, 2);
-    print = tezgumi_mpi_fingerprint(print, l->firsts, m->ranks);
-    print = tezgumi_mpi_fingerprint(print, l->counts, m->ranks);
-    print = tezgumi_mpi_fingerprint(print, l->names, m->ranks);
-    return tezgumi_mpi_fingerprint(print, l->cuts, (size_t)m->ranks + 1);
+    uint64_t print = tezgumi_mpi_fingerprint(TEZGUMI_MPI_FINGERPRINT, &l->n, 1);
+    print = tezgumi_mpi_fingerprint(print, l->firsts, l->ranks);
+    print = tezgumi_mpi_fingerprint(print, l->counts, l->ranks);
+    print = tezgumi_mpi_fingerprint(print, l->names, l->ranks);
+    return tezgumi_mpi_fingerprint(print, l->cuts, (size_t)l->ranks + 1) | 1;
+}
+
+/* Whether what is sent and received so far, if anything is, went by the same cuts and names. */
+static int goes_on(const tezgumi_mpi_layout *l)
+{
+    return l->move == 0 || l->move == print_of(l);
+}
+
+/* What all ranks have to have in common: who sends what to whom, and the room. */
+static uint64_t common_print(const mover *m)
+{
+    const uint32_t room = (uint32_t)m->room;
+    return tezgumi_mpi_fingerprint(m->print, &room, 1);
 }
 
 static size_t size_at(const mover *m, uint32_t element)
@@ -333,6 +345,7 @@ static int finish(mover *m, uint64_t *left, tezgumi_mpi_report *report)
 {
     uint64_t gone[2] = {0}; /* elements, and their bytes */
     uint32_t k, e;
+    m->layout->move = m->print;
     for (k = 0; k < m->out.count; k++) {
         piece *p = &m->out.pieces[k];
         const uint32_t taken = m->out.taken[p->peer];
@@ -389,6 +402,7 @@ static void settle(tezgumi_mpi_layout *l)
     }
     memset(l->sent, 0, l->ranks * sizeof *l->sent);
     memset(l->received, 0, l->ranks * sizeof *l->received);
+    l->move = 0;
 }
 
 /* Learns what goes where, and gets all memory. */
@@ -410,8 +424,9 @@ static int move(mover *m, tezgumi_mpi_report *report)
 {
     uint64_t left = 0;
     int status = is_usable(m) ? get_lists(m) : TEZGUMI_BAD_INPUT;
-    if (status == TEZGUMI_OK && !is_decision(m->layout, m->out.offered)) status = TEZGUMI_BAD_INPUT;
-    status = tezgumi_mpi_agree(m->comm, tezgumi_mpi_outcome_of(status, 0), status == TEZGUMI_OK ? print_of(m) : 0, report);
+    if (status == TEZGUMI_OK && !(is_decision(m->layout, m->out.offered) && goes_on(m->layout))) status = TEZGUMI_BAD_INPUT;
+    if (status == TEZGUMI_OK) m->print = print_of(m->layout);
+    status = tezgumi_mpi_agree(m->comm, tezgumi_mpi_outcome_of(status, 0), status == TEZGUMI_OK ? common_print(m) : 0, report);
     report->elements_moved = report->exchanges = 0;
     report->bytes_moved = 0;
     if (status == TEZGUMI_OK) status = prepare(m, &left, report);

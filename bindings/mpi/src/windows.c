@@ -1,6 +1,7 @@
 /* Windows of elements of which each begins a run of the merged chain: all elements that begin a block of the greedy divisions
  * within the limits low - 1 .. high. Between them elements are merged, and the division of the merged chain is that of the
- * chain (crates/merged_chains). Nothing here need be trusted: where a window is wrong, the check refuses the division. */
+ * chain (crates/merged_chains). Where a window is wrong, the check refuses a division that is not least; it does not see that another
+ * least division came out. */
 #include "internal.h"
 
 enum {

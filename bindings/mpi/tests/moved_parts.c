@@ -152,6 +152,9 @@ static void fail_in_second(int from, int while_packing)
     expect_whole(&f);
     for (r = 0; r < layout.ranks; r++) EXPECT(layout.firsts[r] == 12 * r && layout.counts[r] == 12);
     f.fail_pack = f.fail_unpack = UINT32_MAX;
+    layout.cuts[1]++; /* other elements would follow those that have gone */
+    EXPECT(move_within(4 * 64) == TEZGUMI_BAD_INPUT && report.exchanges == 0);
+    layout.cuts[1]--;
     EXPECT(move_within(4 * 64) == TEZGUMI_OK);
     EXPECT(report.elements_moved == 8 * (uint32_t)ranks && report.exchanges == 2);
     expect_moved();
@@ -199,6 +202,25 @@ static void refusals(void)
     EXPECT(move_within(wrong ? 32 : 16) == (ranks > 1 ? TEZGUMI_MPI_DISAGREE : TEZGUMI_OK));
     EXPECT(move(NULL) == TEZGUMI_OK);
     if (ranks > 1) expect_moved();
+}
+
+/* An intercommunicator: neither call touches the layout. */
+static void two_groups(void)
+{
+    const tezgumi_mpi_callbacks callbacks = callbacks_of(&f);
+    tezgumi_mpi_part part;
+    MPI_Comm half, both;
+    begin_ring(3, 5);
+    part = part_of(&f);
+    MPI_Comm_split(MPI_COMM_WORLD, rank % 2, rank, &half);
+    MPI_Intercomm_create(half, 0, MPI_COMM_WORLD, 1 - rank % 2, 0, &both);
+    EXPECT(tezgumi_mpi_decide_part(both, &part, NULL, &layout, NULL) == TEZGUMI_BAD_INPUT);
+    EXPECT(tezgumi_mpi_move_part(both, &part, &layout, &callbacks, NULL, NULL) == TEZGUMI_BAD_INPUT);
+    EXPECT(layout.n == f.n && layout.ranks == (uint32_t)ranks);
+    MPI_Comm_free(&both);
+    MPI_Comm_free(&half);
+    EXPECT(move(NULL) == TEZGUMI_OK);
+    expect_moved();
 }
 
 static int copy_word(void *app, uint32_t index, void *to, uint32_t bytes)
@@ -256,6 +278,7 @@ int main(int argc, char **argv)
     if (ranks > 1) {
         run_test("room for an exchange of parts", room);
         run_test("elements of no bytes", nothing_to_pack);
+        run_test("two groups of ranks", two_groups);
         run_test("room for what a part receives", room_to_receive);
         run_test("callbacks that fail, and a move that goes on", callbacks_that_fail);
     }
