@@ -55,7 +55,7 @@ fn with_batch(rt: &(impl Abort + AllocGlobal), first: u32) -> u64 {
 }
 
 // The results of benches/refinement/search_any_order.py for each thousand chains.
-const SEARCHED: [(u32, u64); 8] = [
+static SEARCHED: [(u32, u64); 8] = [
     (0, 10_013_366_091_274_568_498),
     (1000, 2_851_619_850_131_643_415),
     (2000, 4_117_525_707_209_694_468),

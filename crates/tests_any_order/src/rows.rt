@@ -200,7 +200,7 @@ pub(crate) type Row = (
     bool,
 );
 
-pub(crate) const DECISIONS: [Row; 13] = [
+pub(crate) static DECISIONS: [Row; 13] = [
     ("no elements", &[], &[], 3, 20, 0, true),
     (
         "loads all 0",

@@ -1,15 +1,13 @@
 //! An assertion over a row, and PEs and rounds by their numbers; a number out of range ends the test.
 
-ghost use Rattle.std.specs.Prelude.{◌≡◌, true};
+ghost use Rattle.std.specs.Prelude.{◌≡◌};
 
 use chare_index::{Pe, Round};
 use std::fmt::Debug;
 use std::process::Abort;
 
 /// Ends the test where this does not hold, and shows the row that it should hold for.
-pub(crate) fn assert_for<R: Debug + Copy>(rt: &impl Abort, holds: bool, row: R)
-    ensures held { holds ≡ true }
-{
+pub(crate) fn assert_for<R: Debug + Copy>(rt: &impl Abort, holds: bool, row: R) {
     assert!(rt; holds, "{row:?}");
 }
 

@@ -3,12 +3,12 @@
 ghost use Rattle.std.specs.Prelude.{◌≤◌};
 
 use crate::fixtures::{
-    FULL_ARRAYS, FullArray, assert_for, ends_of, full_loads, is_division, is_list, is_whole_array,
-    loads, prefix, push, unfenced,
+    FULL_ARRAYS, assert_for, ends_of, full_loads, is_division, is_list, is_whole_array, loads,
+    prefix, push,
 };
 use crate::reference;
-use chain_partition::{Prefix, Probe, divide, probe, probe_on};
-use lb_certificates::{Division, Flaw, check_division};
+use chain_partition::{Probe, divide, probe, probe_on};
+use lb_certificates::{Division, check_division};
 use lb_snapshot::{Loads, Units};
 use std::process::Abort;
 
@@ -22,49 +22,31 @@ fn divided(rt: &(impl Abort + AllocGlobal), loads: &Loads, pes: u32) -> Division
 // Loads, a number of PEs, and the bottleneck, the cuts and the stops of their division.
 type Divided = (&'static [Units], u32, u64, &'static [u32], &'static [u32]);
 
-fn is_divided_so(rt: &(impl Abort + AllocGlobal), row: &Divided) -> bool {
-    let &(units, pes, bottleneck, cuts, fence) = row;
-    assert_for(rt, 1 <= pes && pes <= 256, ("PEs", pes));
-    let loads = loads(rt, units);
-    let division = divided(rt, &loads, pes);
-    let found = is_division(&division, bottleneck, cuts, fence);
-    drop(division);
-    drop(loads);
-    found
-}
+static DIVIDED: [Divided; 7] = [
+    (&[], 3, 0, &[0, 0, 0, 0], &[]),
+    (&[1, 2, 3, 4, 5], 2, 9, &[0, 3, 5], &[0, 3, 4]),
+    (&[10, 1, 1], 3, 10, &[0, 1, 3, 3], &[0, 0, 0, 0]),
+    (&[0, 0, 0], 2, 0, &[0, 3, 3], &[]),
+    (&[5, 7], 4, 7, &[0, 1, 2, 2, 2], &[0, 1, 1, 1, 1]),
+    (&[5, 0, 0, 7], 2, 7, &[0, 3, 4], &[0, 3, 3]),
+    (&[1, 1, 2], 1, 4, &[0, 3], &[0, 2]),
+];
 
 #[test]
 fn the_examples_have_their_divisions(rt: HostRuntime) {
-    const ROWS: [Divided; 7] = [
-        (&[], 3, 0, &[0, 0, 0, 0], &[]),
-        (&[1, 2, 3, 4, 5], 2, 9, &[0, 3, 5], &[0, 3, 4]),
-        (&[10, 1, 1], 3, 10, &[0, 1, 3, 3], &[0, 0, 0, 0]),
-        (&[0, 0, 0], 2, 0, &[0, 3, 3], &[]),
-        (&[5, 7], 4, 7, &[0, 1, 2, 2, 2], &[0, 1, 1, 1, 1]),
-        (&[5, 0, 0, 7], 2, 7, &[0, 3, 4], &[0, 3, 3]),
-        (&[1, 1, 2], 1, 4, &[0, 3], &[0, 2]),
-    ];
-    for row in &ROWS {
-        assert_for(&rt, is_divided_so(&rt, row), row);
+    for &(units, pes, bottleneck, cuts, fence) in &DIVIDED {
+        assert_for(&rt, 1 <= pes && pes <= 256, pes);
+        let division = divided(&rt, &loads(&rt, units), pes);
+        let found = is_division(&division, bottleneck, cuts, fence);
+        assert_for(&rt, found, units);
     }
 }
 
-#[test]
-fn blocks_of_equal_counts_are_heavier(rt: HostRuntime) {
-    let five = loads(&rt, &[1, 2, 3, 4, 5]);
-    assert_for(&rt, five.len() == 5 && five.load(2, 5) == 12, "loads");
-    let halves = unfenced(&rt, 9, &[0, 2, 5]);
-    let found = check_division(&five, 2, &halves);
-    drop(halves);
-    drop(five);
-    assert_for(&rt, found == Err(Flaw::Heavy(1)), found);
-}
-
 // Whether the result of a probe, that it fits or that it does not, has these cuts or stops.
-fn is_probe(answer: Probe, fits: bool, expected: &[u32]) -> bool {
+fn is_probe(answer: Probe, row: &Probed) -> bool {
+    let &(_, fits, expected) = row;
     let (fitted, ends) = ends_of(answer);
-    let same_ends = is_list(ends, expected);
-    fitted == fits && same_ends
+    is_list(ends, expected) && fitted == fits
 }
 
 // A limit, whether some elements fit into two blocks within it, and the cuts or the stops.
@@ -72,91 +54,50 @@ type Probed = (u64, bool, &'static [u32]);
 
 // Whether a probe of these loads for two PEs has this result.
 fn is_probed_so(rt: &(impl Abort + AllocGlobal), loads: &Loads, row: &Probed) -> bool {
-    let &(limit, fits, ends) = row;
-    let answer = probe(rt.alloc(), loads, 2, limit).expect(rt, "out of memory");
-    is_probe(answer, fits, ends)
+    is_probe(
+        probe(rt.alloc(), loads, 2, row.0).expect(rt, "out of memory"),
+        row,
+    )
 }
 
-// Whether a probe on their running sums has it.
-fn is_probed_on_sums(rt: &(impl Abort + AllocGlobal), five: &Prefix, row: &Probed) -> bool {
-    let &(limit, fits, ends) = row;
-    let answer = probe_on(rt.alloc(), five, 2, limit).expect(rt, "out of memory");
-    is_probe(answer, fits, ends)
-}
+static PROBES: [Probed; 4] = [
+    (9, true, &[0, 3, 5]),
+    (8, false, &[0, 3, 4]),
+    (0, false, &[0, 0, 0]),
+    (u64::MAX, true, &[0, 5, 5]),
+];
 
 #[test]
 fn probes_fit_or_stop(rt: HostRuntime) {
     let five = loads(&rt, &[1, 2, 3, 4, 5]);
     let prefix = prefix(&rt, &[1, 2, 3, 4, 5]);
-    assert_for(&rt, prefix.len() == 5, "length");
-    const ROWS: [Probed; 4] = [
-        (9, true, &[0, 3, 5]),
-        (8, false, &[0, 3, 4]),
-        (0, false, &[0, 0, 0]),
-        (u64::MAX, true, &[0, 5, 5]),
-    ];
-    for row in &ROWS {
-        assert_for(&rt, is_probed_so(&rt, &five, row), row);
-        assert_for(&rt, is_probed_on_sums(&rt, &prefix, row), (row, "on sums"));
+    for row in &PROBES {
+        assert_for(&rt, is_probed_so(&rt, &five, row), row.0);
+        let on_sums = probe_on(rt.alloc(), &prefix, 2, row.0).expect(&rt, "out of memory");
+        assert_for(&rt, is_probe(on_sums, row), row.0);
     }
-    drop(prefix);
-    drop(five);
 }
+
+static FULL_PROBES: [Probed; 4] = [
+    (4_611_686_018_427_355_136, true, &[0, 32_768, 65_536]),
+    (4_611_686_018_427_355_135, false, &[0, 32_767, 65_534]),
+    (9_223_372_036_854_710_271, true, &[0, 65_535, 65_536]),
+    (u64::MAX, true, &[0, 65_536, 65_536]),
+];
 
 #[test]
 fn probes_of_a_full_array_fit_or_stop(rt: HostRuntime) {
     let full = full_loads(&rt, 140_737_488_355_327);
-    const ROWS: [Probed; 4] = [
-        (4_611_686_018_427_355_136, true, &[0, 32_768, 65_536]),
-        (4_611_686_018_427_355_135, false, &[0, 32_767, 65_534]),
-        (9_223_372_036_854_710_271, true, &[0, 65_535, 65_536]),
-        (u64::MAX, true, &[0, 65_536, 65_536]),
-    ];
-    for row in &ROWS {
-        assert_for(&rt, is_probed_so(&rt, &full, row), row);
+    for row in &FULL_PROBES {
+        assert_for(&rt, is_probed_so(&rt, &full, row), row.0);
     }
-    drop(full);
-}
-
-// The load of a range, if the chain has it.
-fn load_of(prefix: &Prefix, first: usize, end: usize) -> Option<u64> {
-    if first <= end && end <= prefix.len() {
-        return Some(prefix.load(first, end));
-    }
-    None
-}
-
-#[test]
-fn loads_of_ranges_by_running_sums(rt: HostRuntime) {
-    let prefix = prefix(&rt, &[1, 2, 3, 4, 5]);
-    assert_for(&rt, prefix.len() == 5 && !prefix.is_empty(), "length");
-    const ROWS: [(usize, usize, u64); 5] = [
-        (0, 0, 0),
-        (0, 5, 15),
-        (2, 5, 12),
-        (4, 5, 5),
-        (5, 5, 0),
-    ];
-    for row in &ROWS {
-        assert_for(&rt, load_of(&prefix, row.0, row.1) == Some(row.2), row);
-    }
-    drop(prefix);
-}
-
-// Whether a full array is divided into one block.
-fn is_full_divided(rt: &(impl Abort + AllocGlobal), row: &FullArray) -> bool {
-    let full = full_loads(rt, row.0);
-    let division = divided(rt, &full, 1);
-    let found = is_whole_array(&division, row.1);
-    drop(division);
-    drop(full);
-    found
 }
 
 #[test]
 fn a_full_array_of_full_loads(rt: HostRuntime) {
-    for row in &FULL_ARRAYS {
-        assert_for(&rt, is_full_divided(&rt, row), row);
+    for &(load, all) in &FULL_ARRAYS {
+        let division = divided(&rt, &full_loads(&rt, load), 1);
+        assert_for(&rt, is_whole_array(&division, all), load);
     }
 }
 
@@ -180,7 +121,6 @@ fn is_least(rt: &(impl Abort + AllocGlobal), loads: &Loads, pes: u32) -> bool
     let division = divided(rt, loads, pes);
     let bottleneck = division.bottleneck;
     let certified = check_division(loads, pes, &division).is_ok();
-    drop(division);
     certified && reference::least_peak(loads, pes) == Some(bottleneck)
 }
 
@@ -191,8 +131,6 @@ fn expect_least(rt: &(impl Abort + AllocGlobal), length: u32, number: usize) {
     for pes in 1..=4 {
         assert_for(rt, is_least(rt, &loads, pes), (units.as_slice(), pes));
     }
-    drop(loads);
-    drop(units);
 }
 
 // All chains of this length have least divisions for up to four PEs.

@@ -14,8 +14,6 @@ mod divisions;
 #[cfg(test)]
 mod equal_costs;
 #[cfg(test)]
-mod equality;
-#[cfg(test)]
 mod fixtures;
 #[cfg(test)]
 mod limits;
@@ -28,6 +26,8 @@ mod namings;
 #[cfg(test)]
 mod plain_namings;
 pub mod reference;
+#[cfg(test)]
+mod values;
 #[cfg(test)]
 mod walks;
 #[cfg(test)]

@@ -5,7 +5,7 @@ use chare_index::Limits;
 
 #[test]
 fn each_limit_has_its_number(rt: HostRuntime) {
-    const ROWS: [(u64, u64); 11] = [
+    static ROWS: [(u64, u64); 11] = [
         (Limits::ELEMENTS as u64, 65_536),
         (Limits::PES as u64, 256),
         (Limits::LOAD, 140_737_488_355_327),

@@ -3,7 +3,7 @@
 ghost use Rattle.std.specs.Prelude.{◌≤◌};
 
 use crate::fixtures::{assert_for, ends_of, list, prefix, push};
-use chain_partition::{Probe, probe_on};
+use chain_partition::probe_on;
 use lb_snapshot::Units;
 use std::process::Abort;
 
@@ -32,35 +32,6 @@ fn are_plain_ends(ends: &[u32], units: &[Units], limit: u64) -> bool {
     ends.first() == Some(&0)
 }
 
-fn probed(rt: &(impl Abort + AllocGlobal), units: &[Units], pes: u32, limit: u64) -> Probe
-    requires some_pe { 1 ≤ pes }
-    requires few_pes { pes ≤ 256 }
-{
-    let prefix = prefix(rt, units);
-    let answer = probe_on(rt.alloc(), &prefix, pes, limit).expect(rt, "out of memory");
-    drop(prefix);
-    answer
-}
-
-// Whether the last of these ends is that of the last element.
-fn is_whole(ends: &[u32], units: &[Units]) -> bool {
-    let Some(&end) = ends.last() else {
-        return false;
-    };
-    end as usize == units.len()
-}
-
-// The ends of a probe, which has to fit exactly where they reach the last element.
-fn probed_ends(rt: &(impl Abort + AllocGlobal), units: &[Units], pes: u32, limit: u64) -> Vec<u32>
-    requires some_pe { 1 ≤ pes }
-    requires few_pes { pes ≤ 256 }
-{
-    let (fits, ends) = ends_of(probed(rt, units, pes, limit));
-    let whole = is_whole(&ends, units);
-    assert_for(rt, whole == fits, (units, pes, limit));
-    ends
-}
-
 // A number far from those of neighboring seeds.
 fn scattered(seed: u64) -> u64 {
     seed.wrapping_add(1).wrapping_mul(0x9e37_79b9_7f4a_7c15) >> 33
@@ -77,17 +48,15 @@ fn some_units(rt: &(impl Abort + AllocGlobal), number: u64) -> Vec<Units> {
     units
 }
 
-// This number of blocks of these loads end where a plain walk ends.
-fn expect_plain_ends(rt: &(impl Abort + AllocGlobal), units: &[Units], pes: u32, limit: u64)
+// Whether this number of blocks of these loads end where a plain walk ends.
+fn end_as_walked(rt: &(impl Abort + AllocGlobal), units: &[Units], pes: u32, limit: u64) -> bool
     requires some_pe { 1 ≤ pes }
     requires few_pes { pes ≤ 256 }
 {
-    let ends = probed_ends(rt, units, pes, limit);
-    let counted = ends.len() == pes as usize + 1;
-    let plain = are_plain_ends(&ends, units, limit);
-    drop(ends);
-    assert_for(rt, counted, ("count", units, pes, limit));
-    assert_for(rt, plain, (units, pes, limit));
+    let prefix = prefix(rt, units);
+    let answer = probe_on(rt.alloc(), &prefix, pes, limit).expect(rt, "out of memory");
+    let (_, ends) = ends_of(answer);
+    ends.len() == pes as usize + 1 && are_plain_ends(&ends, units, limit)
 }
 
 #[test]
@@ -95,7 +64,6 @@ fn blocks_end_where_a_plain_walk_ends(rt: HostRuntime) {
     for number in 0u64..1000 {
         let units = some_units(&rt, number);
         let (pes, limit) = (1 + (number % 7) as u32, scattered(number) % 64);
-        expect_plain_ends(&rt, &units, pes, limit);
-        drop(units);
+        assert_for(&rt, end_as_walked(&rt, &units, pes, limit), number);
     }
 }

@@ -4,14 +4,14 @@
 ghost use Rattle.std.specs.Prelude.{◌≤◌};
 
 use crate::fixtures::{
-    EXAMPLE, FULL_ARRAYS, FullArray, assert_for, full_loads, is_division, is_whole_array, loads,
-    same, snapshot,
+    EXAMPLE_PLAN, FULL_ARRAYS, assert_for, example, full_loads, is_division, is_plan,
+    is_whole_array, loads, same,
 };
 use chain_partition::divide_with;
 use chare_index::{Gate, NoGate};
 use lb_certificates::Division;
-use lb_snapshot::{Loads, Snapshot, Units};
-use lb_strategy::{Decision, check, plan_with};
+use lb_snapshot::{Loads, Units};
+use lb_strategy::plan_with;
 use std::process::Abort;
 use std::sync::atomic::{AtomicU64, Ordering};
 use std::thread::Threads;
@@ -36,26 +36,15 @@ fn any_number_of_workers_divides_the_same(rt: HostRuntime) {
     for workers in 1..=64 {
         let division = divided(&rt, &five, 2, workers);
         let found = is_division(&division, 9, &[0, 3, 5], &[0, 3, 4]);
-        drop(division);
         assert_for(&rt, found, ("workers", workers));
     }
-    drop(five);
-}
-
-// Whether the most workers that are allowed divide a full array into one block.
-fn is_full_divided<R: Threads + Sync + Abort + AllocGlobal>(rt: &R, row: &FullArray) -> bool {
-    let full = full_loads(rt, row.0);
-    let division = divided(rt, &full, 1, 64);
-    let found = is_whole_array(&division, row.1);
-    drop(division);
-    drop(full);
-    found
 }
 
 #[test]
 fn many_workers_divide_a_full_array(rt: HostRuntime) {
-    for row in &FULL_ARRAYS {
-        assert_for(&rt, is_full_divided(&rt, row), row);
+    for &(load, all) in &FULL_ARRAYS {
+        let division = divided(&rt, &full_loads(&rt, load), 1, 64);
+        assert_for(&rt, is_whole_array(&division, all), load);
     }
 }
 
@@ -124,39 +113,24 @@ fn counted<R: Threads + Sync + Abort + AllocGlobal>(rt: &R, loads: &Loads, worke
     requires few_workers { workers ≤ 64 }
 {
     let gate = Counting::new();
-    let division = divide_with(rt, rt.alloc(), loads, 2, workers, &gate).expect(
-        rt,
-        "out of memory",
-    );
-    drop(division);
-    let counts = gate.counts();
-    drop(gate);
-    counts
+    let division = divide_with(rt, rt.alloc(), loads, 2, workers, &gate);
+    drop(division.expect(rt, "out of memory"));
+    gate.counts()
 }
 
-// Where one to four workers divide these loads, each of them passes at least this number of times, with its own number.
-fn expect_own_numbers<R: Threads + Sync + Abort + AllocGlobal>(
-    rt: &R,
-    units: &[Units],
-    least: u64,
-) {
-    let loads = loads(rt, units);
-    for workers in 1..=4 {
-        let counts = counted(rt, &loads, workers);
-        assert_for(rt, are_alike(&counts, workers, least), (workers, counts));
-    }
-    drop(loads);
-}
+// Loads, and how often each worker passes at least. In the second row the search is for 5 and begins between 5 and 10: no worker
+// tries 5 in the first round, so there is a second one.
+static PASSES: [(&[Units], u64); 2] = [(&[1, 2, 3, 4, 5], 1), (&[5, 1, 1, 1, 1, 1], 2)];
 
 #[test]
 fn each_worker_passes_with_its_own_number(rt: HostRuntime) {
-    expect_own_numbers(&rt, &[1, 2, 3, 4, 5], 1);
-}
-
-// The search is for 5 and begins between 5 and 10. No worker tries 5 in the first round, so there is a second one.
-#[test]
-fn each_worker_passes_in_each_round(rt: HostRuntime) {
-    expect_own_numbers(&rt, &[5, 1, 1, 1, 1, 1], 2);
+    for &(units, least) in &PASSES {
+        let loads = loads(&rt, units);
+        for workers in 1..=4 {
+            let counts = counted(&rt, &loads, workers);
+            assert_for(&rt, are_alike(&counts, workers, least), (workers, counts));
+        }
+    }
 }
 
 // The number of turns that a worker waits for the other.
@@ -212,10 +186,7 @@ impl Meeting {
 fn divides_in_halves<R: Threads + Sync + Abort + AllocGlobal>(rt: &R, gate: &Meeting) -> bool {
     let full = full_loads(rt, 140_737_488_355_327);
     let division = divide_with(rt, rt.alloc(), &full, 2, 2, gate).expect(rt, "out of memory");
-    drop(full);
-    let found = same(division.cuts.as_slice(), &[0, 32_768, 65_536]);
-    drop(division);
-    found
+    same(division.cuts.as_slice(), &[0, 32_768, 65_536])
 }
 
 #[test]
@@ -223,84 +194,14 @@ fn two_probes_overlap(rt: HostRuntime) {
     let gate = Meeting::new();
     assert_for(&rt, divides_in_halves(&rt, &gate), "halves");
     gate.expect_met(&rt);
-    drop(gate);
-}
-
-// Whether this is the decision on the example.
-fn is_planned(planned: &Decision) -> bool {
-    let &[step] = planned.moves.as_slice() else {
-        return false;
-    };
-    is_division(&planned.division, 2, &[0, 2, 3], &[0, 1, 2])
-        && same(planned.naming.as_slice(), &[1, 0])
-        && (step.0.get(), step.1.get(), step.2.get()) == (0, 0, 1)
-        && planned.moved == 10
-}
-
-fn planned<R: Threads + Sync + Abort + AllocGlobal, G: Gate + Sync>(
-    rt: &R,
-    example: &Snapshot,
-    workers: u32,
-    gate: &G,
-) -> Decision
-    requires some_worker { 1 ≤ workers }
-    requires few_workers { workers ≤ 64 }
-{
-    plan_with(rt, rt.alloc(), example, 2, workers, gate).expect(rt, "out of memory")
-}
-
-// Whether this number of workers at this gate plan the example, and the check accepts the plan.
-fn is_example_planned<R: Threads + Sync + Abort + AllocGlobal, G: Gate + Sync>(
-    rt: &R,
-    example: &Snapshot,
-    workers: u32,
-    gate: &G,
-) -> bool
-    requires some_worker { 1 ≤ workers }
-    requires few_workers { workers ≤ 64 }
-{
-    let planned = planned(rt, example, workers, gate);
-    let found = is_planned(&planned) && check(example, 2, &planned).is_ok();
-    drop(planned);
-    found
-}
-
-#[test]
-fn three_workers_plan_the_example(rt: HostRuntime) {
-    let example = snapshot(&rt, 2, &EXAMPLE);
-    assert_for(
-        &rt,
-        is_example_planned(&rt, &example, 3, &NoGate),
-        "another plan",
-    );
-    drop(example);
 }
 
 #[test]
 fn each_of_three_workers_that_plan_passes_with_its_own_number(rt: HostRuntime) {
-    let example = snapshot(&rt, 2, &EXAMPLE);
     let gate = Counting::new();
-    assert_for(
-        &rt,
-        is_example_planned(&rt, &example, 3, &gate),
-        "another plan",
-    );
-    drop(example);
+    let planned = plan_with(&rt, rt.alloc(), &example(&rt), 2, 3, &gate);
+    let planned = planned.expect(&rt, "out of memory");
+    assert_for(&rt, is_plan(&rt, &planned, &EXAMPLE_PLAN), "another plan");
     let counts = gate.counts();
-    drop(gate);
-    assert_for(&rt, are_alike(&counts, 3, 1), counts);
-}
-
-#[test]
-fn two_probes_of_a_plan_overlap(rt: HostRuntime) {
-    let example = snapshot(&rt, 2, &EXAMPLE);
-    let gate = Meeting::new();
-    assert_for(
-        &rt,
-        is_example_planned(&rt, &example, 2, &gate),
-        "another plan",
-    );
-    drop(example);
-    gate.expect_met(&rt);
-    drop(gate);
+    assert_for(&rt, are_alike(&counts, 3, 1), (3, counts));
 }

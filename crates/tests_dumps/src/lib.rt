@@ -3,28 +3,20 @@
 #![tactic(auto)]
 
 #[cfg(test)]
-mod changed;
-#[cfg(test)]
 mod database;
-#[cfg(test)]
-mod dumps;
 #[cfg(test)]
 mod feeding;
 #[cfg(test)]
 mod fixtures;
 #[cfg(test)]
-mod full_dumps;
-#[cfg(test)]
-mod full_recorded;
+mod full;
 #[cfg(test)]
 mod made;
 #[cfg(test)]
 mod parts;
 #[cfg(test)]
-mod recorded;
-#[cfg(test)]
 mod slow_reader;
 #[cfg(test)]
 mod streams;
 #[cfg(test)]
-mod wide;
+mod texts;

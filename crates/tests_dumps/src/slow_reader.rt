@@ -1,21 +1,17 @@
 //! A slow reader of both formats, which takes the fields one after another, and every text that differs from an example in
-//! one byte: its first fault, or its numbers.
+//! one byte: its first fault, or the same text again.
 
-use crate::fixtures::{assert_for, changed, push, same};
-use dump_format::{Dump, DumpError, Recorded};
-use lb_certificates::Floor;
+use crate::fixtures::{assert_for, changed, comes_to};
+use dump_format::DumpError;
 use lb_dump::decode;
-use lb_snapshot::Snapshot;
-use lb_strategy::Decision;
 use std::process::Abort;
 use tests_fixtures::{EXAMPLE_DUMP, RECORDED_DUMP};
 
-// What was read of a text: where the next field begins, and the numbers before it.
+// A text that is read, and where its next field begins.
 #[derive(Drop)]
 struct Reading<'a> {
     text: &'a [u8],
     at: usize,
-    numbers: Vec<u64>,
 }
 
 // The number of these bytes, the highest first.
@@ -34,10 +30,8 @@ fn next(reading: &mut Reading<'_>, len: usize) -> Result<u64, DumpError> {
         let end = u32::try_from(reading.text.len()).unwrap_or(u32::MAX);
         return Err(DumpError::Short(end));
     }
-    let number = number_of(&rest[..len]);
     reading.at = reading.at.saturating_add(len);
-    reading.numbers.push(number)?;
-    Ok(number)
+    Ok(number_of(&rest[..len]))
 }
 
 // The next number, which has this fault where it is outside a range.
@@ -143,141 +137,31 @@ fn read_numbers(reading: &mut Reading<'_>, load_len: usize) -> Result<(), DumpEr
 }
 
 // A whole text.
-fn read_text(reading: &mut Reading<'_>) -> Result<(), DumpError> {
-    let load_len = read_letters(reading)?;
-    read_numbers(reading, load_len)?;
-    if reading.at < reading.text.len() {
+fn read_text(text: &[u8]) -> Result<(), DumpError> {
+    let mut reading = Reading { text, at: 0 };
+    let load_len = read_letters(&mut reading)?;
+    read_numbers(&mut reading, load_len)?;
+    if reading.at < text.len() {
         return Err(DumpError::Trailing);
     }
     Ok(())
 }
 
-// Adds these numbers.
-fn push_words(rt: &impl Abort, numbers: &mut Vec<u64>, words: &[u32]) {
-    for word in words {
-        push(rt, numbers, u64::from(*word));
-    }
-}
-
-fn push_prices(rt: &impl Abort, numbers: &mut Vec<u64>, prices: &[i64]) {
-    for price in prices {
-        push(rt, numbers, u64::from_be_bytes(price.to_be_bytes()));
-    }
-}
-
-// Adds the numbers of a snapshot.
-fn push_snapshot(rt: &impl Abort, numbers: &mut Vec<u64>, snapshot: &Snapshot) {
-    let pairs = snapshot.sizes().as_slice();
-    let count = u32::try_from(pairs.len()).unwrap_or(u32::MAX);
-    push_words(rt, numbers, &[snapshot.step(), snapshot.procs(), count]);
-    for (load, &(size, place)) in snapshot.loads().as_slice().iter().zip(pairs) {
-        push(rt, numbers, *load);
-        push_words(rt, numbers, &[size, place.get()]);
-    }
-}
-
-// Adds the numbers of a decision's moves.
-fn push_moves(rt: &impl Abort, numbers: &mut Vec<u64>, decision: &Decision) {
-    let moves = decision.moves.as_slice();
-    push_words(
-        rt,
-        numbers,
-        &[u32::try_from(moves.len()).unwrap_or(u32::MAX)],
-    );
-    for &(index, present, planned) in moves {
-        push_words(rt, numbers, &[index.get(), present.get(), planned.get()]);
-    }
-}
-
-// Adds the numbers of a floor.
-fn push_floor(rt: &impl Abort, numbers: &mut Vec<u64>, floor: &Floor) {
-    match floor {
-        Floor::Zero => push_words(rt, numbers, &[0]),
-        Floor::Fence(stops) => {
-            push_words(rt, numbers, &[1]);
-            push_words(rt, numbers, stops.as_slice());
-        }
-    }
-}
-
-// Adds the numbers of a decision, after the flag 1.
-fn push_recorded(rt: &impl Abort, numbers: &mut Vec<u64>, recorded: &Recorded) {
-    let decision = &recorded.decision;
-    push_words(rt, numbers, &[1, recorded.target]);
-    push(rt, numbers, decision.division.bottleneck);
-    push_words(rt, numbers, decision.division.cuts.as_slice());
-    push_floor(rt, numbers, &decision.division.floor);
-    push_words(rt, numbers, decision.naming.as_slice());
-    push_prices(rt, numbers, decision.prices.u.as_slice());
-    push_prices(rt, numbers, decision.prices.v.as_slice());
-    push(rt, numbers, decision.moved);
-    push_moves(rt, numbers, decision);
-}
-
-// The numbers of a dump after letters that end with this one.
-fn push_dump(rt: &impl Abort, numbers: &mut Vec<u64>, dump: &Dump, format: u64) {
-    push_snapshot(rt, numbers, dump.snapshot());
-    match dump.recorded() {
-        Some(recorded) => push_recorded(rt, numbers, recorded),
-        None if format == 50 => push_words(rt, numbers, &[0]),
-        None => {}
-    }
-}
-
-// Whether these are the numbers of a dump, after the letters.
-fn has_numbers(rt: &(impl Abort + AllocGlobal), dump: &Dump, numbers: &[u64]) -> bool {
-    if numbers.len() < 4 {
-        return false;
-    }
-    let mut found = Vec::new(rt.alloc());
-    push_dump(rt, &mut found, dump, numbers[3]);
-    let has = same(&found, &numbers[4..]);
-    drop(found);
-    has
-}
-
-// Whether a result is that of the slow reader, with these numbers.
-fn is_read_so(
-    rt: &(impl Abort + AllocGlobal),
-    found: Result<Dump, DumpError>,
-    read: Result<(), DumpError>,
-    numbers: &[u64],
-) -> bool {
-    let same = match (&found, read) {
-        (Ok(dump), Ok(())) => has_numbers(rt, dump, numbers),
-        (Err(found), Err(fault)) => *found == fault,
-        _ => false,
-    };
-    drop(found);
-    same
-}
-
-// Whether the result of decoding a text is that of the slow reader.
+// Whether a text has the fault of the slow reader, or otherwise gives a dump that has this text.
 fn agrees(rt: &(impl Abort + AllocGlobal), text: &[u8]) -> bool {
-    let mut reading = Reading {
-        text,
-        at: 0,
-        numbers: Vec::new(rt.alloc()),
+    let expected = match read_text(text) {
+        Ok(()) => Ok(text),
+        Err(fault) => Err(fault),
     };
-    let read = read_text(&mut reading);
-    let same = is_read_so(rt, decode(rt.alloc(), text), read, &reading.numbers);
-    drop(reading);
-    same
-}
-
-// Whether it is so for a text with this byte at an offset.
-fn agrees_with(rt: &(impl Abort + AllocGlobal), text: &[u8], offset: usize, byte: u8) -> bool {
-    let text = changed(rt, text, offset, byte);
-    let agrees = agrees(rt, &text);
-    drop(text);
-    agrees
+    comes_to(rt, decode(rt.alloc(), text), expected)
 }
 
 // It has to be so for a text with any byte at this offset.
 fn expect_to_agree(rt: &(impl Abort + AllocGlobal), text: &[u8], offset: usize) {
     for byte in 0..=255u8 {
-        let agrees = agrees_with(rt, text, offset, byte);
-        assert_for(rt, agrees, (offset, byte));
+        let text = changed(rt, text, offset, byte);
+        assert_for(rt, agrees(rt, &text), offset);
+        drop(text);
     }
 }
 

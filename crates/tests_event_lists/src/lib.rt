@@ -1,5 +1,5 @@
-//! Tests of the text of lists of events: each form, each fault with its line, the largest numbers, the longest list, and
-//! refused memory. They use public calls only.
+//! Tests of the text of lists of events: each form, each fault with its line, the longest list, and refused memory. They use
+//! public calls only.
 #![tactic(auto)]
 
 #[cfg(test)]

@@ -1,14 +1,33 @@
-//! Each request for memory refused in turn, and texts that need none.
+//! Each request for memory refused in turn, of a list that is written and of one that is read; and a text that needs none.
 
-use crate::fixtures::{NINE, assert_for, nine_events};
+use crate::fixtures::assert_for;
+use chare_index::Index;
 use event_lists::{EventListError, read_events, write_events};
 use rts_core::Event;
 use std::alloc::{AllocError, Allocator};
-use std::process::Abort;
-use tests_fixtures::{Outcome, Refusing, each_refusal};
+use tests_fixtures::{Outcome, Refusing, each_refusal, pe};
 
 // No call here makes this many requests.
 const MOST_TURNS: u64 = 40;
+
+// The text of the nine events.
+const NINE: &[u8] =
+    b"Start 0 3\nLook 1\nFlush 255\nDeliver 0\nAct 10\nReport 1\nDecide\nDepart 0 65535\nResume 1 0\n";
+
+// An event of each form.
+fn nine_events() -> [Event; 9] {
+    [
+        Event::Start(pe(0), Index::new(3).unwrap()),
+        Event::Look(pe(1)),
+        Event::Flush(pe(255)),
+        Event::Deliver(pe(0)),
+        Event::Act(pe(10)),
+        Event::Report(pe(1)),
+        Event::Decide,
+        Event::Depart(pe(0), Index::new(65_535).unwrap()),
+        Event::Resume(pe(1), Index::new(0).unwrap()),
+    ]
+}
 
 // Whether these events are written as their text.
 fn writes<A: Allocator>(alloc: A, events: &[Event]) -> Outcome {
@@ -29,38 +48,18 @@ fn reads<A: Allocator>(alloc: A, events: &[Event]) -> Outcome {
 }
 
 #[test]
-fn a_refusal_while_writing_is_told(rt: HostRuntime) {
-    let events = nine_events(&rt);
-    let met = each_refusal(rt.alloc(), MOST_TURNS, |alloc| writes(alloc, &events));
-    assert_for(&rt, met.is_ok_and(|refusals| refusals > 0), met);
-}
-
-#[test]
-fn a_refusal_while_reading_is_told(rt: HostRuntime) {
-    let events = nine_events(&rt);
-    let met = each_refusal(rt.alloc(), MOST_TURNS, |alloc| reads(alloc, &events));
-    assert_for(&rt, met.is_ok_and(|refusals| refusals > 0), met);
-}
-
-// Whether this text is read without a request for memory, with this fault or none.
-fn reads_without_memory(rt: &impl AllocGlobal, text: &[u8], fault: Option<EventListError>) -> bool {
-    let alloc = Refusing::new(rt.alloc(), 1);
-    let read = read_events(&alloc, text).err() == fault;
-    read && !alloc.has_refused()
+fn each_form_is_written_and_read_and_each_refusal_is_told(rt: HostRuntime) {
+    let events = nine_events();
+    let written = each_refusal(rt.alloc(), MOST_TURNS, |alloc| writes(alloc, &events));
+    assert_for(&rt, matches!(written, Ok(1..)), "written");
+    let read = each_refusal(rt.alloc(), MOST_TURNS, |alloc| reads(alloc, &events));
+    assert_for(&rt, matches!(read, Ok(1..)), "read");
 }
 
 #[test]
 fn a_fault_in_the_first_line_takes_no_memory(rt: HostRuntime) {
-    let rows = [
-        (b"".as_slice(), None),
-        (b"Look 256\n".as_slice(), Some(EventListError::Limit(1))),
-        (b"Look 1".as_slice(), Some(EventListError::Form(1))),
-    ];
-    for (text, fault) in &rows {
-        assert_for(
-            &rt,
-            reads_without_memory(&rt, text, *fault),
-            (*text, *fault),
-        );
-    }
+    let alloc = Refusing::new(rt.alloc(), 1);
+    let found = read_events(&alloc, b"Look 256\n").err();
+    assert_for(&rt, found == Some(EventListError::Limit(1)), "fault");
+    assert_for(&rt, !alloc.has_refused(), "memory");
 }

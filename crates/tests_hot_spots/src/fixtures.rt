@@ -3,27 +3,20 @@
 ghost use Rattle.std.specs.Prelude.{◌≡◌, true};
 
 use at_sync::Strategy;
-use hot_spot_strip::{Chain, Mode};
-use rts_run::Config;
+use hot_spot_run::run_chain;
+use hot_spot_strip::{Chain, ChainError, Mode, Strip};
+use rts_run::{Config, Outcome};
+use std::alloc::Allocator;
 use std::fmt::Debug;
 use std::process::Abort;
+use std::sync::Wait;
+use std::thread::Threads;
 
 /// Ends the test where this does not hold, and shows the row that it should hold for.
 pub(crate) fn assert_for<R: Debug + Copy>(rt: &impl Abort, holds: bool, row: R)
     ensures held { holds ≡ true }
 {
     assert!(rt; holds, "{row:?}");
-}
-
-/// A run on this number of PEs, with this capacity of each queue, whose workers are patient.
-pub(crate) fn patient(pes: u32, capacity: u32) -> Config {
-    Config {
-        pes,
-        capacity,
-        turns: 1_000_000_000,
-        probe_workers: 1,
-        strategy: Strategy::Least,
-    }
 }
 
 /// A chain of strips with these numbers of cells.
@@ -34,4 +27,22 @@ pub(crate) fn chain<'a>(mode: Mode, rounds: u32, work: u32, cells: &'a [u32]) ->
         work,
         cells,
     }
+}
+
+/// Runs a chain on this number of PEs, with this capacity of each queue, by workers that are patient.
+pub(crate) fn run_on<R: Threads + Wait + Sync, A: Allocator + Copy + Send + Sync>(
+    rt: &R,
+    alloc: A,
+    pes: u32,
+    capacity: u32,
+    chain: &Chain<'_>,
+) -> Result<Outcome<Strip<A>, A>, ChainError> {
+    let config = Config {
+        pes,
+        capacity,
+        turns: 1_000_000_000,
+        probe_workers: 1,
+        strategy: Strategy::Least,
+    };
+    run_chain(rt, alloc, &config, chain)
 }

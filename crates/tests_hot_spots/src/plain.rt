@@ -73,9 +73,8 @@ fn beside(cells: &[(usize, u64)], i: Option<usize>, place: usize) -> u64 {
 // The first outputs of SplitMix64 with the seed 1234567, as published.
 #[test]
 fn mixing_is_splitmix64(rt: HostRuntime) {
-    let gamma = 0x9e37_79b9_7f4a_7c15u64;
-    let seed = 1_234_567u64;
-    assert!(rt; mix(seed) == 6_457_827_717_110_365_317);
-    assert!(rt; mix(seed.wrapping_add(gamma)) == 3_203_168_211_198_807_973);
+    let (seed, gamma) = (1_234_567u64, 0x9e37_79b9_7f4a_7c15u64);
+    let next = mix(seed.wrapping_add(gamma));
+    assert!(rt; mix(seed) == 6_457_827_717_110_365_317 && next == 3_203_168_211_198_807_973);
     assert!(rt; mixed(seed, 2) == mix(6_457_827_717_110_365_317));
 }

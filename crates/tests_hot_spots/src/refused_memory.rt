@@ -1,7 +1,7 @@
 //! A small run, with each of its requests for memory refused in turn.
 
-use crate::fixtures::{assert_for, chain, patient};
-use hot_spot_run::{checksum, run_chain};
+use crate::fixtures::{assert_for, chain, run_on};
+use hot_spot_run::checksum;
 use hot_spot_strip::{ChainError, Mode, Strip};
 use pe_worker::Fault;
 use rts_run::Outcome;
@@ -19,46 +19,11 @@ const SUM: u64 = 0x8f73_fb93_ecab_6f4c;
 
 type Lent<'a> = &'a Refusing<Global>;
 
-// What is left is complete, whether or not a request was refused: a fault is reported, and the counts add up.
-fn expect_whole<'a>(
-    rt: &(impl Abort + AllocGlobal),
-    outcome: &Outcome<Strip<Lent<'a>>, Lent<'a>>,
-    turn: u64,
-) {
-    let account = outcome.account();
-    let whole = account.executed.checked_add(account.held);
-    assert_for(rt, whole == Some(account.posted), (turn, account));
-    assert_for(rt, strips_found(outcome) == 2, turn);
+// Whether a run ended early because memory was refused, or has its checksum.
+fn is_whole<'a>(outcome: &Outcome<Strip<Lent<'a>>, Lent<'a>>) -> bool {
     match outcome.fault() {
-        None => assert_for(rt, checksum(2, outcome) == Some(SUM), turn),
-        fault => assert_for(rt, fault == Some(Fault::OutOfMemory), (turn, fault)),
-    }
-}
-
-// How many strips there are: in rooms, in hands, in outboxes and in queues.
-fn strips_found<'a>(outcome: &Outcome<Strip<Lent<'a>>, Lent<'a>>) -> u64 {
-    let mut found = 0u64;
-    for end in outcome.ends() {
-        found = found.saturating_add(end.room().len() as u64);
-        if let Some(item) = end.hand() {
-            found = found.saturating_add(elements_in(&item.parcel));
-        }
-        for item in end.outbox().iter() {
-            found = found.saturating_add(elements_in(&item.parcel));
-        }
-    }
-    for queue in outcome.left() {
-        for parcel in queue {
-            found = found.saturating_add(elements_in(parcel));
-        }
-    }
-    found
-}
-
-fn elements_in<'a>(parcel: &pe_state::HeldParcel<Lent<'a>>) -> u64 {
-    match parcel {
-        chares::Carried::Element(_) => 1,
-        chares::Carried::Letter(_) => 0,
+        None => checksum(2, outcome) == Some(SUM),
+        fault => fault == Some(Fault::OutOfMemory),
     }
 }
 
@@ -69,21 +34,15 @@ fn refuses<R: Threads + Wait + Sync + Abort + AllocGlobal>(
     turn: u64,
 ) -> bool {
     let alloc = Refusing::new(rt.alloc(), turn);
-    let cells = [3, 2];
-    match run_chain(
-        rt,
-        &alloc,
-        &patient(2, 1_024),
-        &chain(Mode::Balanced, 4, 7, &cells),
-    ) {
+    match run_on(rt, &alloc, 2, 1_024, &chain(Mode::Balanced, 4, 7, &[3, 2])) {
         Ok(outcome) => {
-            expect_whole(rt, &outcome, turn);
+            assert_for(rt, is_whole(&outcome), turn);
             if outcome.fault().is_some() {
                 *early = early.saturating_add(1);
             }
             drop(outcome);
         }
-        Err(error) => assert_for(rt, error == ChainError::OutOfMemory, (turn, error)),
+        Err(error) => assert_for(rt, error == ChainError::OutOfMemory, turn),
     }
     alloc.has_refused()
 }

@@ -1,10 +1,9 @@
 //! Runs of chains, whose checksums were computed by a separate program.
 
-use crate::fixtures::{assert_for, chain, patient};
+use crate::fixtures::{assert_for, chain, run_on};
 use crate::plain::plain_checksum;
-use hot_spot_run::{checksum, run_chain, text_of};
+use hot_spot_run::{checksum, text_of};
 use hot_spot_strip::{Chain, Mode};
-use rts_run::Config;
 use std::process::Abort;
 use std::sync::Wait;
 use std::thread::Threads;
@@ -12,81 +11,58 @@ use std::thread::Threads;
 // The checksum that a run leaves.
 fn ran<R: Threads + Wait + Sync + Abort + AllocGlobal>(
     rt: &R,
-    config: &Config,
+    pes: u32,
+    capacity: u32,
     chain: &Chain<'_>,
-) -> u64 {
-    let outcome = run_chain(rt, rt.alloc(), config, chain).expect(rt, "the run did not begin");
-    assert_for(rt, outcome.fault() == None, (config.pes, chain.mode));
-    let account = outcome.account();
-    assert_for(
-        rt,
-        account.held == 0 && account.posted == account.executed,
-        account,
-    );
-    let n = u32::try_from(chain.cells.len()).expect(rt, "too many strips");
-    let sum = checksum(n, &outcome).expect(rt, "a strip is on its way");
-    drop(outcome);
-    sum
+) -> Option<u64> {
+    let outcome = run_on(rt, rt.alloc(), pes, capacity, chain).expect(rt, "it did not begin");
+    assert_for(rt, outcome.fault() == None, (pes, capacity));
+    assert_for(rt, outcome.account().held == 0, (pes, capacity));
+    checksum(u32::try_from(chain.cells.len()).unwrap_or(0), &outcome)
 }
 
-// The checksum is the same for every number of PEs, with queues for one parcel and for many, with balancing and without, and
-// is that of the plain loop.
-fn expect_everywhere<R: Threads + Wait + Sync + Abort + AllocGlobal>(
-    rt: &R,
-    rounds: u32,
-    work: u32,
-    cells: &[u32],
-    sum: u64,
-) {
-    let plain = chain(Mode::Balanced, rounds, work, cells);
-    assert_for(rt, plain_checksum(rt, &plain) == sum, (cells.len(), rounds));
-    for pes in [1, 2, 3, 8] {
-        for capacity in [1, 1_024] {
-            for mode in [Mode::Balanced, Mode::Static] {
-                let found = ran(
-                    rt,
-                    &patient(pes, capacity),
-                    &chain(mode, rounds, work, cells),
-                );
-                assert_for(rt, found == sum, (pes, capacity, mode, found));
-            }
-        }
+// The rounds, the work and the cells of each strip of a chain, and its checksum.
+type Row<'a> = (u32, u32, &'a [u32], u64);
+
+static ROWS: [Row<'static>; 7] = [
+    (3, 5, &[], 0),
+    (5, 9, &[4], 0x2dc1_0790_5978_d5fd),
+    (4, 7, &[3, 2], 0x8f73_fb93_ecab_6f4c),
+    (6, 10, &[2, 0, 3, 1], 0x9e0a_9cf8_d28f_6ac0),
+    (2, 1, &[0], 0),
+    (0, 3, &[5, 4], 0xcc26_93a1_0c3c_0b38),
+    (8, 20, &[2; 12], 0x72fc_4b12_cdeb_7d25),
+];
+
+// How many PEs, the capacity of each queue, and whether the strips are balanced.
+static RUNS: [(u32, u32, Mode); 8] = [
+    (1, 1, Mode::Balanced),
+    (2, 1_024, Mode::Balanced),
+    (3, 1, Mode::Balanced),
+    (8, 1_024, Mode::Balanced),
+    (1, 1_024, Mode::Static),
+    (2, 1, Mode::Static),
+    (3, 1_024, Mode::Static),
+    (8, 1, Mode::Static),
+];
+
+// The checksum of a row is that of every run, and that of the plain loop.
+fn expect_everywhere<R: Threads + Wait + Sync + Abort + AllocGlobal>(rt: &R, row: &Row<'_>) {
+    let (rounds, work, cells, sum) = *row;
+    let plain = plain_checksum(rt, &chain(Mode::Balanced, rounds, work, cells));
+    assert_for(rt, plain == sum, sum);
+    for (pes, capacity, mode) in &RUNS {
+        let chain = chain(*mode, rounds, work, cells);
+        let found = ran(rt, *pes, *capacity, &chain);
+        assert_for(rt, found == Some(sum), (*pes, *capacity));
     }
 }
 
 #[test]
-fn no_strip(rt: HostRuntime) {
-    expect_everywhere(&rt, 3, 5, &[], 0);
-}
-
-#[test]
-fn one_strip(rt: HostRuntime) {
-    expect_everywhere(&rt, 5, 9, &[4], 0x2dc1_0790_5978_d5fd);
-}
-
-#[test]
-fn two_strips(rt: HostRuntime) {
-    expect_everywhere(&rt, 4, 7, &[3, 2], 0x8f73_fb93_ecab_6f4c);
-}
-
-#[test]
-fn a_strip_without_cells(rt: HostRuntime) {
-    expect_everywhere(&rt, 6, 10, &[2, 0, 3, 1], 0x9e0a_9cf8_d28f_6ac0);
-}
-
-#[test]
-fn no_cell(rt: HostRuntime) {
-    expect_everywhere(&rt, 2, 1, &[0], 0);
-}
-
-#[test]
-fn no_round(rt: HostRuntime) {
-    expect_everywhere(&rt, 0, 3, &[5, 4], 0xcc26_93a1_0c3c_0b38);
-}
-
-#[test]
-fn twelve_strips(rt: HostRuntime) {
-    expect_everywhere(&rt, 8, 20, &[2; 12], 0x72fc_4b12_cdeb_7d25);
+fn each_run_has_the_checksum_of_the_chain(rt: HostRuntime) {
+    for row in &ROWS {
+        expect_everywhere(&rt, row);
+    }
 }
 
 // What a run of twelve strips of 16 cells on three PEs prints, by a separate program that tries all divisions and namings.
@@ -117,12 +93,11 @@ checksum e4330f4fa711895f
 
 #[test]
 fn the_texts_of_a_run(rt: HostRuntime) {
-    let (cells, config) = ([16; 12], patient(3, 1_024));
-    for (mode, expected) in [(Mode::Balanced, BALANCED), (Mode::Static, STATIC)] {
-        let chain = chain(mode, 8, 100, &cells);
-        let outcome = run_chain(&rt, rt.alloc(), &config, &chain).expect(&rt, "no run");
+    for (mode, expected) in &[(Mode::Balanced, BALANCED), (Mode::Static, STATIC)] {
+        let chain = chain(*mode, 8, 100, &[16; 12]);
+        let outcome = run_on(&rt, rt.alloc(), 3, 1_024, &chain).expect(&rt, "no run");
         let text = text_of(rt.alloc(), &chain, 3, &outcome).expect(&rt, "no text");
-        assert_for(&rt, text.as_str() == expected, mode);
+        assert_for(&rt, text.as_str() == *expected, *mode);
         drop(outcome);
     }
 }

@@ -73,7 +73,7 @@ struct Row<'a> {
 // With one unit more, the greatest sum of loads and 1.
 const TOO_GREAT: u64 = RunLimits::LOAD;
 
-const ROWS: [Row<'static>; 8] = [
+static ROWS: [Row<'static>; 8] = [
     Row {
         loads: &[1, 1],
         bytes: &[1],

@@ -44,7 +44,7 @@ struct Lists {
     step_rises: [u64; STEPS],
 }
 
-const EMPTY: Lists = Lists {
+static EMPTY: Lists = Lists {
     new_places: [7; 10],
     cuts: [7; 4],
     stops: [7; 4],

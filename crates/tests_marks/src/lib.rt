@@ -7,6 +7,4 @@ mod fixtures;
 #[cfg(test)]
 mod marks;
 #[cfg(test)]
-mod no_memory;
-#[cfg(test)]
 mod runs;

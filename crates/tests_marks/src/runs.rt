@@ -1,22 +1,24 @@
 //! Elements that ran: two that started, each on its home, and reached AtSync for round 1. The second is left in each place
 //! where an element can be; the marks agree with a board that has their notes, and not with one that has
-//! another load for either.
+//! another load for either. The check makes no request for memory.
 
 ghost use Rattle.std.specs.Prelude.{◌≡◌, ◌∷◌, [], length, slice_get, Some};
 
-use crate::fixtures::{assert_for, index, new_board, pe, report, round};
+use crate::fixtures::{index, new_board, pe, report, round};
 use at_sync::Board;
 use chare_index::NoGate;
 use chares::{Note, Openings};
 use lb_snapshot::Units;
 use pe_state::{Acted, HeldParcel, Parcel, PeEnd, PeState, into_held};
 use round_marks::{parcels_agree, pe_agrees, run_agrees};
+use std::alloc::{Allocator, Global};
 use std::marker::Brand;
 use std::process::Abort;
 use tests_chares::Courier;
+use tests_fixtures::Refusing;
 
 // Where element 1 is left.
-#[derive(Clone, Copy, Debug, PartialEq, Eq)]
+#[derive(Clone, Copy)]
 enum Place {
     // In the room of its home, PE 1.
     Home,
@@ -30,44 +32,31 @@ enum Place {
     Beside,
 }
 
-const PLACES: [Place; 5] = [
-    Place::Home,
-    Place::Outbox,
-    Place::Queue,
-    Place::Hand,
-    Place::Beside,
-];
-
-// A courier whose letter is for nobody, which it passes over.
-fn courier(rt: &(impl Abort + AllocGlobal)) -> Courier {
-    Courier::with_zeros(rt.alloc(), 9, 1, 0).expect(rt, "no courier")
-}
-
 // A PE of two with the courier of its number, which has started and waits for the end of round 1.
-fn started<H: Openings<Courier>>(
-    rt: &(impl Abort + AllocGlobal),
+fn started<H: Openings<Courier<A>>, A: Allocator + Copy>(
+    rt: &impl Abort,
+    alloc: A,
     me: u32,
-    courier: Courier,
-) -> PeState<Courier, H>
+    courier: Courier<A>,
+) -> PeState<Courier<A>, H, A>
     requires pes { H.pes ≡ 2 }
     requires two { length H.opened ≡ 2 }
     requires opening { slice_get H.opened me ≡ Some courier }
 {
     let (number, e, r0) = (pe(rt, me), index(rt, me), round(rt, 0));
     assert!(rt; me < 2);
-    let mut at = PeState::new(rt.alloc(), number, 2, 2);
+    let mut at = PeState::new(alloc, number, 2, 2);
     at.place(e, courier).expect(rt, "out of memory");
     assert!(rt; r0.get() < 1 && at.may_resume(e, r0));
     assert!(rt; at.resume(&NoGate, e, r0).is_ok());
-    assert!(rt; at.outbox().is_empty() && at.may_depart(e));
     at
 }
 
 // Reports the note of a PE to the board, with this much more load.
-fn report_note<H: Openings<Courier>>(
+fn report_note<H: Openings<Courier<A>>, A: Allocator + Copy>(
     rt: &impl Abort,
-    board: &mut Board,
-    at: &PeState<Courier, H>,
+    board: &mut Board<A>,
+    at: &PeState<Courier<A>, H, A>,
     more: Units,
 ) {
     let note = at.next_note().expect(rt, "no note");
@@ -80,13 +69,14 @@ fn report_note<H: Openings<Courier>>(
 }
 
 // A board of two whose round 1 is decided, which has the notes of these PEs, with this much more load of each.
-fn told<H: Openings<Courier>>(
-    rt: &(impl Abort + AllocGlobal),
-    low: &PeState<Courier, H>,
-    high: &PeState<Courier, H>,
+fn told<H: Openings<Courier<A>>, A: Allocator + Copy>(
+    rt: &impl Abort,
+    alloc: A,
+    low: &PeState<Courier<A>, H, A>,
+    high: &PeState<Courier<A>, H, A>,
     more: (Units, Units),
-) -> Board {
-    let mut board = new_board(rt);
+) -> Board<A> {
+    let mut board = new_board(rt, alloc);
     report_note(rt, &mut board, low, more.0);
     report_note(rt, &mut board, high, more.1);
     assert!(rt; board.decide().is_ok());
@@ -94,157 +84,155 @@ fn told<H: Openings<Courier>>(
 }
 
 // Element 1 departs for PE 0.
-fn depart<H: Openings<Courier>>(rt: &impl Abort, high: &mut PeState<Courier, H>) {
+fn depart<H: Openings<Courier<A>>, A: Allocator + Copy>(
+    rt: &impl Abort,
+    high: &mut PeState<Courier<A>, H, A>,
+) {
     let (e1, to) = (index(rt, 1), pe(rt, 0));
     assert!(rt; to.get() < high.pes() && high.may_depart(e1));
     assert!(rt; high.depart(e1, to).is_ok());
-    assert!(rt; high.room().is_empty() && high.outbox().len() == 1);
 }
 
-// Its parcel leaves PE 1.
-fn sent<H: Openings<Courier>>(
+// It departs, and its parcel leaves PE 1.
+fn sent<H: Openings<Courier<A>>, A: Allocator + Copy>(
     rt: &impl Abort,
-    high: &mut PeState<Courier, H>,
-) -> Parcel<Courier, H> {
+    high: &mut PeState<Courier<A>, H, A>,
+) -> Parcel<Courier<A>, H, A> {
+    depart(rt, high);
     assert!(rt; high.front_out().is_some());
     high.sent()
 }
 
 // The parcel comes into the hand of PE 0.
-fn receive<H: Openings<Courier>>(
+fn receive<H: Openings<Courier<A>>, A: Allocator + Copy>(
     rt: &impl Abort,
-    low: &mut PeState<Courier, H>,
-    high: &mut PeState<Courier, H>,
+    low: &mut PeState<Courier<A>, H, A>,
+    high: &mut PeState<Courier<A>, H, A>,
 ) {
-    assert!(rt; low.hand().is_none());
-    low.receive(sent(rt, high));
-    assert!(rt; low.hand().is_some());
+    let parcel = sent(rt, high);
+    assert!(rt; low.as_end().hand().is_none());
+    low.receive(parcel);
 }
 
-// Brings element 1 to its place, and returns what is then in the queue of PE 0.
-fn brought<H: Openings<Courier>>(
-    rt: &(impl Abort + AllocGlobal),
-    low: &mut PeState<Courier, H>,
-    high: &mut PeState<Courier, H>,
+// One queue with this parcel.
+fn queued<A: Allocator + Copy>(
+    rt: &impl Abort,
+    alloc: A,
+    parcel: HeldParcel<A>,
+) -> Vec<Vec<HeldParcel<A>, A>, A> {
+    let (mut queue, mut queues) = (Vec::new(alloc), Vec::new(alloc));
+    assert!(rt; queue.push(parcel).is_ok());
+    assert!(rt; queues.push(queue).is_ok());
+    queues
+}
+
+// Brings element 1 to its place, and returns the queues that are then not empty.
+fn brought<H: Openings<Courier<A>>, A: Allocator + Copy>(
+    rt: &impl Abort,
+    alloc: A,
+    low: &mut PeState<Courier<A>, H, A>,
+    high: &mut PeState<Courier<A>, H, A>,
     place: Place,
-) -> Vec<HeldParcel> {
-    let mut queue = Vec::new(rt.alloc());
-    if place == Place::Home {
-        return queue;
-    }
-    depart(rt, high);
+) -> Vec<Vec<HeldParcel<A>, A>, A> {
     match place {
-        Place::Home | Place::Outbox => {}
-        Place::Queue => assert!(rt; queue.push(into_held(sent(rt, high))).is_ok()),
+        Place::Home => {}
+        Place::Outbox => depart(rt, high),
+        Place::Queue => return queued(rt, alloc, into_held(sent(rt, high))),
         Place::Hand => receive(rt, low, high),
         Place::Beside => {
             receive(rt, low, high);
-            let acted = low.act(&NoGate).expect(rt, "refused");
-            assert!(rt; acted == Some(Acted::Installed) && low.room().len() == 2);
+            assert!(rt; low.act(&NoGate) == Ok(Some(Acted::Installed)));
         }
     }
-    queue
+    Vec::new(alloc)
 }
 
-fn list<T: Drop>(rt: &(impl Abort + AllocGlobal), first: T, second: T) -> Vec<T> {
-    let mut list = Vec::new(rt.alloc());
-    assert!(rt; list.push(first).is_ok());
-    assert!(rt; list.push(second).is_ok());
-    list
-}
-
-// What a run leaves: its board, its PEs, and what is in the queue of PE 0.
+// What a run leaves: its board, its PEs, and its queues.
 #[derive(Drop)]
-struct Left {
-    board: Board,
-    low: PeEnd<Courier>,
-    high: PeEnd<Courier>,
-    queue: Vec<HeldParcel>,
+struct Left<A: Allocator + Copy> {
+    board: Board<A>,
+    ends: Vec<PeEnd<Courier<A>, A>, A>,
+    queues: Vec<Vec<HeldParcel<A>, A>, A>,
 }
 
 // The run that left element 1 there, with a board that has this much more load of each element.
-fn run_left<H: Openings<Courier>>(
-    rt: &(impl Abort + AllocGlobal),
-    first: Courier,
-    second: Courier,
+fn run_left<H: Openings<Courier<A>>, A: Allocator + Copy>(
+    rt: &impl Abort,
+    alloc: A,
+    first: Courier<A>,
+    second: Courier<A>,
     place: Place,
     more: (Units, Units),
-) -> Left
+) -> Left<A>
     requires pes { H.pes ≡ 2 }
     requires opening { H.opened ≡ first ∷ second ∷ [] }
 {
-    let mut low = started::<H>(rt, 0, first);
-    let mut high = started::<H>(rt, 1, second);
-    let board = told(rt, &low, &high, more);
-    let queue = brought(rt, &mut low, &mut high, place);
+    let mut low = started::<H, A>(rt, alloc, 0, first);
+    let mut high = started::<H, A>(rt, alloc, 1, second);
+    let board = told(rt, alloc, &low, &high, more);
+    let queues = brought(rt, alloc, &mut low, &mut high, place);
+    let mut ends = Vec::new(alloc);
+    assert!(rt; ends.push(low.into_end()).is_ok());
+    assert!(rt; ends.push(high.into_end()).is_ok());
     Left {
         board,
-        low: low.into_end(),
-        high: high.into_end(),
-        queue,
+        ends,
+        queues,
     }
 }
 
-// Whether the marks agree, part by part.
-fn parts_agree(left: &Left) -> bool {
-    pe_agrees(&left.board, &left.low)
-        && pe_agrees(&left.board, &left.high)
-        && parcels_agree(&left.board, left.queue.as_slice())
+// A courier whose letter is for nobody, which it passes over.
+fn courier<A: Allocator + Copy>(rt: &impl Abort, alloc: A) -> Courier<A> {
+    Courier::with_zeros(alloc, 9, 1, 0).expect(rt, "no courier")
 }
 
-// Whether the marks agree, all at once.
-fn all_agree(rt: &(impl Abort + AllocGlobal), left: Left) -> bool {
-    let Left {
-        board,
-        low,
-        high,
-        queue,
-    } = left;
-    let ends = list(rt, low, high);
-    let queues = list(rt, queue, Vec::new(rt.alloc()));
-    run_agrees(&board, ends.as_slice(), queues.as_slice())
-}
-
-// Whether the marks agree, which has to hold of the parts as of all.
-fn agrees<H: Openings<Courier>>(
-    rt: &(impl Abort + AllocGlobal),
-    first: Courier,
-    second: Courier,
+// The same, with the couriers made first.
+fn after_a_run<A: Allocator + Copy>(
+    rt: &impl Abort,
+    alloc: A,
     place: Place,
     more: (Units, Units),
-) -> bool
-    requires pes { H.pes ≡ 2 }
-    requires opening { H.opened ≡ first ∷ second ∷ [] }
-{
-    let left = run_left::<H>(rt, first, second, place, more);
-    let by_parts = parts_agree(&left);
-    let all = all_agree(rt, left);
-    assert!(rt; by_parts == all);
-    all
+) -> Left<A> {
+    let (first, second) = (courier(rt, alloc), courier(rt, alloc));
+    run_left::<Brand, A>(rt, alloc, first, second, place, more)
+}
+
+// Whether the marks agree, PE by PE and queue by queue.
+fn parts_agree<A: Allocator + Copy>(left: &Left<A>) -> bool {
+    let (board, queues) = (&left.board, &left.queues);
+    left.ends.iter().all(|pe| pe_agrees(board, pe))
+        && queues.iter().all(|queue| parcels_agree(board, queue))
+}
+
+// Whether the marks agree, which has to hold of the parts as of all. No request is made to find out.
+fn agrees(rt: &impl Abort, made: &Refusing<Global>, left: &Left<&Refusing<Global>>) -> bool {
+    let requests = made.requests();
+    let agrees = run_agrees(&left.board, left.ends.as_slice(), left.queues.as_slice());
+    assert!(rt; parts_agree(left) == agrees);
+    assert!(rt; made.requests() == requests);
+    agrees
 }
 
 fn agrees_at(rt: &(impl Abort + AllocGlobal), place: Place, more: (Units, Units)) -> bool {
-    let (first, second) = (courier(rt), courier(rt));
-    agrees::<Brand>(rt, first, second, place, more)
+    let alloc = Refusing::new(rt.alloc(), 0);
+    let left = after_a_run(rt, &alloc, place, more);
+    let agrees = agrees(rt, &alloc, &left);
+    drop(left);
+    agrees
 }
 
 #[test]
 fn the_marks_of_a_run_agree_wherever_an_element_is_left(rt: HostRuntime) {
-    for place in &PLACES {
-        assert_for(&rt, agrees_at(&rt, *place, (0, 0)), *place);
-    }
-}
-
-#[test]
-fn another_load_of_the_first_element_is_refused(rt: HostRuntime) {
-    for place in &PLACES {
-        assert_for(&rt, !agrees_at(&rt, *place, (1, 0)), *place);
-    }
-}
-
-#[test]
-fn another_load_of_the_last_element_is_refused(rt: HostRuntime) {
-    for place in &PLACES {
-        assert_for(&rt, !agrees_at(&rt, *place, (0, 1)), *place);
+    const PLACES: [(Place, &str); 5] = [
+        (Place::Home, "home"),
+        (Place::Outbox, "outbox"),
+        (Place::Queue, "queue"),
+        (Place::Hand, "hand"),
+        (Place::Beside, "beside"),
+    ];
+    for (place, name) in &PLACES {
+        assert!(rt; agrees_at(&rt, *place, (0, 0)), "{name}");
+        assert!(rt; !agrees_at(&rt, *place, (1, 0)), "{name}");
+        assert!(rt; !agrees_at(&rt, *place, (0, 1)), "{name}");
     }
 }

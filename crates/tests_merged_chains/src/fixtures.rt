@@ -8,7 +8,7 @@ use std::fmt::Debug;
 use std::process::Abort;
 
 /// A chain of twelve elements on three ranks: the number of the first element of each part, and its loads.
-pub(crate) const PARTS: [(u32, &[Units]); 3] = [
+pub(crate) static PARTS: [(u32, &[Units]); 3] = [
     (0, &[3, 1, 4, 1, 5]),
     (5, &[9, 2, 6, 5]),
     (9, &[3, 5, 8]),
@@ -34,9 +34,7 @@ pub(crate) fn list<T: Copy>(rt: &(impl Abort + AllocGlobal), items: &[T]) -> Vec
 
 /// Whether a list is made of these items.
 pub(crate) fn is_list<T: Copy + PartialEq>(list: Vec<T>, items: &[T]) -> bool {
-    let found = list.as_slice() == items;
-    drop(list);
-    found
+    list.as_slice() == items
 }
 
 /// Adds items to a list.

@@ -2,7 +2,7 @@ use crate::fixtures::{PARTS, assert_for};
 use merged_chains::write_block_bytes;
 
 // Packed sizes of the elements of each part, and how many bytes it has of the blocks 0..5, 5..8 and 8..12.
-const HELD: [(&[u32], [u64; 3]); 3] = [
+static HELD: [(&[u32], [u64; 3]); 3] = [
     (&[10, 20, 30, 40, 50], [150, 0, 0]),
     (&[1, 2, 4, u32::MAX], [0, 7, 4_294_967_295]),
     (&[100, 200, u32::MAX], [0, 0, 4_294_967_595]),
@@ -17,11 +17,4 @@ fn each_part_has_its_bytes(rt: HostRuntime) {
         write_block_bytes(bytes, PARTS[k].0, &[0, 5, 8, 12], &mut held);
         assert_for(&rt, held == expected, held);
     }
-}
-
-#[test]
-fn a_part_without_elements_has_no_bytes(rt: HostRuntime) {
-    let mut held = [7; 3];
-    write_block_bytes(&[], 5, &[0, 5, 8, 12], &mut held);
-    assert_for(&rt, held == [0; 3], held);
 }

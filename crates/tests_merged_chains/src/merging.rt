@@ -10,7 +10,7 @@ const LOWER: [u32; 4] = [0, 5, 8, 11];
 const UPPER: [u32; 4] = [0, 7, 11, 12];
 
 // The loads of the runs of each part, and their ends.
-const RUNS: [(&[Units], &[u32]); 3] = [
+static RUNS: [(&[Units], &[u32]); 3] = [
     (&[14], &[5]),
     (&[9, 2, 6, 5], &[6, 7, 8, 9]),
     (&[3, 5, 8], &[10, 11, 12]),
@@ -30,11 +30,9 @@ fn each_part_has_its_runs(rt: HostRuntime) {
         assert_for(&rt, part.len() < 6 && first < 10, first);
         let runs = merge(rt.alloc(), &part, first, &windows).expect(&rt, "out of memory");
         let Runs { loads, ends } = runs;
-        drop(part);
         assert_for(&rt, is_list(loads, RUNS[k].0), k);
         assert_for(&rt, is_list(ends, RUNS[k].1), k);
     }
-    drop(windows);
 }
 
 #[test]
@@ -42,8 +40,6 @@ fn the_merged_chain_has_the_division(rt: HostRuntime) {
     let merged = chain(&rt, &MERGED);
     let runs = divide_chain(rt.alloc(), &merged, BLOCKS).expect(&rt, "out of memory");
     let division = unmerge(rt.alloc(), &runs, &STARTS).expect(&rt, "out of memory");
-    drop(runs);
-    drop(merged);
     let Division {
         bottleneck,
         cuts,
@@ -59,23 +55,8 @@ fn the_merged_chain_has_the_division(rt: HostRuntime) {
 }
 
 #[test]
-fn windows_are_in_order(rt: HostRuntime) {
-    const REFUSED: [(&[u32], &[u32]); 4] = [
-        (&[0, 5], &[0]),
-        (&[5, 0], &[5, 5]),
-        (&[0, 0], &[7, 5]),
-        (&[0, 5], &[0, 4]),
-    ];
-    for &(lower, upper) in &REFUSED {
-        let windows = Windows::new(lower, upper);
-        assert_for(&rt, windows.is_none(), (lower.len(), upper.len()));
-        drop(windows);
-    }
-}
-
-#[test]
 fn totals_bound_the_bottleneck(rt: HostRuntime) {
-    const ROWS: [(u64, Units, u32, u64, u64); 4] = [
+    static ROWS: [(u64, Units, u32, u64, u64); 4] = [
         (52, 9, 3, 18, 26),
         (61, 40, 3, 40, 60),
         (0, 0, 7, 0, 0),

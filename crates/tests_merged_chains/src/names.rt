@@ -40,29 +40,17 @@ fn named<A: Allocator + Copy>(
     (result, names, checked == Ok(None))
 }
 
+// In all 2^47 bytes may be held, and no more.
 #[test]
-fn blocks_are_named(rt: HostRuntime) {
-    let alloc = rt.alloc();
-    assert_for(&rt, named(alloc, &HELD, 2) == (Ok(10), NAMES, true), "two");
-    let free = named(alloc, &[0; 4], 2);
-    assert_for(&rt, free == (Ok(0), [0, 1], true), "free");
-    let most = named(alloc, &[1 << 47, 0, 0, 0], 2);
+fn blocks_of_the_most_bytes_are_named(rt: HostRuntime) {
+    let most = named(rt.alloc(), &[1 << 47, 0, 0, 0], 2);
     assert_for(&rt, most == (Ok(0), [0, 1], true), "most");
-}
-
-#[test]
-fn names_are_refused(rt: HostRuntime) {
-    let alloc = rt.alloc();
-    let refused = (Err(PartError::BadInput), [7; 2], false);
+    let heavy = named(rt.alloc(), &[1 << 47, 0, 0, 1], 2);
     assert_for(
         &rt,
-        named(alloc, &[1 << 47, 0, 0, 1], 2) == refused,
+        heavy == (Err(PartError::BadInput), [7; 2], false),
         "heavy",
     );
-    assert_for(&rt, named(alloc, &[10, 9, 8], 2) == refused, "no table");
-    assert_for(&rt, named(alloc, &[10], 1) == refused, "no room");
-    let none = name_table(alloc, &[], 0, &mut [], &mut [], &mut []);
-    assert_for(&rt, none == Err(PartError::BadInput), none);
 }
 
 #[test]
@@ -97,7 +85,7 @@ type Claimed = (
     Option<Flaw>,
 );
 
-const CLAIMED: [Claimed; 9] = [
+static CLAIMED: [Claimed; 9] = [
     (&NAMES, &BLOCK_PRICES, &PE_PRICES, 10, None),
     (&[1], &BLOCK_PRICES, &PE_PRICES, 10, Some(Flaw::NameCount)),
     (&[1, 2], &[], &PE_PRICES, 10, Some(Flaw::NameRange)),
@@ -124,19 +112,7 @@ fn names_have_their_first_flaw(rt: HostRuntime) {
 }
 
 #[test]
-fn checks_of_names_are_refused(rt: HostRuntime) {
-    let short = check_names(
-        rt.alloc(),
-        &[10, 9, 8],
-        2,
-        &NAMES,
-        &BLOCK_PRICES,
-        &PE_PRICES,
-        10,
-    );
-    assert_for(&rt, short == Err(PartError::BadInput), short);
-    let none = check_names(rt.alloc(), &[], 0, &[], &[], &[], 0);
-    assert_for(&rt, none == Err(PartError::BadInput), none);
+fn memory_is_refused_to_checks_of_names(rt: HostRuntime) {
     let met = each_refusal(rt.alloc(), MOST_TURNS, |alloc: Lent<'_>| {
         match check_names(alloc, &HELD, 2, &NAMES, &BLOCK_PRICES, &PE_PRICES, 10) {
             Ok(None) => Outcome::Right,

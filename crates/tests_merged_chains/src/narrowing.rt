@@ -5,7 +5,7 @@ use merged_chains::{Bounds, limits_between, narrow};
 // bounds that are left.
 type Narrowed = ((u64, u64), &'static [u64], &'static [u32], (u64, u64));
 
-const NARROWED: [Narrowed; 7] = [
+static NARROWED: [Narrowed; 7] = [
     ((18, 26), &[], &[], (18, 26)),
     ((18, 26), &[20, 22], &[3, 2], (21, 22)),
     ((18, 26), &[22, 20], &[2, 3], (21, 22)),
@@ -33,7 +33,7 @@ const HALF: u64 = 1 << 63;
 const QUARTER: u64 = 1 << 62;
 
 // The numbers 18 to 26 are three groups of three, or four of two, two, two and three.
-const SPREAD: [Spread; 7] = [
+static SPREAD: [Spread; 7] = [
     ((18, 26), 2, &[20, 23]),
     ((18, 26), 3, &[19, 21, 23]),
     ((18, 26), 0, &[]),

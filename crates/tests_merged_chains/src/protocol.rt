@@ -76,12 +76,7 @@ fn division_by_parts(
     }
     let lower = ends_within(rt, parts, pes, bounds.low.saturating_sub(1));
     let upper = ends_within(rt, parts, pes, bounds.high);
-    let runs = merge_parts(rt, parts, &lower, &upper);
-    let found = divided(rt, &runs, pes);
-    drop(runs);
-    drop(lower);
-    drop(upper);
-    found
+    divided(rt, &merge_parts(rt, parts, &lower, &upper), pes)
 }
 
 // Whether the lists are those of a division.
@@ -111,11 +106,8 @@ fn compare(
         let found = division_by_parts(rt, loads, parts, pes, passes);
         let flaw = flaw_by_parts(rt, parts, elements, pes, &found);
         let same = are_of(&found, &division);
-        drop(found);
         assert_for(rt, same && flaw.is_none(), (seed, passes, flaw));
     }
-    drop(division);
-    drop(whole);
 }
 
 #[test]
@@ -126,32 +118,35 @@ fn parts_find_the_division_of_the_chain(rt: HostRuntime) {
         let parts = random_parts(&rt, &mut numbers, &loads);
         let pes = 1 + (numbers.below(6) % 6) as u32;
         compare(&rt, &loads, &parts, pes, seed);
-        drop(parts);
-        drop(loads);
     }
 }
 
-// Chains that are short, or have nothing to divide, in parts some of which are empty.
+// The giant that leaves room for 6 more.
+const GIANT: Units = 9_223_372_036_854_775_801;
+
+// Chains that are short, or have nothing to divide, in parts some of which are empty, and a number of PEs.
+static SHORT: [(&[Units], &[Part<'static>], u32); 5] = [
+    (&[], &[(0, &[])], 3),
+    (&[], &[(0, &[]), (0, &[])], 1),
+    (&[7], &[(0, &[]), (0, &[7]), (1, &[])], 4),
+    (&[0, 0, 0], &[(0, &[0, 0]), (2, &[0])], 2),
+    (&[1, GIANT, 5], &[(0, &[1, GIANT]), (2, &[5])], 2),
+];
+
 #[test]
 fn parts_of_short_chains(rt: HostRuntime) {
-    compare(&rt, &[], &[(0, &[])], 3, 0);
-    compare(&rt, &[], &[(0, &[]), (0, &[])], 1, 1);
-    compare(&rt, &[7], &[(0, &[]), (0, &[7]), (1, &[])], 4, 2);
-    compare(&rt, &[0, 0, 0], &[(0, &[0, 0]), (2, &[0])], 2, 3);
-    let giant = 9_223_372_036_854_775_801;
-    compare(&rt, &[1, giant, 5], &[(0, &[1, giant]), (2, &[5])], 2, 4);
+    for &(loads, parts, pes) in &SHORT {
+        compare(&rt, loads, parts, pes, 0);
+    }
 }
 
 // With no window but element 0 the runs are the parts: 14, 22 and 16. The heaviest block weighs 22, but 21 is enough, and the
 // stops 0, 5, 5 and 5 have a range that weighs 9.
 #[test]
 fn windows_that_are_too_narrow_are_found_out(rt: HostRuntime) {
-    let runs = merge_parts(&rt, &PARTS, &[0], &[0]);
-    let found = divided(&rt, &runs, BLOCKS);
-    drop(runs);
+    let found = divided(&rt, &merge_parts(&rt, &PARTS, &[0], &[0]), BLOCKS);
     let flaw = flaw_by_parts(&rt, &PARTS, 12, BLOCKS, &found);
     let wrong = found.bottleneck == 22 && found.cuts.as_slice() == [0, 5, 9, 12].as_slice();
-    drop(found);
     assert_for(&rt, wrong, "another division");
     assert_for(&rt, flaw == Some(Flaw::FenceLight(2)), flaw);
 }

@@ -70,7 +70,6 @@ pub(crate) fn ends_within(
             &mut ends,
             found.get(..count).expect(rt, "too many ends"),
         );
-        drop(found);
         last = first.wrapping_add(loads.len() as u32);
     }
     for _ in walk.closed..pes {
@@ -128,8 +127,6 @@ fn push_runs(
     assert_for(rt, written == Ok(count), written);
     push_all(rt, &mut all.loads, &run_loads);
     push_all(rt, &mut all.starts, &run_ends);
-    drop(run_loads);
-    drop(run_ends);
 }
 
 /// A division, as plain lists.
@@ -148,14 +145,11 @@ pub(crate) fn divided(rt: &(impl Abort + AllocGlobal), merged: &Merged, pes: u32
     let divided = divide_into(rt.alloc(), &merged.loads, pes, &mut cuts, &mut stops);
     let divided = divided.expect(rt, "not divided");
     let fence = stops.get(..divided.stops).expect(rt, "too many stops");
-    let listed = Listed {
+    Listed {
         bottleneck: divided.bottleneck,
         cuts: starts_of(rt, &cuts, &merged.starts),
         stops: starts_of(rt, fence, &merged.starts),
-    };
-    drop(cuts);
-    drop(stops);
-    listed
+    }
 }
 
 // Where these runs start.
@@ -202,8 +196,6 @@ pub(crate) fn flaw_by_parts(
         weighed.expect(rt, "not weighed");
         add_up(&mut block_sums, &here);
         add_up(&mut fence_sums, &there);
-        drop(here);
-        drop(there);
     }
     let checked = check_lists(
         rt.alloc(),
@@ -215,7 +207,5 @@ pub(crate) fn flaw_by_parts(
         &block_sums,
         &fence_sums,
     );
-    drop(block_sums);
-    drop(fence_sums);
     checked.expect(rt, "not checked")
 }

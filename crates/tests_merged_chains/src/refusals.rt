@@ -34,7 +34,6 @@ fn a_refusal_while_ends_are_told(rt: HostRuntime) {
     let part = chain(&rt, PARTS[1].1);
     let met = each_refusal(rt.alloc(), MOST_TURNS, |alloc| tells_ends(alloc, &part));
     assert_for(&rt, met == Ok(1), met);
-    drop(part);
 }
 
 // What the loads of no ranges in the second part come to.
@@ -56,5 +55,4 @@ fn a_refusal_while_ranges_are_weighed(rt: HostRuntime) {
     let part = chain(&rt, PARTS[1].1);
     let met = each_refusal(rt.alloc(), MOST_TURNS, |alloc| weighs(alloc, &part));
     assert_for(&rt, met == Ok(2), met);
-    drop(part);
 }

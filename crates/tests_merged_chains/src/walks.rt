@@ -29,7 +29,6 @@ fn walks_stand_where_the_chain_puts_them(rt: HostRuntime) {
     for k in 0..3 {
         let part = chain(&rt, PARTS[k].1);
         walk_all_on(&part, BLOCKS, &mut walks);
-        drop(part);
         for (walk, row) in walks.iter().zip(&ROWS) {
             let (closed, filled, _) = row.1[k];
             assert_for(&rt, walk.limit == row.0, walk.limit);
@@ -49,7 +48,6 @@ fn walks_tell_the_ends_in_each_part(rt: HostRuntime) {
             assert_for(&rt, part.len() < 6 && first < 10, first);
             let answer = ends_on(rt.alloc(), &part, first, BLOCKS, walk);
             let Ends { walk: behind, ends } = answer.expect(&rt, "out of memory");
-            drop(part);
             assert_for(&rt, is_list(ends, expected), (row.0, k));
             assert_for(&rt, stands(&behind, closed, filled), (row.0, k));
             walk = behind;

@@ -22,7 +22,7 @@ const BLOCK_LOADS: [u64; 3] = [14, 17, 21];
 
 const FENCE_LOADS: [u64; 3] = [23, 22, 21];
 
-const ROWS: [Checked; 14] = [
+static ROWS: [Checked; 14] = [
     (21, &CUTS, &STOPS, BLOCK_LOADS, FENCE_LOADS, Ok(())),
     (0, &CUTS, &[], [0, 0, 0], [0, 0, 0], Ok(())),
     (
@@ -147,13 +147,12 @@ fn loads_of_ranges_show_each_flaw(rt: HostRuntime) {
     for (bottleneck, cuts, stops, block_loads, fence_loads, expected) in &ROWS {
         let division = division(&rt, *bottleneck, cuts, stops);
         let answer = check_weights(12, BLOCKS, &division, block_loads, fence_loads);
-        drop(division);
         assert_for(&rt, answer == *expected, answer);
     }
 }
 
 // What each part has of each block, and of each range of the fence.
-const IN_PARTS: [([u64; 3], [u64; 3]); 3] = [
+static IN_PARTS: [([u64; 3], [u64; 3]); 3] = [
     ([14, 0, 0], [14, 0, 0]),
     ([0, 17, 5], [9, 22, 5]),
     ([0, 0, 16], [0, 0, 16]),
@@ -167,9 +166,7 @@ fn each_part_has_its_loads(rt: HostRuntime) {
         let part = chain(&rt, units);
         let answer = loads_of_ranges(rt.alloc(), &part, first, BLOCKS, &division);
         let RangeLoads { blocks, fence } = answer.expect(&rt, "out of memory");
-        drop(part);
         assert_for(&rt, is_list(blocks, &IN_PARTS[k].0), k);
         assert_for(&rt, is_list(fence, &IN_PARTS[k].1), k);
     }
-    drop(division);
 }

@@ -1,13 +1,8 @@
-//! An assertion over a row.
+//! An assertion over bytes.
 
-ghost use Rattle.std.specs.Prelude.{◌≡◌, true};
-
-use std::fmt::Debug;
 use std::process::Abort;
 
-/// Ends the test where this does not hold, with the row for which it has to hold.
-pub(crate) fn assert_for<R: Debug + Copy>(rt: &impl Abort, holds: bool, row: R)
-    ensures held { holds ≡ true }
-{
-    assert!(rt; holds, "{row:?}");
+/// Ends the test where this does not hold, with the bytes for which it has to hold.
+pub(crate) fn assert_for(rt: &impl Abort, holds: bool, bytes: &[u8]) {
+    assert!(rt; holds, "{bytes:?}");
 }

@@ -2,7 +2,7 @@
 
 use crate::fixtures::assert_for;
 use pup_pack::{Bytes, Fields, Items, Pup, PupError};
-use std::alloc::{AllocError, Allocator, Global};
+use std::alloc::{Allocator, Global};
 use std::marker::Model;
 use std::process::Abort;
 
@@ -45,79 +45,47 @@ impl<A: Allocator + Copy> Pup<A> for State<A> {
     }
 }
 
-// 3, the list of 5 alone, and the byte 170.
-const STATE: [u8; 21] = [
-    0, 0, 0, 0, 0, 0, 0, 3, 0, 0, 0, 1, 0, 0, 0, 5, 0, 0, 0, 1, 170,
+// A number, a list of one number, and a byte. Four more bytes follow.
+const STATE: [u8; 25] = [
+    17, 18, 19, 20, 21, 22, 23, 24, 0, 0, 0, 1, 1, 2, 3, 4, 0, 0, 0, 1, 170, 1, 2, 3, 4,
 ];
 
-// A value is packed after a byte that is already there, into exactly these bytes.
-fn expect_pack<T: Pup<Global>>(rt: &(impl Abort + AllocGlobal), value: &T, want: &[u8]) {
-    let mut out = Vec::from_slice(rt.alloc(), &[255]).expect(rt, "out of memory");
-    let len = value.packed_len() as usize;
-    assert_for(rt, len == want.len(), ("the length of", want));
-    assert_for(rt, value.pack_into(&mut out) == Ok(()), ("the pack", want));
-    let packed = out.as_slice();
-    assert_for(rt, packed.split_first() == Some((&255, want)), packed);
+// Whether the value that these bytes begin with packs into the same bytes again, after a byte that is already there; or
+// how the bytes are refused.
+fn again<T: Pup<Global> + Drop>(
+    rt: &(impl Abort + AllocGlobal),
+    bytes: &[u8],
+) -> Result<bool, PupError> {
+    let (value, len) = T::unpack(rt.alloc(), bytes)?;
+    let mut out = Vec::from_slice(rt.alloc(), &[255])?;
+    value.pack_into(&mut out)?;
+    let same = out.as_slice().split_first() == Some((&255, &bytes[..len]));
+    Ok(same && value.packed_len() as usize == len)
 }
 
-// A value that is too long reports this length and is refused, which leaves the vector unchanged.
-fn expect_too_long<T: Pup<Global>>(rt: &(impl Abort + AllocGlobal), value: &T, len: u32) {
-    let mut out = Vec::from_slice(rt.alloc(), &[255]).expect(rt, "out of memory");
-    assert_for(rt, value.packed_len() == len, ("the length is not", len));
-    assert!(rt; value.pack_into(&mut out) == Err(PupError::TooLong));
-    assert!(rt; out.as_slice() == [255].as_slice());
-}
-
-// How these bytes are refused, or `None` where they are unpacked.
-fn refusal<T: Pup<Global> + Drop>(alloc: Global, bytes: &[u8]) -> Option<PupError> {
-    T::unpack(alloc, bytes).err()
-}
-
-// Each prefix of these bytes is too short.
+// Each of these first bytes alone is too short.
 fn expect_short<T: Pup<Global> + Drop>(rt: &(impl Abort + AllocGlobal), bytes: &[u8]) {
     for end in 0..bytes.len() {
-        let answer = refusal::<T>(rt.alloc(), &bytes[..end]);
-        assert_for(rt, answer == Some(PupError::Short), ("bytes", end));
+        let answer = again::<T>(rt, &bytes[..end]);
+        assert_for(rt, answer == Err(PupError::Short), &bytes[..end]);
     }
 }
 
-// The number of items in the list that these bytes unpack to, and the number of bytes that it took.
-fn items_in<T: Pup<Global> + Drop>(
-    alloc: Global,
-    bytes: &[u8],
-) -> Result<(usize, usize), PupError> {
-    let (list, len) = <Items<T> as Pup<Global>>::unpack(alloc, bytes)?;
-    Ok((list.as_slice().len(), len))
-}
-
-fn bytes_of(rt: &(impl Abort + AllocGlobal), bytes: &[u8]) -> Bytes {
-    Bytes::new(Vec::from_slice(rt.alloc(), bytes).expect(rt, "out of memory"))
-}
-
-fn list_of(rt: &(impl Abort + AllocGlobal), items: &[u32]) -> Items<u32> {
-    Items::new(Vec::from_slice(rt.alloc(), items).expect(rt, "out of memory"))
-}
-
-// Whether these bytes unpack to 3, the list of 5 alone, and the byte 170.
+// Whether these bytes begin with the number, the list and the byte.
 fn is_the_state(alloc: Global, bytes: &[u8]) -> bool {
     let Ok((state, len)) = <State as Pup<Global>>::unpack(alloc, bytes) else {
         return false;
     };
     let (amounts, pad) = (state.amounts.as_slice(), state.pad.as_slice());
-    state.sum == 3 && len == 21 && amounts == [5].as_slice() && pad == [170].as_slice()
+    let same = amounts == [0x0102_0304].as_slice() && pad == [170].as_slice();
+    same && state.sum == 0x1112_1314_1516_1718 && len == 21
 }
 
 #[test]
 fn a_state_of_several_fields(rt: HostRuntime) {
-    let (amounts, pad) = (list_of(&rt, &[5]), bytes_of(&rt, &[170]));
-    let sum = 3;
-    expect_pack(&rt, &State { sum, amounts, pad }, &STATE);
+    assert!(rt; again::<State>(&rt, &STATE) == Ok(true));
     assert!(rt; is_the_state(rt.alloc(), &STATE));
-}
-
-#[test]
-fn each_prefix_of_a_state_is_short(rt: HostRuntime) {
-    expect_short::<State>(&rt, &STATE);
+    expect_short::<State>(&rt, &STATE[..21]);
 }
 
 /// A share in percent. Bytes with a number above a hundred are not a share.
@@ -170,43 +138,20 @@ impl<A: Allocator> Pup<A> for Share {
     }
 }
 
-// Bytes of a list of shares, and the number of shares that they unpack to and of bytes that these took, or the refusal.
-#[derive(Debug)]
-struct Unpacked {
-    bytes: &'static [u8],
-    want: Result<(usize, usize), PupError>,
-}
-
-fn is_unpacked_so(alloc: Global, row: &Unpacked) -> bool {
-    items_in::<Share>(alloc, row.bytes) == row.want
-}
+// Bytes of a list of shares, and how they are refused, if they are.
+type Judged = (&'static [u8], Option<PupError>);
 
 #[test]
 fn bytes_of_no_value(rt: HostRuntime) {
-    const ROWS: [Unpacked; 5] = [
-        Unpacked {
-            bytes: &[0, 0, 0, 2, 0, 0, 0, 100, 0, 0, 0, 0],
-            want: Ok((2, 12)),
-        },
-        Unpacked {
-            bytes: &[0, 0, 0, 2, 0, 0, 0, 101, 0, 0, 0, 0],
-            want: Err(PupError::Bad),
-        },
-        Unpacked {
-            bytes: &[0, 0, 0, 2, 0, 0, 0, 101],
-            want: Err(PupError::Bad),
-        },
-        Unpacked {
-            bytes: &[0, 0, 0, 2, 0, 0, 0, 100, 0, 0, 0],
-            want: Err(PupError::Short),
-        },
-        Unpacked {
-            bytes: &[0, 16, 0, 1, 0, 0, 0, 101],
-            want: Err(PupError::TooLong),
-        },
+    const ROWS: [Judged; 4] = [
+        (&[0, 0, 0, 2, 0, 0, 0, 100, 0, 0, 0, 0], None),
+        (&[0, 0, 0, 2, 0, 0, 0, 101], Some(PupError::Bad)),
+        (&[0, 0, 0, 2, 0, 0, 0, 100, 0, 0, 0], Some(PupError::Short)),
+        (&[0, 16, 0, 1, 0, 0, 0, 101], Some(PupError::TooLong)),
     ];
-    for row in &ROWS {
-        assert_for(&rt, is_unpacked_so(rt.alloc(), row), row);
+    for (bytes, refusal) in &ROWS {
+        let found = again::<Items<Share>>(&rt, *bytes).err();
+        assert_for(&rt, found == *refusal, *bytes);
     }
 }
 
@@ -240,190 +185,93 @@ impl<A: Allocator> Pup<A> for Nothing {
     }
 }
 
+// A value is too long to be packed, which leaves the vector unchanged.
+fn expect_too_long<T: Pup<Global>>(rt: &(impl Abort + AllocGlobal), value: &T) {
+    let mut out = Vec::from_slice(rt.alloc(), &[255]).expect(rt, "out of memory");
+    assert!(rt; value.pack_into(&mut out) == Err(PupError::TooLong));
+    assert!(rt; out.as_slice() == [255].as_slice());
+}
+
 // A list of this number of values that pack into nothing.
-fn nothings(alloc: Global, count: u32) -> Result<Items<Nothing>, AllocError> {
-    let mut list = Items::new(Vec::new(alloc));
+fn nothings(rt: &(impl Abort + AllocGlobal), count: u32) -> Items<Nothing> {
+    let mut list = Items::new(Vec::new(rt.alloc()));
     for _ in 0..count {
-        list.push(Nothing)?;
+        assert!(rt; list.push(Nothing).is_ok(), "out of memory");
     }
-    Ok(list)
+    list
 }
 
 #[test]
 fn no_list_has_more_items_than_a_pack_has_bytes(rt: HostRuntime) {
-    let full = nothings(rt.alloc(), 1_048_576).expect(&rt, "out of memory");
-    expect_pack(&rt, &full, &[0, 16, 0, 0]);
-    let again = items_in::<Nothing>(rt.alloc(), &[0, 16, 0, 0]);
-    assert!(rt; again == Ok((1_048_576, 4)));
-    let longer = nothings(rt.alloc(), 1_048_577).expect(&rt, "out of memory");
-    expect_too_long(&rt, &(1_u32, longer), 8);
+    assert!(rt; again::<Items<Nothing>>(&rt, &[0, 16, 0, 0]) == Ok(true));
+    let longer = (1_u32, nothings(&rt, 1_048_577));
+    assert!(rt; longer.packed_len() == 8);
+    expect_too_long(&rt, &longer);
 }
 
 // The list 1 2.
 const ONE_TWO: [u8; 12] = [0, 0, 0, 2, 0, 0, 0, 1, 0, 0, 0, 2];
 
-// Whether these bytes, all of them, unpack to the list 1 2.
-fn is_one_two(alloc: Global, bytes: &[u8]) -> bool {
-    let Ok((list, len)) = <Items<u32> as Pup<Global>>::unpack(alloc, bytes) else {
-        return false;
-    };
-    len == bytes.len() && list.into_vec().as_slice() == [1, 2].as_slice()
+// Whether these bytes unpack to the list 1 2.
+fn are_one_two(alloc: Global, bytes: &[u8]) -> bool {
+    match <Items<u32> as Pup<Global>>::unpack(alloc, bytes) {
+        Ok((list, _)) => list.into_vec().as_slice() == [1, 2].as_slice(),
+        Err(_) => false,
+    }
 }
 
 #[test]
 fn the_list_of_one_and_two(rt: HostRuntime) {
-    expect_pack(&rt, &list_of(&rt, &[1, 2]), &ONE_TWO);
-    assert!(rt; is_one_two(rt.alloc(), &ONE_TWO));
-    let cut = refusal::<Items<u32>>(rt.alloc(), &ONE_TWO[..11]);
-    assert!(rt; cut == Some(PupError::Short));
-    let past = refusal::<Items<u32>>(rt.alloc(), &[0, 16, 0, 1]);
-    assert!(rt; past == Some(PupError::TooLong));
-}
-
-// The list 1 2 and the bytes 7 8 9.
-const PAIR: [u8; 19] = [0, 0, 0, 2, 0, 0, 0, 1, 0, 0, 0, 2, 0, 0, 0, 3, 7, 8, 9];
-
-// The same, followed by 1 2 3 4.
-const FOLLOWED: [u8; 23] = [
-    0, 0, 0, 2, 0, 0, 0, 1, 0, 0, 0, 2, 0, 0, 0, 3, 7, 8, 9, 1, 2, 3, 4,
-];
-
-type Pair = (Items<u32>, Bytes);
-
-// Whether these bytes begin with the list 1 2 and the bytes 7 8 9.
-fn begins_with_the_pair(alloc: Global, bytes: &[u8]) -> bool {
-    let Ok(((list, pad), len)) = <Pair as Pup<Global>>::unpack(alloc, bytes) else {
-        return false;
-    };
-    let pad = pad.into_vec();
-    len == 19 && list.as_slice() == [1, 2].as_slice() && pad.as_slice() == [7, 8, 9].as_slice()
+    assert!(rt; again::<Items<u32>>(&rt, &ONE_TWO) == Ok(true));
+    assert!(rt; are_one_two(rt.alloc(), &ONE_TWO));
+    assert!(rt; again::<Items<u32>>(&rt, &ONE_TWO[..11]) == Err(PupError::Short));
+    assert!(rt; again::<Items<u32>>(&rt, &[0, 16, 0, 1]) == Err(PupError::TooLong));
 }
 
 #[test]
-fn a_pair_of_a_list_and_bytes(rt: HostRuntime) {
-    let pair = (list_of(&rt, &[1, 2]), bytes_of(&rt, &[7, 8, 9]));
-    expect_pack(&rt, &pair, &PAIR);
-    assert!(rt; begins_with_the_pair(rt.alloc(), &FOLLOWED));
+fn a_list_that_is_too_long(rt: HostRuntime) {
+    let sevens = vec![in rt.alloc(); 7_u32; 262_144].expect(&rt, "out of memory");
+    let list = Items::new(sevens);
+    assert!(rt; list.packed_len() == 1_048_577);
+    expect_too_long(&rt, &list);
 }
 
-#[test]
-fn each_prefix_of_a_pair_is_short(rt: HostRuntime) {
-    expect_short::<Pair>(&rt, &PAIR);
-}
+// The first bytes, the number of bytes, all the others of which are 7, and how they are refused, if they are.
+type Filled = ([u8; 4], usize, Option<PupError>);
 
-// Two numbers, a list of none and no bytes.
-const NUMBERS: [u8; 20] = [
-    1, 2, 3, 4, 17, 18, 19, 20, 21, 22, 23, 24, 0, 0, 0, 0, 0, 0, 0, 0,
-];
-
-type Numbers = (u32, (u64, Pair));
-
-// Whether these bytes unpack to the two numbers, a list of none and no bytes.
-fn are_the_numbers(alloc: Global, bytes: &[u8]) -> bool {
-    let Ok(((low, (high, pair)), len)) = <Numbers as Pup<Global>>::unpack(alloc, bytes) else {
-        return false;
-    };
-    let (items, pad) = (pair.0.as_slice().len(), pair.1.as_slice().len());
-    let numbers = low == 0x0102_0304 && high == 0x1112_1314_1516_1718;
-    numbers && len == 20 && items == 0 && pad == 0
-}
-
-#[test]
-fn numbers_and_empty_lists(rt: HostRuntime) {
-    let empty = (list_of(&rt, &[]), bytes_of(&rt, &[]));
-    let numbers: Numbers = (0x0102_0304, (0x1112_1314_1516_1718, empty));
-    expect_pack(&rt, &numbers, &NUMBERS);
-    assert!(rt; are_the_numbers(rt.alloc(), &NUMBERS));
-}
-
-// A list of this number of sevens.
-fn sevens(rt: &(impl Abort + AllocGlobal), count: usize) -> Items<u32> {
-    Items::new(vec![in rt.alloc(); 7_u32; count].expect(rt, "out of memory"))
-}
-
-// Whether these bytes, all of them, unpack to this list.
-fn is_list(alloc: Global, bytes: &[u8], list: &Items<u32>) -> bool {
-    let Ok((again, len)) = <Items<u32> as Pup<Global>>::unpack(alloc, bytes) else {
-        return false;
-    };
-    len == bytes.len() && again.as_slice() == list.as_slice()
+fn is_refused_so<T: Pup<Global> + Drop>(rt: &(impl Abort + AllocGlobal), row: &Filled) -> bool {
+    let (head, len, refusal) = row;
+    let mut bytes = Vec::from_slice(rt.alloc(), head).expect(rt, "out of memory");
+    bytes.resize(*len, 7).expect(rt, "out of memory");
+    let answer = again::<T>(rt, bytes.as_slice());
+    drop(bytes);
+    match refusal {
+        Some(error) => answer == Err(*error),
+        None => answer == Ok(true),
+    }
 }
 
 #[test]
 fn the_longest_list(rt: HostRuntime) {
-    expect_too_long(&rt, &sevens(&rt, 262_144), 1_048_577);
-    let (list, mut out) = (sevens(&rt, 262_143), Vec::new(rt.alloc()));
-    assert!(rt; list.packed_len() == 1_048_576);
-    assert!(rt; list.pack_into(&mut out) == Ok(()));
-    assert!(rt; out.len() == 1_048_576);
-    assert!(rt; is_list(rt.alloc(), &out, &list));
-}
-
-// The pack of two lists of 131,072 numbers each, of which neither is too long.
-fn two_halves(rt: &(impl Abort + AllocGlobal)) -> Result<Vec<u8>, PupError> {
-    let half = sevens(rt, 131_072);
-    let mut bytes = Vec::from_slice(rt.alloc(), &[0, 0, 0, 2])?;
-    half.pack_into(&mut bytes)?;
-    half.pack_into(&mut bytes)?;
-    Ok(bytes)
-}
-
-// Two lists of 131,072 numbers each.
-fn halves(rt: &(impl Abort + AllocGlobal)) -> Items<Items<u32>> {
-    let mut halves = Items::new(Vec::new(rt.alloc()));
-    for _ in 0..2 {
-        let half = sevens(rt, 131_072);
-        halves.push(half).expect(rt, "out of memory");
+    const ROWS: [Filled; 2] = [
+        ([0, 3, 255, 255], 1_048_576, None),
+        ([0, 4, 0, 0], 1_048_580, Some(PupError::TooLong)),
+    ];
+    for row in &ROWS {
+        assert_for(&rt, is_refused_so::<Items<u32>>(&rt, row), row.0.as_slice());
     }
-    halves
-}
-
-#[test]
-fn short_lists_that_are_too_long_together(rt: HostRuntime) {
-    let bytes = two_halves(&rt).expect(&rt, "out of memory");
-    assert!(rt; bytes.len() == 1_048_588);
-    let answer = refusal::<Items<Items<u32>>>(rt.alloc(), &bytes);
-    assert!(rt; answer == Some(PupError::TooLong));
-    expect_too_long(&rt, &halves(&rt), 1_048_577);
-}
-
-// A list of this number of bytes reports this packed length, and is refused for this reason, or packed.
-fn expect_byte_list(
-    rt: &(impl Abort + AllocGlobal),
-    count: usize,
-    len: u32,
-    refusal: Option<PupError>,
-) {
-    let list = Bytes::new(vec![in rt.alloc(); 7; count].expect(rt, "out of memory"));
-    let mut out = Vec::new(rt.alloc());
-    assert_for(rt, list.packed_len() == len, ("the length of bytes", count));
-    assert_for(
-        rt,
-        list.pack_into(&mut out).err() == refusal,
-        ("bytes", count),
-    );
-}
-
-#[test]
-fn the_longest_byte_list(rt: HostRuntime) {
-    expect_byte_list(&rt, 1_048_572, 1_048_576, None);
-    expect_byte_list(&rt, 1_048_573, 1_048_577, Some(PupError::TooLong));
-}
-
-// This head, and sevens up to this number of bytes, are refused for this reason, or unpacked.
-fn expect_bytes(rt: &(impl Abort + AllocGlobal), head: &[u8], len: usize, want: Option<PupError>) {
-    let mut bytes = Vec::from_slice(rt.alloc(), head).expect(rt, "out of memory");
-    bytes.resize(len, 7).expect(rt, "out of memory");
-    let answer = refusal::<Bytes>(rt.alloc(), &bytes);
-    assert_for(rt, answer == want, ("head and bytes", head, len));
 }
 
 #[test]
 fn the_longest_bytes(rt: HostRuntime) {
-    let (too_long, short) = (Some(PupError::TooLong), Some(PupError::Short));
-    expect_bytes(&rt, &[0, 15, 255, 252], 1_048_576, None);
-    expect_bytes(&rt, &[0, 15, 255, 253], 1_048_577, too_long);
-    expect_bytes(&rt, &[0, 15, 255, 253], 1_048_576, short);
+    const ROWS: [Filled; 3] = [
+        ([0, 15, 255, 252], 1_048_576, None),
+        ([0, 15, 255, 253], 1_048_577, Some(PupError::TooLong)),
+        ([0, 15, 255, 253], 1_048_576, Some(PupError::Short)),
+    ];
+    for row in &ROWS {
+        assert_for(&rt, is_refused_so::<Bytes>(&rt, row), row.0.as_slice());
+    }
 }
 
 // A refusal, its number and its text.
@@ -444,6 +292,6 @@ fn refusals_of_packing(rt: HostRuntime) {
         (PupError::OutOfMemory, 4, "out of memory"),
     ];
     for row in &ERRORS {
-        assert_for(&rt, is_told(&rt, row), row);
+        assert_for(&rt, is_told(&rt, row), row.2.as_bytes());
     }
 }

@@ -1,2 +1,1 @@
-pub mod Heavies
 pub mod Twices

@@ -1,20 +1,17 @@
-//! What the tests use: numbers, a relay, a PE with two elements, and a parcel in its hand. A value that cannot be made ends
-//! the test.
+//! What the tests use: numbers, a relay, a PE with two elements, and parcels. A value that cannot be made ends the test.
 
-ghost use Rattle.std.specs.Prelude.{◌≡◌, ◌∷◌, [], true};
+ghost use Rattle.std.specs.Prelude.{◌≡◌, ◌∷◌, []};
 
 use chare_index::{Gate, Index, Pe, Round};
-use chares::{Chare, Openings, StateBytes};
-use pe_state::{PeState, StepError};
+use chares::{Chare, Openings};
+use pe_state::{Parcel, PeState, StepError};
 use std::alloc::{Allocator, Global};
 use std::fmt::Debug;
 use std::process::Abort;
 use tests_chares::Relay;
 
 /// Ends the test where this does not hold, and shows the row that it should hold for.
-pub(crate) fn assert_for<R: Debug + Copy>(rt: &impl Abort, holds: bool, row: R)
-    ensures held { holds ≡ true }
-{
+pub(crate) fn assert_for<R: Debug + Copy>(rt: &impl Abort, holds: bool, row: R) {
     assert!(rt; holds, "{row:?}");
 }
 
@@ -32,10 +29,6 @@ pub(crate) fn index(rt: &impl Abort, place: u32) -> Index
 
 pub(crate) fn round(rt: &impl Abort, number: u32) -> Round {
     Round::new(number).expect(rt, "no such round")
-}
-
-pub(crate) fn state_bytes(rt: &impl Abort, bytes: u32) -> StateBytes {
-    StateBytes::new(bytes).expect(rt, "no such length")
 }
 
 /// A relay that starts one letter, which ends where it goes.
@@ -83,15 +76,14 @@ pub(crate) fn look_here<C: Chare<A>, H: Openings<C>, A: Allocator + Copy>(
     at.look(to);
 }
 
-// The front of the outbox goes into the hand.
-fn deliver_front<C: Chare<A>, H: Openings<C>, A: Allocator + Copy>(
+/// Takes the front of the outbox out, which goes to this PE if it has no address.
+pub(crate) fn take_front<C: Chare<A>, H: Openings<C>, A: Allocator + Copy>(
     rt: &impl Abort,
     at: &mut PeState<C, H, A>,
-) {
+) -> Parcel<C, H, A> {
+    look_here(at);
     assert!(rt; at.front_out().is_some());
-    let parcel = at.sent();
-    assert!(rt; at.hand().is_none());
-    at.receive(parcel);
+    at.sent()
 }
 
 /// The front of the outbox goes into the hand, on a PE that is the only one.
@@ -99,7 +91,8 @@ pub(crate) fn bring<C: Chare<A>, H: Openings<C>, A: Allocator + Copy>(
     rt: &impl Abort,
     at: &mut PeState<C, H, A>,
 ) {
-    look_here(at);
-    deliver_front(rt, at);
+    let parcel = take_front(rt, at);
+    assert!(rt; at.as_end().hand().is_none());
+    at.receive(parcel);
     look_here(at);
 }

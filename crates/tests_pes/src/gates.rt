@@ -11,66 +11,26 @@ use std::process::Abort;
 use std::sync::atomic::{AtomicU64, Ordering};
 use tests_chares::Relay;
 
-// A gate that counts how often one element passes it, and how often any other number does.
+// A gate that adds 1 where element 1 passes it, and 1,000 where any other number does.
 #[derive(Drop)]
 struct Counting {
-    element: u32,
     passes: AtomicU64,
-    others: AtomicU64,
-}
-
-impl Counting {
-    fn new(element: u32) -> Counting {
-        Counting {
-            element,
-            passes: AtomicU64::new(0),
-            others: AtomicU64::new(0),
-        }
-    }
-
-    fn counts(&self) -> (u64, u64) {
-        (
-            self.passes.load(Ordering::SeqCst),
-            self.others.load(Ordering::SeqCst),
-        )
-    }
 }
 
 impl Gate for Counting {
     fn pass(&self, who: u32) {
-        let count = if who == self.element {
-            &self.passes
-        } else {
-            &self.others
-        };
-        count.fetch_add(1, Ordering::SeqCst);
+        let one = if who == 1 { 1 } else { 1_000 };
+        self.passes.fetch_add(one, Ordering::SeqCst);
     }
 }
 
-fn starts<H: Openings<Relay>>(
-    rt: &(impl Abort + AllocGlobal),
-    gate: &Counting,
-    first: Relay,
-    second: Relay,
-)
-    requires pes { H.pes ≡ 1 }
-    requires opening { H.opened ≡ first ∷ second ∷ [] }
-{
-    let mut at = with_two::<Relay, H>(rt, first, second);
-    assert!(rt; start(rt, &mut at, gate, 1).is_ok());
-    drop(at);
+fn expect_passes(rt: &impl Abort, gate: &Counting, want: u64) {
+    let passes = gate.passes.load(Ordering::SeqCst);
+    assert_for(rt, passes == want, passes);
 }
 
-#[test]
-fn an_element_that_starts_passes_the_gate(rt: HostRuntime) {
-    let gate = Counting::new(1);
-    let (first, second) = (relay(&rt), relay(&rt));
-    starts::<Brand>(&rt, &gate, first, second);
-    assert_for(&rt, gate.counts() == (1, 0), gate.counts());
-}
-
-// The letter of element 0 is executed by element 1.
-fn executes<H: Openings<Relay>>(
+// Element 1 starts, and then executes the letter of element 0.
+fn starts_and_executes<H: Openings<Relay>>(
     rt: &(impl Abort + AllocGlobal),
     gate: &Counting,
     first: Relay,
@@ -81,17 +41,19 @@ fn executes<H: Openings<Relay>>(
 {
     let mut at = with_two::<Relay, H>(rt, first, second);
     assert!(rt; start(rt, &mut at, &NoGate, 0).is_ok());
-    assert!(rt; start(rt, &mut at, &NoGate, 1).is_ok());
+    assert!(rt; start(rt, &mut at, gate, 1).is_ok());
+    expect_passes(rt, gate, 1);
     bring(rt, &mut at);
-    let acted = at.act(gate).expect(rt, "refused");
-    assert_for(rt, acted == Some(Acted::Executed), acted);
+    assert!(rt; at.act(gate) == Ok(Some(Acted::Executed)));
+    expect_passes(rt, gate, 2);
     drop(at);
 }
 
 #[test]
-fn an_element_that_gets_a_letter_passes_the_gate(rt: HostRuntime) {
-    let gate = Counting::new(1);
+fn handlers_pass_their_gate(rt: HostRuntime) {
+    let gate = Counting {
+        passes: AtomicU64::new(0),
+    };
     let (first, second) = (relay(&rt), relay(&rt));
-    executes::<Brand>(&rt, &gate, first, second);
-    assert_for(&rt, gate.counts() == (1, 0), gate.counts());
+    starts_and_executes::<Brand>(&rt, &gate, first, second);
 }

@@ -1,11 +1,11 @@
-//! A handler that posts two letters, and one whose second letter is refused.
+//! A handler whose second letter is refused, and one that posts both.
 
 ghost use Rattle.std.specs.Prelude.{◌≡◌, ◌∷◌, []};
 
-use crate::fixtures::{assert_for, index, pe, start, with_two};
+use crate::fixtures::{start, with_two};
 use chare_index::{Gate, Index, NoGate, Round};
-use chares::{Carried, Chare, Effect, Here, LetterId, Openings, SendError, Sends};
-use pe_state::{Item, PeState, StepError};
+use chares::{Chare, Effect, Here, Openings, SendError, Sends};
+use pe_state::{PeState, StepError};
 use pup_pack::{Pup, PupError};
 use std::alloc::Allocator;
 use std::marker::{Brand, Model};
@@ -92,47 +92,21 @@ impl<A: Allocator + Copy> Chare<A> for Twice {
     }
 }
 
-// The number of a letter and its element, or `None` where the item is no letter.
-fn numbered(item: Option<&Item>) -> Option<(LetterId, Index)> {
-    let Carried::Letter(letter) = &item?.parcel else {
-        return None;
-    };
-    Some((letter.id(), letter.to()))
+// How many letters the PE has posted, and how many wait in its outbox.
+fn letters<H: Openings<Twice>>(at: &PeState<Twice, H>) -> (u64, usize) {
+    (at.as_end().count(), at.as_end().outbox().len())
 }
 
-// Element 1 starts and posts its two letters, the first that the PE has posted.
-fn start_second<H: Openings<Twice>>(rt: &impl Abort, at: &mut PeState<Twice, H>) {
-    assert!(rt; start(rt, at, &NoGate, 1).is_ok());
-    assert!(rt; at.count() == 2 && at.outbox().len() == 2);
-    let (p0, front, back) = (pe(rt, 0), at.outbox().front(), at.outbox().back());
-    assert!(rt; numbered(front) == Some(((p0, 0), index(rt, 1))));
-    assert!(rt; numbered(back) == Some(((p0, 1), index(rt, 0))));
-}
-
-fn posts_both<H: Openings<Twice>>(rt: &(impl Abort + AllocGlobal), first: Twice, second: Twice)
-    requires pes { H.pes ≡ 1 }
-    requires opening { H.opened ≡ first ∷ second ∷ [] }
-{
-    let mut at = with_two::<Twice, H>(rt, first, second);
-    start_second(rt, &mut at);
-    drop(at);
-}
-
-#[test]
-fn a_handler_posts_two_letters(rt: HostRuntime) {
-    posts_both::<Brand>(&rt, Twice { other: 1 }, Twice { other: 0 });
-}
-
-// The second letter of element 0, to an element that is not there, is refused.
+// The second letter of element 0, to an element that is not there, is refused. Element 1 posts both of its letters.
 fn posts_neither<H: Openings<Twice>>(rt: &(impl Abort + AllocGlobal), first: Twice, second: Twice)
     requires pes { H.pes ≡ 1 }
     requires opening { H.opened ≡ first ∷ second ∷ [] }
 {
     let mut at = with_two::<Twice, H>(rt, first, second);
-    let refusal = start(rt, &mut at, &NoGate, 0).err();
-    assert_for(rt, refusal == Some(StepError::Stranger), refusal);
-    assert!(rt; at.count() == 0 && at.outbox().is_empty());
-    start_second(rt, &mut at);
+    assert!(rt; start(rt, &mut at, &NoGate, 0) == Err(StepError::Stranger));
+    assert!(rt; letters(&at) == (0, 0));
+    assert!(rt; start(rt, &mut at, &NoGate, 1).is_ok());
+    assert!(rt; letters(&at) == (2, 2));
     drop(at);
 }
 

@@ -18,22 +18,6 @@ fn four_elements<P: PeCount>(alloc: Global, pes: u32) -> Result<Locations<P>, Al
     Locations::new(alloc, &[pe(0), pe(0), pe(1), pe(1)], pes)
 }
 
-// How many location words there are of no elements and of four, and whether there are none.
-fn counted<P: PeCount>(alloc: Global, pes: u32) -> Result<[(usize, bool); 2], Fail>
-    requires { (pes ≡ P.pes) × (pes ≡ 2) }
-{
-    let none = Locations::<P>::new(alloc, &[], pes)?;
-    let four = four_elements::<P>(alloc, pes)?;
-    Ok([(none.len(), none.is_empty()), (four.len(), four.is_empty())])
-}
-
-#[test]
-fn there_is_a_word_for_each_element(rt: HostRuntime) -> Result<(), Fail> {
-    let found = counted::<Brand>(rt.alloc(), 2)?;
-    assert!(rt; found == [(0, true), (4, false)], "found {found:?}");
-    Ok(())
-}
-
 // Where element 2 is, before and after it is set to PE 0, and where its neighbors are then.
 fn moved<P: PeCount>(alloc: Global, pes: u32) -> Result<[u32; 4], Fail>
     requires { (pes ≡ P.pes) × (pes ≡ 2) }

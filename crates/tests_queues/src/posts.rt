@@ -1,10 +1,9 @@
 //! What one thread can do with a post.
 
-ghost use Rattle.std.specs.Prelude.{◌≡◌, ◌<◌, All, IfOk};
+ghost use Rattle.std.specs.Prelude.{◌≡◌, ◌<◌, IfOk};
 ghost use Rattle.pe_queues.specs.Seats.{pes};
 
 use crate::seats::{next, two_seats};
-use chare_index::Pe;
 use pe_queues::{Full, Post, PostError, Seat, Unsettled};
 use std::alloc::{AllocError, Allocator};
 use std::sync::Wait;
@@ -63,7 +62,7 @@ fn refused<R: Wait, A: Allocator>(
 
 // Whether a queue of one place fills and empties so, and a value that is then put into it is left.
 fn holds_one<R: Wait, A: Allocator + Copy>(rt: &R, alloc: A) -> Result<bool, Fail> {
-    let (post, mut first, second) = two_seats(alloc, 1)?;
+    let (post, mut first, second) = two_seats(alloc, 1, 1)?;
     let emptied = fills_and_empties(rt, &post, &mut first) && tries_so(&post, &mut first);
     let put = post.put(rt, &mut first, pe(0), 'b').is_ok();
     let (post, first) = refused(post, rt, first)?;
@@ -80,68 +79,38 @@ fn a_queue_of_one_place(rt: HostRuntime) -> Result<(), Fail> {
     Ok(())
 }
 
-// Puts these values at one PE.
-fn put_all<R: Wait, A: Allocator>(
+// Whether values go through one of two queues in order, by two seats, until it has two.
+fn pass_in_order<R: Wait, A: Allocator>(
     rt: &R,
     post: &Post<u32, A>,
-    seat: &mut Seat<u32, A>,
-    place: Pe,
-    values: &[u32],
+    first: &mut Seat<u32, A>,
+    second: &mut Seat<u32, A>,
 ) -> bool
-    requires own { seat.old.post ≡ post.now }
-    requires known { place < pes post.now }
-    ensures { seat.new.post ≡ post.now }
+    requires own { (first.old.post ≡ post.now) × (second.old.post ≡ post.now) }
+    requires two { pes post.now ≡ 2 }
+    ensures own { (first.new.post ≡ post.now) × (second.new.post ≡ post.now) }
 {
-    let mut all = true;
-    for value in values {
-        let put = post.put(rt, seat, place, *value);
-        all = all && put.is_ok();
-    }
-    all
+    let put = post.put(rt, first, pe(1), 20).is_ok() && post.put(rt, second, pe(1), 21).is_ok();
+    let full = post.put(rt, first, pe(1), 22) == Err(Full(22));
+    let taken = post.take(rt, second, pe(1)) == Some(20);
+    put && full && taken && post.put(rt, first, pe(1), 22).is_ok()
 }
 
-// Whether values are put at PEs 0 and 2, and the first one of PE 2 is taken.
-fn uses_two_queues<R: Wait, A: Allocator>(
+/// Whether what is left of two queues stands by queue, the front of each first.
+pub(crate) fn leaves_in_order<R: Wait, A: Allocator + Copy>(
     rt: &R,
-    post: &Post<u32, A>,
-    seat: &mut Seat<u32, A>,
-) -> bool
-    requires own { seat.old.post ≡ post.now }
-    requires three { pes post.now ≡ 3 }
-    ensures { seat.new.post ≡ post.now }
-{
-    let last = put_all(rt, post, seat, pe(2), &[20, 21, 22]);
-    let first = put_all(rt, post, seat, pe(0), &[1, 2]);
-    let taken = post.take(rt, seat, pe(2)) == Some(20);
-    last && first && taken
-}
-
-// Whether 1 and 2 are left at PE 0, nothing at PE 1, and 21 and 22 at PE 2.
-fn are_left<A: Allocator>(left: &[Vec<u32, A>]) -> bool {
-    left.len() == 3
-        && left[0].as_slice() == [1, 2].as_slice()
-        && left[1].is_empty()
-        && left[2].as_slice() == [21, 22].as_slice()
-}
-
-// Whether a post of three queues of four places and one seat is made, used, and left so.
-fn leaves_three<R: Wait, A: Allocator + Copy>(rt: &R, alloc: A) -> Result<bool, Fail> {
-    let (post, mut seats) = Post::new(alloc, 3, 1, 4)?;
-    let Some(mut seat) = next(&post, &mut seats) else {
-        return Err(Fail::new("no seat"));
+    alloc: A,
+) -> Result<bool, PostError> {
+    let (post, mut first, mut second) = two_seats(alloc, 2, 2)?;
+    let passed = pass_in_order(rt, &post, &mut first, &mut second);
+    let put = post.put(rt, &mut second, pe(0), 1).is_ok();
+    let all = post.join(first, second);
+    let left = post.settle(rt, all).map_err(|unsettled| unsettled.cause)?;
+    let [zero, one] = left.as_slice() else {
+        return Ok(false);
     };
-    let made = seats.is_empty() && post.pes() == 3 && post.capacity() == 4;
-    let used = uses_two_queues(rt, &post, &mut seat);
-    let Ok(left) = post.settle(rt, seat) else {
-        return Err(Fail::new("there is one seat"));
-    };
-    Ok(made && used && are_left(&left))
-}
-
-#[test]
-fn what_is_left_stands_by_queue_front_first(rt: HostRuntime) -> Result<(), Fail> {
-    assert!(rt; leaves_three(&rt, rt.alloc())?);
-    Ok(())
+    let stand = zero.as_slice() == [1].as_slice() && one.as_slice() == [21, 22].as_slice();
+    Ok(passed && put && stand)
 }
 
 // Numbers of PEs, of seats and of places, and the error of a post with these.
@@ -195,58 +164,19 @@ fn numbers_and_texts(rt: HostRuntime) {
     }
 }
 
-// All seats joined into one.
-fn joined<A: Allocator>(
-    post: &Post<u8, A>,
-    mut seats: Vec<Seat<u8, A>, A>,
-) -> Result<Seat<u8, A>, Fail>
-    requires { All (λ seat. seat.post ≡ post.now) seats.items }
-    ensures { IfOk result (λ seat. seat.post ≡ post.now) }
-{
-    let Some(mut all) = next(post, &mut seats) else {
+// Whether the last queue of the largest post takes a value, and returns it.
+fn holds_in_last<R: Wait, A: Allocator + Copy>(rt: &R, alloc: A) -> Result<bool, Fail> {
+    let (post, mut seats) = Post::new(alloc, 256, 256, 4096)?;
+    let Some(mut seat) = next(&post, &mut seats) else {
         return Err(Fail::new("no seat"));
     };
-    for seat in seats {
-        all = post.join(all, seat);
-    }
-    Ok(all)
-}
-
-// Whether the last queue of the largest post holds what is put there.
-fn holds_in_last<R: Wait, A: Allocator + Copy>(rt: &R, alloc: A) -> Result<bool, Fail> {
-    let (post, seats) = Post::new(alloc, 256, 256, 4096)?;
-    let mut all = joined(&post, seats)?;
-    let put = post.put(rt, &mut all, pe(255), 7).is_ok();
-    let Ok(left) = post.settle(rt, all) else {
-        return Err(Fail::new("all seats were joined"));
-    };
-    Ok(put && left.len() == 256 && left[255].as_slice() == [7].as_slice())
+    let put = post.put(rt, &mut seat, pe(255), 7u32).is_ok();
+    let sized = seats.len() == 255 && post.capacity() == 4096;
+    Ok(put && sized && post.take(rt, &mut seat, pe(255)) == Some(7))
 }
 
 #[test]
 fn as_large_as_may_be(rt: HostRuntime) -> Result<(), Fail> {
     assert!(rt; holds_in_last(&rt, rt.alloc())?);
     Ok(())
-}
-
-// Whether a post of this number of PEs and seats is made.
-fn is_made<A: Allocator + Copy>(alloc: A, pes: u32, wanted: u32) -> bool {
-    match Post::<char, A>::new(alloc, pes, wanted, 1) {
-        Ok((post, seats)) => post.pes() == pes && seats.len() == wanted as usize,
-        Err(_) => false,
-    }
-}
-
-#[test]
-fn each_number_of_pes_has_its_post(rt: HostRuntime) {
-    for pes in 1..=256 {
-        assert!(rt; is_made(rt.alloc(), pes, 2), "{pes} PEs");
-    }
-}
-
-#[test]
-fn each_number_of_seats_has_its_post(rt: HostRuntime) {
-    for wanted in 1..=256 {
-        assert!(rt; is_made(rt.alloc(), 1, wanted), "{wanted} seats");
-    }
 }

@@ -2,11 +2,11 @@
 
 ghost use Rattle.std.specs.Prelude.{◌≡◌, IfOk};
 
+use crate::posts::leaves_in_order;
 use crate::seats::two_seats;
-use pe_queues::{Full, Locations, PeCount, Post, PostError};
+use pe_queues::{Locations, PeCount, Post, PostError};
 use std::alloc::{AllocError, Allocator, Global};
 use std::marker::Brand;
-use std::sync::Wait;
 use std::test::Fail;
 use tests_fixtures::{Failure, Outcome, Refusing, each_refusal, pe};
 
@@ -27,17 +27,15 @@ fn requests(alloc: Global, pes: u32, seats: u32) -> Result<u64, Failure> {
     each_refusal(alloc, MOST_TURNS, |lent| opens(lent, pes, seats))
 }
 
+// How many queues and seats, and how many requests.
+static ROWS: [(u32, u32, u64); 3] = [(1, 1, 9), (1, 2, 10), (2, 1, 14)];
+
 #[test]
 fn each_refused_request_of_a_post_is_told(rt: HostRuntime) -> Result<(), Fail> {
-    assert!(rt; requests(rt.alloc(), 1, 1)? == 9, "one queue and one seat");
-    assert!(rt;
-        requests(rt.alloc(), 1, 2)? == 10,
-        "one queue and two seats"
-    );
-    assert!(rt;
-        requests(rt.alloc(), 2, 1)? == 14,
-        "two queues and one seat"
-    );
+    for (pes, seats, want) in &ROWS {
+        let found = requests(rt.alloc(), *pes, *seats)?;
+        assert!(rt; found == *want, "{pes} queues and {seats} seats");
+    }
     Ok(())
 }
 
@@ -64,25 +62,13 @@ fn the_refused_request_of_locations_is_told(rt: HostRuntime) -> Result<(), Fail>
     Ok(())
 }
 
-// Whether two values are put, a third one is refused, the first one is taken, and the second one is left.
-fn uses<A: Allocator + Copy, R: Wait>(rt: &R, alloc: A) -> Result<bool, PostError> {
-    let (post, mut first, mut second) = two_seats(alloc, 2)?;
-    let all_put = post.put(rt, &mut first, pe(0), 1u32).is_ok()
-        && post.put(rt, &mut second, pe(0), 2).is_ok()
-        && post.put(rt, &mut first, pe(0), 3) == Err(Full(3))
-        && post.take(rt, &mut second, pe(0)) == Some(1);
-    let all = post.join(first, second);
-    let left = post.settle(rt, all).map_err(|unsettled| unsettled.cause)?;
-    Ok(all_put && left.len() == 1 && left[0].as_slice() == [2].as_slice())
-}
-
 // How many requests are made until a post and its seats are there, and how many until it is settled.
 #[test]
 fn nothing_but_new_takes_memory(rt: HostRuntime) -> Result<(), Fail> {
     let made = Refusing::new(rt.alloc(), 0);
-    assert!(rt; two_seats::<u32, _>(&made, 2).is_ok());
+    assert!(rt; two_seats::<u32, _>(&made, 2, 2).is_ok());
     let used = Refusing::new(rt.alloc(), 0);
-    assert!(rt; uses(&rt, &used) == Ok(true));
+    assert!(rt; leaves_in_order(&rt, &used) == Ok(true));
     assert!(rt; used.requests() == made.requests());
     Ok(())
 }

@@ -19,15 +19,16 @@ pub(crate) fn next<T: Drop, A: Allocator>(
     seats.pop()
 }
 
-/// A post with one queue, and its two seats.
+/// A post with this number of queues, each of this capacity, and its two seats.
 pub(crate) fn two_seats<T: Drop, A: Allocator + Copy>(
     alloc: A,
+    queues: u32,
     capacity: u32,
 ) -> Result<(Post<T, A>, Seat<T, A>, Seat<T, A>), PostError>
-    ensures one { IfOk result (λ made. pes made.0 ≡ 1) }
+    ensures sized { IfOk result (λ made. pes made.0 ≡ queues) }
     ensures own { IfOk result (λ made. (made.1.post ≡ made.0) × (made.2.post ≡ made.0)) }
 {
-    let (post, mut seats) = Post::new(alloc, 1, 2, capacity)?;
+    let (post, mut seats) = Post::new(alloc, queues, 2, capacity)?;
     let first = next(&post, &mut seats);
     let second = next(&post, &mut seats);
     match (first, second) {

@@ -156,35 +156,21 @@ fn pair(
     }
 }
 
-// Counts one more of this value.
-fn count(counts: &mut [u32], value: u32) {
-    if let Some(count) = counts.get_mut(value as usize) {
-        *count = count.saturating_add(1);
-    }
-}
-
-// Counts each of the values that were taken.
-fn count_taken(counts: &mut [u32], taken: &[u32]) {
-    for value in taken {
-        count(counts, *value);
-    }
-}
-
-// Counts each of the values that are left in one queue.
-fn count_left(counts: &mut [u32], queue: &[Cell<u32>]) {
+// Adds the values that are left in one queue, of at most eight places.
+fn add_left(values: &mut Vec<u32>, queue: &[Cell<u32>]) -> Result<bool, AllocError> {
     for value in queue {
-        count(counts, value.get());
+        values.push(value.get())?;
     }
+    Ok(queue.len() <= 8)
 }
 
-// Whether each value was counted once.
-fn are_counted_once(counts: &[u32]) -> bool {
-    for count in counts {
-        if *count != 1 {
-            return false;
-        }
+// Whether these are the values below 4,000, in order.
+fn are_all(values: &[u32]) -> bool {
+    let mut same = values.len() == 4_000;
+    for (value, want) in values.iter().zip(0..4_000u32) {
+        same &= *value == want;
     }
-    true
+    same
 }
 
 #[test]
@@ -194,12 +180,11 @@ fn four_seats(rt: HostRuntime) -> Result<(), Fail> {
     let Ok(left) = post.settle(&rt, seat) else {
         return Err(Fail::new("all seats were joined"));
     };
-    let mut counts = vec![in rt.alloc(); 0u32; 4_000]?;
-    count_taken(&mut counts, &taken);
+    let mut values = taken;
     for queue in &left {
-        count_left(&mut counts, queue);
-        assert!(rt; queue.len() <= 8);
+        assert!(rt; add_left(&mut values, queue)?);
     }
-    assert!(rt; are_counted_once(&counts));
+    values.sort()?;
+    assert!(rt; are_all(&values));
     Ok(())
 }

@@ -1,8 +1,6 @@
 //! What the tests use. What cannot be made ends the test.
 
-ghost use Rattle.std.specs.Prelude.{◌≡◌, true};
-
-use chain_refinement::{Heights, Refinement, RefinementFlaw, Steps, Tolerance};
+use chain_refinement::{Heights, Refinement, Steps, Tolerance};
 use chare_index::Pe;
 use lb_certificates::{Cuts, Division, Floor, Naming, Stops};
 use lb_snapshot::{Loads, Sizes, Snapshot, Units};
@@ -21,30 +19,8 @@ pub(crate) struct Parts<'a> {
     pub(crate) heights: &'a [&'a [(u32, u64)]],
 }
 
-/// Ends the test where this does not hold, with the name of what has to hold.
-pub(crate) fn assert_for(rt: &impl Abort, holds: bool, name: &str)
-    ensures held { holds ≡ true }
-{
-    assert!(rt; holds, "{name}");
-}
-
-pub(crate) fn list<T: Copy>(rt: &(impl Abort + AllocGlobal), items: &[T]) -> Vec<T> {
+fn list<T: Copy>(rt: &(impl Abort + AllocGlobal), items: &[T]) -> Vec<T> {
     Vec::from_slice(rt.alloc(), items).expect(rt, "out of memory")
-}
-
-/// Adds an item to a list.
-pub(crate) fn push<T: Copy>(rt: &impl Abort, items: &mut Vec<T>, item: T) {
-    items.push(item).expect(rt, "out of memory");
-}
-
-/// The bytes and the PE of each element.
-fn pairs(rt: &(impl Abort + AllocGlobal), elements: &[(u32, u32)]) -> Vec<(u32, Pe)> {
-    let mut pairs = Vec::new(rt.alloc());
-    for &(bytes, place) in elements {
-        let pair = (bytes, Pe::new(place).expect(rt, "no such PE"));
-        push(rt, &mut pairs, pair);
-    }
-    pairs
 }
 
 /// The snapshot of a run on 256 PEs with these loads and elements.
@@ -53,12 +29,17 @@ pub(crate) fn snapshot(
     loads: &[Units],
     elements: &[(u32, u32)],
 ) -> Snapshot {
+    let mut pairs = Vec::new(rt.alloc());
+    for &(bytes, place) in elements {
+        let pair = (bytes, Pe::new(place).expect(rt, "no such PE"));
+        pairs.push(pair).expect(rt, "out of memory");
+    }
     let loads = Loads::new(list(rt, loads)).expect(rt, "past a limit");
-    let sizes = Sizes::new(pairs(rt, elements)).expect(rt, "past a limit");
+    let sizes = Sizes::new(pairs).expect(rt, "past a limit");
     Snapshot::new(1, 256, loads, sizes).expect(rt, "no snapshot")
 }
 
-/// These step functions.
+// These step functions.
 fn heights(rt: &(impl Abort + AllocGlobal), rows: &[&[(u32, u64)]]) -> Heights {
     let mut heights = Vec::new(rt.alloc());
     for &row in rows {
@@ -68,7 +49,7 @@ fn heights(rt: &(impl Abort + AllocGlobal), rows: &[&[(u32, u64)]]) -> Heights {
     Heights::new(heights)
 }
 
-/// The division with this bottleneck, these cuts and this fence.
+// The division with this bottleneck, these cuts and this fence.
 fn division(rt: &(impl Abort + AllocGlobal), parts: &Parts<'_>) -> Division {
     let floor = if parts.fence.is_empty() {
         Floor::Zero

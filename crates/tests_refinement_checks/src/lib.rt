@@ -1,5 +1,5 @@
 //! Tests of the check of refinements: certificates and verdicts from a program outside, which looks at all divisions, all
-//! blocks and all places; each flaw; elements that are in the order of the PEs and elements that are not; and a full array.
+//! blocks and all places; each flaw; and elements that are in the order of the PEs and elements that are not.
 //! They use public calls only.
 #![tactic(auto)]
 

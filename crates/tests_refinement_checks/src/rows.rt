@@ -7,9 +7,9 @@ use lb_certificates::Flaw;
 use lb_snapshot::Units;
 
 /// The loads of the ten elements of the example, and their bytes and PEs.
-pub(crate) const TEN_LOADS: [Units; 10] = [1, 1, 1, 2, 7, 8, 6, 2, 1, 1];
+pub(crate) static TEN_LOADS: [Units; 10] = [1, 1, 1, 2, 7, 8, 6, 2, 1, 1];
 
-pub(crate) const TEN_ELEMENTS: [(u32, u32); 10] = [
+pub(crate) static TEN_ELEMENTS: [(u32, u32); 10] = [
     (10, 2),
     (10, 2),
     (10, 2),
@@ -41,8 +41,8 @@ const TEN: Parts<'static> = Parts {
 /// A name, a refinement of the ten elements on three PEs, and the result of the check of it.
 pub(crate) type Forged = (&'static str, Parts<'static>, Result<(), RefinementFlaw>);
 
-/// Refinements that are right, and others of the least division.
-pub(crate) const REFINEMENTS: [Forged; 8] = [
+/// Refinements that are right, and others whose least division, order, cuts or heights are forged.
+pub(crate) static REFINEMENTS: [Forged; 27] = [
     ("the example", TEN, Ok(())),
     (
         "a fifth above the least",
@@ -114,10 +114,6 @@ pub(crate) const REFINEMENTS: [Forged; 8] = [
         },
         Err(RefinementFlaw::Least(Flaw::FenceLight(1))),
     ),
-];
-
-/// Forged orders and cuts.
-pub(crate) const FORGED_CUTS: [Forged; 8] = [
     (
         "two names",
         Parts {
@@ -187,10 +183,6 @@ pub(crate) const FORGED_CUTS: [Forged; 8] = [
         },
         Err(RefinementFlaw::Heavy(2)),
     ),
-];
-
-/// Forged heights.
-pub(crate) const FORGED_HEIGHTS: [Forged; 11] = [
     (
         "two step functions",
         Parts {
@@ -325,8 +317,7 @@ pub(crate) struct Row {
 }
 
 /// Other chains.
-
-pub(crate) const ROWS: [Row; 11] = [
+pub(crate) static ROWS: [Row; 11] = [
     Row {
         name: "no PE",
         loads: &[],

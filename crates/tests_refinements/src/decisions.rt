@@ -134,10 +134,7 @@ fn with_chain(rt: &(impl Abort + AllocGlobal), sum: u64, seed: u64) -> u64 {
         "out of memory",
     );
     assert!(rt; is_accepted(&case, &decision));
-    let sum = mixed_decision(sum, &decision);
-    drop(decision);
-    drop(case);
-    sum
+    mixed_decision(sum, &decision)
 }
 
 // The sum of a thousand chains.
@@ -150,7 +147,7 @@ fn with_batch(rt: &(impl Abort + AllocGlobal), first: u32) -> u64 {
 }
 
 // The results of benches/refinement/search_all.py for each thousand chains.
-const SEARCHED: [(u32, u64); 20] = [
+static SEARCHED: [(u32, u64); 20] = [
     (0, 5_303_661_612_026_063_365),
     (1000, 3_829_977_909_696_005_758),
     (2000, 5_731_492_992_356_834_836),

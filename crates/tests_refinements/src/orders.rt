@@ -13,7 +13,7 @@ use tests_fixtures::{Outcome, each_refusal};
 // The places of elements, the number of PEs, and the PEs in their order, with their cuts.
 type Row = (&'static [u32], u32, &'static [u32], &'static [u32]);
 
-const ROWS: [Row; 9] = [
+static ROWS: [Row; 9] = [
     (&[], 1, &[0], &[0, 0]),
     (&[], 3, &[0, 1, 2], &[0, 0, 0, 0]),
     (&[0], 1, &[0], &[0, 1]),
@@ -36,7 +36,7 @@ const ROWS: [Row; 9] = [
 ];
 
 // Elements of a PE that are apart, at the ends of the chain or inside it, and places past the last PE.
-const NO_ORDERS: [(&[u32], u32); 6] = [
+static NO_ORDERS: [(&[u32], u32); 6] = [
     (&[0, 1, 0], 2),
     (&[1, 0, 0, 2, 1], 3),
     (&[2, 0, 1, 1, 0], 3),
@@ -51,9 +51,7 @@ fn ordered(rt: &(impl Abort + AllocGlobal), places: &[u32], pes: u32) -> Option<
     requires few_pes { pes ≤ 256 }
 {
     let sizes = standing(rt, places);
-    let found = present_order(rt.alloc(), &sizes, pes).expect(rt, "out of memory");
-    drop(sizes);
-    found
+    present_order(rt.alloc(), &sizes, pes).expect(rt, "out of memory")
 }
 
 // Whether an order has these PEs and these cuts.
@@ -61,9 +59,7 @@ fn is_order(found: Option<PresentOrder>, names: &[u32], cuts: &[u32]) -> bool {
     let Some(order) = found else {
         return false;
     };
-    let right = same(order.names.as_slice(), names) && same(order.present.as_slice(), cuts);
-    drop(order);
-    right
+    same(order.names.as_slice(), names) && same(order.present.as_slice(), cuts)
 }
 
 #[test]
@@ -74,18 +70,10 @@ fn pes_stand_as_their_elements_do(rt: HostRuntime) {
     }
 }
 
-// Whether there is none.
-fn is_none(found: Option<PresentOrder>) -> bool {
-    let none = found.is_none();
-    drop(found);
-    none
-}
-
 #[test]
 fn elements_apart_stand_in_no_order(rt: HostRuntime) {
     for row in &NO_ORDERS {
-        let found = ordered(&rt, row.0, row.1);
-        assert_for(&rt, is_none(found), row);
+        assert_for(&rt, ordered(&rt, row.0, row.1).is_none(), row);
     }
 }
 
@@ -103,9 +91,7 @@ fn mixed_order(sum: u64, found: Option<PresentOrder>) -> u64 {
     let Some(order) = found else {
         return mixed(sum, &[1000]);
     };
-    let sum = mixed(mixed(sum, order.names.as_slice()), order.present.as_slice());
-    drop(order);
-    sum
+    mixed(mixed(sum, order.names.as_slice()), order.present.as_slice())
 }
 
 // The chain with this number, of this number of elements on the PEs 0 to 3: the first one's place is the last digit to base 4.
@@ -134,13 +120,12 @@ fn mixed_chains(
     for number in 0..count {
         let places = chain(rt, elements, number);
         sum = mixed_order(sum, ordered(rt, &places, pes));
-        drop(places);
     }
     sum
 }
 
 // The results, for 1 to 4 PEs, of a search through all orders and all cuts of all chains of up to 5 elements on 4 PEs.
-const SEARCHED: [(u32, u64); 4] = [
+static SEARCHED: [(u32, u64); 4] = [
     (1, 2_201_621_630_572_113_434),
     (2, 14_982_467_354_564_008_318),
     (3, 5_173_772_781_886_626_634),
@@ -160,8 +145,8 @@ fn sum_of_chains(rt: &(impl Abort + AllocGlobal), pes: u32) -> u64
     requires few_pes { pes ≤ 256 }
 {
     let mut sum = 0;
-    for &(elements, count) in &[(0, 1), (1, 4), (2, 16), (3, 64), (4, 256), (5, 1024)] {
-        sum = mixed_chains(rt, sum, elements, count, pes);
+    for elements in 0..6u32 {
+        sum = mixed_chains(rt, sum, elements, 4u32.saturating_pow(elements), pes);
     }
     sum
 }
@@ -195,19 +180,15 @@ fn a_full_array(rt: HostRuntime) {
     assert!(rt; names.len() == 256 && are_even(names, 255, u32::MAX));
     let present = order.present.as_slice();
     assert!(rt; present.len() == 257 && are_even(present, 0, 256));
-    drop(order);
-    drop(places);
 }
 
 // The outcome for the order of elements on the PEs 2, 2, 0.
 fn is_found<A: Allocator>(answer: Result<Option<PresentOrder<A>>, AllocError>) -> Outcome {
-    let outcome = match &answer {
+    match &answer {
         Ok(Some(order)) if same(order.names.as_slice(), &[2, 0, 1]) => Outcome::Right,
         Ok(_) => Outcome::Wrong,
         Err(AllocError) => Outcome::Refused,
-    };
-    drop(answer);
-    outcome
+    }
 }
 
 #[test]
@@ -219,5 +200,4 @@ fn each_of_two_requests_may_be_refused(rt: HostRuntime) {
         |alloc| is_found(present_order(alloc, &sizes, 3)),
     );
     assert!(rt; refusals == Ok(2));
-    drop(sizes);
 }

@@ -1,32 +1,17 @@
 //! Dumps, read and written.
 
-use crate::fixtures::{Lent, assert_requests_on, is_copied, same, snapshot};
+use crate::fixtures::{Lent, assert_requests, assert_requests_on, is_copied, outcome, outcome_of};
 use dump_format::{Dump, DumpError};
-use dump_writing::{encode, encode_dump, write_dump};
+use dump_writing::{encode, encode_dump};
 use lb_dump::{DumpReader, decode, read_from};
 use lb_snapshot::Snapshot;
-use std::alloc::{AllocError, Allocator, Global};
-use std::process::Abort;
+use std::alloc::{Allocator, Global};
 use tests_fixtures::{EXAMPLE_DUMP, Outcome, RECORDED_DUMP, is_example};
 
-// Whether a dump with a decision has this text.
-fn is_written<A: Allocator>(dump: &Dump<A>, text: &[u8]) -> bool {
-    let mut written = [0; 172];
-    write_dump(&mut written.as_mut_slice(), dump).is_ok() && same(&written, text)
-}
-
-// Whether this is the dump of a text: of the example alone, or of the example with its decision.
-fn is_of<A: Allocator>(dump: &Dump<A>, text: &[u8]) -> bool {
-    match dump.recorded() {
-        None => is_example(dump.snapshot()) && same(text, &EXAMPLE_DUMP),
-        Some(_) => is_written(dump, text),
-    }
-}
-
-/// The outcome of reading a text.
-pub(crate) fn read<A: Allocator>(answer: Result<Dump<A>, DumpError>, text: &[u8]) -> Outcome {
+// The outcome of reading the example.
+fn read<A: Allocator>(answer: Result<Dump<A>, DumpError>) -> Outcome {
     let outcome = match &answer {
-        Ok(dump) if is_of(dump, text) => Outcome::Right,
+        Ok(dump) if is_example(dump.snapshot()) => Outcome::Right,
         Err(DumpError::OutOfMemory) => Outcome::Refused,
         _ => Outcome::Wrong,
     };
@@ -34,46 +19,16 @@ pub(crate) fn read<A: Allocator>(answer: Result<Dump<A>, DumpError>, text: &[u8]
     outcome
 }
 
-// A text, the number of its bytes that are fed at once, and the requests, for these things.
-type Row = (&'static [u8], usize, u64, &'static str);
-
-// The whole text at once.
-fn decodes(alloc: Lent<'_>, row: &Row) -> Outcome {
-    read(decode(alloc, row.0), row.0)
+// How a text comes: at once, from a reader, or in pieces with this number of bytes.
+#[derive(Clone, Copy)]
+enum Way {
+    AtOnce,
+    FromReader,
+    Pieces(usize),
 }
 
-#[test]
-fn decoded(rt: HostRuntime) {
-    const ROWS: [Row; 2] = [
-        (&EXAMPLE_DUMP, 52, 2, "the snapshot's two lists"),
-        (
-            &RECORDED_DUMP,
-            172,
-            11,
-            "the snapshot's two lists, the bytes of the plan, thrice, its five lists, and the moves",
-        ),
-    ];
-    for row in &ROWS {
-        assert_requests_on(&rt, decodes, row, row.2, row.3);
-    }
-}
-
-// A text from a reader of bytes.
-fn reads(alloc: Lent<'_>, row: &Row) -> Outcome {
-    let mut bytes = row.0;
-    read(read_from(alloc, &mut bytes), row.0)
-}
-
-#[test]
-fn read_from_a_reader(rt: HostRuntime) {
-    const ROWS: [Row; 2] = [
-        (&EXAMPLE_DUMP, 52, 3, "a piece, and those of `decode`"),
-        (&RECORDED_DUMP, 172, 12, "a piece, and those of `decode`"),
-    ];
-    for row in &ROWS {
-        assert_requests_on(&rt, reads, row, row.2, row.3);
-    }
-}
+// A text, how it comes, and the requests, for these things.
+type Row = (&'static [u8], Way, u64, &'static str);
 
 // Whether a reader that is fed this number of bytes at once, and refuses some, refuses those behind them too.
 fn stays<A: Allocator + Copy>(reader: &mut DumpReader<A>, text: &[u8], at_once: usize) -> bool {
@@ -89,44 +44,66 @@ fn stays<A: Allocator + Copy>(reader: &mut DumpReader<A>, text: &[u8], at_once: 
 }
 
 // A text in pieces. After a refusal the reader stays out of memory.
-fn in_pieces(alloc: Lent<'_>, row: &Row) -> Outcome {
+fn in_pieces(alloc: Lent<'_>, text: &[u8], at_once: usize) -> Outcome {
     let mut reader = DumpReader::new(alloc);
-    let stays = stays(&mut reader, row.0, row.1);
-    let outcome = read(reader.end(), row.0);
+    let stays = stays(&mut reader, text, at_once);
+    let outcome = read(reader.end());
     if stays { outcome } else { Outcome::Wrong }
 }
 
-#[test]
-fn read_in_pieces(rt: HostRuntime) {
-    const ROWS: [Row; 4] = [
-        (
-            &EXAMPLE_DUMP,
-            20,
-            4,
-            "the two lists, and an element that has begun, twice",
-        ),
-        (&EXAMPLE_DUMP, 1, 4, "the head, twice, and the two lists"),
-        (
-            &RECORDED_DUMP,
-            20,
-            13,
-            "the two lists, an element that has begun, twice, the bytes of the plan, thrice, its lists, and the moves",
-        ),
-        (
-            &RECORDED_DUMP,
-            1,
-            13,
-            "the head, twice, the two lists, the bytes of the plan, thrice, its lists, and the moves",
-        ),
-    ];
-    for row in &ROWS {
-        assert_requests_on(&rt, in_pieces, row, row.2, row.3);
+// A text in this way.
+fn reads(alloc: Lent<'_>, row: &Row) -> Outcome {
+    let mut text = row.0;
+    match row.1 {
+        Way::AtOnce => read(decode(alloc, text)),
+        Way::FromReader => read(read_from(alloc, &mut text)),
+        Way::Pieces(at_once) => in_pieces(alloc, text, at_once),
     }
 }
 
-// The outcome of a copy of the dump of a text, and of the dump before it.
-fn copies(alloc: Lent<'_>, row: &Row) -> Outcome {
-    let Ok(dump) = decode(alloc, row.0) else {
+#[test]
+fn texts_that_are_read(rt: HostRuntime) {
+    const ROWS: [Row; 6] = [
+        (&EXAMPLE_DUMP, Way::AtOnce, 2, "the snapshot's two lists"),
+        (
+            &RECORDED_DUMP,
+            Way::AtOnce,
+            11,
+            "the snapshot's two lists, the bytes of the plan, thrice, its five lists, and the moves",
+        ),
+        (
+            &RECORDED_DUMP,
+            Way::FromReader,
+            12,
+            "a piece, and those of `decode`",
+        ),
+        (
+            &EXAMPLE_DUMP,
+            Way::Pieces(20),
+            4,
+            "the two lists, and an element that has begun, twice",
+        ),
+        (
+            &EXAMPLE_DUMP,
+            Way::Pieces(1),
+            4,
+            "the head, twice, and the two lists",
+        ),
+        (
+            &RECORDED_DUMP,
+            Way::Pieces(20),
+            13,
+            "the two lists, an element that has begun, twice, the bytes of the plan, thrice, its lists, and the moves",
+        ),
+    ];
+    for row in &ROWS {
+        assert_requests_on(&rt, reads, row, row.2, row.3);
+    }
+}
+
+// The outcome of a copy of the example with its decision, and of the dump before it.
+fn copies(alloc: Lent<'_>) -> Outcome {
+    let Ok(dump) = decode(alloc, &RECORDED_DUMP) else {
         return Outcome::Refused;
     };
     let outcome = is_copied(dump.clone(), &dump);
@@ -136,59 +113,23 @@ fn copies(alloc: Lent<'_>, row: &Row) -> Outcome {
 
 #[test]
 fn copies_of_a_dump(rt: HostRuntime) {
-    const ROWS: [Row; 2] = [
-        (&EXAMPLE_DUMP, 52, 2 + 2, "the snapshot's two lists, twice"),
-        (
-            &RECORDED_DUMP,
-            172,
-            11 + 2 + 6,
-            "those of `decode`; the snapshot's two lists, and the decision's six",
-        ),
-    ];
-    for row in &ROWS {
-        assert_requests_on(&rt, copies, row, row.2, row.3);
-    }
+    let things = "those of `decode`; the snapshot's two lists, and the decision's six";
+    assert_requests(&rt, copies, 11 + 2 + 6, things);
 }
 
-// The outcome of making the text of the example.
+// The outcomes of making the text of a snapshot, and of a dump.
 fn encodes(alloc: Lent<'_>, example: &Snapshot) -> Outcome {
-    let answer = encode(alloc, example);
-    let outcome = match &answer {
-        Ok(text) if same(text.as_slice(), &EXAMPLE_DUMP) => Outcome::Right,
-        Err(DumpError::OutOfMemory) => Outcome::Refused,
-        _ => Outcome::Wrong,
-    };
-    drop(answer);
-    outcome
+    outcome_of(encode(alloc, example), &DumpError::OutOfMemory)
 }
 
-#[test]
-fn encoded(rt: HostRuntime) {
-    let example = snapshot(&rt, rt.alloc());
-    assert_requests_on(&rt, encodes, &example, 1, "the text");
-    drop(example);
-}
-
-// The outcome of making the text of a dump, which is to be that of the example with its decision.
 fn encodes_dump(alloc: Lent<'_>, dump: &Dump) -> Outcome {
-    let answer = encode_dump(alloc, dump);
-    let outcome = match &answer {
-        Ok(text) if same(text.as_slice(), &RECORDED_DUMP) => Outcome::Right,
-        Ok(_) => Outcome::Wrong,
-        Err(AllocError) => Outcome::Refused,
-    };
-    drop(answer);
-    outcome
-}
-
-/// The dump of the example with its decision.
-pub(crate) fn recorded<A: Allocator + Copy>(rt: &impl Abort, alloc: A) -> Dump<A> {
-    decode(alloc, &RECORDED_DUMP).expect(rt, "no dump")
+    outcome(encode_dump(alloc, dump))
 }
 
 #[test]
-fn a_dump_encoded(rt: HostRuntime) {
-    let dump: Dump<Global> = recorded(&rt, rt.alloc());
+fn texts_that_are_made(rt: HostRuntime) {
+    let dump: Dump<Global> = decode(rt.alloc(), &RECORDED_DUMP).expect(&rt, "no dump");
+    assert_requests_on(&rt, encodes, dump.snapshot(), 1, "the text");
     assert_requests_on(&rt, encodes_dump, &dump, 1, "the text");
     drop(dump);
 }

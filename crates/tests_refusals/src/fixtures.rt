@@ -78,6 +78,29 @@ pub(crate) fn same<T: PartialEq>(some: &[T], others: &[T]) -> bool {
     some == others
 }
 
+/// The outcome of a call whose contract says what it returns, and that it fails for want of memory alone.
+pub(crate) fn outcome<T: Drop, E: Drop>(answer: Result<T, E>) -> Outcome {
+    let is_ok = answer.is_ok();
+    drop(answer);
+    if is_ok {
+        Outcome::Right
+    } else {
+        Outcome::Refused
+    }
+}
+
+/// The same, where the error can say more than that memory was refused, which is this one.
+pub(crate) fn outcome_of<T: Drop, E: PartialEq + Drop>(
+    answer: Result<T, E>,
+    memory: &E,
+) -> Outcome {
+    let is_memory = answer.as_ref().err() == Some(memory);
+    match outcome(answer) {
+        Outcome::Refused if !is_memory => Outcome::Wrong,
+        other => other,
+    }
+}
+
 /// The outcome of a copy, which is to be equal to what it was made from.
 pub(crate) fn is_copied<T: PartialEq + Drop>(
     answer: Result<T, AllocError>,

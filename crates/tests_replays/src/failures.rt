@@ -6,167 +6,94 @@ use crate::fixtures::{DECIDED, REPLAY, RIGHT, TEXT, assert_for, ended, ends, has
 use dump_format::DumpError;
 use lb_replay::{Ended, Task};
 use std::io::{self, ErrorKind, Write};
+use std::process::Abort;
 use tests_fixtures::{EXAMPLE_DUMP, Sink, Source};
+
+// Whether it is a check or a replay, of this dump, the text that it writes, the bytes that each call of its writer takes, and so
+// the number of calls.
+type Work = (bool, &'static [u8], &'static str, usize, usize);
+
+// The task of a row.
+fn task(row: &Work) -> Task
+    ensures may_run { MayRun result }
+{
+    if row.0 {
+        return Task::Check;
+    }
+    REPLAY
+}
 
 // Whether a reader that gives one byte per call, and fails after this number of bytes, is not called again, and its failure is
 // what is written.
-fn ends_at_failure(rt: &impl AllocGlobal, task: Task, dump: &[u8], bytes: usize) -> bool
-    requires { MayRun task }
-{
-    let mut reader = Source::new(dump, 1, Some((bytes, ErrorKind::Interrupted)));
+fn ends_at_failure(rt: &impl AllocGlobal, row: &Work, bytes: usize) -> bool {
+    let mut reader = Source::new(row.1, 1, Some((bytes, ErrorKind::Interrupted)));
     let end = Ended::Dump(DumpError::Read);
-    let found = ends(rt, task, &mut reader, "dump: read failed\n", end);
+    let found = ends(rt, task(row), &mut reader, "dump: read failed\n", end);
     found && reader.calls == bytes.saturating_add(1)
 }
 
-// Whether a reader that gives one byte per call, and would fail after this number of bytes, leads to this text.
-fn ends_before_failure(
-    rt: &impl AllocGlobal,
-    task: Task,
-    dump: &[u8],
-    bytes: usize,
-    text: &str,
-) -> bool
-    requires { MayRun task }
-{
-    let mut reader = Source::new(dump, 1, Some((bytes, ErrorKind::Interrupted)));
-    ends(rt, task, &mut reader, text, Ended::Printed)
+// It has to be so after each number of bytes of the dump, the last call being the one at its end.
+fn expect_end_at_failure(rt: &(impl Abort + AllocGlobal), row: &Work) {
+    for bytes in 0..=row.1.len() {
+        assert_for(rt, ends_at_failure(rt, row, bytes), bytes);
+    }
 }
 
 #[test]
 fn a_reader_that_fails_after_each_byte(rt: HostRuntime) {
-    for bytes in 0..=52 {
-        let failed = ends_at_failure(&rt, REPLAY, &EXAMPLE_DUMP, bytes);
-        assert_for(&rt, failed, bytes);
-    }
-    // One call for each byte, and one at the end.
-    let printed = ends_before_failure(&rt, REPLAY, &EXAMPLE_DUMP, 53, TEXT);
-    assert_for(&rt, printed, "no failure");
+    expect_end_at_failure(&rt, &(false, &EXAMPLE_DUMP, TEXT, 8, 14));
+    expect_end_at_failure(&rt, &(true, &DECIDED, RIGHT, 1, 10));
 }
 
-#[test]
-fn a_reader_of_a_decision_that_fails_after_each_byte(rt: HostRuntime) {
-    for bytes in 0..=172 {
-        let failed = ends_at_failure(&rt, Task::Check, &DECIDED, bytes);
-        assert_for(&rt, failed, bytes);
-    }
-    let printed = ends_before_failure(&rt, Task::Check, &DECIDED, 173, RIGHT);
-    assert_for(&rt, printed, "no failure");
-}
-
-// A task on a dump, and the text that it has to write.
-#[derive(Clone, Copy)]
-struct Writing {
-    task: Task,
-    dump: &'static [u8],
-    text: &'static str,
-}
-
-// Whether this ends where its writer, which takes this number of bytes per call, fails in this way at this call. The writer has
-// to have the text that was taken before.
-fn ends_at_write(
-    rt: &impl AllocGlobal,
-    writing: Writing,
-    step: usize,
-    fails: (usize, Option<ErrorKind>),
-) -> bool
-    requires { MayRun writing.task }
-{
-    let (call, error) = fails;
-    let mut writer = Sink::new(rt, step, call, error);
-    let mut reader = writing.dump;
-    let ended = ended(rt.alloc(), writing.task, &mut reader, &mut writer);
-    let taken = step.saturating_mul(call);
-    let held = has(&writer, call.saturating_add(1), writing.text, taken);
+// Whether this ends where its writer fails in this way at this call. The writer has to have the text that was taken before.
+fn ends_at_write(rt: &impl AllocGlobal, row: &Work, call: usize, error: Option<ErrorKind>) -> bool {
+    let mut writer = Sink::new(rt, row.3, call, error);
+    let mut reader = row.1;
+    let ended = ended(rt.alloc(), task(row), &mut reader, &mut writer);
+    let taken = row.3.saturating_mul(call);
+    let held = has(&writer, call.saturating_add(1), row.2, taken);
     drop(writer);
     held && ended == Ended::WriteFailed
 }
 
-// Whether it ends so at an error, and also where no byte is taken.
-fn ends_at_both(rt: &impl AllocGlobal, writing: Writing, step: usize, call: usize) -> bool
-    requires { MayRun writing.task }
-{
-    ends_at_write(rt, writing, step, (call, Some(ErrorKind::Interrupted)))
-        && ends_at_write(rt, writing, step, (call, None))
+// It has to end so at each call, at an error and where no byte is taken.
+fn expect_end_at_write(rt: &(impl Abort + AllocGlobal), row: &Work) {
+    for call in 0..row.4 {
+        let ends = ends_at_write(rt, row, call, Some(ErrorKind::Interrupted))
+            && ends_at_write(rt, row, call, None);
+        assert_for(rt, ends, call);
+    }
+}
+
+// Whether a writer that would fail after the last call has the whole text.
+fn writes_all(rt: &impl AllocGlobal, row: &Work, end: Ended) -> bool {
+    let mut writer = Sink::new(rt, row.3, row.4, Some(ErrorKind::Interrupted));
+    let mut reader = row.1;
+    let ended = ended(rt.alloc(), task(row), &mut reader, &mut writer);
+    let held = has(&writer, row.4, row.2, row.2.len());
+    drop(writer);
+    held && ended == end
 }
 
 #[test]
 fn a_writer_that_fails_at_each_call(rt: HostRuntime) {
-    let writing = Writing {
-        task: REPLAY,
-        dump: &EXAMPLE_DUMP,
-        text: TEXT,
-    };
-    // Fourteen calls for 110 bytes.
-    for call in 0..14 {
-        assert_for(&rt, ends_at_both(&rt, writing, 8, call), call);
+    const ROWS: [(Work, Ended); 5] = [
+        ((false, &EXAMPLE_DUMP, TEXT, 8, 14), Ended::Printed),
+        ((false, &EXAMPLE_DUMP, TEXT, 1, 110), Ended::Printed),
+        ((true, &DECIDED, RIGHT, 1, 10), Ended::Printed),
+        (
+            (false, b"LBD3", "dump: not LBD1 or LBD2\n", 1, 23),
+            Ended::Dump(DumpError::Magic),
+        ),
+        (
+            (true, &EXAMPLE_DUMP, "check: no decision\n", 1, 19),
+            Ended::NoDecision,
+        ),
+    ];
+    for row in &ROWS {
+        expect_end_at_write(&rt, &row.0);
+        assert_for(&rt, writes_all(&rt, &row.0, row.1), row.0.4);
     }
-}
-
-#[test]
-fn a_writer_of_a_check_that_fails_at_each_call(rt: HostRuntime) {
-    let writing = Writing {
-        task: Task::Check,
-        dump: &DECIDED,
-        text: RIGHT,
-    };
-    for call in 0..10 {
-        assert_for(&rt, ends_at_both(&rt, writing, 1, call), call);
-    }
-}
-
-#[test]
-fn the_line_of_a_fault_fails_too(rt: HostRuntime) {
-    let writing = Writing {
-        task: REPLAY,
-        dump: b"LBD3",
-        text: "dump: not LBD1 or LBD2\n",
-    };
-    for call in 0..23 {
-        assert_for(&rt, ends_at_both(&rt, writing, 1, call), call);
-    }
-}
-
-#[test]
-fn the_line_of_no_decision_fails_too(rt: HostRuntime) {
-    let writing = Writing {
-        task: Task::Check,
-        dump: &EXAMPLE_DUMP,
-        text: "check: no decision\n",
-    };
-    for call in 0..19 {
-        assert_for(&rt, ends_at_both(&rt, writing, 1, call), call);
-    }
-}
-
-// Whether a writer that takes this number of bytes per call, and fails after this number of calls, has the whole text.
-fn prints_all(rt: &impl AllocGlobal, writing: Writing, step: usize, calls: usize) -> bool
-    requires { MayRun writing.task }
-{
-    let mut writer = Sink::new(rt, step, calls, Some(ErrorKind::Interrupted));
-    let mut reader = writing.dump;
-    let ended = ended(rt.alloc(), writing.task, &mut reader, &mut writer);
-    let held = has(&writer, calls, writing.text, writing.text.len());
-    drop(writer);
-    held && ended == Ended::Printed
-}
-
-#[test]
-fn a_writer_that_fails_at_no_call(rt: HostRuntime) {
-    let replay = Writing {
-        task: REPLAY,
-        dump: &EXAMPLE_DUMP,
-        text: TEXT,
-    };
-    assert_for(&rt, prints_all(&rt, replay, 8, 14), "8 bytes a call");
-    assert_for(&rt, prints_all(&rt, replay, 1, 110), "1 byte a call");
-    assert_for(&rt, prints_all(&rt, replay, 1000, 1), "1000 bytes a call");
-    let check = Writing {
-        task: Task::Check,
-        dump: &DECIDED,
-        text: RIGHT,
-    };
-    assert_for(&rt, prints_all(&rt, check, 1, 10), "a check");
 }
 
 // A writer that keeps what it takes until it is flushed, and then passes it on or fails.
@@ -216,9 +143,6 @@ fn gives(rt: &impl AllocGlobal, fails: bool, end: Ended, text: &str) -> bool {
 #[test]
 fn what_was_written_is_flushed(rt: HostRuntime) {
     assert_for(&rt, gives(&rt, false, Ended::Printed, TEXT), "flushed");
-    assert_for(
-        &rt,
-        gives(&rt, true, Ended::WriteFailed, ""),
-        "the flush fails",
-    );
+    let fails = gives(&rt, true, Ended::WriteFailed, "");
+    assert_for(&rt, fails, "the flush fails");
 }

@@ -7,7 +7,7 @@ use chain_refinement::Tolerance;
 use lb_replay::{Ended, Task, simulate, verify};
 use std::alloc::Global;
 use std::fmt::Debug;
-use std::io::{self, ErrorKind, Read, Write};
+use std::io::{Read, Write};
 use std::process::Abort;
 use tests_fixtures::{Sink, Source};
 
@@ -113,9 +113,4 @@ pub(crate) fn replays(rt: &impl AllocGlobal, bytes: &[u8], text: &str, end: Ende
 /// Whether a check of these bytes, seven at a time, writes this line and has this end.
 pub(crate) fn checks(rt: &impl AllocGlobal, bytes: &[u8], line: &str, end: Ended) -> bool {
     ends(rt, Task::Check, &mut Source::new(bytes, 7, None), line, end)
-}
-
-/// The kind of a reason.
-pub(crate) fn kind(reason: Option<io::Error>) -> Option<ErrorKind> {
-    Some(reason?.kind())
 }

@@ -75,26 +75,14 @@ fn is_printed(rt: &impl AllocGlobal, row: &Row) -> bool {
     ends(rt, task(row), &mut reader, row.text, Ended::Printed)
 }
 
-// PEs that have an order: within 14 one element moves, within 12 two, within 24 none.
-static ORDERED: [Row; 7] = [
+// PEs that have an order: within 14 one element moves, within 24 none. Then the plan: the elements of a PE are not consecutive, or a
+// PE is not among those that are asked for, or no cuts within the tolerance move fewer bytes.
+static ROWS: [Row; 8] = [
     Row {
         dump: &TEN,
         procs: None,
         tolerance: 167,
         text: WITHIN,
-    },
-    Row {
-        dump: &TEN,
-        procs: None,
-        tolerance: 0,
-        text: "step 7 procs 3 elements 10\n\
-            bottleneck 12\n\
-            fence 0 4 5 6\n\
-            limit 12\n\
-            block 0 0..5 load 12 pe 2\n\
-            block 1 5..6 load 8 pe 0\n\
-            block 2 6..10 load 10 pe 1\n\
-            moved 130\n",
     },
     Row {
         dump: &TEN,
@@ -125,18 +113,6 @@ static ORDERED: [Row; 7] = [
     Row {
         dump: &WIDE,
         procs: None,
-        tolerance: 7,
-        text: "step 9 procs 2 elements 4\n\
-            bottleneck 1099511627776\n\
-            fence 0 0 0\n\
-            limit 1107208209170\n\
-            block 0 0..1 load 1099511627776 pe 0\n\
-            block 1 1..4 load 558345748487 pe 1\n\
-            moved 12\n",
-    },
-    Row {
-        dump: &WIDE,
-        procs: None,
         tolerance: 8,
         text: "step 9 procs 2 elements 4\n\
             bottleneck 1099511627776\n\
@@ -158,11 +134,6 @@ static ORDERED: [Row; 7] = [
             block 1 0..0 load 0 pe -\n\
             moved 0\n",
     },
-];
-
-// The plan: the elements of a PE are not consecutive, or a PE is not among those that are asked for, or no cuts within the
-// tolerance move fewer bytes.
-static PLANNED: [Row; 3] = [
     Row {
         dump: &EXAMPLE_DUMP,
         procs: None,
@@ -204,15 +175,8 @@ static PLANNED: [Row; 3] = [
 ];
 
 #[test]
-fn elements_in_the_order_of_the_pes(rt: HostRuntime) {
-    for row in &ORDERED {
-        assert_for(&rt, is_printed(&rt, row), row.text);
-    }
-}
-
-#[test]
-fn the_plan_where_nothing_moves_less(rt: HostRuntime) {
-    for row in &PLANNED {
+fn replays_within_a_tolerance(rt: HostRuntime) {
+    for row in &ROWS {
         assert_for(&rt, is_printed(&rt, row), row.text);
     }
 }

@@ -7,7 +7,9 @@ use chain_refinement::Tolerance;
 use dump_report::report_dump;
 use lb_replay::Ended;
 use load_report::Style;
+use std::alloc::Allocator;
 use std::fmt::Debug;
+use std::io::Write;
 use std::process::Abort;
 
 /// Ends the test where this does not hold, with the row for which it has to hold.
@@ -28,37 +30,19 @@ pub(crate) const THREE: &str =
     "\"three\",present,2,3,3,2.000,1.500,,,,,,0,0,1,2,2,0.500,50.000,,,5\n\
     \"three\",planned,2,3,2,2.000,1.000,2,1,33.333,10,37.037,0,0,2,2,2,0.000,0.000,10,10,5\n";
 
-/// Whether a report on these bytes, under the name `three`, has this text and this end.
-pub(crate) fn reports(
-    rt: &impl AllocGlobal,
-    bytes: &[u8],
-    procs: &[u32],
-    style: Style,
-    text: &str,
-    end: Ended,
-) -> bool
-    requires { All IsNumber procs.now }
-{
-    let mut written = Vec::new(rt.alloc());
-    let mut reader = bytes;
-    let ended = report_dump(
-        rt.alloc(),
-        &mut reader,
-        &mut written,
-        "three",
-        procs,
-        None,
-        style,
-    );
-    let found = ended == end && written.as_slice() == text.as_bytes();
-    drop(written);
-    found
+/// How a report in values on these bytes, under the name `three`, ends, for as many PEs as the dump has.
+pub(crate) fn ended<A: Allocator + Copy, W: Write>(
+    alloc: A,
+    mut bytes: &[u8],
+    writer: &mut W,
+) -> Ended {
+    report_dump(alloc, &mut bytes, writer, "three", &[], None, VALUES)
 }
 
-/// Whether a report on these bytes, under the name `three`, within this tolerance, has this text.
-pub(crate) fn reports_within(
+/// Whether a report on these bytes, under the name `three`, within this tolerance or none, has this text.
+pub(crate) fn reports(
     rt: &impl AllocGlobal,
-    bytes: &[u8],
+    mut bytes: &[u8],
     procs: &[u32],
     tolerance: Option<Tolerance>,
     style: Style,
@@ -67,10 +51,9 @@ pub(crate) fn reports_within(
     requires { All IsNumber procs.now }
 {
     let mut written = Vec::new(rt.alloc());
-    let mut reader = bytes;
     let ended = report_dump(
         rt.alloc(),
-        &mut reader,
+        &mut bytes,
         &mut written,
         "three",
         procs,

@@ -10,55 +10,75 @@ use std::alloc::AllocError;
 use std::io::{self, ErrorKind};
 use tests_fixtures::{Refusing, Sink};
 
-// An end without the system's reason, and the line for it.
-const LINES: [(Ended, &str); 10] = [
+// An end, whether the system's reason is that there is no such file, or there is none, and the line for it.
+static LINES: [(Ended, bool, &str); 11] = [
     (
         Ended::Dump(DumpError::Magic),
+        false,
         "lb_report: f: not a dump; a dump begins with LBD1 or LBD2: give one that charm_run --dump wrote, or see docs/FORMATS.md\n",
     ),
     (
         Ended::Dump(DumpError::Short(40)),
+        false,
         "lb_report: f: the dump ends after 40 bytes; a dump goes on here: copy it whole, or write it again\n",
     ),
     (
         Ended::Dump(DumpError::Trailing),
+        false,
         "lb_report: f: bytes follow the end; a dump ends here: give one dump in a file\n",
     ),
     (
-        Ended::Dump(DumpError::Place(2)),
-        "lb_report: f: the place of element 2 is out of range; \
-         see docs/FORMATS.md for what is expected there, and write the dump again\n",
-    ),
-    (
         Ended::Dump(DumpError::OutOfMemory),
+        false,
         "lb_report: f: out of memory; free some, or report on a smaller dump\n",
     ),
     (
         Ended::Plan(PlanError::OutOfMemory),
+        false,
         "lb_report: f: out of memory; report on fewer numbers of PEs at a time\n",
     ),
     (
         Ended::WriteFailed,
+        false,
         "lb_report: standard output: it takes nothing; give it a place that takes all of the report\n",
     ),
-    (Ended::Printed, ""),
-    (Ended::NoDecision, ""),
-    (Ended::Flawed(Flaw::CutCount), ""),
+    (Ended::Printed, false, ""),
+    (Ended::NoDecision, false, ""),
+    (Ended::Flawed(Flaw::CutCount), false, ""),
+    (
+        Ended::Dump(DumpError::Read),
+        true,
+        "lb_report: f: reading failed: entity not found; \
+         give a file with a dump that you may read, or - for the standard input\n",
+    ),
+    (
+        Ended::WriteFailed,
+        true,
+        "lb_report: standard output: entity not found; give it a place that takes all of the report\n",
+    ),
 ];
 
-// Whether this line is printed for an end, without a reason.
-fn is_told(rt: &impl AllocGlobal, ended: Ended, line: &str) -> bool {
+// Whether this line is printed for an end, with this reason or none.
+fn is_told(rt: &impl AllocGlobal, ended: Ended, reason: Option<io::Error>, line: &str) -> bool {
     let mut told = Vec::new(rt.alloc());
-    let all = tell(rt.alloc(), &mut told, "f", ended, None);
+    let all = tell(rt.alloc(), &mut told, "f", ended, reason);
     let right = all && told.as_slice() == line.as_bytes();
     drop(told);
     right
 }
 
+// The reason, if there is one.
+fn reason(is_missing: bool) -> Option<io::Error> {
+    if is_missing {
+        return Some(io::Error::from(ErrorKind::NotFound));
+    }
+    None
+}
+
 #[test]
 fn each_end(rt: HostRuntime) {
     for row in &LINES {
-        assert_for(&rt, is_told(&rt, row.0, row.1), row);
+        assert_for(&rt, is_told(&rt, row.0, reason(row.1), row.2), row.2);
     }
 }
 
@@ -74,7 +94,7 @@ fn is_displayed(rt: &impl AllocGlobal, fault: DumpError) -> bool {
     let Ok(line) = displayed(rt, fault) else {
         return false;
     };
-    is_told(rt, Ended::Dump(fault), &line)
+    is_told(rt, Ended::Dump(fault), None, &line)
 }
 
 #[test]
@@ -94,36 +114,7 @@ fn faults_in_their_own_words(rt: HostRuntime) {
         DumpError::Wide(1),
     ];
     for &fault in &FAULTS {
-        assert_for(&rt, is_displayed(&rt, fault), fault);
-    }
-}
-
-// Whether this line is printed for an end with the system's reason.
-fn is_told_because(rt: &impl AllocGlobal, ended: Ended, line: &str) -> bool {
-    let mut told = Vec::new(rt.alloc());
-    let reason = io::Error::from(ErrorKind::NotFound);
-    let all = tell(rt.alloc(), &mut told, "f", ended, Some(reason));
-    let right = all && told.as_slice() == line.as_bytes();
-    drop(told);
-    right
-}
-
-#[test]
-fn ends_with_a_reason(rt: HostRuntime) {
-    const ROWS: [(Ended, &str); 3] = [
-        (
-            Ended::Dump(DumpError::Read),
-            "lb_report: f: reading failed: entity not found; \
-             give a file with a dump that you may read, or - for the standard input\n",
-        ),
-        (
-            Ended::WriteFailed,
-            "lb_report: standard output: entity not found; give it a place that takes all of the report\n",
-        ),
-        (Ended::Printed, ""),
-    ];
-    for row in &ROWS {
-        assert_for(&rt, is_told_because(&rt, row.0, row.1), row);
+        assert_for(&rt, is_displayed(&rt, fault), "other words");
     }
 }
 
@@ -137,17 +128,17 @@ fn is_silent(rt: &impl AllocGlobal, turn: u64) -> bool {
     silent
 }
 
+// Whether a writer that fails at its third call has what it took before.
+fn is_cut(rt: &impl AllocGlobal) -> bool {
+    let mut writer = Sink::new(rt, 8, 2, Some(ErrorKind::Interrupted));
+    let all = tell(rt.alloc(), &mut writer, "f", Ended::WriteFailed, None);
+    let part = writer.taken.as_slice() == b"lb_report: stand".as_slice();
+    drop(writer);
+    !all && part
+}
+
 #[test]
 fn refused_memory_and_a_writer_that_fails(rt: HostRuntime) {
     assert_for(&rt, is_silent(&rt, 1), "the first request");
-    let mut writer = Sink::new(&rt, 8, 2, Some(ErrorKind::Interrupted));
-    let all = tell(
-        rt.alloc(),
-        &mut writer,
-        "f",
-        Ended::Dump(DumpError::Magic),
-        None,
-    );
-    let part = writer.taken.as_slice() == b"lb_report: f: no".as_slice();
-    assert_for(&rt, !all && part, "the third call");
+    assert_for(&rt, is_cut(&rt), "the third call");
 }

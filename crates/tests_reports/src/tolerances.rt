@@ -1,10 +1,9 @@
 //! Reports on decisions within a tolerance. Their figures were worked out by benches/refinement/texts.py, which tries all cuts
 //! and all namings.
 
-use crate::fixtures::{VALUES, assert_for, reports_within};
+use crate::fixtures::{VALUES, assert_for, reports};
 use chain_refinement::Tolerance;
 use load_report::Style;
-use tests_fixtures::EXAMPLE_DUMP;
 
 // Ten elements on three PEs, whose order is 2, 0, 1.
 const TEN: [u8; 136] = *b"LBD1\
@@ -37,9 +36,6 @@ const WIDE: [u8; 84] = *b"LBD2\
     \0\0\0\0\0\0\0\x07\0\0\0\x09\0\0\0\0\
     \0\0\0\0";
 
-// No elements on two PEs.
-const NONE: [u8; 16] = *b"LBD1\0\0\0\0\0\0\0\x02\0\0\0\0";
-
 // A dump, a tolerance, and the report on it for the number of PEs of the dump.
 struct Row {
     dump: &'static [u8],
@@ -49,24 +45,17 @@ struct Row {
 
 fn is_reported(rt: &impl AllocGlobal, row: &Row, style: Style) -> bool {
     let tolerance = Tolerance::new(row.tolerance);
-    reports_within(rt, row.dump, &[], tolerance, style, row.text)
+    reports(rt, row.dump, &[], tolerance, style, row.text)
 }
 
 // The lines of the plan and of the decision within the tolerance, after that of the present placement.
-static FIGURES: [Row; 5] = [
+static FIGURES: [Row; 3] = [
     Row {
         dump: &TEN,
         tolerance: 167,
         text: "\"three\",present,3,10,21,10.000,2.100,,,,,,0,0,4,8,10,0.779,110.000,,,7\n\
             \"three\",planned,3,10,12,10.000,1.200,12,2,20.000,130,41.935,0,0,8,8,10,0.163,20.000,130,70,7\n\
             \"three\",within,3,10,14,10.000,1.400,12,1,10.000,60,19.354,0,0,4,8,10,0.432,40.000,60,60,7\n",
-    },
-    Row {
-        dump: &EXAMPLE_DUMP,
-        tolerance: 500,
-        text: "\"three\",present,2,3,3,2.000,1.500,,,,,,0,0,1,2,2,0.500,50.000,,,5\n\
-            \"three\",planned,2,3,2,2.000,1.000,2,1,33.333,10,37.037,0,0,2,2,2,0.000,0.000,10,10,5\n\
-            \"three\",within,2,3,2,2.000,1.000,2,1,33.333,10,37.037,0,0,2,2,2,0.000,0.000,10,10,5\n",
     },
     Row {
         dump: &IDLE,
@@ -81,13 +70,6 @@ static FIGURES: [Row; 5] = [
         text: "\"three\",present,2,4,1657857376256,828928688131.500,1.999,,,,,,0,0,7,1099511627776,1099511627776,1.000,100.000,,,9\n\
             \"three\",planned,2,4,1099511627776,828928688131.500,1.326,1099511627776,2,50.000,12,50.000,0,0,558345748487,1099511627776,1099511627776,0.326,32.642,9,9,9\n\
             \"three\",within,2,4,1108101562368,828928688131.500,1.336,1099511627776,1,25.000,7,29.166,0,0,549755813895,1099511627776,1099511627776,0.337,33.679,7,7,9\n",
-    },
-    Row {
-        dump: &NONE,
-        tolerance: 7,
-        text: "\"three\",present,2,0,0,0.000,,,,,,,2,2,0,0,0,,,,,0\n\
-            \"three\",planned,2,0,0,0.000,,0,0,,0,,2,2,0,0,0,,,0,0,0\n\
-            \"three\",within,2,0,0,0.000,,0,0,,0,,2,2,0,0,0,,,0,0,0\n",
     },
 ];
 
@@ -108,31 +90,21 @@ const ON_BOTH: &str = "\"three\",present,3,10,21,10.000,2.100,,,,,,0,0,4,8,10,0.
 #[test]
 fn figures_for_two_numbers_of_pes(rt: HostRuntime) {
     let tolerance = Tolerance::new(1_000);
-    let found = reports_within(&rt, &TEN, &[3, 4], tolerance, VALUES, ON_BOTH);
+    let found = reports(&rt, &TEN, &[3, 4], tolerance, VALUES, ON_BOTH);
     assert_for(&rt, found, "three and four");
 }
 
 // The elements that the decision within the tolerance moves.
-static MOVES: [Row; 4] = [
+static MOVES: [Row; 2] = [
     Row {
         dump: &TEN,
         tolerance: 167,
         text: "\"three\",3,4,0,2,60\n",
     },
     Row {
-        dump: &EXAMPLE_DUMP,
-        tolerance: 500,
-        text: "\"three\",2,0,0,1,10\n",
-    },
-    Row {
         dump: &WIDE,
         tolerance: 8,
         text: "\"three\",2,2,1,0,7\n",
-    },
-    Row {
-        dump: &TEN,
-        tolerance: 1000,
-        text: "",
     },
 ];
 

@@ -2,38 +2,38 @@
 
 use crate::fixtures::assert_for;
 use program_words::words_status;
-use report_command_line::{NumbersError, asked, numbers, refuse_numbers};
+use report_command_line::{asked, numbers, refuse_numbers};
 use std::alloc::Global;
 
-// Whether this text is read as `count` numbers, the last of them this one; or as none.
-fn reads(alloc: Global, text: &str, count: usize, last: Option<u32>) -> bool {
+// Whether this text is read as `count` numbers, the last of them this one; or, of none, is refused.
+fn reads(alloc: Global, text: &str, count: usize, last: u32) -> bool {
     let Ok(found) = numbers(alloc, text) else {
         return count == 0;
     };
-    let right = found.len() == count && found.last().copied() == last;
+    let right = found.len() == count && found.last().copied() == Some(last);
     drop(found);
     right
 }
 
 #[test]
 fn numbers_of_pes(rt: HostRuntime) {
-    for (text, count, last) in [("4", 1, 4), ("1,256,2", 3, 2), ("8,8", 2, 8)] {
-        assert_for(&rt, reads(rt.alloc(), text, count, Some(last)), text);
+    const ROWS: [(&str, usize, u32); 12] = [
+        ("4", 1, 4),
+        ("1,256,2", 3, 2),
+        ("8,8", 2, 8),
+        ("", 0, 0),
+        ("0", 0, 0),
+        ("257", 0, 0),
+        ("4,", 0, 0),
+        ("4,,8", 0, 0),
+        ("+4", 0, 0),
+        ("04", 0, 0),
+        ("4 ,8", 0, 0),
+        ("x", 0, 0),
+    ];
+    for row in &ROWS {
+        assert_for(&rt, reads(rt.alloc(), row.0, row.1, row.2), row.0);
     }
-    for text in [
-        "", "0", "257", "4,", ",4", "4,,8", "+4", "04", "4 ,8", "-1", "x",
-    ] {
-        assert_for(&rt, reads(rt.alloc(), text, 0, None), text);
-    }
-}
-
-#[test]
-fn words_that_are_refused(rt: HostRuntime) {
-    let status = match asked(rt.alloc(), &["lb_report"]) {
-        Ok(_) => 0,
-        Err(error) => words_status(&error),
-    };
-    assert_for(&rt, status == 2, "no file");
 }
 
 #[test]
@@ -60,16 +60,17 @@ fn tolerance_in(alloc: Global, words: &[&str]) -> Result<Option<u32>, u8> {
 
 #[test]
 fn a_tolerance_is_read(rt: HostRuntime) {
-    const ROWS: [(&str, Result<Option<u32>, u8>); 5] = [
-        ("0", Ok(Some(0))),
-        ("1000", Ok(Some(1_000))),
-        ("1001", Err(2)),
-        ("-1", Err(2)),
-        ("x", Err(2)),
+    const ROWS: [(&[&str], Result<Option<u32>, u8>); 4] = [
+        (&["lb_report"], Err(2)),
+        (&["lb_report", "one"], Ok(None)),
+        (
+            &["lb_report", "--tolerance", "1000", "one"],
+            Ok(Some(1_000)),
+        ),
+        (&["lb_report", "--tolerance", "1001", "one"], Err(2)),
     ];
     for row in &ROWS {
-        let words = ["lb_report", "--tolerance", row.0, "one"];
-        assert_for(&rt, tolerance_in(rt.alloc(), &words) == row.1, row);
+        assert_for(&rt, tolerance_in(rt.alloc(), row.0) == row.1, row.0.len());
     }
 }
 

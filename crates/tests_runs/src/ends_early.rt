@@ -1,68 +1,77 @@
 //! Runs that end early, each with its fault, and what they leave.
 
 use crate::errand::Errand;
-use crate::fixtures::{account, assert_for, index, patient, pe, run_errands, run_errands_past};
+use crate::fixtures::{account, assert_for, index, patient, run_past};
 use crate::found::compare;
-use chare_index::{Gate, Index, NoGate};
-use chares::{Carried, Chare, LetterId};
+use chare_index::{Gate, NoGate};
+use chares::{Carried, Chare};
 use pe_state::PeEnd;
 use pe_worker::Fault;
 use rts_core::Account;
-use rts_run::{Config, Outcome, run};
+use rts_run::{Config, Outcome};
 use std::alloc::Global;
 use std::process::Abort;
+use std::sync::Wait;
 use std::sync::atomic::{AtomicU64, Ordering};
+use std::thread::Threads;
 use tests_chares::Courier;
+use tests_fixtures::pe;
 
-// A run of this number of elements met this fault, decided no round, and has this account; and each letter and each element
+// Whether a run of this number of elements met this fault, decided no round, and has this account; each letter and each element
 // is found in what it left.
-fn expect_ended<C: Chare<Global>>(
+fn is_ended<C: Chare<Global>>(
     rt: &(impl Abort + AllocGlobal),
     outcome: &Outcome<C>,
     n: usize,
     fault: Fault,
     account: Account,
-) {
+) -> bool {
     compare(rt, outcome, n);
-    let found = (outcome.fault(), outcome.account());
-    assert_for(rt, found == (Some(fault), account), found);
-    assert!(rt; outcome.rounds().is_empty());
+    let ended = outcome.fault() == Some(fault) && outcome.account() == account;
+    ended && outcome.rounds().is_empty()
 }
 
-// Whether the element is on this PE, and whether it has started.
-fn started<C: Chare<Global>>(end: &PeEnd<C>, e: Index) -> Option<bool> {
-    let element = end.room().element(e)?;
-    let begun = element.progress().started;
-    if begun == element.marks().is_empty() || begun == element.journal().is_empty() {
-        return None;
-    }
-    Some(begun)
+// Whether the element 0 has started, if it is on PE 0.
+fn started<C: Chare<Global>>(rt: &impl Abort, outcome: &Outcome<C>) -> Option<bool> {
+    let element = outcome.ends().first()?.room().element(index(rt, 0))?;
+    Some(element.progress().started)
+}
+
+// A run of errands on one PE, whose workers give up after this number of turns.
+fn run_on_one<R: Threads + Wait + Sync + Abort + AllocGlobal>(
+    rt: &R,
+    turns: u64,
+    errands: Vec<Errand>,
+) -> Outcome<Errand> {
+    let config = Config {
+        turns,
+        ..patient(1, 1)
+    };
+    run_past(rt, &config, &NoGate, errands)
 }
 
 #[test]
 fn a_chare_that_never_finishes(rt: HostRuntime) {
-    let config = Config {
-        turns: 1_000,
-        ..patient(1, 1)
-    };
     let waits = Errand {
         wanted: 1,
         ..Errand::none()
     };
     let errands = vec![in rt.alloc(); waits].expect(&rt, "out of memory");
-    let outcome = run_errands(&rt, &config, errands);
-    expect_ended(&rt, &outcome, 1, Fault::Idle, account(0, 0, 0));
-    let end = outcome.ends().first().expect(&rt, "no PE 0");
-    assert!(rt; started(end, index(&rt, 0)) == Some(true));
-    drop(outcome);
+    let outcome = run_on_one(&rt, 1_000, errands);
+    let ended = is_ended(&rt, &outcome, 1, Fault::Idle, account(0, 0, 0));
+    assert!(rt; ended && started(&rt, &outcome) == Some(true));
 }
 
-// The number of the letter in the hand of a PE, and its element.
-fn in_hand<C: Chare<Global>>(end: &PeEnd<C>) -> Option<(LetterId, Index)> {
-    match &end.hand()?.parcel {
-        Carried::Letter(letter) => Some((letter.id(), letter.to())),
-        Carried::Element(_) => None,
-    }
+// Whether the hand of a PE has the first letter of PE 0, for element 1, and nothing else waits there.
+fn in_hand<C: Chare<Global>>(rt: &impl Abort, end: &PeEnd<C>) -> bool {
+    let Some(item) = end.hand() else {
+        return false;
+    };
+    let found = match &item.parcel {
+        Carried::Letter(letter) => letter.id() == (pe(0), 0) && letter.to() == index(rt, 1),
+        Carried::Element(_) => false,
+    };
+    found && end.outbox().is_empty() && end.shelf().is_empty()
 }
 
 #[test]
@@ -80,11 +89,10 @@ fn a_letter_to_no_element_while_one_is_handled(rt: HostRuntime) {
         ..Errand::none()
     };
     let errands = vec![in rt.alloc(); first, second].expect(&rt, "out of memory");
-    let outcome = run_errands(&rt, &patient(1, 1_024), errands);
-    expect_ended(&rt, &outcome, 2, Fault::Stranger, account(1, 0, 1));
+    let outcome = run_on_one(&rt, 1_000_000_000, errands);
+    let ended = is_ended(&rt, &outcome, 2, Fault::Stranger, account(1, 0, 1));
     let end = outcome.ends().first().expect(&rt, "no PE 0");
-    assert!(rt; in_hand(end) == Some(((pe(&rt, 0), 0), index(&rt, 1))));
-    assert!(rt; end.outbox().is_empty() && end.shelf().is_empty());
+    assert!(rt; ended && in_hand(&rt, end));
     drop(outcome);
 }
 
@@ -92,14 +100,9 @@ fn a_letter_to_no_element_while_one_is_handled(rt: HostRuntime) {
 fn a_body_that_is_too_long(rt: HostRuntime) {
     let chare = Courier::with_zeros(rt.alloc(), 0, 0, 1_025).expect(&rt, "out of memory");
     let chares = vec![in rt.alloc(); chare].expect(&rt, "out of memory");
-    let outcome = run(&rt, rt.alloc(), &patient(1, 1_024), &NoGate, chares).expect(
-        &rt,
-        "the run did not begin",
-    );
-    expect_ended(&rt, &outcome, 1, Fault::TooLong, account(0, 0, 0));
-    let end = outcome.ends().first().expect(&rt, "no PE 0");
-    assert!(rt; started(end, index(&rt, 0)) == Some(false));
-    drop(outcome);
+    let outcome = run_past(&rt, &patient(1, 1_024), &NoGate, chares);
+    let ended = is_ended(&rt, &outcome, 1, Fault::TooLong, account(0, 0, 0));
+    assert!(rt; ended && started(&rt, &outcome) == Some(false));
 }
 
 // How many turns the start of an element is held.
@@ -144,11 +147,10 @@ fn a_start_that_is_stalled(rt: HostRuntime) {
         ..Errand::none()
     };
     let errands = vec![in rt.alloc(); first, second].expect(&rt, "out of memory");
-    let outcome = run_errands_past(&rt, &config, &gate, errands);
+    let outcome = run_past(&rt, &config, &gate, errands);
     compare(&rt, &outcome, 2);
-    let found = (outcome.fault(), outcome.account());
+    let (fault, posted) = (outcome.fault(), outcome.account().posted);
     drop(outcome);
-    drop(gate);
-    assert_for(&rt, found.0 == Some(Fault::Idle), found);
-    assert_for(&rt, found.1.posted == 3, found);
+    assert_for(&rt, fault == Some(Fault::Idle), fault);
+    assert_for(&rt, posted == 3, posted);
 }

@@ -1,5 +1,4 @@
-//! A chare whose state says how many letters it sends, where to, when it has finished, and how many units each of its
-//! handlers takes.
+//! A chare whose state says how many letters it sends, where to, and when it has finished.
 
 ghost use Rattle.std.specs.Prelude.{◌≡◌, ◌≢◌, ◌≤◌, ◌<◌, ◌∷◌, [], List, ℕ, IfErr, MatchResult, OnErr, OnOk};
 ghost use Rattle.chare_index.specs.declared.limits.TheConstants.Limits.{ELEMENTS};
@@ -9,7 +8,6 @@ ghost use Rattle.tests_runs.specs.Errands.{RefusesAll, empty_letters};
 
 use chare_index::{Gate, Index, Round};
 use chares::{Chare, Effect, Here, SendError, Sends};
-use lb_snapshot::Units;
 use pup_pack::{Fields, Pup, PupError};
 use std::alloc::Allocator;
 use std::marker::Model;
@@ -28,8 +26,6 @@ pub(crate) struct Errand {
     pub(crate) wanted: u32,
     /// The number of rounds after which it may finish.
     pub(crate) rounds: u32,
-    /// How many units each of its handlers takes.
-    pub(crate) units: Units,
 }
 
 impl Errand {
@@ -41,7 +37,6 @@ impl Errand {
             replies: 0,
             wanted: 0,
             rounds: 0,
-            units: 0,
         }
     }
 }
@@ -51,11 +46,11 @@ impl Model for Errand {
 
     ghost Value = { ErrandView };
 
-    ghost view = { λ e. record { to = e.to; letters = e.letters; replies = e.replies; wanted = e.wanted; rounds = e.rounds; units = e.units } };
+    ghost view = { λ e. record { to = e.to; letters = e.letters; replies = e.replies; wanted = e.wanted; rounds = e.rounds } };
 }
 
 // The fields, as they are packed.
-type Parts = (u32, (u32, (u32, (u32, (u32, Units)))));
+type Parts = (u32, (u32, (u32, (u32, u32))));
 
 // Sends an empty letter to an element.
 fn send_one<P: Drop, A: Allocator + Copy>(sends: &mut Sends<P, A>, to: u32) -> Result<(), SendError>
@@ -89,7 +84,7 @@ fn send_all<P: Drop, A: Allocator + Copy>(
 impl<A: Allocator + Copy> Pup<A> for Errand {
     ghost use Rattle.std.specs.Prelude.{refl};
     ghost use Rattle.pup_pack.specs.Structs.{made};
-    ghost use Rattle.pup_pack.specs.Trips.{pair_trips, struct_trips, u32_trips, u64_trips};
+    ghost use Rattle.pup_pack.specs.Trips.{pair_trips, struct_trips, u32_trips};
     ghost use Rattle.tests_runs.specs.Errands.{of_parts, parts};
 
     ghost fits = { λ e. ⟦<Parts as Pup<A>>⟧.fits (parts e) };
@@ -101,34 +96,30 @@ impl<A: Allocator + Copy> Pup<A> for Errand {
     ghost unpack = { λ bytes. made of_parts (⟦<Parts as Pup<A>>⟧.unpack bytes) };
 
     ghost round_trip = { (struct_trips parts of_parts (λ _. refl)
-        (pair_trips u32_trips (pair_trips u32_trips (pair_trips u32_trips (pair_trips u32_trips (pair_trips u32_trips u64_trips)))))).trip };
+        (pair_trips u32_trips (pair_trips u32_trips (pair_trips u32_trips (pair_trips u32_trips u32_trips))))).trip };
 
     fn packed_len(&self) -> u32 {
-        let (replies, last) = (&self.replies, (&self.wanted, (&self.rounds, &self.units)));
-        Fields::<A>::fields_len(&(&self.to, (&self.letters, (replies, last))))
+        let last = (&self.replies, (&self.wanted, &self.rounds));
+        Fields::<A>::fields_len(&(&self.to, (&self.letters, last)))
     }
 
     fn pack_into(&self, out: &mut Vec<u8, A>) -> Result<(), PupError> {
         (
             &self.to,
-            (
-                &self.letters,
-                (&self.replies, (&self.wanted, (&self.rounds, &self.units))),
-            ),
+            (&self.letters, (&self.replies, (&self.wanted, &self.rounds))),
         )
             .pack_fields(out)
     }
 
     fn unpack(alloc: A, bytes: &[u8]) -> Result<(Errand, usize), PupError> {
         let (parts, len) = <Parts as Pup<A>>::unpack(alloc, bytes)?;
-        let (to, (letters, (replies, (wanted, (rounds, units))))) = parts;
+        let (to, (letters, (replies, (wanted, rounds)))) = parts;
         let errand = Errand {
             to,
             letters,
             replies,
             wanted,
             rounds,
-            units,
         };
         Ok((errand, len))
     }
@@ -152,7 +143,7 @@ impl<A: Allocator + Copy> Chare<A> for Errand {
         send_all(sends, self.replies, self.to)?;
         self.wanted = self.wanted.saturating_sub(1);
         Ok(Effect {
-            units: self.units,
+            units: 0,
             at_sync: false,
             finished: self.wanted == 0,
         })
@@ -170,7 +161,7 @@ impl<A: Allocator + Copy> Chare<A> for Errand {
         send_all(sends, self.letters, self.to)?;
         let ready = round.get() < self.rounds;
         Ok(Effect {
-            units: self.units,
+            units: 0,
             at_sync: ready,
             finished: !ready && self.wanted == 0,
         })

@@ -1,14 +1,13 @@
-//! What the tests use: numbers, limits of a run, and an assertion over a row. A value that cannot be made ends the
-//! test.
+//! What the tests use: limits of a run, runs, and assertions over a row. A value that cannot be made ends the test.
 
 ghost use Rattle.std.specs.Prelude.{◌≡◌, true};
 
-use crate::errand::Errand;
 use at_sync::Strategy;
-use chare_index::{Gate, Index, NoGate, Pe, Round};
-use chares::StateBytes;
+use chare_index::{Gate, Index};
+use chares::Chare;
 use rts_core::Account;
-use rts_run::{Config, Outcome, run};
+use rts_run::{Config, Outcome, RunError, run};
+use std::alloc::{Allocator, Global};
 use std::fmt::Debug;
 use std::process::Abort;
 use std::sync::Wait;
@@ -26,24 +25,8 @@ pub(crate) fn expect_text(rt: &impl Abort, found: &str, want: &str) {
     assert_for(rt, found == want, (found, want));
 }
 
-pub(crate) fn pe(rt: &impl Abort, number: u32) -> Pe
-    ensures value { result ≡ number }
-{
-    Pe::new(number).expect(rt, "no such PE")
-}
-
-pub(crate) fn index(rt: &impl Abort, place: u32) -> Index
-    ensures value { result ≡ place }
-{
+pub(crate) fn index(rt: &impl Abort, place: u32) -> Index {
     Index::new(place).expect(rt, "no such element")
-}
-
-pub(crate) fn round(rt: &impl Abort, number: u32) -> Round {
-    Round::new(number).expect(rt, "no such round")
-}
-
-pub(crate) fn state_bytes(rt: &impl Abort, bytes: u32) -> StateBytes {
-    StateBytes::new(bytes).expect(rt, "no such length")
 }
 
 /// A run on this number of PEs, with this capacity of each queue, whose workers are patient and decide alone.
@@ -66,21 +49,27 @@ pub(crate) fn account(posted: u64, executed: u64, held: u64) -> Account {
     }
 }
 
-/// Runs these errands past a gate.
-pub(crate) fn run_errands_past<R: Threads + Wait + Sync + Abort + AllocGlobal, G: Gate + Sync>(
+/// Runs these chares past a gate, in the memory of this allocator.
+pub(crate) fn try_run<
+    C: Chare<A> + Send,
+    G: Gate + Sync,
+    R: Threads + Wait + Sync,
+    A: Allocator + Copy + Send + Sync,
+>(
     rt: &R,
+    alloc: A,
     config: &Config,
     gate: &G,
-    errands: Vec<Errand>,
-) -> Outcome<Errand> {
-    run(rt, rt.alloc(), config, gate, errands).expect(rt, "the run did not begin")
+    chares: Vec<C, A>,
+) -> Result<Outcome<C, A>, RunError> {
+    run(rt, alloc, config, gate, chares)
 }
 
-/// Runs these errands.
-pub(crate) fn run_errands<R: Threads + Wait + Sync + Abort + AllocGlobal>(
-    rt: &R,
-    config: &Config,
-    errands: Vec<Errand>,
-) -> Outcome<Errand> {
-    run_errands_past(rt, config, &NoGate, errands)
+/// Runs these chares past a gate.
+pub(crate) fn run_past<
+    C: Chare<Global> + Send,
+    G: Gate + Sync,
+    R: Threads + Wait + Sync + Abort + AllocGlobal,
+>(rt: &R, config: &Config, gate: &G, chares: Vec<C>) -> Outcome<C> {
+    try_run(rt, rt.alloc(), config, gate, chares).expect(rt, "the run did not begin")
 }

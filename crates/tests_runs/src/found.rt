@@ -1,63 +1,59 @@
 //! Each letter and each element that a run left, found by hand where it is.
 
 use crate::fixtures::{account, assert_for};
-use chare_index::{Index, Pe};
-use chares::{Carried, Chare, Entry, Letter, LetterId};
+use chare_index::Index;
+use chares::{Carried, Chare, Journal, Letter, LetterId};
 use pe_state::{HeldParcel, PeEnd};
 use rts_run::Outcome;
 use std::alloc::Allocator;
 use std::process::Abort;
 
-/// One thing that is found.
-#[derive(Clone, Copy, Debug, PartialEq, Eq)]
-enum Found {
-    /// A letter of this number, for this element, waits.
-    Held(LetterId, Index),
-    /// The journal of the first element has this letter, which is for the second.
-    Executed(Index, LetterId, Index),
-    /// An element is in a room, or on its way.
-    Element(Index),
+// The letters that wait or were executed, how many of each there are, and the elements.
+#[derive(Drop)]
+struct Found {
+    letters: Vec<LetterId>,
+    held: u64,
+    executed: u64,
+    elements: Vec<Index>,
 }
 
-fn add(rt: &impl Abort, found: &mut Vec<Found>, new: Found) {
-    found.push(new).expect(rt, "out of memory");
-}
+impl Found {
+    fn add_letter<A: Allocator>(&mut self, rt: &impl Abort, letter: &Letter<A>) {
+        self.letters.push(letter.id()).expect(rt, "out of memory");
+        self.held = self.held.saturating_add(1);
+    }
 
-// The letters that an element has executed.
-fn add_journal<A: Allocator>(
-    rt: &impl Abort,
-    found: &mut Vec<Found>,
-    e: Index,
-    journal: &[Entry<Letter<A>>],
-) {
-    add(rt, found, Found::Element(e));
-    for entry in journal {
-        if let Entry::Letter(letter) = entry {
-            add(rt, found, Found::Executed(e, letter.id(), letter.to()));
+    // Adds an element, and the letters that it has executed, each of which is for it.
+    fn add_element<A: Allocator>(&mut self, rt: &impl Abort, e: Index, journal: &Journal<A>) {
+        self.elements.push(e).expect(rt, "out of memory");
+        for letter in journal.letters() {
+            assert_for(rt, letter.to() == e, letter.id());
+            self.letters.push(letter.id()).expect(rt, "out of memory");
+            self.executed = self.executed.saturating_add(1);
         }
     }
-}
 
-fn add_parcel<A: Allocator>(rt: &impl Abort, found: &mut Vec<Found>, parcel: &HeldParcel<A>) {
-    match parcel {
-        Carried::Letter(letter) => add(rt, found, Found::Held(letter.id(), letter.to())),
-        Carried::Element(element) => add_journal(rt, found, element.index(), element.journal()),
+    fn add_parcel<A: Allocator>(&mut self, rt: &impl Abort, parcel: &HeldParcel<A>) {
+        match parcel {
+            Carried::Letter(letter) => self.add_letter(rt, letter),
+            Carried::Element(element) => self.add_element(rt, element.index(), element.journal()),
+        }
     }
-}
 
-// What a PE holds.
-fn add_end<C: Chare<A>, A: Allocator>(rt: &impl Abort, found: &mut Vec<Found>, end: &PeEnd<C, A>) {
-    for (_, element) in end.room().iter() {
-        add_journal(rt, found, element.index(), element.journal());
-    }
-    if let Some(item) = end.hand() {
-        add_parcel(rt, found, &item.parcel);
-    }
-    for letter in end.shelf().iter() {
-        add(rt, found, Found::Held(letter.id(), letter.to()));
-    }
-    for item in end.outbox().iter() {
-        add_parcel(rt, found, &item.parcel);
+    // Adds what a PE holds.
+    fn add_end<C: Chare<A>, A: Allocator>(&mut self, rt: &impl Abort, end: &PeEnd<C, A>) {
+        for (_, element) in end.room().iter() {
+            self.add_element(rt, element.index(), element.journal());
+        }
+        if let Some(item) = end.hand() {
+            self.add_parcel(rt, &item.parcel);
+        }
+        for letter in end.shelf().iter() {
+            self.add_letter(rt, letter);
+        }
+        for item in end.outbox().iter() {
+            self.add_parcel(rt, &item.parcel);
+        }
     }
 }
 
@@ -65,76 +61,46 @@ fn add_end<C: Chare<A>, A: Allocator>(rt: &impl Abort, found: &mut Vec<Found>, e
 fn find_all<C: Chare<A>, A: Allocator>(
     rt: &(impl Abort + AllocGlobal),
     outcome: &Outcome<C, A>,
-) -> Vec<Found> {
-    let mut found = Vec::new(rt.alloc());
+) -> Found {
+    let mut found = Found {
+        letters: Vec::new(rt.alloc()),
+        held: 0,
+        executed: 0,
+        elements: Vec::new(rt.alloc()),
+    };
     for end in outcome.ends() {
-        add_end(rt, &mut found, end);
+        found.add_end(rt, end);
     }
     for queue in outcome.left() {
         for parcel in queue {
-            add_parcel(rt, &mut found, parcel);
+            found.add_parcel(rt, parcel);
         }
     }
     found
 }
 
-// How often a letter of this number is found.
-fn times(found: &[Found], id: LetterId) -> usize {
-    let mut number: usize = 0;
-    for one in found {
-        let same = match one {
-            Found::Held(other, _) | Found::Executed(_, other, _) => *other == id,
-            Found::Element(_) => false,
-        };
-        if same {
-            number = number.saturating_add(1);
-        }
-    }
-    number
-}
-
-// How many letters are held, and how many were executed, each by the element that it is for.
-fn counts(rt: &impl Abort, found: &[Found]) -> (u64, u64) {
-    let (mut held, mut executed): (u64, u64) = (0, 0);
-    for one in found {
-        match one {
-            Found::Held(_, _) => held = held.saturating_add(1),
-            Found::Executed(by, id, to) => {
-                assert_for(rt, by == to, *id);
-                executed = executed.saturating_add(1);
-            }
-            Found::Element(_) => {}
-        }
-    }
-    (held, executed)
-}
-
 // Each letter that a PE has posted is found once. Returns how many there are.
 fn expect_posted<C: Chare<A>, A: Allocator>(
     rt: &impl Abort,
-    found: &[Found],
+    letters: &[LetterId],
     end: &PeEnd<C, A>,
 ) -> u64 {
-    let me: Pe = end.me();
     for number in 0..end.count() {
         let number = u32::try_from(number).expect(rt, "too many letters");
-        assert_for(rt, times(found, (me, number)) == 1, (me, number));
+        let id = (end.me(), number);
+        let times = letters.iter().filter(|other| **other == id).count();
+        assert_for(rt, times == 1, id);
     }
     end.count()
 }
 
-// Each element is in one place.
-fn expect_elements(rt: &impl Abort, found: &[Found], n: usize) {
-    let mut elements: usize = 0;
-    for one in found {
-        if let Found::Element(e) = one {
-            elements = elements.saturating_add(1);
-            assert_for(rt, (e.get() as usize) < n, *e);
-            let same = found.iter().filter(|other| *other == one).count();
-            assert_for(rt, same == 1, *e);
-        }
+// Each of `n` elements is found once.
+fn expect_elements(rt: &impl Abort, elements: &[Index], n: usize) {
+    for i in 0..n {
+        let times = elements.iter().filter(|e| e.get() as usize == i).count();
+        assert_for(rt, times == 1, i);
     }
-    assert_for(rt, elements == n, elements);
+    assert_for(rt, elements.len() == n, n);
 }
 
 /// Each letter that was posted is in one place, or was executed once, by its own element; each of `n` elements is in one
@@ -147,11 +113,10 @@ pub(crate) fn compare<C: Chare<A>, A: Allocator>(
     let found = find_all(rt, outcome);
     let mut posted: u64 = 0;
     for end in outcome.ends() {
-        posted = posted.saturating_add(expect_posted(rt, found.as_slice(), end));
+        posted = posted.saturating_add(expect_posted(rt, &found.letters, end));
     }
-    let (held, executed) = counts(rt, found.as_slice());
-    let counted = account(posted, executed, held);
-    assert_for(rt, outcome.account() == counted, counted);
-    assert_for(rt, executed.checked_add(held) == Some(posted), counted);
-    expect_elements(rt, found.as_slice(), n);
+    expect_elements(rt, &found.elements, n);
+    let counted = account(posted, found.executed, found.held);
+    let whole = found.executed.checked_add(found.held) == Some(posted);
+    assert_for(rt, whole && outcome.account() == counted, counted);
 }

@@ -1,6 +1,5 @@
-//! Tests of runs over threads: worked examples whose results come from outside, runs that end early or are stopped, queues of
-//! little capacity, gates, loads at their limit, refused memory, full sizes, and random runs after which each letter is found by
-//! hand.
+//! Tests of runs over threads: worked examples whose results come from outside, runs that end early or are stopped, gates, refused
+//! memory, full sizes, queues of little capacity, and random runs after which each letter is found by hand.
 #![tactic(auto)]
 
 #[cfg(test)]
@@ -8,17 +7,11 @@ mod ends_early;
 #[cfg(test)]
 mod errand;
 #[cfg(test)]
-mod faults;
-#[cfg(test)]
 mod fixtures;
 #[cfg(test)]
 mod found;
 #[cfg(test)]
 mod gated;
-#[cfg(test)]
-mod heavy;
-#[cfg(test)]
-mod narrow;
 #[cfg(test)]
 mod numbers;
 #[cfg(test)]
@@ -35,7 +28,5 @@ mod stopped;
 mod tallies;
 #[cfg(test)]
 mod together;
-#[cfg(test)]
-mod watched;
 #[cfg(test)]
 mod worked;

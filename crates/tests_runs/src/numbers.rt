@@ -1,23 +1,25 @@
-//! The numbers and the texts of refusals, and the limits of a run.
+//! The numbers and the texts of refusals and of faults, and the limits of a run.
 
 use crate::errand::Errand;
-use crate::fixtures::{assert_for, patient};
+use crate::fixtures::{assert_for, patient, try_run};
+use at_sync::Strategy;
 use chare_index::NoGate;
-use rts_run::{Config, RunError, Setting, run};
+use pe_worker::Fault;
+use rts_run::{Config, RunError, Setting};
+use std::fmt::Display;
 use std::process::Abort;
 use std::sync::Wait;
 use std::thread::Threads;
 
-// Whether this is the text of a refusal, and this its number.
-fn is_shown(rt: &(impl Abort + AllocGlobal), row: &(RunError, u8, &str)) -> bool {
-    let (error, number, text) = row;
-    let shown = format!(in rt.alloc(); "{error}").expect(rt, "out of memory");
-    error.number() == *number && shown.as_str() == *text
+// Whether this is the text of a value.
+fn is_shown<E: Display>(rt: &(impl Abort + AllocGlobal), value: &E, text: &str) -> bool {
+    let shown = format!(in rt.alloc(); "{value}").expect(rt, "out of memory");
+    shown.as_str() == text
 }
 
 #[test]
 fn refused_runs_have_their_numbers_and_texts(rt: HostRuntime) {
-    const ROWS: [(RunError, u8, &str); 6] = [
+    static ROWS: [(RunError, u8, &str); 6] = [
         (
             RunError::Config(Setting::Pes),
             1,
@@ -45,8 +47,51 @@ fn refused_runs_have_their_numbers_and_texts(rt: HostRuntime) {
         ),
         (RunError::OutOfMemory, 2, "out of memory"),
     ];
-    for row in &ROWS {
-        assert_for(&rt, is_shown(&rt, row), row.2);
+    for (error, number, text) in &ROWS {
+        let right = error.number() == *number && is_shown(&rt, error, *text);
+        assert_for(&rt, right, *text);
+    }
+}
+
+#[test]
+fn faults_have_their_numbers_and_texts(rt: HostRuntime) {
+    static ROWS: [(Fault, u8, &str); 8] = [
+        (
+            Fault::OutOfMemory,
+            1,
+            "out of memory, or no thread could be started",
+        ),
+        (
+            Fault::Idle,
+            2,
+            "a worker found nothing to do for as many turns as it may",
+        ),
+        (Fault::Unpack, 3, "the bytes of an element are no state"),
+        (
+            Fault::Stranger,
+            4,
+            "a letter to an element that is not there",
+        ),
+        (Fault::TooLong, 5, "a letter with too long a body"),
+        (
+            Fault::Worn,
+            6,
+            "a PE has posted as many letters as it may, or the last round was to be decided",
+        ),
+        (
+            Fault::Mismatch,
+            8,
+            "the marks of the elements do not agree with the rounds",
+        ),
+        (
+            Fault::Stopped,
+            9,
+            "the run was stopped before every element had finished",
+        ),
+    ];
+    for (fault, number, text) in &ROWS {
+        let right = *fault as u8 == *number && is_shown(&rt, fault, *text);
+        assert_for(&rt, right, *text);
     }
 }
 
@@ -59,15 +104,13 @@ fn idle(rt: &(impl Abort + AllocGlobal), n: u32) -> Vec<Errand> {
     errands
 }
 
-// The refusal of a run of this number of chares that finish as they start, or `None` where it ends without a
-// fault.
+// Which number refuses a run of this number of chares that finish as they start, or `None` where it ends without a fault.
 fn refusal<R: Threads + Wait + Sync + Abort + AllocGlobal>(
     rt: &R,
     config: &Config,
     chares: u32,
 ) -> Option<RunError> {
-    let chares = idle(rt, chares);
-    match run(rt, rt.alloc(), config, &NoGate, chares) {
+    match try_run(rt, rt.alloc(), config, &NoGate, idle(rt, chares)) {
         Ok(outcome) => {
             assert_for(rt, outcome.fault() == None, outcome.fault());
             None
@@ -76,48 +119,79 @@ fn refusal<R: Threads + Wait + Sync + Abort + AllocGlobal>(
     }
 }
 
-// The limits of the worked row, with one number changed.
-fn changed(number: u32, to: u64) -> Config {
-    let small = u32::try_from(to).unwrap_or(0);
-    let config = patient(1, 1);
-    match number {
-        0 => Config {
-            pes: small,
-            ..config
+// The least numbers.
+const LEAST: Config = Config {
+    pes: 1,
+    capacity: 1,
+    turns: 1,
+    probe_workers: 1,
+    strategy: Strategy::Least,
+};
+
+// Numbers of a run, and which of them is past its limits.
+const ROWS: [(Config, Option<Setting>); 11] = [
+    (LEAST, None),
+    (
+        Config {
+            pes: 256,
+            turns: 1_099_511_627_776,
+            probe_workers: 64,
+            ..LEAST
         },
-        1 => Config {
-            capacity: small,
-            ..config
+        None,
+    ),
+    (
+        Config {
+            capacity: 4_096,
+            ..LEAST
         },
-        2 => Config {
-            turns: to,
-            ..config
+        None,
+    ),
+    (Config { pes: 0, ..LEAST }, Some(Setting::Pes)),
+    (Config { pes: 257, ..LEAST }, Some(Setting::Pes)),
+    (
+        Config {
+            capacity: 0,
+            ..LEAST
         },
-        _ => Config {
-            probe_workers: small,
-            ..config
+        Some(Setting::Capacity),
+    ),
+    (
+        Config {
+            capacity: 4_097,
+            ..LEAST
         },
-    }
-}
+        Some(Setting::Capacity),
+    ),
+    (Config { turns: 0, ..LEAST }, Some(Setting::Turns)),
+    (
+        Config {
+            turns: 1_099_511_627_777,
+            ..LEAST
+        },
+        Some(Setting::Turns),
+    ),
+    (
+        Config {
+            probe_workers: 0,
+            ..LEAST
+        },
+        Some(Setting::ProbeWorkers),
+    ),
+    (
+        Config {
+            probe_workers: 65,
+            ..LEAST
+        },
+        Some(Setting::ProbeWorkers),
+    ),
+];
 
 #[test]
-fn a_number_past_its_limits_is_refused(rt: HostRuntime) {
-    const MOST: [(u64, Setting); 4] = [
-        (256, Setting::Pes),
-        (4_096, Setting::Capacity),
-        (1_099_511_627_776, Setting::Turns),
-        (64, Setting::ProbeWorkers),
-    ];
-    for (number, (most, setting)) in (0u32..4).zip(&MOST) {
-        for wrong in [0, most.saturating_add(1)] {
-            let found = refusal(&rt, &changed(number, wrong), 1);
-            let which = Some(RunError::Config(*setting));
-            assert_for(&rt, found == which, (number, wrong));
-        }
-        for right in [1, *most] {
-            let found = refusal(&rt, &changed(number, right), 1);
-            assert_for(&rt, found == None, (number, right));
-        }
+fn numbers_at_their_limits_and_past_them(rt: HostRuntime) {
+    for (config, setting) in &ROWS {
+        let want = setting.map(|setting| RunError::Config(setting));
+        assert_for(&rt, refusal(&rt, config, 1) == want, *config);
     }
 }
 

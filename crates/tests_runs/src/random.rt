@@ -1,12 +1,12 @@
 //! Random small runs, after each of which every letter and every element is found by hand.
 
-use crate::fixtures::assert_for;
+use crate::fixtures::{assert_for, run_past};
 use crate::found::compare;
 use at_sync::Strategy;
 use chare_index::NoGate;
 use chares::Chare;
 use pe_worker::Fault;
-use rts_run::{Config, Outcome, run};
+use rts_run::{Config, Outcome};
 use std::alloc::Global;
 use std::process::Abort;
 use std::sync::Wait;
@@ -96,10 +96,8 @@ impl Draw {
         for _ in 0..n {
             let to = self.below(n.saturating_add(1));
             let len = if self.below(12) == 0 { 1_025 } else { 4 };
-            let next = Courier::with_zeros(rt.alloc(), to, self.below(4).min(1), len).expect(
-                rt,
-                "no courier",
-            );
+            let goes_on = self.below(4).min(1);
+            let next = Courier::with_zeros(rt.alloc(), to, goes_on, len).expect(rt, "no courier");
             chares.push(next).expect(rt, "out of memory");
         }
         chares
@@ -121,47 +119,29 @@ fn run_and_find<C: Chare<Global> + Send, R: Threads + Wait + Sync + Abort + Allo
     config: &Config,
     chares: Vec<C>,
 ) -> Option<Fault> {
-    let n = chares.len();
-    let outcome = run(rt, rt.alloc(), config, &NoGate, chares).expect(rt, "the run did not begin");
-    compare(rt, &outcome, n);
+    let n = u32::try_from(chares.len()).expect(rt, "too many elements");
+    let outcome = run_past(rt, config, &NoGate, chares);
+    compare(rt, &outcome, n as usize);
     let fault = outcome.fault();
-    if fault == None {
-        let elements = u32::try_from(n).expect(rt, "too many elements");
-        assert_for(rt, have_finished(&outcome, elements), *config);
-    }
-    drop(outcome);
+    assert_for(rt, fault.is_some() || have_finished(&outcome, n), *config);
     fault
 }
 
-#[test]
-fn each_letter_of_a_run_of_tallies_is_found(rt: HostRuntime) {
-    let mut draw = Draw::new();
-    for _ in 0..TURNS {
-        let (config, chares) = (draw.config(), draw.tallies(&rt));
-        let fault = run_and_find(&rt, &config, chares);
-        let may = fault == None || fault == Some(Fault::Idle);
-        assert_for(&rt, may, (config, fault));
-    }
+// Whether a worker gave up at most.
+fn is_idle(fault: Option<Fault>) -> bool {
+    fault == None || fault == Some(Fault::Idle)
 }
 
 #[test]
-fn each_letter_of_a_run_of_relays_is_found(rt: HostRuntime) {
-    let mut draw = Draw::new();
-    for _ in 0..TURNS {
-        let (config, chares) = (draw.config(), draw.relays(&rt));
-        let fault = run_and_find(&rt, &config, chares);
-        let may = fault == None || fault == Some(Fault::Idle);
-        assert_for(&rt, may, (config, fault));
-    }
-}
-
-#[test]
-fn each_letter_of_a_run_of_couriers_is_found(rt: HostRuntime) {
-    let (mut draw, mut refused) = (Draw::new(), 0u32);
-    for _ in 0..TURNS {
-        let (config, chares) = (draw.config(), draw.couriers(&rt));
-        let fault = run_and_find(&rt, &config, chares);
-        if fault == Some(Fault::Stranger) || fault == Some(Fault::TooLong) {
+fn each_letter_of_a_random_run_is_found(rt: HostRuntime) {
+    // Each kind has a generator of its own: a courier that nobody writes to, and whose send is refused, may go on forever.
+    let (mut first, mut second, mut third) = (Draw::new(), Draw::new(), Draw::new());
+    let mut refused = 0u32;
+    for turn in 0..TURNS {
+        let tallies = run_and_find(&rt, &first.config(), first.tallies(&rt));
+        let relays = run_and_find(&rt, &second.config(), second.relays(&rt));
+        assert_for(&rt, is_idle(tallies) && is_idle(relays), turn);
+        if !is_idle(run_and_find(&rt, &third.config(), third.couriers(&rt))) {
             refused = refused.saturating_add(1);
         }
     }

@@ -1,10 +1,10 @@
-//! The most PEs and the most elements.
+//! The most PEs, the most elements, and many letters over queues with capacity for one.
 
 use crate::errand::Errand;
-use crate::fixtures::{account, assert_for, index, patient};
+use crate::fixtures::{account, assert_for, index, patient, run_past};
 use crate::tallies::sum_of;
 use chare_index::NoGate;
-use rts_run::{Outcome, run};
+use rts_run::Outcome;
 use std::process::Abort;
 use std::sync::Wait;
 use std::thread::Threads;
@@ -35,46 +35,27 @@ fn have_sums(rt: &impl Abort, outcome: &Outcome<Tally>, n: u32) -> bool {
     all
 }
 
-// A run of this number of tallies on the most PEs has no fault, and all letters are executed.
-fn runs_on_all<R: Threads + Wait + Sync + Abort + AllocGlobal>(rt: &R, n: u32) {
-    let chares = ring(rt, n);
-    let outcome = run(rt, rt.alloc(), &patient(256, 4), &NoGate, chares).expect(
-        rt,
-        "the run did not begin",
-    );
-    let found = (outcome.fault(), outcome.account());
+// Whether a run of this number of tallies on the most PEs has no fault, and all letters are executed.
+fn runs_on_all<R: Threads + Wait + Sync + Abort + AllocGlobal>(rt: &R, n: u32) -> bool {
+    let outcome = run_past(rt, &patient(256, 4), &NoGate, ring(rt, n));
     let all = account(u64::from(n), u64::from(n), 0);
-    assert_for(rt, found == (None, all), (n, found));
-    assert_for(rt, have_sums(rt, &outcome, n), n);
-    let decided = outcome.rounds().len() == 1 || n == 0 && outcome.rounds().is_empty();
-    let whole = outcome.ends().len() == 256 && outcome.left().len() == 256;
-    assert_for(rt, decided && whole, n);
-    drop(outcome);
+    let ended = outcome.fault() == None && outcome.account() == all;
+    ended && have_sums(rt, &outcome, n) && outcome.rounds().len() == 1
 }
 
 #[test]
-fn no_element_on_the_most_pes(rt: HostRuntime) {
-    runs_on_all(&rt, 0);
+fn few_and_many_elements_on_the_most_pes(rt: HostRuntime) {
+    assert!(rt; runs_on_all(&rt, 1) && runs_on_all(&rt, 255));
 }
 
-#[test]
-fn one_element_on_the_most_pes(rt: HostRuntime) {
-    runs_on_all(&rt, 1);
-}
-
-#[test]
-fn one_element_less_than_the_most_pes(rt: HostRuntime) {
-    runs_on_all(&rt, 255);
-}
-
-// The most elements. Each sends a letter to the next, and has to get one.
-fn full(rt: &(impl Abort + AllocGlobal)) -> Vec<Errand> {
+// Chares that each send this number of letters to the next, and have to get as many.
+fn circle(rt: &(impl Abort + AllocGlobal), n: u32, letters: u32) -> Vec<Errand> {
     let mut errands = Vec::new(rt.alloc());
-    for e in 0..65_536u32 {
+    for e in 0..n {
         let next = Errand {
-            to: e.saturating_add(1) % 65_536,
-            letters: 1,
-            wanted: 1,
+            to: e.saturating_add(1).checked_rem(n).unwrap_or(0),
+            letters,
+            wanted: letters,
             ..Errand::none()
         };
         errands.push(next).expect(rt, "out of memory");
@@ -82,17 +63,17 @@ fn full(rt: &(impl Abort + AllocGlobal)) -> Vec<Errand> {
     errands
 }
 
+// How many PEs, each of which has a queue with capacity for one parcel; how many chares, and how many letters each sends.
+static ROWS: [(u32, u32, u32); 2] = [(2, 2, 1_000), (1, 65_536, 1)];
+
 #[test]
-fn the_most_elements_on_one_pe(rt: HostRuntime) {
-    let errands = full(&rt);
-    let outcome = run(&rt, rt.alloc(), &patient(1, 1), &NoGate, errands).expect(
-        &rt,
-        "the run did not begin",
-    );
-    let found = (outcome.fault(), outcome.account());
-    let all = account(65_536, 65_536, 0);
-    assert_for(&rt, found == (None, all), found);
-    let end = outcome.ends().first().expect(&rt, "no PE 0");
-    assert!(rt; end.room().len() == 65_536);
-    drop(outcome);
+fn many_letters_and_the_most_elements(rt: HostRuntime) {
+    for (pes, n, letters) in &ROWS {
+        let errands = circle(&rt, *n, *letters);
+        let outcome = run_past(&rt, &patient(*pes, 1), &NoGate, errands);
+        let found = (outcome.fault(), outcome.account());
+        drop(outcome);
+        let all = u64::from(*n).saturating_mul(u64::from(*letters));
+        assert_for(&rt, found == (None, account(all, all, 0)), found);
+    }
 }

@@ -1,58 +1,45 @@
-//! Runs that their watch asks to stop: at once, while they have nothing to do, and in the middle.
+//! Watches of a run: what they are told of each round, and runs that they ask to stop, at once, while there is nothing to do, and
+//! in the middle.
 
 use crate::errand::Errand;
-use crate::fixtures::{account, assert_for, patient};
+use crate::fixtures::{account, assert_for, expect_text, patient};
 use crate::found::compare;
-use crate::tallies::{EXAMPLE, tallies};
+use crate::tallies::{EXAMPLE, EXAMPLE_TEXT, tallies, text_of};
 use chare_index::{NoGate, Round};
+use chares::Chare;
 use pe_state::PeEnd;
 use pe_worker::{Fault, Watch};
 use rts_core::Account;
-use rts_run::run_watched;
-use std::alloc::Allocator;
+use rts_run::{Outcome, run_watched};
+use std::alloc::{Allocator, Global};
 use std::process::Abort;
 use std::sync::Wait;
 use std::sync::atomic::{AtomicU64, Ordering};
 use std::thread::Threads;
+use tally::Tally;
+
+// Runs these chares while a watch looks on.
+fn run_seen<
+    C: Chare<Global> + Send,
+    V: Watch + Sync,
+    R: Threads + Wait + Sync + Abort + AllocGlobal,
+>(rt: &R, pes: u32, watch: &V, chares: Vec<C>) -> Outcome<C> {
+    let config = patient(pes, 1_024);
+    run_watched(rt, rt.alloc(), &config, &NoGate, watch, chares).expect(rt, "the run did not begin")
+}
 
 // Lets this number of questions pass, and then asks the run to stop.
 #[derive(Drop)]
-struct Patience {
-    left: AtomicU64,
-}
+struct Patience(AtomicU64);
 
 impl Watch for Patience {
     fn decided(&self, _round: Round, _executed: u64) {}
 
     fn wants_stop(&self) -> bool {
-        let left = self.left.load(Ordering::SeqCst);
-        self.left.store(left.saturating_sub(1), Ordering::SeqCst);
+        let left = self.0.load(Ordering::SeqCst);
+        self.0.store(left.saturating_sub(1), Ordering::SeqCst);
         left == 0
     }
-}
-
-// What ended the run of these errands on one PE, which is to stop after this number of questions; its account; and how many
-// of its elements have started.
-fn stopped_after<R: Threads + Wait + Sync + Abort + AllocGlobal>(
-    rt: &R,
-    questions: u64,
-    errands: Vec<Errand>,
-) -> (Option<Fault>, Account, usize) {
-    let watch = Patience {
-        left: AtomicU64::new(questions),
-    };
-    let n = errands.len();
-    let outcome = run_watched(rt, rt.alloc(), &patient(1, 1_024), &NoGate, &watch, errands);
-    let outcome = outcome.expect(rt, "the run did not begin");
-    compare(rt, &outcome, n);
-    let mut started: usize = 0;
-    for end in outcome.ends() {
-        started = started.saturating_add(started_on(end));
-    }
-    let found = (outcome.fault(), outcome.account(), started);
-    drop(outcome);
-    drop(watch);
-    found
 }
 
 // How many elements in the room of this PE have started.
@@ -66,10 +53,10 @@ fn started_on<A: Allocator + Copy>(end: &PeEnd<Errand, A>) -> usize {
     started
 }
 
-// Two elements, each of which sends the first one two letters as it starts, and that wait for more.
-fn two_that_wait(rt: &(impl Abort + AllocGlobal)) -> Vec<Errand> {
+// Elements, each of which sends the first one two letters as it starts, and that wait for more.
+fn that_wait(rt: &(impl Abort + AllocGlobal), elements: usize) -> Vec<Errand> {
     let mut errands = Vec::new(rt.alloc());
-    for _ in 0..2 {
+    for _ in 0..elements {
         let waits = Errand {
             letters: 2,
             wanted: 9,
@@ -80,71 +67,86 @@ fn two_that_wait(rt: &(impl Abort + AllocGlobal)) -> Vec<Errand> {
     errands
 }
 
-#[test]
-fn a_run_that_is_to_stop_at_once_starts_no_element(rt: HostRuntime) {
-    let found = stopped_after(&rt, 0, two_that_wait(&rt));
-    assert_for(
-        &rt,
-        found == (Some(Fault::Stopped), account(0, 0, 0), 0),
-        found,
-    );
+// How many such elements run on one PE, and how many questions pass before the run is to stop; what ends it, its account, and
+// how many elements have started.
+type Row = (usize, u64, (Option<Fault>, Account, usize));
+
+fn expect_stopped<R: Threads + Wait + Sync + Abort + AllocGlobal>(rt: &R, row: &Row) {
+    let (elements, questions, want) = *row;
+    let watch = Patience(AtomicU64::new(questions));
+    let outcome = run_seen(rt, 1, &watch, that_wait(rt, elements));
+    compare(rt, &outcome, elements);
+    let started = outcome.ends().first().map_or(0, |end| started_on(end));
+    let found = (outcome.fault(), outcome.account(), started);
+    drop(outcome);
+    assert_for(rt, found == want, found);
 }
 
+// A worker is asked before it starts an element, and in each turn with nothing to do. A run whose elements have finished is not
+// stopped.
 #[test]
-fn a_worker_is_asked_before_each_start(rt: HostRuntime) {
-    let found = stopped_after(&rt, 1, two_that_wait(&rt));
-    assert_for(
-        &rt,
-        found == (Some(Fault::Stopped), account(2, 0, 2), 1),
-        found,
-    );
+fn a_run_that_is_asked_to_stop(rt: HostRuntime) {
+    let stopped = Some(Fault::Stopped);
+    expect_stopped(&rt, &(2, 0, (stopped, account(0, 0, 0), 0)));
+    expect_stopped(&rt, &(2, 1, (stopped, account(2, 0, 2), 1)));
+    expect_stopped(&rt, &(2, 10_000, (stopped, account(4, 4, 0), 2)));
+    expect_stopped(&rt, &(0, 0, (None, account(0, 0, 0), 0)));
 }
 
-#[test]
-fn a_worker_with_nothing_to_do_is_asked_in_each_turn(rt: HostRuntime) {
-    let found = stopped_after(&rt, 10_000, two_that_wait(&rt));
-    assert_for(
-        &rt,
-        found == (Some(Fault::Stopped), account(4, 4, 0), 2),
-        found,
-    );
-}
-
-#[test]
-fn a_run_whose_elements_have_finished_is_not_stopped(rt: HostRuntime) {
-    let found = stopped_after(&rt, 0, Vec::new(rt.alloc()));
-    assert_for(&rt, found == (None, account(0, 0, 0), 0), found);
-}
-
-// Asks the run to stop once a round was decided.
+// Counts the rounds that are decided, adds up their numbers, each a hundred times, and the letters that were executed, and asks
+// the run to stop once there were some rounds.
 #[derive(Drop)]
-struct OneRound {
+struct Rounds {
     decided: AtomicU64,
+    sum: AtomicU64,
+    most: u64,
 }
 
-impl Watch for OneRound {
-    fn decided(&self, _round: Round, _executed: u64) {
+impl Watch for Rounds {
+    fn decided(&self, round: Round, executed: u64) {
+        let sum = u64::from(round.get()).saturating_mul(100);
+        self.sum
+            .fetch_add(sum.saturating_add(executed), Ordering::SeqCst);
         self.decided.fetch_add(1, Ordering::SeqCst);
     }
 
     fn wants_stop(&self) -> bool {
-        self.decided.load(Ordering::SeqCst) >= 1
+        self.decided.load(Ordering::SeqCst) >= self.most
     }
+}
+
+// The worked example, which is to stop after this number of rounds, with how many were decided, and their sum.
+fn run_rounds<R: Threads + Wait + Sync + Abort + AllocGlobal>(
+    rt: &R,
+    most: u64,
+) -> (Outcome<Tally>, (u64, u64)) {
+    let watch = Rounds {
+        decided: AtomicU64::new(0),
+        sum: AtomicU64::new(0),
+        most,
+    };
+    let chares = tallies(rt.alloc(), &EXAMPLE).expect(rt, "no tallies");
+    let outcome = run_seen(rt, 2, &watch, chares);
+    let sum = watch.sum.load(Ordering::SeqCst);
+    (outcome, (watch.decided.load(Ordering::SeqCst), sum))
+}
+
+// Each tally waits for a letter before it reports, so four are executed as the first round of the example is decided.
+#[test]
+fn each_round_is_told_with_its_letters(rt: HostRuntime) {
+    let (outcome, seen) = run_rounds(&rt, 9);
+    let text = text_of(&rt, &outcome);
+    drop(outcome);
+    expect_text(&rt, text.as_str(), EXAMPLE_TEXT);
+    assert_for(&rt, seen == (2, 312), seen);
 }
 
 // The worker that decides the first round of the example stops before it lets an element go on, so there is no second one.
 #[test]
 fn a_run_that_is_stopped_between_rounds_loses_nothing(rt: HostRuntime) {
-    let watch = OneRound {
-        decided: AtomicU64::new(0),
-    };
-    let chares = tallies(rt.alloc(), &EXAMPLE).expect(&rt, "no tallies");
-    let config = patient(2, 1_024);
-    let outcome = run_watched(&rt, rt.alloc(), &config, &NoGate, &watch, chares);
-    let outcome = outcome.expect(&rt, "the run did not begin");
+    let (outcome, seen) = run_rounds(&rt, 1);
     compare(&rt, &outcome, 4);
-    let found = (outcome.fault(), outcome.rounds().len());
+    let stopped = outcome.fault() == Some(Fault::Stopped) && outcome.rounds().len() == 1;
     drop(outcome);
-    drop(watch);
-    assert_for(&rt, found == (Some(Fault::Stopped), 1), found);
+    assert_for(&rt, stopped && seen == (1, 104), seen);
 }

@@ -1,8 +1,9 @@
 //! Runs of tallies, and what is printed of them: a line for each round, their sums, and the account.
 
+use crate::fixtures::{assert_for, run_past};
 use chare_index::{Index, NoGate};
 use pup_pack::PupError;
-use rts_run::{Config, Outcome, run};
+use rts_run::{Config, Outcome};
 use std::alloc::{AllocError, Allocator};
 use std::process::Abort;
 use std::sync::Wait;
@@ -11,6 +12,15 @@ use tally::Tally;
 
 /// The amounts of each tally, one for each round, and the number of bytes of padding.
 pub(crate) type Amounts<'a> = (&'a [&'a [u32]], usize);
+
+/// The amounts of the worked example.
+pub(crate) const EXAMPLE: Amounts<'static> = (&[&[1, 2], &[1, 2], &[2, 2], &[6, 2]], 8);
+
+/// What is printed of the worked example.
+pub(crate) const EXAMPLE_TEXT: &str = "round 1 bottleneck 6 moved 40\n\
+    round 2 bottleneck 4 moved 40\n\
+    sums 8 3 3 4\n\
+    posted 8 executed 8 held 0\n";
 
 /// The tallies with these amounts.
 pub(crate) fn tallies<A: Allocator + Copy>(
@@ -26,24 +36,18 @@ pub(crate) fn tallies<A: Allocator + Copy>(
     Ok(tallies)
 }
 
-/// Runs the tallies with these amounts.
-pub(crate) fn run_tallies<R: Threads + Wait + Sync + Abort + AllocGlobal>(
+/// Runs the tallies of the worked example on two PEs, with this capacity of each queue.
+pub(crate) fn run_example<R: Threads + Wait + Sync + Abort + AllocGlobal>(
     rt: &R,
     config: &Config,
-    amounts: &Amounts<'_>,
 ) -> Outcome<Tally> {
-    let chares = tallies(rt.alloc(), amounts).expect(rt, "no tallies");
-    run(rt, rt.alloc(), config, &NoGate, chares).expect(rt, "the run did not begin")
+    let chares = tallies(rt.alloc(), &EXAMPLE).expect(rt, "no tallies");
+    run_past(rt, config, &NoGate, chares)
 }
 
 /// The sum of a tally, or `None` where it is on no PE.
 pub(crate) fn sum_of<A: Allocator + Copy>(outcome: &Outcome<Tally<A>, A>, e: Index) -> Option<u64> {
-    for end in outcome.ends() {
-        if let Some(element) = end.room().element(e) {
-            return Some(element.chare().sum());
-        }
-    }
-    None
+    Some(outcome.element(e)?.chare().sum())
 }
 
 // Adds the line of each round.
@@ -77,41 +81,25 @@ fn push_sums<A: Allocator + Copy>(
     text.push_str("\n")
 }
 
-// Adds the account.
-fn push_account<A: Allocator + Copy>(
-    text: &mut String,
-    outcome: &Outcome<Tally<A>, A>,
-) -> Result<(), AllocError> {
-    let account = outcome.account();
-    let (posted, executed, held) = (account.posted, account.executed, account.held);
-    writeln!(text, "posted {posted} executed {executed} held {held}")
-}
-
-// All of it.
+// Adds the line of each round, the sums, and the account.
 fn push_all<A: Allocator + Copy>(
     text: &mut String,
     outcome: &Outcome<Tally<A>, A>,
 ) -> Result<(), AllocError> {
     push_rounds(text, outcome)?;
     push_sums(text, outcome)?;
-    push_account(text, outcome)
+    let account = outcome.account();
+    let (posted, executed, held) = (account.posted, account.executed, account.held);
+    writeln!(text, "posted {posted} executed {executed} held {held}")
 }
 
-/// What is printed of a run.
+/// What is printed of a run that met no fault.
 pub(crate) fn text_of<A: Allocator + Copy>(
     rt: &(impl Abort + AllocGlobal),
     outcome: &Outcome<Tally<A>, A>,
 ) -> String {
+    assert_for(rt, outcome.fault() == None, outcome.fault());
     let mut text = String::new(rt.alloc());
     push_all(&mut text, outcome).expect(rt, "out of memory");
     text
 }
-
-/// The amounts of the worked example.
-pub(crate) const EXAMPLE: Amounts<'static> = (&[&[1, 2], &[1, 2], &[2, 2], &[6, 2]], 8);
-
-/// What is printed of the worked example.
-pub(crate) const EXAMPLE_TEXT: &str = "round 1 bottleneck 6 moved 40\n\
-    round 2 bottleneck 4 moved 40\n\
-    sums 8 3 3 4\n\
-    posted 8 executed 8 held 0\n";

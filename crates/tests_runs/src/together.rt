@@ -1,20 +1,42 @@
 //! Gates that see when handlers run: two at the same time, and none too early.
 
 use crate::errand::Errand;
-use crate::fixtures::{assert_for, patient, run_errands_past};
+use crate::fixtures::{assert_for, patient, run_past};
 use chare_index::Gate;
+use std::process::Abort;
+use std::sync::Wait;
 use std::sync::atomic::{AtomicU64, Ordering};
+use std::thread::Threads;
+
+// Runs two chares of this number of rounds on two PEs, without a fault.
+fn run_two<G: Gate + Sync, R: Threads + Wait + Sync + Abort + AllocGlobal>(
+    rt: &R,
+    gate: &G,
+    rounds: u32,
+) {
+    let first = Errand {
+        rounds,
+        ..Errand::none()
+    };
+    let second = Errand {
+        rounds,
+        ..Errand::none()
+    };
+    let errands = vec![in rt.alloc(); first, second].expect(rt, "out of memory");
+    let outcome = run_past(rt, &patient(2, 1_024), gate, errands);
+    assert_for(rt, outcome.fault() == None, outcome.fault());
+    assert_for(rt, outcome.rounds().len() == rounds as usize, rounds);
+}
 
 // How many turns a handler waits for the other.
 const TURNS: u64 = 1_000_000_000;
 
 // A gate that holds each of two elements until the other has been seen. Their numbers are 1,000 and 1,001; those below
-// are of workers, and pass.
+// are of workers, and pass. Each has 1 once it was seen, and 2 once it has seen the other.
 #[derive(Drop)]
 struct Meeting {
     first: AtomicU64,
     second: AtomicU64,
-    missed: AtomicU64,
 }
 
 impl Gate for Meeting {
@@ -26,11 +48,11 @@ impl Gate for Meeting {
         };
         own.store(1, Ordering::SeqCst);
         for _ in 0..TURNS {
-            if other.load(Ordering::SeqCst) == 1 {
+            if other.load(Ordering::SeqCst) >= 1 {
+                own.store(2, Ordering::SeqCst);
                 return;
             }
         }
-        self.missed.store(1, Ordering::SeqCst);
     }
 }
 
@@ -39,32 +61,24 @@ fn two_pes_overlap(rt: HostRuntime) {
     let gate = Meeting {
         first: AtomicU64::new(0),
         second: AtomicU64::new(0),
-        missed: AtomicU64::new(0),
     };
-    let errands = vec![in rt.alloc(); Errand::none(), Errand::none()].expect(&rt, "out of memory");
-    let outcome = run_errands_past(&rt, &patient(2, 1_024), &gate, errands);
-    assert_for(&rt, outcome.fault() == None, outcome.fault());
-    drop(outcome);
+    run_two(&rt, &gate, 0);
     let seen = (
         gate.first.load(Ordering::SeqCst),
         gate.second.load(Ordering::SeqCst),
     );
-    assert_for(&rt, seen == (1, 1), "each element passes with its number");
-    let missed = gate.missed.load(Ordering::SeqCst);
-    assert_for(&rt, missed == 0, "each sees the other in time");
-    drop(gate);
+    assert_for(&rt, seen == (2, 2), seen);
 }
 
 // How many turns the start of element 0 is held.
 const HELD: u64 = 100_000_000;
 
-// A gate that holds the start of element 0, whose number is 1,000, and sees whether element 1 goes on after round 1, with
-// 1,003, before the start is released.
+// A gate that holds the start of element 0, whose number is 1,000, and sees after how many of its turns element 1 goes on
+// after round 1, with 1,003.
 #[derive(Drop)]
 struct Late {
     turns: AtomicU64,
     gone_on: AtomicU64,
-    early: AtomicU64,
 }
 
 impl Gate for Late {
@@ -75,19 +89,9 @@ impl Gate for Late {
             }
         }
         if who == 1_003 {
-            self.gone_on.fetch_add(1, Ordering::SeqCst);
-            if self.turns.load(Ordering::SeqCst) < HELD {
-                self.early.store(1, Ordering::SeqCst);
-            }
+            let turns = self.turns.load(Ordering::SeqCst);
+            self.gone_on.fetch_add(turns, Ordering::SeqCst);
         }
-    }
-}
-
-// A chare that waits for the end of round 1, and then finishes.
-fn waits_once() -> Errand {
-    Errand {
-        rounds: 1,
-        ..Errand::none()
     }
 }
 
@@ -96,17 +100,8 @@ fn no_early_resume(rt: HostRuntime) {
     let gate = Late {
         turns: AtomicU64::new(0),
         gone_on: AtomicU64::new(0),
-        early: AtomicU64::new(0),
     };
-    let errands = vec![in rt.alloc(); waits_once(), waits_once()].expect(&rt, "out of memory");
-    let outcome = run_errands_past(&rt, &patient(2, 1_024), &gate, errands);
-    assert_for(&rt, outcome.fault() == None, outcome.fault());
-    let rounds = outcome.rounds().len();
-    assert_for(&rt, rounds == 1, rounds);
-    drop(outcome);
+    run_two(&rt, &gate, 1);
     let gone_on = gate.gone_on.load(Ordering::SeqCst);
-    assert_for(&rt, gone_on == 1, "element 1 goes on once");
-    let early = gate.early.load(Ordering::SeqCst);
-    assert_for(&rt, early == 0, "after element 0 has started");
-    drop(gate);
+    assert_for(&rt, gone_on == HELD, "once, and after all turns");
 }

@@ -1,5 +1,5 @@
 -- A desk that has to be opened before anything is handed in, with a fault: what is handed in before goes to nobody.
-use Rattle.std.specs.Prelude.{◌≡◌, ◌⊎◌, ℕ, ◌≤◌, List, [], ◌∷◌, length, ◌==◌, if◌then◌else◌, Bool, true, false, Option, Some}
+use Rattle.std.specs.Prelude.{◌≡◌, ℕ, ◌≤◌, List, [], ◌∷◌, length, ◌==◌, if◌then◌else◌, Bool, true, false, Option, Some}
 use Rattle.std.specs.Int.{w32, to_be_bytes}
 use Rattle.std.proofs.Common.{arith}
 use Rattle.chare_index.specs.declared.limits.TheConstants.Limits.{LETTERS, STATE_BYTES}
@@ -32,11 +32,10 @@ desk_step opened me n (Letter []) = record { state = 1; effect = idle; sends = [
 desk_step opened me n (Letter (x ∷ xs)) = record { state = opened; effect = idle; sends = lost opened }
 desk_step opened me n (Resumption round) = record { state = opened; effect = done; sends = errand_of me }
 
--- A letter is refused where it is to an element that is not there, or where no letter number is left. A worn desk, which is 2,
--- says so of itself.
+-- A letter is refused where it is to an element that is not there, or where no letter number is left.
 abbrev pub DeskRefuses : ℕ → ℕ → ℕ → ℕ → Entry (List ℕ) → SendError → Type 0
 DeskRefuses opened me n count entry Stranger = n ≤ 65535
-DeskRefuses opened me n count entry Worn = (opened ≡ 2) ⊎ (count ≡ LETTERS)
+DeskRefuses opened me n count entry Worn = count ≡ LETTERS
 DeskRefuses opened me n count entry _ = ⊥
 
 -- a run ended because a letter went to nobody

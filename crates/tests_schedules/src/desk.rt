@@ -25,13 +25,6 @@ impl Desk {
     {
         Desk { opened: 0 }
     }
-
-    /// A desk that refuses to go on, as if no letter number were left.
-    pub(crate) fn worn() -> Desk
-        ensures value { result ≡ 2 }
-    {
-        Desk { opened: 2 }
-    }
 }
 
 impl Model for Desk {
@@ -101,9 +94,6 @@ impl<A: Allocator + Copy> Chare<A> for Desk {
         _round: Round,
         sends: &mut Sends<P, A>,
     ) -> Result<Effect, SendError> {
-        if self.opened == 2 {
-            return Err(SendError::Worn);
-        }
         let desk = Index::new(2).unwrap();
         if here.me.get() == 0 {
             sends.put(desk, &[])?;

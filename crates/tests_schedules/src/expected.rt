@@ -1,6 +1,8 @@
 //! What a seed has to lead to: lists of events that a separate program drew,
 //! benches/schedules/slow_schedule.py.
 
+use pe_worker::Fault;
+
 /// Tallies on some PEs: the amounts of each, and its bytes of padding.
 #[derive(Clone, Copy)]
 pub(crate) struct Work {
@@ -21,7 +23,7 @@ const THREE: Work = Work {
     amounts: &[[9, 1], [1, 1], [1, 8], [1, 1], [3, 1]],
 };
 
-/// A run by a seed: what is asked for, the events that happen, and what is printed.
+/// A run by a seed: what is asked for, how it ends, and the events that happen. The last is stopped after 40 events.
 #[derive(Clone, Copy)]
 pub(crate) struct Listed {
     pub(crate) name: &'static str,
@@ -30,14 +32,14 @@ pub(crate) struct Listed {
     pub(crate) letters_first: bool,
     pub(crate) moves_first: bool,
     pub(crate) stale_looks: bool,
-    pub(crate) limit: Option<u64>,
+    pub(crate) fault: Option<Fault>,
     pub(crate) tolerance: Option<u32>,
     pub(crate) starve: Option<u32>,
     pub(crate) events: &'static str,
 }
 
 /// Some runs, each with another seed.
-pub(crate) const LISTED: [Listed; 11] = [
+pub(crate) static LISTED: [Listed; 11] = [
     Listed {
         name: "worked-39",
         work: WORKED,
@@ -45,7 +47,7 @@ pub(crate) const LISTED: [Listed; 11] = [
         letters_first: false,
         moves_first: false,
         stale_looks: false,
-        limit: None,
+        fault: None,
         tolerance: None,
         starve: None,
         events: "Start 1 3\nStart 1 2\nStart 0 0\nLook 1\nStart 0 1\nLook 0\nFlush 0\nFlush 1\nLook 0\n\
@@ -64,7 +66,7 @@ pub(crate) const LISTED: [Listed; 11] = [
         letters_first: false,
         moves_first: false,
         stale_looks: false,
-        limit: None,
+        fault: None,
         tolerance: None,
         starve: None,
         events: "Start 1 2\nStart 0 1\nLook 1\nStart 1 3\nStart 0 0\nFlush 1\nLook 0\nFlush 0\nDeliver 1\n\
@@ -83,7 +85,7 @@ pub(crate) const LISTED: [Listed; 11] = [
         letters_first: false,
         moves_first: false,
         stale_looks: false,
-        limit: None,
+        fault: None,
         tolerance: None,
         starve: None,
         events: "Start 1 2\nStart 0 0\nStart 0 1\nLook 1\nFlush 1\nDeliver 1\nLook 0\nFlush 0\nDeliver 0\n\
@@ -106,7 +108,7 @@ pub(crate) const LISTED: [Listed; 11] = [
         letters_first: false,
         moves_first: false,
         stale_looks: false,
-        limit: None,
+        fault: None,
         tolerance: None,
         starve: None,
         events: "Start 2 4\nStart 0 1\nLook 2\nStart 1 2\nFlush 2\nLook 0\nStart 0 0\nStart 1 3\n\
@@ -129,7 +131,7 @@ pub(crate) const LISTED: [Listed; 11] = [
         letters_first: true,
         moves_first: false,
         stale_looks: false,
-        limit: None,
+        fault: None,
         tolerance: None,
         starve: None,
         events: "Start 1 3\nStart 1 2\nLook 1\nFlush 1\nDeliver 2\nLook 1\nFlush 1\nDeliver 1\nAct 1\n\
@@ -152,7 +154,7 @@ pub(crate) const LISTED: [Listed; 11] = [
         letters_first: false,
         moves_first: true,
         stale_looks: false,
-        limit: None,
+        fault: None,
         tolerance: None,
         starve: None,
         events: "Start 1 3\nStart 0 1\nStart 0 0\nStart 1 2\nStart 2 4\nLook 0\nLook 1\nLook 2\nFlush 0\n\
@@ -175,7 +177,7 @@ pub(crate) const LISTED: [Listed; 11] = [
         letters_first: false,
         moves_first: false,
         stale_looks: true,
-        limit: None,
+        fault: None,
         tolerance: None,
         starve: None,
         events: "Start 1 2\nLook 1\nStart 0 1\nLook 0\nFlush 1\nDeliver 1\nStart 1 3\nLook 1\nFlush 1\n\
@@ -198,7 +200,7 @@ pub(crate) const LISTED: [Listed; 11] = [
         letters_first: false,
         moves_first: false,
         stale_looks: false,
-        limit: None,
+        fault: None,
         tolerance: None,
         starve: Some(1),
         events: "Start 0 1\nStart 0 0\nLook 0\nFlush 0\nLook 0\nFlush 0\nDeliver 0\nAct 0\nReport 0\n\
@@ -217,7 +219,7 @@ pub(crate) const LISTED: [Listed; 11] = [
         letters_first: true,
         moves_first: true,
         stale_looks: true,
-        limit: None,
+        fault: None,
         tolerance: None,
         starve: Some(0),
         events: "Start 1 2\nLook 1\nStart 1 3\nStart 2 4\nLook 2\nFlush 1\nLook 1\nFlush 2\nFlush 1\n\
@@ -240,7 +242,7 @@ pub(crate) const LISTED: [Listed; 11] = [
         letters_first: false,
         moves_first: false,
         stale_looks: false,
-        limit: None,
+        fault: None,
         tolerance: Some(500),
         starve: None,
         events: "Start 1 3\nLook 1\nStart 0 0\nFlush 1\nLook 0\nStart 2 4\nFlush 0\nStart 1 2\nLook 2\n\
@@ -260,7 +262,7 @@ pub(crate) const LISTED: [Listed; 11] = [
         letters_first: false,
         moves_first: false,
         stale_looks: false,
-        limit: Some(40),
+        fault: Some(Fault::Stopped),
         tolerance: None,
         starve: None,
         events: "Start 2 4\nStart 1 3\nLook 2\nStart 0 0\nStart 0 1\nStart 1 2\nFlush 2\nLook 0\n\

@@ -1,35 +1,23 @@
-//! What the tests use: numbers, and an assertion over a row. A value that cannot be made ends the test.
-
-ghost use Rattle.std.specs.Prelude.{◌≡◌, true};
+//! What the tests use: numbers, runs, and an assertion over a row. A value that cannot be made ends the test.
 
 use chare_index::{Index, Pe};
+use chares::Chare;
 use pup_pack::PupError;
-use std::alloc::Allocator;
-use std::fmt::Debug;
+use schedules::{Explored, Schedule, explore};
+use std::alloc::{Allocator, Global};
 use std::process::Abort;
 use tally::Tally;
 
 /// Ends the test where this does not hold, and shows the row that it should hold for.
-pub(crate) fn assert_for<R: Debug + Copy>(rt: &impl Abort, holds: bool, row: R)
-    ensures held { holds ≡ true }
-{
-    assert!(rt; holds, "{row:?}");
+pub(crate) fn assert_for(rt: &impl Abort, holds: bool, row: u64) {
+    assert!(rt; holds, "{row}");
 }
 
-/// Ends the test where these are not the same texts, and shows both.
-pub(crate) fn expect_text(rt: &impl Abort, found: &str, want: &str) {
-    assert_for(rt, found == want, (found, want));
-}
-
-pub(crate) fn pe(rt: &impl Abort, number: u32) -> Pe
-    ensures value { result ≡ number }
-{
+pub(crate) fn pe(rt: &impl Abort, number: u32) -> Pe {
     Pe::new(number).expect(rt, "no such PE")
 }
 
-pub(crate) fn index(rt: &impl Abort, place: u32) -> Index
-    ensures value { result ≡ place }
-{
+pub(crate) fn index(rt: &impl Abort, place: u32) -> Index {
     Index::new(place).expect(rt, "no such element")
 }
 
@@ -41,4 +29,24 @@ pub(crate) fn tallies<A: Allocator + Copy>(alloc: A) -> Result<Vec<Tally<A>, A>,
         chares.push(next)?;
     }
     Ok(chares)
+}
+
+/// The run of these chares by a seed.
+pub(crate) fn run_by<C: Chare<Global>>(
+    rt: &(impl Abort + AllocGlobal),
+    schedule: &Schedule,
+    seed: u64,
+    chares: Vec<C>,
+) -> Explored<C> {
+    explore(rt.alloc(), schedule, seed, chares).expect(rt, "the run did not begin")
+}
+
+/// The worked run by a seed.
+pub(crate) fn worked_by(
+    rt: &(impl Abort + AllocGlobal),
+    schedule: &Schedule,
+    seed: u64,
+) -> Explored<Tally> {
+    let chares = tallies(rt.alloc()).expect(rt, "out of memory");
+    run_by(rt, schedule, seed, chares)
 }

@@ -1,122 +1,66 @@
 //! Runs by a seed and by a list, and a list that is shrunk, with each of their requests for memory refused in turn.
 
-use crate::fixtures::{assert_for, index, pe, tallies};
+use crate::fixtures::{assert_for, index, pe, tallies, worked_by};
 use crate::planted::{Desks, LostLetter};
 use pe_worker::Fault;
-use rts_core::{Account, Event};
+use rts_core::Event;
 use rts_run::RunError;
 use schedules::{Explored, ReplayError, Schedule, explore, replay, shrink};
-use std::alloc::Allocator;
+use std::alloc::{Allocator, Global};
 use std::process::Abort;
 use tally::Tally;
-use tests_fixtures::Refusing;
+use tests_fixtures::{Outcome, Refusing, each_refusal};
 
 // No run makes this many requests.
 const MOST_TURNS: u64 = 5_000;
 
-// How often a run did not begin or returned an error, and how often it ended early.
-#[derive(Default, Drop)]
-struct Counts {
-    refused: u64,
-    early: u64,
-}
-
-// Looks at a run in which this request may have been refused.
-fn look_at<A: Allocator + Copy>(
-    rt: &impl Abort,
-    counts: &mut Counts,
-    run: &Explored<Tally<A>, A>,
-    turn: u64,
-) {
-    let Account {
-        posted,
-        executed,
-        held,
-    } = run.account();
-    assert_for(rt, posted == executed.saturating_add(held), turn);
-    if run.fault() == None {
-        assert_for(rt, (posted, held) == (8, 0), turn);
-    } else {
-        assert_for(rt, run.fault() == Some(Fault::OutOfMemory), turn);
-        assert_for(rt, run.refused().is_some(), turn);
-        counts.early = counts.early.saturating_add(1);
+// The outcome of a run in which a request may have been refused.
+fn outcome_of<A: Allocator + Copy>(run: &Explored<Tally<A>, A>) -> Outcome {
+    match run.fault() {
+        None if run.account().executed == 8 => Outcome::Right,
+        Some(Fault::OutOfMemory) if run.refused().is_some() => Outcome::Refused,
+        _ => Outcome::Wrong,
     }
 }
 
-// A run in which this request is refused, and whether it was made.
-fn refuses(rt: &(impl Abort + AllocGlobal), counts: &mut Counts, turn: u64) -> bool {
-    let alloc = Refusing::new(rt.alloc(), turn);
-    let Ok(chares) = tallies(&alloc) else {
-        return true;
+// The worked run by a seed.
+fn explores(alloc: &Refusing<Global>) -> Outcome {
+    let Ok(chares) = tallies(alloc) else {
+        return Outcome::Refused;
     };
-    match explore(&alloc, &Schedule::usual(2), 5, chares) {
-        Ok(run) => look_at(rt, counts, &run, turn),
-        Err(error) => {
-            assert_for(rt, error == RunError::OutOfMemory, (turn, error));
-            counts.refused = counts.refused.saturating_add(1);
-        }
+    match explore(alloc, &Schedule::usual(2), 5, chares) {
+        Ok(run) => outcome_of(&run),
+        Err(RunError::OutOfMemory) => Outcome::Refused,
+        Err(_) => Outcome::Wrong,
     }
-    alloc.has_refused()
+}
+
+// The worked run by its events.
+fn replays(alloc: &Refusing<Global>, events: &[Event]) -> Outcome {
+    let Ok(chares) = tallies(alloc) else {
+        return Outcome::Refused;
+    };
+    match replay(alloc, &Schedule::usual(2), chares, events) {
+        Ok(run) => outcome_of(&run),
+        Err(ReplayError::OutOfMemory) => Outcome::Refused,
+        Err(_) => Outcome::Wrong,
+    }
 }
 
 #[test]
 fn each_request_of_a_run(rt: HostRuntime) {
-    let mut counts = Counts::default();
-    for turn in 1..MOST_TURNS {
-        if !refuses(&rt, &mut counts, turn) {
-            let many = counts.refused > 20 && counts.early > 50;
-            assert_for(&rt, many, (counts.refused, counts.early));
-            return;
-        }
-    }
-    rt.abort()
+    let explored = each_refusal(rt.alloc(), MOST_TURNS, |alloc| explores(alloc));
+    assert_for(&rt, matches!(explored, Ok(70..)), 0);
+    let run = worked_by(&rt, &Schedule::usual(2), 5);
+    let events = run.events(rt.alloc()).expect(&rt, "out of memory");
+    drop(run);
+    let replayed = each_refusal(rt.alloc(), MOST_TURNS, |alloc| replays(alloc, &events));
+    assert_for(&rt, matches!(replayed, Ok(60..)), 1);
 }
 
-// The events of the run by a seed.
-fn events_of(rt: &(impl Abort + AllocGlobal)) -> Vec<Event> {
-    let chares = tallies(rt.alloc()).expect(rt, "out of memory");
-    let run = explore(rt.alloc(), &Schedule::usual(2), 5, chares).expect(rt, "refused");
-    run.events(rt.alloc()).expect(rt, "out of memory")
-}
-
-// A run by these events in which this request is refused, and whether it was made.
-fn replay_refuses(
-    rt: &(impl Abort + AllocGlobal),
-    events: &[Event],
-    counts: &mut Counts,
-    turn: u64,
-) -> bool {
-    let alloc = Refusing::new(rt.alloc(), turn);
-    let Ok(chares) = tallies(&alloc) else {
-        return true;
-    };
-    match replay(&alloc, &Schedule::usual(2), chares, events) {
-        Ok(run) => look_at(rt, counts, &run, turn),
-        Err(error) => {
-            assert_for(rt, error == ReplayError::OutOfMemory, (turn, error));
-            counts.refused = counts.refused.saturating_add(1);
-        }
-    }
-    alloc.has_refused()
-}
-
-#[test]
-fn each_request_of_a_run_by_a_list(rt: HostRuntime) {
-    let events = events_of(&rt);
-    let mut counts = Counts::default();
-    for turn in 1..MOST_TURNS {
-        if !replay_refuses(&rt, &events, &mut counts, turn) {
-            let many = counts.refused > 9 && counts.early > 50;
-            assert_for(&rt, many, (counts.refused, counts.early));
-            return;
-        }
-    }
-    rt.abort()
-}
-
-// A list that is shrunk, all of which is needed to lose a letter, while this request is refused; and whether it was made. Where it was
-// one of a step, the run is not bad.
-fn shrink_refuses(rt: &(impl Abort + AllocGlobal), counts: &mut Counts, turn: u64) -> bool {
+// A list that is shrunk, all of which is needed to lose a letter, while this request is refused. Where it was one of a step, the
+// run is not bad. Returns whether the request was made.
+fn shrink_refuses(rt: &(impl Abort + AllocGlobal), turn: u64) -> bool {
     let (p, e, f) = (pe(rt, 0), index(rt, 1), index(rt, 2));
     let list = [
         Event::Start(p, e),
@@ -127,31 +71,24 @@ fn shrink_refuses(rt: &(impl Abort + AllocGlobal), counts: &mut Counts, turn: u6
         Event::Act(p),
     ];
     let alloc = Refusing::new(rt.alloc(), turn);
-    match shrink(&alloc, &Schedule::usual(1), &Desks, &list, &LostLetter) {
-        Ok(Some(run)) => {
-            let is_lost = run.fault() == Some(Fault::Stranger) && run.steps().len() == 5;
-            assert_for(rt, is_lost, (turn, run.steps().len()));
-        }
-        Ok(None) => counts.early = counts.early.saturating_add(1),
-        Err(error) => {
-            assert_for(rt, error == RunError::OutOfMemory, (turn, error));
-            counts.refused = counts.refused.saturating_add(1);
-        }
-    }
-    alloc.has_refused()
+    let found = shrink(&alloc, &Schedule::usual(1), &Desks, &list, &LostLetter);
+    let refused = alloc.has_refused();
+    let right = match found {
+        Ok(Some(run)) => run.steps().len() == 5,
+        Ok(None) => refused,
+        Err(error) => refused && error == RunError::OutOfMemory,
+    };
+    assert_for(rt, right, turn);
+    refused
 }
 
 #[test]
 fn each_request_of_a_list_that_is_shrunk(rt: HostRuntime) {
-    let mut counts = Counts::default();
     for turn in 1..MOST_TURNS {
-        if !shrink_refuses(&rt, &mut counts, turn) {
-            let many = counts.refused > 50 && counts.early > 5;
-            assert_for(&rt, many, (counts.refused, counts.early));
+        if !shrink_refuses(&rt, turn) {
+            assert_for(&rt, turn > 55, turn);
             return;
         }
-        // The first request is for chares.
-        assert_for(&rt, counts.refused > 0, turn);
     }
     rt.abort()
 }

@@ -1,30 +1,28 @@
 //! Runs by eleven seeds, compared with the lists of events that a separate program drew.
 
 use crate::expected::{LISTED, Listed, Work};
-use crate::fixtures::{assert_for, expect_text};
+use crate::fixtures::{assert_for, run_by};
 use at_sync::Strategy;
 use chain_refinement::Tolerance;
 use chare_index::Pe;
-use pe_worker::Fault;
 use rts_core::Event;
-use schedules::{Bias, Explored, Schedule, SplitMix64, explore};
+use schedules::{Bias, Explored, Schedule, SplitMix64};
 use std::alloc::AllocError;
 use std::process::Abort;
 use tally::Tally;
 
-// The schedule of a list.
+// The schedule of a list, by which a run is stopped after as many events as the list has.
 fn schedule_of(listed: &Listed) -> Schedule {
-    let usual = Schedule::usual(listed.work.pes);
     Schedule {
         strategy: Strategy::within(listed.tolerance.and_then(Tolerance::new)),
-        steps: listed.limit.unwrap_or(usual.steps),
+        steps: listed.events.lines().count() as u64,
         bias: Bias {
             letters_first: listed.letters_first,
             moves_first: listed.moves_first,
             stale_looks: listed.stale_looks,
             starved: listed.starve.and_then(Pe::new),
         },
-        ..usual
+        ..Schedule::usual(listed.work.pes)
     }
 }
 
@@ -62,46 +60,19 @@ fn text_of(rt: &(impl Abort + AllocGlobal), run: &Explored<Tally>) -> String {
     text
 }
 
+// The last event that is allowed may end a run well.
 #[test]
 fn each_seed_leads_to_its_list(rt: HostRuntime) {
     for listed in &LISTED {
         let chares = tallies_of(&rt, &listed.work);
-        let run = explore(rt.alloc(), &schedule_of(listed), listed.seed, chares);
-        let run = run.expect(&rt, "the run did not begin");
-        assert_for(&rt, run.refused() == None, listed.name);
-        expect_text(&rt, text_of(&rt, &run).as_str(), listed.events);
-    }
-}
-
-// How a run by the seed of a list ends after at most this number of events, and how many happened.
-fn ended(rt: &(impl Abort + AllocGlobal), listed: &Listed, steps: usize) -> (Option<Fault>, usize) {
-    let schedule = Schedule {
-        steps: steps as u64,
-        ..schedule_of(listed)
-    };
-    let run = explore(
-        rt.alloc(),
-        &schedule,
-        listed.seed,
-        tallies_of(rt, &listed.work),
-    );
-    let run = run.expect(rt, "the run did not begin");
-    (run.fault(), run.steps().len())
-}
-
-#[test]
-fn the_last_event_that_is_allowed_may_end_the_run_well(rt: HostRuntime) {
-    for listed in LISTED.iter().take(4) {
-        let len = listed.events.lines().count();
-        let found = ended(&rt, listed, len);
-        assert_for(&rt, found == (None, len), (listed.name, found));
-        let short = len.saturating_sub(1);
-        let found = ended(&rt, listed, short);
+        let run = run_by(&rt, &schedule_of(listed), listed.seed, chares);
         assert_for(
             &rt,
-            found == (Some(Fault::Stopped), short),
-            (listed.name, found),
+            run.fault() == listed.fault && run.refused() == None,
+            listed.seed,
         );
+        let text = text_of(&rt, &run);
+        assert!(rt; text.as_str() == listed.events, "{}: {text}", listed.name);
     }
 }
 

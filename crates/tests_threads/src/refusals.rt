@@ -4,52 +4,21 @@
 ghost use Rattle.std.specs.Prelude.{◌≡◌};
 ghost use Rattle.at_sync.specs.declared.strategy.Strategy.TheVariants.{Least};
 
-use crate::fixtures::{index, two};
-use crate::places::{both_decide, both_stay};
-use crate::workers::{Added, add_all, adders};
+use crate::fixtures::{index, reports, two};
+use crate::workers::{Began, began_so, begin_all, three};
 use at_sync::BoardError;
-use barrier::{Barrier, BoardSize, RoundPlaces};
-use chare_index::Round;
+use barrier::{BoardSize, RoundPlaces};
 use std::alloc::{AllocError, Allocator, Global};
 use std::marker::Brand;
 use std::sync::Wait;
 use std::test::Fail;
-use tests_fixtures::{Failure, Outcome, Refusing, each_refusal, pe, round};
+use tests_fixtures::{Outcome, Refusing, each_refusal, pe, round};
 use worker_threads::Crew;
 
 // No call here makes this many requests.
 const MOST_TURNS: u64 = 40;
 
-// The outcome of a decision. Where it is refused there is no place yet.
-fn comes_to<J: BoardSize, R: Wait, A: Allocator>(
-    rt: &R,
-    barrier: &Barrier<J, A>,
-    answer: Result<Round, BoardError>,
-) -> Outcome {
-    let placed = barrier.place_for(rt, round(1), index(0)) == Some(pe(0));
-    match answer {
-        Ok(decided) if placed && decided == round(1) => Outcome::Right,
-        Err(BoardError::OutOfMemory) if !placed => Outcome::Refused,
-        _ => Outcome::Wrong,
-    }
-}
-
-// The same; where the decision was refused, the same call now decides the round.
-fn asked_again<J: BoardSize, R: Wait, A: Allocator + Copy>(
-    rt: &R,
-    barrier: &Barrier<J, A>,
-) -> Outcome {
-    let outcome = comes_to(rt, barrier, barrier.decide(rt));
-    if outcome != Outcome::Refused {
-        return outcome;
-    }
-    match comes_to(rt, barrier, barrier.decide(rt)) {
-        Outcome::Right => Outcome::Refused,
-        _ => Outcome::Wrong,
-    }
-}
-
-// The outcome of a round of two elements.
+// The outcome of a round of two elements. Where its decision is refused, the same call then decides it.
 fn decides<J: BoardSize, R: Wait, A: Allocator + Copy>(rt: &R, alloc: A) -> Outcome
     requires elements { J.elements ≡ 2 }
     requires pes { J.pes ≡ 2 }
@@ -58,14 +27,14 @@ fn decides<J: BoardSize, R: Wait, A: Allocator + Copy>(rt: &R, alloc: A) -> Outc
     let Ok(barrier) = two::<J, A>(alloc) else {
         return Outcome::Refused;
     };
-    let first = barrier.report(rt, 0, round(1), 3, 5, pe(0)).is_ok();
-    let second = barrier.report(rt, 1, round(1), 3, 5, pe(1)).is_ok();
-    let outcome = asked_again(rt, &barrier);
+    let reported = reports(rt, &barrier, 0) && reports(rt, &barrier, 1);
+    let decided = barrier.decide(rt);
+    let again = decided.is_ok() || barrier.decide(rt).is_ok();
     drop(barrier);
-    if first && second {
-        outcome
-    } else {
-        Outcome::Wrong
+    match decided {
+        Ok(_) if reported => Outcome::Right,
+        Err(BoardError::OutOfMemory) if reported && again => Outcome::Refused,
+        _ => Outcome::Wrong,
     }
 }
 
@@ -86,8 +55,7 @@ fn has_room<J: BoardSize, A: Allocator + Copy>(alloc: A, pes: u32) -> Outcome
     requires { pes ≡ J.pes }
 {
     match RoundPlaces::<J, A>::new(alloc, pes) {
-        Ok(places) if places.round() == round(0) => Outcome::Right,
-        Ok(_) => Outcome::Wrong,
+        Ok(_) => Outcome::Right,
         Err(AllocError) => Outcome::Refused,
     }
 }
@@ -99,7 +67,7 @@ fn has_room_so(alloc: &Refusing<Global>) -> Outcome {
 
 // The outcome of reserving capacity for five workers.
 fn has_crew(alloc: &Refusing<Global>) -> Outcome {
-    match Crew::<Added, _>::with_capacity(alloc, 5) {
+    match Crew::<Began, _>::with_capacity(alloc, 5) {
         Ok(crew) if crew.capacity() == 5 => Outcome::Right,
         Ok(_) => Outcome::Wrong,
         Err(AllocError) => Outcome::Refused,
@@ -115,12 +83,12 @@ fn refused_room_is_told(rt: HostRuntime) -> Result<(), Fail> {
     Ok(())
 }
 
-// How many requests are made until a round is decided that is to be copied, and how many until its places are read.
-fn copy_requests<J: BoardSize, R: Wait>(
+// Whether the places of a round are copied once it is decided, with no more memory, and then read without the lock.
+fn copies<J: BoardSize, R: Wait>(
     rt: &R,
     alloc: &Refusing<Global>,
     pes: u32,
-) -> Result<(u64, u64), Fail>
+) -> Result<bool, AllocError>
     requires elements { J.elements ≡ 2 }
     requires known { pes ≡ J.pes }
     requires pes { J.pes ≡ 2 }
@@ -128,25 +96,22 @@ fn copy_requests<J: BoardSize, R: Wait>(
 {
     let barrier = two::<J, _>(alloc)?;
     let mut places = RoundPlaces::new(alloc, pes)?;
-    let decided = both_decide(&mut *barrier.lock(rt));
+    let early = barrier.lock(rt).copy_places(round(1), &mut places);
+    let reported = reports(rt, &barrier, 0) && reports(rt, &barrier, 1);
+    let decided = barrier.decide(rt).is_ok();
     let before = alloc.requests();
     let copied = barrier.lock(rt).copy_places(round(1), &mut places);
-    let stay = both_stay(&places);
-    let after = alloc.requests();
     drop(barrier);
+    let (zero, one) = (places.place_of(index(0)), places.place_of(index(1)));
     drop(places);
-    if decided && copied && stay {
-        Ok((before, after))
-    } else {
-        Err(Fail::new("a wrong answer"))
-    }
+    let stay = zero == Some(pe(0)) && one == Some(pe(1));
+    Ok(!early && reported && decided && copied && stay && alloc.requests() == before)
 }
 
 #[test]
-fn a_copy_takes_no_memory(rt: HostRuntime) -> Result<(), Fail> {
+fn places_are_copied_in_no_memory_and_read_without_the_lock(rt: HostRuntime) -> Result<(), Fail> {
     let alloc = Refusing::new(rt.alloc(), 0);
-    let (before, after) = copy_requests::<Brand, _>(&rt, &alloc, 2)?;
-    assert!(rt; before == after);
+    assert!(rt; copies::<Brand, _>(&rt, &alloc, 2)?);
     Ok(())
 }
 
@@ -154,11 +119,10 @@ fn a_copy_takes_no_memory(rt: HostRuntime) -> Result<(), Fail> {
 fn a_run_of_workers_takes_no_memory(rt: HostRuntime) -> Result<(), Fail> {
     let alloc = Refusing::new(rt.alloc(), 0);
     let crew = Crew::with_capacity(&alloc, 3)?;
-    let adders = adders(&alloc, &[1, 2, 3])?;
+    let workers = three(&alloc)?;
     let before = alloc.requests();
-    let (sum, done) = add_all(&rt, crew, adders);
-    assert!(rt; sum == 6);
-    assert!(rt; alloc.requests() == before);
+    let done = begin_all(&rt, crew, workers, None);
+    assert!(rt; began_so(&done, None) && alloc.requests() == before);
     drop(done);
     Ok(())
 }

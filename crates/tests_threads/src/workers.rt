@@ -1,113 +1,34 @@
-//! Workers, each in a thread of its own, that add their numbers to one sum; and one that gets no thread.
+//! Workers, each in a thread of its own, that say how they begin; and one that gets no thread.
 
-ghost use Rattle.std.specs.Prelude.{◌≡◌, ◌≤◌, length, IfOk};
+ghost use Rattle.std.specs.Prelude.{◌≡◌, ◌≤◌, IfOk};
 ghost use Rattle.std.specs.VecDeque.{deque_len};
 
-use crate::fixtures::same;
 use std::alloc::{AllocError, Allocator};
 use std::collections::VecDeque;
 use std::sync::Wait;
+use std::sync::atomic::AtomicBool;
 use std::sync::atomic::Ordering::SeqCst;
-use std::sync::atomic::{AtomicBool, AtomicU64};
 use std::test::Fail;
 use std::thread::Threads;
 use worker_threads::{Crew, Ended, Starts, Work};
 
-// A worker that is to add its number to a sum.
+/// A worker that is to begin.
 #[derive(Drop)]
-pub(crate) struct Adder {
+pub(crate) struct Worker {
     number: u32,
 }
 
-impl Work for Adder {
-    ghost number = { λ adder. adder.number };
+impl Work for Worker {
+    ghost number = { λ worker. worker.number };
 
     fn number(&self) -> u32 {
         self.number
     }
 }
 
-// What an adder ends as.
+/// What a worker ends as, which says how it began.
 #[derive(Drop)]
-pub(crate) struct Added {
-    number: u32,
-}
-
-impl Work for Added {
-    ghost number = { λ added. added.number };
-
-    fn number(&self) -> u32 {
-        self.number
-    }
-}
-
-impl Ended for Added {
-    ghost refused = { λ added. added };
-
-    fn without_thread(self) -> Self {
-        self
-    }
-}
-
-// Adders of these numbers, in this order.
-pub(crate) fn adders<A: Allocator>(
-    alloc: A,
-    numbers: &[u32],
-) -> Result<VecDeque<Adder, A>, AllocError>
-    ensures { IfOk result (λ adders. deque_len adders ≤ length numbers.now) }
-{
-    let mut adders = VecDeque::with_capacity(alloc, numbers.len())?;
-    for number in numbers {
-        adders.push_back(Adder { number: *number })?;
-    }
-    Ok(adders)
-}
-
-// Lets them add, and returns their sum, and what they ended as.
-pub(crate) fn add_all<R: Threads + Wait, A: Allocator>(
-    rt: &R,
-    crew: Crew<Added, A>,
-    adders: VecDeque<Adder, A>,
-) -> (u64, VecDeque<Added, A>)
-    requires { deque_len adders ≤ crew }
-{
-    let sum = AtomicU64::new(0);
-    let add = |adder: Adder| -> Added
-        ensures { result.number ≡ adder.number }
-    {
-        let Adder { number } = adder;
-        sum.fetch_add(u64::from(number), SeqCst);
-        Added { number }
-    };
-    let done = crew.run(rt, &add, &AtomicBool::new(false), adders);
-    (sum.load(SeqCst), done)
-}
-
-// The numbers of those that have added, in order.
-fn numbers_of<A: Allocator + Copy>(
-    alloc: A,
-    done: &VecDeque<Added, A>,
-) -> Result<Vec<u32, A>, AllocError> {
-    let mut numbers = Vec::new(alloc);
-    for added in done {
-        numbers.push(added.number)?;
-    }
-    Ok(numbers)
-}
-
-#[test]
-fn five_workers_come_back_in_order(rt: HostRuntime) -> Result<(), Fail> {
-    let crew = Crew::with_capacity(rt.alloc(), 5)?;
-    let (sum, done) = add_all(&rt, crew, adders(rt.alloc(), &[3, 1, 4, 1, 5])?);
-    let numbers = numbers_of(rt.alloc(), &done)?;
-    assert!(rt; sum == 14);
-    assert!(rt; same(&numbers, &[3, 1, 4, 1, 5]));
-    Ok(())
-}
-
-// What a worker ends as that also says how it began.
-#[derive(Drop)]
-struct Began {
+pub(crate) struct Began {
     number: u32,
     // Whether the stop flag was set.
     stopped: bool,
@@ -145,48 +66,61 @@ impl Starts for NotFor {
     }
 }
 
-// Lets workers say how they begin, where one of them gets no thread.
-fn begin_all<R: Threads + Wait>(
+/// Workers 1, 2 and 3.
+pub(crate) fn three<A: Allocator>(alloc: A) -> Result<VecDeque<Worker, A>, AllocError>
+    ensures { IfOk result (λ workers. deque_len workers ≡ 3) }
+{
+    let mut workers = VecDeque::with_capacity(alloc, 3)?;
+    workers.push_back_reserved(Worker { number: 1 });
+    workers.push_back_reserved(Worker { number: 2 });
+    workers.push_back_reserved(Worker { number: 3 });
+    Ok(workers)
+}
+
+/// Lets workers say how they begin, where one of them gets no thread, if there is one of that number.
+pub(crate) fn begin_all<R: Threads + Wait, A: Allocator>(
     rt: &R,
-    crew: Crew<Began>,
-    adders: VecDeque<Adder>,
-    refused: u32,
-) -> VecDeque<Began>
-    requires { deque_len adders ≤ crew }
+    crew: Crew<Began, A>,
+    workers: VecDeque<Worker, A>,
+    refused: Option<u32>,
+) -> VecDeque<Began, A>
+    requires { deque_len workers ≤ crew }
 {
     let stop = AtomicBool::new(false);
-    let begin = |adder: Adder| -> Began
-        ensures { result.number ≡ adder.number }
+    let begin = |worker: Worker| -> Began
+        ensures { result.number ≡ worker.number }
     {
-        let Adder { number } = adder;
+        let Worker { number } = worker;
         Began {
             number,
             stopped: stop.load(SeqCst),
             alone: false,
         }
     };
-    crew.run_where(rt, &begin, &stop, &NotFor(refused), adders)
+    match refused {
+        None => crew.run(rt, &begin, &stop, workers),
+        Some(number) => crew.run_where(rt, &begin, &stop, &NotFor(number), workers),
+    }
 }
 
-// Whether each began as it should: the one without a thread began after the stop flag was set, and it alone knows that it
-// had none.
-fn began_so(done: &VecDeque<Began>, refused: u32) -> bool {
-    let mut all = true;
+/// Whether workers 1, 2 and 3 have come back in order, and each began as it should: the one without a thread began after the
+/// stop flag was set, and it alone knows that it had none.
+pub(crate) fn began_so<A: Allocator>(done: &VecDeque<Began, A>, refused: Option<u32>) -> bool {
+    let (mut all, mut next) = (true, 0u32);
     for began in done {
-        all &= match began.number == refused {
-            true => began.alone && began.stopped,
-            false => !began.alone,
-        };
+        next = next.saturating_add(1);
+        all &= began.number == next && began.alone == (refused == Some(next));
+        all &= began.stopped || !began.alone;
     }
-    all && done.len() == 3
+    all && next == 3
 }
 
 #[test]
 fn a_worker_without_a_thread_ends_at_once(rt: HostRuntime) -> Result<(), Fail> {
-    for refused in 1..4 {
+    for refused in &[None, Some(1), Some(2), Some(3)] {
         let crew = Crew::with_capacity(rt.alloc(), 3)?;
-        let done = begin_all(&rt, crew, adders(rt.alloc(), &[1, 2, 3])?, refused);
-        assert!(rt; began_so(&done, refused), "{refused}");
+        let done = begin_all(&rt, crew, three(rt.alloc())?, *refused);
+        assert!(rt; began_so(&done, *refused), "{refused:?}");
         drop(done);
     }
     Ok(())

@@ -6,43 +6,34 @@ use rts_core::Account;
 use run_trace::Timeline;
 use serde_json::Value;
 use std::alloc::Allocator;
-use std::fmt::Debug;
 use std::process::Abort;
 use trace_events::{events_text, trace_of};
 
-/// Ends the test where this does not hold, and shows the row that it should hold for.
-pub(crate) fn assert_for<R: Debug + Copy>(rt: &impl Abort, holds: bool, row: R) {
-    assert!(rt; holds, "{row:?}");
+/// Ends the test where this does not hold, and shows what should hold.
+pub(crate) fn assert_for(rt: &impl Abort, holds: bool, row: &str) {
+    assert!(rt; holds, "{row}");
 }
 
-/// The text of a member, or "".
-pub(crate) fn text_of<'a>(event: &'a Value, key: &str) -> &'a str {
+// The text of a member, or "".
+fn text_of<'a>(event: &'a Value, key: &str) -> &'a str {
     event.get(key).and_then(Value::as_str).unwrap_or("")
 }
 
-/// The number of a member.
-pub(crate) fn number_of(event: &Value, key: &str) -> Option<u64> {
+// The number of a member.
+fn number_of(event: &Value, key: &str) -> Option<u64> {
     event.get(key).and_then(Value::as_u64)
 }
 
-/// How many of these events have this phase and this name.
-pub(crate) fn count(events: &[Value], phase: &str, name: &str) -> u64 {
-    let mut count = 0u64;
-    for event in events {
-        if text_of(event, "ph") == phase && text_of(event, "name") == name {
-            count = count.saturating_add(1);
-        }
-    }
-    count
+// Whether an event has this phase and this name.
+fn is_named(event: &Value, phase: &str, name: &str) -> bool {
+    text_of(event, "ph") == phase && text_of(event, "name") == name
 }
 
-/// How many slices the row of this PE has.
-pub(crate) fn slices(rt: &(impl Abort + AllocGlobal), text: &str, pe: u64) -> u64 {
-    let trace = Value::from_str(rt.alloc(), text).expect(rt, "no JSON");
-    let events = trace.get("traceEvents").and_then(Value::as_array);
+// How many of these events have this phase and this name.
+fn count(events: &[Value], phase: &str, name: &str) -> u64 {
     let mut count = 0u64;
-    for event in events.expect(rt, "no list of events") {
-        if text_of(event, "ph") == "X" && number_of(event, "tid") == Some(pe) {
+    for event in events {
+        if is_named(event, phase, name) {
             count = count.saturating_add(1);
         }
     }
@@ -59,16 +50,23 @@ pub(crate) struct Expected {
     pub(crate) account: Account,
 }
 
-/// The text of the trace of what happened.
-pub(crate) fn text_in<A: Allocator>(
+/// The trace of what happened, read back.
+pub(crate) fn read_back<A: Allocator>(
     rt: &(impl Abort + AllocGlobal),
     pes: u32,
     timeline: &Timeline<A>,
     rounds: &[(Snapshot<A>, Refined<A>)],
-) -> String {
+) -> Value {
     let events = trace_of(rt.alloc(), pes, timeline.happenings(), rounds);
     let events = events.expect(rt, "no events");
-    events_text(rt.alloc(), &events).expect(rt, "no text")
+    let text = events_text(rt.alloc(), &events).expect(rt, "no text");
+    Value::from_str(rt.alloc(), &text).expect(rt, "no JSON")
+}
+
+/// The events of a trace.
+pub(crate) fn events_in<'a>(rt: &impl Abort, trace: &'a Value) -> &'a [Value] {
+    let events = trace.get("traceEvents").and_then(Value::as_array);
+    events.expect(rt, "no list of events").as_slice()
 }
 
 /// How many elements moved in these rounds.
@@ -80,11 +78,8 @@ pub(crate) fn moves_in<A: Allocator>(rounds: &[(Snapshot<A>, Refined<A>)]) -> u6
     moves
 }
 
-/// Counts what is in the text of a trace.
-pub(crate) fn expect_trace(rt: &(impl Abort + AllocGlobal), text: &str, expected: &Expected) {
-    let trace = Value::from_str(rt.alloc(), text).expect(rt, "no JSON");
-    let events = trace.get("traceEvents").and_then(Value::as_array);
-    let events = events.expect(rt, "no list of events");
+/// Counts what is in a trace.
+pub(crate) fn expect_trace(rt: &impl Abort, events: &[Value], expected: &Expected) {
     for (phase, name, wanted) in [
         ("M", "process_name", 1),
         ("M", "thread_name", expected.pes),
@@ -100,29 +95,35 @@ pub(crate) fn expect_trace(rt: &(impl Abort + AllocGlobal), text: &str, expected
         ("C", "load of PE 0", expected.rounds),
         ("X", "resume", count(events, "i", "resumption")),
     ] {
-        let found = count(events, phase, name);
-        assert_for(rt, found == wanted, (phase, name, found, wanted));
+        assert_for(rt, count(events, phase, name) == wanted, name);
     }
-    expect_arrows(rt, events);
-}
-
-// Each arrow that ends has begun before, in the text and in time.
-fn expect_arrows(rt: &impl Abort, events: &[Value]) {
     for (place, event) in events.iter().enumerate() {
-        if text_of(event, "ph") == "f" {
-            assert_for(rt, has_begun(event, events, place), place);
-        }
+        let is_end = text_of(event, "ph") == "f";
+        assert_for(rt, !is_end || has_begun(event, events, place), "arrow");
     }
 }
 
 // Whether the arrow that ends at this index has begun in one of the events before it.
 fn has_begun(end: &Value, events: &[Value], place: usize) -> bool {
+    let name = text_of(end, "name");
     for event in events.iter().take(place) {
-        let same = text_of(event, "name") == text_of(end, "name")
-            && number_of(event, "id") == number_of(end, "id");
-        if same && text_of(event, "ph") == "s" {
+        if is_named(event, "s", name) && number_of(event, "id") == number_of(end, "id") {
             return true;
         }
     }
     false
+}
+
+/// The value of a counter at this place among its values.
+pub(crate) fn value_at(events: &[Value], name: &str, place: u64) -> Option<u64> {
+    let mut left = place;
+    for event in events {
+        if is_named(event, "C", name) {
+            if left == 0 {
+                return number_of(event.get("args")?, "load");
+            }
+            left = left.saturating_sub(1);
+        }
+    }
+    None
 }

@@ -1,4 +1,4 @@
-//! Tests of traces: of a run over threads and of one by a seed, read back and counted; the loads and the times in them; with memory
+//! Tests of traces: of a run over threads and of runs by seeds, read back and counted; the loads and the times in them; with memory
 //! refused, a clock that fails, and a writer that fails.
 #![tactic(auto)]
 
@@ -7,12 +7,8 @@ mod counting;
 #[cfg(test)]
 mod events;
 #[cfg(test)]
-mod loads;
-#[cfg(test)]
-mod refused;
+mod recording;
 #[cfg(test)]
 mod seeds;
 #[cfg(test)]
 mod threads;
-#[cfg(test)]
-mod times;

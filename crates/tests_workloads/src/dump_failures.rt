@@ -1,9 +1,8 @@
-//! Dumps that are not written: files that are refused or that fail, a load that is too great for the format, and refused
-//! memory.
+//! Dumps that are not written: files a call of which fails, a load that is too great for the format, and refused memory.
 
-use crate::dumps::{FORMATS, Round, texts_of};
-use crate::fixtures::{WORKED, assert_for, driven};
-use crate::kept::{Faults, KeptFiles, NO_FAULTS, Store};
+use crate::dumps::{FORMATS, Round};
+use crate::fixtures::{assert_for, worked};
+use crate::kept::{Kept, NEVER, Store};
 use dump_format::DumpError;
 use lb_refinement::Refined;
 use lb_snapshot::{Loads, Sizes, Snapshot};
@@ -14,33 +13,24 @@ use std::process::Abort;
 use tests_fixtures::{Outcome, Refusing, each_refusal, pe};
 use workload_run::{Driven, DumpFormat, NotWritten, write_asked, write_dumps};
 
-// The result of the dumps of some rounds: the first that was not written, how many files were requested, how many calls
-// there were, and what the files hold that were made.
+// The result of the dumps of some rounds: the first that was not written, how many calls of files there were, and what the files
+// hold.
 #[derive(Drop)]
 struct Ending {
     not_written: Option<NotWritten>,
-    asked: usize,
     calls: usize,
-    files: Vec<Vec<u8>>,
+    files: Vec<u8>,
 }
 
-// Writes the dumps of some rounds, with these faults.
-fn dumped(
-    rt: &(impl Abort + AllocGlobal),
-    rounds: &[Round],
-    format: DumpFormat,
-    faults: Faults,
-) -> Ending {
-    let store = Store::new(rt.alloc());
-    let mut files = KeptFiles::new(rt.alloc(), &store, faults);
-    let written = write_dumps(rt.alloc(), rounds, format, "run", &mut files);
-    let asked = files.names.len();
-    drop(files);
+// Writes the dumps of some rounds to files of which this call fails.
+fn dumped(alloc: Global, rounds: &[Round], format: DumpFormat, fails_at: usize) -> Ending {
+    let store = Store::new(alloc, fails_at);
+    let written = write_dumps(alloc, rounds, format, "run", &mut Kept(&store));
+    let (calls, files) = store.into_parts();
     Ending {
         not_written: written.err(),
-        asked,
-        calls: store.calls(),
-        files: store.into_files(),
+        calls,
+        files,
     }
 }
 
@@ -53,206 +43,79 @@ fn is_told(ending: &Ending, round: u32, fault: DumpError, reason: Option<ErrorKi
     dump.round == round && dump.fault == fault && kind == reason
 }
 
-// Whether two lists of files hold the same.
-fn hold_the_same(files: &[Vec<u8>], others: &[Vec<u8>]) -> bool {
-    let mut same = files.len() == others.len();
-    for (file, other) in files.iter().zip(others) {
-        same &= file == other;
-    }
-    same
-}
-
-// Whether the refused file, of the two of the worked workload, is the last one, and the one before it has its dump.
-fn is_refused(
-    rt: &(impl Abort + AllocGlobal),
+// Whether a call that fails is the last of all, and everything before it was written. The first round has this number of calls.
+fn is_cut(
+    alloc: Global,
     rounds: &[Round],
     format: DumpFormat,
-    file: usize,
+    whole: &Ending,
+    fails: (usize, usize),
 ) -> bool {
-    let faults = Faults { file, ..NO_FAULTS };
-    let ending = dumped(rt, rounds, format, faults);
-    let earlier = texts_of(rt, rounds.get(..file).unwrap_or(&[]), format);
-    let round = if file == 0 { 1 } else { 2 };
+    let (call, first) = fails;
+    let ending = dumped(alloc, rounds, format, call);
+    let round = if call < first { 1 } else { 2 };
     is_told(
         &ending,
         round,
         DumpError::Write,
-        Some(ErrorKind::PermissionDenied),
-    ) && ending.asked == file.saturating_add(1)
-        && hold_the_same(&ending.files, &earlier)
+        Some(ErrorKind::Interrupted),
+    ) && ending.calls == call.saturating_add(1)
+        && ending.files.len() < whole.files.len()
+        && whole.files.starts_with(&ending.files)
 }
 
-#[test]
-fn a_file_that_is_refused_is_the_last(rt: HostRuntime) {
-    let (driven, text) = driven(&rt, WORKED);
-    drop(text);
-    for format in &FORMATS {
-        let first = is_refused(&rt, driven.rounds(), *format, 0);
-        let second = is_refused(&rt, driven.rounds(), *format, 1);
-        assert_for(&rt, first && second, *format);
-    }
-    drop(driven);
-}
-
-// The status where the dumps of a run are asked for, or not, and the first file is refused, or not; with what was written.
-fn finished(
-    rt: &(impl Abort + AllocGlobal),
-    driven: &Driven<Global>,
-    prefix: Option<&str>,
-    faults: Faults,
-) -> (u8, Vec<u8>) {
-    let store = Store::new(rt.alloc());
-    let mut files = KeptFiles::new(rt.alloc(), &store, faults);
-    let mut text = Vec::new(rt.alloc());
-    let (status, failed) = write_asked(
-        rt.alloc(),
-        driven,
-        DumpFormat::Lbd2,
-        prefix,
-        &mut files,
-        &mut text,
-    );
-    drop(failed);
-    drop(files);
-    drop(store);
-    (status, text)
-}
-
-#[test]
-fn the_status_with_dumps(rt: HostRuntime) {
-    let (driven, text) = driven(&rt, WORKED);
-    drop(text);
-    let refused = Faults {
-        file: 0,
-        ..NO_FAULTS
-    };
-    let (none, nothing) = finished(&rt, &driven, None, refused);
-    let (all, silent) = finished(&rt, &driven, Some("run"), NO_FAULTS);
-    let (failed, line) = finished(&rt, &driven, Some("run"), refused);
-    let quiet = nothing.is_empty() && silent.is_empty();
-    let told = line.as_slice() == b"dump: write failed\n".as_slice();
-    drop(nothing);
-    drop(silent);
-    drop(line);
-    drop(driven);
-    assert_for(&rt, quiet && told, (none, all, failed));
-    assert_for(&rt, (none, all, failed) == (0, 0, 5), (none, all, failed));
-}
-
-// How the dumps of the rounds of the worked workload are written by calls of at most seven bytes: the files, and how many
-// calls there are for the first and for both.
-#[derive(Drop)]
-struct Calls {
-    files: Vec<Vec<u8>>,
-    first: usize,
-    both: usize,
-}
-
-const SEVEN: Faults = Faults {
-    at_once: 7,
-    ..NO_FAULTS
-};
-
-fn whole(rt: &(impl Abort + AllocGlobal), rounds: &[Round], format: DumpFormat) -> Calls {
-    let first = dumped(rt, rounds.get(..1).unwrap_or(&[]), format, SEVEN);
-    let calls = first.calls;
-    drop(first);
-    let Ending {
-        not_written,
-        calls: both,
-        files,
-        ..
-    } = dumped(rt, rounds, format, SEVEN);
-    assert_for(rt, not_written.is_none(), format);
-    Calls {
-        files,
-        first: calls,
-        both,
-    }
-}
-
-// Whether these are the first of some whole files, and the last of them is cut short.
-fn are_cut(files: &[Vec<u8>], whole: &[Vec<u8>]) -> bool {
-    let Some((last, earlier)) = files.split_last() else {
-        return false;
-    };
-    let number = earlier.len();
-    let (Some(text), Some(same)) = (whole.get(number), whole.get(..number)) else {
-        return false;
-    };
-    hold_the_same(earlier, same) && text.starts_with(last) && last.len() < text.len()
-}
-
-// Whether a call that fails with an error of this kind, or takes nothing, is the last of all, in the file that it writes to,
-// and everything before it was written.
-fn is_cut(
-    rt: &(impl Abort + AllocGlobal),
-    rounds: &[Round],
-    format: DumpFormat,
-    whole: &Calls,
-    fails: (usize, Option<ErrorKind>),
-) -> bool {
-    let (call, error) = fails;
-    let faults = Faults {
-        call,
-        error,
-        ..SEVEN
-    };
-    let ending = dumped(rt, rounds, format, faults);
-    let round = if call < whole.first { 1 } else { 2 };
-    is_told(&ending, round, DumpError::Write, error)
-        && ending.asked == round as usize
-        && ending.files.len() == round as usize
-        && ending.calls == call.saturating_add(1)
-        && are_cut(&ending.files, &whole.files)
-}
-
-// Fails each call in turn.
+// Fails each call in turn: where a file is made, where it is written and where it is flushed.
 fn fail_each(rt: &(impl Abort + AllocGlobal), rounds: &[Round], format: DumpFormat) {
-    let whole = whole(rt, rounds, format);
-    for call in 0..whole.both {
-        let right = is_cut(rt, rounds, format, &whole, (call, Some(ErrorKind::Other)))
-            && is_cut(
-                rt,
-                rounds,
-                format,
-                &whole,
-                (call, Some(ErrorKind::Interrupted)),
-            )
-            && is_cut(rt, rounds, format, &whole, (call, None));
+    let whole = dumped(rt.alloc(), rounds, format, NEVER);
+    let first = dumped(rt.alloc(), rounds.get(..1).unwrap_or(&[]), format, NEVER);
+    assert_for(rt, whole.not_written.is_none(), format);
+    for call in 0..whole.calls {
+        let right = is_cut(rt.alloc(), rounds, format, &whole, (call, first.calls));
         assert_for(rt, right, (format, call));
     }
     drop(whole);
+    drop(first);
 }
 
 #[test]
 fn a_call_that_fails_is_the_last(rt: HostRuntime) {
-    let (driven, text) = driven(&rt, WORKED);
-    drop(text);
+    let driven = worked(&rt);
     for format in &FORMATS {
         fail_each(&rt, driven.rounds(), *format);
     }
     drop(driven);
 }
 
-// Whether a flush that fails is reported of the first dump, the whole of which was written.
-fn is_unflushed(rt: &(impl Abort + AllocGlobal), rounds: &[Round], format: DumpFormat) -> bool {
-    let faults = Faults {
-        flush: Some(ErrorKind::Other),
-        ..NO_FAULTS
-    };
-    let ending = dumped(rt, rounds, format, faults);
-    let first = texts_of(rt, rounds.get(..1).unwrap_or(&[]), format);
-    is_told(&ending, 1, DumpError::Write, Some(ErrorKind::Other))
-        && hold_the_same(&ending.files, &first)
+// The prefix of the dumps of the worked workload, where they are asked for, which call of the files fails, the status and what
+// is written.
+type Row<'a> = (Option<&'a str>, usize, u8, &'a str);
+
+static ROWS: [Row<'static>; 3] = [
+    (None, 0, 0, ""),
+    (Some("run"), NEVER, 0, ""),
+    (Some("run"), 0, 5, "dump: write failed\n"),
+];
+
+fn is_finished(alloc: Global, driven: &Driven<Global>, row: &Row<'_>) -> bool {
+    let (prefix, fails_at, status, line) = *row;
+    let store = Store::new(alloc, fails_at);
+    let (mut files, mut text) = (Kept(&store), Vec::new(alloc));
+    let (found, failed) = write_asked(
+        alloc,
+        driven,
+        DumpFormat::Lbd2,
+        prefix,
+        &mut files,
+        &mut text,
+    );
+    found == status && failed.is_some() == (status == 5) && text.as_slice() == line.as_bytes()
 }
 
 #[test]
-fn a_flush_that_fails_is_told(rt: HostRuntime) {
-    let (driven, text) = driven(&rt, WORKED);
-    drop(text);
-    for format in &FORMATS {
-        assert_for(&rt, is_unflushed(&rt, driven.rounds(), *format), *format);
+fn the_status_with_dumps(rt: HostRuntime) {
+    let driven = worked(&rt);
+    for row in &ROWS {
+        assert_for(&rt, is_finished(rt.alloc(), &driven, row), row.3);
     }
     drop(driven);
 }
@@ -277,16 +140,11 @@ fn round<A: Allocator + Copy>(
     }
 }
 
-// The least load that needs more than 32 bits, and the greatest that does not.
-const WIDE: u64 = 4_294_967_296;
-
-const NARROW: u64 = 4_294_967_295;
-
-// Three rounds, of which the second has a load that is too great for the format LBD1.
+// Two rounds, the second of which has the least load that needs more than 32 bits, and so is too great for the format LBD1.
 fn wide_rounds(rt: &(impl Abort + AllocGlobal)) -> Vec<Round> {
     let mut rounds = Vec::new(rt.alloc());
-    for (step, loads) in &[(1, [NARROW, 0]), (2, [1, WIDE]), (3, [1, 1])] {
-        let round = round(rt.alloc(), *step, loads)
+    for (step, load) in &[(1, 4_294_967_295), (2, 4_294_967_296)] {
+        let round = round(rt.alloc(), *step, &[1, *load])
             .expect(rt, "out of memory")
             .expect(rt, "it is a snapshot");
         rounds.push(round).expect(rt, "out of memory");
@@ -297,20 +155,15 @@ fn wide_rounds(rt: &(impl Abort + AllocGlobal)) -> Vec<Round> {
 #[test]
 fn a_load_that_is_too_great_for_the_format(rt: HostRuntime) {
     let rounds = wide_rounds(&rt);
-    let narrow = dumped(&rt, &rounds, DumpFormat::Lbd1, NO_FAULTS);
-    let first = narrow.files.first().map_or(0, |file| file.len());
-    let second = narrow.files.last().map_or(false, |file| file.is_empty());
-    let refused = is_told(&narrow, 2, DumpError::Wide(1), None)
-        && narrow.asked == 2
-        && narrow.files.len() == 2
-        && first == 40
-        && second;
+    let narrow = dumped(rt.alloc(), &rounds, DumpFormat::Lbd1, NEVER);
+    let told = is_told(&narrow, 2, DumpError::Wide(1), None);
+    let empty = narrow.files.ends_with(b"\nrun.2");
     drop(narrow);
-    let wide = dumped(&rt, &rounds, DumpFormat::Lbd2, NO_FAULTS);
-    let written = wide.not_written.is_none() && wide.files.len() == 3;
+    let wide = dumped(rt.alloc(), &rounds, DumpFormat::Lbd2, NEVER);
+    let written = wide.not_written.is_none();
     drop(wide);
     drop(rounds);
-    assert!(rt; refused && written);
+    assert!(rt; told && empty && written);
 }
 
 // The outcome of the dump of a round, where memory may be refused.
@@ -324,20 +177,20 @@ fn comes_of<A: Allocator + Copy>(
     if rounds.push(round).is_err() {
         return Outcome::Wrong;
     }
-    let store = Store::new(global);
-    let mut files = KeptFiles::new(global, &store, NO_FAULTS);
-    let written = write_dumps(alloc, &rounds, format, "run", &mut files);
+    let store = Store::new(global, NEVER);
+    let written = write_dumps(alloc, &rounds, format, "run", &mut Kept(&store));
     drop(rounds);
-    drop(files);
+    // a refused dump has at most made its file
+    let calls = store.into_parts().0;
     match written {
-        Ok(()) if !store.is_empty() => Outcome::Right,
+        Ok(()) if calls > 1 => Outcome::Right,
         Err(
             NotWritten {
                 round: 1,
                 fault: DumpError::OutOfMemory,
                 reason: None,
             },
-        ) if store.is_empty() => Outcome::Refused,
+        ) if calls <= 1 => Outcome::Refused,
         _ => Outcome::Wrong,
     }
 }

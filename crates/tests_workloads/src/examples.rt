@@ -1,7 +1,8 @@
 //! The workloads in `examples/`, made by their rules, and the first lines that are printed of each.
 
 use crate::fixtures::{assert_for, driven};
-use std::alloc::AllocError;
+use at_sync::Strategy;
+use std::alloc::{AllocError, Global};
 use workload_run::Ended;
 
 // The amounts of a round of the wandering hot spot: within 40 chares of its middle, 90 chares further on in each round, they
@@ -27,12 +28,13 @@ fn push_round(text: &mut String, round: u32) -> Result<(), AllocError> {
 }
 
 // The workload `examples/hot-spot.workload`.
-fn push_hot_spot(text: &mut String) -> Result<(), AllocError> {
+fn hot_spot(alloc: Global) -> Result<String, AllocError> {
+    let mut text = String::new(alloc);
     text.push_str("pes 8\nrounds 10\npad 64\nchares 1000\n")?;
     for round in 0..10u32 {
-        push_round(text, round)?;
+        push_round(&mut text, round)?;
     }
-    Ok(())
+    Ok(text)
 }
 
 const FIRST_LINES: &str = "round 1 bottleneck 4519 moved 44800\n\
@@ -49,16 +51,13 @@ const FIRST_LINES: &str = "round 1 bottleneck 4519 moved 44800\n\
 
 #[test]
 fn the_hot_spot_wanders(rt: HostRuntime) {
-    let mut workload = String::new(rt.alloc());
-    push_hot_spot(&mut workload).expect(&rt, "out of memory");
-    let (driven, text) = driven(&rt, workload.as_bytes());
+    let workload = hot_spot(rt.alloc()).expect(&rt, "out of memory");
+    let (driven, text) = driven(&rt, workload.as_bytes(), Strategy::Least);
     let ended = driven.ended;
     drop(driven);
     let begins = text.starts_with(FIRST_LINES.as_bytes());
     let ends = text.ends_with(b"\nposted 10000 executed 10000 held 0\n");
     drop(text);
-    let len = workload.len();
-    drop(workload);
     assert_for(&rt, ended == Ended::Ran(None) && begins && ends, ended);
-    assert_for(&rt, len == 30_748, len);
+    assert_for(&rt, workload.len() == 30_748, workload.len());
 }

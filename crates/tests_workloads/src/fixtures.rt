@@ -3,8 +3,9 @@
 ghost use Rattle.std.specs.Prelude.{◌≡◌, true};
 
 use at_sync::Strategy;
-use std::alloc::Global;
+use std::alloc::{Allocator, Global};
 use std::fmt::Debug;
+use std::io::{Read, Write};
 use std::process::Abort;
 use std::sync::Wait;
 use std::thread::Threads;
@@ -30,33 +31,44 @@ pub(crate) fn assert_for<R: Debug + Copy>(rt: &impl Abort, holds: bool, row: R)
     assert!(rt; holds, "{row:?}");
 }
 
+/// Runs the workload of a reader.
+pub(crate) fn drive_from<
+    T: Threads + Wait + Sync,
+    R: Read,
+    W: Write,
+    A: Allocator + Copy + Send + Sync,
+>(rt: &T, alloc: A, reader: &mut R, writer: &mut W, strategy: Strategy) -> Driven<A> {
+    drive(rt, alloc, reader, writer, TURNS, strategy)
+}
+
 /// The result of a workload, and what was written.
 pub(crate) fn driven<R: Threads + Wait + Sync + Abort + AllocGlobal>(
     rt: &R,
     workload: &[u8],
+    strategy: Strategy,
 ) -> (Driven<Global>, Vec<u8>) {
     let mut reader = workload;
     let mut text = Vec::new(rt.alloc());
-    let driven = drive(
-        rt,
-        rt.alloc(),
-        &mut reader,
-        &mut text,
-        TURNS,
-        Strategy::Least,
-    );
+    let driven = drive_from(rt, rt.alloc(), &mut reader, &mut text, strategy);
     (driven, text)
 }
 
-/// Whether the run of a workload ends so, with this status, and writes exactly this.
+/// The result of the worked workload.
+pub(crate) fn worked<R: Threads + Wait + Sync + Abort + AllocGlobal>(rt: &R) -> Driven<Global> {
+    driven(rt, WORKED, Strategy::Least).0
+}
+
+/// A workload, how its run ends, the status, and what is written.
+pub(crate) type Row<'a> = (&'a [u8], Ended, u8, &'a str);
+
+/// Whether the run of a workload ends as in its row, and writes exactly that.
 pub(crate) fn tells<R: Threads + Wait + Sync + Abort + AllocGlobal>(
     rt: &R,
-    workload: &[u8],
-    ended: Ended,
-    status: u8,
-    text: &str,
+    row: &Row<'_>,
+    strategy: Strategy,
 ) -> bool {
-    let (driven, written) = driven(rt, workload);
+    let (workload, ended, status, text) = *row;
+    let (driven, written) = driven(rt, workload, strategy);
     let right = driven.ended == ended && driven.status() == status;
     drop(driven);
     right && written.as_slice() == text.as_bytes()

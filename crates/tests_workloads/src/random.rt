@@ -2,10 +2,8 @@
 
 use crate::dumps::{Round, is_right, text_of};
 use crate::fixtures::{assert_for, driven};
-use dump_format::Dump;
+use at_sync::Strategy;
 use lb_dump::decode;
-use lb_refinement::Refined;
-use lb_strategy::{Decision, check};
 use std::alloc::{AllocError, Global};
 use std::process::Abort;
 use std::sync::Wait;
@@ -43,147 +41,82 @@ impl Draw {
     }
 }
 
-// How large a workload is.
-#[derive(Clone, Copy, Debug)]
-struct Size {
-    pes: u32,
-    rounds: u32,
-    pad: u32,
-    chares: u32,
-}
-
-// The text of a workload, and what its chares add up to.
+// The text of a workload, how many rounds it has, and what its chares add up to.
 #[derive(Drop)]
 struct Drawn {
     text: String,
+    rounds: u32,
     sums: Vec<u64>,
 }
 
 impl Drawn {
-    fn new(alloc: Global, size: &Size) -> Result<Drawn, AllocError> {
-        let mut text = String::new(alloc);
-        let Size {
-            pes,
-            rounds,
-            pad,
-            chares,
-        } = size;
-        writeln!(
-            text,
-            "pes {pes}\nrounds {rounds}\npad {pad}\nchares {chares}"
-        )?;
-        let mut sums = Vec::new(alloc);
-        sums.resize(*chares as usize, 0)?;
-        Ok(Drawn { text, sums })
-    }
-
     // Adds an amount of a chare, which its neighbor adds up.
-    fn push(&mut self, chare: u32, chares: u32, amount: u32) -> Result<(), AllocError> {
+    fn push(&mut self, chare: usize, amount: u32) -> Result<(), AllocError> {
         write!(self.text, " {amount}")?;
-        let neighbor = chare.saturating_add(1).checked_rem(chares).unwrap_or(0);
-        if let Some(sum) = self.sums.get_mut(neighbor as usize) {
+        let neighbor = chare.saturating_add(1).checked_rem(self.sums.len());
+        if let Some(sum) = self.sums.get_mut(neighbor.unwrap_or(0)) {
             *sum = sum.saturating_add(u64::from(amount));
         }
         Ok(())
     }
 
     // Adds the line of a round.
-    fn push_round(&mut self, draw: &mut Draw, size: &Size) -> Result<(), AllocError> {
+    fn push_round(&mut self, draw: &mut Draw) -> Result<(), AllocError> {
         self.text.push_str("amounts")?;
-        for chare in 0..size.chares {
-            let amount = draw.amount();
-            self.push(chare, size.chares, amount)?;
+        for chare in 0..self.sums.len() {
+            self.push(chare, draw.amount())?;
         }
         self.text.push_str("\n")
     }
+
+    // The last two lines that are to be printed.
+    fn ending(&self, alloc: Global) -> Result<String, AllocError> {
+        let mut text = String::new(alloc);
+        text.push_str("sums")?;
+        for sum in &self.sums {
+            write!(text, " {sum}")?;
+        }
+        let letters = self.sums.len().saturating_mul(self.rounds as usize);
+        writeln!(text, "\nposted {letters} executed {letters} held 0")?;
+        Ok(text)
+    }
 }
 
-// A workload of this size.
-fn draw_workload(alloc: Global, draw: &mut Draw, size: &Size) -> Result<Drawn, AllocError> {
-    let mut drawn = Drawn::new(alloc, size)?;
-    for _ in 0..size.rounds {
-        drawn.push_round(draw, size)?;
+// A small workload.
+fn draw_workload(alloc: Global, draw: &mut Draw) -> Result<Drawn, AllocError> {
+    let (pes, rounds) = (draw.below(8).saturating_add(1), draw.below(6));
+    let (pad, chares) = (draw.below(100), draw.below(41));
+    let text = format!(in alloc; "pes {pes}\nrounds {rounds}\npad {pad}\nchares {chares}\n")?;
+    let mut sums = Vec::new(alloc);
+    sums.resize(chares as usize, 0)?;
+    let mut drawn = Drawn { text, rounds, sums };
+    for _ in 0..rounds {
+        drawn.push_round(draw)?;
     }
     Ok(drawn)
 }
 
-// The last two lines that are to be printed.
-fn ending(alloc: Global, drawn: &Drawn, size: &Size) -> Result<String, AllocError> {
-    let mut text = String::new(alloc);
-    text.push_str("sums")?;
-    for sum in &drawn.sums {
-        write!(text, " {sum}")?;
-    }
-    let letters = size.rounds.saturating_mul(size.chares);
-    writeln!(text, "\nposted {letters} executed {letters} held 0")?;
-    Ok(text)
-}
-
-// Whether a dump records this plan, for this number of PEs.
-fn is_plan(dump: &Dump<Global>, pes: u32, plan: &Decision) -> bool {
-    dump.recorded().map_or(false, |recorded| {
-        recorded.target == pes && recorded.decision == *plan
-    })
-}
-
-// Whether the dump of a round, in the format LBD2, is read back as that round, with a right decision on this number
-// of PEs.
-fn is_recorded(rt: &(impl Abort + AllocGlobal), round: &Round, pes: u32) -> bool {
+// Whether the dump of a round is read back as that round, with a right decision.
+fn is_recorded(rt: &(impl Abort + AllocGlobal), round: &Round) -> bool {
     let text = text_of(rt, round, DumpFormat::Lbd2);
     let dump = decode(rt.alloc(), &text).expect(rt, "it is a dump");
-    drop(text);
-    let (snapshot, decision) = round;
-    let same = match decision {
-        Refined::Planned(plan) => is_plan(&dump, pes, plan),
-        Refined::Near(_) => false,
-    };
-    let right = same && dump.snapshot() == snapshot && is_right(&dump);
-    drop(dump);
-    right
+    dump.snapshot() == &round.0 && is_right(&dump)
 }
 
-// Whether the decision of a round is right for its dump in the format LBD1, as that is read back.
-fn is_right_alone(rt: &(impl Abort + AllocGlobal), round: &Round, pes: u32) -> bool {
-    let text = text_of(rt, round, DumpFormat::Lbd1);
-    let dump = decode(rt.alloc(), &text).expect(rt, "it is a dump");
-    drop(text);
-    let (_, decision) = round;
-    let right = match decision {
-        Refined::Planned(plan) => check(dump.snapshot(), pes, plan).is_ok(),
-        Refined::Near(_) => false,
+// Whether the run of a workload ends well, and all its rounds are recorded.
+fn runs<R: Threads + Wait + Sync + Abort + AllocGlobal>(rt: &R, drawn: &Drawn) -> bool {
+    let want = drawn.ending(rt.alloc()).expect(rt, "out of memory");
+    let (driven, text) = driven(rt, drawn.text.as_bytes(), Strategy::Least);
+    let decided = if drawn.sums.is_empty() {
+        0
+    } else {
+        drawn.rounds
     };
-    drop(dump);
-    right
-}
-
-// Runs a workload of this size.
-fn expect_counted<R: Threads + Wait + Sync + Abort + AllocGlobal>(
-    rt: &R,
-    draw: &mut Draw,
-    size: &Size,
-) {
-    let drawn = draw_workload(rt.alloc(), draw, size).expect(rt, "out of memory");
-    let want = ending(rt.alloc(), &drawn, size).expect(rt, "out of memory");
-    let (driven, text) = driven(rt, drawn.text.as_bytes());
-    assert_for(rt, driven.ended == Ended::Ran(None), (*size, driven.ended));
-    assert_for(rt, driven.rounds().len() == expected(size), *size);
+    let mut right = driven.rounds().len() == decided as usize;
     for round in driven.rounds() {
-        let right = is_recorded(rt, round, size.pes) && is_right_alone(rt, round, size.pes);
-        assert_for(rt, right, (*size, round.0.step()));
+        right &= is_recorded(rt, round);
     }
-    drop(driven);
-    assert_for(rt, text.ends_with(want.as_bytes()), *size);
-    drop(text);
-    drop(want);
-    drop(drawn);
-}
-
-// How many rounds are decided: none without chares.
-fn expected(size: &Size) -> usize {
-    if size.chares == 0 {
-        return 0;
-    }
-    size.rounds as usize
+    right && driven.ended == Ended::Ran(None) && text.ends_with(want.as_bytes())
 }
 
 #[test]
@@ -191,13 +124,9 @@ fn random_workloads_add_up(rt: HostRuntime) {
     let mut draw = Draw {
         state: 88_172_645_463_325_252,
     };
-    for _ in 0..TURNS {
-        let size = Size {
-            pes: draw.below(8).saturating_add(1),
-            rounds: draw.below(6),
-            pad: draw.below(100),
-            chares: draw.below(41),
-        };
-        expect_counted(&rt, &mut draw, &size);
+    for turn in 0..TURNS {
+        let drawn = draw_workload(rt.alloc(), &mut draw).expect(&rt, "out of memory");
+        assert_for(&rt, runs(&rt, &drawn), turn);
+        drop(drawn);
     }
 }

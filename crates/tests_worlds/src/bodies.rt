@@ -2,19 +2,37 @@
 
 ghost use Rattle.std.specs.Prelude.{◌≡◌};
 
-use crate::fixtures::{assert_for, elements, index, pe, pes, round};
-use crate::seen::{Place, Seen, count, look_around, seen_bytes};
-use crate::steps::{opened, run};
-use chare_index::{Index, Pe};
-use chares::{Carried, Entry, LetterId, Openings, TraceEntry};
-use rts_core::{Event, World};
+use crate::fixtures::{assert_for, index, opened, pe};
+use crate::steps::{Line, Step, Told, take};
+use Step::{Act, Decide, Deliver, Depart, Flush, Look, Report, Start};
+use Told::{Departed, Executed, Forwarded, Installed, Posted, Resumed, Shelved, Synced};
+use chare_index::Index;
+use chares::{Carried, Openings};
+use pe_state::{HeldParcel, PeState};
+use rts_core::{Queue, World};
 use std::alloc::Global;
 use std::marker::Brand;
 use std::process::Abort;
 use tests_chares::Relay;
 
-// What the letters of the three relays say: each goes to the neighbor, which hands the rest of it on to its own. With no
-// load all elements move to the PE of the largest one.
+// Where bytes are looked for, by the number of the PE.
+#[derive(Clone, Copy, Debug)]
+enum Spot {
+    // Last in its outbox.
+    Outbox(u32),
+    // Last in the queue before it.
+    Queue(u32),
+    Hand(u32),
+    // Last on its shelf.
+    Shelf(u32),
+    // Last in the journal of this element there.
+    Journal(u32, u32),
+}
+
+// The next steps of a script, and the bytes that are then found somewhere.
+type Part = (&'static [Line], Spot, &'static [u8]);
+
+// What the letters of the three relays say: each goes to the neighbor, which hands the rest of it on to its own.
 const FIRST: &[u8] = &[1, 10, 11, 12];
 
 const SECOND: &[u8] = &[1, 20, 21];
@@ -22,194 +40,136 @@ const SECOND: &[u8] = &[1, 20, 21];
 const THIRD: &[u8] = &[1, 30];
 
 // The pack of the third relay: two rounds are left, and its body has two bytes.
-const THIRD_PACKED: &[u8] = &[0, 0, 0, 2, 0, 0, 0, 2, 1, 30];
+const PACKED: &[u8] = &[0, 0, 0, 2, 0, 0, 0, 2, 1, 30];
 
-fn add_relay(rt: &(impl Abort + AllocGlobal), relays: &mut Vec<Relay>, body: &[u8]) {
-    let next = Relay::with_body(rt.alloc(), 3, body).expect(rt, "no relay");
-    relays.push(next).expect(rt, "out of memory");
+static PARTS: [Part; 12] = [
+    // Each posts its letter. With no load, all of them belong on PE 0 after the first round.
+    (
+        &[
+            (Start(0, 0), &[Resumed(0, 0), Posted(0, 0, 1)]),
+            (Report(0), &[Synced(0, 1)]),
+        ],
+        Spot::Outbox(0),
+        FIRST,
+    ),
+    (
+        &[
+            (Start(1, 1), &[Resumed(1, 0), Posted(1, 0, 2)]),
+            (Report(1), &[Synced(1, 1)]),
+        ],
+        Spot::Outbox(1),
+        SECOND,
+    ),
+    (
+        &[
+            (Start(2, 2), &[Resumed(2, 0), Posted(2, 0, 0)]),
+            (Report(2), &[Synced(2, 1)]),
+            (Decide, &[Told::Decided(1)]),
+        ],
+        Spot::Outbox(2),
+        THIRD,
+    ),
+    // The letter of PE 2 is executed by element 0, which hands the rest of it on.
+    (&[(Look(2), &[]), (Flush(2), &[])], Spot::Queue(0), THIRD),
+    (&[(Deliver(0), &[])], Spot::Hand(0), THIRD),
+    (
+        &[(Act(0), &[Executed(2, 0, 0), Posted(0, 1, 1)])],
+        Spot::Journal(0, 0),
+        THIRD,
+    ),
+    (&[], Spot::Outbox(0), &[30]),
+    // The letter of PE 1 arrives at PE 0 before its element, and waits on the shelf until that arrives.
+    (
+        &[
+            (Depart(2, 2), &[Departed(2)]),
+            (Look(1), &[]),
+            (Flush(1), &[]),
+            (Deliver(0), &[]),
+            (Look(0), &[]),
+            (Act(0), &[Shelved(1, 0)]),
+        ],
+        Spot::Shelf(0),
+        SECOND,
+    ),
+    (&[(Flush(2), &[])], Spot::Queue(0), PACKED),
+    (&[(Deliver(0), &[])], Spot::Hand(0), PACKED),
+    (&[(Act(0), &[Installed(2)])], Spot::Outbox(0), SECOND),
+    // The letter of PE 0 arrives at PE 1 after its element has left, and is forwarded.
+    (
+        &[
+            (Look(0), &[]),
+            (Depart(1, 1), &[Departed(1)]),
+            (Flush(0), &[]),
+            (Deliver(1), &[]),
+            (Look(1), &[]),
+            (Act(1), &[Forwarded(0, 0)]),
+        ],
+        Spot::Outbox(1),
+        FIRST,
+    ),
+];
+
+fn bytes_held(parcel: &HeldParcel) -> &[u8] {
+    match parcel {
+        Carried::Letter(letter) => letter.body(),
+        Carried::Element(element) => element.bytes(),
+    }
 }
 
-fn three_relays(rt: &(impl Abort + AllocGlobal)) -> Vec<Relay> {
-    let mut relays = Vec::new(rt.alloc());
-    add_relay(rt, &mut relays, FIRST);
-    add_relay(rt, &mut relays, SECOND);
-    add_relay(rt, &mut relays, THIRD);
-    relays
-}
-
-// A letter waits here, forwarded this number of times, and says this.
-fn expect_waiting<H: Openings<Relay>>(
-    rt: &(impl Abort + AllocGlobal),
-    world: &World<Relay, H>,
-    place: Place,
-    id: LetterId,
-    to: Index,
-    hops: u32,
-    body: &[u8],
-) {
-    let seen = look_around(rt, world);
-    let one = Seen::Waits(place, id, to, hops, seen_bytes(body));
-    assert_for(rt, count(seen.as_slice(), one) == 1, body);
-}
-
-// What the letter in the hand of a PE says, or the bytes of the packed element there.
-fn in_hand<'w, H: Openings<Relay>>(world: &'w World<Relay, H>, p: Pe) -> Option<&'w [u8]> {
-    match &world.pe(p)?.hand()?.parcel {
+fn bytes_queued<H: Openings<Relay>>(queue: &Queue<Relay, H>) -> Option<&[u8]> {
+    match queue.parcels().back()? {
         Carried::Letter(letter) => Some(letter.body()),
         Carried::Element(element) => Some(element.bytes()),
     }
 }
 
-// What the letter says that an element on this PE executed last, if that was the last thing it did.
-fn executed_last<'w, H: Openings<Relay>>(
+fn bytes_executed<H: Openings<Relay>>(at: &PeState<Relay, H>, e: Index) -> Option<&[u8]> {
+    let journal = at.room().element(e)?.journal();
+    Some(journal.letters().last()?.body())
+}
+
+fn bytes_at<'w, H: Openings<Relay>>(
+    rt: &impl Abort,
     world: &'w World<Relay, H>,
-    p: Pe,
-    e: Index,
+    spot: Spot,
 ) -> Option<&'w [u8]> {
-    match world.pe(p)?.room().element(e)?.journal().last()? {
-        Entry::Letter(letter) => Some(letter.body()),
-        _ => None,
+    match spot {
+        Spot::Outbox(p) => {
+            let last = world.pe(pe(rt, p))?.as_end().outbox().back()?;
+            Some(bytes_held(&last.parcel))
+        }
+        Spot::Queue(p) => bytes_queued(world.queue(pe(rt, p))?),
+        Spot::Hand(p) => Some(bytes_held(&world.pe(pe(rt, p))?.as_end().hand()?.parcel)),
+        Spot::Shelf(p) => Some(world.pe(pe(rt, p))?.as_end().shelf().back()?.body()),
+        Spot::Journal(p, e) => bytes_executed(world.pe(pe(rt, p))?, index(rt, e)),
     }
 }
 
-// These bytes are found.
-fn expect_bytes(rt: &impl Abort, found: Option<&[u8]>, want: &[u8]) {
-    assert_for(rt, found == Some(want), (found, want));
+fn three_relays(rt: &(impl Abort + AllocGlobal)) -> Vec<Relay> {
+    let mut relays = Vec::new(rt.alloc());
+    for body in &[FIRST, SECOND, THIRD] {
+        let next = Relay::with_body(rt.alloc(), 3, *body).expect(rt, "no relay");
+        relays.push(next).expect(rt, "out of memory");
+    }
+    relays
 }
 
-// A relay starts on this PE, posts its letter, and waits for the end of the first round.
-fn start_one<H: Openings<Relay>>(
-    rt: &(impl Abort + AllocGlobal),
-    world: &mut World<Relay, H>,
-    p: Pe,
-    e: Index,
-    to: Index,
-    body: &[u8],
-) {
-    let started = [
-        TraceEntry::Resumed(e, round(rt, 0)),
-        TraceEntry::Posted((p, 0), to),
-    ];
-    let synced = [TraceEntry::Synced(e, round(rt, 1))];
-    run(
-        rt,
-        world,
-        &[(Event::Start(p, e), &started), (Event::Report(p), &synced)],
-    );
-    expect_waiting(rt, world, Place::Outbox(p, None), (p, 0), to, 0, body);
-}
-
-// All three start, and the first round is decided.
-fn start<H: Openings<Relay>>(rt: &(impl Abort + AllocGlobal), world: &mut World<Relay, H>) {
-    let ((p0, p1, p2), (e0, e1, e2)) = (pes(rt), elements(rt));
-    start_one(rt, world, p0, e0, e1, FIRST);
-    start_one(rt, world, p1, e1, e2, SECOND);
-    start_one(rt, world, p2, e2, e0, THIRD);
-    let decided = [TraceEntry::Decided(round(rt, 1))];
-    run(rt, world, &[(Event::Decide, &decided)]);
-}
-
-// The letter of PE 2 is executed by element 0, which hands the rest of it on.
-fn execute<H: Openings<Relay>>(rt: &(impl Abort + AllocGlobal), world: &mut World<Relay, H>) {
-    let (p0, p2, e0, e1) = (pe(rt, 0), pe(rt, 2), index(rt, 0), index(rt, 1));
-    run(
-        rt,
-        world,
-        &[(Event::Look(p2), &[]), (Event::Flush(p2), &[])],
-    );
-    expect_waiting(rt, world, Place::Queue(p0), (p2, 0), e0, 0, THIRD);
-    run(rt, world, &[(Event::Deliver(p0), &[])]);
-    expect_bytes(rt, in_hand(world, p0), THIRD);
-    let executed = [
-        TraceEntry::Executed((p2, 0), e0),
-        TraceEntry::Posted((p0, 1), e1),
-    ];
-    run(rt, world, &[(Event::Act(p0), &executed)]);
-    expect_bytes(rt, executed_last(world, p0, e0), THIRD);
-    expect_waiting(rt, world, Place::Outbox(p0, None), (p0, 1), e1, 0, &[30]);
-}
-
-// The letter of PE 1 arrives at PE 0 before its element, and waits on the shelf.
-fn shelve<H: Openings<Relay>>(rt: &(impl Abort + AllocGlobal), world: &mut World<Relay, H>) {
-    let ((p0, p1, p2), e2) = (pes(rt), index(rt, 2));
-    run(
-        rt,
-        world,
-        &[
-            (Event::Depart(p2, e2), &[TraceEntry::Departed(e2)]),
-            (Event::Look(p1), &[]),
-            (Event::Flush(p1), &[]),
-            (Event::Deliver(p0), &[]),
-            (Event::Look(p0), &[]),
-            (Event::Act(p0), &[TraceEntry::Shelved((p1, 0))]),
-        ],
-    );
-    expect_waiting(rt, world, Place::Shelf(p0), (p1, 0), e2, 0, SECOND);
-}
-
-// Element 2 arrives, and its letter leaves the shelf.
-fn install<H: Openings<Relay>>(rt: &(impl Abort + AllocGlobal), world: &mut World<Relay, H>) {
-    let ((p0, p1, p2), e2) = (pes(rt), index(rt, 2));
-    run(
-        rt,
-        world,
-        &[(Event::Flush(p2), &[]), (Event::Deliver(p0), &[])],
-    );
-    expect_bytes(rt, in_hand(world, p0), THIRD_PACKED);
-    run(rt, world, &[(Event::Act(p0), &[TraceEntry::Installed(e2)])]);
-    expect_waiting(
-        rt,
-        world,
-        Place::Outbox(p0, Some(p0)),
-        (p1, 0),
-        e2,
-        0,
-        SECOND,
-    );
-}
-
-// The letter of PE 0 arrives at PE 1 after its element has left, and is forwarded.
-fn forward<H: Openings<Relay>>(rt: &(impl Abort + AllocGlobal), world: &mut World<Relay, H>) {
-    let (p0, p1, e1) = (pe(rt, 0), pe(rt, 1), index(rt, 1));
-    run(
-        rt,
-        world,
-        &[
-            (Event::Look(p0), &[]),
-            (Event::Depart(p1, e1), &[TraceEntry::Departed(e1)]),
-            (Event::Flush(p0), &[]),
-            (Event::Deliver(p1), &[]),
-            (Event::Look(p1), &[]),
-            (Event::Act(p1), &[TraceEntry::Forwarded((p0, 0))]),
-        ],
-    );
-    expect_waiting(
-        rt,
-        world,
-        Place::Outbox(p1, Some(p0)),
-        (p0, 0),
-        e1,
-        1,
-        FIRST,
-    );
-}
-
-fn script<H: Openings<Relay>>(rt: &(impl Abort + AllocGlobal), chares: Vec<Relay>)
+fn play<H: Openings<Relay>>(rt: &(impl Abort + AllocGlobal), chares: Vec<Relay>)
     requires run { H.pes ≡ 3 }
     requires opened { chares.items ≡ H.opened }
 {
     let world = opened::<Relay, H, Global>(rt, rt.alloc(), 3, chares);
     let mut world = world.expect(rt, "out of memory");
-    start(rt, &mut world);
-    execute(rt, &mut world);
-    shelve(rt, &mut world);
-    install(rt, &mut world);
-    forward(rt, &mut world);
+    for (lines, spot, want) in &PARTS {
+        assert!(rt; !take(rt, &mut world, *lines), "refused");
+        let found = bytes_at(rt, &world, *spot);
+        assert_for(rt, found == Some(*want), (*spot, found));
+    }
     drop(world);
 }
 
 #[test]
 fn letters_and_elements_keep_their_bytes_on_the_way(rt: HostRuntime) {
     let chares = three_relays(&rt);
-    script::<Brand>(&rt, chares);
+    play::<Brand>(&rt, chares);
 }

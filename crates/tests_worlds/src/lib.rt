@@ -5,11 +5,9 @@
 #[cfg(test)]
 mod bodies;
 #[cfg(test)]
-mod empty;
+mod couriers;
 #[cfg(test)]
 mod errors;
-#[cfg(test)]
-mod example;
 #[cfg(test)]
 mod fixtures;
 #[cfg(test)]
@@ -17,12 +15,8 @@ mod open_worlds;
 #[cfg(test)]
 mod random;
 #[cfg(test)]
-mod requests;
-#[cfg(test)]
 mod scripts;
 #[cfg(test)]
 mod seen;
 #[cfg(test)]
 mod steps;
-#[cfg(test)]
-mod waiting;

@@ -1,15 +1,16 @@
 //! Numbers, chares and events drawn at random, by a fixed generator: each run draws the same.
 
 use crate::fixtures::{index, pe};
-use chare_index::{Index, Pe, Round};
+use chare_index::Pe;
 use chares::{Chare, Openings};
-use pe_state::PeState;
-use pup_pack::Bytes;
 use rts_core::{Event, World};
 use std::alloc::Allocator;
 use std::process::Abort;
 use tally::Tally;
-use tests_chares::{Courier, Relay};
+use tests_chares::Relay;
+
+// What relays send: each letter goes as many elements further on as the first byte of the one before it says.
+const BODIES: [&[u8]; 5] = [&[], &[1], &[0, 2], &[3, 1, 1], &[255, 2, 5]];
 
 /// The xorshift generator of 64 bits of G. Marsaglia, "Xorshift RNGs", Journal of Statistical Software 8(14), 2003.
 #[derive(Drop)]
@@ -47,21 +48,20 @@ impl Draw {
         &mut self,
         rt: &impl Abort,
         world: &World<C, H, A>,
-        pes: u32,
-        n: u32,
+        size: (u32, u32),
     ) -> Event {
         for _ in 0..12 {
-            let event = self.any_event(rt, pes, n);
+            let event = self.any_event(rt, size);
             if is_likely(world, &event) {
                 return event;
             }
         }
-        self.any_event(rt, pes, n)
+        self.any_event(rt, size)
     }
 
     // Any event of a world of this number of PEs and elements.
-    fn any_event(&mut self, rt: &impl Abort, pes: u32, n: u32) -> Event {
-        let (p, e) = (pe(rt, self.below(pes)), index(rt, self.below(n)));
+    fn any_event(&mut self, rt: &impl Abort, size: (u32, u32)) -> Event {
+        let (p, e) = (pe(rt, self.below(size.0)), index(rt, self.below(size.1)));
         match self.below(12) {
             0 => Event::Start(p, e),
             1 | 2 => Event::Depart(p, e),
@@ -74,21 +74,11 @@ impl Draw {
     pub(crate) fn relays(&mut self, rt: &(impl Abort + AllocGlobal), n: u32) -> Vec<Relay> {
         let mut chares = Vec::new(rt.alloc());
         for _ in 0..n {
-            let body = self.body(rt);
-            let next = Relay::new(12, body).expect(rt, "no relay");
+            let body = BODIES.get(self.below(5) as usize).expect(rt, "no body");
+            let next = Relay::with_body(rt.alloc(), 12, *body).expect(rt, "no relay");
             chares.push(next).expect(rt, "out of memory");
         }
         chares
-    }
-
-    // Up to three bytes.
-    fn body(&mut self, rt: &(impl Abort + AllocGlobal)) -> Bytes {
-        let mut body = Vec::new(rt.alloc());
-        for _ in 0..self.below(4) {
-            let byte = u8::try_from(self.below(256)).unwrap_or(0);
-            body.push(byte).expect(rt, "out of memory");
-        }
-        Bytes::new(body)
     }
 
     /// Tallies of four amounts.
@@ -96,20 +86,7 @@ impl Draw {
         let mut chares = Vec::new(rt.alloc());
         for _ in 0..n {
             let amounts = [self.below(9), self.below(9), self.below(9), self.below(9)];
-            let next = Tally::with_amounts(rt.alloc(), &amounts, 0).expect(rt, "out of memory");
-            chares.push(next).expect(rt, "out of memory");
-        }
-        chares
-    }
-
-    /// Couriers to elements of the array.
-    pub(crate) fn couriers(&mut self, rt: &(impl Abort + AllocGlobal), n: u32) -> Vec<Courier> {
-        let mut chares = Vec::new(rt.alloc());
-        for _ in 0..n {
-            let next = Courier::with_zeros(rt.alloc(), self.below(n), 0, 4).expect(
-                rt,
-                "out of memory",
-            );
+            let next = Tally::with_amounts(rt.alloc(), &amounts, 0).expect(rt, "no tally");
             chares.push(next).expect(rt, "out of memory");
         }
         chares
@@ -139,38 +116,17 @@ fn is_likely<C: Chare<A>, H: Openings<C>, A: Allocator>(
     let (Some(pe), Some(queue)) = (world.pe(p), world.queue(p)) else {
         return false;
     };
-    let decided = world.board().database().round();
     match event {
         Event::Look(_) => pe.wants().is_some(),
         Event::Flush(_) => pe.front_out().is_some(),
-        Event::Deliver(_) => pe.hand().is_none() && !queue.parcels().is_empty(),
-        Event::Act(_) => pe.hand().is_some(),
+        Event::Deliver(_) => pe.as_end().hand().is_none() && !queue.parcels().is_empty(),
+        Event::Act(_) => pe.as_end().hand().is_some(),
         Event::Report(_) => pe.next_note().is_some(),
-        Event::Start(_, e) => starts(pe, *e),
-        Event::Depart(_, e) | Event::Resume(_, e) => waits(pe, *e, decided),
+        Event::Start(_, e) => pe.room().element(*e).is_some() && !pe.may_depart(*e),
+        Event::Depart(_, e) | Event::Resume(_, e) => match pe.waits_for(*e) {
+            Some(round) => world.board().kept_for(round).is_some(),
+            None => false,
+        },
         Event::Decide => false,
-    }
-}
-
-// Whether an element that has not started is on this PE.
-fn starts<C: Chare<A>, H: Openings<C>, A: Allocator>(pe: &PeState<C, H, A>, e: Index) -> bool {
-    match pe.room().element(e) {
-        Some(element) => !element.progress().started,
-        None => false,
-    }
-}
-
-// Whether an element is on this PE that waits for the end of a round before the present one.
-fn waits<C: Chare<A>, H: Openings<C>, A: Allocator>(
-    pe: &PeState<C, H, A>,
-    e: Index,
-    present: Round,
-) -> bool {
-    match pe.room().element(e) {
-        Some(element) => {
-            let progress = element.progress();
-            progress.synced && progress.round.get().saturating_add(1) < present.get()
-        }
-        None => false,
     }
 }

@@ -3,13 +3,13 @@
 use crate::fixtures::assert_for;
 use crate::seen::{Place, Seen, count};
 use at_sync::Board;
-use chare_index::{Index, Pe, Round};
+use chare_index::{Index, Round};
 use chares::TraceEntry;
-use lb_refinement::Refined;
 use std::alloc::Allocator;
 use std::process::Abort;
 
-/// What has to hold when an entry is added to the trace, with what is seen then, and the entries before it.
+/// What has to hold when an entry is added to the trace, with what is seen then, and the entries before it: a round is
+/// decided once, and an element goes on after a round once.
 pub(crate) fn barrier<A: Allocator>(
     rt: &impl Abort,
     board: &Board<A>,
@@ -18,13 +18,22 @@ pub(crate) fn barrier<A: Allocator>(
     report: &TraceEntry,
 ) {
     match report {
-        TraceEntry::Resumed(e, round) => resumed(rt, board, seen, before, *e, *round),
-        TraceEntry::Decided(round) => decided(rt, board, seen, before, *round),
+        TraceEntry::Resumed(e, round) => {
+            assert_for(rt, count(before, *report) == 0, *report);
+            if round.get() != 0 {
+                resumed(rt, board, seen, before, *e, *round);
+            }
+        }
+        TraceEntry::Decided(round) => {
+            assert_for(rt, count(before, *report) == 0, *report);
+            all_synced(rt, seen, before, *round);
+            decided(rt, board, seen, *round);
+        }
         _ => {}
     }
 }
 
-// An element goes on after a round once; all have reported in that round, and it is at its place.
+// An element goes on after a round that was decided, for which all have reported, and is at its place.
 fn resumed<A: Allocator>(
     rt: &impl Abort,
     board: &Board<A>,
@@ -33,85 +42,38 @@ fn resumed<A: Allocator>(
     e: Index,
     round: Round,
 ) {
-    assert_for(
-        rt,
-        count(before, TraceEntry::Resumed(e, round)) == 0,
-        (e, round),
-    );
-    if round.get() == 0 {
-        return;
-    }
-    assert_for(
-        rt,
-        count(before, TraceEntry::Decided(round)) == 1,
-        (e, round),
-    );
+    let times = count(before, TraceEntry::Decided(round));
+    assert_for(rt, times == 1, round);
     all_synced(rt, seen, before, round);
-    let decision = board.decision_for(round).expect(rt, "no decision");
-    let place = place_in(decision, e).expect(rt, "no place");
+    let place = board.place_for(round, e).expect(rt, "no place");
     let stands = count(seen, Seen::Stands(Place::Room(place), e));
-    assert_for(rt, stands == 1, (e, round));
+    assert_for(rt, stands == 1, e);
 }
 
 fn all_synced(rt: &impl Abort, seen: &[Seen], before: &[TraceEntry], round: Round) {
     for one in seen {
-        if let Seen::Word(x, _, _) = one {
-            assert_for(
-                rt,
-                count(before, TraceEntry::Synced(*x, round)) == 1,
-                (*x, round),
-            );
+        if let Seen::Word(e, _) = one {
+            let times = count(before, TraceEntry::Synced(*e, round));
+            assert_for(rt, times == 1, *e);
         }
     }
 }
 
-// The place of an element in a decision: that of the last block that begins at it or before it.
-fn place_in<A: Allocator>(decision: &Refined<A>, e: Index) -> Option<Pe> {
-    let mut begun: usize = 0;
-    for cut in decision.cuts() {
-        if *cut <= e.get() {
-            begun = begun.saturating_add(1);
-        }
-    }
-    let block = begun.checked_sub(1)?;
-    let name = decision.names().get(block)?;
-    Pe::new(*name)
-}
-
-// A round is decided once, when all have reported, for the PEs on which they are.
-fn decided<A: Allocator>(
-    rt: &impl Abort,
-    board: &Board<A>,
-    seen: &[Seen],
-    before: &[TraceEntry],
-    round: Round,
-) {
-    assert_for(rt, count(before, TraceEntry::Decided(round)) == 0, round);
-    all_synced(rt, seen, before, round);
-    let (snapshot, _) = board.rounds().last().expect(rt, "no round");
-    assert_for(rt, snapshot.step() == round.get(), round);
+// A round is decided for the PEs on which the elements are.
+fn decided<A: Allocator>(rt: &impl Abort, board: &Board<A>, seen: &[Seen], round: Round) {
+    let (snapshot, _) = board.kept_for(round).expect(rt, "no round");
     for one in seen {
-        if let Seen::Word(e, _, _) = one {
+        if let Seen::Word(e, _) = one {
             let size = snapshot.sizes().as_slice().get(e.get() as usize);
             let (_, place) = *size.expect(rt, "not in the snapshot");
-            assert_for(
-                rt,
-                count(seen, Seen::Stands(Place::Room(place), *e)) == 1,
-                *e,
-            );
+            let stands = count(seen, Seen::Stands(Place::Room(place), *e));
+            assert_for(rt, stands == 1, *e);
         }
     }
 }
 
-/// A letter was forwarded at most as often as its element has departed since it was posted, and as its hops say; and
-/// the element of a letter on a shelf is on its way to that PE.
-pub(crate) fn chase(rt: &impl Abort, seen: &[Seen], trace: &[TraceEntry]) {
-    chase_posted(rt, trace);
-    chase_waiting(rt, seen, trace);
-}
-
-// Each letter was forwarded at most as often as its element has departed since it was posted.
-fn chase_posted(rt: &impl Abort, trace: &[TraceEntry]) {
+/// Each letter was forwarded at most as often as its element has departed since it was posted.
+pub(crate) fn chase_posted(rt: &impl Abort, trace: &[TraceEntry]) {
     for report in trace {
         if let TraceEntry::Posted(id, to) = report {
             let departures = count_after(trace, *report, TraceEntry::Departed(*to));
@@ -121,22 +83,18 @@ fn chase_posted(rt: &impl Abort, trace: &[TraceEntry]) {
     }
 }
 
-// Each letter that waits was forwarded as often as its hops say, and may wait where it is.
-fn chase_waiting(rt: &impl Abort, seen: &[Seen], trace: &[TraceEntry]) {
+/// Each letter that waits was forwarded as often as its hops say. The element of a letter on a shelf is on its way to that
+/// PE.
+pub(crate) fn chase_waiting(rt: &impl Abort, seen: &[Seen], trace: &[TraceEntry]) {
     for one in seen {
-        if let Seen::Waits(place, id, to, hops, _) = one {
-            let forwarded = count(trace, TraceEntry::Forwarded(*id));
-            assert_for(rt, forwarded == *hops as usize, *id);
-            assert_for(rt, may_wait(seen, *place, *to), (*id, *to));
+        if let Seen::Waits(place, id, to, hops) = one {
+            let times = count(trace, TraceEntry::Forwarded(*id));
+            assert_for(rt, times == *hops as usize, *id);
+            if let Place::Shelf(p) = place {
+                let comes = count(seen, Seen::Stands(Place::Bound(*p), *to));
+                assert_for(rt, comes == 1, *to);
+            }
         }
-    }
-}
-
-// Whether a letter for this element may wait here: on a shelf, where the element is on its way to that PE.
-fn may_wait(seen: &[Seen], place: Place, to: Index) -> bool {
-    match place {
-        Place::Shelf(p) => is_coming(seen, to, p),
-        _ => true,
     }
 }
 
@@ -145,34 +103,10 @@ fn count_after(trace: &[TraceEntry], first: TraceEntry, second: TraceEntry) -> u
     let mut after = false;
     let mut number: usize = 0;
     for report in trace {
-        let (is_first, is_second) = (*report == first, *report == second);
-        if after && is_second {
+        if after && *report == second {
             number = number.saturating_add(1);
         }
-        if is_first {
-            after = true;
-        }
+        after |= *report == first;
     }
     number
-}
-
-// Whether an element is on its way to a PE.
-fn is_coming(seen: &[Seen], e: Index, p: Pe) -> bool {
-    for one in seen {
-        if let Seen::Stands(place, other) = one {
-            if *other == e {
-                return leads_to(*place, p);
-            }
-        }
-    }
-    false
-}
-
-fn leads_to(place: Place, p: Pe) -> bool {
-    match place {
-        Place::Hand(at, _) => at == p,
-        Place::Queue(at) => at == p,
-        Place::Outbox(_, address) => address == Some(p),
-        _ => false,
-    }
 }
