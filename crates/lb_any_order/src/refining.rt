@@ -40,7 +40,8 @@ pub fn refine_in_any_order<A: Allocator + Copy, B: Allocator>(
     requires few_pes { pes ≤ Limits.PES }
     ensures reordering { IfOk result (IsReordering snapshot.now.loads snapshot.now.sizes pes tolerance) }
     ensures within { IfOk result (λ r. peak snapshot.now.loads (reordering_cuts r) ≤ limit_of (reordering_least r) tolerance) }
-    ensures no_more { IfOk result (λ r. (other : Refined A) → IsRefined snapshot.now.loads snapshot.now.sizes pes tolerance other → reordering_moved r ≤ refined_moved other) }
+    ensures no_more { IfOk result (λ r. (other : Refined A) → IsRefined snapshot.now.loads snapshot.now.sizes pes tolerance other
+        → reordering_moved r ≤ refined_moved other) }
     ensures places { IfOk result (λ r. (i : ℕ) → i < length snapshot.now.sizes → HasPlaceBelow pes (reordering_cuts r) (reordering_names r) i) }
 {
     let refined = refine(alloc, snapshot, pes, tolerance)?;

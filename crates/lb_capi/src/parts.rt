@@ -160,7 +160,8 @@ pub extern "C" fn tezgumi_part_narrow(
     ensures statuses { (result ≡ pos 0) ⊎ (result ≡ negsuc 0) }
     ensures low { result ≡ pos 0 → IsRaised pes (length limits.now) limits.now closed.now low.old low.new }
     ensures high { result ≡ pos 0 → IsLowered pes (length limits.now) limits.now closed.now high.old high.new }
-    ensures encloses { result ≡ pos 0 → (loads : List ℕ) → AreWalked loads pes limits.now closed.now → Enclose loads pes low.old high.old → Enclose loads pes low.new high.new }
+    ensures encloses { result ≡ pos 0 → (loads : List ℕ) → AreWalked loads pes limits.now closed.now → Enclose loads pes low.old high.old
+        → Enclose loads pes low.new high.new }
     ensures input { result ≡ negsuc 0 ↔ ¬ (AreTried pes limits.now closed.now) }
     ensures kept { result ≢ pos 0 → (low.new ≡ low.old) × (high.new ≡ high.old) }
 {
@@ -415,7 +416,8 @@ pub extern "C" fn tezgumi_name(
     ensures least { result ≡ pos 0 → IsFirstCheapest pes (held_moved pes held.now) names.new }
     ensures moved { result ≡ pos 0 → moved.new ≡ held_moved pes held.now names.new }
     ensures proved { result ≡ pos 0 → Proves pes (held_cost pes held.now) moved.new block_prices.new pe_prices.new }
-    ensures bounded { result ≡ pos 0 → (most : ℕ) → ((b p : ℕ) → b < pes → p < pes → held_cost pes held.now b p ≤ most) → AreWithin most block_prices.new pe_prices.new }
+    ensures bounded { result ≡ pos 0 → (most : ℕ) → ((b p : ℕ) → b < pes → p < pes → held_cost pes held.now b p ≤ most)
+        → AreWithin most block_prices.new pe_prices.new }
     ensures of_blocks { WhereHeld pes held.now (λ sizes cuts. result ≡ pos 0 → IsLeastNaming sizes cuts pes names.new) }
     ensures moved_of_blocks { WhereHeld pes held.now (λ sizes cuts. result ≡ pos 0 → moved.new ≡ bytes_moved sizes cuts names.new) }
     ensures input { result ≡ negsuc 0 ↔ ¬ (IsNamesAsked pes held.now names.old block_prices.old pe_prices.old) }

@@ -60,7 +60,8 @@ pub fn replay_file<A: Allocator + Copy, R: Read + Drop, W: Write>(
 ) -> (Ended, Option<io::Error>)
     requires some_pe { ForSome procs (λ p. 1 ≤ p) }
     requires few_pes { ForSome procs (λ p. p ≤ Limits.PES) }
-    ensures opened { IfOk file (λ file. (rest : Option (List ℕ)) × EndsReplay A (R.remaining file) rest procs tolerance (W.contents writer.old) (W.contents writer.new) result.0) }
+    ensures opened { IfOk file (λ file. (rest : Option (List ℕ))
+        × EndsReplay A (R.remaining file) rest procs tolerance (W.contents writer.old) (W.contents writer.new) result.0) }
     ensures unopened { IfErr file (λ _. ReportsUnread (W.contents writer.old) (W.contents writer.new) result.0) }
     ensures reason { IfErr file (λ reason. result.1 ≡ Some reason) }
 {

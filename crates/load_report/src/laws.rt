@@ -14,6 +14,7 @@ use std::alloc::Allocator;
 pub fn report_laws<A: Allocator>()
     ensures planned_greatest { (loads : List ℕ) (sizes : List (ℕ × ℕ)) (pes : ℕ) (d : Decision A) → length loads ≡ length sizes → IsRight loads sizes pes d
         → greatest pes (load_of loads (planned_places d.division.cuts d.naming (length sizes))) ≡ d.division.bottleneck }
-    ensures refined_greatest { (loads : List ℕ) (sizes : List (ℕ × ℕ)) (pes tolerance : ℕ) (r : Refined A) → length loads ≡ length sizes → IsRefined loads sizes pes tolerance r
+    ensures refined_greatest { (loads : List ℕ) (sizes : List (ℕ × ℕ)) (pes tolerance : ℕ) (r : Refined A) → length loads ≡ length sizes
+        → IsRefined loads sizes pes tolerance r
         → greatest pes (load_of loads (planned_places (refined_cuts r) (refined_names r) (length sizes))) ≤ limit_of (refined_least r).bottleneck tolerance }
 {}

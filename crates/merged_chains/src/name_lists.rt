@@ -32,7 +32,8 @@ pub fn name_table<A: Allocator + Copy>(
     ensures least { OnOk result (IsFirstCheapest pes (held_moved pes held.now) names.new) }
     ensures moved { IfOk result (λ moved. moved ≡ held_moved pes held.now names.new) }
     ensures proved { IfOk result (λ moved. Proves pes (held_cost pes held.now) moved block_prices.new pe_prices.new) }
-    ensures bounded { IfOk result (λ _. (most : ℕ) → ((b p : ℕ) → b < pes → p < pes → held_cost pes held.now b p ≤ most) → AreWithin most block_prices.new pe_prices.new) }
+    ensures bounded { IfOk result (λ _. (most : ℕ) → ((b p : ℕ) → b < pes → p < pes → held_cost pes held.now b p ≤ most)
+        → AreWithin most block_prices.new pe_prices.new) }
     ensures of_blocks { WhereHeld pes held.now (λ sizes cuts. OnOk result (IsLeastNaming sizes cuts pes names.new)) }
     ensures moved_of_blocks { WhereHeld pes held.now (λ sizes cuts. IfOk result (λ moved. moved ≡ bytes_moved sizes cuts names.new)) }
     ensures asked { OnOk result (IsNamesAsked pes held.now names.old block_prices.old pe_prices.old) }

@@ -1,20 +1,27 @@
 -- What Act comes to on a parcel that was taken out of the hand.
 use Rattle.pup_pack.specs.declared.error.PupError.{PupError}
 use Rattle.std.proofs.Common.{◌≡◌, ℕ, List, Option, [], ◌∷◌, Some, None, MatchOption, option_map, IsSome, is_some, true, false, Result, Ok, Err, IsOk, OnErr, IfErr, refl, ap, sym, subst, Bool, not, if◌then◌else◌, ◌∙◌}
+use Rattle.std.specs.Result.{IsErr}
 use Rattle.chares.specs.Elements.{ElementView, PackedView}
 use Rattle.chares.specs.Letters.{LetterView}
 use Rattle.chares.specs.Steps.{Step}
 use Rattle.chares.specs.declared.carried.Carried.TheVariants.{Letter, Element}
 use Rattle.chares.specs.declared.progress.Progress.{Progress}
 use Rattle.chares.specs.declared.sends.SendError.{SendError}
+use Rattle.pe_state.specs.declared.acted.Acted.{Acted}
 use Rattle.pe_state.specs.declared.acted.Acted.TheVariants.{Installed}
+use Rattle.chares.specs.Posting.{traced}
+use Rattle.chares.specs.declared.trace_entry.TraceEntry.{TraceEntry}
 use Rattle.chares.specs.declared.trace_entry.TraceEntry.TheVariants as Trace
-use Rattle.pe_state.specs.Pes.{PeView, Item, Parcel, Acting, installed, passing, executed, on_letter, on_element, on_parcel, installing, acting, acting_on, pe_after, held}
+use Rattle.pe_state.specs.Acts.{Acts, Traces}
+use Rattle.pe_state.specs.Pes.{PeView, Item, Parcel, Acting, installed, passing, executed, on_letter, on_element, on_parcel, installing, acting, acting_on, acted_of, pe_after, trace_of, held}
 use Rattle.pe_state.specs.Refusals.{RefusesStep, RefusesAct, RefusesParcel}
 use Rattle.pe_state.specs.Rooms.{found}
 use Rattle.chares.specs.Elements.{Refuses}
 use Rattle.pe_state.specs.declared.error.StepError.{StepError}
 use Rattle.pe_state.specs.declared.error.StepError.TheVariants.{OutOfMemory}
+use Rattle.pe_state.proofs.Keeping.{no_answer, no_value}
+use Rattle.pe_state.proofs.Traces.{traced_none}
 
 -- The PE v has the item x in its hand, which is this parcel and this look.
 pub record Holds {C : Type 0} (pe v : PeView C) (x : Item) (parcel : Parcel) (look : Option ℕ) : Type 0 where
@@ -128,3 +135,25 @@ memory_is_reason R error e = subst (λ (v : StepError). RefusesStep R v) (sym e)
 pub memory_refuses : {T : Type 0} (R : SendError → Type 0) (r : Result T StepError) → IfErr r (λ error. error ≡ OutOfMemory) → IfErr r (RefusesStep R)
 memory_refuses R (Ok x) h = tt
 memory_refuses R (Err error) h = memory_is_reason R error h
+
+-- What a call returns: that nothing was to be done, that it did what was, or an error.
+module _ {C : Type 0} (acting : Option (Acting C)) (before after : PeView C) where
+  pub did_nothing : acting ≡ None → after ≡ before → Acts (Ok None) acting before after
+  did_nothing none same = record { answer = sym (ap acted_of none); ok = same ∙ sym (ap (pe_after before) none); err = tt; enabled = tt }
+
+  pub did : (a : Acting C) → acting ≡ Some a → after ≡ a.pe → Acts (Ok (Some a.acted)) acting before after
+  did a some new = record { answer = sym (ap acted_of some); ok = new ∙ sym (ap (pe_after before) some); err = tt; enabled = tt }
+
+  pub did_not : (result : Result (Option Acted) StepError) → IsErr result → IsSome acting → after ≡ before → Acts result acting before after
+  did_not result is_err some same = record { answer = no_value _ _ is_err; ok = no_answer _ _ is_err; err = whatever _ _ same; enabled = whatever _ _ some }
+
+-- So for its trace.
+module _ {T E : Type 0} (tracing : Bool) (before after : List TraceEntry) where
+  pub traced_nothing : {C : Type 0} (x : T) (acting : Option (Acting C)) → acting ≡ None → after ≡ before → Traces {T = T} {E = E} (Ok x) tracing (trace_of acting) before after
+  traced_nothing x acting none same = record { ok = same ∙ traced_none tracing before ∙ sym (ap (λ a. traced tracing before (trace_of a)) none); err = tt }
+
+  pub traced_so : {C : Type 0} (x : T) (acting : Option (Acting C)) (a : Acting C) → acting ≡ Some a → after ≡ traced tracing before a.trace → Traces {T = T} {E = E} (Ok x) tracing (trace_of acting) before after
+  traced_so x acting a some new = record { ok = new ∙ sym (ap (λ a. traced tracing before (trace_of a)) some); err = tt }
+
+  pub untraced : (result : Result T E) (entries : List TraceEntry) → IsErr result → after ≡ before → Traces result tracing entries before after
+  untraced result entries is_err same = record { ok = no_answer _ _ is_err; err = whatever _ _ same }

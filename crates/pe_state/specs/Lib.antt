@@ -1,3 +1,4 @@
+pub mod Acts
 pub mod Histories
 pub mod InOrder
 pub mod Pes

@@ -8,7 +8,8 @@ ghost use Rattle.chare_index.specs.declared.limits.TheConstants.Limits.{LETTERS}
 ghost use Rattle.chares.specs.declared.entry.Entry.{Entry};
 ghost use Rattle.chares.specs.declared.trace_entry.TraceEntry.{TraceEntry};
 ghost use Rattle.chares.specs.declared.sends.SendError.TheVariants.{OutOfMemory};
-ghost use Rattle.chares.specs.Posting.{letters_of, posts_of, traced};
+ghost use Rattle.chares.specs.Posting.{letters_of, posts_of};
+ghost use Rattle.pe_state.specs.Acts.{Traces};
 ghost use Rattle.pe_state.specs.Rooms.{found, ran_in, sends_in, execution_entries, resumption_entries, note_in, RefusesIn};
 
 use crate::parcel::Item;
@@ -42,13 +43,12 @@ pub(crate) fn execute<C: Chare<A>, A: Allocator + Copy, G: Gate>(
     ensures note { IfOk result (λ note. note ≡ note_in C.step C.pack room.old letter.to n me (Entry.Letter letter)) }
     ensures outbox { OnOk result (outbox.new.items ≡ outbox.old.items ++ letters_of me count.old (sends_in C.step C.pack room.old letter.to n (Entry.Letter letter))) }
     ensures count { OnOk result (count.new ≡ count.old + length (sends_in C.step C.pack room.old letter.to n (Entry.Letter letter))) }
-    ensures trace { OnOk result (trace.new.items ≡ traced tracing trace.old.items (execution_entries C.step C.pack room.old n me count.old letter)) }
+    ensures traces { Traces result tracing (execution_entries C.step C.pack room.old n me count.old letter) trace.old.items trace.new.items }
     ensures numbered { count.new ≤ LETTERS }
     ensures place { deque_len outbox.new < deque_capacity outbox.new }
     ensures same_room { OnErr result (room.new ≡ room.old) }
     ensures same_outbox { OnErr result (outbox.new.items ≡ outbox.old.items) }
     ensures same_count { OnErr result (count.new ≡ count.old) }
-    ensures same_trace { OnErr result (trace.new.items ≡ trace.old.items) }
     ensures letter { IfErr result (λ unread. unread.letter ≡ letter) }
     ensures refused { IfErr result (λ unread. unread.error ≢ OutOfMemory → RefusesIn C.refuses room.old letter.to n count.old (Entry.Letter letter.body) unread.error) }
 {
@@ -88,13 +88,12 @@ pub(crate) fn resume<C: Chare<A>, A: Allocator + Copy, G: Gate>(
     ensures note { IfOk result (λ note. note ≡ note_in C.step C.pack room.old index n me (Entry.Resumption round)) }
     ensures outbox { OnOk result (outbox.new.items ≡ outbox.old.items ++ letters_of me count.old (sends_in C.step C.pack room.old index n (Entry.Resumption round))) }
     ensures count { OnOk result (count.new ≡ count.old + length (sends_in C.step C.pack room.old index n (Entry.Resumption round))) }
-    ensures trace { OnOk result (trace.new.items ≡ traced tracing trace.old.items (resumption_entries C.step C.pack room.old index n me count.old round)) }
+    ensures traces { Traces result tracing (resumption_entries C.step C.pack room.old index n me count.old round) trace.old.items trace.new.items }
     ensures numbered { count.new ≤ LETTERS }
     ensures place { deque_len outbox.new < deque_capacity outbox.new }
     ensures same_room { OnErr result (room.new ≡ room.old) }
     ensures same_outbox { OnErr result (outbox.new.items ≡ outbox.old.items) }
     ensures same_count { OnErr result (count.new ≡ count.old) }
-    ensures same_trace { OnErr result (trace.new.items ≡ trace.old.items) }
     ensures refused { IfErr result (λ error. error ≢ OutOfMemory → RefusesIn C.refuses room.old index n count.old (Entry.Resumption round) error) }
 {
     let lent = replace(outbox, VecDeque::new(alloc));

@@ -126,7 +126,8 @@ impl<C: Chare<A>, H: Openings<C>, A: Allocator + Copy> World<C, H, A> {
         ensures sent { AreSent C.step H.opened self.new }
         ensures counted { IsCounted self.new }
         ensures account { IfOk result
-            (λ reports. (events : List Event) (trace : List TraceEntry) → Reaches C.step C.pack C.unpack (opening_world H.pes H.opened self.old.board.strategy) events (self.old, trace)
+            (λ reports. (events : List Event) (trace : List TraceEntry)
+            → Reaches C.step C.pack C.unpack (opening_world H.pes H.opened self.old.board.strategy) events (self.old, trace)
             → Accounted (length H.opened) self.new (trace ++ reports)) }
     {
         let Some(p) = event.pe() else {

@@ -2,7 +2,7 @@
 
 ghost use Rattle.std.specs.Prelude.{◌≡◌, ℕ, ◌++◌, ◌∷◌, [], ◌<◌, ◌≤◌, List, length, IfOk, IfErr, OnOk, OnErr, IfSome, IsSome, IsTrue, ◌↔◌, Ok, None, Some, true, if◌then◌else◌};
 ghost use Rattle.std.specs.VecDeque.{deque_len, deque_capacity};
-ghost use Rattle.chares.specs.Posting.{traced};
+ghost use Rattle.pe_state.specs.Acts.{Acts, Traces};
 ghost use Rattle.pe_state.specs.Pes.{PeView, acting, acted_of, pe_after, trace_of, acting_on_letter, acting_on_element, held, received, has_started, executed, passing, shelving, forwarding, installed};
 ghost use Rattle.pe_state.specs.Refusals.{RefusesStep, RefusesAct, RefusesParcel};
 ghost use Rattle.pe_state.specs.Rooms.{found};
@@ -41,10 +41,7 @@ impl<C: Chare<A>, H: Openings<C>, A: Allocator + Copy> PeState<C, H, A> {
     /// The PE is as it was on any of them, and the parcel stays in its hand. [`OutOfMemory`](StepError::OutOfMemory), or
     /// what the handler returns.
     pub fn act<G: Gate>(&mut self, gate: &G) -> Result<Option<Acted>, StepError>
-        ensures answer { IfOk result (λ acted. acted ≡ acted_of (acting C.step C.pack C.unpack self.old)) }
-        ensures ok { OnOk result (self.new ≡ pe_after self.old (acting C.step C.pack C.unpack self.old)) }
-        ensures err { OnErr result (self.new ≡ self.old) }
-        ensures enabled { OnErr result (IsSome (acting C.step C.pack C.unpack self.old)) }
+        ensures acts { Acts result (acting C.step C.pack C.unpack self.old) self.old self.new }
         ensures refused { IfErr result (RefusesStep (RefusesAct C.refuses self.old)) }
     {
         let mut trace = Vec::new(self.alloc);
@@ -58,13 +55,9 @@ impl<C: Chare<A>, H: Openings<C>, A: Allocator + Copy> PeState<C, H, A> {
         gate: &G,
         trace: &mut Vec<TraceEntry, A>,
     ) -> Result<Option<Acted>, StepError>
-        ensures answer { IfOk result (λ acted. acted ≡ acted_of (acting C.step C.pack C.unpack self.old)) }
-        ensures ok { OnOk result (self.new ≡ pe_after self.old (acting C.step C.pack C.unpack self.old)) }
-        ensures err { OnErr result (self.new ≡ self.old) }
-        ensures enabled { OnErr result (IsSome (acting C.step C.pack C.unpack self.old)) }
+        ensures acts { Acts result (acting C.step C.pack C.unpack self.old) self.old self.new }
         ensures refused { IfErr result (RefusesStep (RefusesAct C.refuses self.old)) }
-        ensures trace { OnOk result (trace.new.items ≡ trace.old.items ++ trace_of (acting C.step C.pack C.unpack self.old)) }
-        ensures same_trace { OnErr result (trace.new.items ≡ trace.old.items) }
+        ensures traces { Traces result true (trace_of (acting C.step C.pack C.unpack self.old)) trace.old.items trace.new.items }
     {
         self.act_with(gate, true, trace)
     }
@@ -76,13 +69,9 @@ impl<C: Chare<A>, H: Openings<C>, A: Allocator + Copy> PeState<C, H, A> {
         tracing: bool,
         trace: &mut Vec<TraceEntry, A>,
     ) -> Result<Option<Acted>, StepError>
-        ensures answer { IfOk result (λ acted. acted ≡ acted_of (acting C.step C.pack C.unpack self.old)) }
-        ensures ok { OnOk result (self.new ≡ pe_after self.old (acting C.step C.pack C.unpack self.old)) }
-        ensures err { OnErr result (self.new ≡ self.old) }
-        ensures enabled { OnErr result (IsSome (acting C.step C.pack C.unpack self.old)) }
+        ensures acts { Acts result (acting C.step C.pack C.unpack self.old) self.old self.new }
         ensures refused { IfErr result (RefusesStep (RefusesAct C.refuses self.old)) }
-        ensures trace { OnOk result (trace.new.items ≡ traced tracing trace.old.items (trace_of (acting C.step C.pack C.unpack self.old))) }
-        ensures same_trace { OnErr result (trace.new.items ≡ trace.old.items) }
+        ensures traces { Traces result tracing (trace_of (acting C.step C.pack C.unpack self.old)) trace.old.items trace.new.items }
     {
         let end = &mut self.end;
         let Some(Addressed { parcel, address }) = end.hand.take() else {
@@ -172,13 +161,9 @@ impl<C: Chare<A>, H: Openings<C>, A: Allocator + Copy> PeState<C, H, A> {
     ) -> Result<Option<Acted>, StepError>
         requires empty { self.old.hand ≡ None }
         requires below { IsBelow H.pes look }
-        ensures answer { IfOk result (λ acted. acted ≡ acted_of (acting_on_letter C.step C.pack self.old letter look)) }
-        ensures ok { OnOk result (self.new ≡ pe_after (held self.old (Carried.Letter letter) look) (acting_on_letter C.step C.pack self.old letter look)) }
-        ensures err { OnErr result (self.new ≡ held self.old (Carried.Letter letter) look) }
-        ensures enabled { OnErr result (IsSome (acting_on_letter C.step C.pack self.old letter look)) }
+        ensures acts { Acts result (acting_on_letter C.step C.pack self.old letter look) (held self.old (Carried.Letter letter) look) self.new }
         ensures refused { IfErr result (RefusesStep (RefusesParcel C.refuses self.old (Carried.Letter letter))) }
-        ensures trace { OnOk result (trace.new.items ≡ traced tracing trace.old.items (trace_of (acting_on_letter C.step C.pack self.old letter look))) }
-        ensures same_trace { OnErr result (trace.new.items ≡ trace.old.items) }
+        ensures traces { Traces result tracing (trace_of (acting_on_letter C.step C.pack self.old letter look)) trace.old.items trace.new.items }
     {
         let Some(element) = self.end.room().element(letter.to()) else {
             return self.pass_on(letter, look, tracing, trace);
@@ -206,8 +191,7 @@ impl<C: Chare<A>, H: Openings<C>, A: Allocator + Copy> PeState<C, H, A> {
         ensures ok { OnOk result (self.new ≡ (executed C.step C.pack self.old letter).pe) }
         ensures err { OnErr result (self.new ≡ held self.old (Carried.Letter letter) look) }
         ensures refused { IfErr result (RefusesStep (RefusesParcel C.refuses self.old (Carried.Letter letter))) }
-        ensures trace { OnOk result (trace.new.items ≡ traced tracing trace.old.items (executed C.step C.pack self.old letter).trace) }
-        ensures same_trace { OnErr result (trace.new.items ≡ trace.old.items) }
+        ensures traces { Traces result tracing (executed C.step C.pack self.old letter).trace trace.old.items trace.new.items }
     {
         let end = &mut self.end;
         let Ok(()) = end.notes.reserve(1) else {
@@ -254,13 +238,9 @@ impl<C: Chare<A>, H: Openings<C>, A: Allocator + Copy> PeState<C, H, A> {
     ) -> Result<Option<Acted>, StepError>
         requires empty { self.old.hand ≡ None }
         requires below { IsBelow H.pes look }
-        ensures answer { IfOk result (λ acted. acted ≡ acted_of (passing self.old letter look)) }
-        ensures ok { OnOk result (self.new ≡ pe_after (held self.old (Carried.Letter letter) look) (passing self.old letter look)) }
-        ensures err { OnErr result (self.new ≡ held self.old (Carried.Letter letter) look) }
-        ensures enabled { OnErr result (IsSome (passing self.old letter look)) }
+        ensures acts { Acts result (passing self.old letter look) (held self.old (Carried.Letter letter) look) self.new }
         ensures only_memory { IfErr result (λ error. error ≡ OutOfMemory) }
-        ensures trace { OnOk result (trace.new.items ≡ traced tracing trace.old.items (trace_of (passing self.old letter look))) }
-        ensures same_trace { OnErr result (trace.new.items ≡ trace.old.items) }
+        ensures traces { Traces result tracing (trace_of (passing self.old letter look)) trace.old.items trace.new.items }
     {
         let Some(to) = look else {
             self.hold(Carried::Letter(letter), look);
@@ -286,8 +266,7 @@ impl<C: Chare<A>, H: Openings<C>, A: Allocator + Copy> PeState<C, H, A> {
         requires below { look < H.pes }
         ensures ok { OnOk result (self.new ≡ (shelving self.old letter).pe) }
         ensures err { OnErr result (self.new ≡ held self.old (Carried.Letter letter) (Some look)) }
-        ensures trace { OnOk result (trace.new.items ≡ traced tracing trace.old.items (shelving self.old letter).trace) }
-        ensures same_trace { OnErr result (trace.new.items ≡ trace.old.items) }
+        ensures traces { Traces result tracing (shelving self.old letter).trace trace.old.items trace.new.items }
     {
         let end = &mut self.end;
         let Ok(()) = reserve_entry(trace, tracing) else {
@@ -317,8 +296,7 @@ impl<C: Chare<A>, H: Openings<C>, A: Allocator + Copy> PeState<C, H, A> {
         requires below { to < H.pes }
         ensures ok { OnOk result (self.new ≡ (forwarding self.old letter to).pe) }
         ensures err { OnErr result (self.new ≡ held self.old (Carried.Letter letter) (Some to)) }
-        ensures trace { OnOk result (trace.new.items ≡ traced tracing trace.old.items (forwarding self.old letter to).trace) }
-        ensures same_trace { OnErr result (trace.new.items ≡ trace.old.items) }
+        ensures traces { Traces result tracing (forwarding self.old letter to).trace trace.old.items trace.new.items }
     {
         let end = &mut self.end;
         let Ok(()) = reserve_entry(trace, tracing) else {
@@ -353,13 +331,9 @@ impl<C: Chare<A>, H: Openings<C>, A: Allocator + Copy> PeState<C, H, A> {
         requires empty { self.old.hand ≡ None }
         requires below { IsBelow H.pes look }
         requires consistent { IsPackedHistory C.step C.fits C.pack H.opened element }
-        ensures answer { IfOk result (λ acted. acted ≡ acted_of (acting_on_element C.step C.pack C.unpack self.old element)) }
-        ensures ok { OnOk result (self.new ≡ pe_after (held self.old (Carried.Element element) look) (acting_on_element C.step C.pack C.unpack self.old element)) }
-        ensures err { OnErr result (self.new ≡ held self.old (Carried.Element element) look) }
-        ensures enabled { OnErr result (IsSome (acting_on_element C.step C.pack C.unpack self.old element)) }
+        ensures acts { Acts result (acting_on_element C.step C.pack C.unpack self.old element) (held self.old (Carried.Element element) look) self.new }
         ensures only_memory { IfErr result (λ error. error ≡ OutOfMemory) }
-        ensures trace { OnOk result (trace.new.items ≡ traced tracing trace.old.items (trace_of (acting_on_element C.step C.pack C.unpack self.old element))) }
-        ensures same_trace { OnErr result (trace.new.items ≡ trace.old.items) }
+        ensures traces { Traces result tracing (trace_of (acting_on_element C.step C.pack C.unpack self.old element)) trace.old.items trace.new.items }
     {
         if self.end.room().element(element.index()).is_some() {
             self.hold(Carried::Element(element), look);
@@ -392,8 +366,7 @@ impl<C: Chare<A>, H: Openings<C>, A: Allocator + Copy> PeState<C, H, A> {
         requires history { IsHistory C.step C.pack H.opened (unpacked element chare) }
         ensures ok { OnOk result (self.new ≡ installed self.old element chare) }
         ensures err { OnErr result (self.new ≡ held self.old (Carried.Element element) look) }
-        ensures trace { OnOk result (trace.new.items ≡ traced tracing trace.old.items (TraceEntry.Installed element.index ∷ [])) }
-        ensures same_trace { OnErr result (trace.new.items ≡ trace.old.items) }
+        ensures traces { Traces result tracing (TraceEntry.Installed element.index ∷ []) trace.old.items trace.new.items }
     {
         let end = &mut self.end;
         let Ok(()) = reserve_entry(trace, tracing) else {

@@ -1,7 +1,7 @@
 //! The resumption of an element.
 
 ghost use Rattle.std.specs.Prelude.{◌≡◌, ℕ, ◌++◌, ◌∷◌, [], ◌<◌, ◌≤◌, List, length, IfOk, IfErr, OnOk, OnErr, IfSome, IsSome, Ok, None, Some, true};
-ghost use Rattle.chares.specs.Posting.{traced};
+ghost use Rattle.pe_state.specs.Acts.{Traces};
 ghost use Rattle.pe_state.specs.Pes.{may_resume, resumed, resume_entries};
 ghost use Rattle.pe_state.specs.Refusals.{RefusesStep, RefusesResume};
 
@@ -44,8 +44,7 @@ impl<C: Chare<A>, H: Openings<C>, A: Allocator + Copy> PeState<C, H, A> {
         ensures ok { OnOk result (self.new ≡ resumed C.step C.pack self.old index round) }
         ensures err { OnErr result (self.new ≡ self.old) }
         ensures refused { IfErr result (RefusesStep (RefusesResume C.refuses self.old index round)) }
-        ensures trace { OnOk result (trace.new.items ≡ trace.old.items ++ resume_entries C.step C.pack self.old index round) }
-        ensures same_trace { OnErr result (trace.new.items ≡ trace.old.items) }
+        ensures traces { Traces result true (resume_entries C.step C.pack self.old index round) trace.old.items trace.new.items }
     {
         self.resume_with(gate, index, round, true, trace)
     }
@@ -65,8 +64,7 @@ impl<C: Chare<A>, H: Openings<C>, A: Allocator + Copy> PeState<C, H, A> {
         ensures ok { OnOk result (self.new ≡ resumed C.step C.pack self.old index round) }
         ensures err { OnErr result (self.new ≡ self.old) }
         ensures refused { IfErr result (RefusesStep (RefusesResume C.refuses self.old index round)) }
-        ensures trace { OnOk result (trace.new.items ≡ traced tracing trace.old.items (resume_entries C.step C.pack self.old index round)) }
-        ensures same_trace { OnErr result (trace.new.items ≡ trace.old.items) }
+        ensures traces { Traces result tracing (resume_entries C.step C.pack self.old index round) trace.old.items trace.new.items }
     {
         let end = &mut self.end;
         end.notes.reserve(1)?;

@@ -22,10 +22,10 @@ returns-clause-count g c =
     let all = ap (λ p. p.n) c.lend-sends.ensures.value in
     rw (← all) (count_after _ _ _ _ _ _ _ _ _ c.lend-sends.ensures.value _ _ _ c.give_back-posted.ensures.count c.resume-handled.ensures.sends)
 
-pub returns-clause-trace : goal.returns-clause-trace
-returns-clause-trace g c =
+pub returns-clause-traces : goal.returns-clause-traces
+returns-clause-traces g c =
     let all = ap (λ p. p.n) c.lend-sends.ensures.value in
-    rw (← all) (reports_after _ _ _ _ _ _ _ _ _ c.lend-sends.ensures.value _ _ _ _ c.give_back-posted.ensures.trace (ap (λ d. d.items) c.replace-entries.ensures.value) c.resume-handled.ensures.sends)
+    record { ok = rw (← all) (reports_after _ _ _ _ _ _ _ _ _ c.lend-sends.ensures.value _ _ _ _ c.give_back-posted.ensures.trace (ap (λ d. d.items) c.replace-entries.ensures.value) c.resume-handled.ensures.sends); err = reports_kept _ _ _ _ _ _ _ _ _ c.lend-sends.ensures.value _ _ c.give_back-posted.ensures.trace (ap (λ d. d.items) c.replace-entries.ensures.value) c.resume-handled.ensures.taken_back }
 
 pub returns-clause-numbered : goal.returns-clause-numbered
 returns-clause-numbered g c = rw c.give_back-posted.ensures.count c.give_back-posted.ensures.few
@@ -41,9 +41,6 @@ returns-clause-same_outbox g c = outbox_kept _ _ _ _ _ _ _ _ _ c.lend-sends.ensu
 
 pub returns-clause-same_count : goal.returns-clause-same_count
 returns-clause-same_count g c = count_kept _ _ _ _ _ _ _ _ _ c.lend-sends.ensures.value _ c.give_back-posted.ensures.count c.resume-handled.ensures.taken_back
-
-pub returns-clause-same_trace : goal.returns-clause-same_trace
-returns-clause-same_trace g c = reports_kept _ _ _ _ _ _ _ _ _ c.lend-sends.ensures.value _ _ c.give_back-posted.ensures.trace (ap (λ d. d.items) c.replace-entries.ensures.value) c.resume-handled.ensures.taken_back
 
 pub returns-clause-refused : goal.returns-clause-refused
 returns-clause-refused g c =

@@ -1,5 +1,5 @@
 use Rattle.std.proofs.Common.{rules}
 use Rattle.pe_state.proofs.pe.PeState.act_traced.Goals as goal
 
-pub returns-clause-trace : goal.returns-clause-trace
-returns-clause-trace g c = search rules
+pub returns-clause-traces : goal.returns-clause-traces
+returns-clause-traces g c = search rules

@@ -1,11 +1,10 @@
 use Rattle.chares.specs.declared.carried.Carried.TheVariants.{Letter, Element}
-use Rattle.std.proofs.Common.{Option, IfSome, refl, sym, ap, subst, ◌∙◌}
+use Rattle.std.proofs.Common.{Option, IfSome, refl, sym, subst, ◌∙◌}
 use Rattle.pe_state.specs.Histories.{IsParcelHistory}
-use Rattle.pe_state.specs.Pes.{Item, Parcel, acted_of, pe_after}
+use Rattle.pe_state.specs.Pes.{Item, Parcel}
 use Rattle.pe_state.specs.Standing.{IsHandBelow}
 use Rattle.pe_state.proofs.Histories.{emptied_holds}
-use Rattle.pe_state.proofs.Traces.{traced_none}
-use Rattle.pe_state.proofs.Acting.{Holds, held_again, idle, same_hand, after_same, acting_on_letter, acting_on_element, refuses_letter, memory_refuses}
+use Rattle.pe_state.proofs.Acting.{Holds, held_again, idle, same_hand, did_nothing, traced_nothing, acting_on_letter, acting_on_element, refuses_letter, memory_refuses}
 use Rattle.pe_state.specs.Refusals.{RefusesAct}
 use Rattle.pe_state.proofs.Runs.{same_run}
 use Rattle.pe_state.proofs.pe.PeState.act_with.Goals as goal
@@ -13,44 +12,26 @@ use Rattle.pe_state.proofs.pe.PeState.act_with.Goals as goal
 in_letter : (g : _) (c : goal.After-act_on_letter g) → Holds c.args.self.now (record { me = c.end.inside.me; n = c.end.inside.n; room = c.end.inside.room; hand = c.end.inside.hand; shelf = c.end.inside.shelf.items; outbox = c.end.inside.outbox.items; notes = c.end.inside.notes.items; count = c.end.inside.count; kept = c.end.inside.kept }) c.in-Some.field-0 (Letter c.in-Letter.letter) c.in-Some.field-0.address
 in_letter g c = record { view_is = sym (c.end.view_is ∙ c.self.view_is); in_hand = sym c.take.ensures.value ∙ c.in-Some.is; parcel_is = c.in-Letter.is; look_is = refl }
 
-pub returns-in-Letter-clause-answer : goal.returns-in-Letter-clause-answer
-returns-in-Letter-clause-answer g c = rw (acting_on_letter g.C.Chare.step g.C.Pup.pack g.C.Pup.unpack _ _ c.take.new.self _ _ _ (in_letter g c)) c.act_on_letter.ensures.answer
+pub returns-in-Letter-clause-acts : goal.returns-in-Letter-clause-acts
+returns-in-Letter-clause-acts g c =
+    let same = acting_on_letter g.C.Chare.step g.C.Pup.pack g.C.Pup.unpack _ _ c.take.new.self _ _ _ (in_letter g c) in
+    let again = held_again _ _ c.take.new.self _ _ _ (in_letter g c) in
+    rw same (rw again c.act_on_letter.ensures.acts)
 
-pub returns-in-Letter-clause-ok : goal.returns-in-Letter-clause-ok
-returns-in-Letter-clause-ok g c = rw (after_same _ _ _ _ (held_again _ _ c.take.new.self _ _ _ (in_letter g c)) (acting_on_letter g.C.Chare.step g.C.Pup.pack g.C.Pup.unpack _ _ c.take.new.self _ _ _ (in_letter g c))) c.act_on_letter.ensures.ok
-
-pub returns-in-Letter-clause-err : goal.returns-in-Letter-clause-err
-returns-in-Letter-clause-err g c = rw (held_again _ _ c.take.new.self _ _ _ (in_letter g c)) c.act_on_letter.ensures.err
-
-pub returns-in-Letter-clause-enabled : goal.returns-in-Letter-clause-enabled
-returns-in-Letter-clause-enabled g c = rw (acting_on_letter g.C.Chare.step g.C.Pup.pack g.C.Pup.unpack _ _ c.take.new.self _ _ _ (in_letter g c)) c.act_on_letter.ensures.enabled
-
-pub returns-in-Letter-clause-trace : goal.returns-in-Letter-clause-trace
-returns-in-Letter-clause-trace g c = rw (acting_on_letter g.C.Chare.step g.C.Pup.pack g.C.Pup.unpack _ _ c.take.new.self _ _ _ (in_letter g c)) c.act_on_letter.ensures.trace
-
-pub returns-in-Letter-clause-same_trace : goal.returns-in-Letter-clause-same_trace
-returns-in-Letter-clause-same_trace g c = c.act_on_letter.ensures.same_trace
+pub returns-in-Letter-clause-traces : goal.returns-in-Letter-clause-traces
+returns-in-Letter-clause-traces g c = rw (acting_on_letter g.C.Chare.step g.C.Pup.pack g.C.Pup.unpack _ _ c.take.new.self _ _ _ (in_letter g c)) c.act_on_letter.ensures.traces
 
 in_element : (g : _) (c : goal.After-act_on_element g) → Holds c.args.self.now (record { me = c.end.inside.me; n = c.end.inside.n; room = c.end.inside.room; hand = c.end.inside.hand; shelf = c.end.inside.shelf.items; outbox = c.end.inside.outbox.items; notes = c.end.inside.notes.items; count = c.end.inside.count; kept = c.end.inside.kept }) c.in-Some.field-0 (Element c.in-Element.element) c.in-Some.field-0.address
 in_element g c = record { view_is = sym (c.end.view_is ∙ c.self.view_is); in_hand = sym c.take.ensures.value ∙ c.in-Some.is; parcel_is = c.in-Element.is; look_is = refl }
 
-pub returns-in-Element-clause-answer : goal.returns-in-Element-clause-answer
-returns-in-Element-clause-answer g c = rw (acting_on_element g.C.Chare.step g.C.Pup.pack g.C.Pup.unpack _ _ c.take.new.self _ _ _ (in_element g c)) c.act_on_element.ensures.answer
+pub returns-in-Element-clause-acts : goal.returns-in-Element-clause-acts
+returns-in-Element-clause-acts g c =
+    let same = acting_on_element g.C.Chare.step g.C.Pup.pack g.C.Pup.unpack _ _ c.take.new.self _ _ _ (in_element g c) in
+    let again = held_again _ _ c.take.new.self _ _ _ (in_element g c) in
+    rw same (rw again c.act_on_element.ensures.acts)
 
-pub returns-in-Element-clause-ok : goal.returns-in-Element-clause-ok
-returns-in-Element-clause-ok g c = rw (after_same _ _ _ _ (held_again _ _ c.take.new.self _ _ _ (in_element g c)) (acting_on_element g.C.Chare.step g.C.Pup.pack g.C.Pup.unpack _ _ c.take.new.self _ _ _ (in_element g c))) c.act_on_element.ensures.ok
-
-pub returns-in-Element-clause-err : goal.returns-in-Element-clause-err
-returns-in-Element-clause-err g c = rw (held_again _ _ c.take.new.self _ _ _ (in_element g c)) c.act_on_element.ensures.err
-
-pub returns-in-Element-clause-enabled : goal.returns-in-Element-clause-enabled
-returns-in-Element-clause-enabled g c = rw (acting_on_element g.C.Chare.step g.C.Pup.pack g.C.Pup.unpack _ _ c.take.new.self _ _ _ (in_element g c)) c.act_on_element.ensures.enabled
-
-pub returns-in-Element-clause-trace : goal.returns-in-Element-clause-trace
-returns-in-Element-clause-trace g c = rw (acting_on_element g.C.Chare.step g.C.Pup.pack g.C.Pup.unpack _ _ c.take.new.self _ _ _ (in_element g c)) c.act_on_element.ensures.trace
-
-pub returns-in-Element-clause-same_trace : goal.returns-in-Element-clause-same_trace
-returns-in-Element-clause-same_trace g c = c.act_on_element.ensures.same_trace
+pub returns-in-Element-clause-traces : goal.returns-in-Element-clause-traces
+returns-in-Element-clause-traces g c = rw (acting_on_element g.C.Chare.step g.C.Pup.pack g.C.Pup.unpack _ _ c.take.new.self _ _ _ (in_element g c)) c.act_on_element.ensures.traces
 
 pub returns-in-Letter-clause-refused : goal.returns-in-Letter-clause-refused
 returns-in-Letter-clause-refused g c = rw (refuses_letter g.C.Chare.refuses _ _ c.take.new.self _ _ _ (in_letter g c)) c.act_on_letter.ensures.refused
@@ -66,20 +47,13 @@ invariant_of-self g c =
     let i = same_run c.end.view_is c.self.invariant.1 in
     (c.self.invariant.0, record { histories = emptied_holds g.C.Chare.step g.C.Pup.fits g.C.Pup.pack g.H.Openings.opened _ _ c.in_default.ensures.after i.histories; few = i.few; me = i.me; hand = subst (λ h. IsHandBelow g.H.Openings.pes h) (sym c.in_default.ensures.after) tt; outbox = i.outbox; kept = i.kept })
 
-pub returns-in_default-clause-answer : goal.returns-in_default-clause-answer
-returns-in_default-clause-answer g c =
+pub returns-in_default-clause-acts : goal.returns-in_default-clause-acts
+returns-in_default-clause-acts g c =
     let nothing = idle g.C.Chare.step g.C.Pup.pack g.C.Pup.unpack c.args.self.now _ (c.end.view_is ∙ c.self.view_is) c.in_default.ensures.value in
-    sym (ap acted_of nothing)
+    did_nothing _ _ _ nothing (same_hand c.args.self.now _ c.take.new.self (c.end.view_is ∙ c.self.view_is) c.in_default.ensures.after c.in_default.ensures.value)
 
-pub returns-in_default-clause-ok : goal.returns-in_default-clause-ok
-returns-in_default-clause-ok g c =
-    let nothing = idle g.C.Chare.step g.C.Pup.pack g.C.Pup.unpack c.args.self.now _ (c.end.view_is ∙ c.self.view_is) c.in_default.ensures.value in
-    same_hand c.args.self.now _ c.take.new.self (c.end.view_is ∙ c.self.view_is) c.in_default.ensures.after c.in_default.ensures.value ∙ sym (ap (pe_after c.args.self.now) nothing)
-
-pub returns-in_default-clause-trace : goal.returns-in_default-clause-trace
-returns-in_default-clause-trace g c =
-    let nothing = idle g.C.Chare.step g.C.Pup.pack g.C.Pup.unpack c.args.self.now _ (c.end.view_is ∙ c.self.view_is) c.in_default.ensures.value in
-    rw nothing (traced_none c.args.tracing c.args.trace.now.items)
+pub returns-in_default-clause-traces : goal.returns-in_default-clause-traces
+returns-in_default-clause-traces g c = traced_nothing _ _ _ _ _ (idle g.C.Chare.step g.C.Pup.pack g.C.Pup.unpack c.args.self.now _ (c.end.view_is ∙ c.self.view_is) c.in_default.ensures.value) refl
 
 pub invariant_of-self-in-Letter : goal.invariant_of-self-in-Letter
 invariant_of-self-in-Letter g c =

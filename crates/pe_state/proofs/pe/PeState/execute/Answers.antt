@@ -66,8 +66,8 @@ returns-in-Err-clause-refused g c =
     same_reason (RefusesParcel g.C.Chare.refuses c.args.self.now (Carried.Letter c.args.letter)) c.in-Err.unread.error c.from.result c.from.ensures
     (λ k. subst (λ (v : PeView g.row.C.Denot). RefusesParcel g.C.Chare.refuses v (Carried.Letter c.args.letter) c.in-Err.unread.error) (c.end.view_is ∙ c.self.view_is) (c.in-Err.ensures.refused k))
 
-pub returns-in-Err-clause-same_trace : goal.returns-in-Err-clause-same_trace
-returns-in-Err-clause-same_trace g c = c.in-Err.ensures.same_trace
+pub returns-in-Err-clause-traces : goal.returns-in-Err-clause-traces
+returns-in-Err-clause-traces g c = record { ok = tt; err = c.in-Err.ensures.traces.err }
 
 -- the handler answers
 
@@ -89,7 +89,10 @@ returns-clause-ok g c =
     handled_is g.C.Chare.step g.C.Pup.pack _ _ c.args.letter.to (Letter c.args.letter) None _ _ _ _ _ _ _
     (c.end.view_is ∙ c.self.view_is) (ap (λ p. p.hand) (c.end.view_is ∙ c.self.view_is) ∙ c.requires.empty) a.room c.reserve-2.ensures.items a.outbox c.reserve.ensures.items a.note c.owe.ensures.owed a.count
 
-pub returns-clause-trace : goal.returns-clause-trace
-returns-clause-trace g c =
-    c.in-Ok-handled.ensures.trace
+pub returns-clause-traces : goal.returns-clause-traces
+returns-clause-traces g c =
+    let new =
+    c.in-Ok-handled.ensures.traces.ok
     ∙ ap (λ (v : PeView g.row.C.Denot). traced c.args.tracing c.args.trace.now.items (Trace.Executed c.args.letter.id c.args.letter.to ∷ handler_posts g.C.Chare.step g.C.Pup.pack v c.args.letter.to (Letter c.args.letter))) (c.end.view_is ∙ c.self.view_is)
+    in
+    record { ok = new; err = tt }

@@ -3,7 +3,7 @@ use Rattle.chares.specs.Posting.{traced}
 use Rattle.chares.specs.declared.entry.Entry.TheVariants.{Resumption}
 use Rattle.pe_state.specs.Pes.{PeView, resume_entries}
 use Rattle.pe_state.specs.Refusals.{RefusesResume}
-use Rattle.pe_state.proofs.Acting.{whatever}
+use Rattle.pe_state.proofs.Acting.{untraced, whatever}
 use Rattle.pe_state.proofs.Below.{posted_below}
 use Rattle.pe_state.proofs.Handling.{handled_is}
 use Rattle.pe_state.proofs.Histories.{still_holds, handler_holds, member_of}
@@ -30,11 +30,8 @@ returns-in_err-reserve-clause-err g c = whatever _ _ (same_view _ _ _ _ _ _ refl
 pub returns-in_err-reserve-clause-refused : goal.returns-in_err-reserve-clause-refused
 returns-in_err-reserve-clause-refused g c = out_of_memory (RefusesResume g.C.Chare.refuses c.args.self.now c.args.index c.args.round) _ c.from_residual.ensures.1
 
-pub returns-in_err-reserve-clause-trace : goal.returns-in_err-reserve-clause-trace
-returns-in_err-reserve-clause-trace g c = no_answer _ _ c.from_residual.ensures.0
-
-pub returns-in_err-reserve-clause-same_trace : goal.returns-in_err-reserve-clause-same_trace
-returns-in_err-reserve-clause-same_trace g c = whatever _ _ refl
+pub returns-in_err-reserve-clause-traces : goal.returns-in_err-reserve-clause-traces
+returns-in_err-reserve-clause-traces g c = untraced _ _ _ _ _ c.from_residual.ensures.0 refl
 
 -- none for what is posted
 
@@ -52,11 +49,8 @@ returns-in_err-reserve-2-clause-err g c = whatever _ _ (same_view _ _ _ _ _ _ re
 pub returns-in_err-reserve-2-clause-refused : goal.returns-in_err-reserve-2-clause-refused
 returns-in_err-reserve-2-clause-refused g c = out_of_memory (RefusesResume g.C.Chare.refuses c.args.self.now c.args.index c.args.round) _ c.from_residual-in_err-reserve-2.ensures.1
 
-pub returns-in_err-reserve-2-clause-trace : goal.returns-in_err-reserve-2-clause-trace
-returns-in_err-reserve-2-clause-trace g c = no_answer _ _ c.from_residual-in_err-reserve-2.ensures.0
-
-pub returns-in_err-reserve-2-clause-same_trace : goal.returns-in_err-reserve-2-clause-same_trace
-returns-in_err-reserve-2-clause-same_trace g c = whatever _ _ refl
+pub returns-in_err-reserve-2-clause-traces : goal.returns-in_err-reserve-2-clause-traces
+returns-in_err-reserve-2-clause-traces g c = untraced _ _ _ _ _ c.from_residual-in_err-reserve-2.ensures.0 refl
 
 pub resume-requires-clause-member : goal.resume-requires-clause-member
 resume-requires-clause-member g c = member_of c.args.index (same_run c.end.view_is c.self.invariant.1).histories
@@ -82,11 +76,8 @@ returns-in_err-note-clause-refused g c =
     refused_so (RefusesResume g.C.Chare.refuses c.args.self.now c.args.index c.args.round) _ _ c.from_residual-in_err-note.ensures.1
     (λ k. subst (λ (v : PeView g.row.C.Denot). RefusesResume g.C.Chare.refuses v c.args.index c.args.round c.in_err-note.field-0.0) (c.end.view_is ∙ c.self.view_is) (c.in_err-note.ensures.refused k))
 
-pub returns-in_err-note-clause-trace : goal.returns-in_err-note-clause-trace
-returns-in_err-note-clause-trace g c = no_answer _ _ c.from_residual-in_err-note.ensures.0
-
-pub returns-in_err-note-clause-same_trace : goal.returns-in_err-note-clause-same_trace
-returns-in_err-note-clause-same_trace g c = whatever _ _ c.in_err-note.ensures.same_trace
+pub returns-in_err-note-clause-traces : goal.returns-in_err-note-clause-traces
+returns-in_err-note-clause-traces g c = untraced _ _ _ _ _ c.from_residual-in_err-note.ensures.0 c.in_err-note.ensures.traces.err
 
 -- the handler answers
 
@@ -108,7 +99,10 @@ returns-clause-ok g c =
     handled_is g.C.Chare.step g.C.Pup.pack _ _ c.args.index (Resumption c.args.round) c.args.self.now.hand _ _ _ _ _ _ _
     (c.end.view_is ∙ c.self.view_is) (ap (λ p. p.hand) (c.end.view_is ∙ c.self.view_is)) a.room c.reserve-2.ensures.items a.outbox c.reserve.ensures.items a.note c.owe.ensures.owed a.count
 
-pub returns-clause-trace : goal.returns-clause-trace
-returns-clause-trace g c =
-    c.in_ok-note.ensures.trace
+pub returns-clause-traces : goal.returns-clause-traces
+returns-clause-traces g c =
+    let new =
+    c.in_ok-note.ensures.traces.ok
     ∙ ap (λ (v : PeView g.row.C.Denot). traced c.args.tracing c.args.trace.now.items (resume_entries g.C.Chare.step g.C.Pup.pack v c.args.index c.args.round)) (c.end.view_is ∙ c.self.view_is)
+    in
+    record { ok = new; err = tt }
