@@ -1,6 +1,6 @@
 -- A world and its board still agree after a PE has reported a note.
 use Rattle.std.proofs.Common.{◌≡◌, ◌≢◌, ℕ, ◌+◌, ◌<◌, ◌≤◌, List, [], ◌∷◌, drop, Some, Bool, true, false, sum_by, arith, refl, sym, ◌∙◌, ap, subst, nat_eq, length-set}
-use Rattle.std.specs.Prelude.{All, slice_get, slice_set, slice_index_or, nat_lt, is_none, not, ◌&&◌, ◌==◌}
+use Rattle.std.specs.Prelude.{All, slice_get, slice_set, slice_index_or, nat_lt, is_none, ◌&&◌, ◌==◌}
 use Rattle.std.specs.Option.{option_and_then}
 use Rattle.std.proofs.lemmas.Bool.Decides.{nat_tests}
 use Rattle.std.proofs.lemmas.List.Elements.{All-head, All-set}

@@ -1,18 +1,17 @@
 -- The board takes every note that a PE owes, where the two agree.
-use Rattle.std.proofs.Common.{◌≡◌, ℕ, ◌+◌, ◌<◌, ◌≤◌, List, Option, Some, None, Bool, true, false, arith, refl, sym, subst}
-use Rattle.std.specs.Prelude.{All, IsSome, slice_get, nat_lt, is_none, ◌&&◌, ◌==◌}
+use Rattle.std.proofs.Common.{◌≡◌, ℕ, ◌<◌, Option, Some, None, arith, refl, sym, subst}
+use Rattle.std.specs.Prelude.{All, IsSome, slice_get}
 use Rattle.std.proofs.lemmas.Bool.Decides.{nat_tests}
-use Rattle.std.proofs.lemmas.Option.{slice_get-get_or, slice_get_within}
+use Rattle.std.proofs.lemmas.Option.{slice_get_within}
 use Rattle.at_sync.specs.Boards.{BoardState}
-use Rattle.lb_database.specs.Measuring.{Measured, elements, report_of}
+use Rattle.lb_database.specs.Measuring.{elements, report_of}
 use Rattle.chares.specs.declared.note.Note.{Note}
 use Rattle.chares.specs.declared.note.Note.TheVariants.{Sync, Finish}
 use Rattle.chares.specs.Elements.{ElementView}
 use Rattle.pe_state.specs.Pes.{PeView}
-use Rattle.pe_state.specs.Rooms.{found}
 use Rattle.rts_core.specs.Events.{board_after}
 use Rattle.rts_core.specs.Worlds.{WorldView}
-use Rattle.agreement_laws.specs.Agreement.{Owes, AgreesWith, IsOwed, AgreesAt, Agrees, AllTaken, index_of}
+use Rattle.agreement_laws.specs.Agreement.{Owes, AgreesWith, IsOwed, AgreesAt, Agrees, AllTaken}
 use Rattle.agreement_laws.proofs.Rooms.{of_found}
 use Rattle.agreement_laws.proofs.ReportEvent.{all_got, got_of_all}
 

@@ -1,19 +1,17 @@
 -- What follows from a decision in any order, whichever of the two it is.
-use Rattle.std.proofs.Common.{◌≡◌, ℕ, ◌+◌, ◌-◌, ◌<◌, ◌≤◌, List, length, slice_index, arith, ap, sym, ◌∙◌, subst}
+use Rattle.std.proofs.Common.{◌≡◌, ℕ, ◌-◌, ◌<◌, ◌≤◌, List, length, slice_index, arith, ap, sym, subst}
 use Rattle.chare_index.specs.declared.limits.TheConstants.Limits.{PES}
 use Rattle.lb_certificates.specs.Certificate.{IsCertified}
 use Rattle.lb_certificates.specs.Chain.{IsDivision, peak}
-use Rattle.lb_certificates.specs.Naming.{AreBlocks, block_of, blocks_between, bytes_moved, IsNaming}
+use Rattle.lb_certificates.specs.Naming.{AreBlocks, block_of, blocks_between, IsNaming}
 use Rattle.lb_certificates.proofs.BlockSums.{block_of_is}
 use Rattle.lb_certificates.proofs.LeastDivisions.{peak_within}
 use Rattle.lb_strategy.specs.Moves.{HasPlace, planned_pe}
-use Rattle.lb_strategy.specs.declared.decision.Decision.{Decision}
 use Rattle.chain_refinement.specs.Tolerances.{limit_of}
 use Rattle.chain_refinement.proofs.Orders.{block_around}
 use Rattle.any_order.specs.AnyOrder.{IsReordered, reordered_limit}
 use Rattle.any_order.specs.declared.reordered.Reordered.{Reordered}
 use Rattle.lb_refinement.specs.Refined.{IsRefined, least_load, refined_bottleneck, refined_cuts, refined_least, refined_moved, refined_names}
-use Rattle.lb_refinement.specs.declared.refined.Kept.{Kept}
 use Rattle.lb_refinement.specs.declared.refined.Refined.{Refined}
 use Rattle.lb_refinement.specs.declared.refined.Refined.TheVariants.{Near, Planned}
 use Rattle.lb_any_order.specs.Reorderings.{HasPlaceBelow, IsFewest, IsLesser, IsReordering, reordering_cuts, reordering_least, reordering_moved, reordering_names}

@@ -1,5 +1,5 @@
 -- After every list of events, every letter in a journal is to the element whose journal it is.
-use Rattle.std.proofs.Common.{◌≡◌, ℕ, ◌+◌, List, [], ◌∷◌, ◌++◌, map, Option, Some, None, refl, sym, subst}
+use Rattle.std.proofs.Common.{◌≡◌, ℕ, List, [], Option, Some, None, refl, sym, subst}
 use Rattle.std.specs.Prelude.{Result, All, IfSome}
 use Rattle.std.specs.List.{flat_map}
 use Rattle.std.specs.Map.{values_of}
@@ -9,7 +9,7 @@ use Rattle.pup_pack.specs.declared.error.PupError.{PupError}
 use Rattle.chares.specs.declared.carried.Carried.TheVariants.{Letter, Element}
 use Rattle.chares.specs.declared.entry.Entry.TheVariants.{Letter as OfLetter, Resumption}
 use Rattle.chares.specs.Elements.{ElementView, PackedView}
-use Rattle.chares.specs.Letters.{LetterView, Done}
+use Rattle.chares.specs.Letters.{LetterView}
 use Rattle.chares.specs.Steps.{Step}
 use Rattle.pe_state.specs.Pes.{PeView, Parcel, Item}
 use Rattle.rts_core.specs.declared.event.Event.{Event}

@@ -1,9 +1,8 @@
 -- Where an element on a PE is in no parcel, none arrives where there is one with its index already.
-use Rattle.std.proofs.Common.{◌≡◌, ℕ, Option, Some, None, refl, sym, subst, inl}
-use Rattle.std.specs.Prelude.{slice_get, MatchOption}
-use Rattle.chares.specs.declared.carried.Carried.TheVariants.{Element}
-use Rattle.chares.specs.Elements.{ElementView, PackedView}
-use Rattle.pe_state.specs.Pes.{PeView, Parcel, Item}
+use Rattle.std.proofs.Common.{◌≡◌, Option, Some, None, refl, sym, subst, inl}
+use Rattle.std.specs.Prelude.{MatchOption}
+use Rattle.chares.specs.Elements.{ElementView}
+use Rattle.pe_state.specs.Pes.{Parcel, Item}
 use Rattle.pe_state.specs.Rooms.{found}
 use Rattle.rts_core.specs.Worlds.{WorldView}
 use Rattle.place_laws.specs.Bound.{Carries, StandAlone, ArriveAlone}

@@ -1,16 +1,15 @@
 -- The whole local account of one PE is kept by each of its calls, and holds of a PE as a run opens.
-use Rattle.std.proofs.Common.{◌≡◌, ℕ, zero, suc, ◌+◌, ◌≤◌, List, [], ◌∷◌, ◌++◌, length, Option, Some, None, sum_by, arith, refl, sym, ◌∙◌, ap, subst}
-use Rattle.std.specs.Prelude.{All, IfSome, Result, slice_get, false, not, if◌then◌else◌, ◌==◌}
+use Rattle.std.proofs.Common.{◌≡◌, ℕ, zero, suc, ◌+◌, ◌≤◌, List, [], ◌∷◌, ◌++◌, Option, Some, None, sum_by, arith, refl, sym, ◌∙◌, ap, subst}
+use Rattle.std.specs.Prelude.{All, IfSome, Result, slice_get}
 use Rattle.std.specs.List.{flat_map}
-use Rattle.std.specs.Map.{lookup}
 use Rattle.std.specs.Ordering.{nat_cmp}
 use Rattle.std.specs.BTreeMap.{is_at}
-use Rattle.std.proofs.lemmas.List.Elements.{All-nil, All-cons, All-head, All-tail}
+use Rattle.std.proofs.lemmas.List.Elements.{All-nil, All-cons}
 use Rattle.std.proofs.lemmas.List.Sums.{sum_by-append, sum_by-cons}
 use Rattle.std.proofs.lemmas.Grind.{flat_map-append}
 use Rattle.std.proofs.lemmas.Map.Views.{IfSome-lookup_from_All}
 use Rattle.chares.specs.Elements.{ElementView, IsHistory}
-use Rattle.chares.specs.Letters.{LetterView, Done}
+use Rattle.chares.specs.Letters.{LetterView}
 use Rattle.chares.specs.Steps.{Step}
 use Rattle.pup_pack.specs.declared.error.PupError.{PupError}
 use Rattle.pe_state.specs.Pes.{PeView, Parcel}
@@ -18,11 +17,11 @@ use Rattle.pe_state.specs.Rooms.{found, IsKeyed}
 use Rattle.rts_core.specs.Accounts.{message}
 use Rattle.rts_core.specs.Calls.{Call, MayCall, IsRunning, posted_as, came_in, gone_in, sent_in, after_call, with_call}
 use Rattle.pe_state.specs.Histories.{HasHistories}
-use Rattle.rts_core.specs.Ledgers.{Ledger, no_ledger, entered_in, AddsUp, IsSteady, IsLocalAccount}
-use Rattle.rts_core.specs.Places.{Life, lives_in, lives_at, letters_of_entry, letters_of_life, sends_of}
-use Rattle.rts_core.specs.Worlds.{opening_pes, opening_world}
+use Rattle.rts_core.specs.Ledgers.{Ledger, no_ledger, entered_in, IsSteady, IsLocalAccount}
+use Rattle.rts_core.specs.Places.{Life, lives_in, lives_at, letters_of_entry, sends_of}
+use Rattle.rts_core.specs.Worlds.{opening_pes}
 use Rattle.rts_core.proofs.Weights.{Weight, weigh, of_pe, of_queue, sum_by-flat_map}
-use Rattle.rts_core.proofs.Moves.{Work, work_letters, work_sends, before, after, posted, Moved}
+use Rattle.rts_core.proofs.Moves.{Work, work_letters, before, after, posted, Moved}
 use Rattle.rts_core.proofs.Listings.{no_life, no_letter, sum_zero, pe_lives, queue_lives}
 use Rattle.rts_core.proofs.LocalBalance.{in_journal, pe_all, balance_moved}
 use Rattle.rts_core.proofs.LocalSends.{sent_moved}

@@ -8,12 +8,11 @@ use Rattle.chares.specs.declared.trace_entry.TraceEntry.{TraceEntry}
 use Rattle.chares.specs.declared.trace_entry.TraceEntry.TheVariants as Trace
 use Rattle.chares.specs.Letters.{LetterView}
 use Rattle.chares.specs.Steps.{Step}
-use Rattle.pe_state.specs.Pes.{PeView, Parcel, front_parcel, received, looked, gave_up, handed_back, noted, departed}
+use Rattle.pe_state.specs.Pes.{PeView, Parcel}
 use Rattle.rts_core.specs.Ledgers.{Ledger, entered_in, all_letters_in, all_letters_at, AddsUp}
 use Rattle.rts_core.specs.Places.{Life, letters_in, lives_in, letters_at, lives_at, letters_of_life}
 use Rattle.rts_core.proofs.Weights.{Weight, weigh, of_parcel, of_pe, of_queue, sum_by-flat_map, sum_by-same, sum_by-both}
-use Rattle.rts_core.proofs.Moves.{Work, numbered, work_letters, work_sends, before, after, posted, Moved, received_moved, looked_moved, gave_up_moved, handed_back_moved, noted_moved}
-use Rattle.rts_core.proofs.HandlerSteps.{departed_moved}
+use Rattle.rts_core.proofs.Moves.{Work, numbered, work_letters, work_sends, before, after, posted, Moved}
 use Rattle.rts_core.proofs.Listings.{no_life, no_letter, sum_zero, before_none, after_none, parcel_letters, parcel_lives, pe_letters, pe_lives}
 use Rattle.rts_core.proofs.Sent.{journal_more}
 

@@ -1,5 +1,5 @@
 -- What each call of a PE is: a step of it, with the parcels that it receives and gives away and with what it sends.
-use Rattle.std.proofs.Common.{◌≡◌, ℕ, ◌+◌, List, [], ◌∷◌, Option, Some, None, Bool, true, false, sum_by, arith, refl, sym, subst}
+use Rattle.std.proofs.Common.{◌≡◌, ℕ, List, [], ◌∷◌, Option, Some, None, Bool, true, false, sum_by, arith, refl, sym, subst}
 use Rattle.std.specs.Prelude.{Result, Ok, Err, drop, ◌==◌, if◌then◌else◌}
 use Rattle.std.specs.Option.{option_map_or, option_to_list}
 use Rattle.std.proofs.lemmas.List.Sums.{sum_by-append}

@@ -1,4 +1,4 @@
-use Rattle.std.proofs.Common.{◌≡◌, length, subst, ◌∙◌}
+use Rattle.std.proofs.Common.{length, subst}
 use Rattle.lb_certificates.specs.Chain.{IsDivision}
 use Rattle.lb_any_order.proofs.Cases.{blocks_of_plan, division_of_plan, naming_of_plan, place_below}
 use Rattle.lb_any_order.proofs.refining.with_moves.Goals as goal
