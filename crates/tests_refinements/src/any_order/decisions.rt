@@ -1,8 +1,9 @@
 //! Decisions in any order of the PEs, compared with a search through all cuts and all namings.
 
-use crate::chains::{Case, chain};
-use crate::fixtures::{assert_for, push, snapshot, tolerance};
-use crate::rows::{DECISIONS, Row};
+use super::chains::{Case, chain};
+use super::fixtures::{push, snapshot, tolerance};
+use super::rows::{DECISIONS, Row};
+use crate::fixtures::assert_for;
 use any_order::check_reordered;
 use lb_any_order::{Reordering, refine_in_any_order};
 use std::process::Abort;

@@ -1,19 +1,9 @@
 //! What the tests use. What cannot be made ends the test.
 
-ghost use Rattle.std.specs.Prelude.{◌≡◌, true};
-
 use chain_refinement::Tolerance;
 use chare_index::Pe;
 use lb_snapshot::{Loads, Sizes, Snapshot, Units};
-use std::fmt::Debug;
 use std::process::Abort;
-
-/// Ends the test where this does not hold, with the row for which it has to hold.
-pub(crate) fn assert_for<R: Debug + Copy>(rt: &impl Abort, holds: bool, row: R)
-    ensures held { holds ≡ true }
-{
-    assert!(rt; holds, "{row:?}");
-}
 
 /// The same items in a list.
 pub(crate) fn list<T: Copy>(rt: &(impl Abort + AllocGlobal), items: &[T]) -> Vec<T> {

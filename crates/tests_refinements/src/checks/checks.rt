@@ -1,5 +1,5 @@
-use crate::fixtures::{Parts, refinement, snapshot};
-use crate::rows::{REFINEMENTS, ROWS, TEN_ELEMENTS, TEN_LOADS};
+use super::fixtures::{Parts, refinement, snapshot};
+use super::rows::{REFINEMENTS, ROWS, TEN_ELEMENTS, TEN_LOADS};
 use chain_refinement::{RefinementFlaw, check_refinement};
 use lb_snapshot::Units;
 use std::process::Abort;

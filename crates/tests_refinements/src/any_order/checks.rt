@@ -1,7 +1,8 @@
 //! The check of right claims, and of others that differ from them in one number.
 
-use crate::fixtures::{assert_for, list, push, snapshot, tolerance};
-use crate::rows::{Claim, HOT, TEN};
+use super::fixtures::{list, push, snapshot, tolerance};
+use super::rows::{Claim, HOT, TEN};
+use crate::fixtures::assert_for;
 use any_order::{Bounds, Levels, Reordered, ReorderedFlaw, check_reordered};
 use lb_certificates::{Cuts, Division, Flaw, Floor, Naming, Stops};
 use std::process::Abort;

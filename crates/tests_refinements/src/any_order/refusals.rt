@@ -1,7 +1,7 @@
 //! Refused memory, one request after another.
 
-use crate::fixtures::{snapshot, tolerance};
-use crate::rows::TEN;
+use super::fixtures::{snapshot, tolerance};
+use super::rows::TEN;
 use lb_any_order::{Reordering, refine_in_any_order};
 use std::alloc::{AllocError, Allocator};
 use tests_fixtures::{Outcome, each_refusal};

@@ -1,7 +1,7 @@
 //! Rows from a program outside, which decides each by the definitions: it tries every place, every beginning of a block, and
 //! every division.
 
-use crate::fixtures::Parts;
+use super::fixtures::Parts;
 use chain_refinement::RefinementFlaw;
 use lb_certificates::Flaw;
 use lb_snapshot::Units;
