@@ -1,4 +1,4 @@
-use Rattle.tests_threads.proofs.rounds.a_round_of_two_elements.Given as goal
+use Rattle.tests_queues.proofs.run_threads.rounds.a_round_of_two_elements.Given as goal
 use Rattle.at_sync.specs.declared.strategy.Strategy.TheVariants.{Least}
 
 abbrev pub ghosts-passes : goal.ghosts-passes

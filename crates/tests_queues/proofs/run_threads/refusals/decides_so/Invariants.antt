@@ -1,4 +1,4 @@
-use Rattle.tests_threads.proofs.refusals.decides_so.Given as goal
+use Rattle.tests_queues.proofs.run_threads.refusals.decides_so.Given as goal
 use Rattle.at_sync.specs.declared.strategy.Strategy.TheVariants.{Least}
 
 abbrev pub ghosts-decides : goal.ghosts-decides

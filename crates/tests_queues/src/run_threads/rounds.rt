@@ -3,7 +3,7 @@
 ghost use Rattle.std.specs.Prelude.{◌≡◌};
 ghost use Rattle.at_sync.specs.declared.strategy.Strategy.TheVariants.{Least};
 
-use crate::fixtures::{index, reports, two};
+use super::fixtures::{index, reports, two};
 use at_sync::{Board, BoardError};
 use barrier::{Barrier, BoardSize};
 use chare_index::{NoGate, Round};

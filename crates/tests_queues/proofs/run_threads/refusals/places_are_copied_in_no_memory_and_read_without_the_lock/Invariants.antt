@@ -1,4 +1,4 @@
-use Rattle.tests_threads.proofs.refusals.places_are_copied_in_no_memory_and_read_without_the_lock.Given as goal
+use Rattle.tests_queues.proofs.run_threads.refusals.places_are_copied_in_no_memory_and_read_without_the_lock.Given as goal
 use Rattle.at_sync.specs.declared.strategy.Strategy.TheVariants.{Least}
 
 abbrev pub ghosts-copies : goal.ghosts-copies

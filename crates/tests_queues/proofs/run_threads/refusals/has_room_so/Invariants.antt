@@ -1,4 +1,4 @@
-use Rattle.tests_threads.proofs.refusals.has_room_so.Given as goal
+use Rattle.tests_queues.proofs.run_threads.refusals.has_room_so.Given as goal
 use Rattle.at_sync.specs.declared.strategy.Strategy.TheVariants.{Least}
 
 abbrev pub ghosts-has_room : goal.ghosts-has_room

@@ -4,8 +4,8 @@
 ghost use Rattle.std.specs.Prelude.{◌≡◌};
 ghost use Rattle.at_sync.specs.declared.strategy.Strategy.TheVariants.{Least};
 
-use crate::fixtures::{index, reports, two};
-use crate::workers::{Began, began_so, begin_all, three};
+use super::fixtures::{index, reports, two};
+use super::workers::{Began, began_so, begin_all, three};
 use at_sync::BoardError;
 use barrier::{BoardSize, RoundPlaces};
 use std::alloc::{AllocError, Allocator, Global};

@@ -1,0 +1,6 @@
+//! What the threads of a run share, and the threads themselves.
+
+mod fixtures;
+mod refusals;
+mod rounds;
+mod workers;
