@@ -4,7 +4,8 @@
 
 ghost use Rattle.std.specs.Prelude.{◌≡◌, ◌∷◌, [], length, slice_get, Some};
 
-use crate::fixtures::{index, new_board, pe, report, round};
+use super::fixtures::{index, new_board, report};
+use crate::fixtures::{pe, round};
 use at_sync::Board;
 use chare_index::NoGate;
 use chares::{Note, Openings};

@@ -1,27 +1,18 @@
-//! What the tests use: numbers, and a board of two elements on two PEs. A value that cannot be made ends the test.
+//! What the tests use: indices, and a board of two elements on two PEs. A value that cannot be made ends the test.
 
 ghost use Rattle.std.specs.Prelude.{◌≡◌};
 
+use crate::fixtures::{pe, round};
 use at_sync::{Board, Strategy};
-use chare_index::{Index, Pe, Round};
+use chare_index::Index;
 use lb_snapshot::Units;
 use std::alloc::Allocator;
 use std::process::Abort;
-
-pub(crate) fn pe(rt: &impl Abort, number: u32) -> Pe
-    ensures value { result ≡ number }
-{
-    Pe::new(number).expect(rt, "no such PE")
-}
 
 pub(crate) fn index(rt: &impl Abort, place: u32) -> Index
     ensures value { result ≡ place }
 {
     Index::new(place).expect(rt, "no such element")
-}
-
-pub(crate) fn round(rt: &impl Abort, number: u32) -> Round {
-    Round::new(number).expect(rt, "no such round")
 }
 
 /// A board of two elements on two PEs, in round 1.

@@ -1,6 +1,7 @@
 //! Marks by hand, against a board of two elements on two PEs.
 
-use crate::fixtures::{index, new_board, pe, report, round};
+use super::fixtures::{index, new_board, report};
+use crate::fixtures::{pe, round};
 use at_sync::Board;
 use chares::{KeptMark, Note, StateBytes};
 use lb_snapshot::Units;
