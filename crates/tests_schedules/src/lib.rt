@@ -1,11 +1,14 @@
 //! Tests of runs on one thread: the worked example by seeds and by lists of events, a planted fault, runs that end early, sizes, and
-//! refused memory.
+//! refused memory; of runs of a workload, compared with the text of a run over threads, with readers and writers that fail, and
+//! refused memory; and of the text of lists of events: each form, each fault with its line, the longest list, and refused memory.
 #![tactic(auto)]
 
 #[cfg(test)]
 mod desk;
 #[cfg(test)]
 mod endings;
+#[cfg(test)]
+mod event_lists;
 #[cfg(test)]
 mod expected;
 #[cfg(test)]
@@ -20,3 +23,5 @@ mod seeds;
 mod sizes;
 #[cfg(test)]
 mod worked;
+#[cfg(test)]
+mod workload_runs;

@@ -1,6 +1,6 @@
 //! The faults of texts, each with its line.
 
-use crate::fixtures::assert_for;
+use super::fixtures::assert_for;
 use event_lists::{EventListError, read_events};
 
 // Texts, and the fault of each. Of several faulty lines the first is reported; and of one line, that it is of no form before that

@@ -1,6 +1,7 @@
 //! Each request for memory refused in turn: of a run by a seed, of runs by two, of a list, and of the line of a fault.
 
-use crate::fixtures::{WORKED, WORKED_TEXT, assert_for, driven};
+use super::fixtures::{WORKED, WORKED_TEXT, driven};
+use crate::fixtures::assert_for;
 use at_sync::Strategy;
 use event_lists::EventListError;
 use pe_worker::Fault;

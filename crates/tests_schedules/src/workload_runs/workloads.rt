@@ -1,6 +1,7 @@
 //! Workloads that are read from files before they run.
 
-use crate::fixtures::{WORKED, assert_for};
+use super::fixtures::WORKED;
+use crate::fixtures::assert_for;
 use schedule_run::read_workload;
 use std::io::ErrorKind;
 use tests_fixtures::Source;

@@ -2,6 +2,7 @@
 
 ghost use Rattle.workload.specs.Text.{IsWithin};
 
+use crate::fixtures::assert_for;
 use at_sync::Strategy;
 use schedule_run::{DrivenOnOne, drive_seed, write_list};
 use std::alloc::{Allocator, Global};
@@ -17,11 +18,6 @@ pub(crate) const WORKED_TEXT: &str = "round 1 bottleneck 6 moved 40\n\
     round 2 bottleneck 4 moved 40\n\
     sums 8 3 3 4\n\
     posted 8 executed 8 held 0\n";
-
-/// Ends the test where this does not hold, and shows the number that it should hold for.
-pub(crate) fn assert_for(rt: &impl Abort, holds: bool, number: u64) {
-    assert!(rt; holds, "{number}");
-}
 
 /// The worked workload, parsed.
 pub(crate) fn worked<A: Allocator + Copy>(rt: &impl Abort, alloc: A) -> Workload<A>

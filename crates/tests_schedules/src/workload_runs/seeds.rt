@@ -1,6 +1,7 @@
 //! Runs by a seed, beside the list that a separate program drew, and runs by many.
 
-use crate::fixtures::{assert_for, listed, worked};
+use super::fixtures::{listed, worked};
+use crate::fixtures::assert_for;
 use at_sync::Strategy;
 use schedule_run::drive_seeds;
 use tests_fixtures::Sink;

@@ -1,6 +1,7 @@
 //! Runs of the worked workload by a seed and by its events, whose text is that of a run over threads.
 
-use crate::fixtures::{WORKED_TEXT, assert_for, driven, worked};
+use super::fixtures::{WORKED_TEXT, driven, worked};
+use crate::fixtures::assert_for;
 use at_sync::Strategy;
 use chare_index::Pe;
 use rts_core::Event;

@@ -1,6 +1,7 @@
 //! Lists of events that are read and written, the lines of their faults, and a reader and a writer that fail.
 
-use crate::fixtures::{assert_for, driven, listed};
+use super::fixtures::{driven, listed};
+use crate::fixtures::assert_for;
 use event_lists::EventListError;
 use schedule_run::{ListFault, read_list, report_list, write_list};
 use std::io::ErrorKind;

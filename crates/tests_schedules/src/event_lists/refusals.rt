@@ -1,6 +1,6 @@
 //! Each request for memory refused in turn, of a list that is written and of one that is read; and a text that needs none.
 
-use crate::fixtures::assert_for;
+use super::fixtures::assert_for;
 use chare_index::Index;
 use event_lists::{EventListError, read_events, write_events};
 use rts_core::Event;
