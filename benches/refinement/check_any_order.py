@@ -1,5 +1,5 @@
 #!/usr/bin/env python3
-"""Prints the rows of crates/tests_refinements/src/any_order/rows.rt: bounds of two chains, made place by place by their
+"""Prints the rows of crates/tests_refinements/src/reordered/rows.rt: bounds of two chains, made place by place by their
 definition, and for each number of a claim what the check has to say where it is one less or one more. It tries every block,
 and follows the definitions of crates/any_order/specs alone.
 

@@ -1,5 +1,5 @@
 #!/usr/bin/env python3
-"""Prints what crates/tests_refinements/src/any_order compares with: for the chains of search_all.py, the fewest bytes that any
+"""Prints what crates/tests_refinements/src/reordered compares with: for the chains of search_all.py, the fewest bytes that any
 cuts within the tolerance move under any naming, found by trying all of both. Where the elements of some PE do not stand
 together, it is what the decision of search_all.py moves.
 

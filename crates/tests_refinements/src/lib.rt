@@ -6,8 +6,6 @@
 #![tactic(auto)]
 
 #[cfg(test)]
-mod any_order;
-#[cfg(test)]
 mod checks;
 #[cfg(test)]
 mod decisions;
@@ -15,3 +13,5 @@ mod decisions;
 mod fixtures;
 #[cfg(test)]
 mod orders;
+#[cfg(test)]
+mod reordered;

@@ -8,11 +8,11 @@ mod desk;
 #[cfg(test)]
 mod endings;
 #[cfg(test)]
-mod event_lists;
-#[cfg(test)]
 mod expected;
 #[cfg(test)]
 mod fixtures;
+#[cfg(test)]
+mod lists;
 #[cfg(test)]
 mod planted;
 #[cfg(test)]
