@@ -93,7 +93,11 @@ words_len : (xs : List ℕ) → length (flat_map (to_be_bytes w32) xs) ≡ 4 * l
 words_len [] = refl
 words_len (x ∷ xs) = grind (arith, flat_map-cons, length-append, words_len xs)
 
--- every tally packs, into 24 bytes, 4 for each amount, and its padding
+-- that is 24 bytes, 4 for each amount, and its padding
+pub tally_len : (t : TallyView) → length (tally_pack t) ≡ 24 + 4 * length t.amounts + length t.pad
+tally_len t = grind (arith, length-append, words_len t.amounts)
+
+-- so every tally packs
 pub tally_packs : (t : TallyView) → is_tally t ≡ true → AreCounted t × (length (tally_pack t) ≤ STATE_BYTES)
 tally_packs t right =
     let amounts : length t.amounts ≤ AMOUNTS = grind (arith, nat_tests, right) in

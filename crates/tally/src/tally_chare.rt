@@ -1,6 +1,6 @@
 //! A chare that sends its amounts to its neighbor, one in each round, and adds up those that it gets.
 
-ghost use Rattle.std.specs.Prelude.{◌≡◌, ◌≢◌, ◌+◌, ◌<◌, ◌≤◌, length, replicate, slice_index, false, IfErr, IfOk, IfSome, IsNone, ◌↔◌};
+ghost use Rattle.std.specs.Prelude.{◌≡◌, ◌≢◌, ◌+◌, ◌*◌, ◌^◌, ◌<◌, ◌≤◌, All, length, replicate, slice_index, false, IfErr, IfOk, IfSome, IsNone, ◌↔◌};
 ghost use Rattle.std.specs.Int.{w32, to_be_bytes};
 ghost use Rattle.pup_pack.specs.declared.error.PupError.TheVariants.{Bad, OutOfMemory};
 ghost use Rattle.tally.specs.Tallies.{TallyView, amount_in, are_within, is_tally, of_parts};
@@ -110,6 +110,21 @@ fn amount_in(body: &[u8]) -> u32
     u32::from_be_bytes([body[0], body[1], body[2], body[3]])
 }
 
+// The packed length of amounts: 4 bytes for their number, and 4 for each. It is asked for at the end of each round, so it must not
+// cost more for more amounts: the compiler makes a product of the loop, in which each amount is only seen to be 32 bits.
+fn amounts_len(amounts: &[u32]) -> u32
+    requires few { length amounts.now ≤ TallyLimits.AMOUNTS }
+    ensures value { result ≡ 4 + 4 * length amounts.now }
+    ensures fits { All (λ amount. amount < 2 ^ 32) amounts.now }
+{
+    let mut len = 4;
+    for amount in amounts {
+        let _value = *amount;
+        len += 4;
+    }
+    len
+}
+
 impl<A: Allocator + Copy> Pup<A> for Tally<A> {
     ghost use Rattle.std.specs.Prelude.{◌≡◌, refl, true};
     ghost use Rattle.pup_pack.specs.Structs.{made, judged};
@@ -128,11 +143,8 @@ impl<A: Allocator + Copy> Pup<A> for Tally<A> {
         (struct_trips parts of_parts (λ _. refl) (pair_trips u32_trips (pair_trips u32_trips (pair_trips u64_trips (pair_trips (list_trips u32_trips) bytes_trips)))))).trip };
 
     fn packed_len(&self) -> u32 {
-        (
-            &self.posted,
-            (&self.got, (&self.sum, (&self.amounts, &self.pad))),
-        )
-            .fields_len()
+        let numbers = <_ as Fields<A>>::fields_len(&(&self.posted, (&self.got, &self.sum)));
+        numbers + amounts_len(self.amounts.as_slice()) + <Bytes<A> as Pup<A>>::packed_len(&self.pad)
     }
 
     fn pack_into(&self, out: &mut Vec<u8, A>) -> Result<(), PupError> {
