@@ -2,3 +2,4 @@ pub mod Counts
 pub mod Reached
 pub mod Walks
 pub mod Rising
+pub mod Right

@@ -1,14 +1,12 @@
 -- The marks of an element, one after the other: each that it reached AtSync is for the round after those before.
-use Rattle.std.proofs.Common.{◌≡◌, ◌↔◌, ℕ, ◌+◌, ◌<◌, ◌≤◌, ◌==◌, List, [], ◌∷◌, length, count_by, Some, None, get_or, drop, nat_eq, refl, ap, ◌∙◌, inl, inr, sym, subst, arith}
+use Rattle.std.proofs.Common.{◌≡◌, ◌↔◌, ℕ, ◌+◌, ◌≤◌, ◌==◌, List, [], ◌∷◌, length, count_by, Some, None, nat_eq, refl, ap, ◌∙◌, inl, inr, arith}
 use Rattle.std.specs.List.{All, range_with_len}
 use Rattle.std.specs.Prelude.{IsTrue}
 use Rattle.std.proofs.lemmas.Bool.{cases_lt, eq-eqb, eqb-true}
-use Rattle.std.proofs.lemmas.List.{drop_all, drop_more}
 use Rattle.std.proofs.lemmas.List.Elements.{All-nil, All-cons, All-head, All-tail}
 use Rattle.at_sync.specs.Boards.{BoardState, kept_of}
 use Rattle.chares.specs.declared.note.Mark.{Mark}
 use Rattle.chares.specs.declared.note.Mark.TheVariants.{Synced, Resumed}
-use Rattle.chares.specs.declared.note.Note.{Note}
 use Rattle.chares.specs.declared.note.Note.TheVariants.{Sync, Finish}
 use Rattle.round_marks.specs.Marked.{AreSynced, IsSyncMark, IsSyncOf, round_reached, rounds_reached}
 use Rattle.round_marks.proofs.Counts.{once, once_at_most, past}
@@ -96,23 +94,6 @@ module _ {A : Type 0} (b : BoardState A) (e : ℕ) where
         in_order = h.in_order;
         all_decided = omega (arith, all_decided_from marks h);
       })
-
-  -- at the end of a walk over the marks, what it has counted decides
-  pub walked : (reached i : ℕ) (marks : List Mark) → length marks ≤ i → (GoesOn reached (drop i marks) ↔ GoesOn 0 marks) → (length b.rounds ≤ reached) ↔ AreSynced b e marks
-  walked reached i marks done same =
-      let end : drop i marks ≡ [] = drop_all i marks done in
-      let P : List Mark → Type 0 = GoesOn reached in (
-        λ enough. synced_from marks (same.0 (subst P (sym end) enough)),
-        λ h. subst P end (same.1 (goes_on_from_synced marks h)),
-      )
-
-  -- a mark on the way that the element reached AtSync is a right one, for the round after those before
-  pub walked_by : (reached i : ℕ) (marks : List Mark) (mark : Mark) (note : Note) → i < length marks → mark ≡ get_or marks i mark → mark ≡ Synced note → (GoesOn reached (drop i marks) ↔ GoesOn 0 marks) → AreSynced b e marks → IsSyncOf b e note × (round_reached (Synced note) ≡ Some (reached + 1))
-  walked_by reached i marks mark note within read is same h =
-      let rest : drop i marks ≡ Synced note ∷ drop (i + 1) marks = drop_more marks i mark within ∙ ap (λ x. x ∷ drop (i + 1) marks) (sym read ∙ is) in
-      let P : List Mark → Type 0 = GoesOn reached in
-      let on = subst P rest (same.1 (goes_on_from_synced marks h)) in
-      (on.0, on.1)
 
   -- a note for a round that is not decided is right where that is the one under way
   pub under_way : (reached n i round units bytes pe : ℕ) → kept_of b.rounds round ≡ None → i ≡ e → round ≡ reached + 1 → n ≡ length b.rounds → IsTrue (nat_eq reached n) ↔ (IsSyncOf b e (Sync i round units bytes pe) × (round_reached (Synced (Sync i round units bytes pe)) ≡ Some (reached + 1)))

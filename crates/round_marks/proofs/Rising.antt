@@ -1,11 +1,9 @@
 -- The marks of an element, one after the other: each resumption is after a later round than those before.
-use Rattle.std.proofs.Common.{◌≡◌, ◌↔◌, ℕ, zero, suc, ◌+◌, ◌<◌, ◌≤◌, List, [], ◌∷◌, length, get_or, drop, ap, ◌∙◌, sym, subst, add-one, arith}
+use Rattle.std.proofs.Common.{◌↔◌, ℕ, zero, suc, ◌+◌, ◌<◌, ◌≤◌, List, [], ◌∷◌, length, add-one, arith}
 use Rattle.std.specs.Prelude.{slice_index}
 use Rattle.std.specs.List.Sorted.{IsStrictlyIncreasing}
-use Rattle.std.proofs.lemmas.List.{drop_all, drop_more}
 use Rattle.chares.specs.declared.note.Mark.{Mark}
 use Rattle.chares.specs.declared.note.Mark.TheVariants.{Synced, Resumed}
-use Rattle.chares.specs.declared.note.Note.{Note}
 use Rattle.round_marks.specs.Marked.{rounds_resumed}
 
 -- numbers that rise, from the least on
@@ -37,39 +35,12 @@ Resumes least [] = Unit {0}
 Resumes least (Synced note ∷ marks) = Resumes least marks
 Resumes least (Resumed round pe ∷ marks) = (least ≤ round) × Resumes (round + 1) marks
 
-rise_on : (least : ℕ) (marks : List Mark) → Resumes least marks → Rise least (rounds_resumed marks)
+pub rise_on : (least : ℕ) (marks : List Mark) → Resumes least marks → Rise least (rounds_resumed marks)
 rise_on least [] h = tt
 rise_on least (Synced note ∷ marks) h = rise_on least marks h
 rise_on least (Resumed round pe ∷ marks) h = (h.0, rise_on (round + 1) marks h.1)
 
-resumes_on : (least : ℕ) (marks : List Mark) → Rise least (rounds_resumed marks) → Resumes least marks
+pub resumes_on : (least : ℕ) (marks : List Mark) → Rise least (rounds_resumed marks) → Resumes least marks
 resumes_on least [] h = tt
 resumes_on least (Synced note ∷ marks) h = resumes_on least marks h
 resumes_on least (Resumed round pe ∷ marks) h = (h.0, resumes_on (round + 1) marks h.1)
-
--- at the end of a walk over the marks
-pub rose : (least i : ℕ) (marks : List Mark) → length marks ≤ i → (Resumes least (drop i marks) ↔ Resumes 0 marks) → IsStrictlyIncreasing (rounds_resumed marks)
-rose least i marks done same =
-    let end : drop i marks ≡ [] = drop_all i marks done in
-    let P : List Mark → Type 0 = Resumes least in
-    (rise_from_0 (rounds_resumed marks)).0 (rise_on 0 marks (same.0 (subst P (sym end) tt)))
-
--- a mark of a resumption on the way is after a round that is not below the least
-pub rises_by : (least i : ℕ) (marks : List Mark) (mark : Mark) (round pe : ℕ) → i < length marks → mark ≡ get_or marks i mark → mark ≡ Resumed round pe → (Resumes least (drop i marks) ↔ Resumes 0 marks) → IsStrictlyIncreasing (rounds_resumed marks) → least ≤ round
-rises_by least i marks mark round pe within read is same h =
-    let rest : drop i marks ≡ Resumed round pe ∷ drop (i + 1) marks = drop_more marks i mark within ∙ ap (λ x. x ∷ drop (i + 1) marks) (sym read ∙ is) in
-    let P : List Mark → Type 0 = Resumes least in
-    (subst P rest (same.1 (resumes_on 0 marks ((rise_from_0 (rounds_resumed marks)).1 h)))).0
-
--- past a mark that is no resumption nothing changes, and past one that is the next has to be later
-pub past_synced : (least i : ℕ) (marks : List Mark) (mark : Mark) (note : Note) → i < length marks → mark ≡ get_or marks i mark → mark ≡ Synced note → (Resumes least (drop i marks) ↔ Resumes 0 marks) → Resumes least (drop (i + 1) marks) ↔ Resumes 0 marks
-past_synced least i marks mark note within read is same =
-    let rest : drop i marks ≡ Synced note ∷ drop (i + 1) marks = drop_more marks i mark within ∙ ap (λ x. x ∷ drop (i + 1) marks) (sym read ∙ is) in
-    let P : List Mark → Type 0 = Resumes least in
-    (λ h. same.0 (subst P (sym rest) h), λ h. subst P rest (same.1 h))
-
-pub past_resumed : (least i : ℕ) (marks : List Mark) (mark : Mark) (round pe : ℕ) → i < length marks → mark ≡ get_or marks i mark → mark ≡ Resumed round pe → least ≤ round → (Resumes least (drop i marks) ↔ Resumes 0 marks) → Resumes (round + 1) (drop (i + 1) marks) ↔ Resumes 0 marks
-past_resumed least i marks mark round pe within read is low same =
-    let rest : drop i marks ≡ Resumed round pe ∷ drop (i + 1) marks = drop_more marks i mark within ∙ ap (λ x. x ∷ drop (i + 1) marks) (sym read ∙ is) in
-    let P : List Mark → Type 0 = Resumes least in
-    (λ h. same.0 (subst P (sym rest) (low, h)), λ h. (subst P rest (same.1 h)).1)

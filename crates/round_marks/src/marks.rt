@@ -30,25 +30,33 @@ pub fn marks_agree<A: Allocator>(
     ensures agree { IsTrue result ↔ AreMarked board.now e home place marks.now }
 {
     (e.get() as usize) < board.len()
-        && are_synced(board, e, marks)
-        && are_resumed(board, e, home, marks)
-        && resumed_in_order(marks)
+        && are_right(board, e, home, marks)
         && stands_as_marked(place, marks)
 }
 
-// Whether element `e` reached AtSync for the rounds as their snapshots say.
-fn are_synced<A: Allocator>(board: &Board<A>, e: Index, marks: &[KeptMark]) -> bool
-    ensures { IsTrue result ↔ AreSynced board.now e marks.now }
+// Whether element `e` reached AtSync for the rounds as their snapshots say, and each resumption is where it may be and after
+// a later round than the one before.
+fn are_right<A: Allocator>(board: &Board<A>, e: Index, home: Pe, marks: &[KeptMark]) -> bool
+    requires member { e < elements board.now.database }
+    ensures { IsTrue result ↔ (AreSynced board.now e marks.now × All (IsResumptionMark board.now e home) marks.now × IsStrictlyIncreasing (rounds_resumed marks.now)) }
 {
     let mut reached = 0;
+    let mut least = 0;
     for mark in marks {
-        let Mark::Synced(note) = mark.get() else {
-            continue;
-        };
-        if !is_next_sync(board, e, reached, &note) {
-            return false;
+        match mark.get() {
+            Mark::Synced(note) => {
+                if !is_next_sync(board, e, reached, &note) {
+                    return false;
+                }
+                reached += 1;
+            }
+            Mark::Resumed(round, pe) => {
+                if !is_next_resumption(board, e, home, least, round, pe) {
+                    return false;
+                }
+                least = round.get() + 1;
+            }
         }
-        reached += 1;
     }
     board.rounds().len() <= reached as usize
 }
@@ -91,25 +99,19 @@ fn is_measured_as<A: Allocator>(
     *load == units && *size == bytes && *place == pe
 }
 
-// Whether each mark of a resumption of element `e` is right.
-fn are_resumed<A: Allocator>(board: &Board<A>, e: Index, home: Pe, marks: &[KeptMark]) -> bool
+// Whether element `e` may be resumed after this round, which is not below `least`, on this PE.
+fn is_next_resumption<A: Allocator>(
+    board: &Board<A>,
+    e: Index,
+    home: Pe,
+    least: u32,
+    round: Round,
+    pe: Pe,
+) -> bool
     requires member { e < elements board.now.database }
-    ensures { IsTrue result ↔ All (IsResumptionMark board.now e home) marks.now }
+    ensures { IsTrue result ↔ ((least ≤ round) × IsResumption board.now e home round pe) }
 {
-    marks
-        .iter()
-        .all(|mark| is_resumption_mark(board, e, home, mark))
-}
-
-// Whether this mark is right, if it is of a resumption.
-fn is_resumption_mark<A: Allocator>(board: &Board<A>, e: Index, home: Pe, mark: &KeptMark) -> bool
-    requires member { e < elements board.now.database }
-    ensures { IsTrue result ↔ IsResumptionMark board.now e home mark.now }
-{
-    match mark.get() {
-        Mark::Synced(_) => true,
-        Mark::Resumed(round, pe) => is_resumption(board, e, home, round, pe),
-    }
+    least <= round.get() && is_resumption(board, e, home, round, pe)
 }
 
 // Whether element `e` may be resumed after this round on this PE.
@@ -121,23 +123,6 @@ fn is_resumption<A: Allocator>(board: &Board<A>, e: Index, home: Pe, round: Roun
         return pe == home;
     }
     board.place_for(round, e) == Some(pe)
-}
-
-// Whether each resumption is after a later round than the one before.
-fn resumed_in_order(marks: &[KeptMark]) -> bool
-    ensures { IsTrue result ↔ IsStrictlyIncreasing (rounds_resumed marks.now) }
-{
-    let mut least = 0;
-    for mark in marks {
-        let Mark::Resumed(round, _) = mark.get() else {
-            continue;
-        };
-        if round.get() < least {
-            return false;
-        }
-        least = round.get() + 1;
-    }
-    true
 }
 
 // Whether an element is where its last mark says, if that is of a resumption.

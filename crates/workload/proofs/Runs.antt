@@ -1,14 +1,14 @@
 -- How a reader goes through a line that is of its form.
 use Rattle.std.proofs.Common.{◌≡◌, ℕ, ◌+◌, ◌*◌, ◌-◌, ◌/◌, ◌%◌, ◌^◌, ◌<◌, ◌≤◌, true, false, List, [], ◌∷◌, ◌++◌, length, get_or}
-use Rattle.std.proofs.Common.{take, drop, Option, Some, None, Ok, Err, refl, sym, ap, ◌∙◌, inl, inr, arith, append_assoc, length-append, add-one, drop-cons}
-use Rattle.std.specs.Prelude.{All, IsTrue}
+use Rattle.std.proofs.Common.{drop, Option, Some, None, Ok, Err, refl, sym, ap, ◌∙◌, inl, inr, arith, append_assoc, length-append}
+use Rattle.std.specs.Prelude.{All, IsTrue, slice_get}
 use Rattle.std.specs.Char.{is_ascii_digit}
 use Rattle.std.specs.Fmt.{decimal}
 use Rattle.std.specs.List.{flat_map}
 use Rattle.std.proofs.lemmas.Bool.{cases_Bool, lt-ltb, le-ltb, eq-eqb, ne_eqb}
 use Rattle.std.proofs.lemmas.Bool.Decides.{nat_tests}
 use Rattle.std.proofs.lemmas.Fmt.{decimal_by_steps, decimal_nonempty, length-decimal-le}
-use Rattle.std.proofs.lemmas.List.{append-nil, length_push, get_or-append-add, take_more, take-append-drop}
+use Rattle.std.proofs.lemmas.List.{append-nil, length_push, get_or-append-add}
 use Rattle.std.proofs.lemmas.List.Elements.{All-cons, All-head, All-nil, All-tail}
 use Rattle.workload.specs.declared.error.WorkError.{WorkError}
 use Rattle.workload.specs.declared.form.TheConstants.{DIGITS}
@@ -16,7 +16,7 @@ use Rattle.workload.specs.declared.judge.Spot.{Spot}
 use Rattle.workload.specs.declared.judge.Spot.TheVariants.{Word, Number}
 use Rattle.workload.specs.Text.{line, blank_number, newline}
 use Rattle.workload.specs.Faults.{LineForm, next_form, is_whole, in_range, IsFormed, AreLines, lines_text}
-use Rattle.workload.specs.Machine.{State, start, add, ended, turn, is_full, step_at, step, then_run, run}
+use Rattle.workload.specs.Machine.{State, start, add, ended, turn, is_full, step_at, step, then_run, run, Reaches}
 
 abbrev pub state : List (List ℕ) → LineForm → Spot → ℕ → Option (List ℕ) → State
 state lines form spot left row = record { lines = lines; form = form; spot = spot; left = left; row = row }
@@ -200,25 +200,40 @@ pub run_none : (s : State) → run [] s ≡ Ok s
 unfolding run
 run_none s = refl
 
+-- no byte yet
+pub reaches_none : (bytes : List ℕ) (s : State) → Reaches bytes s bytes s
+reaches_none bytes s = record { front = []; split = refl; came = run_none s }
+
+-- what is left, from its first byte on
+first_of : (rest : List ℕ) (b : ℕ) → slice_get rest 0 ≡ Some b → rest ≡ b ∷ drop 1 rest
+first_of [] b first = cc
+first_of (x ∷ rest) b first = let same : x ≡ b = cc in ap (λ y. y ∷ rest) same
+
 -- one more byte
-pub run_more : (bytes : List ℕ) (i : ℕ) (s t u : State) → i < length bytes → run (take i bytes) s ≡ Ok t → step t (get_or bytes i 0) ≡ Ok u → run (take (i + 1) bytes) s ≡ Ok u
-run_more bytes i s t u inside before stepped =
-    ap (λ xs. run xs s) (take_more bytes i 0 inside)
-    ∙ run-append (take i bytes) (get_or bytes i 0 ∷ []) s
-    ∙ ap (then_run (run (get_or bytes i 0 ∷ []))) before
-    ∙ run_ok t u (get_or bytes i 0) [] stepped
-    ∙ run_none u
+pub reaches_more : (bytes rest : List ℕ) (s t u : State) (b : ℕ) → Reaches bytes s rest t → slice_get rest 0 ≡ Some b → step t b ≡ Ok u → Reaches bytes s (drop 1 rest) u
+reaches_more bytes rest s t u b before first stepped =
+    record {
+      front = before.front ++ b ∷ [];
+      split = before.split ∙ ap (λ r. before.front ++ r) (first_of rest b first) ∙ sym (append_assoc before.front (b ∷ []) (drop 1 rest));
+      came = run-append before.front (b ∷ []) s ∙ ap (then_run (run (b ∷ []))) before.came ∙ run_ok t u b [] stepped ∙ run_none u;
+    }
+
+-- bytes after others
+pub reaches_on : (bytes rest last : List ℕ) (s t u : State) → Reaches bytes s rest t → Reaches rest t last u → Reaches bytes s last u
+reaches_on bytes rest last s t u before more =
+    record {
+      front = before.front ++ more.front;
+      split = before.split ∙ ap (λ r. before.front ++ r) more.split ∙ sym (append_assoc before.front more.front last);
+      came = run-append before.front more.front s ∙ ap (then_run (run more.front)) before.came ∙ more.came;
+    }
 
 -- a byte that is refused
-pub run_stops : (bytes : List ℕ) (i : ℕ) (s t : State) (e : WorkError) → i < length bytes → run (take i bytes) s ≡ Ok t → step t (get_or bytes i 0) ≡ Err e → run bytes s ≡ Err e
-run_stops bytes i s t e inside before stepped =
-    ap (λ xs. run xs s) (sym (take-append-drop i bytes) ∙ ap (λ r. take i bytes ++ r) (drop_at_read bytes i 0 inside))
-    ∙ run-append (take i bytes) (get_or bytes i 0 ∷ drop (i + 1) bytes) s
-    ∙ ap (then_run (run (get_or bytes i 0 ∷ drop (i + 1) bytes))) before
-    ∙ run_err t e (get_or bytes i 0) (drop (i + 1) bytes) stepped
-  where
-    drop_at_read : (xs : List ℕ) (k d : ℕ) → k < length xs → drop k xs ≡ get_or xs k d ∷ drop (k + 1) xs
-    drop_at_read xs k d here = rw (add-one, drop-cons xs k d) refl
+pub reaches_stop : (bytes rest : List ℕ) (s t : State) (b : ℕ) (e : WorkError) → Reaches bytes s rest t → slice_get rest 0 ≡ Some b → step t b ≡ Err e → run bytes s ≡ Err e
+reaches_stop bytes rest s t b e before first stepped =
+    ap (λ xs. run xs s) (before.split ∙ ap (λ r. before.front ++ r) (first_of rest b first))
+    ∙ run-append before.front (b ∷ drop 1 rest) s
+    ∙ ap (then_run (run (b ∷ drop 1 rest))) before.came
+    ∙ run_err t e b (drop 1 rest) stepped
 
 -- a number out of its range is not forgotten
 none_stays : (numbers : List ℕ) (form : LineForm) → adds form None numbers ≡ None

@@ -82,6 +82,12 @@ unfoldable pub run : List ℕ → State → Result State WorkError
 run [] s = Ok s
 run (b ∷ bytes) s = then_run (run bytes) (step s b)
 
+-- the bytes before these last ones bring a reader from one state to another
+pub record Reaches (bytes : List ℕ) (s : State) (rest : List ℕ) (t : State) : Type 0 where
+  pub front : List ℕ
+  pub split : bytes ≡ front ++ rest
+  pub came : run front s ≡ Ok t
+
 -- the line of a round is not complete
 abbrev pub IsGrowing : State → Type 0
 IsGrowing s = (4 ≤ length s.lines) × (is_whole s.lines ≡ false)

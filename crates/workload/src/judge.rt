@@ -1,7 +1,7 @@
-ghost use Rattle.std.specs.Prelude.{◌≡◌, ◌≢◌, ◌+◌, ◌-◌, ◌<◌, ◌⊎◌, ◌==◌, if◌then◌else◌, true, false, [], ◌∷◌, ◌++◌, length, MatchResult, Ok, Err};
+ghost use Rattle.std.specs.Prelude.{◌≡◌, ◌≢◌, ◌+◌, ◌-◌, ◌<◌, ◌⊎◌, ◌==◌, if◌then◌else◌, true, false, [], ◌∷◌, ◌++◌, length, slice_get, IsTrue, MatchResult, Ok, Err, Some, vec_len, vec_capacity};
 ghost use Rattle.workload.specs.Faults.{in_range, is_whole};
 ghost use Rattle.workload.specs.declared.form.TheConstants.{BLANK, NEWLINE};
-ghost use Rattle.workload.specs.Machine.{Grows, IsGrowing, IsHeld, add, ended, lines_of_view, run, start, state_of, step, step_at};
+ghost use Rattle.workload.specs.Machine.{Grows, IsGrowing, IsHeld, Reaches, add, ended, is_full, lines_of_view, run, start, state_of, step, step_at};
 
 use crate::error::WorkError;
 use crate::form::{BLANK, DIGITS, Line, NEWLINE};
@@ -69,13 +69,87 @@ impl<A: Allocator + Copy> Judge<A> {
             (λ _. (run bytes.now (state_of self.old) ≡ Ok (state_of self.new)) × IsHeld self.new)
             (λ e. ((e ≡ WorkError.OutOfMemory) × Grows (state_of self.old) bytes.now) ⊎ (run bytes.now (state_of self.old) ≡ Err e)) }
     {
-        for byte in bytes {
+        let mut rest = bytes;
+        while let Some(byte) = rest.first() {
             self.take(*byte)?;
+            rest = self.take_numbers(&rest[1..]);
         }
         Ok(())
     }
 
-    // Takes a byte.
+    // Takes the digits at the front of these bytes, if they go on a number, and then each amount that follows a blank, as long as
+    // nothing has to be reserved or refused. Returns the bytes after them.
+    fn take_numbers<'b>(&mut self, bytes: &'b [u8]) -> &'b [u8]
+        requires held { IsHeld self.old }
+        ensures taken { Reaches bytes.now (state_of self.old) result.now (state_of self.new) }
+        ensures held { IsHeld self.new }
+    {
+        let mut rest = self.take_digits(bytes);
+        while self.take_blank(rest) {
+            rest = self.take_digits(&rest[1..]);
+        }
+        rest
+    }
+
+    // Takes the blank at the front of these bytes, if it ends an amount for which the list has room. Returns whether it did.
+    #[tactic(auto, unfolding(crate::specs::Machine::step, crate::specs::Machine::step_at, crate::specs::Machine::turn))]
+    fn take_blank(&mut self, bytes: &[u8]) -> bool
+        requires held { IsHeld self.old }
+        ensures taken { IsTrue result → (slice_get bytes.now 0 ≡ Some BLANK) × (step (state_of self.old) BLANK ≡ Ok (state_of self.new)) }
+        ensures left { (result ≡ false) → state_of self.new ≡ state_of self.old }
+        ensures held { IsHeld self.new }
+    {
+        let Spot::Number(value, digits) = self.spot else {
+            return false;
+        };
+        let goes_on = bytes.first() == Some(&BLANK) && digits != 0 && self.left != 0;
+        if !goes_on || !self.has_room_for(value) {
+            return false;
+        }
+        self.row.push_reserved(value as u32);
+        self.begin_number();
+        true
+    }
+
+    // Whether the list of amounts has room for this one, which is in its range and follows no other that is not.
+    fn has_room_for(&self, amount: u64) -> bool
+        requires held { IsHeld self.now }
+        ensures ranged { IsTrue result → IsTrue (in_range (state_of self.now).form amount) }
+        ensures amounts { IsTrue result → (self.now.line ≡ Line.Amounts) × (self.now.past ≡ false) × (is_whole (state_of self.now).lines ≡ false) }
+        ensures room { IsTrue result → vec_len self.now.row < vec_capacity self.now.row }
+    {
+        self.line == Line::Amounts
+            && !self.past
+            && self.amounts.len() != self.rounds as usize
+            && amount <= u32::MAX as u64
+            && self.row.len() < self.row.capacity()
+    }
+
+    // Takes the digits at the front of these bytes, if they go on a number, and returns the bytes after them.
+    fn take_digits<'b>(&mut self, bytes: &'b [u8]) -> &'b [u8]
+        requires held { IsHeld self.old }
+        ensures taken { Reaches bytes.now (state_of self.old) result.now (state_of self.new) }
+        ensures held { IsHeld self.new }
+    {
+        let Spot::Number(mut value, mut digits) = self.spot else {
+            return bytes;
+        };
+        if self.is_whole() {
+            return bytes;
+        }
+        let mut rest = bytes;
+        while let Some(byte) = rest.first() {
+            if !byte.is_ascii_digit() || is_full(value, digits) {
+                break;
+            }
+            value = 10 * value + (*byte - b'0') as u64;
+            digits += 1;
+            rest = &rest[1..];
+        }
+        self.spot = Spot::Number(value, digits);
+        rest
+    }
+
     #[tactic(auto, unfolding(crate::specs::Machine::step))]
     fn take(&mut self, byte: u8) -> Result<(), WorkError>
         requires held { IsHeld self.old }
@@ -129,7 +203,7 @@ impl<A: Allocator + Copy> Judge<A> {
             (λ e. ((e ≡ WorkError.OutOfMemory) × IsGrowing (state_of self.old)) ⊎ (step_at (Spot.Number value digits) (state_of self.old) byte ≡ Err e)) }
     {
         if byte.is_ascii_digit() {
-            if digits == DIGITS || digits == 1 && value == 0 {
+            if is_full(value, digits) {
                 return Err(self.formless());
             }
             self.spot = Spot::Number(10 * value + (byte - b'0') as u64, digits + 1);
@@ -327,4 +401,11 @@ impl<A: Allocator + Copy> Judge<A> {
             amounts,
         })
     }
+}
+
+// Whether no digit may follow: the number has as many as it may, or is a zero.
+fn is_full(value: u64, digits: u32) -> bool
+    ensures { result ≡ is_full value digits }
+{
+    digits == DIGITS || digits == 1 && value == 0
 }
