@@ -28,7 +28,8 @@ mod letters;
 /// the board together, under one lock.
 const OWED: usize = 64;
 
-/// How many elements go on in a turn, before the worker sees to anything else.
+/// How many elements go on in a turn, before the worker sees to anything else. A turn moves about as many letters, so that those
+/// of a round do not pile up, and an element executes its letter while it is still in the cache.
 const ELEMENTS: usize = 64;
 
 /// How many idle turns in a row a worker spins, before it lets another thread have the processor in each.
@@ -249,8 +250,8 @@ impl<C: Chare<A>, H: Openings<C> + RunStrategy, J: RunBeginning<C>, A: Allocator
         unreachable!()
     }
 
-    // One turn: letters move, and then each other kind of step is tried once. It returns whether one was done. A turn in
-    // which letters move takes no lock of the board and no memory, and looks at no element but theirs.
+    // One turn: elements that are due go on, letters move, and then each other kind of step is tried once. It returns whether one
+    // was done. Moving letters takes no lock of the board and no memory, and looks at no element but theirs.
     fn turn<G: Gate + Sync, V: Watch + Sync, R: Threads + Wait + Sync>(
         &mut self,
         rt: &R,
@@ -262,8 +263,8 @@ impl<C: Chare<A>, H: Openings<C> + RunStrategy, J: RunBeginning<C>, A: Allocator
         ensures unpacks { IfErr result (λ fault. fault ≢ Unpack) }
         ensures no_mismatch { IfErr result (λ fault. fault ≢ Mismatch) }
     {
-        let moved = self.move_letters(gate, watch, field)?;
         let went_on = self.go_on(rt, gate, watch, field)?;
+        let moved = self.move_letters(gate, watch, field)?;
         let busy = moved > 0 || went_on;
         let reported = self.report(rt, watch, field, moved, busy)?;
         let decided = self.decide(rt, gate, watch, field)?;

@@ -34,23 +34,14 @@ impl<C: Chare<A>, H: Openings<C> + RunStrategy, J: RunBeginning<C>, A: Allocator
         ensures unpacks { IfErr result (λ fault. fault ≢ Unpack) }
         ensures no_mismatch { IfErr result (λ fault. fault ≢ Mismatch) }
     {
-        let most = self.most_letters();
-        for moved in 0..most {
+        for moved in 0..LETTERS {
             let taken = self.take_letter(gate, watch, field)?;
             let flushed = self.flush_letter(field);
             if !taken && !flushed {
                 return Ok(moved);
             }
         }
-        Ok(most)
-    }
-
-    // How often a turn takes and flushes a letter: once where an element is due, since others may wait for what it does.
-    fn most_letters(&self) -> usize {
-        if self.agenda.dues() > 0 {
-            return 1;
-        }
-        LETTERS
+        Ok(LETTERS)
     }
 
     // Takes a parcel from the queue, if the hand is empty, and acts on it. It returns whether it did anything. Where nobody
