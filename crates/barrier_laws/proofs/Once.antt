@@ -10,7 +10,8 @@ use Rattle.chares.specs.declared.carried.Carried.TheVariants.{Letter, Element}
 use Rattle.chares.specs.Elements.{ElementView}
 use Rattle.chares.specs.Letters.{Done}
 use Rattle.chares.specs.Steps.{Step}
-use Rattle.element_laws.specs.Orders.{IsElementInOrder, resumptions}
+use Rattle.chares.specs.Orders.{resumptions}
+use Rattle.chares.specs.Elements.{IsElementInOrder}
 use Rattle.pup_pack.specs.declared.error.PupError.{PupError}
 use Rattle.pe_state.specs.Pes.{PeView, Parcel, Item}
 use Rattle.rts_core.specs.declared.event.Event.{Event}

@@ -6,8 +6,9 @@ use Rattle.chares.specs.declared.carried.Carried.TheVariants.{Letter, Element}
 use Rattle.chares.specs.declared.entry.Entry.TheVariants.{Letter as OfLetter, Resumption}
 use Rattle.chares.specs.Elements.{ElementView, PackedView}
 use Rattle.chares.specs.Steps.{Step}
-use Rattle.element_laws.specs.Orders.{IsInOrder, IsElementInOrder}
-use Rattle.element_laws.proofs.Orders.{in_order_ran, in_order_opening}
+use Rattle.chares.specs.Orders.{IsInOrder}
+use Rattle.chares.specs.Elements.{IsElementInOrder}
+use Rattle.chares.proofs.Orders.{in_order_ran, in_order_opening}
 use Rattle.pe_state.specs.Pes.{PeView, Parcel, Item, waits_for}
 use Rattle.rts_core.specs.Worlds.{WorldView}
 use Rattle.rts_core.proofs.EachElement.{IsKept, ParcelKept, ItemKept, PeKept, WorldKept}

@@ -13,7 +13,7 @@ use Rattle.chares.specs.Elements.{ElementView}
 use Rattle.chares.specs.Letters.{LetterView, Done}
 use Rattle.chares.specs.Posting.{posts_of}
 use Rattle.chares.specs.Steps.{Step}
-use Rattle.element_laws.specs.Orders.{resumption_of, resumptions}
+use Rattle.chares.specs.Orders.{resumption_of, resumptions}
 use Rattle.pe_state.specs.Pes.{PeView, Parcel, gave_up, received, looked, noted, departed, resumed, resume_entries, executed, shelving, forwarding, installed}
 use Rattle.pe_state.specs.Rooms.{found, sends_in}
 use Rattle.rts_core.specs.Accounts.{times}

@@ -2,7 +2,8 @@
 use Rattle.std.specs.Prelude.{All, IfSome}
 use Rattle.std.specs.Map.{values_of}
 use Rattle.chares.specs.declared.carried.Carried.TheVariants.{Letter, Element}
-use Rattle.element_laws.specs.Orders.{IsInOrder, IsElementInOrder}
+use Rattle.chares.specs.Orders.{IsInOrder}
+use Rattle.chares.specs.Elements.{IsElementInOrder}
 use Rattle.pe_state.specs.Pes.{PeView, Parcel}
 use Rattle.rts_core.specs.Worlds.{WorldView}
 

@@ -1,14 +1,17 @@
 -- What an element has done, over one more entry, and over a pack.
-use Rattle.std.proofs.Common.{◌≡◌, ℕ, ◌<◌, ◌≤◌, List, [], ◌∷◌, ◌++◌, length, Ok, IsOk, Result, refl, sym, ◌∙◌, ap, subst, append-nil}
+use Rattle.std.proofs.Common.{◌≡◌, ℕ, ◌<◌, ◌≤◌, List, [], ◌∷◌, ◌++◌, length, Some, Ok, IsOk, Result, refl, sym, ◌∙◌, ap, subst, append-nil}
+use Rattle.std.specs.Prelude.{slice_get}
 use Rattle.std.proofs.lemmas.List.{map-append}
 use Rattle.std.proofs.lemmas.Option.{slice_get_within}
 use Rattle.chares.specs.Elements.{ElementView, PackedView, ran, lived, unpacked, opening_element, IsHistory, IsPackedHistory}
 use Rattle.chares.specs.Letters.{Done}
+use Rattle.chares.specs.Orders.{MayHandle}
 use Rattle.chares.specs.Progressing.{ended}
 use Rattle.chares.specs.declared.progress.Ending.{Ending}
 use Rattle.chares.specs.declared.progress.Ending.TheVariants.{Runs, Syncs, Finishes}
 use Rattle.chares.specs.declared.progress.Progress.{Progress}
 use Rattle.chares.specs.Steps.{Step}
+use Rattle.chares.proofs.Orders.{in_order_opening, in_order_ran}
 use Rattle.chare_index.specs.declared.limits.TheConstants.Limits.{STATE_BYTES}
 use Rattle.pup_pack.specs.declared.error.PupError.{PupError}
 
@@ -18,10 +21,10 @@ pub lived-push : {C : Type 0} (step : Step C) (pack : C → List ℕ) (el : Elem
 lived-push step pack el n [] done pe = refl
 lived-push step pack el n (x ∷ xs) done pe = lived-push step pack (ran step pack el n x.1 x.0) n xs done pe
 
--- an element with one more entry is again what its journal says
+-- an element with one more entry that it may handle is again what its journal says
 pub history_ran : {C : Type 0} (step : Step C) (pack : C → List ℕ) (opened : List C) (el : ElementView C) (pe : ℕ) (done : Done)
-    → IsHistory step pack opened el → IsHistory step pack opened (ran step pack el (length opened) pe done)
-history_ran {C} step pack opened el pe done h =
+    → IsHistory step pack opened el → MayHandle el.progress done → IsHistory step pack opened (ran step pack el (length opened) pe done)
+history_ran {C} step pack opened el pe done h may =
     record {
       opening = h.opening;
       opens = h.opens;
@@ -30,7 +33,13 @@ history_ran {C} step pack opened el pe done h =
           lived-push step pack (opening_element el.index h.opening) (length opened) h.entries done pe
           ∙ ap (λ (v : ElementView C). ran step pack v (length opened) pe done) h.is_lived;
       is_journal = rw (map-append, h.is_journal) refl;
+      in_order = in_order_ran step pack el (length opened) pe done h.in_order may;
     }
+
+-- as an element opens
+pub history_opening : {C : Type 0} (step : Step C) (pack : C → List ℕ) (opened : List C) (index : ℕ) (chare : C) → slice_get opened index ≡ Some chare → IsHistory step pack opened (opening_element index chare)
+history_opening step pack opened index chare at =
+    record { opening = chare; opens = at; entries = []; is_lived = refl; is_journal = refl; in_order = in_order_opening index chare }
 
 -- an element is one of its array
 pub history_within : {C : Type 0} (step : Step C) (pack : C → List ℕ) (opened : List C) (el : ElementView C) → IsHistory step pack opened el → el.index < length opened

@@ -8,6 +8,7 @@ use Rattle.chares.specs.declared.progress.Progress.{Progress}
 use Rattle.chares.specs.declared.sends.SendError.{SendError}
 use Rattle.chares.specs.declared.sends.SendError.TheVariants.{OutOfMemory}
 use Rattle.chares.specs.Letters.{Done, input_of}
+use Rattle.chares.specs.Orders.{IsInOrder}
 use Rattle.chares.specs.Progressing.{entered, charged, ending, ended, note_at, resumed_mark, synced_mark}
 use Rattle.chares.specs.Steps.{Outcome, Step}
 
@@ -19,6 +20,10 @@ pub record ElementView (C : Type 0) : Type 0 where
   pub journal : List Done
   pub progress : Progress
   pub marks : List Mark
+
+-- the rounds of an element come in order
+abbrev pub IsElementInOrder : {C : Type 0} → ElementView C → Type 0
+IsElementInOrder el = IsInOrder el.journal el.progress el.marks
 
 -- as it opens
 abbrev pub opening_element : {C : Type 0} → ℕ → C → ElementView C
@@ -69,13 +74,15 @@ module _ {C : Type 0} (step : Step C) (pack : C → List ℕ) where
   lived el n (x ∷ xs) = lived (ran el n x.1 x.0) n xs
 
   -- the element is the chare that its array opened with, after the entries of its journal, each on some PE: its chare is
-  -- the step folded over the journal, and everything else follows from the same journal, except the PEs in its marks
+  -- the step folded over the journal, and everything else follows from the same journal, except the PEs in its marks. Its
+  -- rounds come in order: it started before its first letter, and then waited and was resumed for each round in turn.
   pub record IsHistory (opened : List C) (el : ElementView C) : Type 0 where
     pub opening : C
     pub opens : slice_get opened el.index ≡ Some opening
     pub entries : List (Done × ℕ)
     pub is_lived : lived (opening_element el.index opening) (length opened) entries ≡ el
     pub is_journal : map (λ x. x.0) entries ≡ el.journal
+    pub in_order : IsElementInOrder el
 
 -- When the handler of a chare may return an error: from the state, the index of the element, the number of elements, how
 -- many letters the PE has posted, and what the handler is given.

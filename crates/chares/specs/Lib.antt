@@ -1,8 +1,10 @@
+pub mod Annals
 pub mod Bodies
 pub mod Elements
 pub mod Journals
 pub mod Keeping
 pub mod Letters
+pub mod Orders
 pub mod Posting
 pub mod Progressing
 pub mod Steps

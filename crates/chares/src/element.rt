@@ -10,8 +10,8 @@ ghost use Rattle.chares.specs.Keeping.{IsLight};
 ghost use Rattle.chares.specs.Posting.{with_execution, with_resumption};
 ghost use Rattle.chares.specs.Progressing.{note_at, synced_mark};
 
+use crate::annals::Annals;
 use crate::chare::{Chare, Here};
-use crate::journal::Journal;
 use crate::kept_mark::KeptMark;
 use crate::letter::Letter;
 use crate::note::Note;
@@ -29,7 +29,7 @@ use std::marker::Model;
 pub struct Element<C: Chare<A>, A: Allocator = Global> {
     index: Index,
     chare: C,
-    journal: Journal<A>,
+    journal: Annals<A>,
     progress: Progress,
     marks: Vec<KeptMark, A>,
 }
@@ -56,7 +56,7 @@ impl<C: Chare<A>, A: Allocator> Element<C, A> {
         Element {
             index,
             chare,
-            journal: Journal::new(alloc),
+            journal: Annals::new(alloc),
             progress: Progress::opening(),
             marks: Vec::new(alloc),
         }
@@ -84,10 +84,17 @@ impl<C: Chare<A>, A: Allocator> Element<C, A> {
     }
 
     /// The letters and resumptions that it has handled, in order.
-    pub fn journal(&self) -> &Journal<A>
+    pub fn journal(&self) -> &Annals<A>
         ensures value { result.now.entries ≡ self.now.journal }
     {
         &self.journal
+    }
+
+    /// Settles what it has handled: its journal takes no more memory, and is what it was.
+    pub fn settle(&mut self)
+        ensures same { self.new ≡ self.old }
+    {
+        self.journal.settle();
     }
 
     /// How far it has come.
@@ -108,7 +115,7 @@ impl<C: Chare<A>, A: Allocator> Element<C, A> {
 
 impl<C: Chare<A>, A: Allocator> Element<C, A> {
     /// All but its chare, which is dropped.
-    pub(crate) fn into_parts(self) -> (Index, Journal<A>, Progress, Vec<KeptMark, A>)
+    pub(crate) fn into_parts(self) -> (Index, Annals<A>, Progress, Vec<KeptMark, A>)
         ensures index { result.0 ≡ self.index }
         ensures journal { result.1.entries ≡ self.journal }
         ensures progress { result.2 ≡ self.progress }
@@ -129,7 +136,7 @@ impl<C: Chare<A>, A: Allocator> Element<C, A> {
     pub(crate) fn from_parts(
         index: Index,
         chare: C,
-        journal: Journal<A>,
+        journal: Annals<A>,
         progress: Progress,
         marks: Vec<KeptMark, A>,
     ) -> Self

@@ -91,6 +91,14 @@ impl<A: Allocator> Journal<A> {
         };
     }
 
+    /// Drops all entries.
+    pub(crate) fn clear(&mut self)
+        ensures entries { self.new.entries ≡ [] }
+    {
+        self.letters.clear();
+        self.resumptions.clear();
+    }
+
     /// How many letters and resumptions there are.
     pub fn len(&self) -> usize
         ensures value { result ≡ length self.now.entries }

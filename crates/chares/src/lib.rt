@@ -13,6 +13,7 @@
 //! - [`TraceEntry`]: what an event adds to the trace of a run.
 #![tactic(auto)]
 
+mod annals;
 mod body;
 mod carried;
 mod chare;
@@ -23,11 +24,13 @@ mod kept_mark;
 mod letter;
 mod note;
 mod packed;
+mod past;
 mod progress;
 mod sends;
 mod state_bytes;
 mod trace_entry;
 
+pub use annals::Annals;
 pub use carried::{Addressed, Carried};
 pub use chare::{Chare, Effect, Here, Openings};
 pub use element::{Element, Unread};

@@ -4,9 +4,9 @@ ghost use Rattle.std.specs.Prelude.{◌≡◌, ℕ, ◌<◌, ◌≤◌, [], Ok, 
 ghost use Rattle.chare_index.specs.declared.limits.TheConstants.Limits.{ROUND};
 ghost use Rattle.chares.specs.Elements.{ElementView, PackedView, packed, unpacked, IsHistory, IsPackedHistory};
 
+use crate::annals::Annals;
 use crate::chare::{Chare, Openings};
 use crate::element::Element;
-use crate::journal::Journal;
 use crate::kept_mark::KeptMark;
 use crate::progress::Progress;
 use chare_index::Index;
@@ -19,7 +19,7 @@ use std::marker::{Model, PhantomData};
 struct Luggage<A: Allocator> {
     index: Index,
     bytes: Vec<u8, A>,
-    journal: Journal<A>,
+    journal: Annals<A>,
     progress: Progress,
     marks: Vec<KeptMark, A>,
 }
@@ -66,7 +66,7 @@ impl<A: Allocator> Packed<A> {
     }
 
     /// The letters and resumptions that it has handled, in order.
-    pub fn journal(&self) -> &Journal<A>
+    pub fn journal(&self) -> &Annals<A>
         ensures value { result.now.entries ≡ self.now.journal }
     {
         &self.luggage.journal
@@ -181,7 +181,7 @@ impl<C: Chare<A>, H: Openings<C>, A: Allocator> PackedElement<C, H, A> {
     }
 
     /// The letters and resumptions that it has handled, in order.
-    pub fn journal(&self) -> &Journal<A>
+    pub fn journal(&self) -> &Annals<A>
         ensures value { result.now.entries ≡ self.now.journal }
     {
         self.packed.journal()
@@ -233,7 +233,7 @@ impl<A: Allocator> Packing<A> {
         let luggage = Luggage {
             index: element.index(),
             bytes,
-            journal: Journal::new(alloc),
+            journal: Annals::new(alloc),
             progress: element.progress(),
             marks: Vec::new(alloc),
         };

@@ -13,7 +13,7 @@ use Rattle.chares.specs.Elements.{ElementView, opening_element, outcome_of, work
 use Rattle.chares.specs.Letters.{Done}
 use Rattle.chares.specs.Progressing.{entered, ended, note_at, resumed_mark, synced_mark}
 use Rattle.chares.specs.Steps.{Step}
-use Rattle.element_laws.specs.Orders.{stop_of, IsInOrder}
+use Rattle.chares.specs.Orders.{stop_of, IsInOrder}
 use Rattle.element_laws.specs.Rounds.{stage, Begins, IsPhase}
 use Rattle.element_laws.proofs.Notes.{marks_over}
 use Rattle.element_laws.proofs.Stages.{Reached, units, syncs_here}

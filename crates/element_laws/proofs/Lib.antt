@@ -1,6 +1,5 @@
 pub mod Ends
 pub mod Notes
-pub mod Orders
 pub mod Phases
 pub mod Stages
 pub mod Turns

@@ -2,7 +2,7 @@
 use Rattle.std.proofs.Common.{◌≡◌, ℕ, zero, suc, ◌+◌, List, [], ◌∷◌, ◌++◌, Bool, true, false, ◌⊎◌, inl, inr, append_assoc, arith, refl}
 use Rattle.std.specs.Prelude.{if◌then◌else◌}
 use Rattle.chares.specs.declared.progress.Progress.{Progress}
-use Rattle.element_laws.specs.Orders.{Stop, AtSync, Resumes, stops_until, stops_by}
+use Rattle.chares.specs.Orders.{Stop, AtSync, Resumes, stops_until, stops_by}
 
 -- stops in turn, of an element that has started or not, was resumed last for a round, and waits or not
 abbrev pub InTurn : Bool → ℕ → Bool → List Stop → Type 0

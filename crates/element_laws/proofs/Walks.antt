@@ -11,7 +11,7 @@ use Rattle.chares.specs.Elements.{ElementView, opening_element, outcome_of, work
 use Rattle.chares.specs.Letters.{Done}
 use Rattle.chares.specs.Progressing.{entered, charged, ended, note_at, resumed_mark, synced_mark}
 use Rattle.chares.specs.Steps.{Step}
-use Rattle.element_laws.specs.Orders.{stop_of, stops_by, IsInOrder}
+use Rattle.chares.specs.Orders.{stop_of, stops_by, IsInOrder}
 use Rattle.element_laws.specs.Rounds.{units_at, Begins}
 use Rattle.element_laws.proofs.Notes.{marks_over, lived_marks}
 use Rattle.element_laws.proofs.Stages.{cut_at, IsAt, Reached, units, stage_next, units_here, units_none, units_more, reached_here}

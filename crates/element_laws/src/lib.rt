@@ -9,7 +9,8 @@ ghost use Rattle.chares.specs.declared.note.Mark.TheVariants.{Synced};
 ghost use Rattle.chares.specs.declared.note.Note.TheVariants.{Sync};
 ghost use Rattle.chares.specs.Elements.{ElementView, opening_element, ran, IsHistory};
 ghost use Rattle.chares.specs.Letters.{Done};
-ghost use Rattle.element_laws.specs.Orders.{IsElementInOrder, MayHandle};
+ghost use Rattle.chares.specs.Orders.{MayHandle};
+ghost use Rattle.chares.specs.Elements.{IsElementInOrder};
 ghost use Rattle.element_laws.specs.Rounds.{MarksArePhases, HasOnePhase};
 
 use chares::Chare;

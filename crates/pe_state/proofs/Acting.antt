@@ -1,6 +1,7 @@
 -- What Act comes to on a parcel that was taken out of the hand.
 use Rattle.pup_pack.specs.declared.error.PupError.{PupError}
 use Rattle.std.proofs.Common.{◌≡◌, ℕ, List, Option, [], ◌∷◌, Some, None, MatchOption, option_map, IsSome, is_some, true, false, Result, Ok, Err, IsOk, OnErr, IfErr, refl, ap, sym, subst, Bool, not, if◌then◌else◌, ◌∙◌}
+use Rattle.std.specs.Option.{option_map_or}
 use Rattle.std.specs.Result.{IsErr}
 use Rattle.chares.specs.Elements.{ElementView, PackedView}
 use Rattle.chares.specs.Letters.{LetterView}
@@ -14,7 +15,7 @@ use Rattle.chares.specs.Posting.{traced}
 use Rattle.chares.specs.declared.trace_entry.TraceEntry.{TraceEntry}
 use Rattle.chares.specs.declared.trace_entry.TraceEntry.TheVariants as Trace
 use Rattle.pe_state.specs.Acts.{Acts, Traces}
-use Rattle.pe_state.specs.Pes.{PeView, Item, Parcel, Acting, installed, passing, executed, on_letter, on_element, on_parcel, installing, acting, acting_on, acted_of, pe_after, trace_of, held}
+use Rattle.pe_state.specs.Pes.{PeView, Item, Parcel, Acting, installed, passing, executed, on_letter, on_element, on_parcel, installing, acting, acting_on, acted_of, pe_after, trace_of, held, has_started}
 use Rattle.pe_state.specs.Refusals.{RefusesStep, RefusesAct, RefusesParcel}
 use Rattle.pe_state.specs.Rooms.{found}
 use Rattle.chares.specs.Elements.{Refuses}
@@ -47,6 +48,10 @@ not_true false h = refl
 not_false : (b : Bool) → not b ≡ false → b ≡ true
 not_false true h = refl
 not_false false h = cc
+
+-- an element that was found, and has started
+pub starts : {C : Type 0} (v : PeView C) (e : ℕ) (el : ElementView C) (p : Progress) → found e v.room ≡ Some el → p ≡ el.progress → not p.started ≡ false → has_started v e ≡ true
+starts v e el p at s h = ap (λ o. option_map_or (λ el. el.progress.started) o false) at ∙ sym (ap (λ x. x.started) s) ∙ not_false p.started h
 
 module _ {C : Type 0} (step : Step C) (pack : C → List ℕ) (unpack : List ℕ → Result (C × ℕ) PupError) where
   passing_without : (v : PeView C) (h : Option Item) (l : LetterView) (look : Option ℕ) → passing v l look ≡ passing (record v { hand = h }) l look

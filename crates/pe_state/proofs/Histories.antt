@@ -1,11 +1,12 @@
 -- What a PE makes of the elements that it holds: each was what its journal says, and still is.
-use Rattle.std.proofs.Common.{◌≡◌, ℕ, ◌+◌, ◌<◌, ◌≤◌, List, [], ◌∷◌, ◌++◌, length, map, Bool, true, false, Option, Some, None, Result, Ok, Err, refl, sym, ap, subst, ◌∙◌, nat_eq}
-use Rattle.std.specs.Prelude.{All, IfSome, if◌then◌else◌, slice_get}
+use Rattle.std.proofs.Common.{◌≡◌, ℕ, ◌+◌, ◌<◌, ◌≤◌, inl, inr, List, [], ◌∷◌, ◌++◌, length, map, Bool, true, false, Option, Some, None, Result, Ok, Err, refl, sym, ap, subst, ◌∙◌, nat_eq}
+use Rattle.std.specs.Prelude.{All, IfSome, if◌then◌else◌, not, ◌&&◌, slice_get}
 use Rattle.std.specs.Option.{option_map, option_map_or, option_to_list}
 use Rattle.std.specs.Map.{values_of}
 use Rattle.std.specs.Ordering.{nat_cmp}
 use Rattle.std.specs.BTreeMap.{is_at}
 use Rattle.std.proofs.lemmas.List.Elements.{All-nil, All-cons, All-append, All-push, All-drop, All-head, All-tail}
+use Rattle.std.proofs.lemmas.Bool.{eqb-true}
 use Rattle.std.proofs.lemmas.Map.Views.{IfSome-lookup_from_All, All-values-set_value, All-values-insert_entry, All-map-remove_entry}
 use Rattle.chare_index.specs.declared.limits.TheConstants.Limits.{STATE_BYTES}
 use Rattle.pup_pack.specs.declared.error.PupError.{PupError}
@@ -13,12 +14,49 @@ use Rattle.chares.specs.declared.carried.Carried.TheVariants.{Letter, Element}
 use Rattle.chares.specs.declared.entry.Entry.TheVariants.{Letter as OfLetter, Resumption}
 use Rattle.chares.specs.Elements.{ElementView, PackedView, opening_element, packed, unpacked, ran, IsHistory, IsPackedHistory}
 use Rattle.chares.specs.Letters.{LetterView, Done}
+use Rattle.chares.specs.Orders.{MayHandle}
+use Rattle.chares.specs.declared.progress.Progress.{Progress}
 use Rattle.chares.specs.Posting.{letters_of}
 use Rattle.chares.specs.Steps.{Step}
-use Rattle.chares.proofs.Histories.{history_ran, history_unpacked, history_within}
+use Rattle.chares.proofs.Histories.{history_ran, history_opening, history_unpacked, history_within}
 use Rattle.pe_state.specs.Histories.{IsParcelHistory, HasHistories}
-use Rattle.pe_state.specs.Pes.{PeView, Parcel, Item, at_pe, letter_at, element_at, front_at, front_parcel, new_pe, placed, held, hand_wants, looked, looked_in, received, gave_up, handed_back, noted, handled, resumed, executed, shelving, forwarding, passing, installed, installing, on_letter, on_element, on_parcel, acting_on, acting, departed}
+use Rattle.pe_state.specs.Pes.{PeView, Parcel, Item, at_pe, letter_at, element_at, front_at, front_parcel, new_pe, placed, held, hand_wants, looked, looked_in, received, gave_up, handed_back, noted, handled, resumed, executed, is_due, may_resume, has_started, shelving, forwarding, passing, installed, installing, on_letter, on_element, on_parcel, acting_on, acting, departed}
 use Rattle.pe_state.specs.Rooms.{found, changed, ran_in, sends_in}
+
+-- the element with this index, where it stands in the room, may handle this entry next
+abbrev pub MayHandleAt : {C : Type 0} → PeView C → ℕ → Done → Type 0
+MayHandleAt pe e done = IfSome (found e pe.room) (λ el. MayHandle el.progress done)
+
+-- a letter once it has started, and a resumption where it is due
+pub may_execute : {C : Type 0} (pe : PeView C) (l : LetterView) → has_started pe l.to ≡ true → MayHandleAt pe l.to (OfLetter l)
+may_execute {C} pe l h = by (found l.to pe.room) h
+  where
+    by : (o : Option (ElementView C)) → option_map_or (λ el. el.progress.started) o false ≡ true → IfSome o (λ el. MayHandle el.progress (OfLetter l))
+    by None k = tt
+    by (Some el) k = k
+
+not_started : (b : Bool) → not b ≡ true → b ≡ false
+not_started true h = cc
+not_started false h = refl
+
+waits_for_it : (p : Progress) (round : ℕ) (s e : Bool) → p.synced ≡ s → nat_eq (p.round + 1) round ≡ e → (s && e) ≡ true → (p.synced ≡ true) × (round ≡ p.round + 1)
+waits_for_it p round true true s e h = (s, sym (eqb-true (p.round + 1) round e))
+waits_for_it p round true false s e h = cc
+waits_for_it p round false e s f h = cc
+
+due_handles : (p : Progress) (round : ℕ) → is_due round p ≡ true → MayHandle p (Resumption round)
+due_handles p round h = by (nat_eq round 0) refl h
+  where
+    by : (z : Bool) → nat_eq round 0 ≡ z → (if z then not p.started else (p.synced && nat_eq (p.round + 1) round)) ≡ true → MayHandle p (Resumption round)
+    by true z k = inl (not_started p.started k, eqb-true round 0 z)
+    by false z k = inr (waits_for_it p round p.synced (nat_eq (p.round + 1) round) refl refl k)
+
+pub may_go_on : {C : Type 0} (pe : PeView C) (e round : ℕ) → may_resume pe e round ≡ true → MayHandleAt pe e (Resumption round)
+may_go_on {C} pe e round h = by (found e pe.room) h
+  where
+    by : (o : Option (ElementView C)) → option_map_or (λ el. is_due round el.progress) o false ≡ true → IfSome o (λ el. MayHandle el.progress (Resumption round))
+    by None k = tt
+    by (Some el) k = due_handles el.progress round k
 
 module _ {C : Type 0} {step : Step C} {fits : C → Type 0} {pack : C → List ℕ} {opened : List C} where
   -- a PE that is seen otherwise
@@ -67,22 +105,22 @@ module _ {C : Type 0} (step : Step C) (fits : C → Type 0) (pack : C → List �
   placed_holds pe e chare h at =
       record {
         same_array = h.same_array;
-        room = All-values-insert_entry nat_cmp e (opening_element e chare) (IsHistory step pack opened) pe.room h.room (record { opening = chare; opens = at; entries = []; is_lived = refl; is_journal = refl });
+        room = All-values-insert_entry nat_cmp e (opening_element e chare) (IsHistory step pack opened) pe.room h.room (history_opening step pack opened e chare at);
         hand = h.hand;
         outbox = h.outbox;
       }
 
   -- an element runs in its room
-  ran_room_at : (room : List (ℕ × ElementView C)) (e n pe : ℕ) (done : Done) (o : Option (ElementView C)) → n ≡ length opened → All (IsHistory step pack opened) (values_of room) → IfSome o (IsHistory step pack opened) → All (IsHistory step pack opened) (values_of (option_map_or (λ el. changed e (ran step pack el n pe done) room) o room))
-  ran_room_at room e n pe done None same all h = all
-  ran_room_at room e n pe done (Some el) same all h =
+  ran_room_at : (room : List (ℕ × ElementView C)) (e n pe : ℕ) (done : Done) (o : Option (ElementView C)) → n ≡ length opened → All (IsHistory step pack opened) (values_of room) → IfSome o (IsHistory step pack opened) → IfSome o (λ el. MayHandle el.progress done) → All (IsHistory step pack opened) (values_of (option_map_or (λ el. changed e (ran step pack el n pe done) room) o room))
+  ran_room_at room e n pe done None same all h may = all
+  ran_room_at room e n pe done (Some el) same all h may =
       All-values-set_value (is_at (nat_cmp e)) (IsHistory step pack opened) room (ran step pack el n pe done) all
-      (subst (λ (k : ℕ). IsHistory step pack opened (ran step pack el k pe done)) (sym same) (history_ran step pack opened el pe done h))
+      (subst (λ (k : ℕ). IsHistory step pack opened (ran step pack el k pe done)) (sym same) (history_ran step pack opened el pe done h may))
 
-  ran_room : (room : List (ℕ × ElementView C)) (e n pe : ℕ) (done : Done) → n ≡ length opened → All (IsHistory step pack opened) (values_of room) → All (IsHistory step pack opened) (values_of (ran_in step pack room e n pe done))
-  ran_room room e n pe done same all =
+  ran_room : (room : List (ℕ × ElementView C)) (e n pe : ℕ) (done : Done) → n ≡ length opened → All (IsHistory step pack opened) (values_of room) → IfSome (found e room) (λ el. MayHandle el.progress done) → All (IsHistory step pack opened) (values_of (ran_in step pack room e n pe done))
+  ran_room room e n pe done same all may =
       ran_room_at room e n pe done (found e room) same all
-      (IfSome-lookup_from_All (IsHistory step pack opened) (is_at (nat_cmp e)) room all)
+      (IfSome-lookup_from_All (IsHistory step pack opened) (is_at (nat_cmp e)) room all) may
 
   -- letters are no elements
   letters_hold : (me k : ℕ) (sends : List (ℕ × List ℕ)) → All IsItemHistory (letters_of {P = PackedView} me k sends)
@@ -95,29 +133,29 @@ module _ {C : Type 0} (step : Step C) (fits : C → Type 0) (pack : C → List �
   unshelved_hold q (l ∷ letters) = All-cons IsItemHistory (letter_at q l) (map (letter_at q) letters) tt (unshelved_hold q letters)
 
   -- after a handler
-  pub handled_holds : (pe : PeView C) (e : ℕ) (done : Done) (hand : Option Item) → HasHistories step fits pack opened pe → IfSome hand IsItemHistory → HasHistories step fits pack opened (handled step pack pe e done hand)
-  handled_holds pe e done hand h held =
+  pub handled_holds : (pe : PeView C) (e : ℕ) (done : Done) (hand : Option Item) → HasHistories step fits pack opened pe → MayHandleAt pe e done → IfSome hand IsItemHistory → HasHistories step fits pack opened (handled step pack pe e done hand)
+  handled_holds pe e done hand h may held =
       record {
         same_array = h.same_array;
-        room = ran_room pe.room e pe.n pe.me done h.same_array h.room;
+        room = ran_room pe.room e pe.n pe.me done h.same_array h.room may;
         hand = held;
         outbox = All-append IsItemHistory pe.outbox _ h.outbox (letters_hold pe.me pe.count _);
       }
 
   -- so of a PE whose parts are those after it: outbox0 is the outbox before
-  pub handler_holds : {v w : PeView C} (e : ℕ) (done : Done) (hand : Option Item) (outbox0 : List Item) → HasHistories step fits pack opened v → IfSome hand IsItemHistory
+  pub handler_holds : {v w : PeView C} (e : ℕ) (done : Done) (hand : Option Item) (outbox0 : List Item) → HasHistories step fits pack opened v → MayHandleAt v e done → IfSome hand IsItemHistory
       → w.n ≡ v.n
       → w.room ≡ ran_in step pack v.room e v.n v.me done
       → w.hand ≡ hand
       → outbox0 ≡ v.outbox
       → w.outbox ≡ outbox0 ++ letters_of v.me v.count (sends_in step pack v.room e v.n done)
       → HasHistories step fits pack opened w
-  handler_holds {v} {w} e done hand outbox0 h held n room same o posted =
-      still_holds (handled_holds v e done hand h held) n room same
+  handler_holds {v} {w} e done hand outbox0 h may held n room same o posted =
+      still_holds (handled_holds v e done hand h may held) n room same
       (posted ∙ ap (λ xs. xs ++ letters_of v.me v.count (sends_in step pack v.room e v.n done)) o)
 
-  pub resumed_holds : (pe : PeView C) (e round : ℕ) → HasHistories step fits pack opened pe → HasHistories step fits pack opened (resumed step pack pe e round)
-  resumed_holds pe e round h = handled_holds pe e (Resumption round) pe.hand h h.hand
+  pub resumed_holds : (pe : PeView C) (e round : ℕ) → HasHistories step fits pack opened pe → may_resume pe e round ≡ true → HasHistories step fits pack opened (resumed step pack pe e round)
+  resumed_holds pe e round h due = handled_holds pe e (Resumption round) pe.hand h (may_go_on pe e round due) h.hand
 
   -- Look
   pub looked_in_holds : (pe : PeView C) (q : ℕ) (o : Option ℕ) → HasHistories step fits pack opened pe → HasHistories step fits pack opened (looked_in pe q o)
@@ -200,13 +238,13 @@ module _ {C : Type 0} (step : Step C) (fits : C → Type 0) (pack : C → List �
       by true = shelving_holds pe l h
       by false = forwarding_holds pe l q h
 
-  letter_holds : (pe : PeView C) (l : LetterView) (look : Option ℕ) (o : Option (ElementView C)) → HasHistories step fits pack opened pe → IfSome (on_letter step pack pe l look o) (λ a. HasHistories step fits pack opened a.pe)
-  letter_holds pe l look (Some el) h = by el.progress.started
+  letter_holds : (pe : PeView C) (l : LetterView) (look : Option ℕ) (o : Option (ElementView C)) → found l.to pe.room ≡ o → HasHistories step fits pack opened pe → IfSome (on_letter step pack pe l look o) (λ a. HasHistories step fits pack opened a.pe)
+  letter_holds pe l look (Some el) at h = by el.progress.started refl
     where
-      by : (b : Bool) → IfSome (if b then Some (executed step pack pe l) else None) (λ a. HasHistories step fits pack opened a.pe)
-      by true = handled_holds pe l.to (OfLetter l) None h tt
-      by false = tt
-  letter_holds pe l look None h = passing_holds pe l look h
+      by : (b : Bool) → el.progress.started ≡ b → IfSome (if b then Some (executed step pack pe l) else None) (λ a. HasHistories step fits pack opened a.pe)
+      by true started = handled_holds pe l.to (OfLetter l) None h (subst (λ (o : Option (ElementView C)). IfSome o (λ el. MayHandle el.progress (OfLetter l))) (sym at) started) tt
+      by false started = tt
+  letter_holds pe l look None at h = passing_holds pe l look h
 
   -- with one more letter at the back of its outbox: outbox0 is the outbox before
   pub posted_holds : {v w : PeView C} (l : LetterView) (q : Option ℕ) (outbox0 : List Item) → HasHistories step fits pack opened v → w.n ≡ v.n → w.room ≡ v.room → w.hand ≡ v.hand → outbox0 ≡ v.outbox
@@ -241,7 +279,7 @@ module _ {C : Type 0} (step : Step C) (fits : C → Type 0) (pack : C → List �
     element_holds pe p None h k = installing_holds pe p (unpack p.bytes) refl h k
 
     parcel_holds : (pe : PeView C) (parcel : Parcel) (look : Option ℕ) → HasHistories step fits pack opened pe → IsParcelHistory step fits pack opened parcel → IfSome (on_parcel step pack unpack pe parcel look) (λ a. HasHistories step fits pack opened a.pe)
-    parcel_holds pe (Letter l) look h k = letter_holds pe l look (found l.to pe.room) h
+    parcel_holds pe (Letter l) look h k = letter_holds pe l look (found l.to pe.room) refl h
     parcel_holds pe (Element p) look h k = element_holds pe p (found p.index pe.room) h k
 
     hand_holds : (pe : PeView C) (o : Option Item) → HasHistories step fits pack opened pe → IfSome o IsItemHistory → IfSome (acting_on step pack unpack pe o) (λ a. HasHistories step fits pack opened a.pe)

@@ -160,6 +160,13 @@ impl<C: Chare<A>, H: Openings<C>, A: Allocator + Copy> PeState<C, H, A> {
         end.kept = None;
     }
 
+    /// Settles what an element has handled, where it stands here: its journal takes no more memory, and is what it was.
+    pub fn settle(&mut self, index: Index)
+        ensures same { self.new ≡ self.old }
+    {
+        self.end.room.settle(index);
+    }
+
     /// Packs an element, which stands here and waits for the end of its round, and puts it into the outbox, addressed
     /// to the PE where it is to be. Where its round is decided and gives it this place the caller has seen; it stores
     /// the element's location word next, before any other step of this PE: see "Why the word is stored before the parcel

@@ -196,6 +196,17 @@ impl<C: Chare<A>, A: Allocator + Copy> Room<C, A> {
         self.rows[row].resume(gate, pe, index, round, sends)
     }
 
+    /// Settles what an element has handled, where it stands here.
+    pub(crate) fn settle(&mut self, index: Index)
+        ensures same { self.new ≡ self.old }
+    {
+        let row = row_number(index);
+        if self.rows.len() <= row {
+            return;
+        }
+        self.rows[row].settle(index);
+    }
+
     /// Takes in an element that was packed, with the chare that its bytes unpacked to, where none with its index
     /// stands. Where no memory is left it comes back.
     pub(crate) fn install(

@@ -189,6 +189,16 @@ impl<C: Chare<A>, A: Allocator + Copy> Row<C, A> {
         self.items[place].1.resume(gate, pe, round, sends)
     }
 
+    /// Settles what an element has handled, which is of this row.
+    pub(crate) fn settle(&mut self, index: Index)
+        ensures same { self.new ≡ self.old }
+    {
+        let Ok(place) = self.seek(index) else {
+            return;
+        };
+        self.items[place].1.settle();
+    }
+
     /// Takes in an element that was packed, with the chare that its bytes unpacked to, where none with its index
     /// stands. Where no memory is left it comes back.
     pub(crate) fn install(

@@ -1,5 +1,5 @@
 use Rattle.element_laws.proofs.Ends.{phase_once}
-use Rattle.element_laws.proofs.Orders.{in_order_ran}
+use Rattle.chares.proofs.Orders.{in_order_ran}
 use Rattle.element_laws.proofs.Phases.{phase}
 use Rattle.element_laws.proofs.rounds_law.Goals as goal
 

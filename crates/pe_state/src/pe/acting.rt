@@ -188,6 +188,7 @@ impl<C: Chare<A>, H: Openings<C>, A: Allocator + Copy> PeState<C, H, A> {
         requires empty { self.old.hand ≡ None }
         requires below { IsBelow H.pes look }
         requires stands { IsSome (found letter.to self.old.room) }
+        requires started { has_started self.old letter.to ≡ true }
         ensures ok { OnOk result (self.new ≡ (executed C.step C.pack self.old letter).pe) }
         ensures err { OnErr result (self.new ≡ held self.old (Carried.Letter letter) look) }
         ensures refused { IfErr result (RefusesStep (RefusesParcel C.refuses self.old (Carried.Letter letter))) }

@@ -3,7 +3,7 @@ use Rattle.chares.specs.declared.carried.Carried.TheVariants as Carried
 use Rattle.pe_state.specs.Pes.{PeView}
 use Rattle.pe_state.specs.Refusals.{RefusesParcel, RefusesStep}
 use Rattle.pe_state.specs.Rooms.{found}
-use Rattle.pe_state.proofs.Acting.{memory_refuses, waits, runs, did, did_nothing, did_not, traced_nothing, traced_so, untraced}
+use Rattle.pe_state.proofs.Acting.{memory_refuses, waits, runs, did, did_nothing, did_not, traced_nothing, traced_so, untraced, starts}
 use Rattle.pe_state.proofs.Keeping.{same_error}
 use Rattle.pe_state.proofs.pe.PeState.act_on_letter.Goals as goal
 
@@ -46,6 +46,11 @@ pub execute-requires-clause-stands : goal.execute-requires-clause-stands
 execute-requires-clause-stands g c =
     let some = sym (c.in-Some.ensures.value ∙ ap (λ k. found k c.room.result.now) c.to.ensures.value ∙ ap (λ r. found c.args.letter.to r) c.room.ensures.value ∙ ap (λ (v : PeView g.row.C.Denot). found c.args.letter.to v.room) c.self.view_is) in
     rw some refl
+
+pub execute-requires-clause-started : goal.execute-requires-clause-started
+execute-requires-clause-started g c =
+    let some = sym (c.in-Some.ensures.value ∙ ap (λ k. found k c.room.result.now) c.to.ensures.value ∙ ap (λ r. found c.args.letter.to r) c.room.ensures.value ∙ ap (λ (v : PeView g.row.C.Denot). found c.args.letter.to v.room) c.self.view_is) in
+    starts c.args.self.now c.args.letter.to _ _ some c.progress.ensures.value c.if-not-progress.false
 
 pub returns-in_err-execute-clause-refused : goal.returns-in_err-execute-clause-refused
 returns-in_err-execute-clause-refused g c = same_error (RefusesStep (RefusesParcel g.C.Chare.refuses c.args.self.now (Carried.Letter c.args.letter))) _ _ c.from_residual.ensures.1 c.in_err-execute.ensures.refused

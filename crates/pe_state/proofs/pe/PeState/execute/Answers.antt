@@ -1,4 +1,4 @@
-use Rattle.std.proofs.Common.{◌∷◌, None, refl, ◌∙◌, ap, subst}
+use Rattle.std.proofs.Common.{◌∷◌, None, refl, sym, ◌∙◌, ap, subst}
 use Rattle.chares.specs.Posting.{traced}
 use Rattle.chares.specs.declared.carried.Carried.TheVariants as Carried
 use Rattle.chares.specs.declared.entry.Entry.TheVariants.{Letter}
@@ -7,7 +7,7 @@ use Rattle.pe_state.specs.Pes.{PeView, held, handler_posts}
 use Rattle.pe_state.specs.Refusals.{RefusesParcel}
 use Rattle.pe_state.proofs.Below.{posted_below}
 use Rattle.pe_state.proofs.Handling.{handled_is}
-use Rattle.pe_state.proofs.Histories.{still_holds, handler_holds, member_of}
+use Rattle.pe_state.proofs.Histories.{still_holds, handler_holds, member_of, may_execute, MayHandleAt}
 use Rattle.pe_state.proofs.Keeping.{same_view, held_same, outbox_below, place_stays}
 use Rattle.pe_state.proofs.Reasons.{same_reason}
 use Rattle.pe_state.proofs.Runs.{same_run}
@@ -80,7 +80,8 @@ pub invariant_of-self-2 : goal.invariant_of-self-2
 invariant_of-self-2 g c =
     let i = same_run c.end.view_is c.self.invariant.1 in
     let a = c.in-Ok-handled.ensures in
-    let after = handler_holds g.C.Chare.step g.C.Pup.fits g.C.Pup.pack g.H.Openings.opened c.args.letter.to (Letter c.args.letter) None _ i.histories tt refl a.room (ap (λ p. p.hand) (c.end.view_is ∙ c.self.view_is) ∙ c.requires.empty) c.reserve-2.ensures.items a.outbox in
+    let may = subst (λ (v : PeView g.row.C.Denot). MayHandleAt v c.args.letter.to (Letter c.args.letter)) (sym (c.end.view_is ∙ c.self.view_is)) (may_execute c.args.self.now c.args.letter c.requires.started) in
+    let after = handler_holds g.C.Chare.step g.C.Pup.fits g.C.Pup.pack g.H.Openings.opened c.args.letter.to (Letter c.args.letter) None _ i.histories may tt refl a.room (ap (λ p. p.hand) (c.end.view_is ∙ c.self.view_is) ∙ c.requires.empty) c.reserve-2.ensures.items a.outbox in
     (c.self.invariant.0, record { histories = after; few = i.few; me = i.me; hand = i.hand; outbox = outbox_below _ _ _ a.outbox (posted_below _ c.end.inside.me c.end.inside.count c.reserve-2.new.self.items _ (outbox_below _ _ _ c.reserve-2.ensures.items i.outbox)); kept = tt })
 
 pub returns-clause-ok : goal.returns-clause-ok

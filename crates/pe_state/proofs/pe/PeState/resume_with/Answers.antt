@@ -1,4 +1,4 @@
-use Rattle.std.proofs.Common.{refl, ap, subst, ◌∙◌}
+use Rattle.std.proofs.Common.{refl, sym, ap, subst, ◌∙◌}
 use Rattle.chares.specs.Posting.{traced}
 use Rattle.chares.specs.declared.entry.Entry.TheVariants.{Resumption}
 use Rattle.pe_state.specs.Pes.{PeView, resume_entries}
@@ -6,7 +6,7 @@ use Rattle.pe_state.specs.Refusals.{RefusesResume}
 use Rattle.pe_state.proofs.Acting.{untraced, whatever}
 use Rattle.pe_state.proofs.Below.{posted_below}
 use Rattle.pe_state.proofs.Handling.{handled_is}
-use Rattle.pe_state.proofs.Histories.{still_holds, handler_holds, member_of}
+use Rattle.pe_state.proofs.Histories.{still_holds, handler_holds, member_of, may_go_on, MayHandleAt}
 use Rattle.pe_state.proofs.Keeping.{same_view, outbox_below, no_answer, out_of_memory, refused_so}
 use Rattle.pe_state.proofs.Runs.{same_run}
 use Rattle.pe_state.proofs.pe.PeState.resume_with.Goals as goal
@@ -90,7 +90,8 @@ pub invariant_of-self-2 : goal.invariant_of-self-2
 invariant_of-self-2 g c =
     let i = same_run c.end.view_is c.self.invariant.1 in
     let a = c.in_ok-note.ensures in
-    let after = handler_holds g.C.Chare.step g.C.Pup.fits g.C.Pup.pack g.H.Openings.opened c.args.index (Resumption c.args.round) _ _ i.histories i.histories.hand refl a.room refl c.reserve-2.ensures.items a.outbox in
+    let may = subst (λ (v : PeView g.row.C.Denot). MayHandleAt v c.args.index (Resumption c.args.round)) (sym (c.end.view_is ∙ c.self.view_is)) (may_go_on c.args.self.now c.args.index c.args.round c.requires.due) in
+    let after = handler_holds g.C.Chare.step g.C.Pup.fits g.C.Pup.pack g.H.Openings.opened c.args.index (Resumption c.args.round) _ _ i.histories may i.histories.hand refl a.room refl c.reserve-2.ensures.items a.outbox in
     (c.self.invariant.0, record { histories = after; few = i.few; me = i.me; hand = i.hand; outbox = outbox_below _ _ _ a.outbox (posted_below _ c.end.inside.me c.end.inside.count c.reserve-2.new.self.items _ (outbox_below _ _ _ c.reserve-2.ensures.items i.outbox)); kept = tt })
 
 pub returns-clause-ok : goal.returns-clause-ok

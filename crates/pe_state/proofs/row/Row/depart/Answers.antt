@@ -1,4 +1,4 @@
-use Rattle.std.proofs.Common.{ℕ, List, Option, Some, length, get_or, ap, sym, subst, ◌∙◌, arith}
+use Rattle.std.proofs.Common.{◌≡◌, ℕ, List, Option, Some, length, get_or, ap, sym, subst, ◌∙◌, arith}
 use Rattle.std.specs.Prelude.{IfSome}
 use Rattle.std.specs.List.{remove}
 use Rattle.std.specs.Option.{option_map}
@@ -16,6 +16,13 @@ index-requires g c = let n = c.in-Ok.ensures.hit.inside in let l = ap length c.s
 
 pub remove-element-requires : goal.remove-element-requires
 remove-element-requires g c = let n = c.in-Ok.ensures.hit.inside in let l = ap length c.self.view_is in omega (arith, n, l)
+
+pub close-requires : goal.close-requires
+close-requires g c =
+    let read = c.index.ensures ∙ ap (λ r. get_or r c.in-Ok.place c.index.result.now) c.self.view_is in
+    let taken = c.remove-element.ensures.value ∙ ap (λ r. get_or r c.in-Ok.place c.remove-element.result) c.self.view_is in
+    let same = sym (here_is c.in-Ok.ensures.hit read) ∙ here_is c.in-Ok.ensures.hit taken in
+    record { pack = subst (λ (o : Option (ElementView g.row.C.Denot)). IfSome o (λ el. c.in_ok-packing.packing ≡ g.C.Pup.pack el.chare)) same c.in_ok-packing.ensures.pack }
 
 pub returns-clause-value : goal.returns-clause-value
 returns-clause-value g c =

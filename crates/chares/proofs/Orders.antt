@@ -15,8 +15,8 @@ use Rattle.chares.specs.Elements.{ElementView, opening_element, ran, outcome_of}
 use Rattle.chares.specs.Letters.{LetterView, Done}
 use Rattle.chares.specs.Progressing.{begun, charged, ending, ended, note_at, synced_mark}
 use Rattle.chares.specs.Steps.{Step}
-use Rattle.element_laws.specs.Orders.{Stop, stop_of, stops_until, resumption_of, resumptions, IsInOrder, MayHandle}
-use Rattle.element_laws.specs.Orders.Stop.{AtSync, Resumes}
+use Rattle.chares.specs.Orders.{Stop, stop_of, stops_until, resumption_of, resumptions, IsInOrder, MayHandle}
+use Rattle.chares.specs.Orders.Stop.{AtSync, Resumes}
 
 when_true : {X : Type 0} (b : Bool) (x y : X) → b ≡ true → (if b then x else y) ≡ x
 when_true true x y h = refl

@@ -9,7 +9,6 @@ use Rattle.chares.specs.declared.note.Mark.TheVariants.{Synced, Resumed}
 use Rattle.chares.specs.declared.note.Note.{Note}
 use Rattle.chares.specs.declared.note.Note.TheVariants.{Sync, Finish}
 use Rattle.chares.specs.declared.progress.Progress.{Progress}
-use Rattle.chares.specs.Elements.{ElementView}
 use Rattle.chares.specs.Letters.{Done}
 
 -- a stop of an element: it reaches AtSync for a round, or is resumed for one
@@ -49,10 +48,6 @@ pub record IsInOrder (journal : List Done) (p : Progress) (marks : List Mark) : 
   pub fresh : p.started ≡ false → (p.round ≡ 0) × (p.synced ≡ false)
   pub stops : map stop_of marks ≡ stops_by p
   pub resumed : resumptions journal ≡ (if p.started then range_with_len 0 (p.round + 1) else [])
-
--- so for an element on a PE
-abbrev pub IsElementInOrder : {C : Type 0} → ElementView C → Type 0
-IsElementInOrder el = IsInOrder el.journal el.progress el.marks
 
 -- what an element with this progress may handle next: a letter once it has started; its start, if it has not; and the
 -- resumption for the next round, if it waits for that

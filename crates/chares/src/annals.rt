@@ -1,0 +1,113 @@
+//! The annals of an element: its journal, of which only what came since it settled is kept.
+
+ghost use Rattle.std.specs.Prelude.{◌≡◌, ◌∷◌, ◌++◌, [], ◌<◌, List, length, OnOk};
+ghost use Rattle.chares.specs.Annals.{AnnalsView};
+ghost use Rattle.chares.specs.Letters.{Done};
+ghost use Rattle.chares.specs.declared.entry.Entry.{Entry};
+
+use crate::journal::Journal;
+use crate::letter::Letter;
+use crate::past::Past;
+use chare_index::Round;
+use std::alloc::{AllocError, Allocator, Global};
+use std::marker::Model;
+
+/// All that an element has handled, in order. Its last entries are kept; those before are settled: they take no memory, and only
+/// contracts know them. Contracts see the annals as the record `AnnalsView`.
+#[derive(Drop)]
+pub struct Annals<A: Allocator = Global> {
+    past: Past,
+    kept: Journal<A>,
+    settled: u64,
+}
+
+impl<A: Allocator> Model for Annals<A> {
+    ghost use Rattle.std.specs.Prelude.{◌≡◌, ◌++◌, length};
+    ghost use Rattle.chares.specs.Annals.{AnnalsView};
+
+    ghost Value = { AnnalsView };
+
+    ghost view = { λ j. record {
+      entries = j.past.entries ++ j.kept.entries;
+      kept = j.kept.entries;
+      settled = j.settled;
+      letter_room = j.kept.letter_room;
+      resumption_room = j.kept.resumption_room;
+    } };
+
+    ghost invariant = { λ j. length j.past.entries ≡ j.settled };
+}
+
+impl<A: Allocator> Annals<A> {
+    /// Empty annals.
+    pub(crate) fn new(alloc: A) -> Self
+    where
+        A: Copy,
+        ensures value { result.entries ≡ [] }
+    {
+        Annals {
+            past: Past::new(),
+            kept: Journal::new(alloc),
+            settled: 0,
+        }
+    }
+
+    /// Reserves the memory of one more letter.
+    pub(crate) fn reserve_letter(&mut self) -> Result<(), AllocError>
+        ensures entries { self.new.entries ≡ self.old.entries }
+        ensures reserved { OnOk result (0 < self.new.letter_room) }
+    {
+        self.kept.reserve_letter()
+    }
+
+    /// Reserves the memory of one more resumption.
+    pub(crate) fn reserve_resumption(&mut self) -> Result<(), AllocError>
+        ensures entries { self.new.entries ≡ self.old.entries }
+        ensures reserved { OnOk result (0 < self.new.resumption_room) }
+    {
+        self.kept.reserve_resumption()
+    }
+
+    /// Adds a letter, in memory that was reserved for it.
+    pub(crate) fn push_letter(&mut self, letter: Letter<A>)
+        requires reserved { 0 < self.old.letter_room }
+        ensures entries { self.new.entries ≡ self.old.entries ++ Entry.Letter letter ∷ [] }
+    {
+        self.kept.push_letter(letter);
+    }
+
+    /// Adds a resumption after this round, in memory that was reserved for it.
+    pub(crate) fn push_resumption(&mut self, round: Round)
+        requires reserved { 0 < self.old.resumption_room }
+        ensures entries { self.new.entries ≡ self.old.entries ++ Entry.Resumption round ∷ [] }
+    {
+        self.kept.push_resumption(round);
+    }
+
+    /// Settles what is kept: it takes no more memory.
+    pub(crate) fn settle(&mut self)
+        ensures entries { self.new.entries ≡ self.old.entries }
+    {
+        let Some(settled) = self.settled.checked_add(self.kept.len() as u64) else {
+            return;
+        };
+        self.past = Past::with(&self.past, &self.kept);
+        self.settled = settled;
+        self.kept.clear();
+    }
+
+    /// How many letters and resumptions are settled.
+    pub fn settled(&self) -> u64
+        ensures value { result ≡ self.now.settled }
+    {
+        self.settled
+    }
+
+    /// The letters and resumptions since, which are all but as many as are settled.
+    pub fn kept(&self) -> &Journal<A>
+        ensures value { result.now.entries ≡ self.now.kept }
+        ensures last { (past : List Done) × (length past ≡ self.now.settled) × (self.now.entries ≡ past ++ result.now.entries) }
+    {
+        &self.kept
+    }
+}
