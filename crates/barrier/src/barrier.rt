@@ -1,6 +1,7 @@
-ghost use Rattle.std.specs.Prelude.{◌≡◌, ◌<◌, ◌≤◌, IfSome};
+ghost use Rattle.std.specs.Prelude.{◌≡◌, ◌<◌, ◌≤◌, IfErr, IfSome};
 ghost use Rattle.lb_database.specs.Measuring.{elements};
 ghost use Rattle.at_sync.specs.Boards.{IsBoard};
+ghost use Rattle.barrier.specs.Refusals.{IsRefusedDecision};
 
 use crate::board_size::BoardSize;
 use crate::run_board::RunBoard;
@@ -62,6 +63,7 @@ impl<J: BoardSize, A: Allocator> Barrier<J, A> {
     pub fn decide<R: Wait>(&self, rt: &R) -> Result<Round, BoardError>
     where
         A: Copy,
+        ensures refused { IfErr result (IsRefusedDecision J.elements) }
     {
         self.lock(rt).decide()
     }
@@ -78,6 +80,7 @@ impl<J: BoardSize, A: Allocator> Barrier<J, A> {
         A: Copy,
         requires some_worker { 1 ≤ workers }
         requires few_workers { workers ≤ Limits.PROBE_WORKERS }
+        ensures refused { IfErr result (IsRefusedDecision J.elements) }
     {
         self.lock(rt).decide_with(rt, workers, gate)
     }

@@ -4,6 +4,7 @@ ghost use Rattle.lb_database.specs.Refusals.{IsReport, RefusesReport};
 ghost use Rattle.at_sync.specs.Boards.{Decides, HaveFinished, IsBoard, after_finish, after_report, decision_of, place_in};
 ghost use Rattle.at_sync.specs.Refusals.{RefusesDecision, RefusesFinish, database_error_of};
 ghost use Rattle.barrier.specs.Places.{place_among, places_by};
+ghost use Rattle.barrier.specs.Refusals.{IsRefusedDecision};
 
 use crate::board_size::BoardSize;
 use crate::round_places::RoundPlaces;
@@ -90,6 +91,7 @@ impl<J: BoardSize, A: Allocator> RunBoard<J, A> {
     where
         A: Copy,
         ensures answer { IfErr result (RefusesDecision self.old.database) }
+        ensures refused { IfErr result (IsRefusedDecision J.elements) }
         ensures round { IfOk result (λ round. round ≡ self.old.database.round) }
         ensures ok { OnOk result (Decides self.old self.new) }
         ensures err { OnErr result (self.new ≡ self.old) }
@@ -110,6 +112,7 @@ impl<J: BoardSize, A: Allocator> RunBoard<J, A> {
         requires some_worker { 1 ≤ workers }
         requires few_workers { workers ≤ Limits.PROBE_WORKERS }
         ensures answer { IfErr result (RefusesDecision self.old.database) }
+        ensures refused { IfErr result (IsRefusedDecision J.elements) }
         ensures round { IfOk result (λ round. round ≡ self.old.database.round) }
         ensures ok { OnOk result (Decides self.old self.new) }
         ensures err { OnErr result (self.new ≡ self.old) }

@@ -20,7 +20,7 @@ use Rattle.rts_core.specs.Runs.{Reaches}
 use Rattle.rts_core.specs.Worlds.{WorldView, opening_world}
 use Rattle.barrier_laws.specs.Measured.{Measures}
 use Rattle.chares.specs.Elements.{IsElementInOrder}
-use Rattle.barrier_laws.specs.Orders.{HasOrder, AreInOrder}
+use Rattle.rts_core.specs.Orders.{HasOrder, AreInOrder}
 use Rattle.rts_core.proofs.Rooms.{at_place, in_room}
 use Rattle.barrier_laws.proofs.Runs.{in_order}
 use Rattle.at_sync.specs.declared.strategy.Strategy.{Strategy}

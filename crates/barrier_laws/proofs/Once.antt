@@ -26,7 +26,7 @@ use Rattle.rts_core.proofs.OpeningWeights.{opened_lives, opening_of, opening_wei
 use Rattle.rts_core.proofs.RunLaws.{by_index, run_keeps}
 use Rattle.rts_core.proofs.Weights.{of_parcel, of_item, of_hand, of_element, of_pe, of_queue, of_world}
 use Rattle.barrier_laws.specs.Barrier.{is_resumed}
-use Rattle.barrier_laws.specs.Orders.{IsParcelInOrder, HasOrder, AreInOrder}
+use Rattle.rts_core.specs.Orders.{IsParcelInOrder, HasOrder, AreInOrder}
 use Rattle.barrier_laws.proofs.Resumptions.{resumed_in}
 use Rattle.barrier_laws.proofs.Ordered.{Fits, PackedFits, AllOrdered, kept, are_in_order}
 use Rattle.barrier_laws.proofs.RunOrders.{run_gains}

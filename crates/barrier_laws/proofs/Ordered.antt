@@ -13,7 +13,7 @@ use Rattle.pe_state.specs.Pes.{PeView, Parcel, Item, waits_for}
 use Rattle.rts_core.specs.Worlds.{WorldView}
 use Rattle.rts_core.proofs.EachElement.{IsKept, ParcelKept, ItemKept, PeKept, WorldKept}
 use Rattle.rts_core.proofs.Rooms.{each_value}
-use Rattle.barrier_laws.specs.Orders.{IsParcelInOrder, HasOrder, AreInOrder}
+use Rattle.rts_core.specs.Orders.{IsParcelInOrder, HasOrder, AreInOrder}
 
 -- an element is beside its index, and its rounds come in order; and so do those of one that is packed
 abbrev pub Fits : {C : Type 0} → ℕ → ElementView C → Type 0

@@ -15,7 +15,7 @@ use Rattle.rts_core.specs.Worlds.{WorldView, opening_world}
 use Rattle.agreement_laws.specs.Agreement.{Agrees}
 use Rattle.agreement_laws.proofs.Events.{Sound, event_sound, run_sound, opening_sound}
 use Rattle.barrier_laws.specs.Barrier.{IsBarrier, StandsInItsPlace}
-use Rattle.barrier_laws.specs.Orders.{AreInOrder}
+use Rattle.rts_core.specs.Orders.{AreInOrder}
 use Rattle.barrier_laws.proofs.Boards.{Tells, Keeps, tells_kept, tells_same, tells_taken, tells_decided, decided_at_most_once, unlike_decided, none_there}
 use Rattle.barrier_laws.proofs.Once.{resumed_once}
 use Rattle.barrier_laws.proofs.Ordered.{Fits, PackedFits, kept, are_in_order}

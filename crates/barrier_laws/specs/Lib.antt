@@ -1,3 +1,2 @@
 pub mod Barrier
 pub mod Measured
-pub mod Orders

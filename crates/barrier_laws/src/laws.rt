@@ -6,7 +6,7 @@ ghost use Rattle.chares.specs.declared.trace_entry.TraceEntry.{TraceEntry};
 ghost use Rattle.chares.specs.declared.trace_entry.TraceEntry.TheVariants.{Decided, Resumed};
 ghost use Rattle.barrier_laws.specs.Barrier.{IsBarrier, ResumesInPlace, KeepsRounds};
 ghost use Rattle.barrier_laws.specs.Measured.{Forecasts};
-ghost use Rattle.barrier_laws.specs.Orders.{AreInOrder};
+ghost use Rattle.rts_core.specs.Orders.{AreInOrder};
 ghost use Rattle.rts_core.specs.declared.event.Event.{Event};
 ghost use Rattle.rts_core.specs.Events.{After, Happens};
 ghost use Rattle.rts_core.specs.Histories.{AreHistories};

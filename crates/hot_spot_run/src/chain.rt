@@ -2,9 +2,8 @@
 
 ghost use Rattle.std.specs.Prelude.{IfOk};
 ghost use Rattle.hot_spot_strip.specs.Openings.{opening_strips};
-ghost use Rattle.hot_spot_strip.specs.Strips.{strip_step};
-ghost use Rattle.rts_core.specs.Histories.{AreHistories};
-ghost use Rattle.run_account.specs.RunAccounts.{IsRunAccount, left_world};
+ghost use Rattle.hot_spot_strip.specs.Strips.{StripRefuses, strip_step};
+ghost use Rattle.rts_run.specs.Outcomes.{IsOutcome};
 
 use chare_index::NoGate;
 use hot_spot_strip::{Chain, ChainError, Strip};
@@ -27,9 +26,8 @@ pub fn run_chain<R: Threads + Wait + Sync, A: Allocator + Copy + Send + Sync>(
     config: &Config,
     chain: &Chain<'_>,
 ) -> Result<Outcome<Strip<A>, A>, ChainError>
-    ensures account { IfOk result (λ o. IsRunAccount strip_step (opening_strips chain.now.mode chain.now.rounds chain.now.work 0 chain.now.cells.now) (left_world o.ends o.left)) }
-    ensures histories { IfOk result (λ o. AreHistories strip_step ⟦<Strip<A> as Pup<A>>⟧.fits ⟦<Strip<A> as Pup<A>>⟧.pack
-        (opening_strips chain.now.mode chain.now.rounds chain.now.work 0 chain.now.cells.now) (left_world o.ends o.left)) }
+    ensures outcome { IfOk result (IsOutcome strip_step ⟦<Strip<A> as Pup<A>>⟧.fits ⟦<Strip<A> as Pup<A>>⟧.pack StripRefuses
+        (opening_strips chain.now.mode chain.now.rounds chain.now.work 0 chain.now.cells.now) config.now.pes config.now.strategy) }
 {
     run_chain_watched(rt, alloc, config, &NoWatch, chain)
 }
@@ -50,9 +48,8 @@ pub fn run_chain_watched<
     watch: &V,
     chain: &Chain<'_>,
 ) -> Result<Outcome<Strip<A>, A>, ChainError>
-    ensures account { IfOk result (λ o. IsRunAccount strip_step (opening_strips chain.now.mode chain.now.rounds chain.now.work 0 chain.now.cells.now) (left_world o.ends o.left)) }
-    ensures histories { IfOk result (λ o. AreHistories strip_step ⟦<Strip<A> as Pup<A>>⟧.fits ⟦<Strip<A> as Pup<A>>⟧.pack
-        (opening_strips chain.now.mode chain.now.rounds chain.now.work 0 chain.now.cells.now) (left_world o.ends o.left)) }
+    ensures outcome { IfOk result (IsOutcome strip_step ⟦<Strip<A> as Pup<A>>⟧.fits ⟦<Strip<A> as Pup<A>>⟧.pack StripRefuses
+        (opening_strips chain.now.mode chain.now.rounds chain.now.work 0 chain.now.cells.now) config.now.pes config.now.strategy) }
 {
     let strips = chain.strips(alloc)?;
     match run_watched(rt, alloc, config, &NoGate, watch, strips) {

@@ -20,7 +20,7 @@ use Rattle.chares.specs.Posting.{letters_of}
 use Rattle.chares.specs.Steps.{Step}
 use Rattle.chares.proofs.Histories.{history_ran, history_opening, history_unpacked, history_within}
 use Rattle.pe_state.specs.Histories.{IsParcelHistory, HasHistories}
-use Rattle.pe_state.specs.Pes.{PeView, Parcel, Item, at_pe, letter_at, element_at, front_at, front_parcel, new_pe, placed, held, hand_wants, looked, looked_in, received, gave_up, handed_back, noted, handled, resumed, executed, is_due, may_resume, has_started, shelving, forwarding, passing, installed, installing, on_letter, on_element, on_parcel, acting_on, acting, departed}
+use Rattle.pe_state.specs.Pes.{PeView, Parcel, Item, at_pe, letter_at, element_at, front_at, front_parcel, new_pe, placed, held, hand_wants, looked, looked_in, received, gave_up, handed_back, noted, handled, resumed, executed, is_due, may_resume, has_started, waits_for, shelving, forwarding, passing, installed, installing, on_letter, on_element, on_parcel, acting_on, acting, departed}
 use Rattle.pe_state.specs.Rooms.{found, changed, ran_in, sends_in}
 
 -- the element with this index, where it stands in the room, may handle this entry next
@@ -57,6 +57,20 @@ may_go_on {C} pe e round h = by (found e pe.room) h
     by : (o : Option (ElementView C)) → option_map_or (λ el. is_due round el.progress) o false ≡ true → IfSome o (λ el. MayHandle el.progress (Resumption round))
     by None k = tt
     by (Some el) k = due_handles el.progress round k
+
+-- a start, of an element that has not started, and the resumption for the round for whose end an element waits
+pub may_start : {C : Type 0} (pe : PeView C) (e : ℕ) (el : ElementView C) → found e pe.room ≡ Some el → el.progress.started ≡ false → MayHandleAt pe e (Resumption 0)
+may_start {C} pe e el at fresh = subst (λ (o : Option (ElementView C)). IfSome o (λ el. MayHandle el.progress (Resumption 0))) (sym at) (inl (fresh, refl))
+
+pub waits_is : {C : Type 0} (el : ElementView C) (round : ℕ) → waits_for el ≡ Some round → (el.progress.synced ≡ true) × (round ≡ el.progress.round + 1)
+waits_is el round h = by el.progress.synced refl h
+  where
+    by : (b : Bool) → el.progress.synced ≡ b → (if b then Some (el.progress.round + 1) else None) ≡ Some round → (el.progress.synced ≡ true) × (round ≡ el.progress.round + 1)
+    by true t k = (t, cc)
+    by false t k = cc
+
+pub may_resume_after : {C : Type 0} (pe : PeView C) (e round : ℕ) (el : ElementView C) → found e pe.room ≡ Some el → waits_for el ≡ Some round → MayHandleAt pe e (Resumption round)
+may_resume_after {C} pe e round el at waits = subst (λ (o : Option (ElementView C)). IfSome o (λ el. MayHandle el.progress (Resumption round))) (sym at) (inr (waits_is el round waits))
 
 module _ {C : Type 0} {step : Step C} {fits : C → Type 0} {pack : C → List ℕ} {opened : List C} where
   -- a PE that is seen otherwise
@@ -154,8 +168,8 @@ module _ {C : Type 0} (step : Step C) (fits : C → Type 0) (pack : C → List �
       still_holds (handled_holds v e done hand h may held) n room same
       (posted ∙ ap (λ xs. xs ++ letters_of v.me v.count (sends_in step pack v.room e v.n done)) o)
 
-  pub resumed_holds : (pe : PeView C) (e round : ℕ) → HasHistories step fits pack opened pe → may_resume pe e round ≡ true → HasHistories step fits pack opened (resumed step pack pe e round)
-  resumed_holds pe e round h due = handled_holds pe e (Resumption round) pe.hand h (may_go_on pe e round due) h.hand
+  pub resumed_holds : (pe : PeView C) (e round : ℕ) → HasHistories step fits pack opened pe → MayHandleAt pe e (Resumption round) → HasHistories step fits pack opened (resumed step pack pe e round)
+  resumed_holds pe e round h may = handled_holds pe e (Resumption round) pe.hand h may h.hand
 
   -- Look
   pub looked_in_holds : (pe : PeView C) (q : ℕ) (o : Option ℕ) → HasHistories step fits pack opened pe → HasHistories step fits pack opened (looked_in pe q o)

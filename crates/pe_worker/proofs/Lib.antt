@@ -1,3 +1,4 @@
+pub mod Causes
 pub mod Delivering
 pub mod Keeping
 pub mod Matching

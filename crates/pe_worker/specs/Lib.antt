@@ -1,3 +1,4 @@
+pub mod Causes
 pub mod Seated
 pub mod Steps
 pub mod Workers

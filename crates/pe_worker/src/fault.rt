@@ -1,7 +1,9 @@
-ghost use Rattle.std.specs.Prelude.{◌≡◌, ◌≢◌};
-ghost use Rattle.pe_state.specs.declared.error.StepError.TheVariants.{Unpack};
+ghost use Rattle.pe_state.specs.Refusals.{RefusesStep};
+ghost use Rattle.pe_worker.specs.Causes.{HasCause, MayRefuse};
 
+use chares::{Chare, Openings};
 use pe_state::StepError;
+use std::alloc::Allocator;
 use thiserror::Error;
 
 /// Why a run ended before every element had finished, or what is wrong with its outcome. The numbers are stable; 7 is not
@@ -36,10 +38,9 @@ pub enum Fault {
 }
 
 /// What a refused step of a PE comes to. The bytes of an element always are a state.
-pub(crate) fn fault_of(error: StepError) -> Fault
-    requires unpacks { error ≢ Unpack }
-    ensures unpacks { result ≢ Fault.Unpack }
-    ensures no_mismatch { result ≢ Fault.Mismatch }
+pub(crate) fn fault_of<C: Chare<A>, H: Openings<C>, A: Allocator>(error: StepError) -> Fault
+    requires cause { RefusesStep (MayRefuse C.step C.pack C.refuses H.opened) error }
+    ensures cause { HasCause C.step C.pack C.refuses H.opened result }
 {
     match error {
         StepError::OutOfMemory => Fault::OutOfMemory,

@@ -1,10 +1,11 @@
 //! The steps between a seated PE and the board: its notes, and the elements that go on once a round is decided.
 
-ghost use Rattle.std.specs.Prelude.{◌≡◌, ◌<◌, ◌≢◌, length, IfErr, IfOk, IfSome, OnErr, OnOk, MatchBool, MatchOption, Some, None, is_some, slice_get, true};
+ghost use Rattle.std.specs.Prelude.{◌≡◌, ◌<◌, length, IfErr, IfOk, IfSome, IsSome, OnErr, OnOk, MatchBool, MatchOption, Some, None, is_some, slice_get, true};
 ghost use Rattle.chares.specs.declared.note.Note.{Note};
 ghost use Rattle.pe_state.specs.Pes.{may_depart, may_resume};
-ghost use Rattle.pe_state.specs.declared.error.StepError.TheVariants.{OutOfMemory, Unpack};
+ghost use Rattle.pe_state.specs.Refusals.{RefusesResume, RefusesStep};
 ghost use Rattle.rts_core.specs.Events.{board_after};
+ghost use Rattle.pe_worker.specs.Causes.{MayRefuse};
 ghost use Rattle.pe_worker.specs.Steps.{ReportsNote, due_by, after_round};
 
 use crate::seated::{OfRun, RunBeginning, SeatedPe};
@@ -99,7 +100,9 @@ impl<C: Chare<A>, H: Openings<C> + RunStrategy, J: RunBeginning<C>, A: Allocator
         ensures ok { OnOk result (self.new ≡ record self.old { pe = after_round C.step C.pack self.old.pe places.now element (due_by self.old.pe places.now element) }) }
         ensures done { IfOk result (λ done. done ≡ is_some (due_by self.old.pe places.now element)) }
         ensures err { OnErr result (self.new ≡ self.old) }
-        ensures unpacks { IfErr result (λ error. error ≢ Unpack) }
+        ensures enabled { OnErr result (IsSome (due_by self.old.pe places.now element)) }
+        ensures refused { IfErr result (RefusesStep (RefusesResume C.refuses self.old.pe element places.now.round)) }
+        ensures cause { IfErr result (RefusesStep (MayRefuse C.step C.pack C.refuses H.opened)) }
         ensures same_me { self.new.pe.me ≡ self.old.pe.me }
     {
         let _room = self.pe.room();

@@ -1,43 +1,23 @@
 //! The steps of a PE with its seat. Each is one event: one push or pop on one queue, one load or store of one location
 //! word, one call of the board under its lock, or work on what the PE owns.
 
-ghost use Rattle.std.specs.Prelude.{◌≡◌, ◌<◌, ◌≤◌, ◌≢◌, length, IfErr, IfNone, IfOk, OnErr, OnOk, IfSome, MatchBool, MatchOption, if◌then◌else◌};
-ghost use Rattle.pe_queues.specs.Seats.{HeldAt, pes};
-ghost use Rattle.pe_state.specs.Pes.{acted_of, acting, front_address, may_resume, wanted, pe_after, resumed, waits_at};
-ghost use Rattle.pe_state.specs.Rooms.{found};
-ghost use Rattle.pe_state.specs.declared.error.StepError.TheVariants.{OutOfMemory, Unpack};
+ghost use Rattle.std.specs.Prelude.{◌≡◌, ◌<◌, ◌≤◌, IfErr, IfOk, OnErr, OnOk, IfSome, IsSome, MatchBool, MatchOption, Some, true, if◌then◌else◌};
+ghost use Rattle.pe_state.specs.Pes.{acted_of, acting, may_resume, wanted, pe_after, resumed};
+ghost use Rattle.pe_state.specs.Refusals.{RefusesAct, RefusesResume, RefusesStep};
+ghost use Rattle.pe_state.specs.declared.acted.Acted.TheVariants.{Executed};
+ghost use Rattle.pe_worker.specs.Causes.{MayRefuse};
 ghost use Rattle.pe_worker.specs.Steps.{Delivers, Executes, Flushes, Looks, LooksAndFlushes, Stays};
 
 use crate::seated::{OfRun, RunBeginning, SeatedPe};
 use chare_index::{Gate, Index, Round};
 use chares::{Chare, Openings};
-use pe_queues::{Full, Locations, Post};
+use pe_queues::{Locations, Post};
 use pe_state::{Acted, Parcel, PeState, StepError};
 use std::alloc::Allocator;
-use std::sync::Wait;
 
 impl<C: Chare<A>, H: Openings<C>, J: RunBeginning<C>, A: Allocator + Copy> SeatedPe<C, H, J, A> {
-    /// Deliver: takes the front of the queue of its PE into the hand, if that is empty, and returns whether it did. It is
-    /// one pop.
-    pub fn deliver<R: Wait>(&mut self, rt: &R, post: &Post<Parcel<C, H, A>, A>) -> bool
-        requires own { post.now ≡ J.beginning.post }
-        ensures step { MatchBool result (Delivers self.old self.new) (self.new ≡ self.old) }
-        ensures empty { MatchBool result (Unit {0}) (IfNone self.old.pe.hand (HeldAt self.old.seat self.old.pe.me 0)) }
-        ensures same_me { self.new.pe.me ≡ self.old.pe.me }
-    {
-        let _room = self.pe.room();
-        if self.pe.as_end().hand().is_some() {
-            return false;
-        }
-        let me = self.pe.me();
-        let Some(parcel) = post.take(rt, &mut self.seat, me) else {
-            return false;
-        };
-        self.pe.receive(parcel);
-        true
-    }
-
-    /// Deliver in one attempt, which waits for nobody. It may fail where another thread is in the way.
+    /// Deliver: takes the front of the queue of its PE into the hand, if that is empty, and returns whether it did. It is one
+    /// attempt at a pop, which waits for nobody, and may fail where another thread is in the way.
     pub fn try_deliver(&mut self, post: &Post<Parcel<C, H, A>, A>) -> bool
         requires own { post.now ≡ J.beginning.post }
         ensures step { MatchBool result (Delivers self.old self.new) (self.new ≡ self.old) }
@@ -73,7 +53,9 @@ impl<C: Chare<A>, H: Openings<C>, J: RunBeginning<C>, A: Allocator + Copy> Seate
             (self.new ≡ self.old)
             (λ acted. MatchBool acted (Executes C.step C.pack C.unpack self.old self.new) (Delivers self.old self.new))) }
         ensures err { OnErr result (Delivers self.old self.new) }
-        ensures unpacks { IfErr result (λ error. error ≢ Unpack) }
+        ensures enabled { OnErr result (acted_of (acting C.step C.pack C.unpack self.new.pe) ≡ Some Executed) }
+        ensures refused { IfErr result (RefusesStep (RefusesAct C.refuses self.new.pe)) }
+        ensures cause { IfErr result (RefusesStep (MayRefuse C.step C.pack C.refuses H.opened)) }
         ensures same_me { self.new.pe.me ≡ self.old.pe.me }
     {
         let _room = self.pe.room();
@@ -89,26 +71,8 @@ impl<C: Chare<A>, H: Openings<C>, J: RunBeginning<C>, A: Allocator + Copy> Seate
     }
 
     /// Flush: puts the front of the outbox, if it has an address, into the queue of the PE that it is addressed to, and
-    /// returns whether it did. It is one push. Where that queue is full the parcel is the front of the outbox again.
-    pub fn flush<R: Wait>(&mut self, rt: &R, post: &Post<Parcel<C, H, A>, A>) -> bool
-        requires own { post.now ≡ J.beginning.post }
-        ensures step { MatchBool result (Flushes self.old self.new) (Stays self.old self.new) }
-        ensures full { MatchBool result (Unit {0}) (IfSome (front_address self.old.pe.outbox) (λ to. HeldAt self.old.seat to post.now.capacity)) }
-        ensures same_me { self.new.pe.me ≡ self.old.pe.me }
-    {
-        let _room = self.pe.room();
-        let Some(to) = self.pe.front_out() else {
-            return false;
-        };
-        let parcel = self.pe.sent();
-        let Err(Full(back)) = post.put(rt, &mut self.seat, to, parcel) else {
-            return true;
-        };
-        self.pe.hand_back(back);
-        false
-    }
-
-    /// Flush in one attempt, which waits for nobody. It may fail where another thread is in the way.
+    /// returns whether it did. It is one attempt at a push, which waits for nobody, and may fail where another thread is in the
+    /// way. Where that happens, and where the queue is full, the parcel is the front of the outbox again.
     pub fn try_flush(&mut self, post: &Post<Parcel<C, H, A>, A>) -> bool
         requires own { post.now ≡ J.beginning.post }
         ensures step { MatchBool result (Flushes self.old self.new) (Stays self.old self.new) }
@@ -188,7 +152,9 @@ impl<C: Chare<A>, H: Openings<C>, J: RunBeginning<C>, A: Allocator + Copy> Seate
         ensures acted { IfOk result (λ acted. acted ≡ acted_of (acting C.step C.pack C.unpack self.old.pe)) }
         ensures ok { OnOk result (self.new ≡ record self.old { pe = pe_after self.old.pe (acting C.step C.pack C.unpack self.old.pe) }) }
         ensures err { OnErr result (self.new ≡ self.old) }
-        ensures unpacks { IfErr result (λ error. error ≢ Unpack) }
+        ensures enabled { OnErr result (IsSome (acting C.step C.pack C.unpack self.old.pe)) }
+        ensures refused { IfErr result (RefusesStep (RefusesAct C.refuses self.old.pe)) }
+        ensures cause { IfErr result (RefusesStep (MayRefuse C.step C.pack C.refuses H.opened)) }
         ensures same_me { self.new.pe.me ≡ self.old.pe.me }
     {
         let _room = self.pe.room();
@@ -204,7 +170,9 @@ impl<C: Chare<A>, H: Openings<C>, J: RunBeginning<C>, A: Allocator + Copy> Seate
         ensures ok { IfOk result (λ done. self.new ≡ record self.old { pe = (if done then resumed C.step C.pack self.old.pe element 0 else self.old.pe) }) }
         ensures all { IfOk result (λ done. done ≡ may_resume self.old.pe element 0) }
         ensures err { OnErr result (self.new ≡ self.old) }
-        ensures unpacks { IfErr result (λ error. error ≢ Unpack) }
+        ensures enabled { OnErr result (may_resume self.old.pe element 0 ≡ true) }
+        ensures refused { IfErr result (RefusesStep (RefusesResume C.refuses self.old.pe element 0)) }
+        ensures cause { IfErr result (RefusesStep (MayRefuse C.step C.pack C.refuses H.opened)) }
         ensures same_me { self.new.pe.me ≡ self.old.pe.me }
     {
         let _room = self.pe.room();

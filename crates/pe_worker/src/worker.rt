@@ -1,8 +1,8 @@
 //! The turns of a worker.
 
-ghost use Rattle.std.specs.Prelude.{◌≡◌, ◌≢◌, ◌+◌, ◌<◌, ◌≤◌, length, IfErr, IfSome, None};
+ghost use Rattle.std.specs.Prelude.{◌≡◌, ◌+◌, ◌<◌, ◌≤◌, length, IfErr, IfSome, None};
 ghost use Rattle.std.specs.VecDeque.{deque_capacity, deque_len};
-ghost use Rattle.pe_worker.specs.declared.fault.Fault.TheVariants.{Mismatch, Unpack};
+ghost use Rattle.pe_worker.specs.Causes.{HasCause};
 
 use crate::agenda::Agenda;
 use crate::fault::{Fault, fault_of};
@@ -57,15 +57,15 @@ pub struct Worker<
 
 impl<C: Chare<A>, H: Openings<C> + RunStrategy, J: RunBeginning<C>, A: Allocator> Model
     for Worker<C, H, J, A> {
-    ghost use Rattle.std.specs.Prelude.{IfSome, ◌≢◌};
+    ghost use Rattle.std.specs.Prelude.{IfSome};
+    ghost use Rattle.pe_worker.specs.Causes.{HasCause};
     ghost use Rattle.pe_worker.specs.Workers.{WorkerView};
-    ghost use Rattle.pe_worker.specs.declared.fault.Fault.TheVariants.{Mismatch, Unpack};
 
     ghost Value = { WorkerView C };
 
     ghost view = { λ w. record { seated = w.seated; fault = w.fault } };
 
-    ghost invariant = { λ w. IfSome w.fault (λ fault. (fault ≢ Unpack) × (fault ≢ Mismatch)) };
+    ghost invariant = { λ w. IfSome w.fault (HasCause C.step C.pack C.refuses H.opened) };
 }
 
 impl<C: Chare<A>, H: Openings<C> + RunStrategy, J: RunBeginning<C>, A: Allocator> Worker<
@@ -95,13 +95,13 @@ impl<C: Chare<A>, H: Openings<C> + RunStrategy, J: RunBeginning<C>, A: Allocator
         self.seated.me()
     }
 
-    /// Its PE with the seat, and the fault that it met. What an element is packed to always unpacks, so `Unpack` is none; nor is
-    /// `Mismatch`, since marks and rounds are compared only once all workers have ended.
+    /// Its PE with the seat, and the fault that it met. The clause `cause` says what is behind it. What an element is packed to
+    /// always unpacks, so it is not `Unpack`; nor is it `Mismatch`, since marks and rounds are compared only once all workers have
+    /// ended.
     pub fn into_parts(self) -> (SeatedPe<C, H, J, A>, Option<Fault>)
         ensures seated { result.0 ≡ self.seated }
         ensures fault { result.1 ≡ self.fault }
-        ensures unpacks { IfSome result.1 (λ fault. fault ≢ Unpack) }
-        ensures no_mismatch { IfSome result.1 (λ fault. fault ≢ Mismatch) }
+        ensures cause { IfSome result.1 (HasCause C.step C.pack C.refuses H.opened) }
     {
         let Worker {
             seated,
@@ -182,8 +182,7 @@ impl<C: Chare<A>, H: Openings<C> + RunStrategy, J: RunBeginning<C>, A: Allocator
         field: &Field<C, H, J, A>,
     ) -> Result<(), Fault>
         ensures same_me { self.new.seated.pe.me ≡ self.old.seated.pe.me }
-        ensures unpacks { IfErr result (λ fault. fault ≢ Unpack) }
-        ensures no_mismatch { IfErr result (λ fault. fault ≢ Mismatch) }
+        ensures cause { IfErr result (HasCause C.step C.pack C.refuses H.opened) }
     {
         for _element in 0..self.agenda.dues() {
             if field.is_stopped() {
@@ -200,8 +199,7 @@ impl<C: Chare<A>, H: Openings<C> + RunStrategy, J: RunBeginning<C>, A: Allocator
     // Starts the element that is due next.
     fn start_next<G: Gate, V: Watch>(&mut self, gate: &G, watch: &V) -> Result<(), Fault>
         ensures same_me { self.new.seated.pe.me ≡ self.old.seated.pe.me }
-        ensures unpacks { IfErr result (λ fault. fault ≢ Unpack) }
-        ensures no_mismatch { IfErr result (λ fault. fault ≢ Mismatch) }
+        ensures cause { IfErr result (HasCause C.step C.pack C.refuses H.opened) }
     {
         let Some(element) = self.agenda.next_due() else {
             return Ok(());
@@ -214,7 +212,7 @@ impl<C: Chare<A>, H: Openings<C> + RunStrategy, J: RunBeginning<C>, A: Allocator
                 }
                 Ok(())
             }
-            Err(error) => Err(fault_of(error)),
+            Err(error) => Err(fault_of::<C, H, A>(error)),
         }
     }
 
@@ -227,8 +225,7 @@ impl<C: Chare<A>, H: Openings<C> + RunStrategy, J: RunBeginning<C>, A: Allocator
         field: &Field<C, H, J, A>,
     ) -> Result<(), Fault>
         ensures same_me { self.new.seated.pe.me ≡ self.old.seated.pe.me }
-        ensures unpacks { IfErr result (λ fault. fault ≢ Unpack) }
-        ensures no_mismatch { IfErr result (λ fault. fault ≢ Mismatch) }
+        ensures cause { IfErr result (HasCause C.step C.pack C.refuses H.opened) }
     {
         let mut idle = 0u64;
         for _ in rt.forever() {
@@ -260,8 +257,7 @@ impl<C: Chare<A>, H: Openings<C> + RunStrategy, J: RunBeginning<C>, A: Allocator
         field: &Field<C, H, J, A>,
     ) -> Result<bool, Fault>
         ensures same_me { self.new.seated.pe.me ≡ self.old.seated.pe.me }
-        ensures unpacks { IfErr result (λ fault. fault ≢ Unpack) }
-        ensures no_mismatch { IfErr result (λ fault. fault ≢ Mismatch) }
+        ensures cause { IfErr result (HasCause C.step C.pack C.refuses H.opened) }
     {
         let went_on = self.go_on(rt, gate, watch, field)?;
         let moved = self.move_letters(gate, watch, field)?;
@@ -281,8 +277,7 @@ impl<C: Chare<A>, H: Openings<C> + RunStrategy, J: RunBeginning<C>, A: Allocator
     // Acts on what is in the hand. An element there arrives, and is due.
     fn act<G: Gate, V: Watch>(&mut self, gate: &G, watch: &V) -> Result<bool, Fault>
         ensures same_me { self.new.seated.pe.me ≡ self.old.seated.pe.me }
-        ensures unpacks { IfErr result (λ fault. fault ≢ Unpack) }
-        ensures no_mismatch { IfErr result (λ fault. fault ≢ Mismatch) }
+        ensures cause { IfErr result (HasCause C.step C.pack C.refuses H.opened) }
     {
         if let Some(element) = arriving(self.seated.pe()) {
             if self.agenda.arrives(element).is_err() {
@@ -298,7 +293,7 @@ impl<C: Chare<A>, H: Openings<C> + RunStrategy, J: RunBeginning<C>, A: Allocator
                 }
                 Ok(acted.is_some())
             }
-            Err(error) => Err(fault_of(error)),
+            Err(error) => Err(fault_of::<C, H, A>(error)),
         }
     }
 
@@ -311,8 +306,7 @@ impl<C: Chare<A>, H: Openings<C> + RunStrategy, J: RunBeginning<C>, A: Allocator
         field: &Field<C, H, J, A>,
     ) -> Result<bool, Fault>
         ensures same_me { self.new.seated.pe.me ≡ self.old.seated.pe.me }
-        ensures unpacks { IfErr result (λ fault. fault ≢ Unpack) }
-        ensures no_mismatch { IfErr result (λ fault. fault ≢ Mismatch) }
+        ensures cause { IfErr result (HasCause C.step C.pack C.refuses H.opened) }
     {
         if self.see_round(rt, field).is_err() {
             return Err(Fault::OutOfMemory);
@@ -333,8 +327,7 @@ impl<C: Chare<A>, H: Openings<C> + RunStrategy, J: RunBeginning<C>, A: Allocator
         field: &Field<C, H, J, A>,
     ) -> Result<bool, Fault>
         ensures same_me { self.new.seated.pe.me ≡ self.old.seated.pe.me }
-        ensures unpacks { IfErr result (λ fault. fault ≢ Unpack) }
-        ensures no_mismatch { IfErr result (λ fault. fault ≢ Mismatch) }
+        ensures cause { IfErr result (HasCause C.step C.pack C.refuses H.opened) }
     {
         let Some(element) = self.agenda.next_due() else {
             return Ok(false);
@@ -350,7 +343,7 @@ impl<C: Chare<A>, H: Openings<C> + RunStrategy, J: RunBeginning<C>, A: Allocator
                 }
                 Ok(done)
             }
-            Err(error) => Err(fault_of(error)),
+            Err(error) => Err(fault_of::<C, H, A>(error)),
         }
     }
 
@@ -379,8 +372,7 @@ impl<C: Chare<A>, H: Openings<C> + RunStrategy, J: RunBeginning<C>, A: Allocator
         busy: bool,
     ) -> Result<bool, Fault>
         ensures same_me { self.new.seated.pe.me ≡ self.old.seated.pe.me }
-        ensures unpacks { IfErr result (λ fault. fault ≢ Unpack) }
-        ensures no_mismatch { IfErr result (λ fault. fault ≢ Mismatch) }
+        ensures cause { IfErr result (HasCause C.step C.pack C.refuses H.opened) }
     {
         let notes = self.seated.pe().as_end().notes().len();
         if notes == 0 {
@@ -420,8 +412,7 @@ impl<C: Chare<A>, H: Openings<C> + RunStrategy, J: RunBeginning<C>, A: Allocator
         field: &Field<C, H, J, A>,
     ) -> Result<bool, Fault>
         ensures same_me { self.new.seated.pe.me ≡ self.old.seated.pe.me }
-        ensures unpacks { IfErr result (λ fault. fault ≢ Unpack) }
-        ensures no_mismatch { IfErr result (λ fault. fault ≢ Mismatch) }
+        ensures cause { IfErr result (HasCause C.step C.pack C.refuses H.opened) }
     {
         if !self.completes {
             return Ok(false);

@@ -1,21 +1,23 @@
 -- What a step does to the elements of a PE and of the queues: each was what its journal says, and still is.
 use Rattle.std.proofs.Common.{◌≡◌, ℕ, ◌+◌, ◌≤◌, List, [], ◌∷◌, ◌++◌, length, Bool, true, false, Option, Some, None, Result, Ok, Err, refl, sym, subst, length-set}
-use Rattle.std.specs.Prelude.{All, is_none, IfSome, OnErr, IfOk, slice_get, slice_set}
+use Rattle.std.specs.Prelude.{All, not, is_none, IfSome, OnErr, IfOk, slice_get, slice_set}
 use Rattle.std.specs.Option.{option_map, option_and_then}
 use Rattle.std.proofs.lemmas.List.Elements.{All-push, All-head, All-tail, All-set}
 use Rattle.std.proofs.lemmas.Option.{slice_get_within, get_or_from_slice_get}
 use Rattle.chare_index.specs.declared.limits.TheConstants.Limits.{STATE_BYTES}
 use Rattle.pup_pack.specs.declared.error.PupError.{PupError}
-use Rattle.at_sync.specs.Boards.{BoardState, after_report, after_finish}
+use Rattle.at_sync.specs.Boards.{BoardState, after_report, after_finish, place_in}
 use Rattle.lb_database.specs.Measuring.{elements}
 use Rattle.chares.specs.declared.note.Note.{Note}
 use Rattle.chares.specs.declared.note.Note.TheVariants.{Sync, Finish}
 use Rattle.chares.specs.declared.trace_entry.TraceEntry.{TraceEntry}
+use Rattle.chares.specs.declared.entry.Entry.TheVariants.{Resumption}
+use Rattle.chares.specs.Elements.{ElementView}
 use Rattle.chares.specs.Steps.{Step}
 use Rattle.pe_state.specs.Histories.{IsParcelHistory, HasHistories}
-use Rattle.pe_state.specs.Pes.{PeView, Parcel, Acting, front_parcel, front_address, wanted, looked, received, gave_up, noted, acting}
+use Rattle.pe_state.specs.Pes.{PeView, Parcel, Acting, front_parcel, front_address, wanted, looked, received, gave_up, noted, acting, waits_for}
 use Rattle.pe_state.specs.Rooms.{found}
-use Rattle.pe_state.proofs.Histories.{looked_holds, resumed_holds, gave_up_holds, front_holds, received_holds, acting_holds, noted_holds, departed_holds}
+use Rattle.pe_state.proofs.Histories.{MayHandleAt, may_start, may_resume_after, looked_holds, resumed_holds, gave_up_holds, front_holds, received_holds, acting_holds, noted_holds, departed_holds}
 use Rattle.rts_core.specs.Events.{where_true, look_event, flush_event, delivered, deliver_event, report_event, board_after, note_entries, start_event, depart_event, resume_event, act_event, due, front_of}
 use Rattle.rts_core.specs.Parts.{or_same}
 
@@ -23,6 +25,14 @@ use Rattle.rts_core.specs.Parts.{or_same}
 pub where_holds : {X : Type 0} (P : X → Type 0) (test : Bool) (x : X) → P x → IfSome (where_true test (Some x)) P
 where_holds P true x p = p
 where_holds P false x p = tt
+
+where_holds_if : {X : Type 0} (P : X → Type 0) (test : Bool) (x : X) → (test ≡ true → P x) → IfSome (where_true test (Some x)) P
+where_holds_if P true x p = p refl
+where_holds_if P false x p = tt
+
+not_true : (b : Bool) → not b ≡ true → b ≡ false
+not_true true h = cc
+not_true false h = refl
 
 -- what holds of what follows
 pub and_then_holds : {X Y : Type 0} (P : Y → Type 0) (f : X → Option Y) (o : Option X) → ((x : X) → o ≡ Some x → IfSome (f x) P) → IfSome (option_and_then f o) P
@@ -60,13 +70,31 @@ module _ {C : Type 0} (step : Step C) (fits : C → Type 0) (pack : C → List �
   pub start_event_holds : (pe : PeView C) (e : ℕ) → HasHistories step fits pack opened pe → IfSome (start_event step pack pe e) (λ after. HasHistories step fits pack opened after.0)
   start_event_holds pe e h =
       and_then_holds (λ after. HasHistories step fits pack opened after.0) _ (found e pe.room)
-      (λ el _. where_holds (λ after. HasHistories step fits pack opened after.0) _ _ (resumed_holds step fits pack opened pe e 0 h))
+      (λ el at. where_holds_if (λ after. HasHistories step fits pack opened after.0) _ _
+      (λ fresh. resumed_holds step fits pack opened pe e 0 h (may_start pe e el at (not_true el.progress.started fresh))))
 
   -- Resume
+  due_handles : {A : Type 0} (pe : PeView C) (b : BoardState A) (e : ℕ) (at : ℕ × ℕ) → due pe b e ≡ Some at → MayHandleAt pe e (Resumption at.0)
+  due_handles {A} pe b e at h = by_element (found e pe.room) refl h
+    where
+      by_place : (el : ElementView C) (round : ℕ) (o : Option ℕ) → found e pe.room ≡ Some el → waits_for el ≡ Some round → option_and_then (λ q. Some (round, q)) o ≡ Some at → MayHandleAt pe e (Resumption at.0)
+      by_place el round None is waits k = cc
+      by_place el round (Some q) is waits k =
+          let same : round ≡ at.0 = cc in
+          subst (λ (r : ℕ). MayHandleAt pe e (Resumption r)) same (may_resume_after pe e round el is waits)
+
+      by_round : (el : ElementView C) (o : Option ℕ) → found e pe.room ≡ Some el → waits_for el ≡ o → option_and_then (λ round. option_and_then (λ q. Some (round, q)) (place_in b round e)) o ≡ Some at → MayHandleAt pe e (Resumption at.0)
+      by_round el None is waits k = cc
+      by_round el (Some round) is waits k = by_place el round (place_in b round e) is waits k
+
+      by_element : (o : Option (ElementView C)) → found e pe.room ≡ o → option_and_then (λ (el : ElementView C). option_and_then (λ round. option_and_then (λ q. Some (round, q)) (place_in b round e)) (waits_for el)) o ≡ Some at → MayHandleAt pe e (Resumption at.0)
+      by_element None is k = cc
+      by_element (Some el) is k = by_round el (waits_for el) is refl k
+
   pub resume_event_holds : {A : Type 0} (p : ℕ) (pe : PeView C) (b : BoardState A) (e : ℕ) → HasHistories step fits pack opened pe → IfSome (resume_event step pack p pe b e) (λ after. HasHistories step fits pack opened after.0)
   resume_event_holds p pe b e h =
       and_then_holds (λ after. HasHistories step fits pack opened after.0) _ (due pe b e)
-      (λ at _. where_holds (λ after. HasHistories step fits pack opened after.0) _ _ (resumed_holds step fits pack opened pe e at.0 h))
+      (λ at is. where_holds (λ after. HasHistories step fits pack opened after.0) _ _ (resumed_holds step fits pack opened pe e at.0 h (due_handles pe b e at is)))
 
   -- Flush
   pub flush_event_holds : (pe : PeView C) (queues : List (List Parcel)) → HasHistories step fits pack opened pe → All (All (IsParcelHistory step fits pack opened)) queues → IfSome (flush_event pe queues) (λ after. HasHistories step fits pack opened after.0 × All (All (IsParcelHistory step fits pack opened)) after.1)

@@ -14,6 +14,7 @@ pub mod Moves
 pub mod Notes
 pub mod OpeningWeights
 pub mod Openings
+pub mod Orders
 pub mod Rooms
 pub mod RunAccount
 pub mod RunLaws

@@ -3,6 +3,7 @@ pub mod Calls
 pub mod Events
 pub mod Histories
 pub mod Ledgers
+pub mod Orders
 pub mod Own
 pub mod Parts
 pub mod Places

@@ -1,8 +1,13 @@
 -- The fault of the first worker that met one, as the workers are gathered.
-use Rattle.std.proofs.Common.{◌≡◌, ◌∙◌, ap, sym, List, [], ◌∷◌, Option, None, Some}
+use Rattle.std.proofs.Common.{◌≡◌, ◌≢◌, ◌∙◌, ℕ, ap, sym, List, [], ◌∷◌, Option, None, Some}
 use Rattle.std.specs.Prelude.{IfSome}
 use Rattle.std.specs.Option.{option_or}
+use Rattle.chares.specs.Elements.{Refuses}
+use Rattle.chares.specs.Steps.{Step}
+use Rattle.pe_worker.specs.Causes.{HasCause}
 use Rattle.pe_worker.specs.declared.fault.Fault.{Fault}
+use Rattle.pe_worker.specs.declared.fault.Fault.TheVariants.{Mismatch, Unpack}
+use Rattle.pe_worker.proofs.Causes.{caused_unpacks, caused_agrees}
 use Rattle.rts_run.specs.Outcomes.{first_fault}
 
 -- one more is gathered
@@ -19,3 +24,13 @@ last_fault (Some f) others whole none h = h
 pub either_fault : (P : Fault → Type 0) (fault met new : Option Fault) → new ≡ option_or fault met → IfSome fault P → IfSome met P → IfSome new P
 either_fault P None met new made h k = rw made k
 either_fault P (Some f) met new made h k = rw made h
+
+-- a fault with a cause is neither that of bytes that are no state nor that of marks that do not agree
+module _ {C : Type 0} (step : Step C) (fits : C → Type 0) (pack : C → List ℕ) (refuses : Refuses C) (opened : List C) where
+  pub no_unpack : (o : Option Fault) → IfSome o (HasCause step pack refuses opened) → o ≢ Some Unpack
+  no_unpack None h k = cc
+  no_unpack (Some fault) h k = let same : fault ≡ Unpack = cc in caused_unpacks step fits pack refuses opened fault h same
+
+  pub no_mismatch : (o : Option Fault) → IfSome o (HasCause step pack refuses opened) → o ≢ Some Mismatch
+  no_mismatch None h k = cc
+  no_mismatch (Some fault) h k = let same : fault ≡ Mismatch = cc in caused_agrees step fits pack refuses opened fault h same

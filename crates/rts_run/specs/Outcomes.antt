@@ -1,17 +1,21 @@
 -- What a run left, and what holds of it whatever the schedule was, also after a fault.
-use Rattle.std.specs.Prelude.{◌≡◌, ◌≢◌, ℕ, List, [], ◌∷◌, length, map, Option, None, Some}
+use Rattle.std.specs.Prelude.{◌≡◌, ◌≢◌, ℕ, List, [], ◌∷◌, length, map, Option, None, Some, IfSome}
 use Rattle.std.specs.List.{range_with_len}
 use Rattle.std.specs.Option.{option_or}
 use Rattle.at_sync.specs.Boards.{AreDecided, BoardState, IsBoard, HaveFinished}
 use Rattle.at_sync.specs.declared.strategy.Strategy.{Strategy}
+use Rattle.chares.specs.Elements.{Refuses}
 use Rattle.chares.specs.Steps.{Step}
 use Rattle.lb_database.specs.Measuring.{elements}
 pub use Rattle.pe_state.specs.InOrder.{element_on}
 use Rattle.pe_state.specs.Pes.{PeView, Parcel}
+use Rattle.pe_worker.specs.Causes.{HasCause}
 use Rattle.pe_worker.specs.declared.fault.Fault.{Fault}
 use Rattle.pe_worker.specs.declared.fault.Fault.TheVariants.{Mismatch, Unpack}
+use Rattle.round_marks.specs.Finished.{HaveAllFinished}
 use Rattle.round_marks.specs.Runs.{AreAllMarked}
 use Rattle.rts_core.specs.Histories.{AreHistories}
+use Rattle.rts_core.specs.Orders.{AreInOrder}
 use Rattle.run_account.specs.RunAccounts.{IsRunAccount, left_world}
 
 -- its PEs, in order; what is left in the queue of each, front first; the board, with what was kept of each round that was
@@ -28,14 +32,16 @@ first_fault [] = None
 first_fault (fault ∷ faults) = option_or fault (first_fault faults)
 
 -- The outcome of a run of these chares on this number of PEs. There is an end and a queue of each PE. The account holds, and
--- every element is what its journal says. The board is one of these chares on these PEs: each round was decided for a snapshot of
--- all of them, by the strategy. The marks of the elements agree with the rounds unless the fault is a mismatch, and do not agree
--- where it is one. No element failed to unpack; and without a fault the board says of every element that it has finished.
-pub record IsOutcome {C A : Type 0} (step : Step C) (fits : C → Type 0) (pack : C → List ℕ) (chares : List C) (pes : ℕ) (strategy : Strategy) (o : OutcomeView C A) : Type 0 where
+-- every element is what its journal says, in which its rounds come in order. The board is one of these chares on these PEs: each
+-- round was decided for a snapshot of all of them, by the strategy. The marks of the elements agree with the rounds unless the
+-- fault is a mismatch, and do not agree where it is one. Any other fault has a cause, and no element failed to unpack. Without a
+-- fault every element has finished, and the board says so of each.
+pub record IsOutcome {C A : Type 0} (step : Step C) (fits : C → Type 0) (pack : C → List ℕ) (refuses : Refuses C) (chares : List C) (pes : ℕ) (strategy : Strategy) (o : OutcomeView C A) : Type 0 where
   pub ends : map (λ pe. pe.me) o.ends ≡ range_with_len 0 pes
   pub queues : length o.left ≡ pes
   pub account : IsRunAccount step chares (left_world o.ends o.left)
   pub histories : AreHistories step fits pack chares (left_world o.ends o.left)
+  pub in_order : AreInOrder (left_world o.ends o.left)
   pub board : IsBoard o.board
   pub elements : elements o.board.database ≡ length chares
   pub on_pes : o.board.pes ≡ pes
@@ -44,4 +50,6 @@ pub record IsOutcome {C A : Type 0} (step : Step C) (fits : C → Type 0) (pack 
   pub marks : o.fault ≢ Some Mismatch → AreAllMarked o.board o.ends o.left
   pub mismatch : o.fault ≡ Some Mismatch → ¬ (AreAllMarked o.board o.ends o.left)
   pub unpacks : o.fault ≢ Some Unpack
+  pub cause : o.fault ≢ Some Mismatch → IfSome o.fault (HasCause step pack refuses chares)
   pub finished : o.fault ≡ None → HaveFinished o.board
+  pub all_finished : o.fault ≡ None → HaveAllFinished o.ends o.left

@@ -1,8 +1,8 @@
 //! The workers of a run, after they have ended.
 
-ghost use Rattle.std.specs.Prelude.{◌≡◌, ◌+◌, ◌∷◌, ◌≢◌, ◌≤◌, [], IfSome, length, map, vec_capacity};
+ghost use Rattle.std.specs.Prelude.{◌≡◌, ◌+◌, ◌∷◌, ◌≤◌, [], IfSome, length, map, vec_capacity};
 ghost use Rattle.std.specs.List.{range_with_len};
-ghost use Rattle.pe_worker.specs.declared.fault.Fault.TheVariants.{Mismatch, Unpack};
+ghost use Rattle.pe_worker.specs.Causes.{HasCause};
 ghost use Rattle.rts_run.specs.Outcomes.{first_fault};
 
 use barrier::RunStrategy;
@@ -30,8 +30,7 @@ pub(crate) fn gather<C: Chare<A>, H: Openings<C> + RunStrategy, J: RunBeginning<
     ensures all { length result.0.ends ≡ length others.items + 1 }
     ensures in_order { map (λ pe. pe.me) result.0.ends ≡ range_with_len 0 (length result.0.ends) }
     ensures fault { result.1 ≡ first_fault (first.fault ∷ map (λ w. w.fault) others.items) }
-    ensures unpacks { IfSome result.1 (λ fault. fault ≢ Unpack) }
-    ensures no_mismatch { IfSome result.1 (λ fault. fault ≢ Mismatch) }
+    ensures cause { IfSome result.1 (HasCause C.step C.pack C.refuses H.opened) }
 {
     let (seated, mut fault) = first.into_parts();
     let mut gathered = Gathered::first(seated, room);

@@ -1,15 +1,14 @@
 //! The run, from chares to its outcome.
 
-ghost use Rattle.std.specs.Prelude.{◌≡◌, ◌≢◌, ◌≤◌, IfOk, IfSome, MatchResult, None, Some, length, map};
-ghost use Rattle.std.specs.List.{range_with_len};
+ghost use Rattle.std.specs.Prelude.{◌≡◌, ◌≢◌, ◌≤◌, IfOk, IfSome, IsTrue, MatchResult, None, Some, length, map};
 ghost use Rattle.std.specs.VecDeque.{deque_len};
-ghost use Rattle.at_sync.specs.Boards.{AreDecided, HaveFinished, IsBoard};
-ghost use Rattle.lb_database.specs.Measuring.{elements};
+ghost use Rattle.at_sync.specs.Boards.{HaveFinished};
+ghost use Rattle.pe_worker.specs.Causes.{HasCause};
 ghost use Rattle.pe_worker.specs.declared.fault.Fault.TheVariants.{Mismatch, Stopped, Unpack};
+ghost use Rattle.round_marks.specs.Finished.{HaveAllFinished};
 ghost use Rattle.round_marks.specs.Runs.{AreAllMarked};
 ghost use Rattle.rts_core.specs.Accounts.{IsCounted};
-ghost use Rattle.rts_core.specs.Histories.{AreHistories};
-ghost use Rattle.run_account.specs.RunAccounts.{IsRunAccount, left_world};
+ghost use Rattle.run_account.specs.RunAccounts.{left_world};
 ghost use Rattle.rts_run.specs.Configs.{IsWithin, MayBegin, RefusesRun};
 ghost use Rattle.rts_run.specs.Outcomes.{IsOutcome};
 
@@ -24,7 +23,7 @@ use chare_index::{Gate, Limits};
 use chares::{Chare, Openings};
 use pe_state::{HeldParcel, PeEnd};
 use pe_worker::{Fault, Field, NoWatch, RunBeginning, Watch, Worker};
-use round_marks::run_agrees;
+use round_marks::{run_agrees, run_finished};
 use run_account::{LeftBuffers, take_next};
 use std::alloc::{AllocError, Allocator};
 use std::collections::VecDeque;
@@ -39,11 +38,13 @@ use worker_threads::Crew;
 /// each with its number below `probe_workers`, while one of them waits for the others under the lock of the board: so a gate
 /// that waits there holds up every worker that reports. With no chare the run ends at once.
 ///
-/// Whatever the schedule was and whatever went wrong, the outcome loses nothing: the clause `account` says where each
-/// letter is, `histories` what each element is, `rounds` what was decided, on a board of these chares and PEs (`elements`,
-/// `on_pes`) that decides as the config says (`by_strategy`), and `marks` that the elements were measured and placed as the rounds say, unless its fault is
-/// [`Mismatch`](Fault::Mismatch). That comes only where they were not (`mismatch`), and in place of any other. Else the fault is
-/// that of the lowest PE whose worker met one, and without one every element has finished (`finished`).
+/// Whatever the schedule was and whatever went wrong, the outcome loses nothing: the clause `outcome` says what holds of it. Its
+/// fields are: `account`, where each letter is; `histories`, what each element is; `in_order`, that each started before its first
+/// letter, and then waited and was resumed for each round in turn; `rounds`, what was decided, on a board of these chares and PEs
+/// (`elements`, `on_pes`) that decides as the config says (`by_strategy`); and `marks`, that the elements were measured and placed
+/// as the rounds say, unless its fault is [`Mismatch`](Fault::Mismatch). That comes only where they were not (`mismatch`), and in
+/// place of any other. Else the fault is that of the lowest PE whose worker met one, and has a cause (`cause`). Without one every
+/// element has finished (`all_finished`), and the board was told so (`finished`).
 ///
 /// # Errors
 ///
@@ -57,19 +58,7 @@ pub fn run<
     A: Allocator + Copy + Send + Sync,
 >(rt: &R, alloc: A, config: &Config, gate: &G, chares: Vec<C, A>) -> Result<Outcome<C, A>, RunError>
     ensures answer { MatchResult result (λ _. MayBegin config.now (length chares.items)) (RefusesRun config.now (length chares.items)) }
-    ensures ends { IfOk result (λ o. map (λ pe. pe.me) o.ends ≡ range_with_len 0 config.now.pes) }
-    ensures queues { IfOk result (λ o. length o.left ≡ config.now.pes) }
-    ensures account { IfOk result (λ o. IsRunAccount C.step chares.items (left_world o.ends o.left)) }
-    ensures histories { IfOk result (λ o. AreHistories C.step C.fits C.pack chares.items (left_world o.ends o.left)) }
-    ensures board { IfOk result (λ o. IsBoard o.board) }
-    ensures elements { IfOk result (λ o. elements o.board.database ≡ length chares.items) }
-    ensures on_pes { IfOk result (λ o. o.board.pes ≡ config.now.pes) }
-    ensures by_strategy { IfOk result (λ o. o.board.strategy ≡ config.now.strategy) }
-    ensures rounds { IfOk result (λ o. AreDecided (length chares.items) config.now.pes config.now.strategy o.board.rounds) }
-    ensures marks { IfOk result (λ o. o.fault ≢ Some Mismatch → AreAllMarked o.board o.ends o.left) }
-    ensures mismatch { IfOk result (λ o. o.fault ≡ Some Mismatch → ¬ (AreAllMarked o.board o.ends o.left)) }
-    ensures unpacks { IfOk result (λ o. o.fault ≢ Some Unpack) }
-    ensures finished { IfOk result (λ o. o.fault ≡ None → HaveFinished o.board) }
+    ensures outcome { IfOk result (IsOutcome C.step C.fits C.pack C.refuses chares.items config.now.pes config.now.strategy) }
 {
     run_watched(rt, alloc, config, gate, &NoWatch, chares)
 }
@@ -94,19 +83,7 @@ pub fn run_watched<
     chares: Vec<C, A>,
 ) -> Result<Outcome<C, A>, RunError>
     ensures answer { MatchResult result (λ _. MayBegin config.now (length chares.items)) (RefusesRun config.now (length chares.items)) }
-    ensures ends { IfOk result (λ o. map (λ pe. pe.me) o.ends ≡ range_with_len 0 config.now.pes) }
-    ensures queues { IfOk result (λ o. length o.left ≡ config.now.pes) }
-    ensures account { IfOk result (λ o. IsRunAccount C.step chares.items (left_world o.ends o.left)) }
-    ensures histories { IfOk result (λ o. AreHistories C.step C.fits C.pack chares.items (left_world o.ends o.left)) }
-    ensures board { IfOk result (λ o. IsBoard o.board) }
-    ensures elements { IfOk result (λ o. elements o.board.database ≡ length chares.items) }
-    ensures on_pes { IfOk result (λ o. o.board.pes ≡ config.now.pes) }
-    ensures by_strategy { IfOk result (λ o. o.board.strategy ≡ config.now.strategy) }
-    ensures rounds { IfOk result (λ o. AreDecided (length chares.items) config.now.pes config.now.strategy o.board.rounds) }
-    ensures marks { IfOk result (λ o. o.fault ≢ Some Mismatch → AreAllMarked o.board o.ends o.left) }
-    ensures mismatch { IfOk result (λ o. o.fault ≡ Some Mismatch → ¬ (AreAllMarked o.board o.ends o.left)) }
-    ensures unpacks { IfOk result (λ o. o.fault ≢ Some Unpack) }
-    ensures finished { IfOk result (λ o. o.fault ≡ None → HaveFinished o.board) }
+    ensures outcome { IfOk result (IsOutcome C.step C.fits C.pack C.refuses chares.items config.now.pes config.now.strategy) }
 {
     if let Some(setting) = config.first_outside(chares.len()) {
         return Err(RunError::Config(setting));
@@ -138,7 +115,7 @@ fn run_as<
     requires run { config.now.pes ≡ H.pes }
     requires opened { chares.items ≡ H.opened }
     requires by_strategy { config.now.strategy ≡ H.strategy }
-    ensures outcome { IfOk result (IsOutcome C.step C.fits C.pack H.opened H.pes H.strategy) }
+    ensures outcome { IfOk result (IsOutcome C.step C.fits C.pack C.refuses H.opened H.pes H.strategy) }
 {
     let opened = OpenedRun::<C, H, A>::new(alloc, config, chares)?;
     run_opened(rt, alloc, config, gate, watch, opened)
@@ -163,7 +140,7 @@ fn run_opened<
     requires within { IsWithin config.now }
     requires run { config.now.pes ≡ H.pes }
     requires capacity { opened.post.capacity ≡ config.now.capacity }
-    ensures outcome { IfOk result (IsOutcome C.step C.fits C.pack H.opened H.pes H.strategy) }
+    ensures outcome { IfOk result (IsOutcome C.step C.fits C.pack C.refuses H.opened H.pes H.strategy) }
 {
     run_named::<C, H, Brand, G, V, R, A>(rt, alloc, config, gate, watch, opened)
 }
@@ -189,7 +166,7 @@ fn run_named<
     requires within { IsWithin config.now }
     requires run { config.now.pes ≡ H.pes }
     requires capacity { opened.post.capacity ≡ config.now.capacity }
-    ensures outcome { IfOk result (IsOutcome C.step C.fits C.pack H.opened H.pes H.strategy) }
+    ensures outcome { IfOk result (IsOutcome C.step C.fits C.pack C.refuses H.opened H.pes H.strategy) }
 {
     let count = config.pes as usize;
     let room = Vec::with_capacity(alloc, count)?;
@@ -203,7 +180,7 @@ fn run_named<
     let (gathered, fault) = gather(field.post(), first, done, room);
     let (post, board) = field.into_parts();
     let (ends, left) = gathered.settled(rt, post, left);
-    Ok(ended(ends, left, board, fault))
+    Ok(ended::<C, H, A>(ends, left, board, fault))
 }
 
 // Lets each worker work in a thread of its own.
@@ -232,9 +209,9 @@ fn work_all<
     crew.run(rt, &work, field.stop_flag(), workers)
 }
 
-// The outcome of what is left. That the marks of the elements agree with the rounds is seen here, once all threads have
-// ended: no lock can show it before.
-fn ended<C: Chare<A>, A: Allocator>(
+// The outcome of what is left. That the marks of the elements agree with the rounds, and that the elements have finished, is seen
+// here, once all threads have ended: no lock can show it before.
+fn ended<C: Chare<A>, H: Openings<C>, A: Allocator>(
     ends: Vec<PeEnd<C, A>, A>,
     left: Vec<Vec<HeldParcel<A>, A>, A>,
     board: Board<A>,
@@ -242,39 +219,54 @@ fn ended<C: Chare<A>, A: Allocator>(
 ) -> Outcome<C, A>
     requires few_pes { length ends.items ≤ Limits.PES }
     requires counted { IsCounted (left_world ends.items (map (λ q. q.items) left.items)) }
-    requires unpacks { IfSome met (λ fault. fault ≢ Unpack) }
-    requires no_mismatch { IfSome met (λ fault. fault ≢ Mismatch) }
+    requires cause { IfSome met (HasCause C.step C.pack C.refuses H.opened) }
     ensures ends { result.ends ≡ ends.items }
     ensures left { result.left ≡ map (λ q. q.items) left.items }
     ensures board { result.board ≡ board }
     ensures marks { result.fault ≢ Some Mismatch → AreAllMarked result.board result.ends result.left }
     ensures mismatch { result.fault ≡ Some Mismatch → ¬ (AreAllMarked result.board result.ends result.left) }
     ensures unpacks { result.fault ≢ Some Unpack }
+    ensures cause { result.fault ≢ Some Mismatch → IfSome result.fault (HasCause C.step C.pack C.refuses H.opened) }
     ensures finished { result.fault ≡ None → HaveFinished result.board }
+    ensures all_finished { result.fault ≡ None → HaveAllFinished result.ends result.left }
 {
     if run_agrees(&board, &ends, &left) {
-        let fault = fault_at_end(&board, met);
+        let finished = all_finished(&board, &ends, &left);
+        let fault = fault_at_end::<C, H, A>(finished, met);
         return Outcome::new(ends, left, board, fault);
     }
     Outcome::new(ends, left, board, Some(Fault::Mismatch))
 }
 
+// Whether every element has finished, and the board was told so of each.
+fn all_finished<C: Chare<A>, A: Allocator>(
+    board: &Board<A>,
+    ends: &[PeEnd<C, A>],
+    left: &[Vec<HeldParcel<A>, A>],
+) -> bool
+    ensures board { IsTrue result → HaveFinished board.now }
+    ensures elements { IsTrue result → HaveAllFinished ends.now (map (λ q. q.items) left.now) }
+{
+    board.all_finished() && run_finished(ends, left)
+}
+
 // The fault of a run whose first worker that met a fault met this one. Where none met one, and yet an element has not
 // finished, the workers were stopped: they end in no other way, but no lock can show that.
-fn fault_at_end<A: Allocator>(board: &Board<A>, met: Option<Fault>) -> Option<Fault>
-    requires unpacks { IfSome met (λ fault. fault ≢ Unpack) }
-    requires no_mismatch { IfSome met (λ fault. fault ≢ Mismatch) }
+fn fault_at_end<C: Chare<A>, H: Openings<C>, A: Allocator>(
+    finished: bool,
+    met: Option<Fault>,
+) -> Option<Fault>
+    requires cause { IfSome met (HasCause C.step C.pack C.refuses H.opened) }
     ensures met { IfSome met (λ fault. result ≡ Some fault) }
-    ensures well { met ≡ None → HaveFinished board.now → result ≡ None }
-    ensures stopped { met ≡ None → ¬ (HaveFinished board.now) → result ≡ Some Stopped }
-    ensures finished { result ≡ None → HaveFinished board.now }
-    ensures unpacks { result ≢ Some Unpack }
-    ensures no_mismatch { result ≢ Some Mismatch }
+    ensures well { met ≡ None → IsTrue finished → result ≡ None }
+    ensures stopped { met ≡ None → ¬ (IsTrue finished) → result ≡ Some Stopped }
+    ensures finished { result ≡ None → IsTrue finished }
+    ensures cause { IfSome result (HasCause C.step C.pack C.refuses H.opened) }
 {
     if met.is_some() {
         return met;
     }
-    if board.all_finished() {
+    if finished {
         return None;
     }
     Some(Fault::Stopped)

@@ -244,4 +244,4 @@ module _ {C A B : Type 0} (step : Step C) (fits : C → Type 0) (pack : C → Li
     own_all = zero_all_own (lives w) (since_opening others_in others_steady ∙ unlived others_in (λ e. refl) 0 opened)
 
     pub accounted : IsRunAccount step opened w
-    accounted = record { once = once_all; own = own_all; stands = stands_all; counted = counted_all; sent = sent_all }
+    accounted = record { once = once_all; posts = t.ledger.posted; numbered = t.numbered; whole = letters_all; own = own_all; stands = stands_all; counted = counted_all; sent = sent_all }

@@ -6,14 +6,14 @@ use Rattle.rts_run.specs.Outcomes.{IsOutcome, OutcomeView}
 use Rattle.run_text.specs.Sums.{AreTallies}
 use Rattle.run_text.proofs.Histories as of_runs
 use Rattle.std.specs.Prelude.{◌<◌, ◌^◌}
-use Rattle.tally.specs.Tallies.{TallyView, tally_pack, tally_step}
+use Rattle.tally.specs.Tallies.{TallyRefuses, TallyView, tally_pack, tally_step}
 use Rattle.workload.specs.Text.{WorkloadView}
 use Rattle.workload_run.specs.Driving.{IsLeftBy}
 use Rattle.workload_run.specs.Tallies.{tallies_of, tally_of}
 
 -- what a run of these chares on this number of PEs left
 pub left_by : {A : Type 0} (fits : TallyView → Type 0) (chares chares' : List TallyView) (pes pes' : ℕ) (strategy : Strategy) (o : OutcomeView TallyView A) → chares ≡ chares' → pes ≡ pes'
-    → IsOutcome tally_step fits tally_pack chares pes strategy o
+    → IsOutcome tally_step fits tally_pack TallyRefuses chares pes strategy o
     → IsLeftBy fits chares' pes' strategy o
 left_by fits chares chares' pes pes' strategy o same_chares same_pes left =
     subst (λ cs. IsLeftBy fits cs pes' strategy o) same_chares (subst (λ (p : ℕ). IsLeftBy fits chares p strategy o) same_pes left)

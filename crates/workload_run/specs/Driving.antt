@@ -6,7 +6,7 @@ use Rattle.pe_worker.specs.declared.fault.Fault.{Fault}
 use Rattle.rts_run.specs.Outcomes.{IsOutcome, OutcomeView}
 use Rattle.run_text.specs.Text.{outcome_text}
 use Rattle.streams.specs.Writing.{WritesPrefix}
-use Rattle.tally.specs.Tallies.{TallyView, tally_pack, tally_step}
+use Rattle.tally.specs.Tallies.{TallyRefuses, TallyView, tally_pack, tally_step}
 use Rattle.workload.specs.Faults.{IsFault}
 use Rattle.workload.specs.Reading.{EndsAt, IsReadError}
 use Rattle.workload.specs.Text.{WorkloadView, IsText}
@@ -20,7 +20,7 @@ use Rattle.workload_run.specs.declared.ended.Ended.TheVariants.{Ran, Refused, Ou
 -- what a run left that opened with these tallies on this number of PEs, with rounds by this strategy: every clause of `run`
 -- holds of it
 abbrev pub IsLeftBy : {A : Type 0} → (TallyView → Type 0) → List TallyView → ℕ → Strategy → OutcomeView TallyView A → Type 0
-IsLeftBy fits chares pes strategy o = IsOutcome tally_step fits tally_pack chares pes strategy o
+IsLeftBy fits chares pes strategy o = IsOutcome tally_step fits tally_pack TallyRefuses chares pes strategy o
 
 -- This is what the run of the workload left whose text these bytes are, and the text of that. Where the bytes of the reader are
 -- not known, the workload may be any.

@@ -1,7 +1,7 @@
 //! The letters of a turn.
 
-ghost use Rattle.std.specs.Prelude.{◌≡◌, ◌≢◌, IfErr};
-ghost use Rattle.pe_worker.specs.declared.fault.Fault.TheVariants.{Mismatch, Unpack};
+ghost use Rattle.std.specs.Prelude.{◌≡◌, IfErr};
+ghost use Rattle.pe_worker.specs.Causes.{HasCause};
 
 use crate::fault::{Fault, fault_of};
 use crate::field::Field;
@@ -31,8 +31,7 @@ impl<C: Chare<A>, H: Openings<C> + RunStrategy, J: RunBeginning<C>, A: Allocator
         field: &Field<C, H, J, A>,
     ) -> Result<usize, Fault>
         ensures same_me { self.new.seated.pe.me ≡ self.old.seated.pe.me }
-        ensures unpacks { IfErr result (λ fault. fault ≢ Unpack) }
-        ensures no_mismatch { IfErr result (λ fault. fault ≢ Mismatch) }
+        ensures cause { IfErr result (HasCause C.step C.pack C.refuses H.opened) }
     {
         for moved in 0..LETTERS {
             let taken = self.take_letter(gate, watch, field)?;
@@ -53,8 +52,7 @@ impl<C: Chare<A>, H: Openings<C> + RunStrategy, J: RunBeginning<C>, A: Allocator
         field: &Field<C, H, J, A>,
     ) -> Result<bool, Fault>
         ensures same_me { self.new.seated.pe.me ≡ self.old.seated.pe.me }
-        ensures unpacks { IfErr result (λ fault. fault ≢ Unpack) }
-        ensures no_mismatch { IfErr result (λ fault. fault ≢ Mismatch) }
+        ensures cause { IfErr result (HasCause C.step C.pack C.refuses H.opened) }
     {
         if watch.follows_steps() {
             self.seated.try_deliver(&field.post);
@@ -66,7 +64,7 @@ impl<C: Chare<A>, H: Openings<C> + RunStrategy, J: RunBeginning<C>, A: Allocator
                 Ok(true)
             }
             Ok(_) => self.act_on_hand(gate, watch, field),
-            Err(error) => Err(fault_of(error)),
+            Err(error) => Err(fault_of::<C, H, A>(error)),
         }
     }
 
@@ -79,8 +77,7 @@ impl<C: Chare<A>, H: Openings<C> + RunStrategy, J: RunBeginning<C>, A: Allocator
         field: &Field<C, H, J, A>,
     ) -> Result<bool, Fault>
         ensures same_me { self.new.seated.pe.me ≡ self.old.seated.pe.me }
-        ensures unpacks { IfErr result (λ fault. fault ≢ Unpack) }
-        ensures no_mismatch { IfErr result (λ fault. fault ≢ Mismatch) }
+        ensures cause { IfErr result (HasCause C.step C.pack C.refuses H.opened) }
     {
         if self.seated.pe().as_end().hand().is_none() {
             return Ok(false);

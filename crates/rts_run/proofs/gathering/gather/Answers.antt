@@ -1,6 +1,6 @@
-use Rattle.std.proofs.Common.{◌≢◌, ◌∙◌, arith, ap, length, map}
+use Rattle.std.proofs.Common.{◌∙◌, arith, ap, length, map}
 use Rattle.std.specs.Option.{option_or}
-use Rattle.pe_worker.specs.declared.fault.Fault.TheVariants.{Mismatch, Unpack}
+use Rattle.pe_worker.specs.Causes.{HasCause}
 use Rattle.run_account.proofs.Passing.{next_is, rest_is, counted_more, more_in_order}
 use Rattle.rts_run.proofs.Faults.{next_fault, last_fault, either_fault}
 use Rattle.rts_run.proofs.gathering.gather.Goals as goal
@@ -19,8 +19,7 @@ loop-next-preserved g c =
       counted = omega (arith, i.counted, n, ap length is);
       wide = rw c.with-gathered.ensures.room i.wide;
       first = next_fault c.loop-next.fault c.in-Some.next.fault c.or-fault.result (map (λ w. w.fault) others) (map (λ w. w.fault) left) _ (ap (map (λ w. w.fault)) is) (c.or-fault.ensures ∙ ap (option_or c.loop-next.fault) c.into_parts-seated-in-Some.ensures.fault) i.first;
-      unpacks = either_fault (λ fault. fault ≢ Unpack) c.loop-next.fault c.into_parts-seated-in-Some.result.1 c.or-fault.result c.or-fault.ensures i.unpacks c.into_parts-seated-in-Some.ensures.unpacks;
-      no_mismatch = either_fault (λ fault. fault ≢ Mismatch) c.loop-next.fault c.into_parts-seated-in-Some.result.1 c.or-fault.result c.or-fault.ensures i.no_mismatch c.into_parts-seated-in-Some.ensures.no_mismatch;
+      cause = either_fault (HasCause g.C.Chare.step g.C.Pup.pack g.C.Chare.refuses g.H.Openings.opened) c.loop-next.fault c.into_parts-seated-in-Some.result.1 c.or-fault.result c.or-fault.ensures i.cause c.into_parts-seated-in-Some.ensures.cause;
     }
 
 pub returns-clause-fault : goal.returns-clause-fault

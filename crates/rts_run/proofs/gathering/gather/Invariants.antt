@@ -1,8 +1,8 @@
-use Rattle.std.proofs.Common.{◌≡◌, ◌≢◌, ◌+◌, ◌∷◌, ◌≤◌, length, map}
+use Rattle.std.proofs.Common.{◌≡◌, ◌+◌, ◌∷◌, ◌≤◌, length, map}
 use Rattle.std.specs.Prelude.{IfSome}
 use Rattle.std.specs.List.{range_with_len}
 use Rattle.std.specs.Option.{option_or}
-use Rattle.pe_worker.specs.declared.fault.Fault.TheVariants.{Mismatch, Unpack}
+use Rattle.pe_worker.specs.Causes.{HasCause}
 use Rattle.rts_run.specs.Outcomes.{first_fault}
 use Rattle.rts_run.proofs.gathering.gather.Given as goal
 
@@ -13,8 +13,7 @@ invariant-loop-next g l = record {
   counted : length l.gathered.ends + length l.others.items ≡ length l.fn.others.items + 1;
   wide : length l.fn.others.items + 1 ≤ l.gathered.room;
   first : option_or l.fault (first_fault (map (λ w. w.fault) l.others.items)) ≡ first_fault (l.fn.first.fault ∷ map (λ w. w.fault) l.fn.others.items);
-  unpacks : IfSome l.fault (λ fault. fault ≢ Unpack);
-  no_mismatch : IfSome l.fault (λ fault. fault ≢ Mismatch);
+  cause : IfSome l.fault (HasCause g.C.Chare.step g.C.Pup.pack g.C.Chare.refuses g.H.Openings.opened);
 }
 
 abbrev pub decreases-loop-next : goal.decreases-loop-next

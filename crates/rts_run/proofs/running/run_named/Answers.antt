@@ -2,6 +2,7 @@ use Rattle.std.proofs.Common.{◌≡◌, ◌∙◌, ℕ, arith, ap, sym, subst, 
 use Rattle.std.specs.List.{range_with_len}
 use Rattle.std.proofs.lemmas.List.{length-map}
 use Rattle.pe_queues.specs.Seats.{pes}
+use Rattle.rts_core.proofs.Orders.{histories_in_order}
 use Rattle.run_account.proofs.Passing.{next_is, rest_is, counted_by}
 use Rattle.rts_run.proofs.Rounds.{decided_on}
 use Rattle.rts_run.proofs.running.run_named.Goals as goal
@@ -84,6 +85,7 @@ returns g c =
         queues = omega (arith, m, ap length c.ended.ensures.left, length-map c.settled-ends.result.1.items (λ q. q.items), c.settled-ends.ensures.counted);
         account = rw c.ended.ensures.ends (rw c.ended.ensures.left c.settled-ends.ensures.account);
         histories = rw c.ended.ensures.ends (rw c.ended.ensures.left c.settled-ends.ensures.histories);
+        in_order = rw c.ended.ensures.ends (rw c.ended.ensures.left (histories_in_order g.C.Chare.step g.C.Pup.fits g.C.Pup.pack g.H.Openings.opened _ c.settled-ends.ensures.histories));
         board = rw c.ended.ensures.board c.into_parts-post.ensures.board;
         elements = rw c.ended.ensures.board c.into_parts-post.ensures.counted;
         on_pes = rw c.ended.ensures.board c.into_parts-post.ensures.on_pes;
@@ -92,6 +94,8 @@ returns g c =
         marks = c.ended.ensures.marks;
         mismatch = c.ended.ensures.mismatch;
         unpacks = c.ended.ensures.unpacks;
+        cause = c.ended.ensures.cause;
         finished = c.ended.ensures.finished;
+        all_finished = c.ended.ensures.all_finished;
       };
     }

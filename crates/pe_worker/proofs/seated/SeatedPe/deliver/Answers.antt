@@ -1,6 +1,0 @@
-use Rattle.std.proofs.Common.{rules}
-use Rattle.pe_worker.proofs.Keeping.{keeps_received}
-use Rattle.pe_worker.proofs.seated.SeatedPe.deliver.Goals as goal
-
-pub invariant_of-self-2 : goal.invariant_of-self-2
-invariant_of-self-2 g c = rw (c.receive.ensures.ok, c.in-Some.ensures.some) (keeps_received g.C.Chare.step g.C.Pup.fits g.C.Pup.pack g.C.Pup.unpack g.H.Openings.opened g.H.Openings.pes g.J.RunBeginning.beginning c.self.inside.pe c.self.inside.seat c.self.invariant c.room-room.ensures.keyed c.room-room.ensures.histories c.me-me.result c.in-Some.parcel (search rules) (search rules))
