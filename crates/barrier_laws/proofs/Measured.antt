@@ -19,20 +19,15 @@ use Rattle.rts_core.specs.Histories.{AreHistories}
 use Rattle.rts_core.specs.Runs.{Reaches}
 use Rattle.rts_core.specs.Worlds.{WorldView, opening_world}
 use Rattle.barrier_laws.specs.Measured.{Measures}
-use Rattle.chares.specs.Elements.{IsElementInOrder}
-use Rattle.rts_core.specs.Orders.{HasOrder, AreInOrder}
 use Rattle.rts_core.proofs.Rooms.{at_place, in_room}
-use Rattle.barrier_laws.proofs.Runs.{in_order}
 use Rattle.at_sync.specs.declared.strategy.Strategy.{Strategy}
 
 module _ {C A : Type 0} (step : Step C) (fits : C → Type 0) (pack : C → List ℕ) (opened : List C) (w : WorldView C A) (snapshot : Taken) (e r : ℕ) where
-  pub measures : IsTakenOf w snapshot e r → AreHistories step fits pack opened w → AreInOrder w → Measures step pack opened w snapshot e r
-  measures taken are order =
+  pub measures : IsTakenOf w snapshot e r → AreHistories step fits pack opened w → Measures step pack opened w snapshot e r
+  measures taken are =
       let held : HasHistories step fits pack opened taken.pe = at_place (HasHistories step fits pack opened) w.pes taken.p taken.pe are.pes taken.at in
       let history : IsHistory step pack opened taken.el = in_room (IsHistory step pack opened) taken.pe.room e taken.el held.room taken.stands in
-      let ordered : HasOrder taken.pe = at_place (HasOrder {C = C}) w.pes taken.p taken.pe order.pes taken.at in
-      let rounds : IsElementInOrder taken.el = in_room (IsElementInOrder {C = C}) taken.pe.room e taken.el ordered.room taken.stands in
-      by (phase step pack opened taken.el history rounds e r taken.load taken.bytes taken.p taken.marked)
+      by (phase step pack opened taken.el history history.in_order e r taken.load taken.bytes taken.p taken.marked)
     where
       by : (chare : C) × (slice_get opened taken.el.index ≡ Some chare) × (e ≡ taken.el.index) × IsPhase step pack (length opened) taken.el.index chare taken.el.journal r taken.load taken.bytes → Measures step pack opened w snapshot e r
       by (chare, opens, same, did) =
@@ -52,4 +47,4 @@ module _ {C A : Type 0} (step : Step C) (fits : C → Type 0) (pack : C → List
     where
       by : (kept : Kept A) × (kept_of next.0.board.rounds r ≡ Some kept) × ((e : ℕ) → e < length chares → IsTakenOf w kept.0 e r)
           → (kept : Kept A) × (kept_of next.0.board.rounds r ≡ Some kept) × ((e : ℕ) → e < length chares → Measures step pack chares w kept.0 e r)
-      by (kept, is, all) = (kept, is, λ e inside. measures step fits pack chares w kept.0 e r (all e inside) are (in_order step pack unpack pes chares strategy events (w, trace) run))
+      by (kept, is, all) = (kept, is, λ e inside. measures step fits pack chares w kept.0 e r (all e inside) are)

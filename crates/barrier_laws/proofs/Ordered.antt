@@ -10,6 +10,7 @@ use Rattle.chares.specs.Orders.{IsInOrder}
 use Rattle.chares.specs.Elements.{IsElementInOrder}
 use Rattle.chares.proofs.Orders.{in_order_ran, in_order_opening}
 use Rattle.pe_state.specs.Pes.{PeView, Parcel, Item, waits_for}
+use Rattle.pe_state.proofs.Histories.{waits_is}
 use Rattle.rts_core.specs.Worlds.{WorldView}
 use Rattle.rts_core.proofs.EachElement.{IsKept, ParcelKept, ItemKept, PeKept, WorldKept}
 use Rattle.rts_core.proofs.Rooms.{each_value}
@@ -27,13 +28,6 @@ Ordered {C} pe = PeKept (Fits {C = C}) PackedFits pe
 
 abbrev pub AllOrdered : {C A : Type 0} → WorldView C A → Type 0
 AllOrdered {C} w = WorldKept (Fits {C = C}) PackedFits w
-
-pub waits_is : {C : Type 0} (el : ElementView C) (round : ℕ) → waits_for el ≡ Some round → (el.progress.synced ≡ true) × (round ≡ el.progress.round + 1)
-waits_is el round h = by el.progress.synced refl h
-  where
-    by : (b : Bool) → el.progress.synced ≡ b → (if b then Some (el.progress.round + 1) else None) ≡ Some round → (el.progress.synced ≡ true) × (round ≡ el.progress.round + 1)
-    by true t k = (t, cc)
-    by false t k = cc
 
 pub kept : {C : Type 0} (step : Step C) (pack : C → List ℕ) → IsKept step pack Fits PackedFits
 kept step pack =

@@ -41,7 +41,7 @@ fn first_did<H: Openings<Tally>>(
     resumptions: &[ResumedAt],
 ) {
     let element = at.room().element(index(rt, 0)).expect(rt, "not here");
-    let journal = element.journal();
+    let journal = element.journal().kept();
     assert!(rt; journal.resumptions() == resumptions);
     assert!(rt; are(journal.letters(), letters));
 }

@@ -36,14 +36,14 @@ impl Found {
     fn add_parcel<A: Allocator>(&mut self, rt: &impl Abort, parcel: &HeldParcel<A>) {
         match parcel {
             Carried::Letter(letter) => self.add_letter(rt, letter),
-            Carried::Element(element) => self.add_element(rt, element.index(), element.journal()),
+            Carried::Element(element) => self.add_element(rt, element.index(), element.journal().kept()),
         }
     }
 
     // Adds what a PE holds.
     fn add_end<C: Chare<A>, A: Allocator>(&mut self, rt: &impl Abort, end: &PeEnd<C, A>) {
         for (_, element) in end.room().iter() {
-            self.add_element(rt, element.index(), element.journal());
+            self.add_element(rt, element.index(), element.journal().kept());
         }
         if let Some(item) = end.hand() {
             self.add_parcel(rt, &item.parcel);

@@ -124,7 +124,7 @@ fn bytes_queued<H: Openings<Relay>>(queue: &Queue<Relay, H>) -> Option<&[u8]> {
 }
 
 fn bytes_executed<H: Openings<Relay>>(at: &PeState<Relay, H>, e: Index) -> Option<&[u8]> {
-    let journal = at.room().element(e)?.journal();
+    let journal = at.room().element(e)?.journal().kept();
     Some(journal.letters().last()?.body())
 }
 

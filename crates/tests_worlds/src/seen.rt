@@ -104,7 +104,7 @@ fn add_room<C: Chare<A>, H: Openings<C>, A: Allocator>(
 ) {
     for (_, element) in pe.room().iter() {
         let e = element.index();
-        add_element(rt, seen, Place::Room(p), e, element.journal());
+        add_element(rt, seen, Place::Room(p), e, element.journal().kept());
     }
 }
 
@@ -189,7 +189,7 @@ fn add_packed<A: Allocator>(
     place: Place,
     element: &Packed<A>,
 ) {
-    add_element(rt, seen, place, element.index(), element.journal());
+    add_element(rt, seen, place, element.index(), element.journal().kept());
 }
 
 // An element, and the letters that it has executed.

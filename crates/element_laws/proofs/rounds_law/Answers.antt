@@ -5,11 +5,11 @@ use Rattle.element_laws.proofs.rounds_law.Goals as goal
 
 -- src/lib.rt:22:1
 pub returns-clause-phase : goal.returns-clause-phase
-returns-clause-phase g c = λ opened el is order e round load bytes pe has. phase g.C.Chare.step g.C.Pup.pack opened el is order e round load bytes pe has
+returns-clause-phase g c = λ opened el is e round load bytes pe has. phase g.C.Chare.step g.C.Pup.pack opened el is is.in_order e round load bytes pe has
 
 -- src/lib.rt:22:1
 pub returns-clause-once : goal.returns-clause-once
-returns-clause-once g c = λ opened el is order chare opens round load bytes other_load other_bytes x y. phase_once g.C.Chare.step g.C.Pup.pack opened el is order chare opens round load bytes other_load other_bytes x y
+returns-clause-once g c = λ opened el is chare opens round load bytes other_load other_bytes x y. phase_once g.C.Chare.step g.C.Pup.pack opened el is is.in_order chare opens round load bytes other_load other_bytes x y
 
 -- src/lib.rt:22:1
 pub returns-clause-handled : goal.returns-clause-handled
