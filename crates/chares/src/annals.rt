@@ -103,7 +103,8 @@ impl<A: Allocator> Annals<A> {
         self.settled
     }
 
-    /// The letters and resumptions since, which are all but as many as are settled.
+    /// The letters and resumptions since, which are all but as many as are settled. A resumption counts the letters before it among
+    /// these.
     pub fn kept(&self) -> &Journal<A>
         ensures value { result.now.entries ≡ self.now.kept }
         ensures last { (past : List Done) × (length past ≡ self.now.settled) × (self.now.entries ≡ past ++ result.now.entries) }

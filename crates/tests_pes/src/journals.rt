@@ -75,6 +75,34 @@ fn two_rounds<H: Openings<Tally>>(rt: &(impl Abort + AllocGlobal), first: Tally,
     drop(at);
 }
 
+// The same, while the first element settles between the rounds: what it has handled so far is counted and no longer kept.
+fn settled_between<H: Openings<Tally>>(rt: &(impl Abort + AllocGlobal), first: Tally, second: Tally)
+    requires pes { H.pes ≡ 1 }
+    requires opening { H.opened ≡ first ∷ second ∷ [] }
+{
+    let mut at = with_two::<Tally, H>(rt, first, second);
+    assert!(rt; start(rt, &mut at, &NoGate, 0).is_ok());
+    assert!(rt; start(rt, &mut at, &NoGate, 1).is_ok());
+    execute(rt, &mut at);
+    execute(rt, &mut at);
+    at.settle(index(rt, 0));
+    at.settle(index(rt, 70));
+    first_did(rt, &at, &[], &[]);
+    go_on(rt, &mut at, 0);
+    go_on(rt, &mut at, 1);
+    execute(rt, &mut at);
+    execute(rt, &mut at);
+    first_did(rt, &at, &[(pe(rt, 0), 3)], &[resumed(rt, 1, 0)]);
+    assert!(rt; settled_by(rt, &at, 0) == 2 && settled_by(rt, &at, 1) == 0);
+    drop(at);
+}
+
+// How many letters and resumptions an element has settled.
+fn settled_by<H: Openings<Tally>>(rt: &impl Abort, at: &PeState<Tally, H>, e: u32) -> u64 {
+    let element = at.room().element(index(rt, e)).expect(rt, "not here");
+    element.journal().settled()
+}
+
 // A tally with these amounts, and no padding.
 fn tally(rt: &(impl Abort + AllocGlobal), amounts: &[u32]) -> Tally {
     Tally::with_amounts(rt.alloc(), amounts, 0).expect(rt, "no tally")
@@ -84,4 +112,10 @@ fn tally(rt: &(impl Abort + AllocGlobal), amounts: &[u32]) -> Tally {
 fn a_journal_has_letters_and_resumptions_in_order(rt: HostRuntime) {
     let (first, second) = (tally(&rt, &[5, 6]), tally(&rt, &[7, 8]));
     two_rounds::<Brand>(&rt, first, second);
+}
+
+#[test]
+fn what_is_settled_is_counted_and_not_kept(rt: HostRuntime) {
+    let (first, second) = (tally(&rt, &[5, 6]), tally(&rt, &[7, 8]));
+    settled_between::<Brand>(&rt, first, second);
 }
