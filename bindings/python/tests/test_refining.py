@@ -186,7 +186,8 @@ class Forged(TimedTest):
     def test_what_is_no_part_of_the_proof(self):
         self.assertEqual(self.line(replace(near(), present=[0, 1, 2, 10])), "check: ok")
         self.assertEqual(self.line(replace(near(), present=[])), "check: ok")
-        self.assertEqual(self.line(replace(near(), step_rises=np.append(near().step_rises, np.uint64(7)))), "check: ok")
+        more = {"step_rises": np.append(near().step_rises, np.uint64(7)), "step_places": np.append(near().step_places, np.uint32(3))}
+        self.assertEqual(self.line(replace(near(), **more)), "check: ok")
 
     def test_numbers_without_sense(self):
         decision, most = near(), 2**64 - 1
@@ -205,6 +206,19 @@ class Refused(TimedTest):
                 self.assertRaisesRegex(tezgumi.InputError, text, call, TEN, tolerance=tolerance)
             self.assertRaisesRegex(tezgumi.InputError, "^tolerance is 0.02, which is no whole number$", call, TEN, tolerance=0.02)
         self.assertRaisesRegex(tezgumi.InputError, "^tolerance is 1001", replace, near(), tolerance=1001)
+
+    def test_steps_without_a_place_or_a_rise(self):
+        count = len(near().step_places)
+        for changed, counts in (
+                ({"step_rises": near().step_rises[:-1]}, (count, count - 1)), ({"step_rises": []}, (count, 0)),
+                ({"step_places": [*near().step_places, 9]}, (count + 1, count))):
+            text = "^there are {} places and {} rises of steps; a step has one of each$".format(*counts)
+            self.assertRaisesRegex(tezgumi.InputError, text, replace, near(), **changed)
+        for name, numbers in (
+                ("step_rises", [float("nan")]), ("step_rises", [None]), ("step_rises", ["1"]), ("step_rises", [-1]), ("step_places", [0.5]),
+                ("step_starts", [0, 1, 2, 2**64]), ("step_starts", [0, 1, 2, float("nan")])):
+            text = rf"^{name}\[{len(numbers) - 1}\] is .*; it has to be a whole number"
+            self.assertRaisesRegex(tezgumi.InputError, text, replace, near(), **{name: numbers})
 
     def test_statuses(self):
         run = replace(TEN)

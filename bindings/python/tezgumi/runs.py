@@ -265,6 +265,9 @@ class NearDecision(Decision):
             self._keep(name, frozen(getattr(self, name), np.uint32, name))
         self._keep("step_starts", frozen(self.step_starts, np.uintp, "step_starts"))
         self._keep("step_rises", frozen(self.step_rises, np.uint64, "step_rises"))
+        counts = len(self.step_places), len(self.step_rises)
+        if counts[0] != counts[1]:
+            raise InputError("there are {} places and {} rises of steps; a step has one of each".format(*counts))
 
     @property
     def limit(self) -> int:

@@ -1,5 +1,11 @@
 // What the check of a decision says, step by step, and of all rounds one after another.
 
+// The step before all others.
+const FORM = [
+  { title: "Each element has a load, a size and a PE, and all numbers are whole", flaws: ["NoNumber", "NoRun", "PeCount"],
+    holds: (d) => `${some(d.planned.length, "element", "elements")}, ${some(d.pes, "PE", "PEs")}` },
+];
+
 // A step: what it is about, the flaws that are found in it, and what is told of a decision where it holds.
 const DIVISION = [
   { title: "The cuts divide the chain", flaws: ["CutCount", "CutStart", "CutOrder", "CutEnd"],
@@ -25,6 +31,7 @@ const lowered = (text) => text[0].toLowerCase() + text.slice(1);
 // Of a decision within a tolerance the division is the least one, from which the limit is measured.
 const leastDivision = (d) => ({ ...d, cuts: d.leastCuts, bottleneck: d.least });
 const NEAR = [
+  ...FORM,
   ...DIVISION.map((step) => ({ ...step, title: `Least division: ${lowered(step.title)}`, of: leastDivision })),
   { title: "The order has each PE once", flaws: ["OrderCount", "OrderRange", "OrderTwice"],
     holds: (d) => some(d.order.length, "PE", "PEs") },
@@ -37,7 +44,7 @@ const NEAR = [
   { title: "The bottleneck is that of the heaviest block", flaws: ["BottleneckWrong"], holds: (d) => told(d.bottleneck) },
 ];
 
-const stepsOf = (d) => (d.near ? NEAR : [...DIVISION, ...NAMING]);
+const stepsOf = (d) => (d.near ? NEAR : [...FORM, ...DIVISION, ...NAMING]);
 
 // The first flaw of a decision or null. It is looked for once, as that takes a while for very many elements or PEs.
 const flaws = new WeakMap();
@@ -49,6 +56,10 @@ function flawOf(run, d) {
 
 // What is wrong, in words: with the decision, the run, and the numbers of the flaw.
 const FLAWS = {
+  NoNumber: (d, run, list, at) => (at === undefined ? `${list} is no list of numbers` : `number ${at} of ${list} is no whole one that is taken`),
+  NoRun: (d, run) => `there are ${some(run.loads.length, "load", "loads")}, ${some(run.sizes.length, "size", "sizes")} and ${
+    some(run.places.length, "place", "places")}, and an element has one of each, of 2^47 bytes at most together`,
+  PeCount: (d) => `there are ${some(d.pes, "PE", "PEs")}, and there have to be 1 to ${told(4096)}`,
   CutCount: (d) => `there are ${told(d.cuts.length)} cuts, and ${neededOf(d)}`,
   CutStart: (d) => `the first cut is ${told(d.cuts[0])}, and not 0`,
   CutOrder: (d) => `a cut is greater than the next: ${pairThatFalls(d.cuts)}`,
