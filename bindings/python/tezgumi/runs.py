@@ -8,7 +8,7 @@ import numpy as np
 from numpy.typing import ArrayLike, NDArray
 
 from .errors import InputError, LoadError
-from .lists import frozen, same_fields, shown, total, whole_number
+from .lists import frozen, same_fields, shown, total, whole, whole_number
 from .scales import are_floats, in_units, scaled, unit_of
 
 ELEMENTS = 4_294_967_295
@@ -58,8 +58,8 @@ class Run(_Record):
     """A chain of elements, in order, on `procs` PEs: the load, the packed size and the present PE of each.
 
     The lists may be numpy arrays or plain lists of whole numbers, or what else has them in a buffer, as array.array. They are
-    copied, and cannot be written to; with copy=False one that has the type already is taken as it is, and must not be written
-    to while the run is in use. `replace(run, procs=4)` of dataclasses makes another run. All loads together are TOTAL_LOAD at
+    copied, and cannot be written to; with copy=False one that has numbers of the same size, 64 bits for loads and 32 for the
+    others, is taken as it is, and must not be written to while the run is in use. `replace(run, procs=4)` of dataclasses makes another run. All loads together are TOTAL_LOAD at
     most, and all packed sizes TOTAL_BYTES.
 
     A float is refused, but as a load where it is asked for. With scale=True the loads are measured, in seconds say, and are
@@ -132,13 +132,14 @@ class Run(_Record):
         self.refuse_other_places(plan.places)
         return replace(self, procs=plan.pes, places=plan.places, step=self.step if step is None else step)
 
-    def moves_to(self, places: NDArray[Any]) -> NDArray[np.void]:
+    def moves_to(self, places: ArrayLike) -> NDArray[np.void]:
         """The elements whose present and planned place differ, in order of index, as an array of MOVE."""
-        self.refuse_other_places(places)
-        moving = self.places != places
+        planned = whole(places, "places", 0, _WORD)
+        self.refuse_other_places(planned)
+        moving = self.places != planned
         elements = np.flatnonzero(moving)
         rows = np.empty((elements.size, 3), np.uint32)
-        rows[:, 0], rows[:, 1], rows[:, 2] = elements, self.places[moving], np.asarray(places)[moving]
+        rows[:, 0], rows[:, 1], rows[:, 2] = elements, self.places[moving], planned[moving]
         return rows.view(MOVE).reshape(-1)
 
     def refuse_other_places(self, places: Sized) -> None:
