@@ -50,6 +50,13 @@ def whole_number(value: Any, least: int, most: int, name: str) -> int:
     return number
 
 
+def truth(value: Any, name: str) -> bool:
+    """The value as a bool, which it has to be."""
+    if not isinstance(value, (bool, np.bool_)):
+        raise InputError(f"{name} is {value!r}; it has to be True or False")
+    return bool(value)
+
+
 def total(numbers: NDArray[Any]) -> int:
     """The sum of whole numbers from 0 on, exact."""
     if len(numbers) * int(numbers.max(initial=0)) < 2**64:

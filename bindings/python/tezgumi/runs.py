@@ -8,7 +8,7 @@ import numpy as np
 from numpy.typing import ArrayLike, NDArray
 
 from .errors import InputError, LoadError
-from .lists import frozen, same_fields, shown, total, whole, whole_number
+from .lists import frozen, same_fields, shown, total, truth, whole, whole_number
 from .scales import are_floats, in_units, scaled, unit_of
 
 ELEMENTS = 4_294_967_295
@@ -171,7 +171,7 @@ class Plan(_Record):
 
     `places` has the PE of each element, from 0 to pes - 1. `bottleneck` is the load of the heaviest block, which is least
     for so many PEs, or within the tolerance that was asked for, and `moved` the bytes of all elements that move, which are
-    fewest for these blocks.
+    fewest for these blocks, or for these blocks in the order of the PEs where that is to be kept.
     """
 
     pes: int
@@ -237,9 +237,10 @@ class NearDecision(Decision):
 
     `tolerance` is in thousandths of `least`, the least load that the heaviest block can have, which `least_cuts` and the
     `stops` prove; `bottleneck` is the load of this decision's heaviest block. `order` has the PEs in the order in which they
-    stand, and `present` the present cuts. The heights prove that no cuts within the tolerance move fewer bytes in this order:
+    stand, and `present` the present cuts. The heights prove that no cuts within the tolerance cost fewer bytes in this order:
     those of block b are the steps step_starts[b] .. step_starts[b + 1] - 1, each of which has a place, from which on the
-    height is greater by the rise.
+    height is greater by the rise. The names are the cheapest for these cuts, which the prices prove, and need not be in this
+    order; so other cuts in another order may move fewer bytes. With `keep_order` the names are the order, and no price counts.
     """
 
     tolerance: int
@@ -250,13 +251,14 @@ class NearDecision(Decision):
     step_starts: NDArray[np.uintp]
     step_places: NDArray[np.uint32]
     step_rises: NDArray[np.uint64]
+    keep_order: bool = False
 
     if TYPE_CHECKING:
         def __init__(
                 self, pes: int, places: ArrayLike, bottleneck: int, moved: int, cuts: ArrayLike, stops: ArrayLike,
                 names: ArrayLike, block_prices: ArrayLike, pe_prices: ArrayLike, moves: Any, tolerance: int, least: int,
                 least_cuts: ArrayLike, order: ArrayLike, present: ArrayLike, step_starts: ArrayLike, step_places: ArrayLike,
-                step_rises: ArrayLike) -> None: ...
+                step_rises: ArrayLike, keep_order: bool = False) -> None: ...
 
     def __post_init__(self) -> None:
         super().__post_init__()
@@ -266,6 +268,7 @@ class NearDecision(Decision):
             self._keep(name, frozen(getattr(self, name), np.uint32, name))
         self._keep("step_starts", frozen(self.step_starts, np.uintp, "step_starts"))
         self._keep("step_rises", frozen(self.step_rises, np.uint64, "step_rises"))
+        self._keep("keep_order", truth(self.keep_order, "keep_order"))
         counts = len(self.step_places), len(self.step_rises)
         if counts[0] != counts[1]:
             raise InputError("there are {} places and {} rises of steps; a step has one of each".format(*counts))
@@ -282,7 +285,8 @@ class NearDecision(Decision):
         return [list(zip(places[first:end], rises[first:end])) for first, end in zip(starts, starts[1:])]
 
     def __repr__(self) -> str:
-        return f"Near{super().__repr__()[:-1]}, tolerance={self.tolerance}, least={self.least})"
+        kept = ", keep_order=True" if self.keep_order else ""
+        return f"Near{super().__repr__()[:-1]}, tolerance={self.tolerance}, least={self.least}{kept})"
 
 
 def _moves(values: Any) -> NDArray[np.void]:

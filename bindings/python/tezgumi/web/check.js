@@ -57,25 +57,42 @@ function divisionFlaw({ loads }, { pes, bottleneck, cuts, stops }) {
   return null;
 }
 
-function namingFlaw({ sizes, places }, { pes, cuts, names, blockPrices, pePrices, moved, planned, moves }) {
+function namingFlaw(run, d) {
+  return namesFlaw(d) ?? pricesFlaw(run, d) ?? movesFlaw(run, d);
+}
+
+function namesFlaw({ pes, names }) {
   if (names.length !== pes) return ["NameCount"];
   if (!names.every((name) => name < pes)) return ["NameRange"];
-  if (new Set(names).size !== pes) return ["NameTwice"];
+  return new Set(names).size === pes ? null : ["NameTwice"];
+}
+
+function pricesFlaw({ sizes, places }, { pes, cuts, names, blockPrices, pePrices }) {
   if (blockPrices.length !== pes || pePrices.length !== pes) return ["PriceCount"];
   let cost = 0n, prices = 0n;
-  const wanted = [], [ofBlocks, ofPes] = exactPrices(blockPrices, pePrices);
+  const [ofBlocks, ofPes] = exactPrices(blockPrices, pePrices);
   for (let b = 0; b < pes; b++) {
     const elsewhere = bytesElsewhere(sizes, places, cuts[b], cuts[b + 1], pes);
     for (let p = 0; p < pes; p++) if (!(ofBlocks[b] + ofPes[p] <= elsewhere[p])) return ["PriceHigh", b, p];
     cost += BigInt(elsewhere[names[b]]);
     prices += blockPrices[b] + pePrices[b];
-    for (let i = cuts[b]; i < cuts[b + 1]; i++) if (places[i] !== names[b]) wanted.push([i, places[i], names[b]]);
   }
-  if (prices !== cost) return ["PriceGap"];
+  return prices === cost ? null : ["PriceGap"];
+}
+
+function movesFlaw({ sizes, places }, { pes, cuts, names, moved, planned, moves }) {
+  let cost = 0n, goes = true;
+  const wanted = [];
+  for (let b = 0; b < pes; b++) {
+    for (let i = cuts[b]; i < cuts[b + 1]; i++) {
+      if (planned[i] !== names[b]) goes = false;
+      if (places[i] === names[b]) continue;
+      cost += BigInt(sizes[i]);
+      wanted.push([i, places[i], names[b]]);
+    }
+  }
   if (moved !== cost) return ["MovedWrong"];
-  const goes = (i, b) => planned[i] === names[b];
-  for (let b = 0; b < pes; b++) for (let i = cuts[b]; i < cuts[b + 1]; i++) if (!goes(i, b)) return ["MovesWrong"];
-  const same = moves.length === wanted.length && planned.length === places.length;
+  const same = goes && moves.length === wanted.length && planned.length === places.length;
   const isMove = (move, k) => moves[k].length === 3 && move.every((x, j) => x === moves[k][j]);
   return same && wanted.every(isMove) ? null : ["MovesWrong"];
 }

@@ -78,7 +78,7 @@ function nearOf(told, held) {
   const least = BigInt(told.least);
   return {
     tolerance: told.tolerance, least, limit: limitOf({ least, tolerance: told.tolerance }),
-    leastCuts: plain(held.least_cuts), order: plain(held.order), present: plain(held.present),
+    keepOrder: told.keep_order, leastCuts: plain(held.least_cuts), order: plain(held.order), present: plain(held.present),
     stepStarts: plain(held.step_starts), stepPlaces: plain(held.step_places), stepRises: held.step_rises,
   };
 }

@@ -3,14 +3,17 @@
 // cut there costs. So no cuts within the limit cost less than the height of the last block. It returns the first flaw or null.
 function nearFlaw(run, d) {
   const least = { pes: d.pes, bottleneck: d.least, cuts: d.leastCuts, stops: d.stops };
-  const flaw = formFlaw(run, d) ?? nearFormFlaw(d) ?? divisionFlaw(run, least);
-  return flaw ?? orderFlaw(run, d) ?? heightsFlaw(run, d) ?? namingFlaw(run, d) ?? bottleneckFlaw(run, d);
+  const flaw = formFlaw(run, d) ?? nearFormFlaw(d) ?? divisionFlaw(run, least) ?? orderFlaw(run, d) ?? heightsFlaw(run, d) ??
+    presentFlaw(run, d) ?? bottleneckFlaw(run, d);
+  return flaw ?? (d.keepOrder ? keptFlaw(d) ?? movesFlaw(run, d) : namingFlaw(run, d));
 }
 
-function nearFormFlaw({ tolerance, least, leastCuts, order, stepStarts, stepPlaces, stepRises }) {
-  return wrongNumber({ least: [least], stepRises }, isAmount) ??
-    wrongNumber({ tolerance: [tolerance], leastCuts, order, stepStarts, stepPlaces }, isIndex) ??
-    (tolerance <= 1000 ? null : ["NoNumber", "tolerance", 0]);
+function nearFormFlaw({ tolerance, keepOrder, least, leastCuts, order, present, stepStarts, stepPlaces, stepRises }) {
+  const wrong = wrongNumber({ least: [least], stepRises }, isAmount) ??
+    wrongNumber({ tolerance: [tolerance], leastCuts, order, present, stepStarts, stepPlaces }, isIndex);
+  if (wrong) return wrong;
+  if (!(tolerance <= 1000)) return ["NoNumber", "tolerance", 0];
+  return typeof keepOrder === "boolean" ? null : ["NoNumber", "keepOrder"];
 }
 
 // The greatest load that a block may have.
@@ -47,6 +50,29 @@ function heightsFlaw({ loads, sizes, places }, d) {
     own = others;
   }
   return here[starts[n]] >= cost ? null : ["HeightLow"];
+}
+
+// The order is that of the elements today, and the present cuts are between them; PEs without elements come last, by number.
+function presentFlaw({ places }, { pes, order, present }) {
+  const stands = [], cuts = [];
+  for (let i = 0; i < places.length; i++) {
+    if (i > 0 && places[i] === places[i - 1]) continue;
+    stands.push(places[i]);
+    cuts.push(i);
+  }
+  for (let pe = 0; pe < pes; pe++) {
+    if (stands.includes(pe)) continue;
+    stands.push(pe);
+    cuts.push(places.length);
+  }
+  cuts.push(places.length);
+  const same = (one, other) => one.length === other.length && one.every((number, k) => number === other[k]);
+  return same(stands, order) && same(cuts, present) ? null : ["OrderWrong"];
+}
+
+// Where the PEs are to keep their order, each block runs on the PE that is at its place.
+function keptFlaw({ order, names }) {
+  return names.length === order.length && names.every((name, b) => name === order[b]) ? null : ["NamesNotOrder"];
 }
 
 function bottleneckFlaw({ loads }, { pes, cuts, bottleneck }) {
