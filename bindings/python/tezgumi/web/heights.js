@@ -60,8 +60,9 @@ function presentFlaw({ places }, { pes, order, present }) {
     stands.push(places[i]);
     cuts.push(i);
   }
+  const taken = new Set(stands);
   for (let pe = 0; pe < pes; pe++) {
-    if (stands.includes(pe)) continue;
+    if (taken.has(pe)) continue;
     stands.push(pe);
     cuts.push(places.length);
   }
