@@ -2,6 +2,8 @@
 
 They serve to show and to check large runs too, where trying everything is out of reach.
 """
+from dataclasses import replace
+
 import numpy as np
 
 import tezgumi
@@ -92,14 +94,15 @@ MOST = 2**50
 """More than any cuts cost."""
 
 
-def near(run, tolerance):
-    """Cuts within a tolerance that move the fewest bytes, for a run whose elements stand by PE, with heights that prove it."""
+def near(run, tolerance, keep_order=False, order=None):
+    """Cuts within a tolerance that move the fewest bytes in the order in which the PEs stand, or in another order that is named, with
+    heights that prove it. The elements of each PE are together."""
     pes, count = run.procs, len(run)
     sums = np.concatenate([[0], np.cumsum(run.loads.astype(np.int64))])
     least = least_bottleneck(run, sums, pes)
     limit = least + least * tolerance // 1000
     first = {int(pe): int(place) for pe, place in zip(*np.unique(run.places, return_index=True))}
-    order = sorted(range(pes), key=lambda pe: first.get(pe, count))
+    order = order or sorted(range(pes), key=lambda pe: first.get(pe, count))
     present = [first.get(pe, count) for pe in order] + [count]
     starts = np.searchsorted(sums, sums - limit)
     held = [np.concatenate([[0], np.cumsum(np.where(run.places == pe, run.bytes, 0).astype(np.int64))]) for pe in order]
@@ -112,7 +115,15 @@ def near(run, tolerance):
         best = [min(range(starts[x], x + 1), key=lambda y: costs_to[b][y]) for x in range(count + 1)]
         costs_to.append(np.minimum(costs_to[b][best] + cut, MOST))
         came.append(best)
-    return _near_decision(run, tolerance, least, sums, order, present, heights, _read_off(came, costs_to, starts))
+    made = _near_decision(run, tolerance, least, sums, order, present, heights, _read_off(came, costs_to, starts))
+    return _kept(run, made) if keep_order else made
+
+
+def _kept(run, made):
+    places = np.repeat(made.order, np.diff(made.cuts.astype(np.int64)))
+    none, moved = np.zeros(made.pes, np.int64), int(run.bytes[places != run.places].sum())
+    return replace(
+        made, places=places, moved=moved, names=made.order, block_prices=none, pe_prices=none, moves=run.moves_to(places), keep_order=True)
 
 
 def _read_off(came, costs_to, starts):

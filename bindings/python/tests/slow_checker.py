@@ -1,4 +1,4 @@
-"""A plain checker to compare with: the first flaw of a claim, by docs/FORMATS.md and the definitions alone."""
+"""A plain checker to compare with: the first flaw of a claim, by docs/FORMATS.md, docs/CERTIFICATES.md and the definitions alone."""
 
 
 def first_flaw(run, claim):
@@ -8,6 +8,17 @@ def first_flaw(run, claim):
         if flaw:
             return "check: " + flaw
     return "check: ok"
+
+
+def first_near_flaw(run, claim):
+    """The same of a claim within a tolerance. That there are no heights for a block, or only a part of them, is HeightCount."""
+    least = {**claim, "cuts": claim["least_cuts"], "bottleneck": claim["least"]}
+    kept = (flaw_of_kept_names, flaw_of_moved, flaw_of_moves)
+    flaw = flaw_of_cuts(run, least) or flaw_of_floor(run, least)
+    for look in (flaw_of_order, flaw_of_near_cuts, flaw_of_heights, flaw_of_present, flaw_of_bottleneck) + (
+            kept if claim["keep_order"] else (flaw_of_names, flaw_of_prices, flaw_of_moves)):
+        flaw = flaw or look(run, claim)
+    return "check: " + (flaw or "ok")
 
 
 def falls(numbers):
@@ -79,6 +90,10 @@ def flaw_of_prices(run, claim):
                 return f"PriceHigh {block} {pe}"
     if sum(u) + sum(v) != moved_by_names(run, claim):
         return "PriceGap"
+    return flaw_of_moved(run, claim)
+
+
+def flaw_of_moved(run, claim):
     return "MovedWrong" if claim["moved"] != moved_by_names(run, claim) else None
 
 
@@ -91,3 +106,80 @@ def flaw_of_moves(run, claim):
     planned = [pe for block, pe in enumerate(claim["names"]) for _ in range(cuts[block], cuts[block + 1])]
     moves = [(i, a, b) for i, (a, b) in enumerate(zip(run["places"], planned)) if a != b]
     return None if claim["places"] == planned and claim["moves"] == moves else "MovesWrong"
+
+
+def flaw_of_order(run, claim):
+    order, pes = claim["order"], claim["pes"]
+    if len(order) != pes:
+        return "OrderCount"
+    if any(pe >= pes for pe in order):
+        return "OrderRange"
+    return "OrderTwice" if len(set(order)) < pes else None
+
+
+def limit_of(claim):
+    return claim["least"] + claim["least"] * claim["tolerance"] // 1000
+
+
+def flaw_of_near_cuts(run, claim):
+    cuts, pes = claim["cuts"], claim["pes"]
+    if len(cuts) != pes + 1:
+        return "NearCount"
+    if cuts[0] != 0 or falls(cuts) or cuts[-1] != len(run["loads"]):
+        return "NoDivision"
+    heavy = [block for block in range(pes) if sum(run["loads"][cuts[block]:cuts[block + 1]]) > limit_of(claim)]
+    return f"PastLimit {heavy[0]}" if heavy else None
+
+
+def flaw_of_heights(run, claim):
+    """The height of a block is the sum of the rises of its steps at a place, up to the first step that lies behind the place."""
+    pes, starts, places, count = claim["pes"], claim["step_starts"], claim["step_places"], len(run["loads"])
+    if len(starts) != pes + 1 or falls(starts) or starts[-1] > len(places) or len(places) != len(claim["step_rises"]):
+        return "HeightCount"
+
+    def height(block, place):
+        steps = list(zip(places, claim["step_rises"]))[starts[block]:starts[block + 1]]
+        behind = [k for k, (at, _) in enumerate(steps) if at > place]
+        return sum(rise for _, rise in steps[:min(behind, default=len(steps))])
+
+    if height(0, 0):
+        return "HeightStart"
+    for block in range(pes - 1):
+        for end in range(count + 1):
+            begins = [begin for begin in range(end + 1) if sum(run["loads"][begin:end]) <= limit_of(claim)]
+            most = min(height(block, begin) for begin in begins) + cut_cost(run, claim, block, end)
+            if height(block + 1, end) > most:
+                return f"Steep {block} {end}"
+    cost = sum(cut_cost(run, claim, block, claim["cuts"][block + 1]) for block in range(pes - 1))
+    last = [begin for begin in range(count + 1) if sum(run["loads"][begin:]) <= limit_of(claim)]
+    return "HeightLow" if any(height(pes - 1, begin) < cost for begin in last) else None
+
+
+def cut_cost(run, claim, block, cut):
+    """What the PE of a block has behind its end, and that of the next block before it."""
+    here, there = claim["order"][block], claim["order"][block + 1]
+    elements = list(enumerate(zip(run["places"], run["bytes"])))
+    return sum(size for i, (pe, size) in elements if (pe == here and i >= cut) or (pe == there and i < cut))
+
+
+def present_order(places, pes):
+    """The PEs in the order of their elements, behind them those that have none, and where the elements of each begin."""
+    starts = [i for i, pe in enumerate(places) if i == 0 or places[i - 1] != pe]
+    order = [places[i] for i in starts]
+    if len(set(order)) < len(order) or any(pe >= pes for pe in order):
+        return None
+    order += sorted(set(range(pes)) - set(order))
+    return order, starts + [len(places)] * (pes + 1 - len(starts))
+
+
+def flaw_of_present(run, claim):
+    return None if present_order(run["places"], claim["pes"]) == (claim["order"], claim["present"]) else "OrderWrong"
+
+
+def flaw_of_bottleneck(run, claim):
+    heaviest = max(sum(run["loads"][first:end]) for first, end in zip(claim["cuts"], claim["cuts"][1:]))
+    return None if heaviest == claim["bottleneck"] else "BottleneckWrong"
+
+
+def flaw_of_kept_names(run, claim):
+    return None if claim["names"] == claim["order"] else "NamesNotOrder"

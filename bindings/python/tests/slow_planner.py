@@ -79,3 +79,31 @@ def plan(loads, sizes, places, pes):
     names, moved = cheapest_naming(costs(sizes, places, cuts))
     new_places = [names[block] for block in range(pes) for _ in range(cuts[block], cuts[block + 1])]
     return bottleneck, cuts, stops, names, moved, new_places
+
+
+def moved_by(sizes, places, cuts, names):
+    """The bytes that these blocks with these names move."""
+    cost = costs(sizes, places, cuts)
+    return sum(cost[block][pe] for block, pe in enumerate(names))
+
+
+def divisions(count, pes):
+    """All cuts of so many elements into so many blocks."""
+    return [(0, *inner, count) for inner in itertools.combinations_with_replacement(range(count + 1), pes - 1)]
+
+
+def heaviest(loads, cuts):
+    return max(sum(loads[first:end]) for first, end in zip(cuts, cuts[1:]))
+
+
+def in_order(loads, sizes, places, pes, tolerance, order, present):
+    """The cuts within a tolerance that move the fewest bytes where block b runs on order[b], and these bytes: of all cuts, tried in
+    turn, those nearest the present ones, chosen from the end of the chain."""
+    limit = least_bottleneck(loads, pes) * (1000 + tolerance) // 1000
+    found = [cuts for cuts in divisions(len(loads), pes) if heaviest(loads, cuts) <= limit]
+    few = min(moved_by(sizes, places, cuts, order) for cuts in found)
+    found = [cuts for cuts in found if moved_by(sizes, places, cuts, order) == few]
+    for cut in range(pes, -1, -1):
+        nearest = min(abs(cuts[cut] - present[cut]) for cuts in found)
+        found = [cuts for cuts in found if abs(cuts[cut] - present[cut]) == nearest]
+    return list(found[0]), few

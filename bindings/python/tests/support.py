@@ -4,6 +4,7 @@ import os
 import random
 import signal
 import sys
+import tracemalloc
 import unittest
 
 HERE = os.path.dirname(os.path.abspath(__file__))
@@ -104,6 +105,16 @@ def large_run(elements=tezgumi.DUMP_ELEMENTS, pes=tezgumi.DUMP_PES, seed=1):
     rng = np.random.default_rng(seed)
     places = np.arange(elements) * pes // max(elements, 1)
     return tezgumi.Run(pes, rng.integers(0, 1000, elements), rng.integers(0, 100_000, elements), places)
+
+
+def most_bytes(call):
+    """The most memory that a call has at a time beside what was there before, in bytes, and what it answers."""
+    tracemalloc.start()
+    try:
+        answer = call()
+        return tracemalloc.get_traced_memory()[1], answer
+    finally:
+        tracemalloc.stop()
 
 
 def as_lists(record):

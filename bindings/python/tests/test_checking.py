@@ -59,7 +59,7 @@ class Forged(TimedTest):
         for changed, line in FORGED:
             with self.subTest(changed=changed):
                 self.assert_line(THREE, replace(RIGHT, **changed), "check: " + line)
-        # Those above 19 are the flaws of decisions within a tolerance.
+        # Those above 19 are the flaws of decisions within a tolerance alone.
         self.assertEqual({line.split()[0] for _, line in FORGED}, {flaw.word for flaw in Flaw if flaw <= 19})
 
     def test_a_verdict_in_words(self):
@@ -99,10 +99,14 @@ class AtRandom(TimedTest):
             self.assertEqual(str(tezgumi.check(run, forged)), line, (seed, run, forged))
 
 
-def forge(rng, run, decision):
+NUMBERS = ("bottleneck", "moved", "places", "cuts", "stops", "names", "block_prices", "pe_prices")
+NEAR_NUMBERS = NUMBERS + ("least", "tolerance", "least_cuts", "order", "present", "step_starts", "step_places", "step_rises")
+
+
+def forge(rng, run, decision, names=NUMBERS):
     """The decision with one or two of its numbers changed by a little."""
     for _ in range(rng.randint(1, 2)):
-        name = rng.choice(("bottleneck", "moved", "places", "cuts", "stops", "names", "block_prices", "pe_prices"))
+        name = rng.choice(names)
         value = getattr(decision, name)
         if isinstance(value, np.ndarray):
             if not value.size:
@@ -114,3 +118,9 @@ def forge(rng, run, decision):
         else:
             decision = replace(decision, **{name: max(value + rng.choice((-1, 1)), 0)})
     return replace(decision, moves=run.moves_to(decision.places))
+
+
+def forge_near(rng, run, decision):
+    """The same of a decision within a tolerance, which may say too that the PEs keep their order, or that they do not."""
+    forged = forge(rng, run, replace(decision, tolerance=min(decision.tolerance, 999)), NEAR_NUMBERS)
+    return replace(forged, keep_order=forged.keep_order != (rng.random() < 0.2))

@@ -1,12 +1,13 @@
 """Runs and decisions: what they take, what they refuse and why, and how they are shown."""
 import array
+import collections
 from dataclasses import FrozenInstanceError, replace
 from unittest import mock
 
 import numpy as np
 
 import tezgumi
-from support import THREE, TimedTest, front
+from support import THREE, TimedTest, front, most_bytes
 from tezgumi import runs
 
 
@@ -40,7 +41,12 @@ class Taken(TimedTest):
                 self.assertEqual(numbers.__array_interface__["data"][0], own.buffer_info()[0])
                 self.assertFalse(numbers.flags.writeable)
             self.assertEqual(tezgumi.decide(seen).places.tolist(), [1, 1, 0])
-        other = array.array("q", [1, 1, 2])
+        signed = [array.array(kind, numbers) for kind, numbers in (("q", loads), ("i", sizes), ("i", places))]
+        seen = tezgumi.Run(2, *signed, step=5, copy=False)
+        self.assertEqual(seen, THREE)
+        for numbers, own in zip((seen.loads, seen.bytes, seen.places), signed):
+            self.assertEqual(numbers.__array_interface__["data"][0], own.buffer_info()[0])
+        other = array.array("I", [1, 1, 2])
         seen = tezgumi.Run(2, other, sizes, places, step=5, copy=False)
         self.assertEqual(seen, THREE)
         self.assertNotEqual(seen.loads.__array_interface__["data"][0], other.buffer_info()[0])
@@ -67,10 +73,33 @@ class Taken(TimedTest):
         with self.assertRaises(ValueError):
             run.loads[0] = 9
         self.assertTrue(loads.flags.writeable)
-        for other in (loads.astype(np.int64), loads.astype(">u8"), np.repeat(loads, 2)[::2]):
+        for other in (loads.astype(np.uint32), loads.astype(">i8"), loads.astype(">u8"), np.repeat(loads, 2)[::2]):
             run = tezgumi.Run(2, other, [10, 9, 8], [0, 1, 0], step=5, copy=False)
             self.assertFalse(np.shares_memory(run.loads, other))
             self.assertEqual(run, THREE)
+
+    def test_signed_numbers_without_a_copy(self):
+        signed = np.array([1, 1, 2]), np.array([10, 9, 8], np.int32), np.array([0, 1, 0], np.int32)
+        run = tezgumi.Run(2, *signed, step=5, copy=False)
+        self.assertEqual(run, THREE)
+        for numbers, kind, own in zip((run.loads, run.bytes, run.places), (np.uint64, np.uint32, np.uint32), signed):
+            self.assertTrue(np.shares_memory(numbers, own))
+            self.assertEqual((numbers.dtype, numbers.flags.writeable, own.flags.writeable), (kind, False, True))
+        self.assertFalse(np.shares_memory(tezgumi.Run(2, *signed, step=5).loads, signed[0]))
+        for place, name in enumerate(("loads", "bytes", "places")):
+            wrong = [*signed[:place], -signed[place] - 1, *signed[place + 1:]]
+            self.assertRaisesRegex(tezgumi.InputError, "^element 0 .* -", tezgumi.Run, 2, *wrong, copy=False)
+            self.assertEqual(getattr(run, name).tolist(), getattr(THREE, name).tolist())
+        prices = np.array([10, 1], np.uint64)
+        kept = tezgumi.lists.frozen(prices, np.int64, "prices", copy=False)
+        self.assertTrue(np.shares_memory(kept, prices))
+        self.assertEqual((kept.dtype, kept.tolist()), (np.int64, [10, 1]))
+        prices[0] = 2**63
+        self.assertRaisesRegex(tezgumi.InputError, "9223372036854775808", tezgumi.lists.frozen, prices, np.int64, "prices", copy=False)
+
+    def test_whole_numbers_that_numpy_has_no_type_for(self):
+        for make in (list, tuple, collections.deque, lambda numbers: np.array(numbers, object)):
+            self.assertEqual(tezgumi.Run(2, make([np.uint64(1), np.int64(1), 2]), [10, 9, 8], [0, 1, 0], step=5), THREE)
 
     def test_equality(self):
         self.assertNotEqual(THREE, replace(THREE, step=6))
@@ -102,6 +131,32 @@ class Refused(TimedTest):
         self.refuses("^element 0 has the load True", loads=[True, False, True])
         self.refuses("^element 0 has the load '1'", loads=["1", "2", "3"])
         self.refuses("^element 1 has the load -1", loads=[2**63, -1, 1][::-1])
+
+    def test_the_first_that_is_none(self):
+        for make in (list, tuple, collections.deque):
+            self.refuses("^element 1 has the load 1.5", loads=make([1, 1.5, 1]))
+            self.refuses("^element 2 has the load None", loads=make([1, 1, None]))
+        for loads, shown in (
+                (array.array("d", [1.5, 2.0, 3.0]), "1.5"), (memoryview(array.array("d", [1.5, 2.0, 3.0])), "1.5"),
+                (np.array([1.5, 2, 3], np.float32), "1.5"), (np.array([True, False, True]), "True"), (np.array(["a", "b", "c"]), "'a'"),
+                (np.array([1j, 2, 3]), "1j"), (np.array([3, 2, 1], "m8[s]"), "datetime.timedelta")):
+            self.refuses("^element 0 has the load " + shown, loads=loads)
+
+    def test_an_array_of_floats_is_refused_at_once(self):
+        count = 1_000_000
+        floats, zeros = np.linspace(0, 1, count), np.zeros(count, np.uint32)
+        for loads in (floats, floats[::2], floats.astype(np.float32), memoryview(floats), floats > 0):
+            words = 2, loads, zeros, zeros
+            most, _ = most_bytes(lambda: self.assertRaisesRegex(
+                tezgumi.InputError, "^element 0 has the load", tezgumi.Run, *words, copy=False))
+            self.assertLess(most, count // 4)
+        for words, text in (((2, zeros, floats, zeros), "packed size 0.0"), ((2, zeros, zeros, floats), "place is 0.0")):
+            most, _ = most_bytes(lambda: self.assertRaisesRegex(tezgumi.InputError, text, tezgumi.Run, *words, copy=False))
+            self.assertLess(most, count // 4)
+        odd = np.array([*range(count), 0.5], object)
+        most, _ = most_bytes(lambda: self.assertRaisesRegex(
+            tezgumi.InputError, rf"^numbers\[{count}\] is 0.5", tezgumi.lists.frozen, odd, np.uint64, "numbers"))
+        self.assertLess(most, count // 4)
 
     def test_loads_that_add_up_to_too_much(self):
         for loads, whole in (([2**62, 2**62, 0], 2**63), ([2**63 - 1, 2**63 - 1, 3], 2**64 + 1), ([1, 2**63 - 1, 0], 2**63)):

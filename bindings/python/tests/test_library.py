@@ -38,7 +38,7 @@ class Found(TimedTest):
             with self.there(built):
                 self.assertEqual(library.place(), built)
             with self.there():
-                self.assertEqual(library.place(), "libtezgumi.so.2")
+                self.assertEqual(library.place(), "libtezgumi.so.3")
 
     def test_one_that_is_not_there(self):
         with self.named("/no/such/library.so"):
@@ -59,7 +59,7 @@ class Found(TimedTest):
             words = [compiler, "-shared", "-fPIC", "-x", "c", "-", "-o", path]
             subprocess.run(words, input=OTHER.encode(), check=True, timeout=15)
             with self.named(path):
-                text = "other.so has the interface 99, and this package is written for 2$"
+                text = "other.so has the interface 99, and this package is written for 3$"
                 self.assertRaisesRegex(tezgumi.LibraryError, text, tezgumi.plan, THREE)
 
     def test_dumps_are_read_without_it(self):

@@ -13,7 +13,7 @@ import slow_checker
 import tezgumi
 from plain_decisions import decided, near
 from support import CHECKOUT, PACKAGES, THREE, TimedTest, as_lists, example, large_run, random_run, read_bytes
-from test_checking import FORGED, RIGHT, forge
+from test_checking import FORGED, RIGHT, forge, forge_near
 from test_program import call
 
 WEB = os.path.join(PACKAGES, "tezgumi", "web")
@@ -79,7 +79,72 @@ FORGED_NEAR = (
     ({"step_starts": [0, 0, 0, 0], "step_places": [], "step_rises": []}, "HeightLow"),
     ({"block_prices": [0, 0, 0]}, "PriceGap"),
     ({"moved": 61}, "MovedWrong"),
+    ({"present": [0, 4, 6, 10]}, "OrderWrong"),
+    ({"present": [0, 4, 7]}, "OrderWrong"),
+    ({"present": []}, "OrderWrong"),
     ({"bottleneck": 13}, "BottleneckWrong"),
+    ({"bottleneck": 15, "present": [0, 0, 0, 10]}, "OrderWrong"),
+    ({"bottleneck": 15, "names": [2, 0]}, "BottleneckWrong"),
+    ({"names": [2, 0]}, "NameCount"),
+    ({"keep_order": True, "names": [2, 1, 0]}, "NamesNotOrder"),
+    ({"keep_order": True, "names": [2, 0]}, "NamesNotOrder"),
+    ({"keep_order": True, "names": [2, 1, 0], "bottleneck": 12}, "BottleneckWrong"),
+    ({"keep_order": True, "block_prices": [], "moved": 61}, "MovedWrong"),
+    ({"keep_order": True, "moves": []}, "MovesWrong"),
+)
+
+
+# A decision on four elements of load 1 and 10 bytes, as the script of a page holds it, within 1,000 thousandths: nothing moves.
+STAYS = """const run = { procs: 2, loads: [1n, 1n, 1n, 1n], sizes: [10, 10, 10, 10], places: [0, 0, 1, 1] };
+const d = {
+  pes: 2, bottleneck: 2n, moved: 0n, cuts: [0, 2, 4], stops: [0, 1, 3], names: [0, 1], blockPrices: [0n, 0n], pePrices: [0n, 0n],
+  planned: [0, 0, 1, 1], moves: [], near: true, tolerance: 1000, keepOrder: false, least: 2n, leastCuts: [0, 2, 4], order: [0, 1], present: [0, 2, 4],
+  stepStarts: [0, 0, 0], stepPlaces: [], stepRises: [] };
+"""
+# Other cuts, which move 10 bytes where 0 do, with a step whose rise is not there; what else is then put in place; and the flaw.
+MOVES = """Object.assign(d, {
+  bottleneck: 3n, moved: 10n, cuts: [0, 1, 4], blockPrices: [0n, 10n], planned: [0, 1, 1, 1], moves: [[1, 0, 1]],
+  stepStarts: [0, 0, 1], stepPlaces: [0], stepRises: [] });
+"""
+FORGED_STEPS = (
+    ("", "HeightCount"),
+    ("d.stepRises = [10n]", "Steep 0 2"),
+    ("d.stepRises = [10n, 10n]", "HeightCount"),
+    ("d.stepPlaces = []", "HeightCount"),
+    ("d.stepPlaces = []; d.stepRises = [10n]", "HeightCount"),
+    ("d.stepStarts = [0, 0, 0]", "HeightCount"),
+    ("d.stepStarts = [0, 0, 0]; d.stepPlaces = []", "HeightLow"),
+    ("d.stepStarts = [0, 0, 2]; d.stepRises = [10n]", "HeightCount"),
+    ("d.stepStarts = [0, 0, 1, 1]; d.stepRises = [10n]", "HeightCount"),
+    ("d.stepStarts = [0, 0]; d.stepRises = [10n]", "HeightCount"),
+    ("d.stepStarts = [0, 1, 0]; d.stepRises = [10n]", "HeightCount"),
+    ("d.stepStarts = [0, 0, 2 ** 64]; d.stepRises = [10n]", "HeightCount"),
+    ("d.stepPlaces = [5]; d.stepRises = [10n]", "HeightLow"),
+    ("d.stepRises = [2n ** 64n]", "Steep 0 0"),
+    ("run.sizes = [2 ** 47, 0, 0, 1]", "NoRun"),
+    ("run.sizes.pop()", "NoRun"),
+    ("run.places.pop()", "NoRun"),
+    ("run.loads.pop()", "NoRun"),
+    ("run.sizes.push(10)", "NoRun"),
+    ("d.pes = 0", "PeCount"),
+    ("d.pes = 4097", "PeCount"),
+    ("d.tolerance = 1001", "NoNumber tolerance 0"),
+    ("d.keepOrder = 1", "NoNumber keepOrder"),
+    ("delete d.keepOrder", "NoNumber keepOrder"),
+    ("d.stepRises = null", "NoNumber stepRises"),
+    ("d.stepRises = '10'", "NoNumber stepRises"),
+    ("d.moves = [null]", "NoNumber moves 0"),
+    ("d.moves = null", "NoNumber moves"),
+)
+# What is put in the place of the last number of each list in turn, and of each number that stands alone.
+NO_INDEX = ("NaN", "undefined", "null", "'1'", "true", "-1", "0.5", "Infinity", "1n", "[1]")
+NO_AMOUNT = ("NaN", "undefined", "null", "'1'", "true", "-1n", "0.5", "1", "[1n]")
+NO_PRICE = ("NaN", "undefined", "null", "'1'", "0.5", "-1")
+NUMBERS = (
+    (NO_INDEX, ("run.sizes", "run.places", "d.pes", "d.cuts", "d.stops", "d.names", "d.planned", "d.tolerance", "d.leastCuts", "d.order",
+                "d.present", "d.stepStarts", "d.stepPlaces")),
+    (NO_AMOUNT, ("run.loads", "d.bottleneck", "d.moved", "d.least", "d.stepRises")),
+    (NO_PRICE, ("d.blockPrices", "d.pePrices")),
 )
 
 
@@ -342,11 +407,42 @@ class Seen(InAFolder):
         one = near(ten, 200)
         self.assertEqual((one.cuts.tolist(), one.moved, one.bottleneck), ([0, 5, 7, 10], 60, 14))
         runs = [sorted_run(seed) for seed in range(60)]
-        page = self.open([(ten, one), *((run, near(run, 50 * (seed % 8))) for seed, run in enumerate(runs))])
+        rounds = [(run, near(run, 50 * (seed % 8), seed % 3 == 0)) for seed, run in enumerate(runs)]
+        page = self.open([(ten, one), (ten, replace(one, keep_order=True, block_prices=[])), *rounds])
         self.assertEqual({row[17] for row in page.rows("all-rounds")}, {"holds"})
         self.assertEqual([row[12] for row in page.rows("all-rounds")][0], "12")
         self.assertEqual(
-            [row[1:] for row in page.rows("steps")][4], ["holds", "each weighs 14 at most, 200 thousandths above 12"])
+            [row[1:] for row in page.rows("steps")][5], ["holds", "each weighs 14 at most, 200 thousandths above 12"])
+        self.assertEqual(page.value("document.getElementById('prices-told').hidden"), False)
+        page.value("choose(1)")
+        self.assertEqual([row[0] for row in page.rows("steps")][9:], [
+            "The PEs keep their order", "The bytes are those that move", "The moves are those of the names"])
+        self.assertEqual(page.value("document.getElementById('prices-told').hidden"), True)
+        self.assertEqual(page.rows("prices"), [])
+
+    def test_an_order_that_is_not_the_present_one(self):
+        # In it no cuts move fewer than 20 bytes; in the order of the elements none move any.
+        run = tezgumi.Run(2, [1] * 4, [10] * 4, [0, 0, 1, 1])
+        other, right = near(run, 1000, order=[1, 0]), near(run, 1000)
+        self.assertEqual((other.moved, right.moved, other.order.tolist()), (20, 0, [1, 0]))
+        # The elements of PE 0 are not together, and PE 2 is none of the two that are to be.
+        apart, past = replace(run, places=[0, 1, 0, 1]), replace(run, procs=3, places=[0, 0, 2, 2])
+        flat = replace(right, step_starts=[0, 0, 0], step_places=[], step_rises=[])
+        claims = [(run, other), (run, replace(other, cuts=[0, 0, 4])), (run, right), (apart, near(apart, 1000)), (past, flat)]
+        found = [row[17] for row in self.open(claims).rows("all-rounds")]
+        self.assertEqual(found, ["OrderWrong", "OrderWrong", "holds", "OrderWrong", "OrderWrong"])
+        lines = [slow_checker.first_near_flaw(as_lists(one), as_lists(claim)) for one, claim in claims]
+        self.assertEqual(found, [line[len("check: "):].replace("ok", "holds") for line in lines])
+
+    def test_random_decisions_within_a_tolerance(self):
+        runs = [sorted_run(seed) for seed in range(150)]
+        right = [(run, near(run, 40 * (seed % 11), seed % 2 == 1)) for seed, run in enumerate(runs)]
+        forged = [(run, forge_near(random.Random(seed), run, one)) for seed, (run, one) in enumerate(right)]
+        found = [row[17] for row in self.open(right + forged).rows("all-rounds")]
+        lines = [slow_checker.first_near_flaw(as_lists(run), as_lists(one)) for run, one in right + forged]
+        self.assertEqual(found, [line[len("check: "):].replace("ok", "holds") for line in lines])
+        self.assertEqual(set(found[:150]), {"holds"})
+        self.assertGreater(len({line.split()[0] for line in found[150:]}), 15)
 
     def test_every_forged_decision_within_a_tolerance_is_named(self):
         ten = tezgumi.read_dump(example("ten-elements.lbd2")).run
@@ -357,6 +453,34 @@ class Seen(InAFolder):
             page.value(f"choose({number})")
             self.assertIn(f"{line}: ", page.text("#verdict"))
         self.assertEqual(page.errors, [])
+
+    def test_steps_that_are_none(self):
+        page = self.open([(THREE, RIGHT)])
+        found = lambda script: page.value(f"(() => {{ {STAYS} {script}; return flawLine(nearFlaw(run, d)); }})()")
+        self.assertEqual(found(""), "holds")
+        self.assertEqual(found("d.moves = [[1, 0, 1]]"), "MovesWrong")
+        for script, line in FORGED_STEPS:
+            self.assertEqual(found(MOVES + script), line, script)
+        wide = "readRound(0).then(({ run, decision }) => flawLine(firstFlaw(run, { ...decision, moves: [[0, 0, 1, 0]] })))"
+        self.assertEqual(page.value(wide), "MovesWrong")
+        told = page.value(f"""(() => {{ {STAYS} d.limit = limitOf(d); d.stepRises = [7n]; return checked({{ run, decision: d }}).rows; }})()""")
+        self.assertEqual([row[1] for row in told], ["holds"] * 6 + ["HeightCount"] + ["–"] * 6)
+
+    def test_numbers_that_are_none(self):
+        page = self.open([THREE])
+        for kinds, names in NUMBERS:
+            for name in names:
+                script = f"""(() => [{", ".join(kinds)}].map((none) => {{
+                  {STAYS} {MOVES} d.stepRises = [10n];
+                  if (Array.isArray({name})) {name}[{name}.length - 1] = none; else {name} = none;
+                  return [nearFlaw, firstFlaw].map((check) => flawLine(check(run, d))).join();
+                }}))()"""
+                at = page.value(f"(() => {{ {STAYS} {MOVES} d.stepRises = [10n]; return Array.isArray({name}) ? {name}.length - 1 : 0; }})()")
+                line = f"NoNumber {name.split('.')[1]} {at}"
+                is_near = name[2:] in ("tolerance", "least", "leastCuts", "order", "present", "stepStarts", "stepPlaces", "stepRises")
+                self.assertEqual(page.value(script), [f"{line},{'FenceLight 1' if is_near else line}"] * len(kinds), name)
+        holes = page.value(f"(() => {{ {STAYS} d.cuts = [0, , 4]; return flawLine(nearFlaw(run, d)); }})()")
+        self.assertEqual(holes, "NoNumber cuts 1")
 
     def test_decisions_of_the_planner_within_a_tolerance(self):
         runs = [sorted_run(seed) for seed in range(60)]

@@ -11,6 +11,7 @@ from support import THREE, TimedTest, front, large_run, read_bytes
 
 try:
     import matplotlib.colors
+    import matplotlib.text
 
     import tezgumi_plot
     from tezgumi_plot.palette import COLORS, FAINT, INK, PATTERNS, Palette, luminance
@@ -189,6 +190,17 @@ class Files(TimedTest):
                 ({"stops": [0, 1, 3]}, "a stop of the fence is none of 3 elements"),
                 ({"places": [0, 0, 2]}, "^element 2 is on no processor")):
             self.assertRaisesRegex(tezgumi.InputError, text, tezgumi_plot.decision, THREE, replace(decision, **changed))
+
+    def test_a_title_is_no_mathematics(self):
+        made = tezgumi.decide(THREE)
+        swept = [tezgumi.figures(THREE, made)]
+        # The first would be set as a formula, the second is a wrong one, and the third has one sign alone.
+        for title in ("$x$ and $y$ in 5 $", "$\\frac{$", "a \\$ and $b$", "5 $"):
+            for sheet in (tezgumi_plot.decision(THREE, made, title=title), tezgumi_plot.sweep(swept, title=title)):
+                self.assertIn(title, [text for text, _ in written(sheet)])
+                self.assertTrue(sheet._repr_png_().startswith(b"\x89PNG"))
+                plain = [text.get_parse_math() for text in sheet.findobj(matplotlib.text.Text) if text.get_text() == title]
+                self.assertEqual(plain, [False])
 
     def test_what_is_refused(self):
         decision = tezgumi.decide(THREE)

@@ -205,6 +205,22 @@ class FiguresOfPlans(TimedTest):
         self.assertEqual((figures.total_load, figures.imbalance_after), (count * load, 1.0))
         self.assertIn("4,611,686,018,427,355,136.00", str(figures))
 
+    def test_places_that_are_none(self):
+        for places, text in (
+                ([0, 0.5, 1], "^element 1 is on no processor: its place is 0.5, and with 2 PEs it is 0 to 1$"),
+                (np.array([0.0, 1.9, 1.0]), "^element 0 is on no processor: its place is 0.0"),
+                ([0, float("nan"), 0], "^element 1 .* nan"), ([0, 1, -1], "^element 2 .* -1"), ([0, 1, 2], "^element 2 .* 2, and with 2 PEs"),
+                (np.array([0, 2**32, 0]), "^element 1 .* 4294967296"), ([0, None, 0], "^element 1 .* None"), (["0", "1", "1"], "^element 0 .* '0'"),
+                ([True, False, True], "^element 0 .* True"), ([[0], [1], [0]], "one dimension")):
+            self.assertRaisesRegex(tezgumi.InputError, text, tezgumi.pe_loads, THREE, places, 2)
+        for places in ([0, 0.5, 1], np.array([0.0, 1.0, 1.0]), [0, float("nan"), 0], [0, 1, -1], [0, 1, 2**32], ["0", "1", "1"]):
+            self.assertRaisesRegex(tezgumi.InputError, r"^places\[.\] is ", THREE.moves_to, places)
+        for pes, text in ((0, "^pes is 0"), (4097, "^pes is 4097"), (2.0, "^pes is 2.0, which is no whole number$")):
+            self.assertRaisesRegex(tezgumi.InputError, text, tezgumi.pe_loads, THREE, [0, 0, 0], pes)
+        for kind in (np.int8, np.uint64, ">i4", object):
+            self.assertEqual(tezgumi.pe_loads(THREE, np.array([0, 1, 1], kind), 2).tolist(), [1, 3])
+            self.assertEqual(THREE.moves_to(np.array([0, 1, 1], kind)).tolist(), [(2, 0, 1)])
+
     def test_a_sweep(self):
         run = front()
         swept = tezgumi.sweep(run, (1, 4, 16))

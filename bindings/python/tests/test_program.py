@@ -63,7 +63,12 @@ class Program(TimedTest):
         self.assertEqual(lines[-3:], ["within 167 thousandths: 1 near the present cuts, 0 by the plan", "check: ok", ""])
         status, out, _ = call("examples/ten-elements.lbd2", "--tolerance", "0", "--procs", "3,2")
         self.assertEqual(out.split("\n")[-3:], ["within 0 thousandths: 0 near the present cuts, 2 by the plan", "check: ok", ""])
+        status, out, _ = call("examples/ten-elements.lbd2", "--tolerance", "0", "--keep-order")
+        self.assertEqual(out.split("\n")[-3:], ["within 0 thousandths: 1 near the present cuts, 0 by the plan", "check: ok", ""])
         with tempfile.TemporaryDirectory() as folder:
+            page = os.path.join(folder, "page.html")
+            self.assertEqual(call("page", "examples/ten-elements.lbd2", "--tolerance", "0", "--keep-order", "-o", page)[0], 0)
+            self.assertIn(b'"keep_order":true', read_bytes(page))
             if matplotlib:
                 path = os.path.join(folder, "near.png")
                 self.assertEqual(call("examples/ten-elements.lbd2", "--tolerance", "167", "--plot", path)[0], 0)
@@ -74,7 +79,9 @@ class Program(TimedTest):
                 ((), "FILE"), (("a", "b"), "unrecognized"), (("a", "--procs"), "expected one argument"),
                 (("a", "--procs", "0"), "0 is not 1 to 4096"), (("a", "--procs", "4097"), "4097 is not 1 to 4096"),
                 (("a", "--procs", "2,x"), "'2,x' is no list of whole numbers"),
-                (("a", "--tolerance", "1001"), "'1001' is not 0 to 1000"), (("a", "--tolerance", "2%"), "'2%' is not 0 to 1000")):
+                (("a", "--tolerance", "1001"), "'1001' is not 0 to 1000"), (("a", "--tolerance", "2%"), "'2%' is not 0 to 1000"),
+                (("a", "--keep-order"), "argument --keep-order: it is for a --tolerance, which may be 0"),
+                (("page", "a", "-o", "b", "--keep-order"), "argument --keep-order: it is for a --tolerance, which may be 0")):
             status, out, errors = call(*words)
             self.assertEqual((status, out), (2, ""))
             self.assertIn(text, errors)

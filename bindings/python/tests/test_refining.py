@@ -1,4 +1,5 @@
-"""Decisions within a tolerance: beside a search through all cuts and all namings, forged ones, and what is refused."""
+"""Decisions within a tolerance, also in the order of the PEs: beside a search through all cuts and all namings, forged ones, and
+what is refused."""
 import os
 import random
 import sys
@@ -6,8 +7,12 @@ from dataclasses import replace
 
 import numpy as np
 
+import slow_checker
+import slow_planner
 import tezgumi
-from support import CHECKOUT, THREE, TimedTest, front, large_run
+from plain_decisions import near as plain_near
+from support import CHECKOUT, THREE, TimedTest, as_lists, front, large_run
+from test_checking import forge_near
 from tezgumi import Flaw, refining
 
 sys.path.append(os.path.join(CHECKOUT, "benches", "refinement"))
@@ -41,6 +46,27 @@ class BesideASearch(TimedTest):
             kept += not planned
         self.assertGreater(kept, SEEDS // 50)
 
+    def test_random_chains_in_order(self):
+        kept = dearer = 0
+        for seed in range(SEEDS):
+            loads, sizes, places, pes, tolerance = search_all.chain(seed)
+            run = tezgumi.Run(4, loads, sizes, places)
+            decision = tezgumi.decide(run, pes, tolerance, keep_order=True)
+            self.assertEqual(str(tezgumi.check(run, decision)), "check: ok", seed)
+            self.assertEqual(tezgumi.plan(run, pes, tolerance, True).places.tolist(), decision.places.tolist())
+            stands = slow_checker.present_order(places, pes)
+            if stands is None:
+                self.assertEqual(decision, tezgumi.decide(run, pes), seed)
+                continue
+            cuts, moved = slow_planner.in_order(loads, sizes, places, pes, tolerance, *stands)
+            self.assertEqual((type(decision), decision.keep_order), (tezgumi.NearDecision, True), seed)
+            found = decision.cuts.tolist(), decision.moved, decision.bottleneck
+            self.assertEqual(found, (cuts, moved, search_all.peak(loads, cuts)), seed)
+            self.assertEqual([decision.names.tolist(), decision.order.tolist(), decision.present.tolist()], [stands[0], *stands], seed)
+            kept += 1
+            dearer += moved > tezgumi.plan(run, pes).moved
+        self.assertGreater(min(kept, 10 * dearer), SEEDS // 2)
+
     def test_what_holds_of_larger_chains(self):
         for seed in range(60):
             rng = random.Random(seed)
@@ -54,9 +80,13 @@ class BesideASearch(TimedTest):
                 self.assertTrue(tezgumi.check(run, decision), (seed, tolerance))
                 self.assertLessEqual(decision.bottleneck, least.bottleneck + least.bottleneck * tolerance // 1000)
                 self.assertLessEqual(decision.moved, least.moved)
+                ordered = tezgumi.decide(run, tolerance=tolerance, keep_order=True)
+                self.assertTrue(tezgumi.check(run, ordered), (seed, tolerance))
+                self.assertLessEqual(ordered.bottleneck, least.bottleneck + least.bottleneck * tolerance // 1000)
+                self.assertEqual(ordered.moved, plain_near(run, tolerance, True).moved)
                 heaviest = int(tezgumi.pe_loads(run, run.places, pes).max())
                 if heaviest <= least.bottleneck + least.bottleneck * tolerance // 1000:
-                    self.assertEqual(decision.moved, 0)
+                    self.assertEqual((decision.moved, ordered.moved), (0, 0))
 
 
 class TheExample(TimedTest):
@@ -79,20 +109,42 @@ class TheExample(TimedTest):
         self.assertEqual(tezgumi.plan(TEN, tolerance=0), tezgumi.plan(TEN))
         self.assertEqual(tezgumi.decide(THREE, tolerance=1000), tezgumi.decide(THREE))
 
+    def test_the_pes_keep_their_order_or_not(self):
+        # By hand: the blocks 0 1, 1 3 and 3 4 are cheapest where the PEs keep their order, and element 1 moves, 37 bytes. By other
+        # names elements 0 and 2 move, 17 bytes; and by other cuts, in another order, elements 0 and 3, 8 bytes.
+        run = tezgumi.Run(3, [6, 2, 1, 2], [2, 37, 15, 6], [0, 0, 1, 2])
+        kept, anew = (tezgumi.decide(run, tolerance=300, keep_order=keep) for keep in (True, False))
+        self.assertEqual([kept.cuts.tolist(), kept.names.tolist(), kept.moved], [[0, 1, 3, 4], [0, 1, 2], 37])
+        self.assertEqual([anew.cuts.tolist(), anew.names.tolist(), anew.moved], [[0, 1, 3, 4], [1, 0, 2], 17])
+        fewer = tezgumi.Plan(3, [2, 0, 1, 1], 6, 8)
+        self.assertEqual(int(run.bytes[run.places != fewer.places].sum()), 8)
+        self.assertLessEqual(max(tezgumi.pe_loads(run, fewer.places, 3)), anew.limit)
+        self.assertTrue(repr(kept).endswith("tolerance=300, least=6, keep_order=True)"))
+        self.assertNotIn("keep_order", repr(anew))
+        # The plan moves fewer bytes than the cuts in order, which are taken nonetheless.
+        self.assertEqual((tezgumi.decide(run).moved, tezgumi.decide(run, tolerance=0, keep_order=True).names.tolist()), (23, [0, 1, 2]))
+
     def test_without_a_tolerance_all_is_as_it_was(self):
         self.assertIs(type(tezgumi.decide(TEN)), tezgumi.Decision)
         self.assertEqual(tezgumi.decide(TEN, tolerance=None), tezgumi.decide(TEN))
 
     def test_places_that_keep_to_the_limit(self):
-        decision = tezgumi.decide(TEN, tolerance=1000)
-        self.assertEqual((decision.moved, decision.places.tolist()), (0, TEN.places.tolist()))
+        for keep in (False, True):
+            decision = tezgumi.decide(TEN, tolerance=1000, keep_order=keep)
+            self.assertEqual((decision.moved, decision.places.tolist()), (0, TEN.places.tolist()))
+        # The elements of PE 0 are not together, and 1 byte moves, though no PE is above the limit today.
+        apart = tezgumi.Run(2, [1, 1, 1], [1, 1, 1], [0, 1, 0])
+        for keep in (False, True):
+            decision = tezgumi.decide(apart, tolerance=1000, keep_order=keep)
+            self.assertEqual((type(decision), decision.moved), (tezgumi.Decision, 1))
 
     def test_more_and_fewer_pes(self):
         for pes in (1, 2, 5, 256):
             for tolerance in (0, 50, 1000):
-                decision = tezgumi.decide(front(), pes, tolerance)
-                self.assertEqual((decision.pes, len(decision.cuts)), (pes, pes + 1))
-                self.assertTrue(tezgumi.check(front(), decision))
+                for keep in (False, True):
+                    decision = tezgumi.decide(front(), pes, tolerance, keep)
+                    self.assertEqual((decision.pes, len(decision.cuts)), (pes, pes + 1))
+                    self.assertTrue(tezgumi.check(front(), decision))
 
     def test_more_steps_than_there_is_room_for_at_first(self):
         run = large_run(4000, 3, 5)
@@ -111,8 +163,9 @@ class TheExample(TimedTest):
                 tezgumi.Run(3, [], [], []), tezgumi.Run(2, [0, 0, 0], [5, 6, 7], [1, 1, 0]),
                 tezgumi.Run(2, [1, 100, 1, 1], [5, 6, 7, 8], [1, 1, 0, 0]), tezgumi.Run(1, [tezgumi.DUMP_LOAD], [1], [0])):
             for tolerance in (0, 20, 1000):
-                decision = tezgumi.decide(run, tolerance=tolerance)
-                self.assertEqual((str(tezgumi.check(run, decision)), decision.moved), ("check: ok", 0))
+                for keep in (False, True):
+                    decision = tezgumi.decide(run, tolerance=tolerance, keep_order=keep)
+                    self.assertEqual((str(tezgumi.check(run, decision)), decision.moved), ("check: ok", 0))
 
 
 # What is put in place of the decision on the example, and the line that a check prints.
@@ -139,6 +192,14 @@ FORGED = (
     ({"step_starts": [0, 1, 2]}, "HeightCount"),
     ({"step_starts": []}, "HeightCount"),
     ({"cuts": [0, 5, 6, 10]}, "HeightLow"),
+    ({"present": [0, 1, 2, 10]}, "OrderWrong"),
+    ({"present": [0, 4, 7, 9]}, "OrderWrong"),
+    ({"present": [0, 4, 7]}, "OrderWrong"),
+    ({"present": []}, "OrderWrong"),
+    ({"bottleneck": 15}, "BottleneckWrong"),
+    ({"bottleneck": 13}, "BottleneckWrong"),
+    ({"bottleneck": 0, "names": [2, 0]}, "BottleneckWrong"),
+    ({"bottleneck": 15, "present": []}, "OrderWrong"),
     ({"names": [2, 0]}, "NameCount"),
     ({"names": [3, 0, 1]}, "NameRange"),
     ({"names": [0, 0, 1]}, "NameTwice"),
@@ -147,7 +208,13 @@ FORGED = (
     ({"moved": 61}, "MovedWrong"),
     ({"places": [0, 2, 2, 2, 2, 0, 0, 1, 1, 1]}, "MovesWrong"),
     ({"moves": []}, "MovesWrong"),
-    ({"bottleneck": 15}, "BottleneckWrong"),
+    ({"keep_order": True, "names": [2, 1, 0]}, "NamesNotOrder"),
+    ({"keep_order": True, "names": [2, 0]}, "NamesNotOrder"),
+    ({"keep_order": True, "names": [2, 1, 0], "bottleneck": 15}, "BottleneckWrong"),
+    ({"keep_order": True, "names": [2, 1, 0], "moved": 61}, "NamesNotOrder"),
+    ({"keep_order": True, "moved": 61}, "MovedWrong"),
+    ({"keep_order": True, "places": [0, 2, 2, 2, 2, 0, 0, 1, 1, 1]}, "MovesWrong"),
+    ({"keep_order": True, "moves": []}, "MovesWrong"),
 )
 
 
@@ -184,9 +251,34 @@ class Forged(TimedTest):
         self.assertEqual(self.line(replace(decision, step_places=places)), "check: HeightStart")
 
     def test_what_is_no_part_of_the_proof(self):
-        self.assertEqual(self.line(replace(near(), present=[0, 1, 2, 10])), "check: ok")
-        self.assertEqual(self.line(replace(near(), present=[])), "check: ok")
-        self.assertEqual(self.line(replace(near(), step_rises=np.append(near().step_rises, np.uint64(7)))), "check: ok")
+        self.assertEqual(self.line(replace(near(), keep_order=True, block_prices=[7], pe_prices=[2**63 - 1] * 5)), "check: ok")
+        more = {"step_rises": np.append(near().step_rises, np.uint64(7)), "step_places": np.append(near().step_places, np.uint32(3))}
+        self.assertEqual(self.line(replace(near(), **more)), "check: ok")
+
+    def test_an_order_that_is_not_the_present_one(self):
+        # In this order no cuts move fewer than 20 bytes, and in the present one none move any.
+        run = tezgumi.Run(2, [1] * 4, [10] * 4, [0, 0, 1, 1])
+        for claim in (plain_near(run, 1000, order=[1, 0]), plain_near(run, 1000, True, [1, 0])):
+            self.assertEqual((claim.moved > 0, str(tezgumi.check(run, claim))), (True, "check: OrderWrong"))
+        for places in ([0, 1, 0, 1], [0, 0, 1, 0]):
+            apart = replace(run, places=places)
+            self.assertEqual(str(tezgumi.check(apart, plain_near(apart, 1000))), "check: OrderWrong")
+        self.assertEqual(str(tezgumi.check(run, plain_near(run, 1000))), "check: ok")
+
+    def test_random_forgeries_beside_a_plain_checker(self):
+        lines = set()
+        for seed in range(400):
+            rng = random.Random(seed)
+            count, pes = rng.randint(1, 9), rng.randint(1, 4)
+            loads, sizes = ([rng.randint(0, 9) for _ in range(count)] for _ in range(2))
+            run = tezgumi.Run(pes, loads, sizes, sorted(rng.randrange(pes) for _ in range(count)))
+            right = plain_near(run, rng.choice((0, 100, 500)), rng.random() < 0.5)
+            self.assertEqual(str(tezgumi.check(run, right)), "check: ok")
+            forged = forge_near(rng, run, right)
+            line = slow_checker.first_near_flaw(as_lists(run), as_lists(forged))
+            self.assertEqual(str(tezgumi.check(run, forged)), line, (seed, run, forged))
+            lines.add(line.split()[1])
+        self.assertGreater(len(lines), 20)
 
     def test_numbers_without_sense(self):
         decision, most = near(), 2**64 - 1
@@ -205,6 +297,30 @@ class Refused(TimedTest):
                 self.assertRaisesRegex(tezgumi.InputError, text, call, TEN, tolerance=tolerance)
             self.assertRaisesRegex(tezgumi.InputError, "^tolerance is 0.02, which is no whole number$", call, TEN, tolerance=0.02)
         self.assertRaisesRegex(tezgumi.InputError, "^tolerance is 1001", replace, near(), tolerance=1001)
+
+    def test_whether_an_order_is_kept(self):
+        for call in (tezgumi.plan, tezgumi.decide):
+            for keep in (1, 0, None, "yes"):
+                text = f"^keep_order is {keep!r}; it has to be True or False$"
+                for tolerance in (None, 5):
+                    self.assertRaisesRegex(tezgumi.InputError, text, call, TEN, tolerance=tolerance, keep_order=keep)
+            text = "^keep_order is for a decision within a tolerance, which may be 0$"
+            self.assertRaisesRegex(tezgumi.InputError, text, call, TEN, keep_order=True)
+        self.assertEqual(tezgumi.plan(TEN, keep_order=np.False_), tezgumi.plan(TEN))
+        self.assertRaisesRegex(tezgumi.InputError, "^keep_order is 1; ", replace, near(), keep_order=1)
+
+    def test_steps_without_a_place_or_a_rise(self):
+        count = len(near().step_places)
+        for changed, counts in (
+                ({"step_rises": near().step_rises[:-1]}, (count, count - 1)), ({"step_rises": []}, (count, 0)),
+                ({"step_places": [*near().step_places, 9]}, (count + 1, count))):
+            text = "^there are {} places and {} rises of steps; a step has one of each$".format(*counts)
+            self.assertRaisesRegex(tezgumi.InputError, text, replace, near(), **changed)
+        for name, numbers in (
+                ("step_rises", [float("nan")]), ("step_rises", [None]), ("step_rises", ["1"]), ("step_rises", [-1]), ("step_places", [0.5]),
+                ("step_starts", [0, 1, 2, 2**64]), ("step_starts", [0, 1, 2, float("nan")])):
+            text = rf"^{name}\[{len(numbers) - 1}\] is .*; it has to be a whole number"
+            self.assertRaisesRegex(tezgumi.InputError, text, replace, near(), **{name: numbers})
 
     def test_statuses(self):
         run = replace(TEN)

@@ -1,12 +1,13 @@
 """Loads in floating point: the unit that is chosen, the unit that is given, and each refusal."""
 from dataclasses import replace
 from fractions import Fraction
+from unittest import mock
 
 import numpy as np
 
 import tezgumi
-from support import TimedTest
-from tezgumi import scales
+from support import TimedTest, most_bytes
+from tezgumi import runs, scales
 
 
 def run(loads, **words):
@@ -37,6 +38,20 @@ class Scaled(TimedTest):
             found = run(np.ones(count), scale=True)
             self.assertEqual((found.unit, int(found.loads[0])), (2.0**(1 - bits), 2**(bits - 1)))
             self.assertEqual(found.loads.tolist(), [2**(bits - 1)] * count)
+
+    def test_counts_are_made_once(self):
+        count = 1_000_000
+        loads, zeros = np.linspace(0, 1, count), np.zeros(count, np.uint32)
+        made = []
+        for name, words in (("in_units", {"unit": 1e-6}), ("scaled", {"scale": True})):
+            before = getattr(runs, name)
+            with mock.patch.object(runs, name, lambda *given: made.append(before(*given)) or made[-1]):
+                found = tezgumi.Run(2, loads, zeros, zeros, copy=True, **words)
+            self.assertIs(found.loads, made[-1] if name == "in_units" else made[-1][0])
+            self.assertFalse(found.loads.flags.writeable)
+        most, found = most_bytes(lambda: tezgumi.Run(2, loads, zeros, zeros, copy=False, scale=True))
+        self.assertEqual((found.loads[-1] * found.unit, found.loads.flags.writeable), (1, False))
+        self.assertLess(most, 1.3 * loads.nbytes)
 
     def test_a_plan_in_seconds(self):
         found = run([0.1, 0.2, 0.3], scale=True)

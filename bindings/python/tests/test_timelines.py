@@ -158,6 +158,16 @@ class Timelines(TimedTest):
         heights = {text: box.y0 for text, box in test_pictures.written(sheet)}
         self.assertGreater(heights["upper"], heights["lower"])
 
+    def test_texts_of_a_trace_are_no_mathematics(self):
+        wrong = "$\\fra$"
+        events = [row(0, wrong), row(1, "$1$"), handler(0, 0, None, wrong, 9), handler(0, 1, None, "a$b$c"), decision(5, wrong)]
+        for more, count in ((events, 7), ([*events, handler(20, 0, wrong, long=50), handler(99, 0, "$9$")], 9)):
+            sheet = self.draw(more, title=wrong, unit=wrong)
+            self.assertTrue(sheet._repr_png_().startswith(b"\x89PNG"))
+            texts = [it for it in sheet.findobj(test_pictures.matplotlib.text.Text) if "$" in it.get_text()]
+            self.assertEqual([it.get_text() for it in texts if it.get_parse_math()], [])
+            self.assertGreaterEqual(len(texts), count, [it.get_text() for it in texts])
+
     def test_a_color_for_each_element(self):
         for elements, colors in ((1, 1), (7, 7), (8, 7), (NAMED, 7), (NAMED + 1, NAMED + 1)):
             sheet = self.draw([handler(10 * e, 0, e, long=9) for e in range(elements)])

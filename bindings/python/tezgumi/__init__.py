@@ -9,10 +9,10 @@
 
 A `Run` is a chain of elements: the load, the packed size and the present PE of each. `plan` says where each runs from now
 on, `decide` says it with certificates, and `check` says whether every part of a decision is right, whoever made it. With
-`tolerance=20` the heaviest PE may have 2 per cent more than the least possible load, where fewer bytes move by that. These
-three call libtezgumi.so, whose planner and checker are proved; all else is plain Python, and tested. The library is looked
-for in this package, where the wheel has it; then where TEZGUMI_LIBRARY says; then by the system's loader. (In a clone, what
-bindings/build made comes before that.)
+`tolerance=20` the heaviest PE may have 2 per cent more than the least possible load, where fewer bytes move by that, and with
+`keep_order=True` beside it the PEs keep their order. These three call libtezgumi.so, whose planner and checker are proved; all
+else is plain Python, and tested. The library is looked for in this package, where the wheel has it; then where TEZGUMI_LIBRARY
+says; then by the system's loader. (In a clone, what bindings/build made comes before that.)
 
 - runs: Run, Plan, Decision, NearDecision, and the limits
 - planning: plan, decide, check; checking: Verdict, Flaw

@@ -24,7 +24,10 @@ def main(words: Sequence[str] | None = None) -> int:
     # The word alone is a file of that name.
     named = {"page": (_page_parser, _write_page), "timeline": (_timeline_parser, _draw_timeline)}
     parser, answer = named.get(words[0], (_parser, _answer)) if len(words) > 1 else (_parser, _answer)
-    asked = parser().parse_args(words if parser is _parser else words[1:])
+    asking = parser()
+    asked = asking.parse_args(words if parser is _parser else words[1:])
+    if getattr(asked, "keep_order", False) and asked.tolerance is None:
+        asking.error("argument --keep-order: it is for a --tolerance, which may be 0")
     try:
         return answer(asked)
     except (tezgumi.DumpError, tezgumi.TraceError) as error:
@@ -45,6 +48,7 @@ def _parser() -> argparse.ArgumentParser:
     parser.add_argument(
         "--tolerance", type=_tolerance, metavar="N",
         help="decide within N thousandths of the least load, 0 to 1000, where fewer bytes move by that")
+    _ask_for_order(parser)
     parser.add_argument(
         "--plot", type=_picture, metavar="OUT", help="draw into this file, .png, .pdf or .svg; of several P the sweep")
     return parser
@@ -63,7 +67,13 @@ def _page_parser() -> argparse.ArgumentParser:
     parser.add_argument(
         "--tolerance", type=_tolerance, metavar="N",
         help="decide anew within N thousandths of the least load, 0 to 1000, where fewer bytes move by that")
+    _ask_for_order(parser)
     return parser
+
+
+def _ask_for_order(parser: argparse.ArgumentParser) -> None:
+    parser.add_argument(
+        "--keep-order", action="store_true", help="within a tolerance, let the PEs keep the order in which their elements stand")
 
 
 def _timeline_parser() -> argparse.ArgumentParser:
@@ -121,7 +131,7 @@ def _answer(asked: argparse.Namespace) -> int:
     print(f"{asked.file}: {len(run):,} elements on {run.procs} PEs, step {run.step}")
     if recorded is not None:
         print(f"recorded for {recorded.pes} PEs, {tezgumi.check(run, recorded)}")
-    decisions = [tezgumi.decide(run, pes, asked.tolerance) for pes in counts]
+    decisions = [tezgumi.decide(run, pes, asked.tolerance, asked.keep_order) for pes in counts]
     swept = [tezgumi.figures(run, decision) for decision in decisions]
     print(swept[0] if len(swept) == 1 else tezgumi.table(swept))
     if asked.tolerance is not None:
@@ -139,7 +149,7 @@ def _write_page(asked: argparse.Namespace) -> int:
     written = tezgumi.page(
         asked.files, asked.output, trace=asked.trace, title=asked.title,
         anew=asked.procs is not None or asked.tolerance is not None,
-        decide=lambda run: tezgumi.decide(run, asked.procs, asked.tolerance))
+        decide=lambda run: tezgumi.decide(run, asked.procs, asked.tolerance, asked.keep_order))
     count = len(asked.files)
     print(f"{asked.output}: {count:,} round{'s' if count > 1 else ''}, {written.bytes:,} bytes")
     if written.left_out:

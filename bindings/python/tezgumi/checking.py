@@ -13,7 +13,8 @@ if TYPE_CHECKING:
 
 
 class Flaw(enum.IntEnum):
-    """What is wrong with a decision. Of several flaws the first is told, which is the least, but for those of a NearDecision. `word` is the name that lb_sim prints."""
+    """What is wrong with a decision. Of several flaws the first is told, which is the least, but for those of a NearDecision. `word`
+    is the name that lb_sim prints."""
 
     word: str
     meaning: str
@@ -44,7 +45,7 @@ class Flaw(enum.IntEnum):
     PRICE_GAP = 17, "PriceGap", "the prices together are not the bytes that the names move"
     MOVED_WRONG = 18, "MovedWrong", "the bytes moved are not those that the names move"
     MOVES_WRONG = 19, "MovesWrong", "the places or the moves are not those that the names ask for"
-    # Those of a NearDecision alone, which are looked for before 12 to 19, but for the last.
+    # Those of a NearDecision alone, which are looked for before 12 to 19.
     PE_COUNT = 20, "PeCount", "there is no PE, or there are too many"
     ORDER_COUNT = 21, "OrderCount", "there are not pes PEs in the order"
     ORDER_RANGE = 22, "OrderRange", "a PE of the order is not below pes"
@@ -56,7 +57,9 @@ class Flaw(enum.IntEnum):
     HEIGHT_START = 28, "HeightStart", "the height of the first block at the beginning of the chain is not 0"
     STEEP = 29, "Steep", "from block {0} to the next the heights rise at place {1} by more than the cut costs there"
     HEIGHT_LOW = 30, "HeightLow", "the height of the last block is below what the cuts cost"
-    BOTTLENECK_WRONG = 31, "BottleneckWrong", "the bottleneck is not the load of the heaviest block"
+    ORDER_WRONG = 31, "OrderWrong", "the order and the present cuts are not those of the elements today, or these stand in no order of PEs"
+    BOTTLENECK_WRONG = 32, "BottleneckWrong", "the bottleneck is not the load of the heaviest block"
+    NAMES_NOT_ORDER = 33, "NamesNotOrder", "the PEs are to keep their order, and the names are another"
 
 
 @dataclass(frozen=True)

@@ -8,8 +8,9 @@ from typing import Any, Iterable, List, Protocol, Sequence
 import numpy as np
 from numpy.typing import ArrayLike, NDArray
 
+from .lists import whole, whole_number
 from .planning import plan as plan_for
-from .runs import Plan, Run, on_no_processor
+from .runs import PES, Plan, Run, on_no_processor
 
 
 PART = 2**20
@@ -145,14 +146,10 @@ def figures(run: Run, plan: Plan) -> Figures:
 
 
 def pe_loads(run: Run, places: ArrayLike, pes: int) -> NDArray[np.uint64]:
-    """The load of each PE where the elements stand at these places. Exact."""
-    stands = np.asarray(places)
-    if not np.can_cast(stands.dtype, np.int64):
-        stands = stands.astype(np.int64)
+    """The load of each PE where the elements stand at these places, whole numbers below `pes`. Exact."""
+    pes = whole_number(pes, 1, PES, "pes")
+    stands = whole(places, "places", 0, pes - 1, lambda index, place: on_no_processor(index, place, pes))
     run.refuse_other_places(stands)
-    if stands.size and int(stands.max()) >= pes:
-        element = int(np.argmax(stands >= pes))
-        raise on_no_processor(element, int(stands[element]), pes)
     return _sums(run.loads, stands, pes)
 
 
@@ -160,7 +157,7 @@ def _sums(numbers: NDArray[Any], places: NDArray[Any], pes: int) -> NDArray[np.u
     # A double holds sums up to 53 bits: those of the lower 32 bits of 2^20 numbers have 52, and those of the rest fewer.
     sums = np.zeros(pes, np.uint64)
     for first in range(0, len(numbers), PART):
-        part, stands = numbers[first:first + PART].astype(np.uint64), places[first:first + PART]
+        part, stands = numbers[first:first + PART].astype(np.uint64), places[first:first + PART].astype(np.intp)
         for shift in (0, 32) if int(part.max()) >> 32 else (0,):
             halves = part >> np.uint64(shift) & np.uint64(2**32 - 1)
             sums += np.bincount(stands, weights=halves, minlength=pes).astype(np.uint64) << np.uint64(shift)

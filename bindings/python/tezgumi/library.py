@@ -10,7 +10,7 @@ from numpy.typing import NDArray
 
 from .errors import LibraryError
 
-ABI = 2
+ABI = 3
 """The number of the interface that these calls are written for."""
 
 _WORD, _LONG, _COUNT, _POINTER, _STATUS = ctypes.c_uint32, ctypes.c_uint64, ctypes.c_size_t, ctypes.c_void_p, ctypes.c_int32
@@ -55,8 +55,8 @@ def library() -> ctypes.CDLL:
     found.tezgumi_decide.argtypes = _PLAN + _LIST * 2 + [_POINTER] + _LIST * 3
     found.tezgumi_check.argtypes = _RUN + _LIST + [_LONG, _LONG] + _LIST * 5
     found.tezgumi_refine.argtypes = (
-        _RUN + [_WORD] + _LIST + [_POINTER] * 4 + _LIST * 2 + [_POINTER] + _LIST * 9 + [_POINTER])
-    found.tezgumi_check_refined.argtypes = _RUN + [_WORD] + _LIST + [_LONG, _LONG] + _LIST * 11 + [_POINTER] * 2
+        _RUN + [_WORD, _WORD] + _LIST + [_POINTER] * 4 + _LIST * 2 + [_POINTER] + _LIST * 9 + [_POINTER])
+    found.tezgumi_check_refined.argtypes = _RUN + [_WORD, _WORD] + _LIST + [_LONG] * 3 + _LIST * 11 + [_POINTER] * 2
     found.tezgumi_scale.argtypes = _LIST * 2 + [_POINTER]
     return found
 

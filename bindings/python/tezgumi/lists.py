@@ -20,17 +20,23 @@ def frozen(
     """The numbers as an array of this type that cannot be written to, each from the least of the type to `most`.
 
     Nothing is rounded or wrapped. The first number that does not fit is handed to `refuse` with its index, which answers
-    the exception. Without `copy` an array or a buffer that has the type is not copied, and its owner can still write to it.
+    the exception. Without `copy` an array or a buffer that has the type, or the signed or unsigned one of the same size, is
+    not copied, and its owner can still write to it.
     """
     limits = np.iinfo(kind)
     most = int(limits.max) if most is None else most
-    refuse = refuse or _refuser(name, limits.min, most)
+    return _kept(whole(values, name, int(limits.min), most, refuse), kind, copy)
+
+
+def whole(values: ArrayLike, name: str, least: int, most: int, refuse: _Refuser | None = None) -> NDArray[Any]:
+    """The numbers as an array of whole numbers of some type, each from least to most. An array that is one is not copied."""
+    refuse = refuse or _refuser(name, least, most)
     array = _array(values, name)
     if array.size and array.dtype.kind not in "iu":
-        array = _one_by_one(values, limits.min, most, refuse)
+        array = _one_by_one(values, array, least, most, refuse)
     if array.size:
-        _refuse_outside(array, limits.min, most, refuse)
-    return _kept(array, kind, copy)
+        _refuse_outside(array, least, most, refuse)
+    return array
 
 
 def whole_number(value: Any, least: int, most: int, name: str) -> int:
@@ -42,6 +48,13 @@ def whole_number(value: Any, least: int, most: int, name: str) -> int:
     if isinstance(value, (bool, np.bool_)) or not least <= number <= most:
         raise InputError(f"{name} is {value!r}; it has to be {least} to {most}")
     return number
+
+
+def truth(value: Any, name: str) -> bool:
+    """The value as a bool, which it has to be."""
+    if not isinstance(value, (bool, np.bool_)):
+        raise InputError(f"{name} is {value!r}; it has to be True or False")
+    return bool(value)
 
 
 def total(numbers: NDArray[Any]) -> int:
@@ -80,15 +93,29 @@ def _refuser(name: str, least: int, most: int) -> _Refuser:
         f"{name}[{index}] is {value!r}; it has to be a whole number from {least} to {most}")
 
 
-def _one_by_one(values: Any, least: int, most: int, refuse: _Refuser) -> NDArray[Any]:
+def _one_by_one(values: Any, array: NDArray[Any], least: int, most: int, refuse: _Refuser) -> NDArray[Any]:
     # numpy has no type of whole numbers for them: there is a float among them, a number past 64 bits, or another thing.
-    numbers = values.tolist() if isinstance(values, np.ndarray) else list(values)
+    numbers = array if _has_a_type(values) else values
+    if numbers is array and array.dtype.kind != "O":
+        # All are of one type, floats say, which nobody need go through to find the first.
+        raise refuse(0, array[:1].tolist()[0])
     for index, number in enumerate(numbers):
         if isinstance(number, np.integer):
             number = int(number)
         if isinstance(number, bool) or not isinstance(number, int) or not least <= number <= most:
             raise refuse(index, number)
     return np.array(numbers, dtype=np.uint64 if least == 0 else np.int64)
+
+
+def _has_a_type(values: Any) -> bool:
+    """Whether the numbers are those of an array or a buffer, and not each of a type of its own, as in a list."""
+    if hasattr(values, "__array__"):
+        return True
+    try:
+        memoryview(values).release()
+    except TypeError:
+        return False
+    return True
 
 
 def _refuse_outside(array: NDArray[Any], least: int, most: int, refuse: _Refuser) -> None:
@@ -104,9 +131,11 @@ def _refuse_outside(array: NDArray[Any], least: int, most: int, refuse: _Refuser
 
 
 def _kept(array: NDArray[Any], kind: Type[_Whole], copy: bool) -> NDArray[_Whole]:
-    fits = array.dtype == kind and array.flags.c_contiguous and array.flags.aligned
-    if fits and array.flags.owndata and not array.flags.writeable:
+    flat = array.dtype.isnative and array.flags.c_contiguous and array.flags.aligned
+    if array.dtype == kind and flat and array.flags.owndata and not array.flags.writeable:
         return array
-    kept = array.view() if fits and not copy else np.array(array, dtype=kind)
+    # A number that fits both the signed and the unsigned type of a size has the same bits in each.
+    fits = flat and array.dtype.kind in "iu" and array.dtype.itemsize == np.dtype(kind).itemsize
+    kept = array.view(kind) if fits and not copy else np.array(array, dtype=kind)
     kept.setflags(write=False)
     return kept

@@ -169,6 +169,7 @@ def _described_decision(run: Run, decision: Decision, is_new: bool) -> Dict[str,
     described: Dict[str, Any] = {
         "pes": decision.pes, "bottleneck": str(decision.bottleneck), "moved": str(decision.moved), "new": is_new,
         "least": str(getattr(decision, "least", decision.bottleneck)), "tolerance": getattr(decision, "tolerance", None),
+        "keep_order": getattr(decision, "keep_order", False),
     }
     if len(decision.places) == len(run):
         moving = run.places != decision.places

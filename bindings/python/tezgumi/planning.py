@@ -8,8 +8,9 @@ import numpy as np
 from numpy.typing import NDArray
 
 from .checking import Flaw, Verdict, numbers_of
+from .errors import InputError
 from .library import library, lists
-from .lists import whole_number
+from .lists import truth, whole_number
 from .refining import check_near, decide_within, plan_within
 from .runs import MOVE, PES, TOLERANCE, Decision, NearDecision, Plan, Run
 from .statuses import hold
@@ -17,29 +18,36 @@ from .statuses import hold
 _Array = TypeVar("_Array", bound="NDArray[Any]")
 
 
-def plan(run: Run, pes: int | None = None, tolerance: int | None = None) -> Plan:
+def plan(run: Run, pes: int | None = None, tolerance: int | None = None, keep_order: bool = False) -> Plan:
     """The plan for `pes` PEs, 1 to 4,096; for as many as the run has, if none are named.
 
     With a tolerance, 0 to 1000, the heaviest block may weigh so many thousandths more than the least one can, the limit
-    rounded down, and where the elements of each PE stand together the fewest bytes move for which that is so, in the order
-    in which the PEs stand. Never more bytes move than without one, and none where the present places keep to the limit. A
-    tolerance is for smaller runs: those that a dump holds.
+    rounded down. It is for runs that a dump holds. Where the elements of each PE are together, on PEs below `pes`, these stand
+    in an order, and behind them those without elements; otherwise it is the plan without a tolerance.
+
+    Of all cuts within the limit those are taken that would move the fewest bytes in this order, and their blocks are named
+    anew, so that the fewest bytes move: PEs may change places. Where that saves nothing, it is the plan without a tolerance. So
+    never more bytes move than by that; but other cuts within the limit, in another order, may move fewer. With keep_order the
+    PEs keep their order: no cuts within the limit move fewer bytes in it, though the plan without a tolerance may. Either way
+    nothing moves where the PEs stand in an order and their present blocks keep to the limit.
     """
     pes = _pes(run, pes)
-    if tolerance is not None:
-        return plan_within(run, pes, _tolerance(tolerance))
+    near = _near(tolerance, keep_order)
+    if near is not None:
+        return plan_within(run, pes, *near)
     places = np.empty(len(run), np.uint32)
     bottleneck, moved = ctypes.c_uint64(), ctypes.c_uint64()
     hold(library().tezgumi_plan(*_plan_words(run, pes, places, bottleneck, moved)))
     return Plan(pes, _done(places), bottleneck.value, moved.value)
 
 
-def decide(run: Run, pes: int | None = None, tolerance: int | None = None) -> Decision:
-    """The same with certificates, which `check` takes. With a tolerance it is a NearDecision, or the decision without one where
-    that moves no more bytes or the elements of some PE do not stand together."""
+def decide(run: Run, pes: int | None = None, tolerance: int | None = None, keep_order: bool = False) -> Decision:
+    """The same with certificates, which `check` takes. With a tolerance it is a NearDecision; or the decision without one, where
+    the elements of some PE are not together, and, unless the PEs are to keep their order, where that moves no more bytes."""
     pes = _pes(run, pes)
-    if tolerance is not None:
-        return decide_within(run, pes, _tolerance(tolerance))
+    near = _near(tolerance, keep_order)
+    if near is not None:
+        return decide_within(run, pes, *near)
     places = np.empty(len(run), np.uint32)
     cuts, stops, names = (np.empty(count, np.uint32) for count in (pes + 1, pes + 1, pes))
     block_prices, pe_prices = np.empty(pes, np.int64), np.empty(pes, np.int64)
@@ -57,8 +65,9 @@ def check(run: Run, decision: Decision) -> Verdict:
     """What the proved checker says of a decision on a run, whoever made it: a Verdict, true where all of it is right.
 
     Then no division into so many consecutive blocks has a lighter heaviest block, and no naming of these blocks moves
-    fewer bytes; of a NearDecision, no cuts within its tolerance move fewer in the order in which the PEs stand. That `moves`
-    lists the moves of the places is compared here, in Python.
+    fewer bytes. Of a NearDecision: no block is above its limit, no cuts within the limit move fewer bytes in the order in which
+    the PEs stand, and no naming of these blocks moves fewer, or with keep_order their names are that order. That `moves` lists
+    the moves of the places is compared here, in Python.
     """
     d = decision
     if isinstance(d, NearDecision):
@@ -87,8 +96,14 @@ def _pes(run: Run, pes: int | None) -> int:
     return run.procs if pes is None else whole_number(pes, 1, PES, "pes")
 
 
-def _tolerance(tolerance: int) -> int:
-    return whole_number(tolerance, 0, TOLERANCE, "tolerance")
+def _near(tolerance: int | None, keep_order: bool) -> Tuple[int, bool] | None:
+    """The tolerance, and whether the PEs keep their order; None where there is no tolerance."""
+    keeps = truth(keep_order, "keep_order")
+    if tolerance is not None:
+        return whole_number(tolerance, 0, TOLERANCE, "tolerance"), keeps
+    if keeps:
+        raise InputError("keep_order is for a decision within a tolerance, which may be 0")
+    return None
 
 
 def _plan_words(

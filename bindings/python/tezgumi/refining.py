@@ -2,12 +2,11 @@
 from __future__ import annotations
 
 import ctypes
-from typing import Any, List, Tuple
+from typing import List
 
 import numpy as np
-from numpy.typing import NDArray
 
-from .checking import Flaw, Verdict, running_sums
+from .checking import Flaw, Verdict
 from .library import library, lists
 from .runs import Decision, NearDecision, Plan, Run
 from .statuses import hold
@@ -31,7 +30,7 @@ class _Room:
         self.stops_count, self.steps_count = ctypes.c_size_t(), ctypes.c_size_t()
 
     def words(self) -> List[int]:
-        """What is passed behind the run, the number of PEs and the tolerance."""
+        """What is passed behind the run, the number of PEs, the tolerance and whether the PEs keep their order."""
         numbers = [ctypes.addressof(number) for number in (self.least, self.bottleneck, self.moved, self.near)]
         return [
             *lists(self.places), *numbers, *lists(self.cuts, self.stops), ctypes.addressof(self.stops_count),
@@ -39,17 +38,17 @@ class _Room:
             *lists(self.step_starts, self.step_places, self.step_rises), ctypes.addressof(self.steps_count)]
 
 
-def plan_within(run: Run, pes: int, tolerance: int) -> Plan:
+def plan_within(run: Run, pes: int, tolerance: int, keep_order: bool) -> Plan:
     """The places of a decision within a tolerance."""
-    room = _refined(run, pes, tolerance, 0)
+    room = _refined(run, pes, tolerance, keep_order, 0)
     return Plan(pes, room.places, room.bottleneck.value, room.moved.value)
 
 
-def decide_within(run: Run, pes: int, tolerance: int) -> Decision:
+def decide_within(run: Run, pes: int, tolerance: int, keep_order: bool) -> Decision:
     """The decision within a tolerance: a NearDecision, or that of the plan."""
-    room = _refined(run, pes, tolerance, STEPS * pes)
+    room = _refined(run, pes, tolerance, keep_order, STEPS * pes)
     if room.steps_count.value > room.step_places.size:
-        room = _refined(run, pes, tolerance, room.steps_count.value)
+        room = _refined(run, pes, tolerance, keep_order, room.steps_count.value)
     steps = room.steps_count.value
     told = (
         pes, room.places, room.bottleneck.value, room.moved.value, room.cuts, room.stops[:room.stops_count.value],
@@ -58,31 +57,26 @@ def decide_within(run: Run, pes: int, tolerance: int) -> Decision:
         return Decision(*told)
     return NearDecision(
         *told, tolerance, room.least.value, room.least_cuts, room.order, room.present, room.step_starts,
-        room.step_places[:steps], room.step_rises[:steps])
+        room.step_places[:steps], room.step_rises[:steps], keep_order)
 
 
 def check_near(run: Run, decision: NearDecision) -> Verdict:
-    """What the proved checker says of it. That its bottleneck is the load of its heaviest block is compared here."""
+    """What the proved checker says of it."""
     d = decision
     first, second = ctypes.c_uint32(), ctypes.c_uint32()
     status = library().tezgumi_check_refined(
-        *lists(run.loads, run.bytes, run.places), run.procs, d.pes, d.tolerance, *lists(d.places), d.least, d.moved,
-        *lists(d.cuts, d.stops, d.names, d.block_prices, d.pe_prices, d.least_cuts, d.order, d.present),
+        *lists(run.loads, run.bytes, run.places), run.procs, d.pes, d.tolerance, d.keep_order, *lists(d.places), d.least,
+        d.bottleneck, d.moved, *lists(d.cuts, d.stops, d.names, d.block_prices, d.pe_prices, d.least_cuts, d.order, d.present),
         *lists(d.step_starts, d.step_places, d.step_rises), ctypes.addressof(first), ctypes.addressof(second))
     if status > 0:
         flaw = next(flaw for flaw in Flaw if flaw == status)
         return Verdict(flaw, (first.value, second.value)[:flaw.meaning.count("{")])
     hold(status)
-    return Verdict() if _heaviest(run, d.cuts) == d.bottleneck else Verdict(Flaw.BOTTLENECK_WRONG)
+    return Verdict()
 
 
-def _refined(run: Run, pes: int, tolerance: int, steps: int) -> _Room:
+def _refined(run: Run, pes: int, tolerance: int, keep_order: bool, steps: int) -> _Room:
     room = _Room(len(run), pes, steps)
     hold(library().tezgumi_refine(
-        *lists(run.loads, run.bytes, run.places), run.procs, pes, tolerance, *room.words()))
+        *lists(run.loads, run.bytes, run.places), run.procs, pes, tolerance, keep_order, *room.words()))
     return room
-
-
-def _heaviest(run: Run, cuts: NDArray[np.uint32]) -> int:
-    sums = running_sums(run.loads)
-    return int((sums[cuts[1:]] - sums[cuts[:-1]]).max())

@@ -8,7 +8,7 @@ import numpy as np
 from numpy.typing import ArrayLike, NDArray
 
 from .errors import InputError, LoadError
-from .lists import frozen, same_fields, shown, total, whole_number
+from .lists import frozen, same_fields, shown, total, truth, whole, whole_number
 from .scales import are_floats, in_units, scaled, unit_of
 
 ELEMENTS = 4_294_967_295
@@ -58,8 +58,8 @@ class Run(_Record):
     """A chain of elements, in order, on `procs` PEs: the load, the packed size and the present PE of each.
 
     The lists may be numpy arrays or plain lists of whole numbers, or what else has them in a buffer, as array.array. They are
-    copied, and cannot be written to; with copy=False one that has the type already is taken as it is, and must not be written
-    to while the run is in use. `replace(run, procs=4)` of dataclasses makes another run. All loads together are TOTAL_LOAD at
+    copied, and cannot be written to; with copy=False one that has numbers of the same size, 64 bits for loads and 32 for the
+    others, is taken as it is, and must not be written to while the run is in use. `replace(run, procs=4)` of dataclasses makes another run. All loads together are TOTAL_LOAD at
     most, and all packed sizes TOTAL_BYTES.
 
     A float is refused, but as a load where it is asked for. With scale=True the loads are measured, in seconds say, and are
@@ -132,13 +132,14 @@ class Run(_Record):
         self.refuse_other_places(plan.places)
         return replace(self, procs=plan.pes, places=plan.places, step=self.step if step is None else step)
 
-    def moves_to(self, places: NDArray[Any]) -> NDArray[np.void]:
+    def moves_to(self, places: ArrayLike) -> NDArray[np.void]:
         """The elements whose present and planned place differ, in order of index, as an array of MOVE."""
-        self.refuse_other_places(places)
-        moving = self.places != places
+        planned = whole(places, "places", 0, _WORD)
+        self.refuse_other_places(planned)
+        moving = self.places != planned
         elements = np.flatnonzero(moving)
         rows = np.empty((elements.size, 3), np.uint32)
-        rows[:, 0], rows[:, 1], rows[:, 2] = elements, self.places[moving], np.asarray(places)[moving]
+        rows[:, 0], rows[:, 1], rows[:, 2] = elements, self.places[moving], planned[moving]
         return rows.view(MOVE).reshape(-1)
 
     def refuse_other_places(self, places: Sized) -> None:
@@ -170,7 +171,7 @@ class Plan(_Record):
 
     `places` has the PE of each element, from 0 to pes - 1. `bottleneck` is the load of the heaviest block, which is least
     for so many PEs, or within the tolerance that was asked for, and `moved` the bytes of all elements that move, which are
-    fewest for these blocks.
+    fewest for these blocks, or for these blocks in the order of the PEs where that is to be kept.
     """
 
     pes: int
@@ -236,9 +237,10 @@ class NearDecision(Decision):
 
     `tolerance` is in thousandths of `least`, the least load that the heaviest block can have, which `least_cuts` and the
     `stops` prove; `bottleneck` is the load of this decision's heaviest block. `order` has the PEs in the order in which they
-    stand, and `present` the present cuts. The heights prove that no cuts within the tolerance move fewer bytes in this order:
+    stand, and `present` the present cuts. The heights prove that no cuts within the tolerance cost fewer bytes in this order:
     those of block b are the steps step_starts[b] .. step_starts[b + 1] - 1, each of which has a place, from which on the
-    height is greater by the rise.
+    height is greater by the rise. The names are the cheapest for these cuts, which the prices prove, and need not be in this
+    order; so other cuts in another order may move fewer bytes. With `keep_order` the names are the order, and no price counts.
     """
 
     tolerance: int
@@ -249,13 +251,14 @@ class NearDecision(Decision):
     step_starts: NDArray[np.uintp]
     step_places: NDArray[np.uint32]
     step_rises: NDArray[np.uint64]
+    keep_order: bool = False
 
     if TYPE_CHECKING:
         def __init__(
                 self, pes: int, places: ArrayLike, bottleneck: int, moved: int, cuts: ArrayLike, stops: ArrayLike,
                 names: ArrayLike, block_prices: ArrayLike, pe_prices: ArrayLike, moves: Any, tolerance: int, least: int,
                 least_cuts: ArrayLike, order: ArrayLike, present: ArrayLike, step_starts: ArrayLike, step_places: ArrayLike,
-                step_rises: ArrayLike) -> None: ...
+                step_rises: ArrayLike, keep_order: bool = False) -> None: ...
 
     def __post_init__(self) -> None:
         super().__post_init__()
@@ -265,6 +268,10 @@ class NearDecision(Decision):
             self._keep(name, frozen(getattr(self, name), np.uint32, name))
         self._keep("step_starts", frozen(self.step_starts, np.uintp, "step_starts"))
         self._keep("step_rises", frozen(self.step_rises, np.uint64, "step_rises"))
+        self._keep("keep_order", truth(self.keep_order, "keep_order"))
+        counts = len(self.step_places), len(self.step_rises)
+        if counts[0] != counts[1]:
+            raise InputError("there are {} places and {} rises of steps; a step has one of each".format(*counts))
 
     @property
     def limit(self) -> int:
@@ -278,7 +285,8 @@ class NearDecision(Decision):
         return [list(zip(places[first:end], rises[first:end])) for first, end in zip(starts, starts[1:])]
 
     def __repr__(self) -> str:
-        return f"Near{super().__repr__()[:-1]}, tolerance={self.tolerance}, least={self.least})"
+        kept = ", keep_order=True" if self.keep_order else ""
+        return f"Near{super().__repr__()[:-1]}, tolerance={self.tolerance}, least={self.least}{kept})"
 
 
 def _moves(values: Any) -> NDArray[np.void]:

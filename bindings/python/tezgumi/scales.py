@@ -31,6 +31,7 @@ def scaled(loads: ArrayLike, most: int) -> Tuple[NDArray[np.uint64], float]:
         raise _first_wrong(values, status)
     if status != 0:
         raise TezgumiError(f"the library answered {status}")
+    counts.setflags(write=False)
     return counts, unit.value
 
 
@@ -41,11 +42,14 @@ def in_units(loads: ArrayLike, unit: float, most: int) -> NDArray[np.uint64]:
         if _is_wrong(values, status).any():
             raise _first_wrong(values, status)
     with np.errstate(over="ignore"):
-        counts: NDArray[np.float64] = np.rint(values / unit)
-    if counts.size and not counts.max() < most + 1:
-        index = int(np.argmax(~(counts < most + 1)))
+        rounded = np.divide(values, unit)
+    np.rint(rounded, out=rounded)
+    if rounded.size and not rounded.max() < most + 1:
+        index = int(np.argmax(~(rounded < most + 1)))
         raise LoadError(f"element {index} has too great a load: {values[index]!s} is more than {most} units of {unit!r}")
-    return np.asarray(counts, np.uint64)
+    counts = rounded.astype(np.uint64)
+    counts.setflags(write=False)
+    return counts
 
 
 def unit_of(value: Any) -> float:

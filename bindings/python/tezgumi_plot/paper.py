@@ -48,8 +48,8 @@ class Sheet(Figure):
         return axes
 
     def write(self, left, top, text, size=1.0, **how):
-        """Text whose upper left corner is here."""
-        how = {"color": INK, "va": "top", "ha": "left", **how}
+        """Text whose upper left corner is here. It is shown as it is, also where it has a $ in it."""
+        how = {"color": INK, "va": "top", "ha": "left", "parse_math": False, **how}
         return self.text(left / 12, 1 - top / self.twelfths, text, fontsize=self.text_size * size, **how)
 
     def draw(self, renderer):

@@ -8,7 +8,6 @@ from matplotlib.collections import LineCollection, PolyCollection
 from matplotlib.colors import to_rgb
 from matplotlib.figure import Figure
 from matplotlib.patches import Rectangle
-from matplotlib.ticker import FuncFormatter
 
 import tezgumi
 from tezgumi.traces import Timeline, read_trace, row_names, timeline_of
@@ -17,6 +16,8 @@ from .palette import COLORS, FAINT, INK, PATTERNS, QUIET, Palette
 from .paper import Sheet, count_axis, few_letters, number_axis, points_high, points_wide, text_width
 
 LEFT, WIDTH = 1.1, 10.6
+PLAIN = {"parse_math": False}
+"""How texts of a trace are shown: as they are, also where they have a $ in them."""
 NAMED = len(COLORS) * len(PATTERNS)
 """So many elements have a color and a pattern of their own; more are colored by number."""
 HEADS = 400
@@ -105,10 +106,11 @@ def _lay_out(axes, shown, unit):
     axes.set_ylim(len(shown.rows) - 0.4, -0.6)
     number_axis(axes.xaxis, shown.last)
     count_axis(axes.yaxis, len(shown.rows), points_high(axes) / (1.25 * size))
-    axes.yaxis.set_major_formatter(FuncFormatter(lambda row, _: shown.rows[int(row)]))
+    rows = axes.yaxis.get_majorticklocs()
+    axes.yaxis.set_ticks(rows, [shown.rows[int(row)] for row in rows], **PLAIN)
     axes.tick_params(axis="y", length=0)
     part = f", of the first {shown.events - shown.left_out:,} of {shown.events:,} events" if shown.left_out else ""
-    axes.set_xlabel(unit + part, fontsize=size, color=INK)
+    axes.set_xlabel(unit + part, fontsize=size, color=INK, **PLAIN)
 
 
 def _half(axes):
@@ -166,7 +168,7 @@ def _write_key(axes, x, y, key, palette, kind, size):
     ground = {"boxstyle": "square,pad=0.15", "facecolor": palette.color(kind), "edgecolor": "none"}
     axes.text(
         x, y, key, ha="center", va="center", fontsize=size, color=palette.ink(kind), clip_on=True,
-        bbox=ground if palette.pattern(kind) else None)
+        bbox=ground if palette.pattern(kind) else None, **PLAIN)
 
 
 def _draw_arrows(axes, arrows, width, name):
@@ -213,7 +215,7 @@ def _draw_decisions(axes, shown):
         text = _short(number if end > 0 else f"round {number}") if number else ""
         half = text_width(text + " ", size) / 2 * across
         if text and at - half > end:
-            axes.text(at, 1.03, text, transform=above, fontsize=size, color=INK, ha="center", va="bottom", clip_on=False)
+            axes.text(at, 1.03, text, transform=above, fontsize=size, color=INK, ha="center", va="bottom", clip_on=False, **PLAIN)
             end = at + half
 
 
@@ -245,11 +247,11 @@ def _write_legend(sheet, shown, top):
         axes.imshow(palette.colors[np.newaxis], extent=(2.2, 6.2, 0.22, 0.06), aspect="auto", interpolation="nearest")
         axes.set_xlim(0, WIDTH)
         axes.set_ylim(0.3, 0)
-        axes.text(2.1, 0.14, _short(shown.kinds[0]), fontsize=size, color=INK, va="center", ha="right")
-        axes.text(6.3, 0.14, _short(shown.kinds[-1]), fontsize=size, color=INK, va="center")
+        axes.text(2.1, 0.14, _short(shown.kinds[0]), fontsize=size, color=INK, va="center", ha="right", **PLAIN)
+        axes.text(6.3, 0.14, _short(shown.kinds[-1]), fontsize=size, color=INK, va="center", **PLAIN)
         return
     for kind, (key, (left, row)) in enumerate(zip(shown.kinds, _swatches(shown))):
         axes.add_patch(Rectangle(
             (left, 0.3 * row + 0.06), 0.24, 0.16, facecolor=palette.color(kind), edgecolor=palette.pattern_ink(kind),
             hatch=palette.pattern(kind) or None, linewidth=0))
-        axes.text(left + 0.3, 0.3 * row + 0.14, _short(key), fontsize=size, color=INK, va="center")
+        axes.text(left + 0.3, 0.3 * row + 0.14, _short(key), fontsize=size, color=INK, va="center", **PLAIN)

@@ -26,7 +26,7 @@ function chainOf(held, even) {
 }
 
 function dividesChain({ cuts, pes, names }, count) {
-  return cuts.length === pes + 1 && cuts[0] === 0 && cuts[pes] === count && !falls(cuts) && names.length === pes;
+  return cuts.length === pes + 1 && cuts[0] === 0 && cuts[pes] === count && rises(cuts) && names.length === pes;
 }
 
 // The element at a point of the line.

@@ -1,5 +1,11 @@
 // What the check of a decision says, step by step, and of all rounds one after another.
 
+// The step before all others.
+const FORM = [
+  { title: "Each element has a load, a size and a PE, and all numbers are whole", flaws: ["NoNumber", "NoRun", "PeCount"],
+    holds: (d) => `${some(d.planned.length, "element", "elements")}, ${some(d.pes, "PE", "PEs")}` },
+];
+
 // A step: what it is about, the flaws that are found in it, and what is told of a decision where it holds.
 const DIVISION = [
   { title: "The cuts divide the chain", flaws: ["CutCount", "CutStart", "CutOrder", "CutEnd"],
@@ -11,20 +17,24 @@ const DIVISION = [
     holds: (d) => (d.stops.length === 0 ? "the bottleneck is 0, which needs no fence" :
       `${told(d.stops.length)} stops; from each to the next the elements weigh ${told(d.bottleneck)} or more`) },
 ];
+const MOVES = [
+  { title: "The bytes are those that move", flaws: ["MovedWrong"], holds: (d) => some(d.moved, "byte", "bytes") },
+  { title: "The moves are those of the names", flaws: ["MovesWrong"],
+    holds: (d) => `${some(d.moves.length, "move", "moves")}, in order of element` },
+];
 const NAMING = [
   { title: "Each block has a PE of its own", flaws: ["NameCount", "NameRange", "NameTwice"],
     holds: (d) => `${some(d.names.length, "name", "names")}, each of another PE` },
   { title: "The prices: no naming moves fewer bytes", flaws: ["PriceCount", "PriceHigh", "PriceGap"],
     holds: (d) => `${some(d.pes * d.pes, "pair has", "pairs have")} prices within the bytes that move, and all together are ${
       some(d.moved, "byte", "bytes")}` },
-  { title: "The bytes are those that move", flaws: ["MovedWrong"], holds: (d) => some(d.moved, "byte", "bytes") },
-  { title: "The moves are those of the names", flaws: ["MovesWrong"],
-    holds: (d) => `${some(d.moves.length, "move", "moves")}, in order of element` },
+  ...MOVES,
 ];
 const lowered = (text) => text[0].toLowerCase() + text.slice(1);
 // Of a decision within a tolerance the division is the least one, from which the limit is measured.
 const leastDivision = (d) => ({ ...d, cuts: d.leastCuts, bottleneck: d.least });
 const NEAR = [
+  ...FORM,
   ...DIVISION.map((step) => ({ ...step, title: `Least division: ${lowered(step.title)}`, of: leastDivision })),
   { title: "The order has each PE once", flaws: ["OrderCount", "OrderRange", "OrderTwice"],
     holds: (d) => some(d.order.length, "PE", "PEs") },
@@ -33,11 +43,15 @@ const NEAR = [
   { title: "The heights: no cuts within the limit move fewer bytes, in this order",
     flaws: ["HeightCount", "HeightStart", "Steep", "HeightLow"],
     holds: (d) => `${some(d.stepPlaces.length, "step", "steps")}; no height rises by more than a cut costs` },
-  ...NAMING,
+  { title: "The order is that in which the PEs stand", flaws: ["OrderWrong"], holds: () => "the elements of each PE are together" },
   { title: "The bottleneck is that of the heaviest block", flaws: ["BottleneckWrong"], holds: (d) => told(d.bottleneck) },
 ];
+const KEPT = [
+  { title: "The PEs keep their order", flaws: ["NamesNotOrder"], holds: (d) => `${some(d.names.length, "name", "names")}, in the order` },
+  ...MOVES,
+];
 
-const stepsOf = (d) => (d.near ? NEAR : [...DIVISION, ...NAMING]);
+const stepsOf = (d) => [...(d.near ? NEAR : [...FORM, ...DIVISION]), ...(d.near && d.keepOrder ? KEPT : NAMING)];
 
 // The first flaw of a decision or null. It is looked for once, as that takes a while for very many elements or PEs.
 const flaws = new WeakMap();
@@ -49,6 +63,10 @@ function flawOf(run, d) {
 
 // What is wrong, in words: with the decision, the run, and the numbers of the flaw.
 const FLAWS = {
+  NoNumber: (d, run, list, at) => (at === undefined ? `${list} is no list of numbers` : `number ${at} of ${list} is no whole one that is taken`),
+  NoRun: (d, run) => `there are ${some(run.loads.length, "load", "loads")}, ${some(run.sizes.length, "size", "sizes")} and ${
+    some(run.places.length, "place", "places")}, and an element has one of each, of 2^47 bytes at most together`,
+  PeCount: (d) => `there are ${some(d.pes, "PE", "PEs")}, and there have to be 1 to ${told(4096)}`,
   CutCount: (d) => `there are ${told(d.cuts.length)} cuts, and ${neededOf(d)}`,
   CutStart: (d) => `the first cut is ${told(d.cuts[0])}, and not 0`,
   CutOrder: (d) => `a cut is greater than the next: ${pairThatFalls(d.cuts)}`,
@@ -82,6 +100,8 @@ const FLAWS = {
   HeightStart: () => "the height of the first block at the beginning of the chain is not 0",
   Steep: (d, run, b, x) => `from block ${b} to the next the height rises at place ${told(x)} by more than the cut costs there`,
   HeightLow: () => "the height of the last block is below what the cuts cost",
+  OrderWrong: () => "the order and the present cuts are not those of the elements today, or these stand in no order of PEs",
+  NamesNotOrder: () => "the PEs are to keep their order, and the names are another",
   BottleneckWrong: (d) => `it says that the heaviest block weighs ${told(d.bottleneck)}, and it does not`,
 };
 
@@ -171,6 +191,7 @@ function showCheck(held) {
   }
   const { flaw, rows } = checked(held);
   document.getElementById("heights-told").hidden = !held.decision.near;
+  document.getElementById("prices-told").hidden = held.decision.near && held.decision.keepOrder;
   offerWhere(flaw === null ? null : flawElements(flaw, held.decision, held.run));
   if (flaw === null) say("✓ The decision holds: every part of it is right.", "good");
   else say(`✗ The decision does not hold. ${flawLine(flaw)}: ${rows.find((one) => one[1] === flawLine(flaw))[2]}.`, "bad");
@@ -192,6 +213,7 @@ function offerWhere(elements) {
 // The prices of each block and of its PE: where nothing is wrong they add up to the bytes that the block moves there.
 function priceTable(held) {
   const d = held?.decision;
+  if (d?.near && d.keepOrder) return table(["block"], [], "The PEs keep their order, so there are no prices.");
   if (!d || d.names.length !== d.pes || d.blockPrices.length !== d.pes || d.pePrices.length !== d.pes) {
     return table(["block"], [], "There are no prices for each block and PE.");
   }

@@ -77,8 +77,8 @@ function decisionOf(told, run, held) {
 function nearOf(told, held) {
   const least = BigInt(told.least);
   return {
-    tolerance: told.tolerance, least, limit: least + (least * BigInt(told.tolerance)) / 1000n,
-    leastCuts: plain(held.least_cuts), order: plain(held.order), present: plain(held.present),
+    tolerance: told.tolerance, least, limit: limitOf({ least, tolerance: told.tolerance }),
+    keepOrder: told.keep_order, leastCuts: plain(held.least_cuts), order: plain(held.order), present: plain(held.present),
     stepStarts: plain(held.step_starts), stepPlaces: plain(held.step_places), stepRises: held.step_rises,
   };
 }

@@ -177,8 +177,11 @@ function believeNone() {
 }
 
 // The lines that check, as the page shows them.
-const CHECK = [firstFlaw, divisionFlaw, namingFlaw, exactPrices, bytesElsewhere, runningSums, falls];
-const HEIGHTS = [nearFlaw, orderFlaw, heightsFlaw, bottleneckFlaw, leastStarts, heightsOf, bytesBefore];
+const CHECK = [
+  firstFlaw, formFlaw, wrongNumber, isIndex, isAmount, isPrice, divisionFlaw, namingFlaw, namesFlaw, pricesFlaw, movesFlaw,
+  exactPrices, bytesElsewhere, runningSums, rises];
+const HEIGHTS = [
+  nearFlaw, nearFormFlaw, limitOf, orderFlaw, heightsFlaw, presentFlaw, bottleneckFlaw, keptFlaw, leastStarts, heightsOf, bytesBefore];
 const anyNear = () => page.rounds.some((one) => one.decision && one.decision.tolerance !== null);
 
 async function start() {
