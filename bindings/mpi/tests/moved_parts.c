@@ -199,6 +199,15 @@ static void refusals(void)
     expect_refused(tezgumi_mpi_move_part(MPI_COMM_WORLD, wrong ? NULL : &part, &layout, &callbacks, NULL, &report));
     expect_refused(tezgumi_mpi_move_part(MPI_COMM_WORLD, &part, wrong ? &fresh : &layout, &callbacks, NULL, &report));
     expect_refused(tezgumi_mpi_move_part(MPI_COMM_WORLD, &part, &layout, wrong ? NULL : &callbacks, NULL, &report));
+    if (ranks > 1) {
+        layout.sent[0] += (uint32_t)wrong; /* more than has come there */
+        EXPECT(move(NULL) == TEZGUMI_MPI_DISAGREE && report.failed_rank == 0);
+        layout.sent[0] -= (uint32_t)wrong;
+        layout.received[0] += (uint32_t)(rank == 1); /* more than has gone from there */
+        EXPECT(move(NULL) == TEZGUMI_MPI_DISAGREE && report.failed_rank == 1);
+        layout.received[0] -= (uint32_t)(rank == 1);
+        EXPECT(f.packs == 0 && f.unpacks == 0 && f.drops == 0);
+    }
     EXPECT(move_within(wrong ? 32 : 16) == (ranks > 1 ? TEZGUMI_MPI_DISAGREE : TEZGUMI_OK));
     EXPECT(move(NULL) == TEZGUMI_OK);
     if (ranks > 1) expect_moved();
@@ -255,14 +264,14 @@ static void many(void)
         mine[i - begin].bytes = sizeof *words;
     }
     if (ranks > 1 && rank == 0) mine[count - 1].index = 0;
-    EXPECT(tezgumi_mpi_rebalance(MPI_COMM_WORLD, mine, count, &callbacks, NULL, NULL, &report)
+    EXPECT(tezgumi_mpi_rebalance(MPI_COMM_WORLD, mine, count, &callbacks, NULL, NULL, NULL, &report)
         == (ranks > 1 ? TEZGUMI_MPI_SCATTERED : TEZGUMI_OK));
     EXPECT(report.failed_rank == (ranks > 1 ? 0 : -1));
     for (i = 0; i < count; i++) mine[i].index = begin + i - (rank == 0 && ranks > 1);
     if (ranks > 1)
-        EXPECT(tezgumi_mpi_rebalance(MPI_COMM_WORLD, mine, count, &callbacks, NULL, NULL, &report) == TEZGUMI_MPI_BAD_INDEX);
+        EXPECT(tezgumi_mpi_rebalance(MPI_COMM_WORLD, mine, count, &callbacks, NULL, NULL, NULL, &report) == TEZGUMI_MPI_BAD_INDEX);
     for (i = 0; i < count; i++) mine[i].index = begin + i;
-    EXPECT(tezgumi_mpi_rebalance(MPI_COMM_WORLD, mine, count, &callbacks, NULL, NULL, &report) == TEZGUMI_OK);
+    EXPECT(tezgumi_mpi_rebalance(MPI_COMM_WORLD, mine, count, &callbacks, NULL, NULL, NULL, &report) == TEZGUMI_OK);
     most = (total + (uint64_t)ranks - 1) / (uint64_t)ranks;
     EXPECT(report.max_load_after >= most && report.max_load_after < most + 500);
     EXPECT(report.gathered < MANY / 4 && (ranks == 1 || report.elements_moved > MANY / 8));

@@ -154,6 +154,34 @@ static void by_hand(void)
     EXPECT(rebalance_twelve(0.19, 0) == TEZGUMI_OK && report.elements_moved == 2 && report.max_load_after == 10);
 }
 
+/* Four elements on three ranks, as tezgumi_mpi.h has them: the ranges are named anew, so that the ranks change their order. */
+static void order_that_changes(void)
+{
+    static const uint64_t loads[] = {6, 2, 1, 2};
+    static const uint32_t sizes[] = {2, 37, 15, 6}, from[] = {0, 0, 1, 2}, to[] = {1, 0, 0, 2};
+    const tezgumi_mpi_options options = {0.3, 0, 0, 1, 0};
+    deal(&f, 4, 1, IN_ORDER);
+    memcpy(f.load, loads, sizeof loads);
+    memcpy(f.size, sizes, sizeof sizes);
+    memcpy(f.dealt, from, sizeof from);
+    deal_again(&f);
+    EXPECT(least_load() == 6 && 60 - most_kept((const uint32_t[]){0, 1, 2}, 7) == 37 && 60 - most_kept((const uint32_t[]){2, 0, 1}, 7) == 8);
+    EXPECT(rebalance(&f, &options, NULL, &report) == TEZGUMI_OK);
+    EXPECT(report.bytes_moved == 17 && report.max_load_before == 8 && report.max_load_after == 6);
+    expect_whole(&f);
+    expect_at(&f, to);
+}
+
+/* Not together with the order of the ranks. */
+static void with_order(void)
+{
+    const tezgumi_mpi_options both = {0.1, 0, 0, 1, 1}, refine = {0.1, 0, 0, 1, 0};
+    deal(&f, 40, 1, IN_ORDER);
+    EXPECT(rebalance(&f, &both, NULL, &report) == TEZGUMI_BAD_INPUT);
+    EXPECT(rebalance(&f, rank == ranks - 1 ? &both : &refine, NULL, &report) == TEZGUMI_BAD_INPUT && report.failed_rank == ranks - 1);
+    expect_at(&f, f.dealt);
+}
+
 static void bad_tolerance(void)
 {
     EXPECT(rebalance_twelve(1.001, 1) == TEZGUMI_BAD_INPUT);
@@ -189,6 +217,8 @@ int main(int argc, char **argv)
     run_test("ranges in reverse order within a tolerance", reversed);
     run_test("scattered elements within a tolerance", scattered);
     run_test("within a tolerance without the checker", without_check);
+    run_test("a tolerance to keep within and the order of the ranks", with_order);
+    if (ranks == 3) run_test("ranks that change their order", order_that_changes);
     if (ranks > 1) {
         run_test("within a tolerance, by hand", by_hand);
         run_test("too great a tolerance to keep within", bad_tolerance);
