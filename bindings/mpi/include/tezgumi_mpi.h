@@ -116,8 +116,9 @@ typedef struct {
      * tezgumi_refine of tezgumi.h decides. */
     int refine;
     /* 1: block b goes to rank b, whatever that moves, so that neighbours along the chain are neighbouring ranks. No table of
-     * ranks by ranks is made, so this is for more than TEZGUMI_MPI_NAMED_RANKS too. Together with refine, on any rank, the status is
-     * TEZGUMI_BAD_INPUT. */
+     * ranks by ranks is made, so this is for more than TEZGUMI_MPI_NAMED_RANKS too. Together with refine: where the ranks hold the chain in
+     * their own order, each one range and those without elements last, the ranges within the limit that move the fewest bytes so;
+     * otherwise the least ranges. */
     int keep_order;
 } tezgumi_mpi_options;
 
@@ -262,7 +263,7 @@ int tezgumi_mpi_gather(MPI_Comm comm, const tezgumi_mpi_element *mine, uint32_t 
  * new_places is left as it was.
  *
  * TEZGUMI_BAD_INPUT where the chain is null, of another number of ranks, has more elements than room or a place that is not a rank; or
- * the tolerance is negative or no number; or refine is 1, and the tolerance is above 1 or keep_order is 1 too. Then
+ * the tolerance is negative or no number; or refine is 1 and the tolerance is above 1. Then
  * TEZGUMI_NO_MEMORY; TEZGUMI_MPI_WRONG_PLAN; TEZGUMI_MPI_DISAGREE. */
 int tezgumi_mpi_decide(MPI_Comm comm, tezgumi_mpi_chain *chain, const tezgumi_mpi_options *options,
     tezgumi_mpi_report *report);

@@ -10,18 +10,33 @@ static uint32_t places[FIELD_MOST];  /* the rank of each element by the decision
 static uint32_t movers[FIELD_MOST];  /* the elements that leave their rank, in order of index */
 static uint32_t movers_count;
 
-/* A field that one rank holds, or all, and what is decided of it. */
-static void begin(int spread)
+/* Learns what is decided of the field. */
+static void learn_decision(void)
 {
-    tezgumi_mpi_part part;
+    const tezgumi_mpi_part part = part_of(&f);
     uint32_t i;
-    deal_parts(&f, 300, 5, EVEN, spread);
-    part = part_of(&f);
     EXPECT(tezgumi_mpi_decide_part(MPI_COMM_WORLD, &part, NULL, &layout, &report) == TEZGUMI_OK);
     places_by(&layout, places);
     for (i = movers_count = 0; i < f.n; i++)
         if (places[i] != f.dealt[i]) movers[movers_count++] = i;
     tezgumi_mpi_layout_free(&layout);
+}
+
+/* A field that one rank holds, or all. */
+static void begin(int spread)
+{
+    deal_parts(&f, 300, 5, EVEN, spread);
+    learn_decision();
+}
+
+/* A field of which the first rank holds nearly all, and the others the end. Those to the second come before its own. */
+static void begin_heavy_first(void)
+{
+    uint32_t i;
+    deal_parts(&f, 300, 5, EVEN, 0);
+    for (i = 0; i < f.n; i++) f.dealt[i] = i < 280 ? 0 : 1 + (i - 280) * ((uint32_t)ranks - 1) / 20;
+    deal_again(&f);
+    learn_decision();
 }
 
 /* Rebalances the elements that are held now, some 4 of them in an exchange. */
@@ -156,14 +171,20 @@ static void refusals(void)
     expect_gone_on();
 }
 
-/* A layout that is given back lets the elements be gathered, which are few. */
+/* A layout that is given back leaves elements that are decided on anew: scattered ones, which are few, are gathered. */
 static void decided_anew(void)
 {
-    begin(0);
-    go_until(movers[movers_count / 2], 0);
-    tezgumi_mpi_layout_free(&layout);
-    EXPECT(go() == TEZGUMI_OK && report.gathered == f.n && layout.ranks == 0);
-    expect_whole(&f);
+    uint32_t k, gathered = 0;
+    for (k = 1; k < 10; k++) {
+        begin_heavy_first();
+        go_until(movers[(movers_count - 1) * k / 9], 0);
+        tezgumi_mpi_layout_free(&layout);
+        EXPECT(go() == TEZGUMI_OK && report.failed_rank == -1);
+        EXPECT((layout.ranks == 0) == (report.gathered == f.n));
+        gathered += layout.ranks == 0;
+        expect_whole(&f);
+    }
+    EXPECT(gathered > 0);
 }
 
 enum { MANY = 200000, ROOM = 400000 };
