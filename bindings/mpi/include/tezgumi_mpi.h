@@ -20,7 +20,8 @@
  *
  *   1. tezgumi_mpi_gather: all ranks learn index, load and packed size of all elements, 16 bytes of each.
  *   2. tezgumi_mpi_decide: each rank plans by itself, and checks the plan by the separate checker. Nothing is broadcast: the
- *      same input has the same plan, as is proved of the planner. The ranks compare a fingerprint of what they decided.
+ *      same input has the same plan, and the same decision within a tolerance, as is proved of the planner (the laws one_plan and
+ *      one_refined_run of lb_lists). The ranks compare a fingerprint of what they decided.
  *   3. tezgumi_mpi_move: as above.
  *
  * Both ways have the same ranges, on the same ranks. tezgumi_mpi_rebalance takes the first one where it can.
@@ -97,28 +98,29 @@ typedef struct {
 
 /* Options, the same on all ranks. All 0 is the default, which a null pointer stands for. */
 typedef struct {
-    /* How much worse than best is good enough, from 0. Where each rank has one range already, and the greatest load is at
-     * most 1 + tolerance times what it would be, nothing moves. With 0, nothing moves where nothing would be gained. */
+    /* How much worse than best is good enough, from 0. Where each rank has one range already (and, with keep_order, they hold the chain
+     * in their own order), and the greatest load is at most 1 + tolerance times what it would be, nothing moves. With 0, nothing moves
+     * where nothing would be gained. */
     double tolerance;
     /* How many bytes a rank sends in one exchange at most, and how many it receives; 0 means 64 MiB, and above 1 GiB is
      * 1 GiB. What is more goes in several exchanges. Sizes are rounded up to 16; an element greater than room goes alone. */
     size_t room;
     /* 1: trust the planner, and leave the checker out. */
     int skip_check;
-    /* 1: move no more bytes than the tolerance asks for, which is then 1 at most and taken to the nearest thousandth. The limit is
-     * 1 + tolerance times the least possible greatest load. Where each rank has one range already, and none is above the limit, nothing
-     * moves. Where each rank has one range, those ranges within the limit are taken that move the fewest bytes while the ranks keep the
-     * order in which they hold the chain; then these ranges are handed to the ranks anew, so that the fewest bytes move for them.
-     * That may change the order of the ranks; and other ranges within the limit may move fewer still in another order. With the loads
-     * 6 2 1 2, of 2, 37, 15 and 6 bytes, on the ranks 0 0 1 2, and the tolerance 0.3, at least 37 bytes move in the order of the ranks,
-     * by the cuts 0 1 3 4; 17 do by what is decided, these ranges on 1, 0 and 2; and 8 would by the cuts 0 1 2 4 on 2, 0 and 1.
-     * Where no fewer bytes move so than by the least ranges, and where a rank's elements are scattered, the least ranges are taken.
-     * tezgumi_refine of tezgumi.h decides. */
+    /* 1: keep to the tolerance, which is then 1 at most and taken to the nearest thousandth, and move fewer bytes: tezgumi_refine of
+     * tezgumi.h decides. The limit is 1 + tolerance times the least possible greatest load.
+     *   - Where each rank has one range already, and none is above the limit, nothing moves.
+     *   - Else, where each rank has one range, those ranges within the limit are taken that move the fewest bytes while the ranks keep
+     *     the order in which they hold the chain. These are then handed to the ranks anew, so that the fewest bytes move for them.
+     *   - Where that moves no fewer bytes than the least ranges do, and where a rank's elements are scattered, it is these.
+     * So the ranks need not keep their order, and other ranges within the limit may move fewer bytes in another order. Loads of
+     * 6 2 1 2, of 2, 37, 15 and 6 bytes, on the ranks 0 0 1 2, with the tolerance 0.3: in this order 37 bytes are the fewest, by
+     * the cuts 0 1 3 4; these ranges go to the ranks 1, 0 and 2, and 17 move; by the cuts 0 1 2 4 on 2, 0 and 1 it would be 8. */
     int refine;
     /* 1: block b goes to rank b, whatever that moves, so that neighbours along the chain are neighbouring ranks. No table of
-     * ranks by ranks is made, so this is for more than TEZGUMI_MPI_NAMED_RANKS too. Together with refine: where the ranks hold the chain in
-     * their own order, each one range and those without elements last, the ranges within the limit that move the fewest bytes so;
-     * otherwise the least ranges. */
+     * ranks by ranks is made, so this is for more than TEZGUMI_MPI_NAMED_RANKS too. Together with refine the ranges within the limit
+     * are taken that move the fewest bytes so, where the ranks hold the chain in their own order, each one range and those without
+     * elements last; otherwise the least ranges. */
     int keep_order;
 } tezgumi_mpi_options;
 
@@ -263,8 +265,8 @@ int tezgumi_mpi_gather(MPI_Comm comm, const tezgumi_mpi_element *mine, uint32_t 
  * new_places is left as it was.
  *
  * TEZGUMI_BAD_INPUT where the chain is null, of another number of ranks, has more elements than room or a place that is not a rank; or
- * the tolerance is negative or no number; or refine is 1 and the tolerance is above 1. Then
- * TEZGUMI_NO_MEMORY; TEZGUMI_MPI_WRONG_PLAN; TEZGUMI_MPI_DISAGREE. */
+ * the tolerance is negative or no number; or it is above 1 and refine is 1. Then TEZGUMI_NO_MEMORY;
+ * TEZGUMI_MPI_WRONG_PLAN; TEZGUMI_MPI_DISAGREE, also where only max_load_after differs. */
 int tezgumi_mpi_decide(MPI_Comm comm, tezgumi_mpi_chain *chain, const tezgumi_mpi_options *options,
     tezgumi_mpi_report *report);
 
