@@ -231,10 +231,10 @@ typedef struct {
  * In this order: TEZGUMI_BAD_INPUT where there are two groups of ranks (an intercommunicator), and the layout is as it was;
  * TEZGUMI_MPI_LIBRARY; TEZGUMI_BAD_INPUT for too many ranks or a null pointer; TEZGUMI_NO_MEMORY; TEZGUMI_BAD_INPUT for too many
  * elements; TEZGUMI_MPI_BAD_INDEX where a part does not begin where the one before it ends, failed_at being its first element;
- * TEZGUMI_BAD_INPUT for an element of too many bytes, or too many of all; TEZGUMI_BAD_LOAD where all loads are too great, failed_at being an element of the greatest load;
- * TEZGUMI_BAD_INPUT for the tolerance, or refine; TEZGUMI_MPI_DISAGREE where the options differ; then TEZGUMI_NO_MEMORY,
- * which is also the answer to 2^31 runs or more to gather; TEZGUMI_MPI_WRONG_PLAN; TEZGUMI_MPI_DISAGREE. After any of these the
- * layout has no elements and no ranks. */
+ * TEZGUMI_BAD_INPUT for an element of too many bytes, or too many of all; TEZGUMI_BAD_LOAD where all loads are too great,
+ * failed_at being an element of the greatest load; TEZGUMI_BAD_INPUT for the tolerance, or refine; TEZGUMI_MPI_DISAGREE where the
+ * options differ; then TEZGUMI_NO_MEMORY, which is also the answer to 2^31 runs or more to gather; TEZGUMI_MPI_WRONG_PLAN;
+ * TEZGUMI_MPI_DISAGREE. After any of these the layout has no elements and no ranks. */
 int tezgumi_mpi_decide_part(MPI_Comm comm, const tezgumi_mpi_part *part, const tezgumi_mpi_options *options,
     tezgumi_mpi_layout *layout, tezgumi_mpi_report *report);
 
@@ -275,9 +275,10 @@ int tezgumi_mpi_decide(MPI_Comm comm, tezgumi_mpi_chain *chain, const tezgumi_mp
  * Each exchange is done as a whole or not at all: elements are dropped where they were when all ranks have unpacked what
  * arrived. places is kept up to date, so after a failure too it says where each element is.
  *
- * TEZGUMI_BAD_INPUT where a pointer is null, the chain is of another number of ranks, it has more elements than room, or an element has
- * a place, old or new, that is not a rank, or too many bytes; TEZGUMI_NO_MEMORY; TEZGUMI_MPI_DISAGREE where the chains or the room differ: nothing has moved. TEZGUMI_MPI_CALLBACK: the
- * exchanges before have moved their elements, and that of the failure is undone. */
+ * TEZGUMI_BAD_INPUT where a pointer is null, the chain is of another number of ranks, it has more elements than room, or an
+ * element has a place, old or new, that is not a rank, or too many bytes; TEZGUMI_NO_MEMORY; TEZGUMI_MPI_DISAGREE where the chains
+ * or the room differ: nothing has moved. TEZGUMI_MPI_CALLBACK: the exchanges before have moved their elements, and that of the
+ * failure is undone. */
 int tezgumi_mpi_move(MPI_Comm comm, tezgumi_mpi_chain *chain, const tezgumi_mpi_callbacks *callbacks,
     const tezgumi_mpi_options *options, tezgumi_mpi_report *report);
 

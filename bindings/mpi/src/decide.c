@@ -105,7 +105,8 @@ static int decide(const tezgumi_run *run, const tezgumi_mpi_options *options, te
     int status;
     if (options->refine) {
         status = tezgumi_refinement_room(d, run->n, ranks);
-        return status == TEZGUMI_OK ? tezgumi_refine_run(run, (uint32_t)(options->tolerance * 1000 + 0.5), options->keep_order != 0, d) : status;
+        if (status != TEZGUMI_OK) return status;
+        return tezgumi_refine_run(run, (uint32_t)(options->tolerance * 1000 + 0.5), options->keep_order != 0, d);
     }
     status = tezgumi_decision_room(of, run->n, ranks);
     if (status != TEZGUMI_OK) return status;

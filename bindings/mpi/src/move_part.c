@@ -68,8 +68,9 @@ static void find_pieces(mover *m)
     const uint64_t first = l->firsts[m->rank], last = first + l->counts[m->rank];
     uint32_t b, r, own = 0;
     for (b = 0; b < m->ranks; b++) {
+        const uint64_t begin = tezgumi_mpi_later(first, l->cuts[b]), end = tezgumi_mpi_earlier(last, l->cuts[b + 1]);
         if (l->names[b] == m->rank) own = b;
-        else add_piece(&m->out, l->names[b], tezgumi_mpi_later(first, l->cuts[b]), tezgumi_mpi_earlier(last, l->cuts[b + 1]), l->sent[l->names[b]]);
+        else add_piece(&m->out, l->names[b], begin, end, l->sent[l->names[b]]);
     }
     for (r = 0; r < m->ranks; r++) {
         if (r == m->rank) continue;
