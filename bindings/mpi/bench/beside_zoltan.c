@@ -64,7 +64,7 @@ static uint64_t turn_by_tezgumi(method *m, int turn)
     tezgumi_mpi_report report;
     const double begin = MPI_Wtime();
     const uint32_t count = cells_here(&m->cells, mine);
-    if (tezgumi_mpi_rebalance(MPI_COMM_WORLD, mine, count, &callbacks, NULL, NULL, &report) != TEZGUMI_OK)
+    if (tezgumi_mpi_rebalance(MPI_COMM_WORLD, mine, count, &callbacks, NULL, NULL, NULL, &report) != TEZGUMI_OK)
         MPI_Abort(MPI_COMM_WORLD, 1);
     m->seconds[turn] = slowest(MPI_Wtime() - begin);
     m->parts[0][turn] = slowest(report.gather_seconds);

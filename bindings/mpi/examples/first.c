@@ -16,7 +16,7 @@ int main(int argc, char **argv)
     MPI_Init(&argc, &argv);
     MPI_Comm_rank(MPI_COMM_WORLD, &rank);
     for (i = 0; i < 100; i++) mine[i] = (tezgumi_mpi_element){i, i, sizeof cell[i]}; /* load, index, bytes */
-    status = tezgumi_mpi_rebalance(MPI_COMM_WORLD, mine, rank == 0 ? 100 : 0, &callbacks, NULL, &chain, NULL);
+    status = tezgumi_mpi_rebalance(MPI_COMM_WORLD, mine, rank == 0 ? 100 : 0, &callbacks, NULL, &chain, NULL, NULL);
     tezgumi_mpi_range(&chain, rank, &first, &end);
     printf("rank %d: %s: cells %u to %u\n", rank, tezgumi_mpi_status_name(status), first, end);
     tezgumi_mpi_chain_free(&chain);

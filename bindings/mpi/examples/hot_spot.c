@@ -129,7 +129,7 @@ static void balance(application *a)
     const uint32_t count = cells_here(&a->chain_of_cells, a->mine);
     int status;
     options.tolerance = a->set.tolerance;
-    status = tezgumi_mpi_rebalance(MPI_COMM_WORLD, a->mine, count, &callbacks, &options, &a->chain, &report);
+    status = tezgumi_mpi_rebalance(MPI_COMM_WORLD, a->mine, count, &callbacks, &options, &a->chain, NULL, &report);
     if (status != TEZGUMI_OK) {
         fprintf(stderr, "rank %d: %s\n", a->rank, tezgumi_mpi_status_name(status));
         MPI_Abort(MPI_COMM_WORLD, 1);

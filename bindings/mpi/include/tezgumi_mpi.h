@@ -7,7 +7,7 @@
  *
  *   - the elements of each rank are one range of consecutive indices, or none;
  *   - the greatest load of a rank is the least that any such ranges have, or within a tolerance of it where that is asked;
- *   - of all ways to hand these ranges to the ranks, the one taken moves the fewest bytes.
+ *   - of all ways to hand these ranges to the ranks, the one taken moves the fewest bytes, if their order is not asked for.
  *
  * Where each rank holds a part of consecutive elements, whichever rank holds which, no rank sees all elements, and there may
  * be 2^32 - 1 of them. Two steps do it, which can also be called one by one, with plain lists:
@@ -20,7 +20,8 @@
  *
  *   1. tezgumi_mpi_gather: all ranks learn index, load and packed size of all elements, 16 bytes of each.
  *   2. tezgumi_mpi_decide: each rank plans by itself, and checks the plan by the separate checker. Nothing is broadcast: the
- *      same input has the same plan, as is proved of the planner. The ranks compare a fingerprint of what they decided.
+ *      same input has the same plan, and the same decision within a tolerance, as is proved of the planner (the laws one_plan and
+ *      one_refined_run of lb_lists). The ranks compare a fingerprint of what they decided.
  *   3. tezgumi_mpi_move: as above.
  *
  * Both ways have the same ranges, on the same ranks. tezgumi_mpi_rebalance takes the first one where it can.
@@ -97,21 +98,29 @@ typedef struct {
 
 /* Options, the same on all ranks. All 0 is the default, which a null pointer stands for. */
 typedef struct {
-    /* How much worse than best is good enough, from 0. Where each rank has one range already, and the greatest load is at
-     * most 1 + tolerance times what it would be, nothing moves. With 0, nothing moves where nothing would be gained. */
+    /* How much worse than best is good enough, from 0. Where each rank has one range already (and, with keep_order, they hold the chain
+     * in their own order), and the greatest load is at most 1 + tolerance times what it would be, nothing moves. With 0, nothing moves
+     * where nothing would be gained. */
     double tolerance;
     /* How many bytes a rank sends in one exchange at most, and how many it receives; 0 means 64 MiB, and above 1 GiB is
      * 1 GiB. What is more goes in several exchanges. Sizes are rounded up to 16; an element greater than room goes alone. */
     size_t room;
     /* 1: trust the planner, and leave the checker out. */
     int skip_check;
-    /* 1: move no more bytes than the tolerance asks for, which is then 1 at most and taken to the nearest thousandth. Where each
-     * rank has one range already, the ranks keep the order in which they hold the chain, and of all ranges whose greatest load
-     * is at most 1 + tolerance times the least possible one those are taken that move the fewest bytes; where that moves no
-     * fewer than the least ranges do, and where a rank's elements are scattered, these. tezgumi_refine of tezgumi.h decides. */
+    /* 1: keep to the tolerance, which is then 1 at most and taken to the nearest thousandth, and move fewer bytes: tezgumi_refine of
+     * tezgumi.h decides. The limit is 1 + tolerance times the least possible greatest load.
+     *   - Where each rank has one range already, and none is above the limit, nothing moves.
+     *   - Else, where each rank has one range, those ranges within the limit are taken that move the fewest bytes while the ranks keep
+     *     the order in which they hold the chain. These are then handed to the ranks anew, so that the fewest bytes move for them.
+     *   - Where that moves no fewer bytes than the least ranges do, and where a rank's elements are scattered, it is these.
+     * So the ranks need not keep their order, and other ranges within the limit may move fewer bytes in another order. Loads of
+     * 6 2 1 2, of 2, 37, 15 and 6 bytes, on the ranks 0 0 1 2, with the tolerance 0.3: in this order 37 bytes are the fewest, by
+     * the cuts 0 1 3 4; these ranges go to the ranks 1, 0 and 2, and 17 move; by the cuts 0 1 2 4 on 2, 0 and 1 it would be 8. */
     int refine;
     /* 1: block b goes to rank b, whatever that moves, so that neighbours along the chain are neighbouring ranks. No table of
-     * ranks by ranks is made, so this is for more than TEZGUMI_MPI_NAMED_RANKS too. Not together with refine. */
+     * ranks by ranks is made, so this is for more than TEZGUMI_MPI_NAMED_RANKS too. Together with refine the ranges within the limit
+     * are taken that move the fewest bytes so, where the ranks hold the chain in their own order, each one range and those without
+     * elements last; otherwise the least ranges. */
     int keep_order;
 } tezgumi_mpi_options;
 
@@ -158,34 +167,8 @@ void tezgumi_mpi_chain_free(tezgumi_mpi_chain *chain);
  * and 0 if it holds elements that are not consecutive: then the range is from the least to the greatest. Not collective. */
 int tezgumi_mpi_range(const tezgumi_mpi_chain *chain, int rank, uint32_t *first, uint32_t *end);
 
-/* Decide and move in one call.
- *
- * mine are the count elements that this rank holds, in any order. options and report may be null. chain may be null too;
- * otherwise it says afterwards where each element is: tezgumi_mpi_range then gives the range of each rank.
- *
- * Where chain is null, refine is 0 and each rank's elements are consecutive, no rank sees all elements. Otherwise they are
- * gathered. Where that is because of scattered elements alone, and there are more than TEZGUMI_MPI_GATHERED_ELEMENTS or
- * TEZGUMI_MPI_GATHERED_RANKS, the status is TEZGUMI_MPI_SCATTERED, and failed_rank one that holds such elements.
- *
- * TEZGUMI_OK: all elements are where they belong. Otherwise the refusals of the steps, in their order. Nothing has
- * moved, but where the status is TEZGUMI_MPI_CALLBACK and there were several exchanges. (Elements are then scattered. Where they
- * are too many to be gathered, call the steps for parts by themselves: tezgumi_mpi_move_part goes on where it ended.) */
-int tezgumi_mpi_rebalance(MPI_Comm comm, const tezgumi_mpi_element *mine, uint32_t count,
-    const tezgumi_mpi_callbacks *callbacks, const tezgumi_mpi_options *options, tezgumi_mpi_chain *chain,
-    tezgumi_mpi_report *report);
-
-/* ---- Parts of consecutive elements ---- */
-
-/* The part of the chain that this rank holds: the elements first .. first + count - 1. */
-typedef struct {
-    const uint64_t *loads; /* count: the load of each; null is allowed where count is 0, and for tezgumi_mpi_move_part */
-    const uint32_t *bytes; /* count: the packed size of each; null is allowed where count is 0 */
-    uint32_t first;        /* of no meaning where count is 0 */
-    uint32_t count;
-} tezgumi_mpi_part;
-
-/* How the chain lies on the ranks, and how it is to lie: the same on all ranks, but for the last three. It begins as all 0, can be
- * used again and again, and ends with tezgumi_mpi_layout_free. It takes 24 bytes for each rank. */
+/* How a chain in parts lies on the ranks, and how it is to lie: the same on all ranks, but for sent, received and room. It begins as
+ * all 0, can be used again and again, and ends with tezgumi_mpi_layout_free. It takes 24 bytes for each rank. */
 typedef struct {
     uint32_t n;         /* elements of all ranks */
     uint32_t ranks;     /* ranks of the communicator */
@@ -202,6 +185,39 @@ typedef struct {
 /* Gives the room back and makes all of *layout null and 0. layout may be null. Not collective. */
 void tezgumi_mpi_layout_free(tezgumi_mpi_layout *layout);
 
+/* Decide and move in one call.
+ *
+ * mine are the count elements that this rank holds, in any order. All that follows callbacks may be null. chain says afterwards
+ * where each element is: tezgumi_mpi_range then gives the range of each rank. layout, which is given on all ranks or on none, has
+ * these ranges where no rank saw all elements (firsts and counts), and otherwise no ranks.
+ *
+ * Where chain is null, refine is 0 and each rank's elements are consecutive, no rank sees all elements. Otherwise they are
+ * gathered. Where that is because of scattered elements alone, and there are more than TEZGUMI_MPI_GATHERED_ELEMENTS or
+ * TEZGUMI_MPI_GATHERED_RANKS, the status is TEZGUMI_MPI_SCATTERED, and failed_rank one that holds such elements.
+ *
+ * TEZGUMI_OK: all elements are where they belong. Otherwise the refusals of the steps, in their order. Nothing has moved, but where the
+ * status is TEZGUMI_MPI_CALLBACK: the exchanges before that of the failure have moved their elements.
+ *
+ * After TEZGUMI_MPI_CALLBACK call again, with the elements that each rank holds now and the same layout. Where its move is not 0,
+ * that move goes on where it ended, as it was decided: chain has to be null, no option but room is looked at, and of the report only
+ * what has moved in this call is of use. TEZGUMI_BAD_INPUT where a rank's layout has not this move, or its cuts or names have been
+ * changed; TEZGUMI_MPI_BAD_INDEX where a rank's elements are not those that it holds by the layout, failed_at being one of them;
+ * then the refusals of tezgumi_mpi_move_part. To decide anew instead, give the layout back first. Elements that are scattered and
+ * too many to be gathered go on by a layout alone. */
+int tezgumi_mpi_rebalance(MPI_Comm comm, const tezgumi_mpi_element *mine, uint32_t count,
+    const tezgumi_mpi_callbacks *callbacks, const tezgumi_mpi_options *options, tezgumi_mpi_chain *chain,
+    tezgumi_mpi_layout *layout, tezgumi_mpi_report *report);
+
+/* ---- Parts of consecutive elements ---- */
+
+/* The part of the chain that this rank holds: the elements first .. first + count - 1. */
+typedef struct {
+    const uint64_t *loads; /* count: the load of each; null is allowed where count is 0, and for tezgumi_mpi_move_part */
+    const uint32_t *bytes; /* count: the packed size of each; null is allowed where count is 0 */
+    uint32_t first;        /* of no meaning where count is 0 */
+    uint32_t count;
+} tezgumi_mpi_part;
+
 /* Step 1 for parts. Fills the layout: firsts and counts as the parts are now, cuts and names by the decision, which is the same
  * as that of tezgumi_mpi_decide; they are the present ranges where the tolerance lets all be. With keep_order that is where
  * the ranks hold the chain in their own order too. It begins the report anew.
@@ -214,11 +230,11 @@ void tezgumi_mpi_layout_free(tezgumi_mpi_layout *layout);
  *
  * In this order: TEZGUMI_BAD_INPUT where there are two groups of ranks (an intercommunicator), and the layout is as it was;
  * TEZGUMI_MPI_LIBRARY; TEZGUMI_BAD_INPUT for too many ranks or a null pointer; TEZGUMI_NO_MEMORY; TEZGUMI_BAD_INPUT for too many
- * elements; TEZGUMI_MPI_BAD_INDEX where a part does not begin where the one before it ends, failed_at being its first element; TEZGUMI_BAD_INPUT for an element of too many bytes, or
- * too many of all; TEZGUMI_BAD_LOAD where all loads are too great, failed_at being an element of the greatest load;
- * TEZGUMI_BAD_INPUT for the tolerance, or refine; TEZGUMI_MPI_DISAGREE where the options differ; then TEZGUMI_NO_MEMORY,
- * which is also the answer to 2^31 runs or more to gather; TEZGUMI_MPI_WRONG_PLAN; TEZGUMI_MPI_DISAGREE. After any of these the
- * layout has no elements and no ranks. */
+ * elements; TEZGUMI_MPI_BAD_INDEX where a part does not begin where the one before it ends, failed_at being its first element;
+ * TEZGUMI_BAD_INPUT for an element of too many bytes, or too many of all; TEZGUMI_BAD_LOAD where all loads are too great,
+ * failed_at being an element of the greatest load; TEZGUMI_BAD_INPUT for the tolerance, or refine; TEZGUMI_MPI_DISAGREE where the
+ * options differ; then TEZGUMI_NO_MEMORY, which is also the answer to 2^31 runs or more to gather; TEZGUMI_MPI_WRONG_PLAN;
+ * TEZGUMI_MPI_DISAGREE. After any of these the layout has no elements and no ranks. */
 int tezgumi_mpi_decide_part(MPI_Comm comm, const tezgumi_mpi_part *part, const tezgumi_mpi_options *options,
     tezgumi_mpi_layout *layout, tezgumi_mpi_report *report);
 
@@ -231,7 +247,7 @@ int tezgumi_mpi_decide_part(MPI_Comm comm, const tezgumi_mpi_part *part, const t
  *
  * TEZGUMI_BAD_INPUT where there are two groups of ranks, a pointer is null, the layout is of another number of ranks, the part is
  * not what it says, the cuts do not divide the elements, the names are not all ranks, or a move by other cuts or names has
- * not ended; TEZGUMI_NO_MEMORY; TEZGUMI_MPI_DISAGREE where the layouts or the room differ: nothing has moved. */
+ * not ended; TEZGUMI_NO_MEMORY; TEZGUMI_MPI_DISAGREE where the layouts or the room differ, or sent and received: nothing has moved. */
 int tezgumi_mpi_move_part(MPI_Comm comm, const tezgumi_mpi_part *part, tezgumi_mpi_layout *layout,
     const tezgumi_mpi_callbacks *callbacks, const tezgumi_mpi_options *options, tezgumi_mpi_report *report);
 
@@ -248,9 +264,9 @@ int tezgumi_mpi_gather(MPI_Comm comm, const tezgumi_mpi_element *mine, uint32_t 
 /* Step 2. Writes new_places: the plan, or the present places if the tolerance lets all be. Until it answers TEZGUMI_OK,
  * new_places is left as it was.
  *
- * TEZGUMI_BAD_INPUT where the chain is null or of another number of ranks, or the tolerance is negative or no number, or
- * above 1 for refine;
- * TEZGUMI_NO_MEMORY; TEZGUMI_MPI_WRONG_PLAN; TEZGUMI_MPI_DISAGREE. */
+ * TEZGUMI_BAD_INPUT where the chain is null, of another number of ranks, has more elements than room or a place that is not a rank; or
+ * the tolerance is negative or no number; or it is above 1 and refine is 1. Then TEZGUMI_NO_MEMORY;
+ * TEZGUMI_MPI_WRONG_PLAN; TEZGUMI_MPI_DISAGREE, also where only max_load_after differs. */
 int tezgumi_mpi_decide(MPI_Comm comm, tezgumi_mpi_chain *chain, const tezgumi_mpi_options *options,
     tezgumi_mpi_report *report);
 
@@ -259,9 +275,10 @@ int tezgumi_mpi_decide(MPI_Comm comm, tezgumi_mpi_chain *chain, const tezgumi_mp
  * Each exchange is done as a whole or not at all: elements are dropped where they were when all ranks have unpacked what
  * arrived. places is kept up to date, so after a failure too it says where each element is.
  *
- * TEZGUMI_BAD_INPUT where a pointer is null, the chain is of another number of ranks, or a new place is not a rank;
- * TEZGUMI_NO_MEMORY; TEZGUMI_MPI_DISAGREE where the chains or the room differ: nothing has moved. TEZGUMI_MPI_CALLBACK: the
- * exchanges before have moved their elements, and that of the failure is undone. */
+ * TEZGUMI_BAD_INPUT where a pointer is null, the chain is of another number of ranks, it has more elements than room, or an
+ * element has a place, old or new, that is not a rank, or too many bytes; TEZGUMI_NO_MEMORY; TEZGUMI_MPI_DISAGREE where the chains
+ * or the room differ: nothing has moved. TEZGUMI_MPI_CALLBACK: the exchanges before have moved their elements, and that of the
+ * failure is undone. */
 int tezgumi_mpi_move(MPI_Comm comm, tezgumi_mpi_chain *chain, const tezgumi_mpi_callbacks *callbacks,
     const tezgumi_mpi_options *options, tezgumi_mpi_report *report);
 

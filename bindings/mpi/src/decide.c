@@ -78,6 +78,14 @@ static void choose(const tezgumi_mpi_chain *chain, const tezgumi_refinement *d, 
     count_moves(chain, v);
 }
 
+/* A fingerprint of what all ranks have to have decided, and report. */
+static uint64_t print_of(const verdict *v, uint32_t n)
+{
+    const uint32_t load[2] = {(uint32_t)v->max_load_after, (uint32_t)(v->max_load_after >> 32)};
+    const uint64_t print = tezgumi_mpi_fingerprint(TEZGUMI_MPI_FINGERPRINT, v->places, n);
+    return tezgumi_mpi_fingerprint(print, load, 2);
+}
+
 /* All ranks have decided the same: writes it down. */
 static void accept(const verdict *v, tezgumi_mpi_chain *chain, tezgumi_mpi_report *report)
 {
@@ -97,7 +105,8 @@ static int decide(const tezgumi_run *run, const tezgumi_mpi_options *options, te
     int status;
     if (options->refine) {
         status = tezgumi_refinement_room(d, run->n, ranks);
-        return status == TEZGUMI_OK ? tezgumi_refine_run(run, (uint32_t)(options->tolerance * 1000 + 0.5), d) : status;
+        if (status != TEZGUMI_OK) return status;
+        return tezgumi_refine_run(run, (uint32_t)(options->tolerance * 1000 + 0.5), options->keep_order != 0, d);
     }
     status = tezgumi_decision_room(of, run->n, ranks);
     if (status != TEZGUMI_OK) return status;
@@ -105,12 +114,29 @@ static int decide(const tezgumi_run *run, const tezgumi_mpi_options *options, te
     return tezgumi_plan_run(run, ranks, of->new_places, &of->bottleneck, &of->moved);
 }
 
-/* Lets block b go to rank b. */
-static void keep_order(tezgumi_decision *d)
+/* Whether cuts near the present ones are for the ranks in their own order. */
+static int is_own_order(const tezgumi_refinement *d)
 {
+    uint32_t b;
+    if (!d->near_present) return 0;
+    for (b = 0; b < d->decision.pes; b++)
+        if (d->order[b] != b) return 0;
+    return 1;
+}
+
+/* Lets block b go to rank b. Cuts near the present ones are for the order in which the ranks hold the chain: where that is not their own,
+ * the least division is taken. */
+static void keep_order(const tezgumi_mpi_options *options, tezgumi_refinement *d)
+{
+    tezgumi_decision *of = &d->decision;
+    const uint32_t *cuts = of->cuts;
     uint32_t b, i;
-    for (b = 0; b < d->pes; b++)
-        for (i = d->cuts[b]; i < d->cuts[b + 1]; i++) d->new_places[i] = b;
+    if (options->refine && !is_own_order(d)) {
+        cuts = d->least_cuts;
+        of->bottleneck = d->least;
+    }
+    for (b = 0; b < of->pes; b++)
+        for (i = cuts[b]; i < cuts[b + 1]; i++) of->new_places[i] = b;
 }
 
 /* Plans and checks; the outcome's second part is the flaw that was found. */
@@ -132,8 +158,7 @@ static tezgumi_mpi_outcome plan(const tezgumi_mpi_chain *chain, const tezgumi_mp
 /* Whether all that decide is given is in order. */
 static int usable(MPI_Comm comm, const tezgumi_mpi_chain *chain, const tezgumi_mpi_options *options)
 {
-    if (options->refine && (options->keep_order || options->tolerance > 1)) return 0;
-    return tezgumi_mpi_fits(comm, chain) && options->tolerance >= 0;
+    return tezgumi_mpi_fits(comm, chain) && options->tolerance >= 0 && !(options->refine && options->tolerance > 1);
 }
 
 int tezgumi_mpi_decide(MPI_Comm comm, tezgumi_mpi_chain *chain, const tezgumi_mpi_options *options,
@@ -153,9 +178,9 @@ int tezgumi_mpi_decide(MPI_Comm comm, tezgumi_mpi_chain *chain, const tezgumi_mp
     if (!report) report = &unread;
     if (usable(comm, chain, options)) outcome = plan(chain, options, &d, report);
     if (outcome.status == TEZGUMI_OK) {
-        if (options->keep_order) keep_order(&d.decision);
+        if (options->keep_order) keep_order(options, &d);
         choose(chain, &d, options, &v);
-        print = tezgumi_mpi_fingerprint(TEZGUMI_MPI_FINGERPRINT, v.places, chain->n);
+        print = print_of(&v, chain->n);
     }
     begin = MPI_Wtime();
     status = tezgumi_mpi_agree(comm, outcome, print, report);

@@ -24,7 +24,8 @@ int tezgumi_mpi_range(const tezgumi_mpi_chain *chain, int rank, uint32_t *first,
 int tezgumi_mpi_fits(MPI_Comm comm, const tezgumi_mpi_chain *chain)
 {
     int ranks;
-    return chain && chain->room && MPI_Comm_size(comm, &ranks) == MPI_SUCCESS && chain->ranks == (uint32_t)ranks;
+    if (!chain || !chain->room || MPI_Comm_size(comm, &ranks) != MPI_SUCCESS) return 0;
+    return chain->ranks == (uint32_t)ranks && chain->ranks <= TEZGUMI_MPI_GATHERED_RANKS && chain->n <= chain->capacity;
 }
 
 /* Room for n elements, from the last time or anew. */

@@ -54,7 +54,7 @@ static inline double tezgumi_mpi_lap(double *since)
     return *since - before;
 }
 
-/* Whether all is there and the chain was gathered from as many ranks. */
+/* Whether all is there and the chain, with no more elements than there is room for, was gathered from as many ranks. */
 int tezgumi_mpi_fits(MPI_Comm comm, const tezgumi_mpi_chain *chain);
 
 /* tezgumi_mpi_gather, on a rank that has found a reason to refuse already, or TEZGUMI_OK. */
@@ -126,6 +126,18 @@ int tezgumi_mpi_layout_room(tezgumi_mpi_layout *layout, uint32_t ranks);
 /* tezgumi_mpi_decide_part, on a rank that has found a reason to refuse already, or TEZGUMI_OK. */
 int tezgumi_mpi_decide_part_or(MPI_Comm comm, int refused, const tezgumi_mpi_part *part, const tezgumi_mpi_options *options,
     tezgumi_mpi_layout *layout, tezgumi_mpi_report *report);
+
+/* Whether the layout is of so many ranks, and has a move under way by the same cuts and names. layout may be null. */
+int tezgumi_mpi_is_under_way(const tezgumi_mpi_layout *layout, uint32_t ranks);
+
+/* Makes the part that a rank held before the move under way of elements that it holds now, for tezgumi_mpi_move_part to go on: those
+ * that have gone have 0 bytes. TEZGUMI_MPI_BAD_INDEX, and an index, where these are not what it holds by the layout;
+ * TEZGUMI_NO_MEMORY. The room is to be freed. */
+tezgumi_mpi_outcome tezgumi_mpi_rest_of(const tezgumi_mpi_layout *layout, uint32_t rank, const tezgumi_mpi_element *mine,
+    uint32_t count, tezgumi_mpi_part *part, void **room);
+
+static inline uint64_t tezgumi_mpi_later(uint64_t a, uint64_t b) { return a > b ? a : b; }
+static inline uint64_t tezgumi_mpi_earlier(uint64_t a, uint64_t b) { return a < b ? a : b; }
 
 /* The status of an export that was called in order: where it takes its input for bad, something before went wrong. */
 static inline int tezgumi_mpi_inner(int status)

@@ -141,8 +141,10 @@ static int usable(MPI_Comm comm, const tezgumi_mpi_chain *chain, const tezgumi_m
 {
     uint32_t i;
     if (!tezgumi_mpi_fits(comm, chain) || !callbacks || !callbacks->pack || !callbacks->unpack) return 0;
-    for (i = 0; i < chain->n; i++)
-        if (chain->new_places[i] >= chain->ranks) return 0;
+    for (i = 0; i < chain->n; i++) {
+        if (chain->places[i] >= chain->ranks || chain->new_places[i] >= chain->ranks) return 0;
+        if (chain->bytes[i] > TEZGUMI_MPI_GATHERED_BYTES) return 0;
+    }
     return 1;
 }
 

@@ -5,6 +5,7 @@
 #include "internal.h"
 
 enum { MOST_OFFERED = 1 << 24, MOST_TOLD = 1 << 30 }; /* elements of a rank in a round, and of all ranks: an int counts these */
+enum { BYTES, LARGEST, ELEMENTS, TOLD };              /* what a rank tells another of all that will come from it */
 
 /* Consecutive elements that go from one rank to another. */
 typedef struct {
@@ -37,7 +38,7 @@ typedef struct {
     size_t room;
     side out, in;
     uint64_t print;    /* a fingerprint of who sends what to whom */
-    uint64_t *totals;  /* of what each rank sends here: bytes, and those of the largest */
+    uint64_t *totals;  /* of what each rank sends here: bytes, those of the largest, and how many elements; and so of what goes to each */
     uint32_t unpacked; /* elements that were unpacked in this round */
     void *lists, *buffers;
 } mover;
@@ -54,9 +55,6 @@ static void add_piece(side *d, uint32_t peer, uint64_t begin, uint64_t end, uint
     d->count++;
 }
 
-static uint64_t later(uint64_t a, uint64_t b) { return a > b ? a : b; }
-static uint64_t earlier(uint64_t a, uint64_t b) { return a < b ? a : b; }
-
 static int by_index(const void *a, const void *b)
 {
     const piece *x = (const piece *)a, *y = (const piece *)b;
@@ -70,13 +68,14 @@ static void find_pieces(mover *m)
     const uint64_t first = l->firsts[m->rank], last = first + l->counts[m->rank];
     uint32_t b, r, own = 0;
     for (b = 0; b < m->ranks; b++) {
+        const uint64_t begin = tezgumi_mpi_later(first, l->cuts[b]), end = tezgumi_mpi_earlier(last, l->cuts[b + 1]);
         if (l->names[b] == m->rank) own = b;
-        else add_piece(&m->out, l->names[b], later(first, l->cuts[b]), earlier(last, l->cuts[b + 1]), l->sent[l->names[b]]);
+        else add_piece(&m->out, l->names[b], begin, end, l->sent[l->names[b]]);
     }
     for (r = 0; r < m->ranks; r++) {
         if (r == m->rank) continue;
-        add_piece(&m->in, r, later(l->firsts[r], l->cuts[own]),
-            earlier((uint64_t)l->firsts[r] + l->counts[r], l->cuts[own + 1]), l->received[r]);
+        add_piece(&m->in, r, tezgumi_mpi_later(l->firsts[r], l->cuts[own]),
+            tezgumi_mpi_earlier((uint64_t)l->firsts[r] + l->counts[r], l->cuts[own + 1]), l->received[r]);
     }
     qsort(m->in.pieces, m->in.count, sizeof *m->in.pieces, by_index);
 }
@@ -97,10 +96,10 @@ static unsigned char *lay_lists(side *d, size_t ranks, unsigned char *at)
 static int get_lists(mover *m)
 {
     const size_t ranks = m->ranks, each = sizeof(piece) + 2 * sizeof(uint32_t) + 4 * sizeof(int);
-    m->lists = malloc(ranks * (4 * sizeof *m->totals + 2 * each));
+    m->lists = malloc(ranks * (2 * TOLD * sizeof *m->totals + 2 * each));
     if (!m->lists) return TEZGUMI_NO_MEMORY;
     m->totals = (uint64_t *)m->lists;
-    lay_lists(&m->in, ranks, lay_lists(&m->out, ranks, (unsigned char *)(m->totals + 4 * ranks)));
+    lay_lists(&m->in, ranks, lay_lists(&m->out, ranks, (unsigned char *)(m->totals + 2 * TOLD * ranks)));
     return TEZGUMI_OK;
 }
 
@@ -145,6 +144,11 @@ static int goes_on(const tezgumi_mpi_layout *l)
     return l->move == 0 || l->move == print_of(l);
 }
 
+int tezgumi_mpi_is_under_way(const tezgumi_mpi_layout *layout, uint32_t ranks)
+{
+    return layout && layout->room && layout->ranks == ranks && layout->move == print_of(layout);
+}
+
 /* What all ranks have to have in common: who sends what to whom, and the room. */
 static uint64_t common_print(const mover *m)
 {
@@ -160,44 +164,60 @@ static size_t size_at(const mover *m, uint32_t element)
 /* Tells each rank how much will come to it in all, and how large one element may be. */
 static int tell_totals(mover *m)
 {
-    uint64_t *told = m->totals + 2 * (size_t)m->ranks;
+    uint64_t *told = m->totals + TOLD * (size_t)m->ranks;
     uint32_t k, r, e;
-    memset(told, 0, 2 * (size_t)m->ranks * sizeof *told);
+    memset(told, 0, TOLD * (size_t)m->ranks * sizeof *told);
     for (k = 0; k < m->out.count; k++) {
         const piece *p = &m->out.pieces[k];
+        uint64_t *to = told + TOLD * (size_t)p->peer;
         for (e = p->next; e < p->end; e++) {
-            told[2 * p->peer] += size_at(m, e);
-            told[2 * p->peer + 1] = later(told[2 * p->peer + 1], size_at(m, e));
+            to[BYTES] += size_at(m, e);
+            to[LARGEST] = tezgumi_mpi_later(to[LARGEST], size_at(m, e));
         }
-        m->out.left_bytes += told[2 * p->peer];
-        m->out.largest = later(m->out.largest, told[2 * p->peer + 1]);
+        to[ELEMENTS] = p->end - p->next;
+        m->out.left_bytes += to[BYTES];
+        m->out.largest = tezgumi_mpi_later(m->out.largest, to[LARGEST]);
     }
-    if (MPI_Alltoall(told, 2, MPI_UINT64_T, m->totals, 2, MPI_UINT64_T, m->comm) != MPI_SUCCESS) return TEZGUMI_MPI_ERROR;
+    if (MPI_Alltoall(told, TOLD, MPI_UINT64_T, m->totals, TOLD, MPI_UINT64_T, m->comm) != MPI_SUCCESS) return TEZGUMI_MPI_ERROR;
     for (r = 0; r < m->ranks; r++) {
-        m->in.left_bytes += m->totals[2 * r];
-        m->in.largest = later(m->in.largest, m->totals[2 * r + 1]);
+        const uint64_t *from = m->totals + TOLD * (size_t)r;
+        m->in.left_bytes += from[BYTES];
+        m->in.largest = tezgumi_mpi_later(m->in.largest, from[LARGEST]);
     }
     return TEZGUMI_OK;
+}
+
+/* Whether each rank sends as many elements as are to come here: what has gone there has come here. */
+static int are_expected(const mover *m)
+{
+    uint64_t all = 0;
+    uint32_t k, r;
+    for (k = 0; k < m->in.count; k++) {
+        const piece *p = &m->in.pieces[k];
+        if (m->totals[TOLD * (size_t)p->peer + ELEMENTS] != p->end - p->next) return 0;
+    }
+    for (r = 0; r < m->ranks; r++) all += m->totals[TOLD * (size_t)r + ELEMENTS];
+    return all == m->in.left;
 }
 
 /* How many elements a rank offers in a round at most. */
 static uint64_t most_offered(const mover *m)
 {
-    return earlier(MOST_OFFERED, MOST_TOLD / m->ranks);
+    return tezgumi_mpi_earlier(MOST_OFFERED, MOST_TOLD / m->ranks);
 }
 
 /* The bytes of a side in its greatest round, rounded up so that the other buffer is aligned too. */
 static size_t buffer_of(const mover *m, const side *d)
 {
-    return ((size_t)earlier(d->left_bytes, later(m->room, d->largest)) + 15) / 16 * 16;
+    return ((size_t)tezgumi_mpi_earlier(d->left_bytes, tezgumi_mpi_later(m->room, d->largest)) + 15) / 16 * 16;
 }
 
 /* Gets all the memory that the rounds will need, so that afterwards only a callback can fail. */
 static int get_buffers(mover *m)
 {
     const size_t out = buffer_of(m, &m->out), in = buffer_of(m, &m->in);
-    const size_t offers = (size_t)earlier(m->out.left, most_offered(m));
-    const size_t offered = (size_t)earlier(m->in.left, m->ranks * most_offered(m));
+    const size_t offers = (size_t)tezgumi_mpi_earlier(m->out.left, most_offered(m));
+    const size_t offered = (size_t)tezgumi_mpi_earlier(m->in.left, m->ranks * most_offered(m));
     m->buffers = malloc(out + in + (offers + offered) * sizeof(uint32_t) + 16); /* not null for no element of 0 bytes */
     if (!m->buffers) return TEZGUMI_NO_MEMORY;
     m->out.buffer = (unsigned char *)m->buffers;
@@ -416,7 +436,8 @@ static int prepare(mover *m, uint64_t *left, tezgumi_mpi_report *report)
     if (MPI_Allreduce(MPI_IN_PLACE, left, 1, MPI_UINT64_T, MPI_SUM, m->comm) != MPI_SUCCESS) return TEZGUMI_MPI_ERROR;
     status = tell_totals(m);
     if (status != TEZGUMI_OK) return status;
-    return tezgumi_mpi_agree(m->comm, tezgumi_mpi_outcome_of(get_buffers(m), 0), 0, report);
+    status = are_expected(m) ? get_buffers(m) : TEZGUMI_MPI_DISAGREE;
+    return tezgumi_mpi_agree(m->comm, tezgumi_mpi_outcome_of(status, 0), 0, report);
 }
 
 /* The whole of it, but for the report's time. */

@@ -1,4 +1,5 @@
-/* Decide and move in one call: by parts where each rank's elements are consecutive, and otherwise by gathering all. */
+/* Decide and move in one call: by parts where each rank's elements are consecutive, and otherwise by gathering all. A move by parts
+ * that a callback has ended goes on first. */
 #include "internal.h"
 
 /* This rank's elements as a part. */
@@ -59,87 +60,117 @@ static void make_part(const tezgumi_mpi_element *mine, uint32_t count, own_part 
     own->part.first = least;
 }
 
+/* What tezgumi_mpi_rebalance is asked for. */
+typedef struct {
+    MPI_Comm comm;
+    const tezgumi_mpi_element *mine;
+    uint32_t count;
+    const tezgumi_mpi_callbacks *callbacks;
+    const tezgumi_mpi_options *options;
+    tezgumi_mpi_chain *chain;
+    tezgumi_mpi_layout *layout;
+    tezgumi_mpi_report *report;
+} request;
+
 /* Whether the callbacks are there, also where nothing turns out to move. */
-static int refusal(const tezgumi_mpi_callbacks *callbacks)
+static int refusal(const request *r)
 {
-    return callbacks && callbacks->pack && callbacks->unpack ? TEZGUMI_OK : TEZGUMI_BAD_INPUT;
+    return r->callbacks && r->callbacks->pack && r->callbacks->unpack ? TEZGUMI_OK : TEZGUMI_BAD_INPUT;
 }
 
-static int by_gathering(MPI_Comm comm, int refused, const tezgumi_mpi_element *mine, uint32_t count,
-    const tezgumi_mpi_callbacks *callbacks, const tezgumi_mpi_options *options, tezgumi_mpi_chain *chain,
-    tezgumi_mpi_report *report)
+static int by_gathering(const request *r)
 {
-    tezgumi_mpi_chain own;
+    tezgumi_mpi_chain own, *chain = r->chain ? r->chain : &own;
     int status;
     memset(&own, 0, sizeof own);
-    if (!chain) chain = &own;
-    status = tezgumi_mpi_gather_or(comm, refused, mine, count, chain, report);
-    if (status == TEZGUMI_OK) status = tezgumi_mpi_decide(comm, chain, options, report);
-    if (status == TEZGUMI_OK && report->elements_moved > 0) /* all ranks have decided the same */
-        status = tezgumi_mpi_move(comm, chain, callbacks, options, report);
+    status = tezgumi_mpi_gather_or(r->comm, refusal(r), r->mine, r->count, chain, r->report);
+    if (status == TEZGUMI_OK) status = tezgumi_mpi_decide(r->comm, chain, r->options, r->report);
+    if (status == TEZGUMI_OK && r->report->elements_moved > 0) /* all ranks have decided the same */
+        status = tezgumi_mpi_move(r->comm, chain, r->callbacks, r->options, r->report);
     tezgumi_mpi_chain_free(&own);
     return status;
 }
 
-static int by_parts(MPI_Comm comm, int refused, const own_part *own, const tezgumi_mpi_callbacks *callbacks,
-    const tezgumi_mpi_options *options, tezgumi_mpi_report *report)
+static int by_parts(const request *r, const own_part *own)
 {
-    tezgumi_mpi_layout layout;
-    int status;
-    memset(&layout, 0, sizeof layout);
-    if (refused == TEZGUMI_OK && own->has_none) refused = TEZGUMI_NO_MEMORY;
-    status = tezgumi_mpi_decide_part_or(comm, refused, &own->part, options, &layout, report);
-    if (status == TEZGUMI_OK && report->elements_moved > 0)
-        status = tezgumi_mpi_move_part(comm, &own->part, &layout, callbacks, options, report);
-    tezgumi_mpi_layout_free(&layout);
+    tezgumi_mpi_layout unread, *layout = r->layout ? r->layout : &unread;
+    int status = refusal(r);
+    memset(&unread, 0, sizeof unread);
+    if (status == TEZGUMI_OK && own->has_none) status = TEZGUMI_NO_MEMORY;
+    status = tezgumi_mpi_decide_part_or(r->comm, status, &own->part, r->options, layout, r->report);
+    if (status == TEZGUMI_OK && r->report->elements_moved > 0)
+        status = tezgumi_mpi_move_part(r->comm, &own->part, layout, r->callbacks, r->options, r->report);
+    tezgumi_mpi_layout_free(&unread);
+    return status;
+}
+
+/* Goes on with the move that the layout has under way. */
+static int by_rest(const request *r, uint32_t ranks)
+{
+    tezgumi_mpi_outcome outcome = {TEZGUMI_BAD_INPUT, 0};
+    own_part rest;
+    int rank, status;
+    memset(&rest, 0, sizeof rest);
+    if (MPI_Comm_rank(r->comm, &rank) != MPI_SUCCESS) return TEZGUMI_MPI_ERROR;
+    if (refusal(r) == TEZGUMI_OK && !r->chain && (r->mine || r->count == 0) && tezgumi_mpi_is_under_way(r->layout, ranks))
+        outcome = tezgumi_mpi_rest_of(r->layout, (uint32_t)rank, r->mine, r->count, &rest.part, &rest.room);
+    status = tezgumi_mpi_agree(r->comm, outcome, 0, r->report);
+    if (status == TEZGUMI_OK) status = tezgumi_mpi_move_part(r->comm, &rest.part, r->layout, r->callbacks, r->options, r->report);
+    free(rest.room);
     return status;
 }
 
 /* What all ranks add up before they take one way together. */
-enum { NEED_CHAIN, SCATTERED, COUNT, SUMS };
+enum { UNDER_WAY, NEED_CHAIN, SCATTERED, COUNT, SUMS };
 
-static int needs_chain(const tezgumi_mpi_chain *chain, const tezgumi_mpi_options *options)
+static int is_under_way(const request *r)
 {
-    return chain || (options && options->refine);
+    return r->layout && r->layout->move != 0;
 }
 
-static int rebalance(MPI_Comm comm, const own_part *own, const tezgumi_mpi_element *mine, uint32_t count,
-    const tezgumi_mpi_callbacks *callbacks, const tezgumi_mpi_options *options, tezgumi_mpi_chain *chain,
-    tezgumi_mpi_report *report)
+static int needs_chain(const request *r)
 {
-    const int refused = refusal(callbacks), scattered = own->is_scattered ? TEZGUMI_MPI_SCATTERED : TEZGUMI_OK;
+    return r->chain || (r->options && r->options->refine);
+}
+
+static int rebalance(const request *r, const own_part *own)
+{
+    const int refused = refusal(r), scattered = own->is_scattered ? TEZGUMI_MPI_SCATTERED : TEZGUMI_OK;
     uint64_t sums[SUMS];
     int ranks, is_small, status, groups = 0;
-    if (MPI_Comm_test_inter(comm, &groups) != MPI_SUCCESS) return TEZGUMI_MPI_ERROR;
-    if (groups) return by_gathering(comm, refused, mine, count, callbacks, options, chain, report);
-    sums[NEED_CHAIN] = needs_chain(chain, options);
+    if (MPI_Comm_test_inter(r->comm, &groups) != MPI_SUCCESS) return TEZGUMI_MPI_ERROR;
+    if (groups) return by_gathering(r);
+    sums[UNDER_WAY] = is_under_way(r);
+    sums[NEED_CHAIN] = needs_chain(r);
     sums[SCATTERED] = own->is_scattered != 0;
-    sums[COUNT] = count;
-    if (MPI_Comm_size(comm, &ranks) != MPI_SUCCESS
-        || MPI_Allreduce(MPI_IN_PLACE, sums, SUMS, MPI_UINT64_T, MPI_SUM, comm) != MPI_SUCCESS)
+    sums[COUNT] = r->count;
+    if (MPI_Comm_size(r->comm, &ranks) != MPI_SUCCESS
+        || MPI_Allreduce(MPI_IN_PLACE, sums, SUMS, MPI_UINT64_T, MPI_SUM, r->comm) != MPI_SUCCESS)
         return TEZGUMI_MPI_ERROR;
+    if (sums[UNDER_WAY] > 0) return by_rest(r, (uint32_t)ranks);
     is_small = sums[COUNT] <= TEZGUMI_MPI_GATHERED_ELEMENTS && ranks <= (int)TEZGUMI_MPI_GATHERED_RANKS;
     if (sums[NEED_CHAIN] == 0 && sums[SCATTERED] == 0) {
-        status = by_parts(comm, refused, own, callbacks, options, report);
+        status = by_parts(r, own);
         if (status != TEZGUMI_MPI_BAD_INDEX || !is_small) return status;
     }
-    if (sums[NEED_CHAIN] > 0 || is_small) return by_gathering(comm, refused, mine, count, callbacks, options, chain, report);
-    return tezgumi_mpi_agree(comm, tezgumi_mpi_outcome_of(refused ? refused : scattered, 0), 0, report);
+    if (r->layout) r->layout->n = r->layout->ranks = 0;
+    if (sums[NEED_CHAIN] > 0 || is_small) return by_gathering(r);
+    return tezgumi_mpi_agree(r->comm, tezgumi_mpi_outcome_of(refused ? refused : scattered, 0), 0, r->report);
 }
 
 int tezgumi_mpi_rebalance(MPI_Comm comm, const tezgumi_mpi_element *mine, uint32_t count,
     const tezgumi_mpi_callbacks *callbacks, const tezgumi_mpi_options *options, tezgumi_mpi_chain *chain,
-    tezgumi_mpi_report *report)
+    tezgumi_mpi_layout *layout, tezgumi_mpi_report *report)
 {
     tezgumi_mpi_report unread;
+    const request r = {comm, mine, count, callbacks, options, chain, layout, report ? report : &unread};
     own_part own;
     int status;
-    if (!report) report = &unread;
-    memset(report, 0, sizeof *report);
-    report->failed_rank = -1;
+    memset(r.report, 0, sizeof *r.report);
+    r.report->failed_rank = -1;
     memset(&own, 0, sizeof own);
-    if (!needs_chain(chain, options)) make_part(mine, count, &own);
-    status = rebalance(comm, &own, mine, count, callbacks, options, chain, report);
+    if (!needs_chain(&r) && !is_under_way(&r)) make_part(mine, count, &own);
+    status = rebalance(&r, &own);
     free(own.room);
     return status;
 }

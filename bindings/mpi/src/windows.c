@@ -61,11 +61,12 @@ uint64_t tezgumi_mpi_runs_of(const tezgumi_mpi_windows *windows, uint32_t first,
     return runs;
 }
 
-/* The first failure on the way of a token: its status and rank, which all ranks learn with the token. */
+/* The failure of the least status on the way of a token, and its rank, which all ranks learn with the token. */
 static void note(uint64_t *token, int status, uint32_t rank)
 {
-    if (status == TEZGUMI_OK || token[0] != 0) return;
-    token[0] = (uint64_t)-status;
+    const uint64_t below = (uint64_t)-(int64_t)status;
+    if (status == TEZGUMI_OK || below <= token[0]) return;
+    token[0] = below;
     token[1] = rank;
 }
 

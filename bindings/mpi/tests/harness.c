@@ -163,7 +163,7 @@ int rebalance(field *f, const tezgumi_mpi_options *options, tezgumi_mpi_chain *c
     static tezgumi_mpi_element mine[FIELD_MOST];
     const tezgumi_mpi_callbacks callbacks = callbacks_of(f);
     const uint32_t count = elements_of(f, mine);
-    return tezgumi_mpi_rebalance(MPI_COMM_WORLD, mine, count, &callbacks, options, chain, report);
+    return tezgumi_mpi_rebalance(MPI_COMM_WORLD, mine, count, &callbacks, options, chain, NULL, report);
 }
 
 void expect_whole(const field *f)

@@ -30,7 +30,7 @@ int main(int argc, char **argv)
     const tezgumi_mpi_callbacks callbacks = {pack, unpack, nullptr, &values};
     tezgumi_mpi_chain chain = {};
     const int status = tezgumi_mpi_rebalance(
-        MPI_COMM_WORLD, mine.data(), static_cast<uint32_t>(mine.size()), &callbacks, nullptr, &chain, nullptr);
+        MPI_COMM_WORLD, mine.data(), static_cast<uint32_t>(mine.size()), &callbacks, nullptr, &chain, nullptr, nullptr);
     uint32_t first = 0, end = 0;
     int wrong = status != TEZGUMI_OK || !tezgumi_mpi_range(&chain, rank, &first, &end), all = 0;
     for (uint32_t i = first; i < end; i++) wrong += values[i] != i + 1;

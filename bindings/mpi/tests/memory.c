@@ -83,7 +83,7 @@ static int rebalance_counted(int skip_check, int refine, tezgumi_mpi_report *rep
     requests = 0;
     live = 0;
     counting = 1;
-    status = tezgumi_mpi_rebalance(MPI_COMM_WORLD, mine, count, &callbacks, &options, as_parts ? NULL : &chain, report);
+    status = tezgumi_mpi_rebalance(MPI_COMM_WORLD, mine, count, &callbacks, &options, as_parts ? NULL : &chain, NULL, report);
     tezgumi_mpi_chain_free(&chain);
     counting = 0;
     EXPECT(live == 0);
@@ -136,6 +136,59 @@ static void after_callbacks(void)
     EXPECT(failed > 0);
 }
 
+/* Rebalances parts that are held now, by this layout. */
+static int go(tezgumi_mpi_layout *layout, tezgumi_mpi_report *report)
+{
+    static tezgumi_mpi_element mine[FIELD_MOST];
+    const tezgumi_mpi_options options = {0, 1000, 0, 0, 0};
+    const tezgumi_mpi_callbacks callbacks = {field_pack, unpack_uncounted, drop_uncounted, &f};
+    const uint32_t count = elements_of(&f, mine);
+    int status;
+    requests = 0;
+    counting = 1;
+    status = tezgumi_mpi_rebalance(MPI_COMM_WORLD, mine, count, &callbacks, &options, NULL, layout, report);
+    counting = 0;
+    return status;
+}
+
+/* The call that goes on where the last element could not be unpacked is refused its requests one after another, on this rank. */
+static unsigned refuse_each_of_the_rest(int on)
+{
+    uint32_t places[60];
+    tezgumi_mpi_layout layout = {0};
+    tezgumi_mpi_report report;
+    tezgumi_mpi_part part;
+    unsigned k;
+    int status = TEZGUMI_NO_MEMORY;
+    deal_parts(&f, 60, 3, EVEN, 0);
+    part = part_of(&f);
+    EXPECT(tezgumi_mpi_decide_part(MPI_COMM_WORLD, &part, NULL, &layout, NULL) == TEZGUMI_OK);
+    places_by(&layout, places);
+    tezgumi_mpi_layout_free(&layout);
+    live = 0;
+    f.fail_unpack = 59;
+    while (places[f.fail_unpack] == f.dealt[f.fail_unpack]) f.fail_unpack--;
+    EXPECT(go(&layout, &report) == TEZGUMI_MPI_CALLBACK && layout.move != 0 && report.exchanges > 0);
+    f.fail_unpack = UINT32_MAX;
+    for (k = 1; status == TEZGUMI_NO_MEMORY && k < 1000; k++) {
+        refuse_at = rank == on ? k : 0;
+        status = go(&layout, &report);
+        expect_whole(&f);
+        EXPECT(status == TEZGUMI_OK || (report.failed_rank == on && layout.move != 0));
+    }
+    refuse_at = 0;
+    EXPECT(status == TEZGUMI_OK && report.elements_moved > 0 && layout.move == 0);
+    EXPECT(live == 1);
+    tezgumi_mpi_layout_free(&layout);
+    return k - 2;
+}
+
+static void of_the_rest(void)
+{
+    int on;
+    for (on = 0; on < ranks; on++) EXPECT(refuse_each_of_the_rest(on) == 3); /* its elements, the lists and the buffers */
+}
+
 static void checked(void) { on_each_rank(0, 0); }
 static void unchecked(void) { on_each_rank(1, 0); }
 static void refined(void) { on_each_rank(0, 1); }
@@ -166,6 +219,7 @@ int main(int argc, char **argv)
     run_test("memory refused on one rank, of parts", of_parts);
     if (ranks > 1) run_test("memory is given back after a callback that failed", after_callbacks);
     if (ranks > 1) run_test("memory of parts is given back after a callback that failed", after_callbacks_of_parts);
+    if (ranks > 1) run_test("memory refused on one rank, of a move that goes on", of_the_rest);
     field_free(&f);
     return end_tests();
 }

@@ -122,8 +122,8 @@ static void nothing_to_pack(void)
     expect_moved();
 }
 
-/* Each rank but the first has 6 elements of 64 bytes for it, which takes 2 in an exchange. */
-static void room_to_receive(void)
+/* Each rank but the first has 6 elements of 64 bytes for it. */
+static void begin_funnel(void)
 {
     uint32_t b;
     begin_ring(6, 64);
@@ -132,6 +132,31 @@ static void room_to_receive(void)
         layout.names[b] = b;
     }
     places_by(&layout, places);
+}
+
+/* What has gone from one rank has not come to another, or the other way round. */
+static void gone_and_come(void)
+{
+    static const struct { uint32_t sent, received; } rows[] = {{1, 0}, {0, 1}, {6, 0}, {0, 6}, {1, 1}};
+    const uint32_t last = (uint32_t)ranks - 1;
+    uint32_t k;
+    begin_funnel();
+    for (k = 0; k < sizeof rows / sizeof *rows - (ranks < 3); k++) { /* the last: from the last rank, and from the second */
+        if (rank == ranks - 1) layout.sent[0] = rows[k].sent;
+        if (rank == 0) layout.received[rows[k].sent ? 1 : last] = rows[k].received;
+        EXPECT(move(NULL) == TEZGUMI_MPI_DISAGREE && report.failed_rank == 0);
+        EXPECT(f.packs == 0 && f.unpacks == 0 && f.drops == 0);
+        if (rank == ranks - 1) layout.sent[0] = 0;
+        if (rank == 0) layout.received[1] = layout.received[last] = 0;
+    }
+    EXPECT(move(NULL) == TEZGUMI_OK);
+    expect_moved();
+}
+
+/* The first rank takes 2 in an exchange. */
+static void room_to_receive(void)
+{
+    begin_funnel();
     EXPECT(move_within(128) == TEZGUMI_OK);
     EXPECT(report.exchanges == 3 * (uint32_t)(ranks - 1));
     expect_moved();
@@ -255,14 +280,14 @@ static void many(void)
         mine[i - begin].bytes = sizeof *words;
     }
     if (ranks > 1 && rank == 0) mine[count - 1].index = 0;
-    EXPECT(tezgumi_mpi_rebalance(MPI_COMM_WORLD, mine, count, &callbacks, NULL, NULL, &report)
+    EXPECT(tezgumi_mpi_rebalance(MPI_COMM_WORLD, mine, count, &callbacks, NULL, NULL, NULL, &report)
         == (ranks > 1 ? TEZGUMI_MPI_SCATTERED : TEZGUMI_OK));
     EXPECT(report.failed_rank == (ranks > 1 ? 0 : -1));
     for (i = 0; i < count; i++) mine[i].index = begin + i - (rank == 0 && ranks > 1);
     if (ranks > 1)
-        EXPECT(tezgumi_mpi_rebalance(MPI_COMM_WORLD, mine, count, &callbacks, NULL, NULL, &report) == TEZGUMI_MPI_BAD_INDEX);
+        EXPECT(tezgumi_mpi_rebalance(MPI_COMM_WORLD, mine, count, &callbacks, NULL, NULL, NULL, &report) == TEZGUMI_MPI_BAD_INDEX);
     for (i = 0; i < count; i++) mine[i].index = begin + i;
-    EXPECT(tezgumi_mpi_rebalance(MPI_COMM_WORLD, mine, count, &callbacks, NULL, NULL, &report) == TEZGUMI_OK);
+    EXPECT(tezgumi_mpi_rebalance(MPI_COMM_WORLD, mine, count, &callbacks, NULL, NULL, NULL, &report) == TEZGUMI_OK);
     most = (total + (uint64_t)ranks - 1) / (uint64_t)ranks;
     EXPECT(report.max_load_after >= most && report.max_load_after < most + 500);
     EXPECT(report.gathered < MANY / 4 && (ranks == 1 || report.elements_moved > MANY / 8));
@@ -280,6 +305,7 @@ int main(int argc, char **argv)
         run_test("elements of no bytes", nothing_to_pack);
         run_test("two groups of ranks", two_groups);
         run_test("room for what a part receives", room_to_receive);
+        run_test("what has gone and has not come", gone_and_come);
         run_test("callbacks that fail, and a move that goes on", callbacks_that_fail);
     }
     field_free(&f);

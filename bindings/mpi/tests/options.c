@@ -166,7 +166,7 @@ static void room_is_kept(void)
     uint32_t most;
     deal(&f, 1000, 7, SCATTERED);
     packed = most_packed = 0;
-    EXPECT(tezgumi_mpi_rebalance(MPI_COMM_WORLD, mine, elements_of(&f, mine), &callbacks, &options, NULL, &report)
+    EXPECT(tezgumi_mpi_rebalance(MPI_COMM_WORLD, mine, elements_of(&f, mine), &callbacks, &options, NULL, NULL, &report)
         == TEZGUMI_OK);
     MPI_Allreduce(&most_packed, &most, 1, MPI_UINT32_T, MPI_MAX, MPI_COMM_WORLD);
     EXPECT(most <= 2000 && most > 1000 && report.exchanges > 10);

@@ -246,7 +246,7 @@ static void most_elements(void)
         mine[i].load = TEZGUMI_MPI_GATHERED_LOAD;
         mine[i].bytes = sizeof *words;
     }
-    EXPECT(tezgumi_mpi_rebalance(MPI_COMM_WORLD, mine, count, &callbacks, NULL, &chain, &report) == TEZGUMI_OK);
+    EXPECT(tezgumi_mpi_rebalance(MPI_COMM_WORLD, mine, count, &callbacks, NULL, &chain, NULL, &report) == TEZGUMI_OK);
     EXPECT(report.max_load_before == TEZGUMI_MPI_GATHERED_ELEMENTS * TEZGUMI_MPI_GATHERED_LOAD);
     EXPECT(report.max_load_after == ((TEZGUMI_MPI_GATHERED_ELEMENTS + (uint32_t)ranks - 1) / (uint32_t)ranks) * TEZGUMI_MPI_GATHERED_LOAD);
     EXPECT(tezgumi_mpi_range(&chain, rank, &first, &end));
@@ -291,7 +291,7 @@ static void two_groups(void)
         mine[i].load = 1;
         mine[i].bytes = sizeof *words;
     }
-    EXPECT(tezgumi_mpi_rebalance(half, mine, at == 0 ? 10 : 0, &callbacks, NULL, &chain, NULL) == TEZGUMI_OK);
+    EXPECT(tezgumi_mpi_rebalance(half, mine, at == 0 ? 10 : 0, &callbacks, NULL, &chain, NULL, NULL) == TEZGUMI_OK);
     EXPECT(chain.ranks == (uint32_t)size);
     EXPECT(tezgumi_mpi_range(&chain, at, &first, &end));
     for (i = first; i < end; i++) EXPECT(words[i] == own + i);

@@ -154,6 +154,90 @@ static void by_hand(void)
     EXPECT(rebalance_twelve(0.19, 0) == TEZGUMI_OK && report.elements_moved == 2 && report.max_load_after == 10);
 }
 
+/* Four elements on three ranks, as tezgumi_mpi.h has them: the ranges are named anew, so that the ranks change their order. */
+static void order_that_changes(void)
+{
+    static const uint64_t loads[] = {6, 2, 1, 2};
+    static const uint32_t sizes[] = {2, 37, 15, 6}, from[] = {0, 0, 1, 2}, to[] = {1, 0, 0, 2}, in_order_to[] = {0, 1, 1, 2};
+    const tezgumi_mpi_options options = {0.3, 0, 0, 1, 0}, in_order = {0.3, 0, 0, 1, 1};
+    deal(&f, 4, 1, IN_ORDER);
+    memcpy(f.load, loads, sizeof loads);
+    memcpy(f.size, sizes, sizeof sizes);
+    memcpy(f.dealt, from, sizeof from);
+    deal_again(&f);
+    EXPECT(least_load() == 6 && 60 - most_kept((const uint32_t[]){0, 1, 2}, 7) == 37 && 60 - most_kept((const uint32_t[]){2, 0, 1}, 7) == 8);
+    EXPECT(rebalance(&f, &options, NULL, &report) == TEZGUMI_OK);
+    EXPECT(report.bytes_moved == 17 && report.max_load_before == 8 && report.max_load_after == 6);
+    expect_whole(&f);
+    expect_at(&f, to);
+    memcpy(f.dealt, from, sizeof from);
+    deal_again(&f);
+    EXPECT(rebalance(&f, &in_order, NULL, &report) == TEZGUMI_OK);
+    EXPECT(report.bytes_moved == 37 && report.max_load_after == 6);
+    expect_whole(&f);
+    expect_at(&f, in_order_to);
+}
+
+/* Whether the ranks hold the chain in their own order, each one range, and those without elements last. */
+static int is_own_order(void)
+{
+    uint32_t order[8], k;
+    if (!order_of(order)) return 0;
+    for (k = 0; k < (uint32_t)ranks; k++)
+        if (order[k] != k) return 0;
+    return 1;
+}
+
+static int is_sorted(const uint32_t *places)
+{
+    uint32_t i;
+    for (i = 1; i < f.n; i++)
+        if (places[i] < places[i - 1]) return 0;
+    return 1;
+}
+
+/* One rebalance within a tolerance, block b on rank b. How many were nearer than the least ranges. */
+static uint32_t judge_order(uint32_t n, uint32_t seed, dealing how, uint32_t thousandths)
+{
+    static const uint32_t own[] = {0, 1, 2, 3, 4, 5, 6, 7};
+    const tezgumi_mpi_options both = {thousandths / 1000.0, 0, 0, 1, 1}, least_ones = {0, 0, 0, 0, 1};
+    tezgumi_mpi_chain chain = {0}, other = {0};
+    uint64_t limit, least, all = 0;
+    uint32_t i, nearer = 0;
+    deal(&f, n, seed, how);
+    EXPECT(rebalance(&f, &least_ones, &other, &report) == TEZGUMI_OK);
+    deal(&f, n, seed, how);
+    least = least_load();
+    limit = least + least * thousandths / 1000;
+    for (i = 0; i < n; i++) all += f.size[i];
+    EXPECT(rebalance(&f, &both, &chain, &report) == TEZGUMI_OK);
+    expect_whole(&f);
+    expect_at(&f, chain.places);
+    EXPECT(is_sorted(chain.places) && report.max_load_after <= limit && report.max_load_after == greatest(chain.places));
+    if (is_sorted(f.dealt) && greatest(f.dealt) <= limit) {
+        EXPECT(report.elements_moved == 0);
+    } else if (is_own_order()) {
+        EXPECT(report.bytes_moved == all - most_kept(own, limit));
+        nearer = report.max_load_after > least;
+    } else {
+        EXPECT(memcmp(chain.places, other.places, n * sizeof *chain.places) == 0);
+    }
+    tezgumi_mpi_chain_free(&chain);
+    tezgumi_mpi_chain_free(&other);
+    return nearer;
+}
+
+static void with_order(void)
+{
+    static const uint32_t counts[] = {1, 2, 3, 5, 40, 120}, tolerances[] = {0, 20, 200, 1000};
+    static const dealing how[] = {IN_ORDER, REVERSED, SCATTERED};
+    uint32_t k, t, h, nearer = 0;
+    for (k = 0; k < sizeof counts / sizeof *counts; k++)
+        for (t = 0; t < sizeof tolerances / sizeof *tolerances; t++)
+            for (h = 0; h < 3; h++) nearer += judge_order(counts[k], 1 + t % 2, how[h], tolerances[t]);
+    EXPECT(ranks == 1 || nearer > 0);
+}
+
 static void bad_tolerance(void)
 {
     EXPECT(rebalance_twelve(1.001, 1) == TEZGUMI_BAD_INPUT);
@@ -189,6 +273,8 @@ int main(int argc, char **argv)
     run_test("ranges in reverse order within a tolerance", reversed);
     run_test("scattered elements within a tolerance", scattered);
     run_test("within a tolerance without the checker", without_check);
+    run_test("within a tolerance, in the order of the ranks", with_order);
+    if (ranks == 3) run_test("ranks that change their order", order_that_changes);
     if (ranks > 1) {
         run_test("within a tolerance, by hand", by_hand);
         run_test("too great a tolerance to keep within", bad_tolerance);

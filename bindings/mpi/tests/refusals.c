@@ -26,7 +26,7 @@ static void expect_refused(int status, int expected, uint32_t at)
 static int try_with(uint32_t count)
 {
     const tezgumi_mpi_callbacks callbacks = callbacks_of(&f);
-    return tezgumi_mpi_rebalance(MPI_COMM_WORLD, mine, count, &callbacks, NULL, NULL, &report);
+    return tezgumi_mpi_rebalance(MPI_COMM_WORLD, mine, count, &callbacks, NULL, NULL, NULL, &report);
 }
 
 /* The same where a chain is asked for, so that all elements are gathered. */
@@ -34,7 +34,7 @@ static int try_gathered(uint32_t count)
 {
     const tezgumi_mpi_callbacks callbacks = callbacks_of(&f);
     tezgumi_mpi_chain chain = {0};
-    const int status = tezgumi_mpi_rebalance(MPI_COMM_WORLD, mine, count, &callbacks, NULL, &chain, &report);
+    const int status = tezgumi_mpi_rebalance(MPI_COMM_WORLD, mine, count, &callbacks, NULL, &chain, NULL, &report);
     EXPECT(chain.n == 0);
     tezgumi_mpi_chain_free(&chain);
     return status;
@@ -121,7 +121,7 @@ static void no_elements(void)
 {
     const tezgumi_mpi_callbacks callbacks = callbacks_of(&f);
     const uint32_t count = deal_some();
-    expect_refused(tezgumi_mpi_rebalance(MPI_COMM_WORLD, wrong_here() ? NULL : mine, count, &callbacks, NULL, NULL, &report),
+    expect_refused(tezgumi_mpi_rebalance(MPI_COMM_WORLD, wrong_here() ? NULL : mine, count, &callbacks, NULL, NULL, NULL, &report),
         TEZGUMI_BAD_INPUT, 0);
 }
 
@@ -135,7 +135,7 @@ static void no_callback(void)
     if (wrong_here()) rows[1].unpack = NULL;
     for (k = 0; k < 3; k++) {
         const tezgumi_mpi_callbacks *given = k < 2 ? &rows[k] : wrong_here() ? NULL : &rows[0];
-        const int status = tezgumi_mpi_rebalance(MPI_COMM_WORLD, mine, count, given, NULL, NULL, &report);
+        const int status = tezgumi_mpi_rebalance(MPI_COMM_WORLD, mine, count, given, NULL, NULL, NULL, &report);
         expect_refused(status, TEZGUMI_BAD_INPUT, 0);
     }
 }
@@ -166,6 +166,27 @@ static void place_that_is_no_rank(void)
     EXPECT(tezgumi_mpi_gather(MPI_COMM_WORLD, mine, count, &chain, &report) == TEZGUMI_OK);
     if (wrong_here()) chain.new_places[3] = (uint32_t)ranks;
     expect_refused(tezgumi_mpi_move(MPI_COMM_WORLD, &chain, &callbacks, NULL, &report), TEZGUMI_BAD_INPUT, 0);
+    tezgumi_mpi_chain_free(&chain);
+}
+
+/* On the last rank a chain is not what was gathered: places that are no ranks, too many bytes, more elements than room. */
+static void forged_chain(void)
+{
+    enum { NO_RANK, FAR_FROM_A_RANK, BYTES, ELEMENTS, ROWS };
+    const tezgumi_mpi_callbacks callbacks = callbacks_of(&f);
+    tezgumi_mpi_chain chain = {0};
+    int k;
+    for (k = 0; k < ROWS; k++) {
+        const uint32_t count = deal_some();
+        EXPECT(tezgumi_mpi_gather(MPI_COMM_WORLD, mine, count, &chain, &report) == TEZGUMI_OK);
+        if (wrong_here() && k == NO_RANK) chain.places[3] = (uint32_t)ranks;
+        if (wrong_here() && k == FAR_FROM_A_RANK) chain.places[3] = UINT32_MAX;
+        if (wrong_here() && k == BYTES) chain.bytes[3] = TEZGUMI_MPI_GATHERED_BYTES + 1;
+        if (wrong_here() && k == ELEMENTS) chain.n = chain.capacity + 1;
+        expect_refused(tezgumi_mpi_move(MPI_COMM_WORLD, &chain, &callbacks, NULL, &report), TEZGUMI_BAD_INPUT, 0);
+        if (k == BYTES) continue; /* the planner takes it */
+        expect_refused(tezgumi_mpi_decide(MPI_COMM_WORLD, &chain, NULL, &report), TEZGUMI_BAD_INPUT, 0);
+    }
     tezgumi_mpi_chain_free(&chain);
 }
 
@@ -218,7 +239,7 @@ static void two_sides(void)
     MPI_Comm half, both;
     MPI_Comm_split(MPI_COMM_WORLD, rank % 2, rank, &half);
     MPI_Intercomm_create(half, 0, MPI_COMM_WORLD, 1 - rank % 2, 0, &both);
-    EXPECT(tezgumi_mpi_rebalance(both, mine, deal_some(), &callbacks, NULL, NULL, &report) == TEZGUMI_BAD_INPUT);
+    EXPECT(tezgumi_mpi_rebalance(both, mine, deal_some(), &callbacks, NULL, NULL, NULL, &report) == TEZGUMI_BAD_INPUT);
     MPI_Comm_free(&both);
     MPI_Comm_free(&half);
 }
@@ -332,6 +353,7 @@ int main(int argc, char **argv)
     run_test("null callbacks", no_callback);
     run_test("null chain", no_chain);
     run_test("a place that is no rank", place_that_is_no_rank);
+    run_test("a chain that is not what was gathered", forged_chain);
     run_test("a good call after a refused one", afterwards);
     run_test("each status has a name", names);
     if (ranks > 1) {

@@ -1,6 +1,6 @@
 /* Decisions on parts that go wrong: windows that are too narrow, which a wider search makes good, and a planner that goes wrong on
  * one rank, which is found out on all. Link with --wrap for tezgumi_mpi_enough, tezgumi_mpi_windows_by_totals,
- * tezgumi_mpi_windows_by_walks, tezgumi_divide and tezgumi_name. */
+ * tezgumi_mpi_windows_by_walks, tezgumi_part_walk, tezgumi_divide and tezgumi_name. */
 #include "internal.h"
 #include "parts.h"
 
@@ -9,9 +9,11 @@ static tezgumi_mpi_layout layout;
 static tezgumi_mpi_report report;
 static int wrong_totals, wrong_walks; /* how many searches are still to go wrong here */
 static int wrong_divide, wrong_name;  /* whether the planner goes wrong here */
+static int32_t walk_status;           /* what each walk here answers, if it is not TEZGUMI_OK */
 
 extern __typeof__(tezgumi_mpi_windows_by_totals) __real_tezgumi_mpi_windows_by_totals, __wrap_tezgumi_mpi_windows_by_totals;
 extern __typeof__(tezgumi_mpi_windows_by_walks) __real_tezgumi_mpi_windows_by_walks, __wrap_tezgumi_mpi_windows_by_walks;
+extern __typeof__(tezgumi_part_walk) __real_tezgumi_part_walk, __wrap_tezgumi_part_walk;
 extern __typeof__(tezgumi_divide) __real_tezgumi_divide, __wrap_tezgumi_divide;
 extern __typeof__(tezgumi_name) __real_tezgumi_name, __wrap_tezgumi_name;
 
@@ -26,6 +28,13 @@ int __wrap_tezgumi_mpi_windows_by_walks(tezgumi_mpi_search *s)
     const int status = __real_tezgumi_mpi_windows_by_walks(s);
     if (wrong_walks > 0 && wrong_walks--) s->windows.upper[0] = s->windows.lower[0] = s->layout->n;
     return status;
+}
+
+int32_t __wrap_tezgumi_part_walk(const uint64_t *loads, size_t loads_len, uint32_t pes, const uint64_t *limits, size_t limits_len,
+    uint32_t *closed, size_t closed_len, uint64_t *filled, size_t filled_len)
+{
+    if (walk_status != TEZGUMI_OK) return walk_status;
+    return __real_tezgumi_part_walk(loads, loads_len, pes, limits, limits_len, closed, closed_len, filled, filled_len);
 }
 
 /* The first cut one element further, or back. */
@@ -98,6 +107,27 @@ static void narrow_twice(void)
     EXPECT(layout.n == 0 && layout.ranks == 0);
 }
 
+/* In one pass the first and the last rank fail, in different ways: all return what has the least value, whichever of the two the
+ * pass comes to first. A flaw of the planner, which is less than no memory, is made good by the wider search. */
+static void two_failures(void)
+{
+    static const struct { int32_t first, last; int expected; } rows[] = {
+        {TEZGUMI_NO_MEMORY, TEZGUMI_TOO_LARGE, TEZGUMI_TOO_LARGE}, {TEZGUMI_TOO_LARGE, TEZGUMI_NO_MEMORY, TEZGUMI_TOO_LARGE},
+        {TEZGUMI_NO_MEMORY, TEZGUMI_OK, TEZGUMI_NO_MEMORY}, {TEZGUMI_OK, TEZGUMI_NO_MEMORY, TEZGUMI_NO_MEMORY},
+        {TEZGUMI_NO_MEMORY, TEZGUMI_BAD_INPUT, TEZGUMI_OK}, {TEZGUMI_BAD_INPUT, TEZGUMI_NO_MEMORY, TEZGUMI_OK}};
+    uint32_t k;
+    enough = 0;
+    for (k = 0; k < 2 * sizeof rows / sizeof *rows; k++) {
+        const int expected = rows[k / 2].expected;
+        deal(&f, 200, 4, k % 2 ? REVERSED : IN_ORDER);
+        walk_status = rank == 0 ? rows[k / 2].first : rank == ranks - 1 ? rows[k / 2].last : TEZGUMI_OK;
+        EXPECT(decide(0) == expected && report.retries == (expected == TEZGUMI_OK));
+        if (expected != TEZGUMI_OK) EXPECT(report.failed_rank == (rows[k / 2].first == expected ? 0 : ranks - 1));
+    }
+    walk_status = TEZGUMI_OK;
+    enough = UINT64_MAX;
+}
+
 static void cuts_of_its_own(void)
 {
     deal_uneven();
@@ -125,6 +155,7 @@ int main(int argc, char **argv)
     run_test("windows that are too narrow", narrow_windows);
     run_test("ends that are wrong", wrong_ends);
     run_test("windows that are too narrow twice", narrow_twice);
+    run_test("two failures in one pass", two_failures);
     run_test("cuts of its own on one rank", cuts_of_its_own);
     run_test("names of its own on one rank", names_of_its_own);
     field_free(&f);

@@ -5,6 +5,9 @@
 static field f;
 static tezgumi_mpi_report report;
 static int wrong_here, mpi_fails, decisions;
+static uint32_t was_near; /* whether the cuts of the last decision within a tolerance were near the present ones */
+/* What goes wrong in a decision within a tolerance. */
+static enum { PLACES, NO_BOTTLENECK, GREAT_BOTTLENECK, LEAST, LEAST_CUTS, MOVED, PRESENT } wrong;
 
 int32_t __real_tezgumi_decide(
     const uint64_t *loads, size_t loads_len, const uint32_t *bytes, size_t bytes_len,
@@ -67,16 +70,26 @@ int32_t __wrap_tezgumi_plan(
 }
 
 int32_t __wrap_tezgumi_refine(const uint64_t *l, size_t l_len, const uint32_t *b, size_t b_len, const uint32_t *p, size_t p_len,
-    uint32_t procs, uint32_t pes, uint32_t tolerance, uint32_t *to, size_t to_len, uint64_t *least, uint64_t *bottleneck,
-    uint64_t *moved, uint32_t *near_present, uint32_t *cuts, size_t cuts_len, uint32_t *stops, size_t stops_len, size_t *stops_count,
-    uint32_t *names, size_t names_len, int64_t *u, size_t u_len, int64_t *v, size_t v_len, uint32_t *least_cuts,
+    uint32_t procs, uint32_t pes, uint32_t tolerance, uint32_t keep_order, uint32_t *to, size_t to_len, uint64_t *least,
+    uint64_t *bottleneck, uint64_t *moved, uint32_t *near_present, uint32_t *cuts, size_t cuts_len, uint32_t *stops, size_t stops_len,
+    size_t *stops_count, uint32_t *names, size_t names_len, int64_t *u, size_t u_len, int64_t *v, size_t v_len, uint32_t *least_cuts,
     size_t least_len, uint32_t *order, size_t order_len, uint32_t *present, size_t present_len, size_t *starts,
     size_t starts_len, uint32_t *at, size_t at_len, uint64_t *rises, size_t rises_len, size_t *steps)
 {
-    const int32_t status = __real_tezgumi_refine(l, l_len, b, b_len, p, p_len, procs, pes, tolerance, to, to_len, least, bottleneck,
-        moved, near_present, cuts, cuts_len, stops, stops_len, stops_count, names, names_len, u, u_len, v, v_len, least_cuts, least_len,
-        order, order_len, present, present_len, starts, starts_len, at, at_len, rises, rises_len, steps);
-    spoil(to, to_len, pes);
+    const int32_t status = __real_tezgumi_refine(l, l_len, b, b_len, p, p_len, procs, pes, tolerance, keep_order, to, to_len, least,
+        bottleneck, moved, near_present, cuts, cuts_len, stops, stops_len, stops_count, names, names_len, u, u_len, v, v_len, least_cuts,
+        least_len, order, order_len, present, present_len, starts, starts_len, at, at_len, rises, rises_len, steps);
+    was_near = *near_present;
+    if (!wrong_here) return status;
+    switch (wrong) {
+    case NO_BOTTLENECK: *bottleneck = 0; break;
+    case GREAT_BOTTLENECK: *bottleneck = 99999; break;
+    case LEAST: *least += 1; break;
+    case LEAST_CUTS: least_cuts[pes] -= 1; break;
+    case MOVED: *moved += 1; break;
+    case PRESENT: present[1] += present[1] < present[2] ? 1 : -1; break;
+    default: spoil(to, to_len, pes);
+    }
     return status;
 }
 
@@ -99,13 +112,13 @@ static void expect_left(void)
     expect_at(&f, f.dealt);
 }
 
-/* Decides, with a wrong planner on the last rank. */
-static int decide_wrongly(int skip_check, int refine, tezgumi_mpi_chain *chain)
+/* Decides on a field that is dealt so, with a wrong planner on the last rank. */
+static int decide_wrongly(int skip_check, int refine, dealing how, tezgumi_mpi_chain *chain)
 {
     static tezgumi_mpi_element mine[FIELD_MOST];
     const tezgumi_mpi_options options = {refine ? 0.5 : 0, 0, skip_check, refine, 0};
     int status;
-    deal(&f, 50, 2, refine ? IN_ORDER : SCATTERED);
+    deal(&f, 50, 2, how);
     EXPECT(tezgumi_mpi_gather(MPI_COMM_WORLD, mine, elements_of(&f, mine), chain, &report) == TEZGUMI_OK);
     wrong_here = rank == ranks - 1;
     status = tezgumi_mpi_decide(MPI_COMM_WORLD, chain, &options, &report);
@@ -118,24 +131,43 @@ static int decide_wrongly(int skip_check, int refine, tezgumi_mpi_chain *chain)
 static void wrong_and_checked(void)
 {
     tezgumi_mpi_chain chain = {0};
-    EXPECT(decide_wrongly(0, 0, &chain) == TEZGUMI_MPI_WRONG_PLAN);
+    EXPECT(decide_wrongly(0, 0, SCATTERED, &chain) == TEZGUMI_MPI_WRONG_PLAN);
     EXPECT(report.failed_rank == ranks - 1 && report.failed_at == TEZGUMI_PLACES_WRONG);
     tezgumi_mpi_chain_free(&chain);
 }
 
+/* Places of its own, and the same places with a load of its own. */
 static void wrong_and_unchecked(void)
 {
     tezgumi_mpi_chain chain = {0};
-    EXPECT(decide_wrongly(1, 0, &chain) == TEZGUMI_MPI_DISAGREE);
+    EXPECT(decide_wrongly(1, 0, SCATTERED, &chain) == TEZGUMI_MPI_DISAGREE);
     EXPECT(report.failed_rank == -1);
+    wrong = GREAT_BOTTLENECK;
+    EXPECT(decide_wrongly(1, 1, SCATTERED, &chain) == TEZGUMI_MPI_DISAGREE);
+    EXPECT(report.failed_rank == -1);
+    wrong = PLACES;
     tezgumi_mpi_chain_free(&chain);
 }
 
+/* Each number and list that is wrong, where the cuts are near the present ones, and where the decision is the plan. */
 static void wrong_within(void)
 {
+    static const struct { int wrong; uint32_t near_flaw, plan_flaw; } rows[] = {
+        {PLACES, TEZGUMI_PLACES_WRONG, TEZGUMI_PLACES_WRONG}, {NO_BOTTLENECK, TEZGUMI_BOTTLENECK_WRONG, TEZGUMI_HEAVY},
+        {GREAT_BOTTLENECK, TEZGUMI_BOTTLENECK_WRONG, TEZGUMI_FENCE_LIGHT}, {LEAST, TEZGUMI_FENCE_LIGHT, TEZGUMI_LEAST_WRONG},
+        {LEAST_CUTS, TEZGUMI_CUT_END, TEZGUMI_LEAST_WRONG}, {MOVED, TEZGUMI_MOVED_WRONG, TEZGUMI_MOVED_WRONG},
+        {PRESENT, TEZGUMI_ORDER_WRONG, TEZGUMI_OK}};
     tezgumi_mpi_chain chain = {0};
-    EXPECT(decide_wrongly(0, 1, &chain) == TEZGUMI_MPI_WRONG_PLAN);
-    EXPECT(report.failed_rank == ranks - 1 && report.failed_at == TEZGUMI_PLACES_WRONG);
+    uint32_t k;
+    for (k = 0; k < 2 * sizeof rows / sizeof *rows; k++) {
+        const int is_near = k % 2 && ranks > 1; /* one rank has no better cuts than the plan's */
+        const uint32_t flaw = is_near ? rows[k / 2].near_flaw : rows[k / 2].plan_flaw;
+        wrong = rows[k / 2].wrong;
+        if (flaw == TEZGUMI_OK) continue; /* nobody reads it */
+        EXPECT(decide_wrongly(0, 1, k % 2 ? IN_ORDER : SCATTERED, &chain) == TEZGUMI_MPI_WRONG_PLAN);
+        EXPECT(was_near == (uint32_t)is_near && report.failed_rank == ranks - 1 && report.failed_at == flaw);
+    }
+    wrong = PLACES;
     tezgumi_mpi_chain_free(&chain);
 }
 
@@ -144,9 +176,9 @@ static void certificates(void)
 {
     tezgumi_mpi_chain chain = {0};
     decisions = 0;
-    decide_wrongly(0, 0, &chain);
+    decide_wrongly(0, 0, SCATTERED, &chain);
     EXPECT(decisions == 1);
-    decide_wrongly(1, 0, &chain);
+    decide_wrongly(1, 0, SCATTERED, &chain);
     EXPECT(decisions == 1);
     tezgumi_mpi_chain_free(&chain);
 }
