@@ -43,7 +43,7 @@ extern "C" {
 #endif
 
 /* The number of this interface. A library fits this header where its tezgumi_abi() answers the same. */
-#define TEZGUMI_ABI 2u
+#define TEZGUMI_ABI 3u
 
 /* Limits of a run. Each is the greatest value that is taken. */
 #define TEZGUMI_ELEMENTS 4294967295u                       /* elements, from 0: 2^32 - 1 */
@@ -102,7 +102,12 @@ enum {
     TEZGUMI_HEIGHT_COUNT = 27, /* there are not heights for pes blocks */
     TEZGUMI_HEIGHT_START = 28, /* the height of the first block at the beginning of the chain is not 0 */
     TEZGUMI_STEEP = 29,        /* heights rise by more from a block to the next than the cut between them costs */
-    TEZGUMI_HEIGHT_LOW = 30    /* the height of the last block is below what the cuts cost */
+    TEZGUMI_HEIGHT_LOW = 30,   /* the height of the last block is below what the cuts cost */
+    TEZGUMI_ORDER_WRONG = 31,  /* order and present are not the order in which the PEs stand, and the present cuts; or they stand in none */
+    TEZGUMI_BOTTLENECK_WRONG = 32, /* the bottleneck is not the load of the heaviest block */
+    TEZGUMI_NAMES_NOT_ORDER = 33,  /* the PEs are to keep their order, and the names are another */
+    /* And of a plan, which tezgumi_check_refinement alone reports. */
+    TEZGUMI_LEAST_WRONG = 34   /* least is not the bottleneck of the plan, or least_cuts are not its cuts */
 };
 
 /* The status in words. */
@@ -148,6 +153,10 @@ static inline const char *tezgumi_status_name(int32_t status)
     case TEZGUMI_HEIGHT_START: return "the heights do not begin with 0";
     case TEZGUMI_STEEP: return "heights rise by more than a cut costs";
     case TEZGUMI_HEIGHT_LOW: return "the heights are below what the cuts cost";
+    case TEZGUMI_ORDER_WRONG: return "the order of the PEs is not the present one";
+    case TEZGUMI_BOTTLENECK_WRONG: return "the bottleneck is not the load of the heaviest block";
+    case TEZGUMI_NAMES_NOT_ORDER: return "the names do not keep the order of the PEs";
+    case TEZGUMI_LEAST_WRONG: return "the least load or its cuts are not those of the plan";
     default: return "unknown status";
     }
 }
@@ -211,17 +220,24 @@ int32_t tezgumi_check(
  * TEZGUMI_DUMP_PES PEs at most, before and after, loads of TEZGUMI_DUMP_LOAD at most each, and packed sizes of
  * TEZGUMI_DUMP_STATE_BYTES at most each. A run that is in order and past one of these is TEZGUMI_TOO_LARGE.
  *
- * Where the elements of each PE stand together, the PEs keep the order in which they stand. Of all cuts that keep each block
- * within the limit it takes those that move the fewest bytes, and of these the nearest to the present ones; then the cheapest
- * names for these blocks. Where that moves no fewer bytes than the plan does, and where the elements of some PE do not stand
- * together, the decision is the plan. So never more bytes move than by the plan, and none where the present places keep to
- * the limit. This is proved.
+ * Where the elements of each PE stand together, on PEs below pes, the PEs stand in an order: as their elements do, and behind
+ * them the PEs without elements, in ascending order. Of all cuts that keep each block within the limit it takes those that
+ * would move the fewest bytes if block b ran on the PE at place b of this order, and of these the nearest to the present ones.
  *
- * TEZGUMI_OK: new_places, *bottleneck, *moved, cuts, names and prices are those of the decision, as tezgumi_decide writes them.
+ * With keep_order 0 it then names these blocks anew, as tezgumi_decide does, so that the fewest bytes move: PEs may change
+ * places. Where that moves no fewer bytes than the plan does, and where the PEs stand in no order, the decision is the plan. So
+ * never more bytes move than by the plan. Other cuts within the limit, with names in another order, may move fewer.
+ * With any other keep_order the PEs keep their order: names are that order, in which no cuts within the limit move fewer bytes,
+ * though the plan may. Where the PEs stand in no order, the decision is the plan.
+ * Either way nothing moves where the PEs stand in an order and their present blocks keep to the limit. The same run, pes,
+ * tolerance and keep_order have the same decision, but for heights and prices. This is proved.
+ *
+ * TEZGUMI_OK: new_places, *bottleneck, *moved, cuts, names and prices are those of the decision, as tezgumi_decide writes them;
+ * names that are the order need no prices, which are then 0.
  * *least is the least possible load of the heaviest block, and least_cuts, with pes + 1 entries, and the first *stops_count stops prove
- * it. *near is 0 for the plan, and then *steps_count is 0 and no other list is written. Else it is 1: order, with pes entries,
- * has the PEs in their order, present, with pes + 1, the present cuts, and the heights prove that no other cuts move fewer
- * bytes in this order. Those of block b are the steps step_starts[b] .. step_starts[b + 1] - 1: from the place
+ * it. *near_present is 0 for the plan, and then *steps_count is 0 and no other list is written. Else it is 1: order, with pes
+ * entries, has the PEs in their order, present, with pes + 1, the present cuts, and the heights prove that no other cuts move
+ * fewer bytes in this order. Those of block b are the steps step_starts[b] .. step_starts[b + 1] - 1: from the place
  * step_places[s] on the height is greater by step_rises[s] bytes. step_starts has pes + 1 entries, step_places and step_rises
  * have any number, the same for both. They are written where *steps_count is not above that, and otherwise left as they were:
  * who wants them calls again with more room.
@@ -229,7 +245,7 @@ int32_t tezgumi_check(
  * written. */
 int32_t tezgumi_refine(
     const uint64_t *loads, size_t loads_len, const uint32_t *bytes, size_t bytes_len,
-    const uint32_t *places, size_t places_len, uint32_t procs, uint32_t pes, uint32_t tolerance,
+    const uint32_t *places, size_t places_len, uint32_t procs, uint32_t pes, uint32_t tolerance, uint32_t keep_order,
     uint32_t *new_places, size_t new_places_len, uint64_t *least, uint64_t *bottleneck, uint64_t *moved, uint32_t *near_present,
     uint32_t *cuts, size_t cuts_len, uint32_t *stops, size_t stops_len, size_t *stops_count,
     uint32_t *names, size_t names_len,
@@ -242,16 +258,18 @@ int32_t tezgumi_refine(
  * lengths may be any. The lists and the limits of the run are those of tezgumi_refine. It takes memory as the claim's lists
  * and steps do.
  *
- * TEZGUMI_OK exactly where every part of the claim is right. Then least is the least possible load of the heaviest block, no
- * cuts within the tolerance move fewer bytes in this order of the PEs, no naming of the blocks moves fewer, and new_places are
- * the names of the elements' blocks. Above 0: the first flaw of the claim, 1 to 11 and 20 to 30 being looked for before 12 to
- * 19; *at_first and *at_second are then what it names: the block, the stop (from 1), the block and the PE, or the block and
- * the place, and 0 where it names nothing. Otherwise TEZGUMI_BAD_TOLERANCE, TEZGUMI_BAD_INPUT, TEZGUMI_BAD_LOAD,
- * TEZGUMI_TOO_LARGE or TEZGUMI_NO_MEMORY, after which nothing is known of the claim. Both are written after a flaw alone. */
+ * TEZGUMI_OK exactly where every part of the claim is right. Then least is the least possible load of the heaviest block,
+ * bottleneck is the load of the heaviest of these blocks, order is the present order of the PEs, in which no cuts within the
+ * tolerance move fewer bytes, and new_places are the names of the elements' blocks. With keep_order 0 no naming of the blocks
+ * moves fewer bytes; with any other the names are the order, and the prices are not looked at. That the plan moves more is not
+ * checked. Above 0: the first flaw of the claim, 1 to 11 and 20 to 33 being looked for before 12 to 19; *at_first and
+ * *at_second are then what it names: the block, the stop (from 1), the block and the PE, or the block and the place, and 0 where
+ * it names nothing. Otherwise TEZGUMI_BAD_TOLERANCE, TEZGUMI_BAD_INPUT, TEZGUMI_BAD_LOAD, TEZGUMI_TOO_LARGE or
+ * TEZGUMI_NO_MEMORY, after which nothing is known of the claim. Both are written after a flaw alone. */
 int32_t tezgumi_check_refined(
     const uint64_t *loads, size_t loads_len, const uint32_t *bytes, size_t bytes_len,
-    const uint32_t *places, size_t places_len, uint32_t procs, uint32_t pes, uint32_t tolerance,
-    const uint32_t *new_places, size_t new_places_len, uint64_t least, uint64_t moved,
+    const uint32_t *places, size_t places_len, uint32_t procs, uint32_t pes, uint32_t tolerance, uint32_t keep_order,
+    const uint32_t *new_places, size_t new_places_len, uint64_t least, uint64_t bottleneck, uint64_t moved,
     const uint32_t *cuts, size_t cuts_len, const uint32_t *stops, size_t stops_len,
     const uint32_t *names, size_t names_len,
     const int64_t *block_prices, size_t block_prices_len, const int64_t *pe_prices, size_t pe_prices_len,
@@ -337,6 +355,7 @@ typedef struct {
     tezgumi_decision decision; /* its bottleneck is the load of its heaviest block; the stops prove least */
     uint32_t tolerance;        /* thousandths above least */
     uint32_t near_present;     /* 1: the cuts are near the present ones; 0: it is the plan, and the lists from order on are not there */
+    uint32_t keep_order;       /* 0: the blocks have the cheapest names; else the PEs keep their order */
     uint64_t least;            /* the least possible load of the heaviest block */
     uint32_t *least_cuts;      /* pes + 1: those of the least division */
     uint32_t *order;           /* pes: the PEs, in the order in which they stand */
@@ -565,14 +584,15 @@ static inline void tezgumi_refinement_areas(const tezgumi_refinement *d, size_t 
 }
 
 /* Asks the library once, with the room for steps that there is. */
-static inline int32_t tezgumi_refine_once(const tezgumi_run *r, uint32_t tolerance, tezgumi_refinement *d)
+static inline int32_t tezgumi_refine_once(
+    const tezgumi_run *r, uint32_t tolerance, uint32_t keep_order, tezgumi_refinement *d)
 {
     tezgumi_decision *of = &d->decision;
     uint64_t none = 0;
     const size_t blocks = of->pes, ends = blocks + 1;
     return tezgumi_refine(
         (const uint64_t *)tezgumi_or(r->loads, r->n, &none), r->n, (const uint32_t *)tezgumi_or(r->bytes, r->n, &none), r->n,
-        (const uint32_t *)tezgumi_or(r->places, r->n, &none), r->n, r->procs, of->pes, tolerance,
+        (const uint32_t *)tezgumi_or(r->places, r->n, &none), r->n, r->procs, of->pes, tolerance, keep_order,
         (uint32_t *)tezgumi_or(of->new_places, r->n, &none), r->n, &d->least, &of->bottleneck, &of->moved,
         &d->near_present,
         of->cuts, ends, of->stops, ends, &of->stops_count, of->names, blocks, of->block_prices, blocks, of->pe_prices, blocks,
@@ -581,9 +601,11 @@ static inline int32_t tezgumi_refine_once(const tezgumi_run *r, uint32_t toleran
         (uint64_t *)tezgumi_or(d->step_rises, d->steps_room, &none), d->steps_room, &d->steps_count);
 }
 
-/* Decides within a tolerance for d->decision.pes PEs. Of the lists it asks what tezgumi_decide_run does. Where d has room of its
- * own, it gets more for the steps, so that they are there; where that is refused, TEZGUMI_NO_MEMORY, and d is of no use. */
-static inline int32_t tezgumi_refine_run(const tezgumi_run *r, uint32_t tolerance, tezgumi_refinement *d)
+/* Decides within a tolerance for d->decision.pes PEs, which keep their order where keep_order is not 0. Of the lists it asks what
+ * tezgumi_decide_run does. Where d has room of its own, it gets more for the steps, so that they are there; where that is
+ * refused, TEZGUMI_NO_MEMORY, and d is of no use. */
+static inline int32_t tezgumi_refine_run(
+    const tezgumi_run *r, uint32_t tolerance, uint32_t keep_order, tezgumi_refinement *d)
 {
     tezgumi_area areas[16];
     int32_t status;
@@ -594,42 +616,72 @@ static inline int32_t tezgumi_refine_run(const tezgumi_run *r, uint32_t toleranc
     tezgumi_refinement_areas(d, d->steps_room, areas + 9);
     areas[15] = tezgumi_area_of(d, sizeof *d, 1);
     if (!tezgumi_are_usable(areas, 3, 16)) return TEZGUMI_BAD_INPUT;
-    status = tezgumi_refine_once(r, tolerance, d);
+    status = tezgumi_refine_once(r, tolerance, keep_order, d);
     if (status == TEZGUMI_OK && d->steps && d->steps_count > d->steps_room) {
         status = tezgumi_steps_room(d, d->steps_count);
-        if (status == TEZGUMI_OK) status = tezgumi_refine_once(r, tolerance, d);
+        if (status == TEZGUMI_OK) status = tezgumi_refine_once(r, tolerance, keep_order, d);
     }
     if (status == TEZGUMI_OK) d->tolerance = tolerance;
+    if (status == TEZGUMI_OK) d->keep_order = keep_order;
     return status;
 }
 
-/* Checks a decision within a tolerance, whoever made it: the plan as tezgumi_check_run does. at, which may be null, has room
- * for the two numbers that a flaw names. */
+/* Whether the PEs stand in an order: the elements of each are together, and it is below pes. */
+static inline int tezgumi_stand_in_order(const tezgumi_run *r, uint32_t pes)
+{
+    unsigned char seen[TEZGUMI_PES] = {0};
+    uint32_t i;
+    for (i = 0; i < r->n; i++) {
+        const uint32_t place = r->places[i];
+        if (i > 0 && place == r->places[i - 1]) continue;
+        if (place >= pes || seen[place]) return 0;
+        seen[place] = 1;
+    }
+    return 1;
+}
+
+/* Checks a decision within a tolerance that is the plan. */
+static inline int32_t tezgumi_check_planned(const tezgumi_run *r, const tezgumi_refinement *d)
+{
+    const tezgumi_decision *of = &d->decision;
+    const size_t size = ((size_t)of->pes + 1) * sizeof *of->cuts;
+    const int32_t status = tezgumi_check_run(r, of);
+    if (status != TEZGUMI_OK) return status;
+    if (d->least != of->bottleneck || memcmp(d->least_cuts, of->cuts, size) != 0) return TEZGUMI_LEAST_WRONG;
+    return d->keep_order && tezgumi_stand_in_order(r, of->pes) ? TEZGUMI_ORDER_WRONG : TEZGUMI_OK;
+}
+
+/* Checks a decision within a tolerance, whoever made it. Cuts near the present ones are checked as tezgumi_check_refined does; the
+ * plan as tezgumi_check_run does, and then that least and least_cuts are its own, and that the PEs stand in no order where they
+ * are to keep it. at, which may be null, has room for the two numbers that a flaw names. */
 static inline int32_t tezgumi_check_refinement(const tezgumi_run *r, const tezgumi_refinement *d, uint32_t *at)
 {
-    tezgumi_area areas[15];
+    tezgumi_area areas[17];
     uint64_t none = 0;
-    uint32_t unread[2];
+    uint32_t unread[2] = {0, 0};
     const tezgumi_decision *of;
-    size_t blocks, steps;
+    size_t blocks, steps, i;
     if (!d || !tezgumi_fit(r, &d->decision) || d->decision.stops_count > (size_t)d->decision.pes + 1) return TEZGUMI_BAD_INPUT;
     of = &d->decision;
-    if (!at) at = unread;
-    if (!d->near_present) {
-        at[0] = at[1] = 0;
-        return tezgumi_check_run(r, of);
-    }
     blocks = of->pes;
-    steps = d->steps_count;
+    steps = d->near_present ? d->steps_count : 0;
     if (steps > d->steps_room) return TEZGUMI_BAD_INPUT;
     tezgumi_run_areas(r, areas);
     tezgumi_decision_areas(of, of->stops_count, areas + 3);
     tezgumi_refinement_areas(d, steps, areas + 9);
-    if (!tezgumi_are_usable(areas, 15, 15)) return TEZGUMI_BAD_INPUT;
+    for (i = 10; !d->near_present && i < 15; i++) areas[i].count = 0;
+    areas[15] = tezgumi_area_of(d, sizeof *d, 1);
+    areas[16] = tezgumi_area_of(at, at ? 2 : 0, sizeof *at);
+    if (!tezgumi_are_usable(areas, 16, 17)) return TEZGUMI_BAD_INPUT;
+    if (!at) at = unread;
+    if (!d->near_present) {
+        at[0] = at[1] = 0;
+        return tezgumi_check_planned(r, d);
+    }
     return tezgumi_check_refined(
         (const uint64_t *)tezgumi_or(r->loads, r->n, &none), r->n, (const uint32_t *)tezgumi_or(r->bytes, r->n, &none), r->n,
-        (const uint32_t *)tezgumi_or(r->places, r->n, &none), r->n, r->procs, of->pes, d->tolerance,
-        (const uint32_t *)tezgumi_or(of->new_places, r->n, &none), r->n, d->least, of->moved, of->cuts, blocks + 1,
+        (const uint32_t *)tezgumi_or(r->places, r->n, &none), r->n, r->procs, of->pes, d->tolerance, d->keep_order,
+        (const uint32_t *)tezgumi_or(of->new_places, r->n, &none), r->n, d->least, of->bottleneck, of->moved, of->cuts, blocks + 1,
         (const uint32_t *)tezgumi_or(of->stops, of->stops_count, &none), of->stops_count, of->names, blocks,
         of->block_prices, blocks, of->pe_prices, blocks, d->least_cuts, blocks + 1, d->order, blocks, d->present, blocks + 1,
         d->step_starts, blocks + 1, (const uint32_t *)tezgumi_or(d->step_places, steps, &none), steps,

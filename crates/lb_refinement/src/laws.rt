@@ -1,7 +1,9 @@
 //! Laws of the definitions, each the contract of a function with an empty body.
 
 ghost use Rattle.std.specs.Prelude.{ℕ, List};
+ghost use Rattle.lb_refinement.specs.declared.in_order.RefinedInOrder.{RefinedInOrder};
 ghost use Rattle.lb_refinement.specs.declared.refined.Refined.{Refined};
+ghost use Rattle.lb_refinement.specs.InOrder.{AreSameInOrder, IsRefinedInOrder};
 ghost use Rattle.lb_refinement.specs.Refined.{AreSame, IsRefined};
 
 use std::alloc::Allocator;
@@ -10,4 +12,10 @@ use std::alloc::Allocator;
 pub fn one_refined<A: Allocator>()
     ensures one_refined { (loads : List ℕ) (sizes : List (ℕ × ℕ)) (pes tolerance : ℕ) (one other : Refined A)
         → IsRefined loads sizes pes tolerance one → IsRefined loads sizes pes tolerance other → AreSame one other }
+{}
+
+/// The same of the decision that keeps the order of the PEs.
+pub fn one_in_order<A: Allocator>()
+    ensures one_in_order { (loads : List ℕ) (sizes : List (ℕ × ℕ)) (pes tolerance : ℕ) (one other : RefinedInOrder A)
+        → IsRefinedInOrder loads sizes pes tolerance one → IsRefinedInOrder loads sizes pes tolerance other → AreSameInOrder one other }
 {}

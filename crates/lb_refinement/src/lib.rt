@@ -3,7 +3,10 @@
 //! - [`refine`]: decides, as [`plan`](lb_strategy::plan) does, or returns that memory was refused; [`refine_with`] does so with
 //!   several threads.
 //! - [`Refined`]: what they decide: cuts near the present ones, with their proofs ([`Kept`]), or the plan.
+//! - [`refine_keeping_order`]: decides so that the PEs keep their order: [`RefinedInOrder`], of which [`KeptInOrder`] has no
+//!   names of its own.
 //! - [`block_around`]: the block that contains an element.
+//! - [`greatest_load`], [`moved_by`]: the load of the heaviest block, and the bytes that names move.
 //! - [`laws`]: what the definitions imply.
 //!
 //! ```
@@ -27,11 +30,18 @@
 #![tactic(auto)]
 
 mod heaviest;
+mod in_order;
+mod keeping;
 pub mod laws;
+mod moved;
 mod places;
 mod refined;
 mod refining;
 
+pub use heaviest::greatest_load;
+pub use in_order::{KeptInOrder, RefinedInOrder};
+pub use keeping::refine_keeping_order;
+pub use moved::moved_by;
 pub use places::block_around;
 pub use refined::{Kept, Refined};
 pub use refining::{refine, refine_with};

@@ -95,8 +95,12 @@ pub fn refine_with<R: Threads + Sync, G: Gate + Sync, A: Allocator + Copy, B: Al
     nearer(alloc, snapshot, pes, tolerance, planned)
 }
 
-// The decision of the plan.
-fn planned<A: Allocator + Copy, B: Allocator>(
+/// The decision of the plan.
+///
+/// # Errors
+///
+/// Memory for a list was refused.
+pub(crate) fn planned<A: Allocator + Copy, B: Allocator>(
     alloc: A,
     snapshot: &Snapshot<B>,
     pes: u32,
