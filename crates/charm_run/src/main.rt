@@ -6,34 +6,34 @@
 //!   ask for; `Asked::task`: how the chares are run, if the options go together; `program_words::refused`: the status where the
 //!   arguments ask for no run.
 //! - `workload_run::drive_file`: the run of a workload, from a file to its text; `write_asked`: the dumps of its rounds, and
-//!   the status.
-//! - `one_thread`: the runs on one thread, by the crate `schedule_run`. `traces`: the trace of a run, by `run_trace`.
+//!   the status; `write_beside`: the list of events and the trace, where they are asked for and there was a run.
+//! - `one_thread`: the runs on one thread, by the crate `schedule_run`. `traces`: the trace of a run, by `run_trace`. `files`: the
+//!   files of the system.
 //! - `progress_line::Progress`: what is written to the standard error meanwhile; `file_faults::Advice`: what is printed about
 //!   a file with a fault.
 #![tactic(auto)]
 
+mod files;
 mod one_thread;
 mod traces;
 
-ghost use Rattle.std.specs.Prelude.{None};
-
+use crate::files::dumped;
 use crate::one_thread::{run_by_list, run_by_seed, run_by_seeds};
-use crate::traces::{Onlookers, keep_recorded, lost};
+use crate::traces::{Onlookers, keep_recorded, lose_trace};
 use at_sync::Strategy;
 use chain_refinement::Tolerance;
 use file_faults::Advice;
-use program_words::{BAD_FILE, NO_OUTPUT, on_words, refused};
+use program_words::{BAD_FILE, on_words, refused};
 use progress_line::Progress;
 use run_command_line::{Asked, Task, asked, refuse};
 use run_trace::Tracing;
-use std::alloc::Global;
 use std::fs::{File, Files};
 use std::io::{self, IsTerminal, Write};
 use std::process::ExitCode;
 use std::sync::Wait;
 use std::thread::Threads;
 use std::time::Clock;
-use workload_run::{Driven, DumpFiles, DumpFormat, NotWritten, drive_file, write_asked};
+use workload_run::{drive_file, status_beside};
 
 /// The number of idle turns in a row after which a worker gives up.
 const TURNS: u64 = 1_000_000_000;
@@ -81,11 +81,7 @@ fn ran<R: Threads + Wait + Sync + Files + Clock + Print + Eprint + AllocGlobal, 
     let progress = Progress::new(rt, progress).unwrap_or(Progress::Off);
     match Tracing::new(rt, rt.alloc(), asked.trace.is_some()) {
         Ok(tracing) => ran_watched(rt, asked, Onlookers { progress, tracing }, errors),
-        Err(error) => {
-            let name = asked.trace.unwrap_or("");
-            let _lost = lost(rt, name, error, &mut io::writer(rt));
-            NO_OUTPUT
-        }
+        Err(error) => lose_trace(rt, asked, error, &mut io::writer(rt)),
     }
 }
 
@@ -113,46 +109,7 @@ fn ran_watched<R: Threads + Wait + Sync + Files + Clock + Print + Eprint + Alloc
     progress.finish();
     let is_fault = driven.status() == BAD_FILE;
     let _told = ADVICE.tell(rt.alloc(), errors, asked.file, reason, is_fault);
-    let kept = keep_recorded(rt, asked.trace, tracing, &driven, &mut writer);
+    let is_lost = keep_recorded(rt, asked.trace, tracing, &driven, &mut writer);
     let status = dumped(rt, asked, &driven, &mut writer);
-    if kept { status } else { NO_OUTPUT }
-}
-
-/// Writes the dumps of the rounds that are asked for, and returns the status.
-pub(crate) fn dumped<R: Files + Eprint + AllocGlobal, W: Write>(
-    rt: &R,
-    asked: &Asked<'_>,
-    driven: &Driven<Global>,
-    writer: &mut W,
-) -> u8 {
-    let format = DumpFormat::asked(asked.lbd1);
-    let mut files = SystemFiles(rt);
-    let (status, failed) = write_asked(rt.alloc(), driven, format, asked.dump, &mut files, writer);
-    if let Some(dump) = failed {
-        tell_dump(rt, asked.dump.unwrap_or(""), dump);
-    }
-    status
-}
-
-// Writes the name of a dump that was not written, and the system's reason, or otherwise what was wrong.
-fn tell_dump<R: Eprint>(rt: &R, prefix: &str, dump: NotWritten) {
-    let _ = match dump.reason {
-        Some(reason) => eprintln!(rt; "charm_run: {prefix}.{}: {reason}", dump.round),
-        None => eprintln!(rt; "charm_run: {prefix}.{}: {}", dump.round, dump.fault),
-    };
-}
-
-// The files of the system.
-#[derive(Drop)]
-struct SystemFiles<'a, R>(&'a R);
-
-impl<R: Files> DumpFiles for SystemFiles<'_, R> {
-    type File = R::File;
-
-    // the names that a system is asked for are not known
-    ghost names = { λ _. None };
-
-    fn create(&mut self, name: &str) -> io::Result<R::File> {
-        File::create(self.0, name)
-    }
+    status_beside(status, is_lost)
 }

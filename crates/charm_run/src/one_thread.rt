@@ -3,24 +3,27 @@
 ghost use Rattle.std.specs.Prelude.{IfOk};
 ghost use Rattle.workload.specs.Text.{IsWithin};
 
-use crate::traces::{keep_trace, lost, pes_of};
-use crate::{ADVICE, dumped};
+use crate::ADVICE;
+use crate::files::{dumped, is_lost};
+use crate::traces::{keep_trace, tell};
 use at_sync::Strategy;
 use chain_refinement::Tolerance;
 use file_faults::Advice;
-use program_words::{BAD_FILE, NO_OUTPUT};
+use program_words::BAD_FILE;
 use run_command_line::Asked;
 use run_trace::Timeline;
 use schedule_run::{
     DrivenOnOne, ListFault, drive_events, drive_seed, drive_seeds, read_list, read_workload,
     report_list, write_list,
 };
+use schedules::Explored;
 use std::alloc::Global;
 use std::fs::{File, Files};
 use std::io::{self, Write};
-use streams::{Noted, write_out};
+use tally::Tally;
 use trace_events::TraceError;
 use workload::Workload;
+use workload_run::{Beside, BesideText, status_beside};
 
 /// What to do about a list of events with a fault.
 const LIST_ADVICE: Advice<'static> = Advice {
@@ -133,62 +136,57 @@ fn finished<R: Files + Eprint + AllocGlobal, W: Write>(
     driven: DrivenOnOne<Global>,
     writer: &mut W,
 ) -> u8 {
-    let kept = kept_events(rt, asked, &driven, writer);
-    let traced = kept_trace(rt, asked, &driven, writer);
+    let is_unlisted = lost_events(rt, asked, &driven, writer);
+    let is_untraced = lost_trace(rt, asked, &driven, writer);
     let status = dumped(rt, asked, &driven.into_driven(), writer);
-    if kept && traced { status } else { NO_OUTPUT }
+    status_beside(status, is_unlisted || is_untraced)
 }
 
-// Writes the trace to the file that is asked for, by the numbers of the events, and returns whether nothing is left to write.
-fn kept_trace<R: Files + Eprint + AllocGlobal, W: Write>(
+// Writes the trace to the file that is asked for, by the numbers of the events. Returns whether it was lost.
+fn lost_trace<R: Files + Eprint + AllocGlobal, W: Write>(
     rt: &R,
     asked: &Asked<'_>,
     driven: &DrivenOnOne<Global>,
     writer: &mut W,
 ) -> bool {
-    let (Some(name), Some(explored)) = (asked.trace, &driven.explored) else {
-        return true;
+    let (Some(_name), Some(explored)) = (asked.trace, &driven.explored) else {
+        return false;
     };
-    let outcome = explored.outcome();
-    let pes = pes_of(outcome);
     match Timeline::of_steps(rt.alloc(), explored.steps()) {
-        Ok(timeline) => keep_trace(rt, name, pes, &timeline, outcome.rounds(), writer),
-        Err(error) => lost(rt, name, TraceError::from(error), writer),
+        Ok(timeline) => keep_trace(rt, asked.trace, explored.outcome(), &timeline, writer),
+        Err(error) => {
+            tell(rt, asked.trace, TraceError::from(error), writer);
+            true
+        }
     }
 }
 
-// Writes the list of events to the file that is asked for, and returns whether that was done, or was not asked for. Where it was
-// not done, the writer gets a line, and the standard error gets the system's reason.
-fn kept_events<R: Files + Eprint + AllocGlobal, W: Write>(
+// What a run on one thread left for the list of its events.
+#[derive(Drop)]
+struct Listed<'a> {
+    alloc: Global,
+    explored: &'a Explored<Tally>,
+}
+
+impl BesideText for Listed<'_> {
+    fn write_to<W: Write>(&self, writer: &mut W) -> bool {
+        write_list(self.alloc, self.explored, writer)
+    }
+}
+
+// Writes the list of events to the file that is asked for. Returns whether it was lost.
+fn lost_events<R: Files + Eprint + AllocGlobal, W: Write>(
     rt: &R,
     asked: &Asked<'_>,
     driven: &DrivenOnOne<Global>,
     writer: &mut W,
 ) -> bool {
-    let (Some(name), Some(explored)) = (asked.events, &driven.explored) else {
-        return true;
+    let Some(explored) = &driven.explored else {
+        return false;
     };
-    let mut file = match File::create(rt, name) {
-        Ok(file) => Noted::new(file),
-        Err(reason) => return unkept(rt, name, Some(reason), writer),
+    let listed = Listed {
+        alloc: rt.alloc(),
+        explored,
     };
-    if !write_list(rt.alloc(), explored, &mut file) {
-        return unkept(rt, name, file.failure(), writer);
-    }
-    true
-}
-
-// Writes that a list of events was not written.
-fn unkept<R: Eprint, W: Write>(
-    rt: &R,
-    name: &str,
-    reason: Option<io::Error>,
-    writer: &mut W,
-) -> bool {
-    let _told = write_out(writer, b"events: write failed\n");
-    let _ = match reason {
-        Some(reason) => eprintln!(rt; "charm_run: {name}: {reason}"),
-        None => eprintln!(rt; "charm_run: {name}: out of memory"),
-    };
-    false
+    is_lost(rt, Beside::Events, asked.events, Some(&listed), writer)
 }

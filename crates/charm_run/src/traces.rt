@@ -1,21 +1,20 @@
 //! The trace of a run, in the file that is asked for.
 
+use crate::files::is_lost;
 use chare_index::{Pe, Round};
-use lb_refinement::Refined;
-use lb_snapshot::Snapshot;
 use pe_worker::{PeStep, Watch};
 use progress_line::Progress;
 use rts_run::Outcome;
+use run_command_line::Asked;
 use run_trace::{Timeline, Tracing};
 use std::alloc::Global;
-use std::fs::{File, Files};
+use std::fs::Files;
 use std::io::Write;
 use std::sync::Wait;
 use std::time::Clock;
-use streams::write_out;
 use tally::Tally;
 use trace_events::{TraceError, write_trace};
-use workload_run::{Driven, Onlooker};
+use workload_run::{Beside, BesideText, Driven, Onlooker, report_lost, status_beside};
 
 /// The watches of a run over threads: the progress line, and the recorder of a trace.
 #[derive(Drop)]
@@ -53,57 +52,77 @@ impl<R: Clock + Eprint + Wait> Onlooker for Onlookers<'_, R> {
     }
 }
 
-/// Writes the trace of a run over threads, where one is asked for, and returns whether nothing is left to write.
+/// What a run on some PEs left for its trace.
+#[derive(Drop)]
+pub(crate) struct Traced<'a> {
+    pub(crate) alloc: Global,
+    pub(crate) outcome: &'a Outcome<Tally>,
+    pub(crate) timeline: &'a Timeline<Global>,
+}
+
+impl BesideText for Traced<'_> {
+    fn write_to<W: Write>(&self, writer: &mut W) -> bool {
+        let pes = u32::try_from(self.outcome.ends().len()).unwrap_or(u32::MAX);
+        let happenings = self.timeline.happenings();
+        write_trace(self.alloc, writer, pes, happenings, self.outcome.rounds()).is_ok()
+    }
+}
+
+/// Writes the trace of a run over threads, where one is asked for and there was a run. Returns whether it was lost.
 pub(crate) fn keep_recorded<R: Clock + Files + Eprint + AllocGlobal, W: Write>(
     rt: &R,
-    asked: Option<&str>,
+    name: Option<&str>,
     tracing: Tracing<'_, R>,
     driven: &Driven<Global>,
     writer: &mut W,
 ) -> bool {
-    let Some(name) = asked else {
-        return true;
+    let Some(outcome) = &driven.outcome else {
+        return false;
     };
-    let pes = driven.outcome.as_ref().map_or(0, pes_of);
     match tracing.into_timeline() {
-        Ok(Some(timeline)) => keep_trace(rt, name, pes, &timeline, driven.rounds(), writer),
-        Ok(None) => true,
-        Err(error) => lost(rt, name, TraceError::from(error), writer),
+        Ok(Some(timeline)) => keep_trace(rt, name, outcome, &timeline, writer),
+        Ok(None) => false,
+        Err(error) => {
+            tell(rt, name, TraceError::from(error), writer);
+            true
+        }
     }
 }
 
-/// The number of PEs of a run.
-pub(crate) fn pes_of(outcome: &Outcome<Tally>) -> u32 {
-    u32::try_from(outcome.ends().len()).unwrap_or(u32::MAX)
-}
-
-/// Writes the trace of what happened on this number of PEs, and returns whether that was done. Where it was not, the writer gets a line, and the
-/// standard error gets the reason.
+/// Writes the trace of a run, where one is asked for. Returns whether it was lost.
 pub(crate) fn keep_trace<R: Files + Eprint + AllocGlobal, W: Write>(
     rt: &R,
-    name: &str,
-    pes: u32,
+    name: Option<&str>,
+    outcome: &Outcome<Tally>,
     timeline: &Timeline<Global>,
-    rounds: &[(Snapshot, Refined)],
     writer: &mut W,
 ) -> bool {
-    let Ok(mut file) = File::create(rt, name) else {
-        return lost(rt, name, TraceError::Write, writer);
+    let traced = Traced {
+        alloc: rt.alloc(),
+        outcome,
+        timeline,
     };
-    match write_trace(rt.alloc(), &mut file, pes, timeline.happenings(), rounds) {
-        Ok(()) => true,
-        Err(error) => lost(rt, name, error, writer),
-    }
+    is_lost(rt, Beside::Trace, name, Some(&traced), writer)
 }
 
-/// Writes that a trace was not written, and returns false.
-pub(crate) fn lost<R: Eprint, W: Write>(
+/// Writes that a trace cannot be kept, and returns the status.
+pub(crate) fn lose_trace<R: Eprint, W: Write>(
     rt: &R,
-    name: &str,
+    asked: &Asked<'_>,
     error: TraceError,
     writer: &mut W,
-) -> bool {
-    let _told = write_out(writer, b"trace: write failed\n");
-    let _ = eprintln!(rt; "charm_run: {name}: {error}");
-    false
+) -> u8 {
+    tell(rt, asked.trace, error, writer);
+    status_beside(0, true)
+}
+
+// Writes that a trace was lost, and why.
+pub(crate) fn tell<R: Eprint, W: Write>(
+    rt: &R,
+    name: Option<&str>,
+    error: TraceError,
+    writer: &mut W,
+) {
+    report_lost(Beside::Trace, writer);
+    let _ = eprintln!(rt; "charm_run: {}: {error}", name.unwrap_or(""));
 }

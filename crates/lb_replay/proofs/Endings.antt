@@ -12,6 +12,7 @@ use Rattle.lb_replay.specs.declared.ended.Ended.{Ended}
 use Rattle.lb_replay.specs.declared.ended.Ended.TheVariants.{Printed, WriteFailed}
 use Rattle.lb_replay.specs.declared.fault.Fault.{Fault}
 use Rattle.lb_replay.specs.declared.fault.Fault.TheVariants.{Dump, Plan}
+use Rattle.lb_replay.specs.declared.way.Way.{Way}
 
 -- out of memory may be reported wherever a dump is read
 no_memory : (bytes rest : Option (List ℕ)) → IsReadFault bytes rest DumpError.OutOfMemory
@@ -19,21 +20,21 @@ no_memory None rest = (tt, λ read. absurd cc)
 no_memory (Some text) rest = (inr (inl refl), λ read. absurd cc)
 
 -- a fault that a replay may report, and its line
-ends_reported : (A : Type 0) (bytes rest : Option (List ℕ)) (procs tolerance : Option ℕ) (old new : Option (List ℕ)) (fault : Fault) (ended : Ended) → IsReplayFault A bytes rest fault → ReportsFault old new fault ended → EndsReplay A bytes rest procs tolerance old new ended
-ends_reported A bytes rest procs tolerance old new fault Printed told line = absurd line
-ends_reported A bytes rest procs tolerance old new fault (Ended.Dump e) told line = (
+ends_reported : (A : Type 0) (bytes rest : Option (List ℕ)) (procs : Option ℕ) (way : Way) (old new : Option (List ℕ)) (fault : Fault) (ended : Ended) → IsReplayFault A bytes rest fault → ReportsFault old new fault ended → EndsReplay A bytes rest procs way old new ended
+ends_reported A bytes rest procs way old new fault Printed told line = absurd line
+ends_reported A bytes rest procs way old new fault (Ended.Dump e) told line = (
   subst (λ x. IsReplayFault A bytes rest x) line.0 told,
   subst (λ x. Appends old new (fault_line x)) line.0 line.1,
 )
-ends_reported A bytes rest procs tolerance old new fault (Ended.Plan e) told line = (
+ends_reported A bytes rest procs way old new fault (Ended.Plan e) told line = (
   subst (λ x. IsReplayFault A bytes rest x) line.0 told,
   subst (λ x. Appends old new (fault_line x)) line.0 line.1,
 )
-ends_reported A bytes rest procs tolerance old new fault (Ended.Flawed flaw) told line =
+ends_reported A bytes rest procs way old new fault (Ended.Flawed flaw) told line =
     subst (λ x. IsReplayFault A bytes rest x) line.0 told
-ends_reported A bytes rest procs tolerance old new fault Ended.NoDecision told line =
+ends_reported A bytes rest procs way old new fault Ended.NoDecision told line =
     subst (λ x. IsReplayFault A bytes rest x) line.0 told
-ends_reported A bytes rest procs tolerance old new fault WriteFailed told line =
+ends_reported A bytes rest procs way old new fault WriteFailed told line =
     (fault_line fault, inr (fault, told, refl), line)
 
 -- out of memory may be reported wherever a replay may report a fault
@@ -43,11 +44,11 @@ memory_reported A bytes rest (Plan e) told = (refl, told.1, told.2)
 memory_reported A bytes rest _ told = absurd told
 
 -- the line of a fault of a replay, or in its place that for out of memory
-pub ends_fault : (A : Type 0) (bytes rest : Option (List ℕ)) (procs tolerance : Option ℕ) (old new : Option (List ℕ)) (fault : Fault) (ended : Ended) → IsReplayFault A bytes rest fault → ReportsFault old new fault ended ⊎ ReportsFault old new (without_memory fault) ended → EndsReplay A bytes rest procs tolerance old new ended
-ends_fault A bytes rest procs tolerance old new fault ended told (inl line) =
-    ends_reported A bytes rest procs tolerance old new fault ended told line
-ends_fault A bytes rest procs tolerance old new fault ended told (inr line) =
-    ends_reported A bytes rest procs tolerance old new (without_memory fault) ended (memory_reported A bytes rest fault told) line
+pub ends_fault : (A : Type 0) (bytes rest : Option (List ℕ)) (procs : Option ℕ) (way : Way) (old new : Option (List ℕ)) (fault : Fault) (ended : Ended) → IsReplayFault A bytes rest fault → ReportsFault old new fault ended ⊎ ReportsFault old new (without_memory fault) ended → EndsReplay A bytes rest procs way old new ended
+ends_fault A bytes rest procs way old new fault ended told (inl line) =
+    ends_reported A bytes rest procs way old new fault ended told line
+ends_fault A bytes rest procs way old new fault ended told (inr line) =
+    ends_reported A bytes rest procs way old new (without_memory fault) ended (memory_reported A bytes rest fault told) line
 
 -- the line of a fault is that of the end where it was reported
 line_at : (fault : Fault) → fault_line fault ≡ check_line (ended_at fault)

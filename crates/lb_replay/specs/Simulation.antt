@@ -9,17 +9,21 @@ use Rattle.dump_format.specs.Faults.{IsFault, IsGood}
 use Rattle.dump_format.specs.Text.{IsText}
 use Rattle.dump_format.specs.declared.error.DumpError.{DumpError}
 use Rattle.dump_format.specs.declared.error.DumpError.TheVariants.{Read}
+use Rattle.lb_refinement.specs.InOrder.{IsRefinedInOrder}
 use Rattle.lb_refinement.specs.Refined.{IsRefined}
+use Rattle.lb_refinement.specs.declared.in_order.RefinedInOrder.{RefinedInOrder}
 use Rattle.lb_refinement.specs.declared.refined.Refined.{Refined}
 use Rattle.lb_strategy.specs.Decisions.{IsRight}
 use Rattle.lb_strategy.specs.declared.decision.Decision.{Decision}
 use Rattle.lb_strategy.specs.declared.error.PlanError.{PlanError}
 use Rattle.streams.specs.Writing.{WritesPrefix}
-use Rattle.lb_replay.specs.Text.{decision_text, fault_line, refined_text}
+use Rattle.lb_replay.specs.Text.{decision_text, fault_line, ordered_text, refined_text}
 use Rattle.lb_replay.specs.declared.ended.Ended.{Ended}
 use Rattle.lb_replay.specs.declared.ended.Ended.TheVariants.{Printed, WriteFailed}
 use Rattle.lb_replay.specs.declared.fault.Fault.{Fault}
 use Rattle.lb_replay.specs.declared.fault.Fault.TheVariants.{Dump, Plan, Flawed, NoDecision}
+use Rattle.lb_replay.specs.declared.way.Way.{Way}
+use Rattle.lb_replay.specs.declared.way.Way.TheVariants.{Least, Within, InOrder}
 
 -- the number of blocks: the one asked for, or otherwise that of the dump
 abbrev pub blocks_of : Option ℕ → Taken → ℕ
@@ -39,17 +43,24 @@ pub record IsWithin (A : Type 0) (s : Taken) (blocks tolerance : ℕ) (text : Li
   pub refined : IsRefined s.loads s.sizes blocks tolerance decision
   pub printed : text ≡ refined_text s blocks tolerance decision
 
--- the text of the least decision, or, where there is a tolerance, of the one within it
-abbrev pub IsDecided : (A : Type 0) → Taken → ℕ → Option ℕ → List ℕ → Type 0
-IsDecided A s blocks None text = IsPlanned A s blocks text
-IsDecided A s blocks (Some tolerance) text = IsWithin A s blocks tolerance text
+-- this is the text of the decision on the snapshot within the tolerance that keeps the order of the PEs
+pub record IsInOrder (A : Type 0) (s : Taken) (blocks tolerance : ℕ) (text : List ℕ) : Type 0 where
+  pub decision : RefinedInOrder A
+  pub refined : IsRefinedInOrder s.loads s.sizes blocks tolerance decision
+  pub printed : text ≡ ordered_text s blocks tolerance decision
+
+-- the text of the decision that is made in this way
+abbrev pub IsDecided : (A : Type 0) → Taken → ℕ → Way → List ℕ → Type 0
+IsDecided A s blocks Least text = IsPlanned A s blocks text
+IsDecided A s blocks (Within tolerance) text = IsWithin A s blocks tolerance text
+IsDecided A s blocks (InOrder tolerance) text = IsInOrder A s blocks tolerance text
 
 -- This is such a text for the snapshot of the dump that the bytes are a text of. A decision in the dump does not matter. Where
 -- the reader does not report its bytes, it is so for some dump.
-pub record IsReplay (A : Type 0) (bytes : Option (List ℕ)) (procs tolerance : Option ℕ) (text : List ℕ) : Type 0 where
+pub record IsReplay (A : Type 0) (bytes : Option (List ℕ)) (procs : Option ℕ) (way : Way) (text : List ℕ) : Type 0 where
   pub dump : Dumped A
   pub read : IfSome bytes (IsText dump)
-  pub decided : IsDecided A dump.snapshot (blocks_of procs dump.snapshot) tolerance text
+  pub decided : IsDecided A dump.snapshot (blocks_of procs dump.snapshot) way text
 
 -- nothing is wrong with what was read
 abbrev pub ReadsGood : Option (List ℕ) → Option (List ℕ) → Type 0
@@ -79,15 +90,15 @@ ReportsFault old new fault WriteFailed = WritesPrefix old new (fault_line fault)
 
 -- What the writer has after each end: the whole text, the line of the fault, or a prefix of one of these. The reader had
 -- `bytes` before, and has `rest` after.
-abbrev pub EndsReplay : (A : Type 0) → Option (List ℕ) → Option (List ℕ) → Option ℕ → Option ℕ → Option (List ℕ) → Option (List ℕ) → Ended → Type 0
-EndsReplay A bytes rest procs tolerance old new Printed = (text : List ℕ) × IsReplay A bytes procs tolerance text × Appends old new text
-EndsReplay A bytes rest procs tolerance old new (Ended.Dump e) =
+abbrev pub EndsReplay : (A : Type 0) → Option (List ℕ) → Option (List ℕ) → Option ℕ → Way → Option (List ℕ) → Option (List ℕ) → Ended → Type 0
+EndsReplay A bytes rest procs way old new Printed = (text : List ℕ) × IsReplay A bytes procs way text × Appends old new text
+EndsReplay A bytes rest procs way old new (Ended.Dump e) =
     IsReplayFault A bytes rest (Dump e) × Appends old new (fault_line (Dump e))
-EndsReplay A bytes rest procs tolerance old new (Ended.Plan e) =
+EndsReplay A bytes rest procs way old new (Ended.Plan e) =
     IsReplayFault A bytes rest (Plan e) × Appends old new (fault_line (Plan e))
-EndsReplay A bytes rest procs tolerance old new WriteFailed =
-    (text : List ℕ) × (IsReplay A bytes procs tolerance text ⊎ ((fault : Fault) × IsReplayFault A bytes rest fault × (text ≡ fault_line fault))) × WritesPrefix old new text
-EndsReplay A bytes rest procs tolerance old new _ = ⊥
+EndsReplay A bytes rest procs way old new WriteFailed =
+    (text : List ℕ) × (IsReplay A bytes procs way text ⊎ ((fault : Fault) × IsReplayFault A bytes rest fault × (text ≡ fault_line fault))) × WritesPrefix old new text
+EndsReplay A bytes rest procs way old new _ = ⊥
 
 -- the line for a dump that was not read was written, or in its place the one for out of memory, or a prefix of one
 abbrev pub ReportsUnread : Option (List ℕ) → Option (List ℕ) → Ended → Type 0

@@ -11,9 +11,12 @@ use Rattle.lb_replay.specs.declared.fault.Fault.TheVariants.{Dump, Plan, Flawed,
 use Rattle.chain_refinement.specs.Tolerances.{limit_of}
 use Rattle.lb_certificates.specs.Chain.{block_load}
 use Rattle.lb_snapshot.specs.Measured.{Taken}
+use Rattle.lb_refinement.specs.InOrder.{ordered_cuts, ordered_least, ordered_moved, ordered_names}
 use Rattle.lb_refinement.specs.Refined.{refined_cuts, refined_least, refined_moved, refined_names}
+use Rattle.lb_refinement.specs.declared.in_order.RefinedInOrder.{RefinedInOrder}
 use Rattle.lb_refinement.specs.declared.refined.Refined.{Refined}
 use Rattle.lb_strategy.specs.declared.decision.Decision.{Decision}
+use Rattle.lb_certificates.specs.declared.division.Division.{Division}
 use Rattle.lb_certificates.specs.declared.division.Floor.{Floor}
 use Rattle.lb_certificates.specs.declared.division.Floor.TheVariants.{Zero, Fence}
 use Rattle.lb_certificates.specs.declared.flaw.Flaw.{Flaw}
@@ -77,9 +80,18 @@ decision_text s pes d =
 
 -- The whole text of a decision within a tolerance on a snapshot, for this number of PEs: the bottleneck and the floor are those of the
 -- least division, and the blocks and the bytes that move those of the decision.
+abbrev pub text_within : {A : Type 0} → Taken → ℕ → ℕ → Division A → List ℕ → List ℕ → ℕ → List ℕ
+text_within s pes tolerance least cuts names moved =
+    head_line s.step pes (length s.loads) ++ bottleneck_line least.bottleneck ++ floor_line least.floor ++ limit_line (limit_of least.bottleneck tolerance) ++ block_lines s.loads cuts names pes ++ moved_line moved
+
 abbrev pub refined_text : {A : Type 0} → Taken → ℕ → ℕ → Refined A → List ℕ
 refined_text s pes tolerance r =
-    head_line s.step pes (length s.loads) ++ bottleneck_line (refined_least r).bottleneck ++ floor_line (refined_least r).floor ++ limit_line (limit_of (refined_least r).bottleneck tolerance) ++ block_lines s.loads (refined_cuts r) (refined_names r) pes ++ moved_line (refined_moved r)
+    text_within s pes tolerance (refined_least r) (refined_cuts r) (refined_names r) (refined_moved r)
+
+-- the same of a decision that keeps the order of the PEs
+abbrev pub ordered_text : {A : Type 0} → Taken → ℕ → ℕ → RefinedInOrder A → List ℕ
+ordered_text s pes tolerance r =
+    text_within s pes tolerance (ordered_least r) (ordered_cuts r) (ordered_names r) (ordered_moved r)
 
 -- the one line for out of memory
 abbrev pub memory_line : List ℕ

@@ -2,18 +2,18 @@
 //! consecutive blocks, with the fence that proves it, the PE of each block and the bytes that move; or of the decision within a
 //! tolerance of that division.
 //!
-//! - [`simulate`]: the replay, from the bytes of a reader to the bytes of a writer; [`replay_file`]: that of a file.
+//! - [`simulate`]: the replay in some [`Way`], from the bytes of a reader to the bytes of a writer; [`replay_file`]: that of a file.
 //! - [`verify`]: the check of the decision that was recorded in a dump; [`verify_file`]: that of a file.
 //! - [`Ended`]: how a replay or a check ended, and the status for it; [`dump_advice`]: what to do about a fault of a dump.
 //! - [`run`]: what a program does, by the [`Task`] that it was [`Asked`] for, if that has no [`Clash`].
 //!
 //! ```
-//! use lb_replay::{Ended, simulate, verify};
+//! use lb_replay::{Ended, Way, simulate, verify};
 //!
 //! // No elements on three PEs, at step 7, replayed for one PE.
 //! let mut dump = b"LBD1\0\0\0\x07\0\0\0\x03\0\0\0\0".as_slice();
 //! let mut text = Vec::new(alloc);
-//! assert!(rt; simulate(alloc, &mut dump, &mut text, Some(1), None) == Ended::Printed);
+//! assert!(rt; simulate(alloc, &mut dump, &mut text, Some(1), Way::Least) == Ended::Printed);
 //! assert!(rt; text.starts_with(b"step 7 procs 1 elements 0\n"));
 //!
 //! let mut line = Vec::new(alloc);
@@ -29,9 +29,11 @@ mod request;
 mod simulation;
 mod text;
 mod verifying;
+mod way;
 
 pub use ended::Ended;
 pub use fault::dump_advice;
 pub use request::{Asked, Clash, Task, run};
 pub use simulation::{replay_file, simulate};
 pub use verifying::{verify, verify_file};
+pub use way::Way;

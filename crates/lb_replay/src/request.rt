@@ -6,6 +6,7 @@ ghost use Rattle.lb_replay.specs.Simulation.{ReportsUnread};
 use crate::ended::Ended;
 use crate::simulation::replay_file;
 use crate::verifying::verify_file;
+use crate::way::Way;
 use chain_refinement::Tolerance;
 use chare_index::Limits;
 use std::alloc::Allocator;
@@ -21,6 +22,8 @@ pub struct Asked<'a> {
     /// How far the greatest load may be above the least possible one, in thousandths of that, 0 to 1,000 (`Tolerance::MOST`),
     /// if it is given.
     pub tolerance: Option<u32>,
+    /// Whether the PEs are to keep their order.
+    pub keep_order: bool,
     /// Whether the recorded decision is to be checked.
     pub check: bool,
 }
@@ -32,17 +35,23 @@ pub enum Task {
     Replay(Option<u32>),
     /// The same, within this tolerance, in thousandths, 0 to 1,000 (`Tolerance::MOST`).
     Refine(Option<u32>, u32),
+    /// The same, and the PEs keep their order.
+    RefineInOrder(Option<u32>, u32),
     /// Its decision is checked.
     Check,
 }
 
-/// Two options that cannot be combined.
+/// Two options that cannot be combined, or one that needs another.
 #[derive(Clone, Copy, Debug, PartialEq, Eq)]
 pub enum Clash {
     /// A number of PEs, and a check, which is for the decision's own number.
     ProcsAndCheck,
     /// A tolerance, and a check, which decides nothing.
     ToleranceAndCheck,
+    /// An order that is to be kept, and a check, which decides nothing.
+    KeepOrderAndCheck,
+    /// An order that is to be kept, and no tolerance within which it can be.
+    KeepOrderAlone,
 }
 
 impl Asked<'_> {
@@ -50,18 +59,24 @@ impl Asked<'_> {
     ///
     /// # Errors
     ///
-    /// A check is asked for, and a number of PEs too; or a check and a tolerance.
+    /// A check is asked for, and a number of PEs too, or a tolerance, or that the order is kept; or the order is to be kept without a
+    /// tolerance.
     pub fn task(self) -> Result<Task, Clash>
-        ensures value { result ≡ task_of self.entry.procs self.entry.tolerance self.entry.check }
+        ensures value { result ≡ task_of self.entry.procs self.entry.tolerance self.entry.keep_order self.entry.check }
         ensures may_run { ForSome self.entry.procs (λ p. 1 ≤ p) → ForSome self.entry.procs (λ p. p ≤ Limits.PES)
             → ForSome self.entry.tolerance (λ t. t ≤ Tolerance.MOST) → IfOk result MayRun }
     {
-        match (self.check, (self.procs, self.tolerance)) {
-            (false, (procs, None)) => Ok(Task::Replay(procs)),
-            (false, (procs, Some(thousandths))) => Ok(Task::Refine(procs, thousandths)),
-            (true, (None, None)) => Ok(Task::Check),
-            (true, (None, Some(_))) => Err(Clash::ToleranceAndCheck),
+        match (self.check, (self.procs, (self.tolerance, self.keep_order))) {
+            (false, (procs, (None, false))) => Ok(Task::Replay(procs)),
+            (false, (_, (None, true))) => Err(Clash::KeepOrderAlone),
+            (false, (procs, (Some(thousandths), false))) => Ok(Task::Refine(procs, thousandths)),
+            (false, (procs, (Some(thousandths), true))) => {
+                Ok(Task::RefineInOrder(procs, thousandths))
+            }
             (true, (Some(_), _)) => Err(Clash::ProcsAndCheck),
+            (true, (None, (Some(_), _))) => Err(Clash::ToleranceAndCheck),
+            (true, (None, (None, true))) => Err(Clash::KeepOrderAndCheck),
+            (true, (None, (None, false))) => Ok(Task::Check),
         }
     }
 }
@@ -80,18 +95,23 @@ pub fn run<A: Allocator + Copy, R: Read + Drop, W: Write>(
     ensures reason { IfErr file (λ reason. result.1 ≡ Some reason) }
 {
     match task {
-        Task::Replay(procs) => replay_file(alloc, file, writer, procs, None),
+        Task::Replay(procs) => replay_file(alloc, file, writer, procs, Way::Least),
         Task::Refine(procs, thousandths) => {
-            replay_file(alloc, file, writer, procs, tolerance_of(thousandths))
+            let way = Way::Within(tolerance_of(thousandths));
+            replay_file(alloc, file, writer, procs, way)
+        }
+        Task::RefineInOrder(procs, thousandths) => {
+            let way = Way::InOrder(tolerance_of(thousandths));
+            replay_file(alloc, file, writer, procs, way)
         }
         Task::Check => verify_file(alloc, file, writer),
     }
 }
 
 // The tolerance of this number of thousandths.
-fn tolerance_of(thousandths: u32) -> Option<Tolerance>
+fn tolerance_of(thousandths: u32) -> Tolerance
     requires { thousandths ≤ Tolerance.MOST }
-    ensures { result ≡ Some thousandths }
+    ensures { result ≡ thousandths }
 {
-    Tolerance::new(thousandths)
+    Tolerance::new(thousandths).unwrap()
 }

@@ -5,16 +5,17 @@ ghost use Rattle.lb_strategy.specs.declared.error.PlanError.TheVariants.{OutOfMe
 ghost use Rattle.lb_replay.specs.Text.{fault_line};
 ghost use Rattle.lb_replay.specs.declared.fault.Fault.TheVariants.{Plan};
 ghost use Rattle.lb_replay.specs.Internal.{without_memory};
-ghost use Rattle.lb_replay.specs.Simulation.{EndsReplay, IsDecided, IsPlanned, IsReplay, IsReplayFault, IsWithin, ReportsFault, ReportsUnread};
+ghost use Rattle.lb_replay.specs.Simulation.{EndsReplay, IsDecided, IsInOrder, IsPlanned, IsReplay, IsReplayFault, IsWithin, ReportsFault, ReportsUnread};
 
 use crate::ended::Ended;
 use crate::fault::{Fault, NO_MEMORY, fault_line};
-use crate::text::{decision_text, refined_text};
+use crate::text::{decision_text, ordered_text, refined_text};
+use crate::way::Way;
 use chain_refinement::Tolerance;
 use chare_index::Limits;
 use dump_format::DumpError;
 use lb_dump::read_from;
-use lb_refinement::refine;
+use lb_refinement::{refine, refine_keeping_order};
 use lb_snapshot::Snapshot;
 use lb_strategy::{PlanError, plan};
 use std::alloc::Allocator;
@@ -22,27 +23,27 @@ use std::io::{self, Read, Write};
 use streams::{Noted, write_out};
 
 /// Replays a dump offline: reads it, decides its balancing step for `procs` PEs (1 to 256), or for the number of PEs of the
-/// dump, and writes the text of the decision, or the one line of a fault, and nothing else. The decision is the least one, that
-/// of [`plan`], or, where there is a tolerance, the one within it, that of [`refine`]. A decision in the dump is read, and
-/// ignored.
+/// dump, and writes the text of the decision, or the one line of a fault, and nothing else. The way says which decision that is: the
+/// least one, that of [`plan`], or the one within a tolerance, that of [`refine`] or of [`refine_keeping_order`]. A decision in
+/// the dump is read, and ignored.
 ///
 /// Out of memory is a fault of the dump while that is read, and a fault of the plan after that. The line is the same.
 ///
-/// What is printed is a function of the bytes read, the number of PEs and the tolerance: the clause `one_text`.
+/// What is printed is a function of the bytes read, the number of PEs and the way: the clause `one_text`.
 pub fn simulate<A: Allocator + Copy, R: Read, W: Write>(
     alloc: A,
     reader: &mut R,
     writer: &mut W,
     procs: Option<u32>,
-    tolerance: Option<Tolerance>,
+    way: Way,
 ) -> Ended
     requires some_pe { ForSome procs (λ p. 1 ≤ p) }
     requires few_pes { ForSome procs (λ p. p ≤ Limits.PES) }
-    ensures ends { EndsReplay A (R.remaining reader.old) (R.remaining reader.new) procs tolerance (W.contents writer.old) (W.contents writer.new) result }
-    ensures one_text { (bytes text other : List ℕ) → IsReplay A (Some bytes) procs tolerance text
-        → IsReplay A (Some bytes) procs tolerance other → text ≡ other }
+    ensures ends { EndsReplay A (R.remaining reader.old) (R.remaining reader.new) procs way (W.contents writer.old) (W.contents writer.new) result }
+    ensures one_text { (bytes text other : List ℕ) → IsReplay A (Some bytes) procs way text
+        → IsReplay A (Some bytes) procs way other → text ≡ other }
 {
-    match replay(alloc, reader, procs, tolerance) {
+    match replay(alloc, reader, procs, way) {
         Ok(text) if write_out(writer, text.as_bytes()) => Ended::Printed,
         Ok(_) => Ended::WriteFailed,
         Err(fault) => report(alloc, writer, fault),
@@ -56,19 +57,19 @@ pub fn replay_file<A: Allocator + Copy, R: Read + Drop, W: Write>(
     file: io::Result<R>,
     writer: &mut W,
     procs: Option<u32>,
-    tolerance: Option<Tolerance>,
+    way: Way,
 ) -> (Ended, Option<io::Error>)
     requires some_pe { ForSome procs (λ p. 1 ≤ p) }
     requires few_pes { ForSome procs (λ p. p ≤ Limits.PES) }
     ensures opened { IfOk file (λ file. (rest : Option (List ℕ))
-        × EndsReplay A (R.remaining file) rest procs tolerance (W.contents writer.old) (W.contents writer.new) result.0) }
+        × EndsReplay A (R.remaining file) rest procs way (W.contents writer.old) (W.contents writer.new) result.0) }
     ensures unopened { IfErr file (λ _. ReportsUnread (W.contents writer.old) (W.contents writer.new) result.0) }
     ensures reason { IfErr file (λ reason. result.1 ≡ Some reason) }
 {
     match file {
         Ok(reader) => {
             let mut noted = Noted::new(reader);
-            let ended = simulate(alloc, &mut noted, writer, procs, tolerance);
+            let ended = simulate(alloc, &mut noted, writer, procs, way);
             (ended, noted.failure())
         }
         Err(reason) => {
@@ -83,18 +84,18 @@ fn replay<A: Allocator + Copy, R: Read>(
     alloc: A,
     reader: &mut R,
     procs: Option<u32>,
-    tolerance: Option<Tolerance>,
+    way: Way,
 ) -> Result<String<A>, Fault>
     requires some_pe { ForSome procs (λ p. 1 ≤ p) }
     requires few_pes { ForSome procs (λ p. p ≤ Limits.PES) }
-    ensures text { IfOk result (λ text. IsReplay A (R.remaining reader.old) procs tolerance (string_bytes text)) }
+    ensures text { IfOk result (λ text. IsReplay A (R.remaining reader.old) procs way (string_bytes text)) }
     ensures fault { IfErr result (IsReplayFault A (R.remaining reader.old) (R.remaining reader.new)) }
 {
     match read_from(alloc, reader) {
         Ok(dump) => {
             let snapshot = dump.snapshot();
             let pes = procs.unwrap_or(snapshot.procs());
-            let text = decided_text(alloc, snapshot, pes, tolerance);
+            let text = decided_text(alloc, snapshot, pes, way);
             drop(dump);
             text
         }
@@ -107,16 +108,17 @@ fn decided_text<A: Allocator + Copy, B: Allocator>(
     alloc: A,
     snapshot: &Snapshot<B>,
     pes: u32,
-    tolerance: Option<Tolerance>,
+    way: Way,
 ) -> Result<String<A>, Fault>
     requires some_pe { 1 ≤ pes }
     requires few_pes { pes ≤ Limits.PES }
-    ensures text { IfOk result (λ text. IsDecided A snapshot.now pes tolerance (string_bytes text)) }
+    ensures text { IfOk result (λ text. IsDecided A snapshot.now pes way (string_bytes text)) }
     ensures fault { IfErr result (λ fault. fault ≡ Plan OutOfMemory) }
 {
-    match tolerance {
-        None => planned_text(alloc, snapshot, pes),
-        Some(tolerance) => text_within(alloc, snapshot, pes, tolerance),
+    match way {
+        Way::Least => planned_text(alloc, snapshot, pes),
+        Way::Within(tolerance) => text_within(alloc, snapshot, pes, tolerance),
+        Way::InOrder(tolerance) => text_in_order(alloc, snapshot, pes, tolerance),
     }
 }
 
@@ -134,6 +136,24 @@ fn text_within<A: Allocator + Copy, B: Allocator>(
 {
     match refine(alloc, snapshot, pes, tolerance) {
         Ok(decision) => refined_text(alloc, snapshot, pes, tolerance, &decision),
+        Err(_) => Err(Fault::Plan(PlanError::OutOfMemory)),
+    }
+}
+
+// The text of the decision within a tolerance that keeps the order of the PEs, or out of memory.
+fn text_in_order<A: Allocator + Copy, B: Allocator>(
+    alloc: A,
+    snapshot: &Snapshot<B>,
+    pes: u32,
+    tolerance: Tolerance,
+) -> Result<String<A>, Fault>
+    requires some_pe { 1 ≤ pes }
+    requires few_pes { pes ≤ Limits.PES }
+    ensures text { IfOk result (λ text. IsInOrder A snapshot.now pes tolerance (string_bytes text)) }
+    ensures fault { IfErr result (λ fault. fault ≡ Plan OutOfMemory) }
+{
+    match refine_keeping_order(alloc, snapshot, pes, tolerance) {
+        Ok(decision) => ordered_text(alloc, snapshot, pes, tolerance, &decision),
         Err(_) => Err(Fault::Plan(PlanError::OutOfMemory)),
     }
 }

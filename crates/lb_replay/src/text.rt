@@ -4,17 +4,18 @@ ghost use Rattle.std.specs.Prelude.{◌≡◌, ◌++◌, [], OnOk, IfOk, IfErr, 
 ghost use Rattle.std.specs.List.{flat_map};
 ghost use Rattle.std.specs.String.{string_bytes};
 ghost use Rattle.lb_certificates.specs.Chain.{IsDivision};
+ghost use Rattle.lb_refinement.specs.InOrder.{IsRefinedInOrder};
 ghost use Rattle.lb_refinement.specs.Refined.{IsRefined};
 ghost use Rattle.lb_strategy.specs.Decisions.{IsRight};
 ghost use Rattle.lb_strategy.specs.declared.error.PlanError.TheVariants.{OutOfMemory};
 ghost use Rattle.lb_replay.specs.declared.fault.Fault.TheVariants.{Plan};
 ghost use Rattle.lb_replay.specs.Text.{head_line, bottleneck_line, floor_line, blank_number, block_start, block_line, block_lines, pe_line, moved_line, decision_text};
-ghost use Rattle.lb_replay.specs.Text.{limit_line, refined_text};
+ghost use Rattle.lb_replay.specs.Text.{limit_line, ordered_text, refined_text};
 
 use crate::fault::Fault;
 use chain_refinement::Tolerance;
 use lb_certificates::Floor;
-use lb_refinement::Refined;
+use lb_refinement::{Refined, RefinedInOrder};
 use lb_snapshot::{Loads, Snapshot};
 use lb_strategy::{Decision, PlanError};
 use std::alloc::{AllocError, Allocator};
@@ -99,6 +100,52 @@ fn push_refined<A: Allocator, B: Allocator, C: Allocator>(
     requires empty { string_bytes text.old ≡ [] }
     requires refined { IsRefined snapshot.now.loads snapshot.now.sizes pes tolerance decision.now }
     ensures text { OnOk result (string_bytes text.new ≡ refined_text snapshot.now pes tolerance decision.now) }
+{
+    let loads = snapshot.loads();
+    let least = decision.least();
+    push_head(text, snapshot.step(), pes, loads.as_slice().len())?;
+    push_bottleneck(text, least.bottleneck)?;
+    push_floor(text, &least.floor)?;
+    push_limit(text, tolerance.limit(least.bottleneck))?;
+    push_blocks(text, loads, decision.cuts(), decision.names())?;
+    push_moved(text, decision.moved())
+}
+
+/// The same text of a decision that keeps the order of the PEs.
+///
+/// # Errors
+///
+/// Out of memory, as a fault of the plan.
+pub(crate) fn ordered_text<A: Allocator, B: Allocator, C: Allocator>(
+    alloc: A,
+    snapshot: &Snapshot<B>,
+    pes: u32,
+    tolerance: Tolerance,
+    decision: &RefinedInOrder<C>,
+) -> Result<String<A>, Fault>
+    requires { IsRefinedInOrder snapshot.now.loads snapshot.now.sizes pes tolerance decision.now }
+    ensures text { IfOk result (λ text. string_bytes text ≡ ordered_text snapshot.now pes tolerance decision.now) }
+    ensures fault { IfErr result (λ fault. fault ≡ Plan OutOfMemory) }
+{
+    let mut text = String::new(alloc);
+    match push_ordered(&mut text, snapshot, pes, tolerance, decision) {
+        Ok(()) => Ok(text),
+        Err(_) => Err(Fault::Plan(PlanError::OutOfMemory)),
+    }
+}
+
+// Writes the text of a decision that keeps the order to an empty string.
+#[tactic(auto, using(crate::proofs::OrderedTexts::divides_from_ordered, crate::proofs::OrderedTexts::named_from_ordered))]
+fn push_ordered<A: Allocator, B: Allocator, C: Allocator>(
+    text: &mut String<A>,
+    snapshot: &Snapshot<B>,
+    pes: u32,
+    tolerance: Tolerance,
+    decision: &RefinedInOrder<C>,
+) -> Result<(), AllocError>
+    requires empty { string_bytes text.old ≡ [] }
+    requires refined { IsRefinedInOrder snapshot.now.loads snapshot.now.sizes pes tolerance decision.now }
+    ensures text { OnOk result (string_bytes text.new ≡ ordered_text snapshot.now pes tolerance decision.now) }
 {
     let loads = snapshot.loads();
     let least = decision.least();

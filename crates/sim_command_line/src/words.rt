@@ -6,7 +6,7 @@ ghost use Rattle.clap.specs.Words.{FailsBy, app_of, fault_of, first_value, found
 ghost use Rattle.clap.specs.declared.builder.value_parser.ValueParser.TheVariants.{Signed};
 ghost use Rattle.program_words.specs.Arguments.{NamesFile, SpellsTolerance, file_rule, tolerance_rule};
 ghost use Rattle.streams.specs.Writing.{WritesPrefix};
-ghost use Rattle.sim_command_line.specs.CommandLine.{AsksCheck, Spells, both_line, check_rule, file_in, procs_in, procs_rule};
+ghost use Rattle.sim_command_line.specs.CommandLine.{AsksCheck, AsksKeepOrder, Spells, both_line, check_rule, file_in, keep_order_rule, procs_in, procs_rule};
 ghost use Rattle.sim_command_line.specs.CommandLine.{program, tolerance_in};
 
 use crate::help::{ABOUT, HOW_TO};
@@ -26,7 +26,13 @@ const PROCS_AND_CHECK: &str = "lb_sim: --procs and --check\n";
 /// What is printed where both a check and a tolerance are asked for.
 const TOLERANCE_AND_CHECK: &str = "lb_sim: --tolerance and --check\n";
 
-/// Writes which two options cannot be combined, and returns the status for that, [`NO_WORDS`].
+/// What is printed where both a check and an order that is kept are asked for.
+const KEEP_ORDER_AND_CHECK: &str = "lb_sim: --keep-order and --check\n";
+
+/// What is printed where an order is to be kept, and no tolerance is given.
+const KEEP_ORDER_ALONE: &str = "lb_sim: --keep-order without --tolerance\n";
+
+/// Writes which two options cannot be combined, or which one needs another, and returns the status for that, [`NO_WORDS`].
 pub fn refuse_both<W: Write>(writer: &mut W, clash: Clash) -> u8
     ensures told { WritesPrefix (W.contents writer.old) (W.contents writer.new) (both_line clash) }
     ensures status { result ≡ NO_WORDS }
@@ -35,13 +41,15 @@ pub fn refuse_both<W: Write>(writer: &mut W, clash: Clash) -> u8
     NO_WORDS
 }
 
-// The line for two such options.
+// The line for such options.
 fn line_of(clash: Clash) -> &'static str
     ensures { result.now ≡ both_line clash }
 {
     match clash {
         Clash::ProcsAndCheck => PROCS_AND_CHECK,
         Clash::ToleranceAndCheck => TOLERANCE_AND_CHECK,
+        Clash::KeepOrderAndCheck => KEEP_ORDER_AND_CHECK,
+        Clash::KeepOrderAlone => KEEP_ORDER_ALONE,
     }
 }
 
@@ -49,15 +57,16 @@ fn line_of(clash: Clash) -> &'static str
 ///
 /// # Errors
 ///
-/// The arguments are not `[--procs P] [--tolerance T] [--check] FILE` with a P of 1 to 256 (`Limits::PES`) and a T of 0 to
-/// 1,000 (`Tolerance::MOST`), help or the version is asked for, or memory ran out. The error has the text to print;
-/// [`words_status`] is the status for it. Arguments that ask for a check and also for a number of PEs or a tolerance are no
-/// error here: [`Asked::task`] returns the [`Clash`].
+/// The arguments are not `[--procs P] [--tolerance T] [--keep-order] [--check] FILE` with a P of 1 to 256 (`Limits::PES`) and a T of
+/// 0 to 1,000 (`Tolerance::MOST`), help or the version is asked for, or memory ran out. The error has the text to print;
+/// [`words_status`] is the status for it. Arguments that ask for a check and also for another of these, or for an order that is
+/// kept and for no tolerance, are no error here: [`Asked::task`] returns the [`Clash`].
 pub fn asked<'a>(alloc: Global, words: &'a [&'a str]) -> Result<Asked<'a>, Error>
     ensures faults { FailsBy (fault_of program (texts words.now)) result }
     ensures file { IfOk result (λ asked. file_in (texts words.now) ≡ Some asked.file.now) }
     ensures procs { IfOk result (λ asked. (n : ℕ) → (asked.procs ≡ Some n) ↔ Spells (procs_in (texts words.now)) n) }
     ensures tolerance { IfOk result (λ asked. (n : ℕ) → (asked.tolerance ≡ Some n) ↔ SpellsTolerance (tolerance_in (texts words.now)) n) }
+    ensures keep_order { IfOk result (λ asked. IsTrue asked.keep_order ↔ AsksKeepOrder (texts words.now)) }
     ensures check { IfOk result (λ asked. IsTrue asked.check ↔ AsksCheck (texts words.now)) }
     ensures some_pe { IfOk result (λ asked. ForSome asked.procs (λ p. 1 ≤ p)) }
     ensures few_pes { IfOk result (λ asked. ForSome asked.procs (λ p. p ≤ Limits.PES)) }
@@ -69,8 +78,8 @@ pub fn asked<'a>(alloc: Global, words: &'a [&'a str]) -> Result<Asked<'a>, Error
     }
 }
 
-// The arguments that are understood: `lb_sim [--procs P] [--tolerance T] [--check] FILE`, and those for help and for the
-// version, which clap adds.
+// The arguments that are understood: `lb_sim [--procs P] [--tolerance T] [--keep-order] [--check] FILE`, and those for help and
+// for the version, which clap adds.
 fn command<'a>(alloc: Global) -> Result<Command<'a>, AllocError>
     ensures program { IfOk result (λ command. app_of command ≡ program) }
     ensures named { IfOk result NamesFile }
@@ -79,6 +88,7 @@ fn command<'a>(alloc: Global) -> Result<Command<'a>, AllocError>
     let command = command.arg(file(alloc))?;
     let command = command.arg(procs(alloc))?;
     let command = command.arg(tolerance(alloc))?;
+    let command = command.arg(keep_order(alloc))?;
     command.arg(check(alloc))
 }
 
@@ -109,6 +119,18 @@ fn tolerance<'a>(alloc: Global) -> Arg<'a>
     )
 }
 
+fn keep_order<'a>(alloc: Global) -> Arg<'a>
+    ensures rule { rule_of result ≡ keep_order_rule }
+    ensures fits { FitsChain result }
+{
+    flag(
+        alloc,
+        "keep-order",
+        "With --tolerance: the processors keep their order along the{n}\
+         chain. It does not go with --check",
+    )
+}
+
 fn check<'a>(alloc: Global) -> Arg<'a>
     ensures rule { rule_of result ≡ check_rule }
     ensures fits { FitsChain result }
@@ -134,6 +156,7 @@ fn found<'a>(matches: &ArgMatches<'a>) -> Asked<'a>
     ensures file { first_value (found_of matches.now) (codes "file") ≡ Some result.file.now }
     ensures procs { (n : ℕ) → (result.procs ≡ Some n) ↔ Spells (one_text (found_of matches.now) (codes "procs")) n }
     ensures tolerance { (n : ℕ) → (result.tolerance ≡ Some n) ↔ SpellsTolerance (one_text (found_of matches.now) (codes "tolerance")) n }
+    ensures keep_order { IsTrue result.keep_order ↔ (one_text (found_of matches.now) (codes "keep-order") ≡ Some (codes "true")) }
     ensures check { IsTrue result.check ↔ (one_text (found_of matches.now) (codes "check") ≡ Some (codes "true")) }
     ensures some_pe { ForSome result.procs (λ p. 1 ≤ p) }
     ensures few_pes { ForSome result.procs (λ p. p ≤ Limits.PES) }
@@ -143,6 +166,7 @@ fn found<'a>(matches: &ArgMatches<'a>) -> Asked<'a>
         file: matches.get_str("file").unwrap(),
         procs: number_in(matches),
         tolerance: tolerance_in(matches),
+        keep_order: matches.get_one("keep-order") == Some(true),
         check: matches.get_one("check") == Some(true),
     }
 }

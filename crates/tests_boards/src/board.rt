@@ -5,12 +5,12 @@ ghost use Rattle.std.specs.Prelude.{◌≤◌};
 use crate::fixtures::{assert_for, pe, round};
 use at_sync::{Board, BoardError, Strategy};
 use chain_refinement::Tolerance;
-use chare_index::{Gate, Limits, Round};
+use chare_index::{Limits, Round};
 use lb_refinement::Refined;
 use lb_snapshot::Units;
 use std::process::Abort;
-use std::sync::atomic::{AtomicU64, Ordering};
 use std::thread::Threads;
+use tests_fixtures::{Counting, Meeting};
 
 fn board(rt: &(impl Abort + AllocGlobal), n: u32, pes: u32, strategy: Strategy) -> Board
     requires few { n ≤ Limits.ELEMENTS }
@@ -96,36 +96,11 @@ fn two_elements_stay_and_finish(rt: HostRuntime) {
     drop(board);
 }
 
-// A gate that adds 1, 1,000 and 1,000,000 where the first three workers pass it, and more where any other number does.
-#[derive(Drop)]
-struct Counting {
-    passes: AtomicU64,
-}
-
-impl Gate for Counting {
-    fn pass(&self, who: u32) {
-        let one = match who {
-            0 => 1,
-            1 => 1_000,
-            2 => 1_000_000,
-            _ => 1_000_000_000,
-        };
-        self.passes.fetch_add(one, Ordering::SeqCst);
-    }
-}
-
 // Three workers decide the round, each of which has passed the gate with its number as often as the others.
 fn three_decide<R: Threads + Sync + Abort>(rt: &R, board: &mut Board) -> Result<Round, BoardError> {
-    let gate = Counting {
-        passes: AtomicU64::new(0),
-    };
+    let gate = Counting::new();
     let decided = board.decide_with(rt, 3, &gate)?;
-    let passes = gate.passes.load(Ordering::SeqCst);
-    assert_for(
-        rt,
-        passes % 1_001_001 == 0 && 0 < passes && passes < 1_000_000_000,
-        passes,
-    );
+    assert_for(rt, gate.counts_each(3, 1), decided);
     Ok(decided)
 }
 
@@ -136,6 +111,16 @@ fn each_of_three_workers_passes_with_its_number(rt: HostRuntime) {
     report_all(&rt, &mut board, 1, &[SECOND]);
     assert!(rt; three_decide(&rt, &mut board) == Ok(round(&rt, 1)));
     assert!(rt; all_stay(&rt, &board));
+    drop(board);
+}
+
+#[test]
+fn two_probes_of_a_decision_overlap(rt: HostRuntime) {
+    let mut board = one_reported(&rt);
+    report_all(&rt, &mut board, 1, &[SECOND]);
+    let gate = Meeting::new();
+    let decided = board.decide_with(&rt, 2, &gate);
+    assert!(rt; decided == Ok(round(&rt, 1)) && gate.has_met());
     drop(board);
 }
 

@@ -275,12 +275,19 @@ fn a_full_array_on_all_pes_and_on_one(rt: HostRuntime) {
             && decision.moved == moved
             && decision.moves.as_slice().len() == steps;
         assert_for(&rt, found, bottleneck);
+        assert_for(&rt, check(&full, pes, &decision).is_ok(), pes);
     }
 }
 
 #[test]
-fn the_errors_have_their_number(rt: HostRuntime) {
+fn the_errors_have_their_numbers_and_texts(rt: HostRuntime) {
     let error = NameError::OutOfMemory;
-    assert_for(&rt, error as u8 == 2, 2);
-    assert_for(&rt, PlanError::from(error) as u8 == 2, 2);
+    let refused = PlanError::from(error);
+    assert_for(&rt, error as u8 == 2 && refused as u8 == 2, "numbers");
+    let text = format!(in rt.alloc(); "{error}; {refused}").expect(&rt, "out of memory");
+    assert_for(
+        &rt,
+        text.as_str() == "out of memory; out of memory",
+        "texts",
+    );
 }

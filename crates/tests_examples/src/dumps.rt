@@ -42,12 +42,12 @@ fn a_dump_is_read(rt: HostRuntime) -> Result<(), Fail> {
 #[test]
 fn a_dump_is_replayed(rt: HostRuntime) -> Result<(), Fail> {
     let alloc = rt.alloc();
-    use lb_replay::{Ended, simulate, verify};
+    use lb_replay::{Ended, Way, simulate, verify};
 
     // No elements on three PEs, at step 7, replayed for one PE.
     let mut dump = b"LBD1\0\0\0\x07\0\0\0\x03\0\0\0\0".as_slice();
     let mut text = Vec::new(alloc);
-    assert!(rt; simulate(alloc, &mut dump, &mut text, Some(1), None) == Ended::Printed);
+    assert!(rt; simulate(alloc, &mut dump, &mut text, Some(1), Way::Least) == Ended::Printed);
     assert!(rt; text.starts_with(b"step 7 procs 1 elements 0\n"));
 
     let mut line = Vec::new(alloc);

@@ -6,71 +6,132 @@ use program_words::words_status;
 use sim_command_line::{asked, refuse_both};
 use std::alloc::Global;
 
-// Arguments, the file, the number of PEs and the tolerance that they ask for, and whether they ask for a check.
+// Arguments, the file, the number of PEs and the tolerance that they ask for, whether they ask for an order that is kept and for a
+// check, and why these options cannot be combined.
 type Asking = (
     &'static [&'static str],
     &'static str,
     Option<u32>,
     Option<u32>,
-    bool,
+    (bool, bool),
+    Option<Clash>,
 );
 
-// Whether they ask for this, which can be done unless a check is asked for with a number.
+// Whether they ask for this, which can be done or not.
 fn is_asked(alloc: Global, row: &Asking) -> bool {
-    let &(words, file, procs, tolerance, check) = row;
+    let &(words, file, procs, tolerance, (keep_order, check), clash) = row;
     let Ok(asked) = asked(alloc, words) else {
         return false;
     };
-    let clashes = check && (procs.is_some() || tolerance.is_some());
     let expected = Asked {
         file,
         procs,
         tolerance,
+        keep_order,
         check,
     };
-    asked == expected && asked.task().is_ok() != clashes
+    asked == expected && asked.task().err() == clash
 }
 
-static ASKING: [Asking; 10] = [
-    (&["lb_sim", "f"], "f", None, None, false),
-    (&["lb_sim", "--procs", "2", "f"], "f", Some(2), None, false),
-    (&["lb_sim", "--procs=256", "f"], "f", Some(256), None, false),
+const PLAIN: (bool, bool) = (false, false);
+
+static ASKING: [Asking; 13] = [
+    (&["lb_sim", "f"], "f", None, None, PLAIN, None),
+    (
+        &["lb_sim", "--procs", "2", "f"],
+        "f",
+        Some(2),
+        None,
+        PLAIN,
+        None,
+    ),
+    (
+        &["lb_sim", "--procs=256", "f"],
+        "f",
+        Some(256),
+        None,
+        PLAIN,
+        None,
+    ),
     (
         &["another", "../g h", "--procs", "1"],
         "../g h",
         Some(1),
         None,
-        false,
+        PLAIN,
+        None,
     ),
-    (&["lb_sim", "--", "--check"], "--check", None, None, false),
+    (
+        &["lb_sim", "--", "--check"],
+        "--check",
+        None,
+        None,
+        PLAIN,
+        None,
+    ),
     (
         &["lb_sim", "--tolerance", "0", "f"],
         "f",
         None,
         Some(0),
-        false,
+        PLAIN,
+        None,
     ),
     (
         &["lb_sim", "--procs", "3", "f", "--tolerance=1000"],
         "f",
         Some(3),
         Some(1000),
-        false,
+        PLAIN,
+        None,
     ),
-    (&["lb_sim", "f", "--check"], "f", None, None, true),
+    (
+        &["lb_sim", "f", "--check"],
+        "f",
+        None,
+        None,
+        (false, true),
+        None,
+    ),
     (
         &["lb_sim", "--check", "--procs", "2", "f"],
         "f",
         Some(2),
         None,
-        true,
+        (false, true),
+        Some(Clash::ProcsAndCheck),
     ),
     (
         &["lb_sim", "--tolerance", "20", "--check", "f"],
         "f",
         None,
         Some(20),
-        true,
+        (false, true),
+        Some(Clash::ToleranceAndCheck),
+    ),
+    (
+        &["lb_sim", "--keep-order", "--tolerance", "20", "f"],
+        "f",
+        None,
+        Some(20),
+        (true, false),
+        None,
+    ),
+    (
+        &["lb_sim", "f", "--keep-order"],
+        "f",
+        None,
+        None,
+        (true, false),
+        Some(Clash::KeepOrderAlone),
+    ),
+    (
+        &["lb_sim", "--check", "--keep-order", "f"],
+        "f",
+        None,
+        None,
+        (true, true),
+        Some(Clash::KeepOrderAndCheck),
     ),
 ];
 
@@ -113,7 +174,7 @@ fn words_that_are_refused(rt: HostRuntime) {
     }
 }
 
-// Whether two options that cannot be combined are refused with this line.
+// Whether options that cannot be combined are refused with this line.
 fn is_told(rt: &impl AllocGlobal, clash: Clash, line: &str) -> bool {
     let mut told = Vec::new(rt.alloc());
     let status = refuse_both(&mut told, clash);
@@ -122,11 +183,25 @@ fn is_told(rt: &impl AllocGlobal, clash: Clash, line: &str) -> bool {
     right
 }
 
+static CLASHES: [(Clash, &str); 4] = [
+    (Clash::ProcsAndCheck, "lb_sim: --procs and --check\n"),
+    (
+        Clash::ToleranceAndCheck,
+        "lb_sim: --tolerance and --check\n",
+    ),
+    (
+        Clash::KeepOrderAndCheck,
+        "lb_sim: --keep-order and --check\n",
+    ),
+    (
+        Clash::KeepOrderAlone,
+        "lb_sim: --keep-order without --tolerance\n",
+    ),
+];
+
 #[test]
-fn a_check_with_a_number_is_refused(rt: HostRuntime) {
-    let procs = "lb_sim: --procs and --check\n";
-    assert_for(&rt, is_told(&rt, Clash::ProcsAndCheck, procs), procs);
-    let tolerance = "lb_sim: --tolerance and --check\n";
-    let told = is_told(&rt, Clash::ToleranceAndCheck, tolerance);
-    assert_for(&rt, told, tolerance);
+fn options_that_cannot_be_combined_are_told(rt: HostRuntime) {
+    for (clash, line) in &CLASHES {
+        assert_for(&rt, is_told(&rt, *clash, *line), *line);
+    }
 }

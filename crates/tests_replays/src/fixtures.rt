@@ -4,7 +4,7 @@ ghost use Rattle.lb_replay.specs.Requests.{MayRun};
 ghost use Rattle.std.specs.Prelude.{◌≡◌, true};
 
 use chain_refinement::Tolerance;
-use lb_replay::{Ended, Task, simulate, verify};
+use lb_replay::{Ended, Task, Way, simulate, verify};
 use std::alloc::Global;
 use std::fmt::Debug;
 use std::io::{Read, Write};
@@ -70,9 +70,14 @@ pub(crate) fn ended<R: Read, W: Write>(
     requires { MayRun task }
 {
     match task {
-        Task::Replay(procs) => simulate(alloc, reader, writer, procs, None),
+        Task::Replay(procs) => simulate(alloc, reader, writer, procs, Way::Least),
         Task::Refine(procs, thousandths) => {
-            simulate(alloc, reader, writer, procs, Tolerance::new(thousandths))
+            let way = Way::Within(Tolerance::new(thousandths).unwrap());
+            simulate(alloc, reader, writer, procs, way)
+        }
+        Task::RefineInOrder(procs, thousandths) => {
+            let way = Way::InOrder(Tolerance::new(thousandths).unwrap());
+            simulate(alloc, reader, writer, procs, way)
         }
         Task::Check => verify(alloc, reader, writer),
     }

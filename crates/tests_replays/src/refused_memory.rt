@@ -4,31 +4,27 @@ use crate::fixtures::{DECIDED, RIGHT, TEXT, assert_for};
 use crate::tolerances::{TEN, WITHIN};
 use chain_refinement::Tolerance;
 use dump_format::DumpError;
-use lb_replay::{Ended, simulate, verify};
+use lb_replay::{Ended, Way, simulate, verify};
 use lb_strategy::PlanError;
 use std::alloc::Global;
 use std::process::Abort;
 use tests_fixtures::{EXAMPLE_DUMP, Outcome, Refusing, each_refusal};
 
-// A dump, whether it is checked, or replayed within a tolerance or not, the text for it, its end, and the number of requests.
-type Row = (&'static [u8], bool, Option<u32>, &'static str, Ended, u64);
+// A dump, the way in which it is replayed, or none where it is checked, the text for it, its end, and the number of requests.
+type Row = (&'static [u8], Option<Way>, &'static str, Ended, u64);
 
 // How this ends, over an allocator that may refuse.
 fn ended(alloc: &Refusing<Global>, row: &Row, written: &mut Vec<u8>) -> Ended {
     let mut dump = row.0;
-    if row.1 {
-        return verify(alloc, &mut dump, written);
+    match row.1 {
+        None => verify(alloc, &mut dump, written),
+        Some(way) => simulate(alloc, &mut dump, written, None, way),
     }
-    let tolerance = match row.2 {
-        None => None,
-        Some(thousandths) => Tolerance::new(thousandths),
-    };
-    simulate(alloc, &mut dump, written, None, tolerance)
 }
 
 // The outcome for this end and these bytes. Out of memory is always a fault of the dump, or of the plan.
 fn outcome(row: &Row, ended: Ended, written: &[u8]) -> Outcome {
-    if ended == row.4 && written == row.3.as_bytes() {
+    if ended == row.3 && written == row.2.as_bytes() {
         return Outcome::Right;
     }
     match ended {
@@ -67,43 +63,37 @@ const PLANNING: u64 = 3 + 2 + NAMING + 1;
 // text.
 const WITHIN_IN_ALL: u64 = TO_READ + PLANNING + 2 + 2 + 9 + (2 + NAMING + 1) + 6;
 
+// The requests of one that keeps the order of the PEs: for reading; for the order and its cuts; for the division; for the search;
+// for the moves; and each growth of the text.
+const IN_ORDER_IN_ALL: u64 = TO_READ + 2 + 3 + 9 + 1 + 6;
+
 // The requests for checking the decision are those for reading it: the two lists of the snapshot, its own six, the piece, and
 // three for its bytes as they come. Neither the check nor its line takes memory.
 const TO_CHECK: u64 = 12;
 
 #[test]
 fn memory_refused_at_each_request(rt: HostRuntime) {
-    const ROWS: [Row; 4] = [
+    let within = Tolerance::new(167).expect(&rt, "no tolerance");
+    let (least, near) = (Some(Way::Least), Some(Way::Within(within)));
+    let kept = Some(Way::InOrder(within));
+    let printed = Ended::Printed;
+    let rows: [Row; 5] = [
         // Each growth of the text, too.
-        (
-            &EXAMPLE_DUMP,
-            false,
-            None,
-            TEXT,
-            Ended::Printed,
-            TO_READ + PLANNING + 5,
-        ),
-        (
-            &TEN,
-            false,
-            Some(167),
-            WITHIN,
-            Ended::Printed,
-            WITHIN_IN_ALL,
-        ),
-        (&DECIDED, true, None, RIGHT, Ended::Printed, TO_CHECK),
+        (&EXAMPLE_DUMP, least, TEXT, printed, TO_READ + PLANNING + 5),
+        (&TEN, near, WITHIN, printed, WITHIN_IN_ALL),
+        (&TEN, kept, WITHIN, printed, IN_ORDER_IN_ALL),
+        (&DECIDED, None, RIGHT, printed, TO_CHECK),
         // The line takes memory here.
         (
             &EXAMPLE_DUMP,
-            true,
             None,
             "check: no decision\n",
             Ended::NoDecision,
             TO_READ + 1,
         ),
     ];
-    for row in &ROWS {
+    for row in &rows {
         let requests = requests(&rt, row);
-        assert_for(&rt, requests == row.5, row.3);
+        assert_for(&rt, requests == row.4, row.2);
     }
 }

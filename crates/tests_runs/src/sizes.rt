@@ -40,12 +40,16 @@ fn runs_on_all<R: Threads + Wait + Sync + Abort + AllocGlobal>(rt: &R, n: u32) -
     let outcome = run_past(rt, &patient(256, 4), &NoGate, ring(rt, n));
     let all = account(u64::from(n), u64::from(n), 0);
     let ended = outcome.fault() == None && outcome.account() == all;
-    ended && have_sums(rt, &outcome, n) && outcome.rounds().len() == 1
+    let rounds = if n == 0 { 0 } else { 1 };
+    let whole = outcome.ends().len() == 256 && outcome.left().len() == 256;
+    ended && whole && have_sums(rt, &outcome, n) && outcome.rounds().len() == rounds
 }
 
 #[test]
 fn few_and_many_elements_on_the_most_pes(rt: HostRuntime) {
-    assert!(rt; runs_on_all(&rt, 1) && runs_on_all(&rt, 255));
+    for n in &[0, 1, 255] {
+        assert_for(&rt, runs_on_all(&rt, *n), *n);
+    }
 }
 
 // Chares that each send this number of letters to the next, and have to get as many.

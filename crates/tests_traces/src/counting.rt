@@ -78,8 +78,9 @@ pub(crate) fn moves_in<A: Allocator>(rounds: &[(Snapshot<A>, Refined<A>)]) -> u6
     moves
 }
 
-/// Counts what is in a trace.
+/// Counts what is in a trace. Each element goes on after each round.
 pub(crate) fn expect_trace(rt: &impl Abort, events: &[Value], expected: &Expected) {
+    let resumptions = expected.elements.saturating_mul(expected.rounds);
     for (phase, name, wanted) in [
         ("M", "process_name", 1),
         ("M", "thread_name", expected.pes),
@@ -93,7 +94,8 @@ pub(crate) fn expect_trace(rt: &impl Abort, events: &[Value], expected: &Expecte
         ("f", "element", expected.moves),
         ("i", "decision", expected.rounds),
         ("C", "load of PE 0", expected.rounds),
-        ("X", "resume", count(events, "i", "resumption")),
+        ("X", "resume", resumptions),
+        ("i", "resumption", resumptions),
     ] {
         assert_for(rt, count(events, phase, name) == wanted, name);
     }

@@ -5,7 +5,7 @@ use crate::kept::{Kept, NEVER, Store};
 use dump_format::{Dump, Recorded};
 use lb_dump::decode;
 use lb_refinement::Refined;
-use lb_replay::{Ended, simulate};
+use lb_replay::{Ended, Way, simulate};
 use lb_snapshot::Snapshot;
 use lb_strategy::check;
 use std::alloc::{AllocError, Global};
@@ -107,7 +107,7 @@ const REPLAYED: &str = "step 1 procs 2 elements 4\n\
 fn is_replayed(rt: &impl AllocGlobal, dump: &[u8]) -> bool {
     let mut reader = dump;
     let mut told = Vec::new(rt.alloc());
-    let ended = simulate(rt.alloc(), &mut reader, &mut told, None, None);
+    let ended = simulate(rt.alloc(), &mut reader, &mut told, None, Way::Least);
     ended == Ended::Printed && told.as_slice() == REPLAYED.as_bytes()
 }
 

@@ -1,3 +1,4 @@
+pub mod Besides
 pub mod Driving
 pub mod Dumping
 pub mod Finishing

@@ -10,7 +10,7 @@ use std::alloc::{AllocError, Allocator};
 use std::io::{self, Write};
 use streams::Noted;
 
-/// Where dumps go.
+/// Where dumps go, and the other files that a program writes beside the text of a run.
 pub trait DumpFiles {
     /// A file that was made.
     type File: Write + Drop;

@@ -5,6 +5,8 @@
 //! - [`Driven`]: the result: how it [`Ended`], the status for that, and the rounds.
 //! - [`write_round`]: the dump of a round, in a [`DumpFormat`]; [`write_dumps`]: that of each round, to a file of its own of
 //!   some [`DumpFiles`]; [`write_asked`]: the same where it is asked for, with the status of the whole.
+//! - [`write_beside`]: a list of events or a trace, where it is asked for and there was a run; [`report_lost`], [`status_beside`]: the
+//!   line and the status where it was not written.
 //! - [`tallies_of`]: the tallies of a workload; [`tell_outcome`], [`report_fault`], [`report_memory`], [`report_text`]: what is
 //!   written, for callers that run them in another way.
 //!
@@ -29,6 +31,7 @@
 //! ```
 #![tactic(auto)]
 
+mod beside;
 mod driven;
 mod driving;
 mod dumps;
@@ -40,6 +43,7 @@ mod round_dump;
 mod tallies;
 mod telling;
 
+pub use beside::{Beside, BesideText, Lost, report_lost, status_beside, write_beside};
 pub use driven::Driven;
 pub use driving::{drive, drive_file};
 pub use dumps::{DumpFiles, NotWritten, write_dumps};

@@ -1,4 +1,4 @@
-//! A barrier of two elements on two PEs, and their reports.
+//! Barriers of two and of three elements on two PEs, and reports of two.
 
 ghost use Rattle.std.specs.Prelude.{◌≡◌, ◌<◌};
 ghost use Rattle.at_sync.specs.declared.strategy.Strategy.TheVariants.{Least};
@@ -24,6 +24,17 @@ pub(crate) fn two<J: BoardSize, A: Allocator + Copy>(alloc: A) -> Result<Barrier
     requires by_strategy { J.strategy ≡ Least }
 {
     Ok(Barrier::new(Board::new(alloc, 2, 2, Strategy::Least)?))
+}
+
+/// A barrier of three elements on two PEs.
+pub(crate) fn three<J: BoardSize, A: Allocator + Copy>(
+    alloc: A,
+) -> Result<Barrier<J, A>, AllocError>
+    requires elements { J.elements ≡ 3 }
+    requires pes { J.pes ≡ 2 }
+    requires by_strategy { J.strategy ≡ Least }
+{
+    Ok(Barrier::new(Board::new(alloc, 3, 2, Strategy::Least)?))
 }
 
 /// Whether an element reports 3 units and 5 bytes in round 1, on the PE of the same number.

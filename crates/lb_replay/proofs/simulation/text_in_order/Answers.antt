@@ -1,0 +1,10 @@
+use Rattle.std.proofs.lemmas.Result.{IfOk-weaker}
+use Rattle.lb_replay.proofs.simulation.text_in_order.Goals as goal
+
+pub returns-in-Ok-clause-text : goal.returns-in-Ok-clause-text
+returns-in-Ok-clause-text g c =
+    IfOk-weaker c.ordered_text.result _ _ (λ text printed. record {
+      decision = c.in-Ok.decision;
+      refined = c.in-Ok.ensures.refined;
+      printed = printed;
+    }) c.ordered_text.ensures.text
