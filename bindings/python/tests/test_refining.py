@@ -258,7 +258,8 @@ class Forged(TimedTest):
     def test_an_order_that_is_not_the_present_one(self):
         # In this order no cuts move fewer than 20 bytes, and in the present one none move any.
         run = tezgumi.Run(2, [1] * 4, [10] * 4, [0, 0, 1, 1])
-        for claim in (plain_near(run, 1000, order=[1, 0]), plain_near(run, 1000, True, [1, 0])):
+        other = plain_near(run, 1000, order=[1, 0])
+        for claim in (other, replace(other, present=[0, 2, 4]), plain_near(run, 1000, True, [1, 0])):
             self.assertEqual((claim.moved > 0, str(tezgumi.check(run, claim))), (True, "check: OrderWrong"))
         for places in ([0, 1, 0, 1], [0, 0, 1, 0]):
             apart = replace(run, places=places)
