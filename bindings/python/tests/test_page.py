@@ -428,9 +428,10 @@ class Seen(InAFolder):
         # The elements of PE 0 are not together, and PE 2 is none of the two that are to be.
         apart, past = replace(run, places=[0, 1, 0, 1]), replace(run, procs=3, places=[0, 0, 2, 2])
         flat = replace(right, step_starts=[0, 0, 0], step_places=[], step_rises=[])
-        claims = [(run, other), (run, replace(other, cuts=[0, 0, 4])), (run, right), (apart, near(apart, 1000)), (past, flat)]
+        claims = [(run, right), (run, other), (run, replace(other, cuts=[0, 0, 4])), (run, replace(other, present=right.present)),
+                  (apart, near(apart, 1000)), (past, flat)]
         found = [row[17] for row in self.open(claims).rows("all-rounds")]
-        self.assertEqual(found, ["OrderWrong", "OrderWrong", "holds", "OrderWrong", "OrderWrong"])
+        self.assertEqual(found, ["holds"] + ["OrderWrong"] * 5)
         lines = [slow_checker.first_near_flaw(as_lists(one), as_lists(claim)) for one, claim in claims]
         self.assertEqual(found, [line[len("check: "):].replace("ok", "holds") for line in lines])
 

@@ -157,7 +157,8 @@ def _sums(numbers: NDArray[Any], places: NDArray[Any], pes: int) -> NDArray[np.u
     # A double holds sums up to 53 bits: those of the lower 32 bits of 2^20 numbers have 52, and those of the rest fewer.
     sums = np.zeros(pes, np.uint64)
     for first in range(0, len(numbers), PART):
-        part, stands = numbers[first:first + PART].astype(np.uint64), places[first:first + PART].astype(np.intp)
+        part = numbers[first:first + PART].astype(np.uint64, copy=False)
+        stands = places[first:first + PART].astype(np.intp, copy=False)
         for shift in (0, 32) if int(part.max()) >> 32 else (0,):
             halves = part >> np.uint64(shift) & np.uint64(2**32 - 1)
             sums += np.bincount(stands, weights=halves, minlength=pes).astype(np.uint64) << np.uint64(shift)
