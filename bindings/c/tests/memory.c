@@ -109,7 +109,7 @@ static int32_t call_check(void *given)
 static int32_t call_refine(void *given)
 {
     output *o = (output *)given;
-    return tezgumi_refine(ten_loads, TEN, ten_bytes, TEN, ten_places, TEN, Q, Q, THOUSANDTHS, o->ten_new, TEN, &o->least,
+    return tezgumi_refine(ten_loads, TEN, ten_bytes, TEN, ten_places, TEN, Q, Q, THOUSANDTHS, 0, o->ten_new, TEN, &o->least,
         &o->bottleneck, &o->moved, &o->near_present, o->near_cuts, Q + 1, o->ten_stops, Q + 1, &o->stops_count, o->ten_names, Q, o->u, Q, o->v, Q,
         o->least_cuts, Q + 1, o->order, Q, o->present, Q + 1, o->starts, Q + 1, o->at, STEPS, o->rises, STEPS,
         &o->steps_count);
@@ -118,8 +118,8 @@ static int32_t call_refine(void *given)
 static int32_t call_check_refined(void *given)
 {
     output *o = (output *)given;
-    return tezgumi_check_refined(ten_loads, TEN, ten_bytes, TEN, ten_places, TEN, Q, Q, THOUSANDTHS, o->ten_new, TEN,
-        o->least, o->moved, o->near_cuts, Q + 1, o->ten_stops, o->stops_count, o->ten_names, Q, o->u, Q, o->v, Q,
+    return tezgumi_check_refined(ten_loads, TEN, ten_bytes, TEN, ten_places, TEN, Q, Q, THOUSANDTHS, 0, o->ten_new, TEN,
+        o->least, o->bottleneck, o->moved, o->near_cuts, Q + 1, o->ten_stops, o->stops_count, o->ten_names, Q, o->u, Q, o->v, Q,
         o->least_cuts, Q + 1, o->order, Q, o->present, Q + 1, o->starts, Q + 1, o->at, o->steps_count, o->rises,
         o->steps_count, &o->cuts[0], &o->cuts[1]);
 }
@@ -261,7 +261,7 @@ static void *refine_much(void *arg)
 {
     const tezgumi_run many = {MANY, PES, many_loads, many_bytes, many_places};
     tezgumi_refinement *d = (tezgumi_refinement *)arg;
-    return tezgumi_refine_run(&many, 20, d) == TEZGUMI_OK && tezgumi_check_refinement(&many, d, NULL) == TEZGUMI_OK ? arg : NULL;
+    return tezgumi_refine_run(&many, 20, 0, d) == TEZGUMI_OK && tezgumi_check_refinement(&many, d, NULL) == TEZGUMI_OK ? arg : NULL;
 }
 
 /* The same within a tolerance, in one thread. */

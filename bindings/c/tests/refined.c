@@ -11,7 +11,7 @@ static const uint64_t loads[N] = {1, 1, 1, 2, 7, 8, 6, 2, 1, 1};
 static const uint32_t bytes[N] = {10, 10, 10, 20, 60, 90, 70, 20, 10, 10}, places[N] = {2, 2, 2, 2, 0, 0, 0, 1, 1, 1};
 
 typedef struct {
-    uint32_t tolerance, new_places[N], cuts[P + 1], stops[P + 1], names[P], near_present;
+    uint32_t tolerance, keep_order, new_places[N], cuts[P + 1], stops[P + 1], names[P], near_present;
     int64_t block_prices[P], pe_prices[P];
     uint64_t least, bottleneck, moved, step_rises[STEPS];
     uint32_t least_cuts[P + 1], order[P], present[P + 1], step_places[STEPS];
@@ -24,6 +24,7 @@ static output empty_output(void)
     output o;
     memset(&o, 0x5a, sizeof o);
     o.tolerance = THOUSANDTHS;
+    o.keep_order = 0;
     o.new_places_len = N;
     o.cuts_len = o.least_cuts_len = o.present_len = o.starts_len = P + 1;
     o.names_len = o.block_prices_len = o.order_len = P;
@@ -33,8 +34,8 @@ static output empty_output(void)
 
 static int32_t refine(uint32_t procs, uint32_t pes, output *o)
 {
-    return tezgumi_refine(loads, N, bytes, N, places, N, procs, pes, o->tolerance, o->new_places, o->new_places_len, &o->least,
-        &o->bottleneck, &o->moved, &o->near_present, o->cuts, o->cuts_len, o->stops, P + 1, &o->stops_count, o->names, o->names_len,
+    return tezgumi_refine(loads, N, bytes, N, places, N, procs, pes, o->tolerance, o->keep_order, o->new_places, o->new_places_len,
+        &o->least, &o->bottleneck, &o->moved, &o->near_present, o->cuts, o->cuts_len, o->stops, P + 1, &o->stops_count, o->names, o->names_len,
         o->block_prices, o->block_prices_len, o->pe_prices, P, o->least_cuts, o->least_cuts_len, o->order, o->order_len,
         o->present, o->present_len, o->step_starts, o->starts_len, o->step_places, o->steps_len, o->step_rises, STEPS,
         &o->steps_count);
@@ -42,8 +43,8 @@ static int32_t refine(uint32_t procs, uint32_t pes, output *o)
 
 static int32_t check(uint32_t procs, uint32_t pes, const output *o, uint32_t *at)
 {
-    return tezgumi_check_refined(loads, N, bytes, N, places, N, procs, pes, o->tolerance, o->new_places, o->new_places_len,
-        o->least, o->moved, o->cuts, o->cuts_len, o->stops, o->stops_count, o->names, o->names_len, o->block_prices,
+    return tezgumi_check_refined(loads, N, bytes, N, places, N, procs, pes, o->tolerance, o->keep_order, o->new_places,
+        o->new_places_len, o->least, o->bottleneck, o->moved, o->cuts, o->cuts_len, o->stops, o->stops_count, o->names, o->names_len, o->block_prices,
         o->block_prices_len, o->pe_prices, P, o->least_cuts, o->least_cuts_len, o->order, o->order_len, o->present,
         o->present_len, o->step_starts, o->starts_len, o->step_places, o->steps_count, o->step_rises, o->steps_count, &at[0],
         &at[1]);
@@ -84,7 +85,7 @@ static void the_room_for_steps(void)
     output o = empty_output(), before = o;
     o.steps_len = all.steps_count - 1;
     test("as many rises as places", refine(P, P, &o) == TEZGUMI_BAD_INPUT);
-    same("no room for steps", tezgumi_refine(loads, N, bytes, N, places, N, P, P, THOUSANDTHS, o.new_places, N, &o.least,
+    same("no room for steps", tezgumi_refine(loads, N, bytes, N, places, N, P, P, THOUSANDTHS, 0, o.new_places, N, &o.least,
         &o.bottleneck, &o.moved, &o.near_present, o.cuts, P + 1, o.stops, P + 1, &o.stops_count, o.names, P, o.block_prices, P, o.pe_prices, P,
         o.least_cuts, P + 1, o.order, P, o.present, P + 1, o.step_starts, P + 1, o.step_places, all.steps_count - 1,
         o.step_rises, all.steps_count - 1, &o.steps_count), TEZGUMI_OK);
@@ -125,7 +126,7 @@ static void run_refused(const char *what, const tezgumi_run *run, tezgumi_refine
 {
     d->least = 5;
     d->near_present = 0;
-    same(what, tezgumi_refine_run(run, 0, d), status);
+    same(what, tezgumi_refine_run(run, 0, 0, d), status);
     test("and nothing is written", d->least == 5 && d->decision.cuts[1] == 0);
     d->near_present = 1;
     same("also of a check", tezgumi_check_refinement(run, d, NULL), status);
@@ -142,7 +143,7 @@ static void the_limits(void)
     const tezgumi_run more_pes = {2, TEZGUMI_DUMP_PES + 1, light, sizes, last};
     tezgumi_refinement d;
     tezgumi_refinement_room(&d, 2, TEZGUMI_DUMP_PES);
-    same("the greatest numbers", tezgumi_refine_run(&most, 0, &d), TEZGUMI_OK);
+    same("the greatest numbers", tezgumi_refine_run(&most, 0, 0, &d), TEZGUMI_OK);
     same("are right", tezgumi_check_refinement(&most, &d, NULL), TEZGUMI_OK);
     tezgumi_refinement_free(&d);
     tezgumi_refinement_room(&d, 2, 1);
@@ -150,7 +151,7 @@ static void the_limits(void)
     run_refused("a load of 2^47", &heavy_one, &d, TEZGUMI_TOO_LARGE);
     run_refused("a size of 2^20 and one more", &large_one, &d, TEZGUMI_TOO_LARGE);
     run_refused("257 PEs before", &more_pes, &d, TEZGUMI_TOO_LARGE);
-    same("too great a tolerance is said before", tezgumi_refine_run(&heavy_one, 1001, &d), TEZGUMI_BAD_TOLERANCE);
+    same("too great a tolerance is said before", tezgumi_refine_run(&heavy_one, 1001, 0, &d), TEZGUMI_BAD_TOLERANCE);
     tezgumi_refinement_free(&d);
 }
 
@@ -169,7 +170,7 @@ static void more_than_there_is_room_for(void)
     for (k = 0; k < 2; k++) {
         const size_t n = k == 0 ? MANY : 2, p = k == 0 ? 2 : PES;
         same(k == 0 ? "65,537 elements" : "257 PEs",
-            tezgumi_refine(no_loads, n, words, n, words, n, 1, (uint32_t)p, 0, room, n, &least, &bottleneck, &moved, &near_present, room + MANY,
+            tezgumi_refine(no_loads, n, words, n, words, n, 1, (uint32_t)p, 0, 0, room, n, &least, &bottleneck, &moved, &near_present, room + MANY,
                 p + 1, room + 2 * MANY, p + 1, &count, room + 3 * MANY, p, prices, p, prices + PES, p, room + 4 * MANY, p + 1, room + 5 * MANY, p,
                 room + 5 * MANY + PES, p + 1, starts, p + 1, room, 0, rises, 0, &steps),
             TEZGUMI_TOO_LARGE);
@@ -267,15 +268,102 @@ static void the_flaws(void)
     FORGED(new_places_len = 9, TEZGUMI_PLACES_WRONG, 0, 0);
 }
 
-/* What the present cuts are is not part of the proof. */
-static void the_present_cuts(void)
+/* The order and the present cuts are those of the run, and the bottleneck is that of the decision. */
+static void the_order_and_the_bottleneck(void)
 {
-    output o = refined();
+    FORGED(present[1] = 1, TEZGUMI_ORDER_WRONG, 0, 0);
+    FORGED(present_len = 0, TEZGUMI_ORDER_WRONG, 0, 0);
+    FORGED(bottleneck = 0, TEZGUMI_BOTTLENECK_WRONG, 0, 0);
+    FORGED(bottleneck = 13, TEZGUMI_BOTTLENECK_WRONG, 0, 0);
+    FORGED(bottleneck = 15, TEZGUMI_BOTTLENECK_WRONG, 0, 0);
+    FORGED(bottleneck = 999, TEZGUMI_BOTTLENECK_WRONG, 0, 0);
+}
+
+/* A claim that is right for the order 1, 0, in which all elements move, where two elements move at most in the present one; and
+ * one for elements that stand in no order. */
+static void another_order(void)
+{
+    static const uint64_t four[4] = {1, 1, 1, 1}, rises[1] = {20};
+    static const uint32_t ten[4] = {10, 10, 10, 10}, together[4] = {0, 0, 1, 1}, apart[4] = {0, 1, 0, 1}, to[4] = {0, 0, 0, 0};
+    static const uint32_t cuts[3] = {0, 0, 4}, stops[3] = {0, 1, 2}, names[2] = {1, 0}, least_cuts[3] = {0, 2, 4}, places_of[1] = {0};
+    static const int64_t block_prices[2] = {0, 20}, no_prices[2] = {0, 0};
+    static const size_t starts[3] = {0, 0, 1};
     uint32_t at[2];
-    o.present[1] = 1;
-    same("other present cuts", check(P, P, &o, at), TEZGUMI_OK);
-    o.present_len = 0;
-    same("no present cuts", check(P, P, &o, at), TEZGUMI_OK);
+    int k;
+    for (k = 0; k < 2; k++)
+        same(k == 0 ? "another order" : "no order", tezgumi_check_refined(four, 4, ten, 4, k == 0 ? together : apart, 4, 2, 2, 1000, 0, to, 4,
+            2, 4, 20, cuts, 3, stops, 3, names, 2, block_prices, 2, no_prices, 2, least_cuts, 3, names, 2, least_cuts, 3, starts, 3,
+            places_of, 1, rises, 1, &at[0], &at[1]), TEZGUMI_ORDER_WRONG);
+}
+
+/* Four elements of which the heaviest PE has 8 of 11 units: the limit is 7, so that element 0 is alone in its block. In the order
+ * 0, 1, 2 element 1 then moves, of 37 bytes. With the names 1, 0, 2 elements 0 and 2 move, of 2 and 15. */
+static void the_order_is_kept(void)
+{
+    static const uint64_t four[4] = {6, 2, 1, 2};
+    static const uint32_t sizes[4] = {2, 37, 15, 6}, stands[4] = {0, 0, 1, 2}, to[4] = {0, 1, 1, 2}, order[3] = {0, 1, 2};
+    static const uint32_t cuts[4] = {0, 1, 3, 4}, others[3] = {1, 0, 2}, apart[4] = {0, 1, 0, 2};
+    static const int64_t no_prices[3] = {0, 0, 0};
+    const tezgumi_run run = {4, 3, four, sizes, stands}, scattered = {4, 3, four, sizes, apart};
+    tezgumi_refinement d;
+    tezgumi_refinement_room(&d, 4, 3);
+    same("decided anew", tezgumi_refine_run(&run, 300, 0, &d), TEZGUMI_OK);
+    test("PEs change places", d.keep_order == 0 && d.decision.moved == 17 && are(d.decision.names, 3, others));
+    same("which is right", tezgumi_check_refinement(&run, &d, NULL), TEZGUMI_OK);
+    d.keep_order = 1;
+    same("but does not keep the order", tezgumi_check_refinement(&run, &d, NULL), TEZGUMI_NAMES_NOT_ORDER);
+    same("decided in order", tezgumi_refine_run(&run, 300, 1, &d), TEZGUMI_OK);
+    test("the order is kept", d.keep_order == 1 && d.near_present == 1 && d.least == 6 && d.decision.bottleneck == 6);
+    test("element 1 moves", d.decision.moved == 37 && are(d.decision.cuts, 4, cuts) && are(d.decision.new_places, 4, to));
+    test("the names are the order", are(d.decision.names, 3, order) && are(d.order, 3, order));
+    test("without prices", !memcmp(d.decision.block_prices, no_prices, sizeof no_prices) && !memcmp(d.decision.pe_prices, no_prices, sizeof no_prices));
+    same("which is right", tezgumi_check_refinement(&run, &d, NULL), TEZGUMI_OK);
+    d.decision.block_prices[0] = 5;
+    same("whatever the prices", tezgumi_check_refinement(&run, &d, NULL), TEZGUMI_OK);
+    d.decision.moved = 17;
+    same("other bytes", tezgumi_check_refinement(&run, &d, NULL), TEZGUMI_MOVED_WRONG);
+    d.decision.moved = 37;
+    d.decision.new_places[1] = 0;
+    same("another place", tezgumi_check_refinement(&run, &d, NULL), TEZGUMI_PLACES_WRONG);
+    same("any number but 0", tezgumi_refine_run(&run, 300, UINT32_MAX, &d), TEZGUMI_OK);
+    test("keeps the order", d.decision.moved == 37);
+    same("where there is none", tezgumi_refine_run(&scattered, 300, 1, &d), TEZGUMI_OK);
+    test("it is the plan", d.near_present == 0 && d.decision.bottleneck == 6);
+    same("which is right", tezgumi_check_refinement(&scattered, &d, NULL), TEZGUMI_OK);
+    tezgumi_refinement_free(&d);
+}
+
+/* A plan is right with its own least load and cuts alone, and does not pass for a decision that keeps the order of the PEs. */
+static void the_plan_is_checked(void)
+{
+    const tezgumi_run run = {N, P, loads, bytes, places};
+    tezgumi_refinement d;
+    uint32_t at[4] = {7, 7, 7, 7}, *odd = (uint32_t *)(uintptr_t)((uintptr_t)at + 1);
+    tezgumi_refinement_room(&d, N, P);
+    same("the plan", tezgumi_refine_run(&run, 0, 0, &d), TEZGUMI_OK);
+    same("is right", tezgumi_check_refinement(&run, &d, at), TEZGUMI_OK);
+    test("and names nothing", at[0] == 0 && at[1] == 0 && at[2] == 7);
+    d.least = 11;
+    same("another least load", tezgumi_check_refinement(&run, &d, at), TEZGUMI_LEAST_WRONG);
+    d.least = 12;
+    d.least_cuts[1] = 4;
+    same("other least cuts", tezgumi_check_refinement(&run, &d, at), TEZGUMI_LEAST_WRONG);
+    d.least_cuts[1] = 5;
+    d.decision.bottleneck = 11;
+    same("another bottleneck", tezgumi_check_refinement(&run, &d, at), TEZGUMI_HEAVY);
+    d.decision.bottleneck = 12;
+    d.keep_order = 1;
+    same("for a decision in order", tezgumi_check_refinement(&run, &d, at), TEZGUMI_ORDER_WRONG);
+    d.keep_order = 0;
+    same("a place that is misaligned", tezgumi_check_refinement(&run, &d, odd), TEZGUMI_BAD_INPUT);
+    same("and one in a list", tezgumi_check_refinement(&run, &d, d.decision.cuts), TEZGUMI_BAD_INPUT);
+    same("near the present cuts", tezgumi_refine_run(&run, THOUSANDTHS, 0, &d), TEZGUMI_OK);
+    same("a place that is misaligned", tezgumi_check_refinement(&run, &d, odd), TEZGUMI_BAD_INPUT);
+    same("and one in a list", tezgumi_check_refinement(&run, &d, d.order), TEZGUMI_BAD_INPUT);
+    test("which is left", d.order[0] == 2 && d.order[1] == 0);
+    d.decision.bottleneck = 999;
+    same("another bottleneck", tezgumi_check_refinement(&run, &d, at), TEZGUMI_BOTTLENECK_WRONG);
+    tezgumi_refinement_free(&d);
 }
 
 /* The functions of the header on the same. */
@@ -286,24 +374,24 @@ static void the_struct(void)
     tezgumi_refinement d;
     uint32_t at[2];
     same("room", tezgumi_refinement_room(&d, N, P), TEZGUMI_OK);
-    same("decided", tezgumi_refine_run(&run, THOUSANDTHS, &d), TEZGUMI_OK);
+    same("decided", tezgumi_refine_run(&run, THOUSANDTHS, 0, &d), TEZGUMI_OK);
     test("as by the export", d.least == 12 && d.decision.moved == 60 && are(d.decision.cuts, 4, all.cuts) && d.near_present == 1);
     test("the heaviest block has 14", d.decision.bottleneck == 14 && d.tolerance == THOUSANDTHS);
     same("checked", tezgumi_check_refinement(&run, &d, at), TEZGUMI_OK);
     d.order[0] = 0;
     same("its flaw", tezgumi_check_refinement(&run, &d, NULL), TEZGUMI_ORDER_TWICE);
     d.steps_room = 0;
-    same("with room for no step", tezgumi_refine_run(&run, THOUSANDTHS, &d), TEZGUMI_OK);
+    same("with room for no step", tezgumi_refine_run(&run, THOUSANDTHS, 0, &d), TEZGUMI_OK);
     test("it gets more", d.steps_room == all.steps_count && d.steps_count == all.steps_count);
     same("checked again", tezgumi_check_refinement(&run, &d, at), TEZGUMI_OK);
-    same("without a tolerance", tezgumi_refine_run(&run, 0, &d), TEZGUMI_OK);
+    same("without a tolerance", tezgumi_refine_run(&run, 0, 0, &d), TEZGUMI_OK);
     test("it is the plan", d.near_present == 0 && d.decision.bottleneck == 12 && d.decision.moved == 130);
     same("which is right", tezgumi_check_refinement(&run, &d, at), TEZGUMI_OK);
-    same("too great a tolerance", tezgumi_refine_run(&run, 1001, &d), TEZGUMI_BAD_TOLERANCE);
+    same("too great a tolerance", tezgumi_refine_run(&run, 1001, 0, &d), TEZGUMI_BAD_TOLERANCE);
     d.present = d.least_cuts;
-    same("lists that overlap", tezgumi_refine_run(&run, THOUSANDTHS, &d), TEZGUMI_BAD_INPUT);
-    same("no run", tezgumi_refine_run(NULL, THOUSANDTHS, &d), TEZGUMI_BAD_INPUT);
-    same("no refinement", tezgumi_refine_run(&run, THOUSANDTHS, NULL), TEZGUMI_BAD_INPUT);
+    same("lists that overlap", tezgumi_refine_run(&run, THOUSANDTHS, 0, &d), TEZGUMI_BAD_INPUT);
+    same("no run", tezgumi_refine_run(NULL, THOUSANDTHS, 0, &d), TEZGUMI_BAD_INPUT);
+    same("no refinement", tezgumi_refine_run(&run, THOUSANDTHS, 0, NULL), TEZGUMI_BAD_INPUT);
     tezgumi_refinement_free(&d);
     test("all is given back", !d.room && !d.steps && !d.decision.room);
     tezgumi_refinement_free(NULL);
@@ -324,18 +412,18 @@ static void few_and_odd(void)
     const tezgumi_run scattered = {4, 2, giant, size, apart};
     tezgumi_refinement d;
     tezgumi_refinement_room(&d, 0, 2);
-    same("no elements", tezgumi_refine_run(&none, 20, &d), TEZGUMI_OK);
+    same("no elements", tezgumi_refine_run(&none, 20, 0, &d), TEZGUMI_OK);
     test("move nothing", d.decision.moved == 0 && d.least == 0);
     same("and that is right", tezgumi_check_refinement(&none, &d, NULL), TEZGUMI_OK);
     tezgumi_refinement_free(&d);
     tezgumi_refinement_room(&d, 4, 2);
-    same("no loads", tezgumi_refine_run(&idle, 0, &d), TEZGUMI_OK);
+    same("no loads", tezgumi_refine_run(&idle, 0, 0, &d), TEZGUMI_OK);
     test("all stay", d.decision.moved == 0 && d.least == 0 && are(d.decision.new_places, 4, stands));
     same("and that is right", tezgumi_check_refinement(&idle, &d, NULL), TEZGUMI_OK);
-    same("a giant", tezgumi_refine_run(&heavy, 10, &d), TEZGUMI_OK);
+    same("a giant", tezgumi_refine_run(&heavy, 10, 0, &d), TEZGUMI_OK);
     test("stays where it is", d.decision.moved == 0 && d.least == 101 && are(d.decision.new_places, 4, stands));
     same("and that is right", tezgumi_check_refinement(&heavy, &d, NULL), TEZGUMI_OK);
-    same("scattered elements", tezgumi_refine_run(&scattered, 1000, &d), TEZGUMI_OK);
+    same("scattered elements", tezgumi_refine_run(&scattered, 1000, 0, &d), TEZGUMI_OK);
     test("are planned", d.near_present == 0 && d.decision.bottleneck == 101);
     same("and that is right", tezgumi_check_refinement(&scattered, &d, NULL), TEZGUMI_OK);
     tezgumi_refinement_free(&d);
@@ -348,7 +436,10 @@ int main(void)
     the_plan();
     the_refusals();
     the_flaws();
-    the_present_cuts();
+    the_order_and_the_bottleneck();
+    another_order();
+    the_order_is_kept();
+    the_plan_is_checked();
     the_struct();
     few_and_odd();
     return failures != 0;

@@ -12,7 +12,7 @@ public:
     ~Refinement() { tezgumi_refinement_free(&held); }
     Refinement(const Refinement &) = delete;
     Refinement &operator=(const Refinement &) = delete;
-    int32_t refine(const tezgumi_run &run, uint32_t tolerance) { return tezgumi_refine_run(&run, tolerance, &held); }
+    int32_t refine(const tezgumi_run &run, uint32_t tolerance) { return tezgumi_refine_run(&run, tolerance, 0, &held); }
     int32_t check(const tezgumi_run &run) const { return tezgumi_check_refinement(&run, &held, nullptr); }
     tezgumi_refinement held;
 };

@@ -24,12 +24,12 @@ ghost use Rattle.lb_lists.specs.Places.{ArePlaces};
 ghost use Rattle.lb_lists.specs.RefinedClaims.{refined_flaw_number, refined_flaw_place, IsBestWithin, IsFirstRefinedFlaw, IsRightRefined};
 ghost use Rattle.lb_lists.specs.declared.refined_checking.RefinedFlaw.{RefinedFlaw};
 ghost use Rattle.lb_lists.specs.RefinedRooms.{standing_in, told_in, HasRefinedRoom, IsStandingIn};
-ghost use Rattle.lb_lists.specs.Refinings.{IsRefinedRun};
+ghost use Rattle.lb_lists.specs.Refinings.{IsDecidedRun};
 ghost use Rattle.lb_lists.specs.Rooms.{claim_in, HasRoom};
 ghost use Rattle.lb_lists.specs.Runs.{sizes_of, AreSmall, FitsSnapshot, IsAsked};
 ghost use Rattle.lb_lists.specs.Scales.{IsFirstScaleFault, IsMeasured, IsRoomFor, IsScaled};
 ghost use Rattle.lb_lists.specs.declared.scaling.ScaleError.TheVariants.{NotANumber, Negative, Infinite};
-ghost use Rattle.lb_capi.specs.Calls.{claim_of, refine_status, refusal_status, room_of, run_of, refined_claim_of, scale_status, standing_room_of};
+ghost use Rattle.lb_capi.specs.Calls.{claim_of, is_set, refine_status, refusal_status, room_of, run_of, refined_claim_of, scale_status, standing_room_of};
 
 mod parts;
 
@@ -41,12 +41,12 @@ use lb_lists::{
 use std::alloc::Global;
 
 // The number of this interface.
-const ABI: u32 = 2;
+const ABI: u32 = 3;
 
 /// The number of this interface. It changes where the arguments of a call or their meaning change.
 #[unsafe(no_mangle)]
 pub extern "C" fn tezgumi_abi() -> u32
-    ensures value { result ≡ 2 }
+    ensures value { result ≡ 3 }
 {
     ABI
 }
@@ -247,12 +247,23 @@ fn flag_of(near: bool) -> u32
     u32::from(near)
 }
 
+// Whether a number says yes.
+fn flag_in(number: u32) -> bool
+    ensures flag { result ≡ is_set number }
+{
+    number != 0
+}
+
 /// Decides for a run and `pes` PEs within a tolerance, in thousandths above the least possible load of the heaviest block. It
 /// writes what [`tezgumi_decide`] does, and in `least` the least possible load, which the stops prove. `least_cuts` are those
 /// of the least division. `near` is 1 where the cuts are near the present ones: of all cuts within the tolerance, in the
 /// present order of the PEs, those that move the fewest bytes. Then `order` and `present` have that order and the present
 /// cuts, and the steps prove that no such cuts move fewer bytes, where their lists have the capacity for all `steps_count` of
-/// them. Where `near` is 0 the decision is the plan, and these lists are left unchanged. It returns -7 where the tolerance is
+/// them. Where `keep_order` is 0 the blocks have the cheapest names, and the decision is the plan where that moves no more bytes;
+/// where it is not 0 the names are the order, and all prices are written as 0. Where `near` is 0 the decision is the plan, and the
+/// lists of order, present cuts and steps are left unchanged.
+/// [`one_refined_run`](lb_lists::one_refined_run) says that two calls with the same run, `pes`, tolerance and `keep_order` decide
+/// the same. It returns -7 where the tolerance is
 /// above 1,000, before all else; otherwise as [`tezgumi_decide`], where also `least_cuts`, `present` and `step_starts` have
 /// `pes + 1` entries, `order` has `pes`, and `step_rises` as many as `step_places`; and -8, after -1 and -3 and before -2,
 /// where the run is too large for a tolerance: more than 65,536 elements, more than 256 PEs before or after, a load of 2^47
@@ -266,6 +277,7 @@ pub extern "C" fn tezgumi_refine(
     procs: u32,
     pes: u32,
     tolerance: u32,
+    keep_order: u32,
     new_places: &mut [u32],
     least: &mut u64,
     bottleneck: &mut u64,
@@ -287,7 +299,7 @@ pub extern "C" fn tezgumi_refine(
 ) -> i32
     ensures statuses { (result ≡ pos 0) ⊎ (result ≡ negsuc 0) ⊎ (result ≡ negsuc 1) ⊎ (result ≡ negsuc 2) ⊎ (result ≡ negsuc 6) ⊎ (result ≡ negsuc 7) }
     ensures refined { result ≡ pos 0 → (heights : List (List (ℕ × ℕ)))
-        × IsRefinedRun (run_of loads.now bytes.now places.now procs) pes tolerance (near.new == 1)
+        × IsDecidedRun (run_of loads.now bytes.now places.now procs) pes tolerance (is_set keep_order) (near.new == 1)
         (told_in least.new moved.new stops_count.new
         (room_of new_places.new cuts.new stops.new names.new block_prices.new pe_prices.new)
         (standing_room_of least_cuts.new order.new present.new step_starts.new step_places.new step_rises.new))
@@ -298,9 +310,10 @@ pub extern "C" fn tezgumi_refine(
     ensures placed { result ≡ pos 0 → ArePlaces cuts.new names.new (length loads.now) new_places.new }
     ensures peak { result ≡ pos 0 → bottleneck.new ≡ peak loads.now cuts.new }
     ensures within { result ≡ pos 0 → bottleneck.new ≤ limit_of least.new tolerance }
-    ensures no_more { result ≡ pos 0
+    ensures no_more { result ≡ pos 0 → keep_order ≡ 0
         → (others : List ℕ) (other more : ℕ) → IsPlan (run_of loads.now bytes.now places.now procs) pes others other more → moved.new ≤ more }
-    ensures bounded { result ≡ pos 0 → ArePricesBounded (sizes_of (run_of loads.now bytes.now places.now procs)) cuts.new block_prices.new pe_prices.new }
+    ensures bounded { result ≡ pos 0 → keep_order ≡ 0
+        → ArePricesBounded (sizes_of (run_of loads.now bytes.now places.now procs)) cuts.new block_prices.new pe_prices.new }
     ensures kept_whole { result ≡ pos 0
         → (pes_order cuts_now : List ℕ) → IsPresentOrder (sizes_of (run_of loads.now bytes.now places.now procs)) pes pes_order cuts_now
         → AreWithin loads.now pes_order (limit_of least.new tolerance) cuts_now → moved.new ≡ 0 }
@@ -351,7 +364,15 @@ pub extern "C" fn tezgumi_refine(
         step_places,
         step_rises,
     };
-    match refine_into(alloc, &run, pes, tolerance, &mut room, &mut standing) {
+    match refine_into(
+        alloc,
+        &run,
+        pes,
+        tolerance,
+        flag_in(keep_order),
+        &mut room,
+        &mut standing,
+    ) {
         Ok(told) => {
             *least = told.least;
             *bottleneck = told.bottleneck;
@@ -367,7 +388,8 @@ pub extern "C" fn tezgumi_refine(
 
 /// Checks what somebody claims to be a decision for a run and `pes` PEs within a tolerance whose cuts are near the present
 /// ones. It returns 0 where every part is right, and otherwise the number of its first flaw, and writes the block, the stop,
-/// the block and the PE, or the block and the place that this flaw names. It returns -7 where the tolerance is above 1,000,
+/// the block and the PE, or the block and the place that this flaw names. Where `keep_order` is not 0 the names have to be the
+/// order, and the prices are not looked at. It returns -7 where the tolerance is above 1,000,
 /// before all else; otherwise as [`tezgumi_check`], and -8, after -1 and -3 and before -2, where the run is too large for a
 /// tolerance, as in [`tezgumi_refine`]. A list of the claim may have any length.
 #[unsafe(no_mangle)]
@@ -379,8 +401,10 @@ pub extern "C" fn tezgumi_check_refined<'a>(
     procs: u32,
     pes: u32,
     tolerance: u32,
+    keep_order: u32,
     new_places: &'a [u32],
     least: u64,
+    bottleneck: u64,
     moved: u64,
     cuts: &'a [u32],
     stops: &'a [u32],
@@ -398,16 +422,16 @@ pub extern "C" fn tezgumi_check_refined<'a>(
 ) -> i32
     ensures right { result ≡ pos 0
         → IsRightRefined (run_of loads.now bytes.now places.now procs) pes tolerance
-        (refined_claim_of (claim_of least moved new_places.now cuts.now stops.now names.now block_prices.now pe_prices.now)
+        (refined_claim_of (is_set keep_order) least (claim_of bottleneck moved new_places.now cuts.now stops.now names.now block_prices.now pe_prices.now)
         (standing_room_of least_cuts.now order.now present.now step_starts.now step_places.now step_rises.now)) }
     ensures best { result ≡ pos 0
         → IsBestWithin (run_of loads.now bytes.now places.now procs) pes tolerance
-        (refined_claim_of (claim_of least moved new_places.now cuts.now stops.now names.now block_prices.now pe_prices.now)
+        (refined_claim_of (is_set keep_order) least (claim_of bottleneck moved new_places.now cuts.now stops.now names.now block_prices.now pe_prices.now)
         (standing_room_of least_cuts.now order.now present.now step_starts.now step_places.now step_rises.now)) }
     ensures flawed { (n : ℕ) → result ≡ pos (n + 1)
         → (flaw : RefinedFlaw) × (refined_flaw_number flaw ≡ n + 1) × (refined_flaw_place flaw ≡ (at_first.new, at_second.new))
         × IsFirstRefinedFlaw (run_of loads.now bytes.now places.now procs) pes tolerance
-        (refined_claim_of (claim_of least moved new_places.now cuts.now stops.now names.now block_prices.now pe_prices.now)
+        (refined_claim_of (is_set keep_order) least (claim_of bottleneck moved new_places.now cuts.now stops.now names.now block_prices.now pe_prices.now)
         (standing_room_of least_cuts.now order.now present.now step_starts.now step_places.now step_rises.now)) flaw }
     ensures refusals { (n : ℕ) → result ≡ negsuc n → (n < 3) ⊎ (n ≡ 6) ⊎ (n ≡ 7) }
     ensures tolerance { result ≡ negsuc 6 ↔ (1000 < tolerance) }
@@ -428,7 +452,7 @@ pub extern "C" fn tezgumi_check_refined<'a>(
     };
     let claim = RefinedClaim {
         decision: Claim {
-            bottleneck: least,
+            bottleneck,
             moved,
             new_places,
             cuts,
@@ -437,6 +461,8 @@ pub extern "C" fn tezgumi_check_refined<'a>(
             block_prices,
             pe_prices,
         },
+        keep_order: flag_in(keep_order),
+        least,
         least_cuts,
         order,
         present,

@@ -1,9 +1,10 @@
 -- A decision within a tolerance as plain lists.
-use Rattle.std.specs.Prelude.{◌≡◌, ◌⊎◌, Bool, true, false, ℕ, ◌<◌, ◌≤◌, List, ℤ}
+use Rattle.std.specs.Prelude.{◌≡◌, ◌⊎◌, Bool, true, false, ℕ, ◌<◌, ◌≤◌, List, ℤ, pos, replicate}
 use Rattle.chain_partition.specs.Chosen.{IsChosen}
 use Rattle.lb_certificates.specs.Certificate.{IsCertified}
 use Rattle.lb_certificates.specs.Naming.{bytes_moved, IsLeastNaming, IsNamed}
 use Rattle.lb_certificates.specs.declared.division.Division.{Division}
+use Rattle.lb_strategy.specs.Decisions.{ArePricesBounded}
 use Rattle.chain_refinement.specs.Orders.{IsPresentOrder}
 use Rattle.chain_refinement.specs.Refinement.{AreNearest, AreProved, AreWithin}
 use Rattle.chain_refinement.specs.Tolerances.{limit_of}
@@ -61,6 +62,39 @@ IsRefinedRun run pes tolerance true told standing =
     IsToldNear run pes tolerance told standing × ((plan : Told) → IsToldPlan run pes plan → told.moved < plan.moved)
 IsRefinedRun run pes tolerance false told standing =
     IsToldPlan run pes told × (HasNoOrder (sizes_of run) pes ⊎ ((near : Told) × (stood : Standing) × IsToldNear run pes tolerance near stood × (told.moved ≤ near.moved)))
+
+-- Cuts between blocks whose names are the PEs in their present order: of all cuts within the tolerance those that move the
+-- fewest bytes in this order, which the heights prove, and of these the nearest. Names that are the order have no prices.
+pub record IsToldInOrder (run : Listed) (pes tolerance : ℕ) (told : Told) (standing : Standing) : Type 0 where
+  pub certified : IsCertified run.loads pes (told_division told)
+  pub chosen : IsChosen run.loads pes (told_division told)
+  pub order : IsPresentOrder (sizes_of run) pes standing.order standing.present
+  pub proved : AreProved run.loads (sizes_of run) standing.order (limit_of told.least tolerance) told.cuts standing.heights
+  pub nearest : AreNearest run.loads (sizes_of run) standing.order standing.present (limit_of told.least tolerance) told.cuts
+  pub names_are : told.names ≡ standing.order
+  pub moved : told.moved ≡ bytes_moved (sizes_of run) told.cuts told.names
+  pub no_block_prices : told.block_prices ≡ replicate pes (pos 0)
+  pub no_pe_prices : told.pe_prices ≡ replicate pes (pos 0)
+
+-- What is decided within a tolerance where the PEs are to keep their order: such cuts; and where they have no order the plan.
+abbrev pub IsInOrderRun : Listed → ℕ → ℕ → Bool → Told → Standing → Type 0
+IsInOrderRun run pes tolerance true told standing = IsToldInOrder run pes tolerance told standing
+IsInOrderRun run pes tolerance false told standing =
+    IsToldPlan run pes told × HasNoOrder (sizes_of run) pes × ArePricesBounded (sizes_of run) told.cuts told.block_prices told.pe_prices
+
+-- what is decided within a tolerance, where the PEs are to keep their order and where they are not
+abbrev pub IsDecidedRun : Listed → ℕ → ℕ → Bool → Bool → Told → Standing → Type 0
+IsDecidedRun run pes tolerance false near told standing = IsRefinedRun run pes tolerance near told standing
+IsDecidedRun run pes tolerance true near told standing = IsInOrderRun run pes tolerance near told standing
+
+-- what two decisions have in common: all but heights and prices
+pub record AreToldSame (one other : Told) : Type 0 where
+  pub least : one.least ≡ other.least
+  pub moved : one.moved ≡ other.moved
+  pub cuts : one.cuts ≡ other.cuts
+  pub names : one.names ≡ other.names
+  pub least_cuts : one.least_cuts ≡ other.least_cuts
+  pub stops : one.stops ≡ other.stops
 
 -- the elements of each PE are consecutive, and the present cuts between them keep the blocks within the limit
 abbrev pub KeepWithin : Listed → ℕ → ℕ → Type 0

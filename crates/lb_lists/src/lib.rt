@@ -7,12 +7,14 @@
 //!   decision, into a [`Room`] of the caller.
 //! - [`refine_run`]: decides within a tolerance, for a run within the limits of a snapshot; [`refine_into`] writes the decision
 //!   into a [`Room`] and a [`StandingRoom`], or returns a [`RefineError`].
+//! - [`refine_run_in_order`]: decides so that the PEs keep their order, which [`refine_into`] does where that is asked for.
 //! - [`check_claim`]: whether a [`Claim`] is right, whoever made it, or its first flaw; [`number_of`]: the number of a flaw.
 //! - [`check_refined`]: whether a [`RefinedClaim`] of a decision within a tolerance is right, or its first [`RefinedFlaw`],
 //!   with its [number](number_of_refined) and its [place](place_of_refined).
 //! - [`scale_loads`]: loads in seconds as whole numbers, or a [`ScaleError`].
 //! - [`RunError`]: why a run was not planned, or a claim not checked.
-//! - [`one_plan`]: the law that a run has one plan; [`near_least`]: the law that a plan of scaled loads is nearly least.
+//! - [`one_plan`], [`one_refined_run`]: the laws that a run has one plan, and one decision within a tolerance; [`near_least`]: the
+//!   law that a plan of scaled loads is nearly least.
 //!
 //! ```
 //! use lb_lists::{Run, plan_into};
@@ -35,6 +37,7 @@ mod checking;
 mod claim;
 mod deciding;
 mod error;
+mod in_order;
 mod laws;
 mod limits;
 mod places;
@@ -53,7 +56,8 @@ pub use checking::{check_claim, number_of};
 pub use claim::Claim;
 pub use deciding::{Decided, Room, decide_into};
 pub use error::{RefineError, RunError};
-pub use laws::{near_least, one_plan};
+pub use in_order::refine_run_in_order;
+pub use laws::{near_least, one_plan, one_refined_run};
 pub use limits::RunLimits;
 pub use plan::{Plan, plan_run};
 pub use planning::{Planned, plan_into};

@@ -1,12 +1,15 @@
 //! The check of what somebody claims to be a decision within a tolerance.
 
-ghost use Rattle.std.specs.Prelude.{◌≡◌, ◌+◌, ◌<◌, ◌≤◌, ℕ, None, IfOk, OnOk, IfErr, MatchOption, length};
+ghost use Rattle.std.specs.Prelude.{◌≡◌, ◌+◌, ◌<◌, ◌≤◌, ℕ, None, IfOk, OnOk, IfErr, MatchBool, MatchOption, length};
 ghost use Rattle.std.specs.List.{between, zip};
+ghost use Rattle.lb_certificates.specs.Chain.{IsDivision};
 ghost use Rattle.lb_certificates.specs.Flaws.{flaw_number, flaw_place};
+ghost use Rattle.lb_certificates.specs.Naming.{bytes_moved};
 ghost use Rattle.chain_refinement.specs.Flaws.{refinement_flaw_number, refinement_flaw_place};
-ghost use Rattle.lb_lists.specs.Claims.{division_of};
+ghost use Rattle.chain_refinement.specs.Orders.{IsPresentOrder};
+ghost use Rattle.lb_lists.specs.Claims.{division_of, IsFlawTold, IsToldRight};
 ghost use Rattle.lb_lists.specs.RefinedClaims.{refined_flaw_number, refined_flaw_place, refinement_of, AreNamesRight, IsBestWithin};
-ghost use Rattle.lb_lists.specs.RefinedClaims.{IsFirstRefinedFlaw, IsNamesFlaw, IsRightRefined};
+ghost use Rattle.lb_lists.specs.RefinedClaims.{IsFirstRefinedFlaw, IsNamesFlaw, IsRightRefined, IsRightUpToNames};
 ghost use Rattle.lb_lists.specs.Runs.{sizes_of, AreSmall, FitsSnapshot, IsAsked, IsRefineRefusal, Listed};
 ghost use Rattle.lb_lists.specs.Steps.{heights_in};
 
@@ -16,8 +19,11 @@ use crate::refined_claim::RefinedClaim;
 use crate::run::Run;
 use crate::snapshot::snapshot_of;
 use chain_refinement::{Heights, Refinement, RefinementFlaw, Steps, Tolerance, check_refinement};
+use chare_index::Limits;
 use lb_certificates::{Cuts, Division, Flaw, Naming, Prices, check_naming};
-use lb_snapshot::Snapshot;
+use lb_refinement::{greatest_load, moved_by};
+use lb_snapshot::{Sizes, Snapshot};
+use present_order::present_order;
 use std::alloc::{AllocError, Allocator};
 
 /// What is wrong with a claim of a decision within a tolerance.
@@ -25,7 +31,13 @@ use std::alloc::{AllocError, Allocator};
 pub enum RefinedFlaw {
     /// The cuts, the least division, the order or the heights have this flaw.
     OfRefinement(RefinementFlaw),
-    /// These are right, and the names, their prices, the bytes or the places have this flaw.
+    /// These are right, and the order and the present cuts are not those of the PEs, or the PEs have no order.
+    OrderWrong,
+    /// That is right, too, and the bottleneck is not the load of the heaviest block.
+    BottleneckWrong,
+    /// That is right, too, and the PEs are to keep their order, which the names are not.
+    NamesNotOrder,
+    /// All that is right, and the names, their prices, the bytes or the places have this flaw.
     OfDecision(Flaw),
 }
 
@@ -73,10 +85,10 @@ fn least_from<A: Allocator + Copy>(
     alloc: A,
     claim: &RefinedClaim<'_>,
 ) -> Result<Division<A>, AllocError>
-    ensures { IfOk result (λ d. d ≡ division_of claim.now.decision.bottleneck claim.now.least_cuts claim.now.decision.stops) }
+    ensures { IfOk result (λ d. d ≡ division_of claim.now.least claim.now.least_cuts claim.now.decision.stops) }
 {
     Ok(Division {
-        bottleneck: claim.decision.bottleneck,
+        bottleneck: claim.least,
         cuts: Cuts::new(Vec::from_slice(alloc, claim.least_cuts)?),
         floor: floor_from(alloc, claim.decision.stops)?,
     })
@@ -153,8 +165,46 @@ fn names_flaw<A: Allocator>(
     }
 }
 
-// The first flaw of a claim with these parts.
-fn first_refined_flaw<A: Allocator>(
+// Whether the PEs have an order, and this is it, with these present cuts.
+fn is_order<A: Allocator + Copy, B: Allocator>(
+    alloc: A,
+    sizes: &Sizes<B>,
+    pes: u32,
+    order: &[u32],
+    present: &[u32],
+) -> Result<bool, AllocError>
+    requires some_pe { 1 ≤ pes }
+    requires few_pes { pes ≤ Limits.PES }
+    ensures { IfOk result (λ is. MatchBool is (IsPresentOrder sizes.now pes order.now present.now) (¬ (IsPresentOrder sizes.now pes order.now present.now))) }
+{
+    let Some(found) = present_order(alloc, sizes, pes)? else {
+        return Ok(false);
+    };
+    Ok(found.names.as_slice() == order && found.present.as_slice() == present)
+}
+
+// The first flaw of the bytes and the places of a claim whose names are the order of the PEs, and whose refinement is right.
+fn in_order_flaw<A: Allocator>(
+    snapshot: &Snapshot<A>,
+    pes: u32,
+    claim: &RefinedClaim<'_>,
+) -> Option<Flaw>
+    requires some_pe { 0 < pes }
+    requires few_pes { pes ≤ Limits.PES }
+    requires divides { IsDivision 0 (length snapshot.now.loads) pes claim.now.decision.cuts }
+    requires named { length claim.now.decision.names ≡ pes }
+    requires paired { length snapshot.now.loads ≡ length snapshot.now.sizes }
+    ensures { MatchOption result
+        (IsToldRight (bytes_moved snapshot.now.sizes claim.now.decision.cuts claim.now.decision.names) (length snapshot.now.loads) claim.now.decision)
+        (IsFlawTold (bytes_moved snapshot.now.sizes claim.now.decision.cuts claim.now.decision.names) (length snapshot.now.loads) claim.now.decision) }
+{
+    let decision = &claim.decision;
+    let moved = moved_by(snapshot.sizes().as_slice(), decision.cuts, decision.names);
+    flaw_told(moved, snapshot.loads().len(), decision)
+}
+
+// The first flaw of a claim whose refinement, order and bottleneck are right.
+fn flaw_of_names<A: Allocator>(
     snapshot: &Snapshot<A>,
     pes: u32,
     claim: &RefinedClaim<'_>,
@@ -165,6 +215,44 @@ fn first_refined_flaw<A: Allocator>(
     requires block_prices { parts.now.prices.u ≡ claim.now.decision.block_prices }
     requires pe_prices { parts.now.prices.v ≡ claim.now.decision.pe_prices }
     requires paired { length snapshot.now.loads ≡ length snapshot.now.sizes }
+    requires some_pe { 0 < pes }
+    requires few_pes { pes ≤ Limits.PES }
+    requires order { length claim.now.order ≡ pes }
+    requires divides { IsDivision 0 (length snapshot.now.loads) pes claim.now.decision.cuts }
+    ensures { (run : Listed) (thousandths : ℕ) → snapshot.now.loads ≡ run.loads → snapshot.now.sizes ≡ sizes_of run
+        → IsRightUpToNames run pes thousandths claim.now
+        → MatchOption result (IsRightRefined run pes thousandths claim.now) (IsFirstRefinedFlaw run pes thousandths claim.now) }
+{
+    if !claim.keep_order {
+        return match names_flaw(snapshot, claim, parts) {
+            Some(flaw) => Some(RefinedFlaw::OfDecision(flaw)),
+            None => None,
+        };
+    }
+    if claim.decision.names != claim.order {
+        return Some(RefinedFlaw::NamesNotOrder);
+    }
+    match in_order_flaw(snapshot, pes, claim) {
+        Some(flaw) => Some(RefinedFlaw::OfDecision(flaw)),
+        None => None,
+    }
+}
+
+// The first flaw of a claim with these parts, where it is known whether its order is that of the PEs.
+fn first_refined_flaw<A: Allocator>(
+    snapshot: &Snapshot<A>,
+    pes: u32,
+    claim: &RefinedClaim<'_>,
+    parts: &RefinedParts<A>,
+    in_order: bool,
+) -> Option<RefinedFlaw>
+    requires cuts { parts.now.refinement.cuts ≡ claim.now.decision.cuts }
+    requires naming { parts.now.naming ≡ claim.now.decision.names }
+    requires block_prices { parts.now.prices.u ≡ claim.now.decision.block_prices }
+    requires pe_prices { parts.now.prices.v ≡ claim.now.decision.pe_prices }
+    requires paired { length snapshot.now.loads ≡ length snapshot.now.sizes }
+    requires in_order { MatchBool in_order (IsPresentOrder snapshot.now.sizes pes claim.now.order claim.now.present)
+        (¬ (IsPresentOrder snapshot.now.sizes pes claim.now.order claim.now.present)) }
     ensures { (run : Listed) (thousandths : ℕ) → snapshot.now.loads ≡ run.loads → snapshot.now.sizes ≡ sizes_of run
         → parts.now.refinement ≡ refinement_of thousandths claim.now
         → MatchOption result (IsRightRefined run pes thousandths claim.now) (IsFirstRefinedFlaw run pes thousandths claim.now) }
@@ -172,20 +260,25 @@ fn first_refined_flaw<A: Allocator>(
     if let Err(flaw) = check_refinement(snapshot, pes, &parts.refinement) {
         return Some(RefinedFlaw::OfRefinement(flaw));
     }
-    match names_flaw(snapshot, claim, parts) {
-        Some(flaw) => Some(RefinedFlaw::OfDecision(flaw)),
-        None => None,
+    if !in_order {
+        return Some(RefinedFlaw::OrderWrong);
     }
+    if greatest_load(snapshot.loads(), pes, claim.decision.cuts) != claim.decision.bottleneck {
+        return Some(RefinedFlaw::BottleneckWrong);
+    }
+    flaw_of_names(snapshot, pes, claim, parts)
 }
 
 /// Checks what somebody claims to be a decision for a run and `pes` PEs within a tolerance in thousandths, whose cuts are near
 /// the present ones: `None` exactly where every part of the claim is right, and otherwise its first flaw. `None` means that no
-/// division of the elements into `pes` consecutive blocks has a lighter heaviest block than the claim's bottleneck, that no
-/// cuts within the tolerance move fewer bytes in the claim's order of the PEs, that no naming of the blocks does, and that the
-/// claim states the bytes that its own naming moves, and for each element the name of its block.
+/// division of the elements into `pes` consecutive blocks has a heaviest block lighter than `least`, that the PEs stand in the
+/// claim's order, in which no cuts within the tolerance move fewer bytes, that the bottleneck is the load of the heaviest block,
+/// that no naming of the blocks moves fewer bytes, or, where the PEs are to keep their order, that the names are the order, and
+/// that the claim states the bytes that its own naming moves, and for each element the name of its block. Whether the plan moves
+/// fewer bytes is not checked.
 ///
-/// Any claim may be passed. Flaws are looked for in the order of [`RefinementFlaw`], and then in that of [`Flaw`]. The check
-/// takes memory in proportion to the claim's lists and the steps of all blocks.
+/// Any claim may be passed. Flaws are looked for in the order of [`RefinedFlaw`], and within one kind in that of
+/// [`RefinementFlaw`] or [`Flaw`]. The check takes memory in proportion to the claim's lists and the steps of all blocks.
 ///
 /// # Errors
 ///
@@ -216,19 +309,26 @@ pub fn check_refined<A: Allocator + Copy>(
     let Ok(parts) = refined_parts(alloc, tolerance, claim) else {
         return Err(RefineError::Run(RunError::OutOfMemory));
     };
-    let flaw = first_refined_flaw(&snapshot, pes, claim, &parts);
+    let Ok(in_order) = is_order(alloc, snapshot.sizes(), pes, claim.order, claim.present) else {
+        return Err(RefineError::Run(RunError::OutOfMemory));
+    };
+    let flaw = first_refined_flaw(&snapshot, pes, claim, &parts, in_order);
     drop(parts);
     drop(snapshot);
     Ok(flaw)
 }
 
-/// The number of a flaw, from 1: those of a [`RefinementFlaw`] are 1 to 11 and 20 to 30, those of the decision 12 to 19.
+/// The number of a flaw, from 1: those of a [`RefinementFlaw`] are 1 to 11 and 20 to 30, those of order, bottleneck and names 31 to
+/// 33, and those of the decision 12 to 19.
 pub fn number_of_refined(flaw: RefinedFlaw) -> u8
     ensures value { result ≡ refined_flaw_number flaw }
     ensures positive { 1 ≤ result }
 {
     match flaw {
         RefinedFlaw::OfRefinement(flaw) => number_of_refinement(flaw),
+        RefinedFlaw::OrderWrong => 31,
+        RefinedFlaw::BottleneckWrong => 32,
+        RefinedFlaw::NamesNotOrder => 33,
         RefinedFlaw::OfDecision(flaw) => number_of(flaw),
     }
 }
@@ -264,7 +364,7 @@ pub fn place_of_refined(flaw: RefinedFlaw) -> (u32, u32)
             place_of(flaw),
         RefinedFlaw::OfRefinement(RefinementFlaw::Heavy(block)) => (block, 0),
         RefinedFlaw::OfRefinement(RefinementFlaw::Steep(block, place)) => (block, place),
-        RefinedFlaw::OfRefinement(_) => (0, 0),
+        _ => (0, 0),
     }
 }
 

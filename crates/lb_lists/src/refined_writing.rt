@@ -1,6 +1,6 @@
 //! How a decision within a tolerance is written to the lists of a room.
 
-ghost use Rattle.std.specs.Prelude.{◌≡◌, ◌≤◌, ◌<◌, ◌+◌, false, true, ℕ, List, length, take, drop};
+ghost use Rattle.std.specs.Prelude.{◌≡◌, ◌≤◌, ◌<◌, ◌+◌, false, true, ℕ, List, length, take, drop, pos, replicate, IfOk};
 ghost use Rattle.lb_certificates.specs.Chain.{IsDivision};
 ghost use Rattle.lb_certificates.specs.Naming.{blocks_between};
 ghost use Rattle.lb_lists.specs.Places.{ArePlaces};
@@ -14,10 +14,10 @@ use crate::plan::Plan;
 use crate::refining::{RefinedNumbers, StandingRoom};
 use crate::steps::FlatSteps;
 use chain_refinement::Refinement;
-use lb_certificates::Division;
-use lb_refinement::Kept;
+use lb_certificates::{Division, PriceList, Prices};
+use lb_refinement::{Kept, KeptInOrder};
 use lb_strategy::Decision;
-use std::alloc::Allocator;
+use std::alloc::{AllocError, Allocator};
 
 /// Writes the decision of a plan.
 pub(crate) fn write_planned<A: Allocator>(
@@ -84,6 +84,44 @@ fn numbers(decided: Decided, bottleneck: u64, near: bool, steps: usize) -> Refin
         near,
         steps,
     }
+}
+
+/// Cuts in the order of the PEs as other cuts near the present ones are: their names are the order, and each price is 0.
+///
+/// # Errors
+///
+/// Memory for a list was refused.
+pub(crate) fn priced<A: Allocator + Copy>(
+    alloc: A,
+    kept: KeptInOrder<A>,
+) -> Result<Kept<A>, AllocError>
+    ensures refinement { IfOk result (λ k. k.refinement ≡ kept.refinement) }
+    ensures bottleneck { IfOk result (λ k. k.bottleneck ≡ kept.bottleneck) }
+    ensures naming { IfOk result (λ k. k.naming ≡ kept.refinement.order) }
+    ensures block_prices { IfOk result (λ k. k.prices.u ≡ replicate (length kept.refinement.order) (pos 0)) }
+    ensures pe_prices { IfOk result (λ k. k.prices.v ≡ replicate (length kept.refinement.order) (pos 0)) }
+    ensures moved { IfOk result (λ k. k.moved ≡ kept.moved) }
+{
+    let KeptInOrder {
+        refinement,
+        bottleneck,
+        moved,
+        moves,
+    } = kept;
+    let naming = refinement.order.clone()?;
+    let blocks = naming.as_slice().len();
+    let prices = Prices {
+        u: PriceList::new(vec![in alloc; 0i64; blocks]?),
+        v: PriceList::new(vec![in alloc; 0i64; blocks]?),
+    };
+    Ok(Kept {
+        refinement,
+        bottleneck,
+        naming,
+        prices,
+        moved,
+        moves,
+    })
 }
 
 /// Writes cuts near the present ones, with what proves them: the order of the PEs, the present cuts and the heights, which have

@@ -14,11 +14,12 @@ ghost use Rattle.lb_lists.specs.Plans.{IsPlan};
 ghost use Rattle.lb_lists.specs.Places.{ArePlaces};
 ghost use Rattle.lb_lists.specs.RefinedRooms.{standing_in, standing_lists_in, told_in, HasRefinedRoom, HasStandingListsOf, HasStandingRoom, IsStandingIn};
 ghost use Rattle.lb_lists.specs.Rooms.{lists_in, HasListsOf};
-ghost use Rattle.lb_lists.specs.Refinings.{IsRefinedRun};
+ghost use Rattle.lb_lists.specs.Refinings.{IsDecidedRun};
 ghost use Rattle.lb_lists.specs.Runs.{sizes_of, AreSmall, FitsSnapshot, IsAsked, IsRefineRefusal, IsSnapshotRefusal};
 
 use crate::deciding::{Room, has_room};
 use crate::error::{RefineError, RunError};
+use crate::in_order::in_order_into;
 use crate::refined_writing::{write_near, write_planned};
 use crate::run::Run;
 use crate::snapshot::snapshot_of;
@@ -127,6 +128,9 @@ fn has_refined_room(room: &Room<'_>, standing: &StandingRoom<'_>, elements: usiz
 /// capacity for all of them. Where the decision is that of the plan, the order, the present cuts and the steps are left
 /// unchanged. The stops are those of the least division.
 ///
+/// With `keep_order` the PEs keep their order, as [`refine_run_in_order`](crate::refine_run_in_order) decides. Where they have
+/// one, the names are that order, and the prices are written as 0.
+///
 /// # Errors
 ///
 /// [`BadTolerance`](RefineError::BadTolerance) where it is above [`Tolerance::MOST`]; then as [`refine_run`], and
@@ -136,22 +140,24 @@ pub fn refine_into<A: Allocator + Copy>(
     run: &Run<'_>,
     pes: u32,
     thousandths: u32,
+    keep_order: bool,
     room: &mut Room<'_>,
     standing: &mut StandingRoom<'_>,
 ) -> Result<RefinedNumbers, RefineError>
     ensures same_lists { HasListsOf room.old room.new }
     ensures same_standing { HasStandingListsOf standing.old standing.new }
     ensures refined { IfOk result (λ d. (heights : List (List (ℕ × ℕ)))
-        × IsRefinedRun run.now pes thousandths d.near (told_in d.least d.moved d.stops (lists_in room.new) (standing_lists_in standing.new))
+        × IsDecidedRun run.now pes thousandths keep_order d.near (told_in d.least d.moved d.stops (lists_in room.new) (standing_lists_in standing.new))
         (standing_in heights (standing_lists_in standing.new))
         × IsStandingIn d.near heights d.steps (standing_lists_in standing.old) (standing_lists_in standing.new)) }
     ensures placed { IfOk result (λ _. ArePlaces room.new.cuts.now room.new.names.now (length run.now.loads) room.new.new_places.now) }
     ensures peak { IfOk result (λ d. d.bottleneck ≡ peak run.now.loads room.new.cuts.now) }
     ensures within { IfOk result (λ d. d.bottleneck ≤ limit_of d.least thousandths) }
-    ensures no_more { IfOk result (λ d. (places : List ℕ) (bottleneck moved : ℕ) → IsPlan run.now pes places bottleneck moved → d.moved ≤ moved) }
+    ensures no_more { IfOk result (λ d. keep_order ≡ false → (places : List ℕ) (bottleneck moved : ℕ) → IsPlan run.now pes places bottleneck moved → d.moved ≤ moved) }
     ensures kept_whole { IfOk result (λ d. (order present : List ℕ) → IsPresentOrder (sizes_of run.now) pes order present
         → AreWithin run.now.loads order (limit_of d.least thousandths) present → d.moved ≡ 0) }
-    ensures bounded { IfOk result (λ _. ArePricesBounded (sizes_of run.now) room.new.cuts.now room.new.block_prices.now room.new.pe_prices.now) }
+    ensures bounded { IfOk result (λ _. keep_order ≡ false
+        → ArePricesBounded (sizes_of run.now) room.new.cuts.now room.new.block_prices.now room.new.pe_prices.now) }
     ensures counted { IfOk result (λ d. d.stops ≤ pes + 1) }
     ensures behind { IfOk result (λ d. drop d.stops room.new.stops.now ≡ drop d.stops room.old.stops.now) }
     ensures small_tolerance { OnOk result (thousandths ≤ 1000) }
@@ -169,6 +175,9 @@ pub fn refine_into<A: Allocator + Copy>(
     };
     if !has_refined_room(room, standing, run.loads.len(), pes) {
         return Err(RefineError::Run(RunError::BadInput));
+    }
+    if keep_order {
+        return in_order_into(alloc, run, pes, tolerance, room, standing);
     }
     let refined = match refine_run(alloc, run, pes, tolerance) {
         Ok(refined) => refined,

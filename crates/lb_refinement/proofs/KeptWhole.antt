@@ -20,7 +20,7 @@ stays : (size : ℕ × ℕ) (pe : ℕ) → size.1 ≡ pe → moved_bytes size pe
 stays size pe same = grind (arith, nat_tests)
 
 -- nothing moves where each block runs on the PE that its elements are on
-none_moves : (sizes : List (ℕ × ℕ)) (names present : List ℕ) → StandInOrder sizes names present → bytes_moved sizes present names ≡ 0
+pub none_moves : (sizes : List (ℕ × ℕ)) (names present : List ℕ) → StandInOrder sizes names present → bytes_moved sizes present names ≡ 0
 none_moves sizes names present order =
     total_same (length sizes) (λ i. moved_bytes (slice_index_or sizes i (0, 0)) (slice_index names (block_of present i))) (λ _. 0) (λ i inside.
     let around = block_around present (length names) i (omega (arith, order.divides.starts)) (omega (arith, order.divides.ends)) in

@@ -1,5 +1,7 @@
 mod Blocks
 mod GreatestLoads
-mod KeptWhole
+pub mod InOrderCases
+pub mod KeptWhole
+mod MovedSums
 pub mod OneRefined
 pub mod RefinedCases

@@ -67,6 +67,18 @@ fn written<A: Allocator + Copy>(
     steps: usize,
     lists: &mut Lists,
 ) -> Result<RefinedNumbers, RefineError> {
+    written_by(alloc, run, thousandths, false, steps, lists)
+}
+
+// The same, where the PEs keep their order or not.
+fn written_by<A: Allocator + Copy>(
+    alloc: A,
+    run: &Run<'_>,
+    thousandths: u32,
+    keep_order: bool,
+    steps: usize,
+    lists: &mut Lists,
+) -> Result<RefinedNumbers, RefineError> {
     let mut room = Room {
         new_places: &mut lists.new_places,
         cuts: &mut lists.cuts,
@@ -83,7 +95,15 @@ fn written<A: Allocator + Copy>(
         step_places: lists.step_places.get_mut(..steps).unwrap_or(&mut []),
         step_rises: lists.step_rises.get_mut(..steps).unwrap_or(&mut []),
     };
-    refine_into(alloc, run, 3, thousandths, &mut room, &mut standing)
+    refine_into(
+        alloc,
+        run,
+        3,
+        thousandths,
+        keep_order,
+        &mut room,
+        &mut standing,
+    )
 }
 
 #[test]
@@ -134,6 +154,71 @@ fn without_a_tolerance_it_is_the_plan(rt: HostRuntime) {
     assert!(rt; same(&lists.cuts, &[0, 5, 6, 10]) && same(&lists.least_cuts, &[0, 5, 6, 10]));
     assert!(rt; same(&lists.order, &[7; 3]) && same(&lists.present, &[7; 4]));
     assert!(rt; same(&lists.step_starts, &[7; 4]) && same(&lists.step_places, &[7; STEPS]));
+}
+
+// Four elements on three PEs, of which the heaviest has 8 of 11 units. The least possible load is 6, and the limit is 7, so that
+// element 0 is alone in its block. In the order 0, 1, 2 element 1 then moves, of 37 bytes. Other names of the same blocks move
+// elements 0 and 2, of 2 and 15 bytes, and the plan moves all but element 1.
+fn four() -> Run<'static> {
+    Run {
+        loads: &[6, 2, 1, 2],
+        bytes: &[2, 37, 15, 6],
+        places: &[0, 0, 1, 2],
+        procs: 3,
+    }
+}
+
+// The decision on the four elements, in lists that are longer than it needs.
+fn four_decided(
+    alloc: Global,
+    keep_order: bool,
+    new_places: &mut [u32],
+    lists: &mut Lists,
+) -> Option<RefinedNumbers> {
+    let mut room = Room {
+        new_places,
+        cuts: &mut lists.cuts,
+        stops: &mut lists.stops,
+        names: &mut lists.names,
+        block_prices: &mut lists.block_prices,
+        pe_prices: &mut lists.pe_prices,
+    };
+    let mut standing = StandingRoom {
+        least_cuts: &mut lists.least_cuts,
+        order: &mut lists.order,
+        present: &mut lists.present,
+        step_starts: &mut lists.step_starts,
+        step_places: &mut lists.step_places,
+        step_rises: &mut lists.step_rises,
+    };
+    refine_into(alloc, &four(), 3, 300, keep_order, &mut room, &mut standing).ok()
+}
+
+#[test]
+fn the_order_is_kept_where_that_is_asked_for(rt: HostRuntime) {
+    let alloc = rt.alloc();
+    let (mut new_places, mut lists) = ([7; 4], EMPTY);
+    let kept = four_decided(alloc, true, &mut new_places, &mut lists);
+    assert!(rt; kept.is_some_and(|d| d.moved == 37 && d.near && d.least == 6 && d.bottleneck == 6));
+    assert!(rt; same(&lists.cuts, &[0, 1, 3, 4]) && same(&lists.names, &[0, 1, 2]));
+    assert!(rt; same(&lists.order, &[0, 1, 2]) && same(&new_places, &[0, 1, 1, 2]));
+    assert!(rt; same(&lists.block_prices, &[0; 3]) && same(&lists.pe_prices, &[0; 3]));
+    let named = four_decided(alloc, false, &mut new_places, &mut lists);
+    assert!(rt; named.is_some_and(|d| d.moved == 17 && d.near && d.bottleneck == 6));
+    assert!(rt; same(&lists.cuts, &[0, 1, 3, 4]) && same(&lists.names, &[1, 0, 2]));
+    assert!(rt; same(&new_places, &[1, 0, 0, 2]));
+}
+
+#[test]
+fn without_an_order_there_is_none_to_keep(rt: HostRuntime) {
+    let scattered = Run {
+        places: &[0, 1, 0, 1, 0, 1, 0, 1, 0, 1],
+        ..ten()
+    };
+    let mut lists = EMPTY;
+    let decided = written_by(rt.alloc(), &scattered, 1_000, true, STEPS, &mut lists);
+    assert!(rt; decided.is_ok_and(|d| d.least == 12 && d.bottleneck == 12 && !d.near));
+    assert!(rt; same(&lists.order, &[7; 3]) && same(&lists.present, &[7; 4]));
 }
 
 #[test]
@@ -256,12 +341,13 @@ fn a_run_that_is_too_large(rt: HostRuntime) {
     assert!(rt; written(alloc, &slim, 0, STEPS, &mut lists).is_ok_and(|d| d.least == 12));
 }
 
-// The claim of these lists.
-fn claim_of<'a>(lists: &'a Lists, least: u64, moved: u64, steps: usize) -> RefinedClaim<'a> {
+// The claim of these lists and numbers.
+fn claim_of<'a>(lists: &'a Lists, told: &RefinedNumbers, keep_order: bool) -> RefinedClaim<'a> {
+    let steps = told.steps;
     RefinedClaim {
         decision: Claim {
-            bottleneck: least,
-            moved,
+            bottleneck: told.bottleneck,
+            moved: told.moved,
             new_places: &lists.new_places,
             cuts: &lists.cuts,
             stops: &lists.stops,
@@ -269,6 +355,8 @@ fn claim_of<'a>(lists: &'a Lists, least: u64, moved: u64, steps: usize) -> Refin
             block_prices: &lists.block_prices,
             pe_prices: &lists.pe_prices,
         },
+        keep_order,
+        least: told.least,
         least_cuts: &lists.least_cuts,
         order: &lists.order,
         present: &lists.present,
@@ -282,12 +370,26 @@ fn claim_of<'a>(lists: &'a Lists, least: u64, moved: u64, steps: usize) -> Refin
 fn flaw_with<F: Fn(&mut Lists)>(alloc: Global, change: F) -> (u8, (u32, u32))
     requires callable { F.IsAlwaysCallable change }
 {
+    flaw_by(alloc, false, |told| told, change)
+}
+
+// The same, where the PEs keep their order or not, with these numbers in place of those of the decision.
+fn flaw_by<N: Fn(RefinedNumbers) -> RefinedNumbers, F: Fn(&mut Lists)>(
+    alloc: Global,
+    keep_order: bool,
+    numbers: N,
+    change: F,
+) -> (u8, (u32, u32))
+    requires numbers { N.IsAlwaysCallable numbers }
+    requires callable { F.IsAlwaysCallable change }
+{
     let mut lists = EMPTY;
-    let Ok(told) = written(alloc, &ten(), THOUSANDTHS, STEPS, &mut lists) else {
+    let Ok(told) = written_by(alloc, &ten(), THOUSANDTHS, keep_order, STEPS, &mut lists) else {
         return (99, (0, 0));
     };
+    let told = numbers(told);
     change(&mut lists);
-    let claim = claim_of(&lists, told.least, told.moved, told.steps);
+    let claim = claim_of(&lists, &told, keep_order);
     number_and_place(check_refined(alloc, &ten(), 3, THOUSANDTHS, &claim))
 }
 
@@ -313,7 +415,62 @@ fn flaws_of_the_refinement(rt: HostRuntime) {
     assert!(rt; flaw_with(alloc, |lists| lists.cuts[2] = 8) == (26, (1, 0)));
     assert!(rt; flaw_with(alloc, |lists| lists.cuts[2] = 6) == (30, (0, 0)));
     assert!(rt; flaw_with(alloc, |lists| lists.step_places[0] = 0) == (28, (0, 0)));
-    assert!(rt; flaw_with(alloc, |lists| lists.present[1] = 9) == (0, (0, 0)));
+}
+
+#[test]
+fn flaws_of_the_order_and_the_bottleneck(rt: HostRuntime) {
+    let alloc = rt.alloc();
+    assert!(rt; flaw_with(alloc, |lists| lists.present[1] = 3) == (31, (0, 0)));
+    for bottleneck in [0, 13, 999] {
+        let told = |told| RefinedNumbers { bottleneck, ..told };
+        assert!(rt; flaw_by(alloc, false, told, |_lists| {}) == (32, (0, 0)));
+    }
+}
+
+#[test]
+fn flaws_where_the_order_is_kept(rt: HostRuntime) {
+    let alloc = rt.alloc();
+    let same = |told| told;
+    assert!(rt; flaw_by(alloc, true, same, |_lists| {}) == (0, (0, 0)));
+    assert!(rt; flaw_by(alloc, true, same, |lists| lists.pe_prices[1] = 5) == (0, (0, 0)));
+    assert!(rt; flaw_by(alloc, true, same, |lists| lists.names = [2, 1, 0]) == (33, (0, 0)));
+    let more = |told: RefinedNumbers| RefinedNumbers { moved: 61, ..told };
+    assert!(rt; flaw_by(alloc, true, more, |_lists| {}) == (18, (0, 0)));
+    assert!(rt; flaw_by(alloc, true, same, |lists| lists.new_places[4] = 0) == (19, (0, 0)));
+}
+
+// Four elements of one unit on two PEs, and a claim that is right for the order 1, 0, in which all of them move: no cuts move
+// fewer bytes in it, as heights of 20 bytes show.
+#[test]
+fn another_order_than_the_present_one(rt: HostRuntime) {
+    let run = Run {
+        loads: &[1, 1, 1, 1],
+        bytes: &[10, 10, 10, 10],
+        places: &[0, 0, 1, 1],
+        procs: 2,
+    };
+    let claim = RefinedClaim {
+        decision: Claim {
+            bottleneck: 4,
+            moved: 20,
+            new_places: &[0, 0, 0, 0],
+            cuts: &[0, 0, 4],
+            stops: &[0, 1, 2],
+            names: &[1, 0],
+            block_prices: &[0, 20],
+            pe_prices: &[0, 0],
+        },
+        keep_order: false,
+        least: 2,
+        least_cuts: &[0, 2, 4],
+        order: &[1, 0],
+        present: &[0, 2, 4],
+        step_starts: &[0, 0, 1],
+        step_places: &[0],
+        step_rises: &[20],
+    };
+    let checked = check_refined(rt.alloc(), &run, 2, 1_000, &claim);
+    assert!(rt; number_and_place(checked) == (31, (0, 0)));
 }
 
 #[test]
@@ -331,6 +488,8 @@ fn numbers_and_places_of_flaws(rt: HostRuntime) {
     let steep = RefinedFlaw::OfRefinement(RefinementFlaw::Steep(3, 8));
     let least = RefinedFlaw::OfRefinement(RefinementFlaw::Least(Flaw::Heavy(4)));
     let high = RefinedFlaw::OfDecision(Flaw::PriceHigh(1, 2));
+    let order = RefinedFlaw::OrderWrong;
+    assert!(rt; number_of_refined(order) == 31 && place_of_refined(order) == (0, 0));
     assert!(rt; number_of_refined(steep) == 29 && place_of_refined(steep) == (3, 8));
     assert!(rt; number_of_refined(least) == 5 && place_of_refined(least) == (4, 0));
     assert!(rt; number_of_refined(high) == 16 && place_of_refined(high) == (1, 2));
@@ -355,8 +514,28 @@ fn each_request_for_memory(rt: HostRuntime) {
     assert_for(&rt, refusals == WRITTEN, refusals);
 }
 
+// The same where the PEs keep their order, and of a check of what was written.
+fn writes_in_order(alloc: Lent<'_>) -> Outcome {
+    let mut lists = EMPTY;
+    match written_by(alloc, &ten(), THOUSANDTHS, true, STEPS, &mut lists) {
+        Ok(told) if told.moved == 60 && same(&lists.names, &[2, 0, 1]) => Outcome::Right,
+        Err(RefineError::Run(RunError::OutOfMemory)) if is_empty(&lists) => Outcome::Refused,
+        _ => Outcome::Wrong,
+    }
+}
+
+#[test]
+fn each_request_where_the_order_is_kept(rt: HostRuntime) {
+    let refusals = each_refusal(rt.alloc(), 100, writes_in_order);
+    let refusals = refusals.expect(&rt, "a refusal was not told");
+    assert_for(&rt, refusals == WRITTEN_IN_ORDER, refusals);
+}
+
 // The requests of a decision that is written: the lists of the snapshot, the decision, and the steps of all blocks.
 const WRITTEN: u64 = 49;
+
+// Those where the order is kept: no table of costs and no search of names, but two lists of prices and one of names.
+const WRITTEN_IN_ORDER: u64 = 23;
 
 #[test]
 fn a_decision_in_lists_of_its_own(rt: HostRuntime) {
