@@ -234,7 +234,7 @@ typedef struct {
  * TEZGUMI_BAD_INPUT for an element of too many bytes, or too many of all; TEZGUMI_BAD_LOAD where all loads are too great,
  * failed_at being an element of the greatest load; TEZGUMI_BAD_INPUT for the tolerance, or refine; TEZGUMI_MPI_DISAGREE where the
  * options differ; then TEZGUMI_NO_MEMORY, which is also the answer to 2^31 runs or more to gather; TEZGUMI_MPI_WRONG_PLAN;
- * TEZGUMI_MPI_DISAGREE. After any of these the layout has no elements and no ranks. */
+ * TEZGUMI_MPI_DISAGREE. After any of these the layout has no elements, no ranks and no move. */
 int tezgumi_mpi_decide_part(MPI_Comm comm, const tezgumi_mpi_part *part, const tezgumi_mpi_options *options,
     tezgumi_mpi_layout *layout, tezgumi_mpi_report *report);
 

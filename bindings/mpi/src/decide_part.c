@@ -167,7 +167,10 @@ int tezgumi_mpi_decide_part_or(MPI_Comm comm, int refused, const tezgumi_mpi_par
     status = tezgumi_mpi_agree(comm, tezgumi_mpi_outcome_of(status, 0), 0, report);
     if (status == TEZGUMI_OK) status = decide(&s);
     free(s.room);
-    if (status != TEZGUMI_OK && layout) layout->n = layout->ranks = 0;
+    if (status != TEZGUMI_OK && layout) {
+        layout->n = layout->ranks = 0;
+        layout->move = 0;
+    }
     return status;
 }
 

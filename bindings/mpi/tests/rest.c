@@ -171,14 +171,16 @@ static void refusals(void)
     expect_gone_on();
 }
 
-/* A layout that is given back leaves elements that are decided on anew: scattered ones, which are few, are gathered. */
+/* A layout that is given back, or decided on anew, leaves elements to be decided on: scattered ones, which are few, are gathered. */
 static void decided_anew(void)
 {
     uint32_t k, gathered = 0;
     for (k = 1; k < 10; k++) {
         begin_heavy_first();
         go_until(movers[(movers_count - 1) * k / 9], 0);
-        tezgumi_mpi_layout_free(&layout);
+        if (k % 2) tezgumi_mpi_layout_free(&layout);
+        else EXPECT(tezgumi_mpi_decide_part(MPI_COMM_WORLD, NULL, NULL, &layout, NULL) == TEZGUMI_BAD_INPUT);
+        EXPECT(layout.ranks == 0 && layout.move == 0);
         EXPECT(go() == TEZGUMI_OK && report.failed_rank == -1);
         EXPECT((layout.ranks == 0) == (report.gathered == f.n));
         gathered += layout.ranks == 0;
