@@ -10,7 +10,7 @@ use lb_refinement::Refined;
 use lb_snapshot::Units;
 use std::process::Abort;
 use std::thread::Threads;
-use tests_fixtures::{Counting, Meeting};
+use tests_fixtures::{CountingGate, MeetingGate};
 
 fn board(rt: &(impl Abort + AllocGlobal), n: u32, pes: u32, strategy: Strategy) -> Board
     requires few { n ≤ Limits.ELEMENTS }
@@ -98,7 +98,7 @@ fn two_elements_stay_and_finish(rt: HostRuntime) {
 
 // Three workers decide the round, each of which has passed the gate with its number as often as the others.
 fn three_decide<R: Threads + Sync + Abort>(rt: &R, board: &mut Board) -> Result<Round, BoardError> {
-    let gate = Counting::new();
+    let gate = CountingGate::new();
     let decided = board.decide_with(rt, 3, &gate)?;
     assert_for(rt, gate.counts_each(3, 1), decided);
     Ok(decided)
@@ -118,7 +118,7 @@ fn each_of_three_workers_passes_with_its_number(rt: HostRuntime) {
 fn two_probes_of_a_decision_overlap(rt: HostRuntime) {
     let mut board = one_reported(&rt);
     report_all(&rt, &mut board, 1, &[SECOND]);
-    let gate = Meeting::new();
+    let gate = MeetingGate::new();
     let decided = board.decide_with(&rt, 2, &gate);
     assert!(rt; decided == Ok(round(&rt, 1)) && gate.has_met());
     drop(board);

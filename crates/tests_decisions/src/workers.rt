@@ -14,7 +14,7 @@ use lb_snapshot::{Loads, Units};
 use lb_strategy::plan_with;
 use std::process::Abort;
 use std::thread::Threads;
-use tests_fixtures::{Counting, Meeting};
+use tests_fixtures::{CountingGate, MeetingGate};
 
 fn divided<R: Threads + Sync + Abort + AllocGlobal>(
     rt: &R,
@@ -58,7 +58,7 @@ fn pass_so<R: Threads + Sync + Abort + AllocGlobal>(
     requires some_worker { 1 ≤ workers }
     requires few_workers { workers ≤ 64 }
 {
-    let gate = Counting::new();
+    let gate = CountingGate::new();
     let division = divide_with(rt, rt.alloc(), loads, 2, workers, &gate);
     drop(division.expect(rt, "out of memory"));
     gate.counts_each(workers, least)
@@ -79,7 +79,7 @@ fn each_worker_passes_with_its_own_number(rt: HostRuntime) {
 }
 
 // Whether two workers at this gate divide a full array in halves.
-fn divides_in_halves<R: Threads + Sync + Abort + AllocGlobal>(rt: &R, gate: &Meeting) -> bool {
+fn divides_in_halves<R: Threads + Sync + Abort + AllocGlobal>(rt: &R, gate: &MeetingGate) -> bool {
     let full = full_loads(rt, 140_737_488_355_327);
     let division = divide_with(rt, rt.alloc(), &full, 2, 2, gate).expect(rt, "out of memory");
     same(division.cuts.as_slice(), &[0, 32_768, 65_536])
@@ -101,7 +101,7 @@ fn plans_example<R: Threads + Sync + Abort + AllocGlobal, G: Gate + Sync>(
 
 #[test]
 fn two_probes_overlap(rt: HostRuntime) {
-    let (halves, plan) = (Meeting::new(), Meeting::new());
+    let (halves, plan) = (MeetingGate::new(), MeetingGate::new());
     assert_for(&rt, divides_in_halves(&rt, &halves), "halves");
     assert_for(&rt, halves.has_met(), "of a division");
     assert_for(&rt, plans_example(&rt, 2, &plan), "another plan");
@@ -110,7 +110,7 @@ fn two_probes_overlap(rt: HostRuntime) {
 
 #[test]
 fn each_of_three_workers_that_plan_passes_with_its_own_number(rt: HostRuntime) {
-    let gate = Counting::new();
+    let gate = CountingGate::new();
     assert_for(&rt, plans_example(&rt, 3, &gate), "another plan");
     assert_for(&rt, gate.counts_each(3, 1), "each as often as the others");
 }

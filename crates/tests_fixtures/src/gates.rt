@@ -3,7 +3,7 @@ use std::sync::atomic::{AtomicU64, Ordering};
 
 /// A gate that counts its calls by each of workers 0 to 3, and those by any other number.
 #[derive(Drop)]
-pub struct Counting {
+pub struct CountingGate {
     first: AtomicU64,
     second: AtomicU64,
     third: AtomicU64,
@@ -11,7 +11,7 @@ pub struct Counting {
     others: AtomicU64,
 }
 
-impl Gate for Counting {
+impl Gate for CountingGate {
     fn pass(&self, who: u32) {
         let count = match who {
             0 => &self.first,
@@ -24,10 +24,10 @@ impl Gate for Counting {
     }
 }
 
-impl Counting {
+impl CountingGate {
     /// A gate that nobody has passed.
-    pub fn new() -> Counting {
-        Counting {
+    pub fn new() -> CountingGate {
+        CountingGate {
             first: AtomicU64::new(0),
             second: AtomicU64::new(0),
             third: AtomicU64::new(0),
@@ -46,7 +46,11 @@ impl Counting {
             (3, &self.fourth),
             (4, &self.others),
         ];
-        let mut alike = if workers == 0 { often == 0 } else { often >= least };
+        let mut alike = if workers == 0 {
+            often == 0
+        } else {
+            often >= least
+        };
         for (who, count) in &rest {
             let expected = if *who < workers { often } else { 0 };
             alike &= count.load(Ordering::SeqCst) == expected;
@@ -60,13 +64,13 @@ const PATIENCE: u64 = 1_000_000_000;
 
 /// A gate that holds each of two workers, 0 and 1, until it has seen the other.
 #[derive(Drop)]
-pub struct Meeting {
+pub struct MeetingGate {
     first: AtomicU64,
     second: AtomicU64,
     missed: AtomicU64,
 }
 
-impl Gate for Meeting {
+impl Gate for MeetingGate {
     fn pass(&self, who: u32) {
         let (own, other) = if who == 0 {
             (&self.first, &self.second)
@@ -83,10 +87,10 @@ impl Gate for Meeting {
     }
 }
 
-impl Meeting {
+impl MeetingGate {
     /// A gate that nobody has passed.
-    pub fn new() -> Meeting {
-        Meeting {
+    pub fn new() -> MeetingGate {
+        MeetingGate {
             first: AtomicU64::new(0),
             second: AtomicU64::new(0),
             missed: AtomicU64::new(0),

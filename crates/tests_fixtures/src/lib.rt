@@ -3,7 +3,7 @@
 //! - [`Refusing`]: an allocator that passes each request on to another one, except one request, which it refuses.
 //! - [`each_refusal`], with [`Outcome`] and [`Failure`]: runs an attempt once for each request that it makes, and
 //!   refuses that request.
-//! - [`Counting`] and [`Meeting`]: gates that show which workers pass, and that two of them do at the same time.
+//! - [`CountingGate`] and [`MeetingGate`]: gates that show which workers pass, and that two of them do at the same time.
 //! - [`Source`] and [`Sink`]: a reader and a writer that fail once, at a given call.
 //! - [`example`] and its dumps, rows of dumps ([`push_element`]), and [`pe`] and [`round`] by their numbers.
 #![tactic(auto)]
@@ -18,7 +18,7 @@ mod streams;
 mod worked;
 
 pub use attempts::{Failure, Outcome, each_refusal};
-pub use gates::{Counting, Meeting};
+pub use gates::{CountingGate, MeetingGate};
 pub use numbers::{pe, round};
 pub use refusing::Refusing;
 pub use rows::push_element;

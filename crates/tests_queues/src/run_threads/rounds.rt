@@ -15,7 +15,7 @@ use std::marker::Brand;
 use std::sync::Wait;
 use std::test::Fail;
 use std::thread::Threads;
-use tests_fixtures::{Counting, pe, round};
+use tests_fixtures::{CountingGate, pe, round};
 
 // The load of an element, how many bytes it packs into, and the PE on which it is.
 type Report = (Units, u32, u32);
@@ -72,7 +72,7 @@ static CASES: [Case; 2] = [
 fn decide<J: BoardSize, R: Threads + Wait + Sync, A: Allocator + Copy>(
     rt: &R,
     barrier: &Barrier<J, A>,
-    gate: &Counting,
+    gate: &CountingGate,
     alone: bool,
 ) -> Result<Round, BoardError> {
     match alone {
@@ -131,7 +131,7 @@ fn have_places<J: BoardSize, R: Wait, A: Allocator>(
 fn is_decided<J: BoardSize, R: Threads + Wait + Sync, A: Allocator + Copy>(
     rt: &R,
     barrier: &Barrier<J, A>,
-    gate: &Counting,
+    gate: &CountingGate,
     alone: bool,
     case: &Case,
 ) -> bool
@@ -199,7 +199,7 @@ fn passes<J: BoardSize, R: Threads + Wait + Sync, A: Allocator + Copy>(
     requires by_strategy { J.strategy ≡ Least }
 {
     let barrier = three::<J, A>(alloc)?;
-    let gate = Counting::new();
+    let gate = CountingGate::new();
     let mut right = true;
     for case in &CASES {
         right &= is_decided(rt, &barrier, &gate, alone, case);
