@@ -9,18 +9,18 @@ use Rattle.chares.specs.declared.progress.Progress.{Progress}
 use Rattle.pe_state.specs.Pes.{PeView, Parcel}
 use Rattle.rts_core.specs.Worlds.{WorldView}
 
--- something holds of a parcel that is an element, by the element's index and how far it has come
+-- something holds of what a parcel carries: of an element by its index and by how far it has come, and of a letter always
 abbrev pub HoldsIn : (ℕ → Progress → Type 0) → Parcel → Type 0
 HoldsIn P (Letter l) = Unit {0}
 HoldsIn P (Element p) = P p.index p.progress
 
--- it holds of each element that a PE has: in its room, in its hand or in its outbox
+-- it holds of each element that a PE has: in its room, or packed in its hand or in its outbox
 pub record HoldsOn {C : Type 0} (P : ℕ → Progress → Type 0) (pe : PeView C) : Type 0 where
   pub room : All (λ el. P el.index el.progress) (values_of pe.room)
   pub hand : IfSome pe.hand (λ x. HoldsIn P x.parcel)
   pub outbox : All (λ x. HoldsIn P x.parcel) pe.outbox
 
--- it holds of each element of a world, wherever that is: on a PE, or in a queue
+-- it holds of each element of a world, wherever that is: on a PE, or packed in a queue
 pub record HoldsOfEach {C A : Type 0} (P : ℕ → Progress → Type 0) (w : WorldView C A) : Type 0 where
   pub pes : All (HoldsOn P) w.pes
   pub queues : All (All (HoldsIn P)) w.queues
