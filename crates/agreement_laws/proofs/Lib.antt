@@ -1,12 +1,15 @@
 pub mod Deciding
 pub mod Events
 pub mod ReportEvent
+pub mod Finished
 pub mod Handlers
+pub mod Holding
 pub mod OnlyDecide
 pub mod Openings
 pub mod Parcels
 pub mod Reporting
 pub mod Rooms
+pub mod Saying
 pub mod Snapshots
 pub mod Turns
 pub mod Taken

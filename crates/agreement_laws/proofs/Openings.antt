@@ -1,5 +1,5 @@
 -- The board and the elements agree as a world opens: every element is at work in round 1, and none has reported.
-use Rattle.std.proofs.Common.{◌≡◌, ℕ, ◌+◌, ◌<◌, ◌≤◌, List, [], ◌∷◌, length, map, Option, Some, None, arith, refl, sym, ◌∙◌, subst, inl, length-set}
+use Rattle.std.proofs.Common.{◌≡◌, ℕ, ◌+◌, ◌<◌, ◌≤◌, List, [], ◌∷◌, length, map, Option, Some, None, false, arith, refl, sym, ◌∙◌, subst, inl, length-set}
 use Rattle.std.specs.Prelude.{All, IfSome, slice_get}
 use Rattle.std.specs.List.{range_with_len}
 use Rattle.std.specs.Map.{values_of}
@@ -10,7 +10,7 @@ use Rattle.std.proofs.lemmas.List.Elements.{All-nil, All-set, All-map, All-repli
 use Rattle.std.proofs.lemmas.Map.Views.{All-values-insert_entry}
 use Rattle.lb_database.specs.Measuring.{Measured, elements, opening}
 use Rattle.chares.specs.declared.note.Note.{Note}
-use Rattle.chares.specs.Elements.{opening_element}
+use Rattle.chares.specs.Elements.{ElementView, opening_element}
 use Rattle.pe_state.specs.Pes.{PeView, Item, new_pe, placed}
 use Rattle.rts_core.specs.Worlds.{home, placed_on, all_placed, opening_world}
 use Rattle.rts_core.proofs.Histories.{one_of_all}
@@ -21,10 +21,11 @@ use Rattle.agreement_laws.proofs.Handlers.{ItemAgrees}
 use Rattle.agreement_laws.proofs.Deciding.{nobody, opens_for}
 use Rattle.at_sync.specs.declared.strategy.Strategy.{Strategy}
 
--- a PE as elements are placed on it: each is at work, and it owes and holds nothing
+-- a PE as elements are placed on it: each is at work and has not finished, and the PE owes and holds nothing
 pub record OpensAt {C : Type 0} (m : Measured) (pe : PeView C) : Type 0 where
   pub keyed : AreKeyed pe.room
   pub room : All (AgreesWith m pe.me pe.notes) (values_of pe.room)
+  pub unfinished : All (λ (el : ElementView C). el.progress.finished ≡ false) (values_of pe.room)
   pub no_note : pe.notes ≡ []
   pub no_hand : pe.hand ≡ None
   pub no_outbox : pe.outbox ≡ []
@@ -51,6 +52,7 @@ module _ {C : Type 0} (n : ℕ) where
               fresh = λ f. (refl, refl);
               state = inl (record { awake = refl; at_round = refl; silent = nobody n e });
             });
+        unfinished = All-values-insert_entry nat_cmp e (opening_element e chare) (λ (el : ElementView C). el.progress.finished ≡ false) pe.room h.unfinished refl;
         no_note = h.no_note;
         no_hand = h.no_hand;
         no_outbox = h.no_outbox;
@@ -72,6 +74,7 @@ module _ {C : Type 0} (n : ℕ) where
       record {
         keyed = All-nil (Key {C = C});
         room = All-nil (AgreesWith {C = C} (opening 1 n) q []);
+        unfinished = All-nil (λ (el : ElementView C). el.progress.finished ≡ false);
         no_note = refl;
         no_hand = refl;
         no_outbox = refl;
@@ -91,6 +94,13 @@ placed_length {C} n pes e (chare ∷ chares) =
     by None = refl
     by (Some pe) = length-set {A = PeView C} pes (home e n (length pes)) (placed pe e chare)
 
+-- the PEs of the opening world
+pub opening_opens : {C : Type 0} (A : Type 0) (pes : ℕ) (chares : List C) (strategy : Strategy) → All (OpensAt (opening 1 (length chares))) (opening_world {A = A} pes chares strategy).pes
+opening_opens {C} A pes chares strategy =
+    let n : ℕ = length chares in
+    settled_opens n (map (λ q. new_pe q n) (range_with_len 0 pes)) 0 chares (omega arith)
+    (All-map (OpensAt {C = C} (opening 1 n)) (λ (q : ℕ). new_pe {C = C} q n) (range_with_len 0 pes) (λ k d lt. new_opens n _))
+
 -- the opening world
 pub opening_agrees : {C : Type 0} (A : Type 0) (pes : ℕ) (chares : List C) (strategy : Strategy) → 1 ≤ pes → Agrees (length chares) (opening_world {A = A} pes chares strategy)
 opening_agrees {C} A pes chares strategy some =
@@ -100,8 +110,6 @@ opening_agrees {C} A pes chares strategy some =
       numbered = refl;
       counted = placed_length n (map (λ q. new_pe {C = C} q n) (range_with_len 0 pes)) 0 chares ∙ length-map-range_with_len (λ (q : ℕ). new_pe {C = C} q n) 0 pes;
       places = opening_numbered A pes chares strategy some;
-      pes = all_agree n (opening_world {A = A} pes chares strategy).pes
-          (settled_opens n (map (λ q. new_pe q n) (range_with_len 0 pes)) 0 chares (omega arith)
-          (All-map (OpensAt {C = C} (opening 1 n)) (λ (q : ℕ). new_pe {C = C} q n) (range_with_len 0 pes) (λ k d lt. new_opens n _)));
+      pes = all_agree n (opening_world {A = A} pes chares strategy).pes (opening_opens A pes chares strategy);
       queues = All-replicate (All (AgreesOn (opening 1 n))) pes [] (All-nil (AgreesOn (opening 1 n)));
     }

@@ -1,6 +1,7 @@
 use Rattle.std.specs.Prelude.{length}
 use Rattle.agreement_laws.proofs.Taken.{all_taken}
 use Rattle.agreement_laws.proofs.Events.{run_agrees}
+use Rattle.agreement_laws.proofs.Finished.{run_finished}
 use Rattle.agreement_laws.proofs.Snapshots.{run_snaps}
 use Rattle.agreement_laws.proofs.laws.agreement_laws.Goals as goal
 
@@ -14,3 +15,6 @@ returns-clause-snapshot g c = λ pes chares strategy events w trace event next s
 
 pub returns-clause-notes : goal.returns-clause-notes
 returns-clause-notes g c = λ pes chares strategy events last some run. all_taken (length chares) last.0 (run_agrees g.C.Chare.step g.C.Pup.pack g.C.Pup.unpack pes chares strategy some events last run)
+
+pub returns-clause-finished : goal.returns-clause-finished
+returns-clause-finished g c = λ pes chares strategy events last some run. run_finished g.C.Chare.step g.C.Pup.pack g.C.Pup.unpack pes chares strategy some events last run
