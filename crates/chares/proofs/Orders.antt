@@ -1,6 +1,6 @@
 -- The rounds of an element come in order as it opens, and after one more entry that it may handle.
 use Rattle.std.proofs.Common.{◌≡◌, ℕ, zero, suc, ◌+◌, ◌⊎◌, inl, inr, List, [], ◌∷◌, ◌++◌, map, Bool, true, false, zero-add, append-nil, arith, refl, sym, ap, subst, ◌∙◌}
-use Rattle.std.specs.Prelude.{not, ◌&&◌, if◌then◌else◌}
+use Rattle.std.specs.Prelude.{not, ◌&&◌, if◌then◌else◌, IfSome, slice_get}
 use Rattle.std.specs.List.{range_with_len}
 use Rattle.std.proofs.lemmas.Grind.{flat_map-append}
 use Rattle.std.proofs.lemmas.List.{append_assoc, map-append}
@@ -15,7 +15,7 @@ use Rattle.chares.specs.Elements.{ElementView, opening_element, ran, outcome_of}
 use Rattle.chares.specs.Letters.{LetterView, Done}
 use Rattle.chares.specs.Progressing.{begun, charged, ending, ended, note_at, synced_mark}
 use Rattle.chares.specs.Steps.{Step}
-use Rattle.chares.specs.Orders.{Stop, stop_of, stops_until, resumption_of, resumptions, IsInOrder, MayHandle}
+use Rattle.chares.specs.Orders.{Stop, stop_of, stops_until, resumption_of, resumptions, IsStart, IsInOrder, MayHandle}
 use Rattle.chares.specs.Orders.Stop.{AtSync, Resumes}
 
 when_true : {X : Type 0} (b : Bool) (x y : X) → b ≡ true → (if b then x else y) ≡ x
@@ -36,13 +36,14 @@ range_more a (suc n) =
 
 -- as an element opens
 pub in_order_opening : {C : Type 0} (index : ℕ) (chare : C) → IsInOrder (opening_element index chare).journal (opening_element index chare).progress (opening_element index chare).marks
-in_order_opening index chare = record { fresh = λ h. (refl, refl); stops = refl; resumed = refl }
+in_order_opening index chare = record { first = tt; fresh = λ h. (refl, refl); stops = refl; resumed = refl }
 
 -- the same of an element that has started
 abbrev pub waiting : Progress → List Stop
 waiting p = if p.synced then AtSync (p.round + 1) ∷ [] else []
 
 pub record IsGoing (journal : List Done) (p : Progress) (marks : List Mark) : Type 0 where
+  pub first : IfSome (slice_get journal 0) IsStart
   pub started : p.started ≡ true
   pub stops : map stop_of marks ≡ stops_until p.round ++ waiting p
   pub resumed : resumptions journal ≡ range_with_len 0 (p.round + 1)
@@ -50,6 +51,7 @@ pub record IsGoing (journal : List Done) (p : Progress) (marks : List Mark) : Ty
 pub going_of : (journal : List Done) (p : Progress) (marks : List Mark) → IsInOrder journal p marks → p.started ≡ true → IsGoing journal p marks
 going_of journal p marks h s =
     record {
+      first = h.first;
       started = s;
       stops = h.stops ∙ when_true p.started (stops_until p.round ++ waiting p) [] s;
       resumed = h.resumed ∙ when_true p.started (range_with_len 0 (p.round + 1)) [] s;
@@ -58,15 +60,34 @@ going_of journal p marks h s =
 pub in_order_of : (journal : List Done) (p : Progress) (marks : List Mark) → IsGoing journal p marks → IsInOrder journal p marks
 in_order_of journal p marks h =
     record {
+      first = h.first;
       fresh = λ f. absurd (let s = h.started in cc);
       stops = h.stops ∙ sym (when_true p.started (stops_until p.round ++ waiting p) [] h.started);
       resumed = h.resumed ∙ sym (when_true p.started (range_with_len 0 (p.round + 1)) [] h.started);
     }
 
+-- the first entry stays the first
+ends_with : {X : Type 0} (xs : List X) (x : X) → [] ≡ xs ++ x ∷ [] → ⊥
+ends_with [] x h = cc
+ends_with (y ∷ xs) x h = cc
+
+first_start : (journal : List Done) → IfSome (slice_get journal 0) IsStart → IfSome (slice_get (journal ++ Resumption 0 ∷ []) 0) IsStart
+first_start [] h = refl
+first_start (x ∷ xs) h = h
+
+first_stays : (journal : List Done) (done : Done) → (journal ≡ [] → ⊥) → IfSome (slice_get journal 0) IsStart → IfSome (slice_get (journal ++ done ∷ []) 0) IsStart
+first_stays [] done some h = absurd (some refl)
+first_stays (x ∷ xs) done some h = h
+
+going_some : (journal : List Done) (p : Progress) (marks : List Mark) → IsGoing journal p marks → journal ≡ [] → ⊥
+going_some journal p marks h none =
+    ends_with (range_with_len 0 p.round) (0 + p.round) (sym (ap resumptions none) ∙ h.resumed ∙ range_more 0 p.round)
+
 -- a letter
 pub going_letter : (journal : List Done) (p : Progress) (marks : List Mark) (l : LetterView) (units : ℕ) → IsGoing journal p marks → IsGoing (journal ++ Letter l ∷ []) (charged p units) (marks ++ [])
 going_letter journal p marks l units h =
     record {
+      first = first_stays journal (Letter l) (going_some journal p marks h) h.first;
       started = h.started;
       stops = ap (map stop_of) (append-nil marks) ∙ h.stops;
       resumed = flat_map-append resumption_of journal (Letter l ∷ []) ∙ (append-nil (resumptions journal) ∙ h.resumed);
@@ -78,6 +99,7 @@ going_start journal p marks pe units h s =
     let none : resumptions journal ≡ [] = h.resumed ∙ when_false p.started (range_with_len 0 (p.round + 1)) [] s in
     let bare : map stop_of marks ≡ [] = h.stops ∙ when_false p.started (stops_until p.round ++ waiting p) [] s in
     record {
+      first = first_start journal h.first;
       started = refl;
       stops = map-append stop_of marks (Resumed 0 pe ∷ []) ∙ ap (λ (v : List Stop). v ++ Resumes 0 ∷ []) bare;
       resumed = flat_map-append resumption_of journal (Resumption 0 ∷ []) ∙ ap (λ (v : List ℕ). v ++ 0 ∷ []) none;
@@ -96,6 +118,7 @@ going_resumption journal p marks pe units h s =
     let waits : map stop_of marks ≡ stops_until p.round ++ AtSync (p.round + 1) ∷ [] = h.stops ∙ ap (λ (v : List Stop). stops_until p.round ++ v) (when_true p.synced (AtSync (p.round + 1) ∷ []) [] s) in
     let more : range_with_len 0 ((p.round + 1) + 1) ≡ range_with_len 0 (p.round + 1) ++ (p.round + 1) ∷ [] = range_more 0 (p.round + 1) ∙ ap (λ (v : ℕ). range_with_len 0 (p.round + 1) ++ v ∷ []) (zero-add (p.round + 1)) in
     record {
+      first = first_stays journal (Resumption (p.round + 1)) (going_some journal p marks h) h.first;
       started = refl;
       stops = map-append stop_of marks (Resumed (p.round + 1) pe ∷ []) ∙ (ap (λ (v : List Stop). v ++ Resumes (p.round + 1) ∷ []) waits ∙ stops_more p.round);
       resumed = flat_map-append resumption_of journal (Resumption (p.round + 1) ∷ []) ∙ (ap (λ (v : List ℕ). v ++ (p.round + 1) ∷ []) h.resumed ∙ sym more);
@@ -114,11 +137,12 @@ begins_to_wait p e h = by e.finished p.finished p.synced e.at_sync h
 
 -- what the effect means
 pub going_ended : (journal : List Done) (p : Progress) (marks : List Mark) (index bytes pe : ℕ) (e : Ending) → IsGoing journal p marks → (e ≡ Syncs → p.synced ≡ false) → IsGoing journal (ended p e) (marks ++ synced_mark (note_at p index bytes pe e))
-going_ended journal p marks index bytes pe Runs h k = record { started = h.started; stops = ap (map stop_of) (append-nil marks) ∙ h.stops; resumed = h.resumed }
-going_ended journal p marks index bytes pe Finishes h k = record { started = h.started; stops = ap (map stop_of) (append-nil marks) ∙ h.stops; resumed = h.resumed }
+going_ended journal p marks index bytes pe Runs h k = record { first = h.first; started = h.started; stops = ap (map stop_of) (append-nil marks) ∙ h.stops; resumed = h.resumed }
+going_ended journal p marks index bytes pe Finishes h k = record { first = h.first; started = h.started; stops = ap (map stop_of) (append-nil marks) ∙ h.stops; resumed = h.resumed }
 going_ended journal p marks index bytes pe Syncs h k =
     let bare : map stop_of marks ≡ stops_until p.round = h.stops ∙ (ap (λ (v : List Stop). stops_until p.round ++ v) (when_false p.synced (AtSync (p.round + 1) ∷ []) [] (k refl)) ∙ append-nil (stops_until p.round)) in
     record {
+      first = h.first;
       started = h.started;
       stops = map-append stop_of marks (synced_mark (note_at p index bytes pe Syncs)) ∙ ap (λ (v : List Stop). v ++ AtSync (p.round + 1) ∷ []) bare;
       resumed = h.resumed;

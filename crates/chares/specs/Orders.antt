@@ -1,7 +1,7 @@
 -- The order of the rounds of an element: its start is its resumption for round 0, and from then on it reaches AtSync for
 -- the next round and is resumed for that, in turn. Source: the Charm++ manual on load balancing, where an element calls
 -- AtSync and goes on in ResumeFromSync; that each of its handlers may call it is this project's choice.
-use Rattle.std.specs.Prelude.{◌≡◌, ℕ, zero, suc, ◌+◌, List, [], ◌∷◌, ◌++◌, map, true, false, if◌then◌else◌, ◌⊎◌}
+use Rattle.std.specs.Prelude.{◌≡◌, ℕ, zero, suc, ◌+◌, List, [], ◌∷◌, ◌++◌, map, true, false, if◌then◌else◌, ◌⊎◌, IfSome, slice_get}
 use Rattle.std.specs.List.{flat_map, range_with_len}
 use Rattle.chares.specs.declared.entry.Entry.TheVariants.{Letter, Resumption}
 use Rattle.chares.specs.declared.note.Mark.{Mark}
@@ -42,9 +42,16 @@ resumption_of (Resumption round) = round ∷ []
 abbrev pub resumptions : List Done → List ℕ
 resumptions journal = flat_map resumption_of journal
 
--- The rounds of an element with this journal, this progress and these marks come in order: before it has started it is in
--- round 0 and does not wait; its marks are its stops, and its resumptions are those for the rounds so far.
+-- whether an entry is the start of an element
+abbrev pub IsStart : Done → Type 0
+IsStart (Letter l) = ⊥
+IsStart (Resumption round) = round ≡ 0
+
+-- The rounds of an element with this journal, this progress and these marks come in order: the first entry that it has is its
+-- start; before it has started it is in round 0 and does not wait; its marks are its stops, and its resumptions are those for
+-- the rounds so far.
 pub record IsInOrder (journal : List Done) (p : Progress) (marks : List Mark) : Type 0 where
+  pub first : IfSome (slice_get journal 0) IsStart
   pub fresh : p.started ≡ false → (p.round ≡ 0) × (p.synced ≡ false)
   pub stops : map stop_of marks ≡ stops_by p
   pub resumed : resumptions journal ≡ (if p.started then range_with_len 0 (p.round + 1) else [])
