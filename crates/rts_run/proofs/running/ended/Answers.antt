@@ -22,7 +22,7 @@ returns-then-run_agrees-clause-finished g c = λ none. rw c.new.ensures.board (c
 pub returns-then-run_agrees-clause-all_finished : goal.returns-then-run_agrees-clause-all_finished
 returns-then-run_agrees-clause-all_finished g c =
     λ none.
-    rw c.new.ensures.ends (rw c.new.ensures.left (rw (← c.deref-3.ensures.value) (rw (← c.deref-4.ensures.value) (c.all_finished-finished.ensures.elements (c.fault_at_end-fault.ensures.finished (sym c.new.ensures.fault ∙ none))))))
+    rw c.new.ensures.ends (rw c.new.ensures.left (rw (← c.deref-then-run_agrees.ensures.value) (rw (← c.deref-then-run_agrees-2.ensures.value) (c.all_finished-finished.ensures.elements (c.fault_at_end-fault.ensures.finished (sym c.new.ensures.fault ∙ none))))))
 
 pub returns-clause-mismatch : goal.returns-clause-mismatch
 returns-clause-mismatch g c = λ _ marked. iff_false c.run_agrees.ensures.agree c.if-run_agrees.false (rw c.deref.ensures.value (rw c.deref-2.ensures.value (rw (← c.new-2.ensures.left) (rw (← c.new-2.ensures.ends) (rw (← c.new-2.ensures.board) marked)))))
