@@ -1,17 +1,21 @@
 -- The refinement of a claim is the same whatever holds its lists; the first flaw of a claim, from what the checkers of refinements
 -- and namings answer; and what a right claim implies.
-use Rattle.std.proofs.Common.{◌≡◌, ℕ, ℤ, Bool, true, false, List, Option, None, Some, inl, inr, length, arith, subst, sym}
-use Rattle.std.specs.Prelude.{MatchOption}
+use Rattle.std.proofs.Common.{◌≡◌, ◌↔◌, ℕ, ℤ, Bool, IsTrue, true, false, List, Option, None, Some, inl, inr, length, arith, refl, subst, sym}
+use Rattle.std.specs.Prelude.{MatchBool, MatchOption}
+use Rattle.lb_certificates.specs.Chain.{peak}
 use Rattle.lb_certificates.specs.Flaws.{HasNamingFlaw, IsFirst}
 use Rattle.lb_certificates.specs.Naming.{blocks_between, bytes_moved, IsCheapest, IsNamed}
 use Rattle.lb_certificates.specs.declared.flaw.Flaw.{Flaw}
 use Rattle.lb_certificates.proofs.BlockSums.{cheapest_from_named}
 use Rattle.lb_certificates.proofs.LeastDivisions.{least_from_certified}
 use Rattle.chain_refinement.specs.Flaws.{HasRefinementFlaw, IsFirstRefinementFlaw}
+use Rattle.chain_refinement.specs.Orders.{IsPresentOrder}
 use Rattle.chain_refinement.specs.Refinement.{IsRefinement}
+use Rattle.chain_refinement.specs.declared.refinement.Refinement.{Refinement}
 use Rattle.chain_refinement.specs.declared.flaw.RefinementFlaw.{RefinementFlaw}
 use Rattle.chain_refinement.specs.declared.flaw.RefinementFlaw.TheVariants.{Least, PeCount, NameCount, NameRange, NameTwice, CutCount, NoDivision, Heavy, HeightCount, HeightStart, Steep, HeightLow}
 use Rattle.chain_refinement.proofs.Bounds.{fewest_from_proved}
+use Rattle.present_order.proofs.OneOrder.{one_order}
 use Rattle.lb_lists.specs.Claims.{right_moved, Claimed, IsFlawTold, IsPlacedRight, IsToldRight}
 use Rattle.lb_lists.specs.RefinedClaims.{claimed_refinement, refinement_of, AreInOrder, AreNamesBestBy, AreNamesRight, AreNamesRightBy, IsBestWithin, IsFirstRefinedFlaw, IsNamedSmall, IsNamesFlaw, IsNamesFlawBy, IsRightRefined, IsRightUpToNames, RefinedClaimed}
 use Rattle.lb_lists.specs.declared.refined_checking.RefinedFlaw.{RefinedFlaw}
@@ -86,6 +90,28 @@ in_told run claim sizes cuts names u v moved count result parts right moves coun
     told_by : (run : Listed) (claim : Claimed) (result : Option Flaw) → IsNamedSmall run claim → MatchOption result (IsToldRight (right_moved run claim) (length run.loads) claim) (IsFlawTold (right_moved run claim) (length run.loads) claim) → MatchOption result (AreNamesRight run claim) (IsNamesFlaw run claim)
     told_by run claim None named told = record { named = named; moved = told.0; placed = told.1 }
     told_by run claim (Some flaw) named told = inr (named, told)
+
+-- the order of the PEs is this one exactly where the one that was found is
+pub order_is : (is : Bool) (sizes : List (ℕ × ℕ)) (pes : ℕ) (names present order cuts : List ℕ) → IsPresentOrder sizes pes names present → (IsTrue is ↔ ((names ≡ order) × (present ≡ cuts))) → MatchBool is (IsPresentOrder sizes pes order cuts) (¬ (IsPresentOrder sizes pes order cuts))
+order_is true sizes pes names present order cuts found tells =
+    let same = tells.0 refl in
+    subst (λ ps. IsPresentOrder sizes pes order ps) same.1 (subst (λ ns. IsPresentOrder sizes pes ns present) same.0 found)
+order_is false sizes pes names present order cuts found tells =
+    λ other.
+    let same = one_order sizes pes names present order cuts found other in
+    let both : IsTrue false = tells.1 (same.0, same.1) in
+    absurd cc
+
+-- a claim is right up to its names, from what was found of a snapshot
+pub up_to_names : (A : Type 0) (run : Listed) (pes thousandths : ℕ) (claim : RefinedClaimed) (loads : List ℕ) (sizes : List (ℕ × ℕ)) (r : Refinement A) → loads ≡ run.loads → sizes ≡ sizes_of run → r ≡ refinement_of thousandths claim → IsRefinement loads sizes pes r → IsPresentOrder sizes pes claim.order claim.present → claim.decision.bottleneck ≡ peak loads claim.decision.cuts → IsRightUpToNames run pes thousandths claim
+up_to_names A run pes thousandths claim loads sizes r loads_are sizes_are refinement_is right order heavy =
+    let on_loads = subst (λ l. IsRefinement l sizes pes r) loads_are right in
+    let on_run = subst (λ s. IsRefinement run.loads s pes r) sizes_are on_loads in
+    record {
+      refinement = right_refinement A run.loads (sizes_of run) pes thousandths claim (subst (IsRefinement run.loads (sizes_of run) pes) refinement_is on_run);
+      order = subst (λ s. IsPresentOrder s pes claim.order claim.present) sizes_are order;
+      bottleneck = subst (λ l. claim.decision.bottleneck ≡ peak l claim.decision.cuts) loads_are heavy;
+    }
 
 -- a claim is right where it is up to its names, and these are, too
 pub right_by_names : (run : Listed) (pes thousandths : ℕ) (keep : Bool) (claim : RefinedClaimed) → claim.keep_order ≡ keep → IsRightUpToNames run pes thousandths claim → AreNamesRightBy keep run claim → IsRightRefined run pes thousandths claim

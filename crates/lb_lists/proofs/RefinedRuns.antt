@@ -18,7 +18,7 @@ use Rattle.lb_refinement.specs.declared.refined.Refined.TheVariants.{Near, Plann
 use Rattle.lb_lists.specs.Claims.{division_of}
 use Rattle.lb_lists.specs.Plans.{stops_in, IsPlan}
 use Rattle.lb_lists.specs.RefinedRooms.{told_of_kept, told_of_plan, IsStandingIn, IsStandingLeft, StandingLists}
-use Rattle.lb_lists.specs.Refinings.{told_division, IsRefinedRun, IsToldNear, IsToldPlan, Standing, Told}
+use Rattle.lb_lists.specs.Refinings.{told_division, IsDecidedRun, IsRefinedRun, IsToldNear, IsToldPlan, Standing, Told}
 use Rattle.lb_lists.specs.Runs.{sizes_of, Listed}
 use Rattle.lb_lists.proofs.Plans.{certified_by_stops, chosen_by_stops}
 
@@ -127,3 +127,8 @@ pub kept_whole_told : {A : Type 0} (loads : List ℕ) (sizes : List (ℕ × ℕ)
 kept_whole_told loads sizes pes tolerance thousandths r other least moved is same least_is moved_is whole names present order within =
     let limit : limit_of least thousandths ≡ limit_of (least_load r) tolerance = ap (λ n. limit_of n thousandths) (least_is ∙ ap least_load (sym is)) ∙ ap (limit_of (least_load r)) (sym same) in
     moved_is ∙ ap refined_moved (sym is) ∙ whole names present order (subst (λ n. AreWithin loads names n present) limit within)
+
+-- what is decided where the PEs need not keep their order
+pub decided_anew : (run : Listed) (pes tolerance : ℕ) (keep near : Bool) (told : Told) (standing : Standing) → keep ≡ false → IsRefinedRun run pes tolerance near told standing → IsDecidedRun run pes tolerance keep near told standing
+decided_anew run pes tolerance keep near told standing anew decided =
+    subst (λ b. IsDecidedRun run pes tolerance b near told standing) (sym anew) decided

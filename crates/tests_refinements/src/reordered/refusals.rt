@@ -18,8 +18,8 @@ fn is_decided<A: Allocator>(answer: Result<Reordering<A>, AllocError>) -> Outcom
     outcome
 }
 
-// The requests of that decision: 24 of the one in the present order and 87 of the search, as long as it does not give up.
-const DECIDING: u64 = 0;
+// The requests of that decision: of the one in the present order, and of the search, which does not give up.
+const DECIDING: u64 = 95;
 
 #[test]
 fn each_request_may_be_refused(rt: HostRuntime) {

@@ -5,7 +5,7 @@ use Rattle.lb_lists.specs.Rooms.{lists_in}
 use Rattle.lb_lists.specs.Refinings.{Told}
 use Rattle.lb_lists.specs.Runs.{sizes_of, Listed}
 use Rattle.lb_lists.proofs.FlatSteps.{first_steps-length}
-use Rattle.lb_lists.proofs.RefinedRuns.{few_stops, kept_whole_told, left_in, no_more_told, same_standing, told_as_near, told_as_plan}
+use Rattle.lb_lists.proofs.RefinedRuns.{decided_anew, few_stops, kept_whole_told, left_in, no_more_told, same_standing, told_as_near, told_as_plan}
 use Rattle.lb_lists.proofs.refining.refine_into.Goals as goal
 
 pub returns-in_default-flat_steps-clause-refused : goal.returns-in_default-flat_steps-clause-refused
@@ -31,10 +31,10 @@ write_near-requires-clause-step_starts g c =
 pub returns-in-Planned-clause-refined : goal.returns-in-Planned-clause-refined
 returns-in-Planned-clause-refined g c =
     let w = c.write_planned.ensures in
-    ([], told_as_plan c.args.run.now c.args.pes c.in-Some.tolerance c.args.thousandths c.in-Ok.refined c.in-Planned.decision _ _ _ c.in-Planned.is c.in-Some.ensures.some w.planned w.told c.in-Ok.ensures.refined, left_in _ _ _ _ w.planned w.no_steps w.left)
+    ([], decided_anew c.args.run.now c.args.pes c.args.thousandths c.args.keep_order _ _ _ c.if-keep_order.false (told_as_plan c.args.run.now c.args.pes c.in-Some.tolerance c.args.thousandths c.in-Ok.refined c.in-Planned.decision _ _ _ c.in-Planned.is c.in-Some.ensures.some w.planned w.told c.in-Ok.ensures.refined), left_in _ _ _ _ w.planned w.no_steps w.left)
 
 pub returns-in-Planned-clause-no_more : goal.returns-in-Planned-clause-no_more
-returns-in-Planned-clause-no_more g c =
+returns-in-Planned-clause-no_more g c anew =
     no_more_told c.args.run.now c.args.pes c.in-Some.tolerance c.in-Ok.refined _ _ c.in-Planned.is (ap (λ (t : Told). t.moved) c.write_planned.ensures.told) c.in-Ok.ensures.refined
 
 pub returns-in-Planned-clause-kept_whole : goal.returns-in-Planned-clause-kept_whole
@@ -50,10 +50,10 @@ pub returns-in-Ok-flat_steps-clause-refined : goal.returns-in-Ok-flat_steps-clau
 returns-in-Ok-flat_steps-clause-refined g c =
     let w = c.write_near.ensures in
     let k = c.in-Near.kept in
-    (k.refinement.heights, told_as_near c.args.run.now c.args.pes c.in-Some.tolerance c.args.thousandths c.in-Ok.refined k _ _ _ c.in-Near.is c.in-Some.ensures.some w.near w.told (same_standing k _ _ w.order w.present) c.in-Ok.ensures.refined, subst (λ b. IsStandingIn b k.refinement.heights c.write_near.result.steps (standing_lists_in c.args.standing.now) (standing_lists_in c.write_near.new.standing)) (sym w.near) w.steps)
+    (k.refinement.heights, decided_anew c.args.run.now c.args.pes c.args.thousandths c.args.keep_order _ _ _ c.if-keep_order.false (told_as_near c.args.run.now c.args.pes c.in-Some.tolerance c.args.thousandths c.in-Ok.refined k _ _ _ c.in-Near.is c.in-Some.ensures.some w.near w.told (same_standing k _ _ w.order w.present) c.in-Ok.ensures.refined), subst (λ b. IsStandingIn b k.refinement.heights c.write_near.result.steps (standing_lists_in c.args.standing.now) (standing_lists_in c.write_near.new.standing)) (sym w.near) w.steps)
 
 pub returns-in-Ok-flat_steps-clause-no_more : goal.returns-in-Ok-flat_steps-clause-no_more
-returns-in-Ok-flat_steps-clause-no_more g c =
+returns-in-Ok-flat_steps-clause-no_more g c anew =
     no_more_told c.args.run.now c.args.pes c.in-Some.tolerance c.in-Ok.refined _ _ c.in-Near.is (ap (λ (t : Told). t.moved) c.write_near.ensures.told) c.in-Ok.ensures.refined
 
 pub returns-in-Ok-flat_steps-clause-kept_whole : goal.returns-in-Ok-flat_steps-clause-kept_whole
