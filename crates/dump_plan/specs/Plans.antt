@@ -1,5 +1,5 @@
 -- A decision up to its moves, in bytes that have come.
-use Rattle.std.specs.Prelude.{◌≡◌, ℕ, ◌+◌, ◌*◌, ◌<◌, ◌≤◌, ◌==◌, if◌then◌else◌, List, [], length, ◌++◌, drop, flat_map}
+use Rattle.std.specs.Prelude.{◌≡◌, ◌⊎◌, ℕ, ◌+◌, ◌*◌, ◌<◌, ◌≤◌, ◌==◌, if◌then◌else◌, List, [], length, ◌++◌, drop, flat_map}
 use Rattle.std.specs.Int.{w32, from_be_bytes}
 use Rattle.chare_index.specs.declared.limits.TheConstants.Limits.{PES}
 use Rattle.lb_certificates.specs.declared.division.Floor.{Floor}
@@ -38,6 +38,11 @@ plan_len target kind = kind_at target + 4 + (if kind == 0 then 0 else 4 * (targe
 abbrev pub floor_kind : {A : Type 0} → Floor A → ℕ
 floor_kind Zero = 0
 floor_kind (Fence stops) = 1
+
+-- where a field that has a rule ends: the flag, the target, the kind of the floor, or the number of moves
+abbrev pub IsRuleEnd : List ℕ → ℕ → Type 0
+IsRuleEnd bytes end =
+    (end ≡ 4) ⊎ (end ≡ 8) ⊎ (end ≡ kind_at (target_in bytes) + 4) ⊎ (end ≡ plan_len (target_in bytes) (kind_in bytes))
 
 -- these bytes begin a decision that is not whole yet, and each whole field keeps its rule
 pub record IsBegun (bytes : List ℕ) : Type 0 where

@@ -1,7 +1,7 @@
 ghost use Rattle.std.specs.Prelude.{◌≡◌, ◌++◌, ◌+◌, ◌<◌, ◌≤◌, ◌⊎◌, ℕ, List, length, Err, IfErr, IfOk, MatchBool};
 ghost use Rattle.dump_format.specs.Fields.{ending};
 ghost use Rattle.dump_format.specs.Layout.{judge, Broken};
-ghost use Rattle.dump_plan.specs.Plans.{IsBegun, IsPlan, MayBegin, flag_in, kind_at, kind_in, plan_len, target_in};
+ghost use Rattle.dump_plan.specs.Plans.{IsBegun, IsPlan, IsRuleEnd, MayBegin, flag_in, kind_at, kind_in, plan_len, target_in};
 
 use crate::lists::{after_floor, recorded_of};
 use crate::plan::Plan;
@@ -20,6 +20,7 @@ const CUTS_AT: usize = 16;
 pub fn plan_end(begun: &[u8]) -> usize
     requires { IsBegun begun.now }
     ensures more { length begun.now < result }
+    ensures rule { IsRuleEnd begun.now result }
     ensures allowed { (rest : List ℕ) → length begun.now + length rest ≤ result → MayBegin (begun.now ++ rest) }
 {
     if begun.len() < TARGET_AT {

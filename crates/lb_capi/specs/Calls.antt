@@ -1,5 +1,5 @@
 -- What a caller of the library passes: lists, as a run, as a claim, or as buffers for a decision.
-use Rattle.std.specs.Prelude.{Bool, false, true, ℕ, zero, suc, List, ℤ, negsuc}
+use Rattle.std.specs.Prelude.{Bool, not, ℕ, ◌==◌, List, ℤ, negsuc}
 use Rattle.lb_lists.specs.Claims.{Claimed}
 use Rattle.lb_lists.specs.RefinedClaims.{RefinedClaimed}
 use Rattle.lb_lists.specs.RefinedRooms.{StandingLists}
@@ -56,8 +56,7 @@ claim_of bottleneck moved new_places cuts stops names block_prices pe_prices =
 
 -- a number that says yes: any but 0
 abbrev pub is_set : ℕ → Bool
-is_set zero = false
-is_set (suc n) = true
+is_set n = not (n == 0)
 
 -- the claim of a decision within a tolerance, above this least possible load
 abbrev pub refined_claim_of : Bool → ℕ → Claimed → StandingLists → RefinedClaimed

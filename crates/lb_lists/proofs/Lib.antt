@@ -7,7 +7,9 @@ pub mod Greatest
 pub mod HeightRows
 pub mod LoadLimits
 pub mod NearLeast
+pub mod InOrderRuns
 pub mod OnePlan
+pub mod OneRefinedRun
 pub mod Plans
 pub mod RefinedClaims
 pub mod RefinedRuns

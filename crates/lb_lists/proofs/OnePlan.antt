@@ -11,7 +11,7 @@ use Rattle.lb_lists.specs.Plans.{IsPlan}
 use Rattle.lb_lists.specs.Runs.{sizes_of, Listed}
 
 -- the places by one division and its names
-places_once : (cuts names : List ℕ) (n : ℕ) (places others : List ℕ) → ArePlaces cuts names n places → ArePlaces cuts names n others → places ≡ others
+pub places_once : (cuts names : List ℕ) (n : ℕ) (places others : List ℕ) → ArePlaces cuts names n places → ArePlaces cuts names n others → places ≡ others
 places_once cuts names n places others this that =
     same_number_lists places others (this.counted ∙ sym that.counted) (λ i inside.
     let below : i < n = omega (arith, inside, this.counted) in

@@ -1,6 +1,6 @@
 //! The check of what somebody claims to be a decision within a tolerance.
 
-ghost use Rattle.std.specs.Prelude.{◌≡◌, ◌+◌, ◌<◌, ◌≤◌, ℕ, None, IfOk, OnOk, IfErr, MatchBool, MatchOption, length};
+ghost use Rattle.std.specs.Prelude.{◌≡◌, ◌+◌, ◌<◌, ◌≤◌, ◌↔◌, ℕ, IsTrue, None, IfOk, OnOk, IfErr, MatchBool, MatchOption, length};
 ghost use Rattle.std.specs.List.{between, zip};
 ghost use Rattle.lb_certificates.specs.Chain.{IsDivision};
 ghost use Rattle.lb_certificates.specs.Flaws.{flaw_number, flaw_place};
@@ -23,7 +23,7 @@ use chare_index::Limits;
 use lb_certificates::{Cuts, Division, Flaw, Naming, Prices, check_naming};
 use lb_refinement::{greatest_load, moved_by};
 use lb_snapshot::{Sizes, Snapshot};
-use present_order::present_order;
+use present_order::{PresentOrder, present_order};
 use std::alloc::{AllocError, Allocator};
 
 /// What is wrong with a claim of a decision within a tolerance.
@@ -165,7 +165,15 @@ fn names_flaw<A: Allocator>(
     }
 }
 
+// Whether an order is this one, with these present cuts.
+fn is_same<A: Allocator>(found: &PresentOrder<A>, order: &[u32], present: &[u32]) -> bool
+    ensures { IsTrue result ↔ ((found.now.names ≡ order.now) × (found.now.present ≡ present.now)) }
+{
+    found.names.as_slice() == order && found.present.as_slice() == present
+}
+
 // Whether the PEs have an order, and this is it, with these present cuts.
+#[tactic(auto, using(crate::proofs::RefinedClaims::order_is))]
 fn is_order<A: Allocator + Copy, B: Allocator>(
     alloc: A,
     sizes: &Sizes<B>,
@@ -180,7 +188,7 @@ fn is_order<A: Allocator + Copy, B: Allocator>(
     let Some(found) = present_order(alloc, sizes, pes)? else {
         return Ok(false);
     };
-    Ok(found.names.as_slice() == order && found.present.as_slice() == present)
+    Ok(is_same(&found, order, present))
 }
 
 // The first flaw of the bytes and the places of a claim whose names are the order of the PEs, and whose refinement is right.

@@ -3,12 +3,12 @@ use Rattle.std.proofs.Common.{◌≡◌, ℕ, ◌<◌, ◌≤◌, List, length, 
 use Rattle.chain_partition.proofs.ChosenOnce.{only_from_chosen}
 use Rattle.chare_index.specs.declared.limits.TheConstants.Limits.{PES}
 use Rattle.lb_certificates.specs.Chain.{IsDivision, peak}
-use Rattle.lb_certificates.specs.Naming.{block_of, blocks_between, bytes_moved, AreBlocks, IsNaming}
+use Rattle.lb_certificates.specs.Naming.{block_of, blocks_between, bytes_moved, IsNaming}
 use Rattle.lb_certificates.specs.declared.division.Division.{Division}
 use Rattle.lb_certificates.proofs.BlockSums.{block_of_is}
 use Rattle.lb_certificates.proofs.Chains.{peak-le}
 use Rattle.lb_strategy.specs.Moves.{moves_below, HasPlace}
-use Rattle.lb_strategy.proofs.RightDecisions.{least_from_right, place_from_right}
+use Rattle.lb_strategy.proofs.RightDecisions.{least_from_right}
 use Rattle.chain_refinement.specs.Orders.{IsPresentOrder}
 use Rattle.chain_refinement.specs.Refinement.{AreNearest, AreWithin, refined_limit}
 use Rattle.chain_refinement.specs.Tolerances.{limit_of}

@@ -1,5 +1,5 @@
 -- The bytes that names move, added up element by element.
-use Rattle.std.proofs.Common.{◌≡◌, ℕ, suc, ◌+◌, ◌*◌, ◌^◌, ◌<◌, ◌≤◌, List, length, slice_index, slice_index_or, arith, add-one}
+use Rattle.std.proofs.Common.{◌≡◌, ℕ, ◌+◌, ◌<◌, List, length, slice_index, slice_index_or, arith, add-one}
 use Rattle.lb_certificates.specs.Naming.{block_of, blocks_between, moved_bytes, total, AreBlocks}
 use Rattle.lb_certificates.proofs.BlockSums.{block_of_is}
 use Rattle.chain_refinement.proofs.Orders.{block_around}

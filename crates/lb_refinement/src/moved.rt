@@ -8,6 +8,7 @@ use crate::places::block_around;
 use chare_index::Pe;
 
 /// The packed bytes of all elements that are not on the PE that is the name of their block.
+#[tactic(auto, using(crate::proofs::MovedSums::moved_more, crate::proofs::MovedSums::has_block))]
 pub fn moved_by(sizes: &[(u32, Pe)], cuts: &[u32], names: &[u32]) -> u64
     requires sizes { IsSizes sizes.now }
     requires blocks { AreBlocks sizes.now cuts.now }

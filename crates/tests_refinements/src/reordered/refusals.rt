@@ -2,6 +2,7 @@
 
 use super::fixtures::{snapshot, tolerance};
 use super::rows::TEN;
+use crate::fixtures::assert_for;
 use lb_any_order::{Reordering, refine_in_any_order};
 use std::alloc::{AllocError, Allocator};
 use tests_fixtures::{Outcome, each_refusal};
@@ -17,6 +18,9 @@ fn is_decided<A: Allocator>(answer: Result<Reordering<A>, AllocError>) -> Outcom
     outcome
 }
 
+// The requests of that decision: of the one in the present order, and of the search, which does not give up.
+const DECIDING: u64 = 95;
+
 #[test]
 fn each_request_may_be_refused(rt: HostRuntime) {
     let taken = snapshot(&rt, TEN.loads, TEN.elements);
@@ -26,6 +30,7 @@ fn each_request_may_be_refused(rt: HostRuntime) {
         999,
         |alloc| is_decided(refine_in_any_order(alloc, &taken, 3, fifth)),
     );
-    assert!(rt; refusals.is_ok());
+    let refusals = refusals.expect(&rt, "a refusal was not told");
+    assert_for(&rt, refusals == DECIDING, refusals);
     drop(taken);
 }

@@ -200,8 +200,17 @@ pub(crate) type Row = (
     bool,
 );
 
-pub(crate) static DECISIONS: [Row; 13] = [
+pub(crate) static DECISIONS: [Row; 14] = [
     ("no elements", &[], &[], 3, 20, 0, true),
+    (
+        "other cuts and other names",
+        &[6, 2, 1, 2],
+        &[(2, 0), (37, 0), (15, 1), (6, 2)],
+        3,
+        300,
+        8,
+        true,
+    ),
     (
         "loads all 0",
         &[0, 0, 0, 0, 0, 0],

@@ -1,3 +1,5 @@
+use Rattle.std.proofs.Common.{◌+◌, ap, inl, inr, ◌∙◌}
+use Rattle.dump_plan.specs.Plans.{kind_at, plan_len, target_in, word_at}
 use Rattle.dump_plan.proofs.Begun.{begun_to_end, begun_to_flag, begun_to_kind, begun_to_target}
 use Rattle.dump_plan.proofs.Numbers.{word_read}
 use Rattle.dump_plan.proofs.reading.plan_end.Goals as goal
@@ -18,3 +20,16 @@ returns-clause-allowed c =
     let target = word_read c.args.begun.now 4 c.word-target.result c.word-target.ensures.value in
     let kind = word_read c.args.begun.now c.kind_at-kind_at.result c.word.result c.word.ensures.value in
     begun_to_end c.args.begun.now c.word-target.result c.word.result c.kind_at-kind_at.result c.plan_len.result c.requires target c.kind_at-kind_at.ensures kind c.if-begun-kind_at.false c.plan_len.ensures.value
+
+pub returns-then-begun-kind_at-clause-rule : goal.returns-then-begun-kind_at-clause-rule
+returns-then-begun-kind_at-clause-rule c =
+    let target = word_read c.args.begun.now 4 c.word-target.result c.word-target.ensures.value in
+    inr (inr (inl (ap (λ n. n + 4) (c.kind_at-kind_at.ensures ∙ ap kind_at target))))
+
+pub returns-clause-rule : goal.returns-clause-rule
+returns-clause-rule c =
+    let begun = c.args.begun.now in
+    let target = word_read begun 4 c.word-target.result c.word-target.ensures.value in
+    let kind = word_read begun c.kind_at-kind_at.result c.word.result c.word.ensures.value in
+    let at = c.kind_at-kind_at.ensures ∙ ap kind_at target in
+    inr (inr (inr (c.plan_len.ensures.value ∙ ap (λ t. plan_len t c.word.result) target ∙ ap (plan_len (target_in begun)) (kind ∙ ap (word_at begun) at))))
