@@ -2,43 +2,21 @@
 
 use crate::fixtures::{assert_for, patient, run_past};
 use crate::tallies::tallies;
-use chare_index::Gate;
 use rts_run::Config;
 use std::process::Abort;
 use std::sync::Wait;
-use std::sync::atomic::{AtomicU64, Ordering};
 use std::thread::Threads;
+use tests_fixtures::CountingGate;
 
-// Counts its calls by workers 0, 1 and 2, and by any other number.
-#[derive(Drop)]
-struct Counting {
-    first: AtomicU64,
-    second: AtomicU64,
-    third: AtomicU64,
-    others: AtomicU64,
-}
-
-impl Gate for Counting {
-    fn pass(&self, who: u32) {
-        let count = match who {
-            0 => &self.first,
-            1 => &self.second,
-            2 => &self.third,
-            _ => &self.others,
-        };
-        count.fetch_add(1, Ordering::SeqCst);
-    }
-}
-
-// How often each of these passes the gate where one round of two tallies is decided on this number of PEs, by up to three
-// workers.
-fn passed<R: Threads + Wait + Sync + Abort + AllocGlobal>(rt: &R, pes: u32) -> [u64; 4] {
-    let gate = Counting {
-        first: AtomicU64::new(0),
-        second: AtomicU64::new(0),
-        third: AtomicU64::new(0),
-        others: AtomicU64::new(0),
-    };
+// Whether so many workers pass the gate where one round of two tallies is decided on this number of PEs, by up to three workers:
+// each as often as the others, at least `least` times.
+fn pass_so<R: Threads + Wait + Sync + Abort + AllocGlobal>(
+    rt: &R,
+    pes: u32,
+    workers: u32,
+    least: u64,
+) -> bool {
+    let gate = CountingGate::new();
     let config = Config {
         probe_workers: 3,
         ..patient(pes, 4)
@@ -48,18 +26,10 @@ fn passed<R: Threads + Wait + Sync + Abort + AllocGlobal>(rt: &R, pes: u32) -> [
     assert_for(rt, outcome.fault() == None, outcome.fault());
     assert_for(rt, outcome.rounds().len() == 1, pes);
     drop(outcome);
-    [
-        gate.first.load(Ordering::SeqCst),
-        gate.second.load(Ordering::SeqCst),
-        gate.third.load(Ordering::SeqCst),
-        gate.others.load(Ordering::SeqCst),
-    ]
+    gate.counts_each(workers, least)
 }
 
 #[test]
 fn three_workers_decide_from_128_pes_on(rt: HostRuntime) {
-    let [first, second, third, others] = passed(&rt, 128);
-    assert!(rt; first >= 1 && second == first && third == first && others == 0);
-    let [first, second, third, others] = passed(&rt, 127);
-    assert!(rt; second == 0 && third == 0 && others == 0, "{first}");
+    assert!(rt; pass_so(&rt, 128, 3, 1) && pass_so(&rt, 127, 1, 0));
 }

@@ -1,21 +1,43 @@
-//! The worked example: what is printed of its run, and where an element of it was in each round.
+//! The worked example: what is printed of its run, what its rounds measured, and where an element of it was in each.
 
 use crate::fixtures::{assert_for, expect_text, index, patient};
 use crate::tallies::{EXAMPLE_TEXT, run_example, text_of};
 use chares::{KeptMark, Mark, Note, StateBytes};
+use lb_refinement::Refined;
+use lb_snapshot::{Snapshot, Units};
 use pe_state::Elements;
 use std::process::Abort;
 use tally::Tally;
 use tests_fixtures::{pe, round};
+
+// The loads of the four elements and their PEs, as each round of the example is decided: each tally is charged what it gets, and
+// element 1 moves after the first round.
+static MEASURED: [([Units; 4], [u32; 4]); 2] = [
+    ([6, 1, 1, 2], [0, 0, 1, 1]),
+    ([2, 2, 2, 2], [0, 1, 1, 1]),
+];
+
+// Whether the rounds have these loads and PEs.
+fn are_measured(rounds: &[(Snapshot, Refined)]) -> bool {
+    let mut same = rounds.len() == MEASURED.len();
+    for ((snapshot, _), (loads, places)) in rounds.iter().zip(&MEASURED) {
+        same &= snapshot.loads().as_slice() == loads.as_slice();
+        for ((_, at), place) in snapshot.sizes().as_slice().iter().zip(places) {
+            same &= at.get() == *place;
+        }
+    }
+    same
+}
 
 // With the usual capacity of the queues, and with room for one parcel in each.
 #[test]
 fn four_tallies_on_two_pes(rt: HostRuntime) {
     for capacity in &[1_024, 1] {
         let outcome = run_example(&rt, &patient(2, *capacity));
-        let text = text_of(&rt, &outcome);
+        let (text, measured) = (text_of(&rt, &outcome), are_measured(outcome.rounds()));
         drop(outcome);
         expect_text(&rt, text.as_str(), EXAMPLE_TEXT);
+        assert_for(&rt, measured, *capacity);
     }
 }
 

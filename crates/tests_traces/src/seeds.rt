@@ -3,11 +3,16 @@
 use crate::counting::{
     Expected, assert_for, events_in, expect_trace, moves_in, read_back, value_at,
 };
+use lb_refinement::Refined;
+use lb_snapshot::Snapshot;
 use run_trace::Timeline;
-use schedules::{Schedule, explore};
+use schedules::{Schedule, Step, explore};
 use serde_json::Value;
+use std::alloc::{AllocError, Allocator, Global};
 use std::process::Abort;
 use tally::Tally;
+use tests_fixtures::{Outcome, Refusing, each_refusal};
+use trace_events::trace_of;
 
 // A counter, the place of one of its values among them in the trace, and this value, if there is one.
 type Counted = (&'static str, u64, Option<u64>);
@@ -64,4 +69,29 @@ fn four_tallies_by_ten_seeds(rt: HostRuntime) {
     for seed in 0..10 {
         let _trace = traced(&rt, seed);
     }
+}
+
+// The trace of these steps and rounds, over an allocator that may refuse.
+fn traces<A: Allocator>(
+    alloc: &Refusing<Global>,
+    steps: &[Step<A>],
+    rounds: &[(Snapshot<A>, Refined<A>)],
+) -> Outcome {
+    let Ok(timeline) = Timeline::of_steps(alloc, steps) else {
+        return Outcome::Refused;
+    };
+    match trace_of(alloc, 2, timeline.happenings(), rounds) {
+        Ok(events) if events.len() > steps.len() => Outcome::Right,
+        Ok(_) => Outcome::Wrong,
+        Err(AllocError) => Outcome::Refused,
+    }
+}
+
+#[test]
+fn each_request_of_a_timeline_and_of_its_events(rt: HostRuntime) {
+    let explored = explore(rt.alloc(), &Schedule::usual(2), 39, tallies(&rt));
+    let explored = explored.expect(&rt, "no run");
+    let (steps, rounds) = (explored.steps(), explored.rounds());
+    let refusals = each_refusal(rt.alloc(), 99, |alloc| traces(alloc, steps, rounds));
+    assert_for(&rt, matches!(refusals, Ok(4..)), "refusals");
 }
