@@ -1,6 +1,4 @@
-pub mod Courses
+pub mod Endings
 pub mod LeftWorlds
-pub mod Limits
 pub mod Lists
-pub mod Shown
-pub mod TriedEvents
+pub mod Shrinking
