@@ -11,7 +11,8 @@ use Rattle.rts_run.specs.declared.error.Setting.TheVariants as Of
 use Rattle.rts_run.specs.declared.error.RunError.TheVariants as Why
 use Rattle.run_text.specs.Sums.{AreTallies}
 use Rattle.run_text.proofs.Histories as of_runs
-use Rattle.schedules.specs.Courses.{ExploredView, IsExplored, Leads, Made, events_of}
+use Rattle.courses.specs.Courses.{Leads, Made, events_of}
+use Rattle.schedules.specs.Courses.{ExploredView, IsExplored}
 use Rattle.schedules.specs.Replays.{RefusesReplay}
 use Rattle.schedules.specs.Schedules.{MayExplore, RefusesSchedule}
 use Rattle.schedules.specs.declared.error.ReplayError.{ReplayError}

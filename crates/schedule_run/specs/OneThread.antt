@@ -5,7 +5,8 @@ use Rattle.pup_pack.specs.declared.error.PupError.{PupError}
 use Rattle.rts_core.specs.Worlds.{opening_world}
 use Rattle.rts_core.specs.declared.event.Event.{Event}
 use Rattle.run_text.specs.Text.{outcome_text}
-use Rattle.schedules.specs.Courses.{CourseView, ExploredView, IsExplored, Leads}
+use Rattle.courses.specs.Courses.{CourseView, Leads}
+use Rattle.schedules.specs.Courses.{ExploredView, IsExplored}
 use Rattle.schedules.specs.Replays.{StopsAt}
 use Rattle.schedules.specs.declared.error.ReplayError.{ReplayError}
 use Rattle.schedules.specs.declared.error.ReplayError.TheVariants as Ends

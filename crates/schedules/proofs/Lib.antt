@@ -1,6 +1,3 @@
-pub mod Courses
+pub mod Endings
 pub mod LeftWorlds
-pub mod Limits
 pub mod Lists
-pub mod Shown
-pub mod TriedEvents

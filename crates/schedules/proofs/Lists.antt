@@ -4,7 +4,7 @@ use Rattle.std.specs.Prelude.{slice_get, MatchBool}
 use Rattle.std.proofs.lemmas.List.{length-map, length-take-le}
 use Rattle.rts_core.specs.declared.event.Event.{Event}
 use Rattle.chares.specs.declared.trace_entry.TraceEntry.{TraceEntry}
-use Rattle.schedules.specs.Courses.{Made, events_of}
+use Rattle.courses.specs.Courses.{Made, events_of}
 
 -- the events with one more step
 pub events_more : (steps : List Made) (event : Event) (entries : List TraceEntry) → events_of (steps ++ (event, entries) ∷ []) ≡ events_of steps ++ event ∷ []
@@ -40,3 +40,10 @@ happened_before events steps at event within is before =
 pub not_taken : (P Q : Type 0) (taken : Bool) → taken ≡ false → MatchBool taken P Q → Q
 not_taken P Q true e m = cc
 not_taken P Q false e m = m
+
+-- and that one is the next
+pub refused_next : (events : List Event) (happened : List Event) (at : ℕ) (event refused : Event) → at < length events → event ≡ get_or events at event → refused ≡ event → happened ≡ take at events
+    → events ≡ happened ++ refused ∷ drop (suc at) events
+refused_next events happened at event refused within is same before =
+    split_at events at event (member_at events at event within is) ∙ ap (λ (e : Event). take at events ++ e ∷ drop (suc at) events) (sym same)
+    ∙ ap (λ (es : List Event). es ++ refused ∷ drop (suc at) events) (sym before)

@@ -1,11 +1,14 @@
 -- What a run by a list of events leads to.
 use Rattle.std.specs.Prelude.{◌≡◌, ℕ, List, ◌∷◌, ◌++◌, length, Option, None, Some, Result}
+use Rattle.at_sync.specs.declared.strategy.Strategy.{Strategy}
 use Rattle.chares.specs.Steps.{Step}
+use Rattle.courses.specs.Courses.{CourseView, IsEnabled, Leads, events_of}
+use Rattle.courses.specs.Picks.{PicksUpTo}
 use Rattle.pup_pack.specs.declared.error.PupError.{PupError}
 use Rattle.rts_core.specs.Worlds.{opening_world}
 use Rattle.rts_core.specs.declared.event.Event.{Event}
 use Rattle.rts_run.specs.declared.error.RunError.TheVariants as Why
-use Rattle.schedules.specs.Courses.{CourseView, ExploredView, IsEnabled, Leads, events_of}
+use Rattle.schedules.specs.Courses.{ExploredView, left_by}
 use Rattle.schedules.specs.Schedules.{MayExplore, RefusesSchedule}
 use Rattle.schedules.specs.declared.error.ReplayError.{ReplayError}
 use Rattle.schedules.specs.declared.error.ReplayError.TheVariants as Ends
@@ -25,6 +28,12 @@ module _ {C A : Type 0} (step : Step C) (pack : C → List ℕ) (unpack : List �
   StopsAt events course at =
       (event : Event) × (rest : List Event) × (events ≡ events_of course.steps ++ event ∷ rest)
       × (length course.steps ≡ at) × ¬ (IsEnabled step pack unpack course.world event)
+
+  -- From the opening on, each event of a list that was enabled at its turn has happened, and each that was not was left out: all of
+  -- them, or those before the one that was refused.
+  abbrev pub PicksFrom : List C → ℕ → Strategy → List Event → ExploredView C A → Type 0
+  PicksFrom chares pes strategy events x =
+      PicksUpTo step pack unpack (opening_world pes chares strategy) events x.refused x.steps (left_by x)
 
 module _ {C : Type 0} (A : Type 0) (step : Step C) (pack : C → List ℕ) (unpack : List ℕ → Result (C × ℕ) PupError) where
   -- a list of events is not repeated on these chares: a number is out of its limits, or memory was refused, or an event is not

@@ -1,7 +1,11 @@
 //! Which event happens next. docs/SCHEDULES.md says how it is drawn.
 
+ghost use Rattle.std.specs.Prelude.{IsTrue};
+ghost use Rattle.schedules.specs.Courses.{IsDone};
+
 use crate::bias::{Bias, Kind};
 use crate::generator::SplitMix64;
+use crate::leaving::is_done;
 use crate::number_set::NumberSet;
 use chare_index::{Index, Pe};
 use chares::{Carried, Chare, Openings, TraceEntry};
@@ -72,9 +76,11 @@ impl<A: Allocator + Copy> Chooser<A> {
 }
 
 impl<A: Allocator> Chooser<A> {
-    /// Whether every element has finished and no letter is held.
-    pub(crate) fn is_done<C: Chare<A>, H: Openings<C>>(&self, world: &World<C, H, A>) -> bool {
-        self.held == 0 && world.board().all_finished()
+    /// Whether every element has finished and no letter is held. The letters are counted only where none seems to be held.
+    pub(crate) fn is_done<C: Chare<A>, H: Openings<C>>(&self, world: &World<C, H, A>) -> bool
+        ensures done { IsTrue result → IsDone world.now }
+    {
+        self.held == 0 && is_done(world)
     }
 
     /// Draws one of the events that are enabled, or returns `None` where none is.
@@ -111,6 +117,18 @@ impl<A: Allocator> Chooser<A> {
             self.see_pe(world, q);
         }
         self.decides = world.board().is_complete();
+    }
+
+    /// Looks again at everything that may be enabled, after an event that was overlooked.
+    pub(crate) fn look_again<C: Chare<A>, H: Openings<C>>(&mut self, world: &World<C, H, A>) {
+        for number in 0..short(world.pes()) {
+            if let Some(p) = Pe::new(number) {
+                self.see_pe(world, p);
+            }
+        }
+        self.see_elements(world);
+        self.decides = world.board().is_complete();
+        self.held = world.account().held;
     }
 
     // Draws one of the events that are enabled, of any PE.

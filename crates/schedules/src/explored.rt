@@ -7,9 +7,9 @@ ghost use Rattle.pe_state.specs.InOrder.{element_on};
 ghost use Rattle.rts_core.specs.Accounts.{posted_count, executed_count, held_count};
 ghost use Rattle.schedules.specs.Courses.{events_tried, left_by};
 
-use crate::step::Step;
 use chare_index::{Index, Pe};
 use chares::{Chare, Element};
+use courses::Step;
 use lb_refinement::Refined;
 use lb_snapshot::Snapshot;
 use pe_worker::Fault;

@@ -1,18 +1,18 @@
 //! Runs by a seed.
 
-ghost use Rattle.std.specs.Prelude.{◌≡◌, ◌+◌, ◌≤◌, [], Some, IfOk, OnErr, MatchBool, MatchResult, length};
-ghost use Rattle.pe_worker.specs.declared.fault.Fault.TheVariants.{Stopped};
+ghost use Rattle.std.specs.Prelude.{◌≡◌, ◌+◌, ◌≤◌, [], IfErr, IfOk, OnErr, MatchBool, MatchResult, length};
+ghost use Rattle.courses.specs.Courses.{IsIdle, RefusesTaking};
 ghost use Rattle.schedules.specs.Courses.{IsExplored};
+ghost use Rattle.schedules.specs.Endings.{EndsCourse, EndsRun};
 ghost use Rattle.schedules.specs.Schedules.{MayExplore, RefusesSchedule};
 
 use crate::chooser::Chooser;
-use crate::course::Course;
 use crate::explored::Explored;
-use crate::leaving::{Ending, leave};
+use crate::leaving::{Ending, is_done, leave};
 use crate::schedule::Schedule;
 use chare_index::{Limits, Pe};
 use chares::{Chare, Openings};
-use pe_state::StepError;
+use courses::{Course, Refusal, take_any};
 use rts_core::{Event, World};
 use rts_run::RunError;
 use std::alloc::{AllocError, Allocator};
@@ -25,8 +25,10 @@ use std::marker::Brand;
 ///
 /// The clause `explored` says of the result: the steps lead from the opening to the world that is left, each of them enabled;
 /// each letter that was posted is in one place or was executed once, by its own element; each element is what its journal says;
-/// and without a fault every element has finished and no letter is held. It ends as [`Stopped`](pe_worker::Fault::Stopped) only
-/// where it has taken as many steps as the schedule allows.
+/// and without a fault every element has finished and no letter is held. The clause `ends` says why it ended: as
+/// [`Idle`](pe_worker::Fault::Idle) only where no event at all is enabled, as [`Stopped`](pe_worker::Fault::Stopped) only where it
+/// has taken as many steps as the schedule allows, and with any other fault only where the event that was refused has a cause for
+/// it in the world that is left: a handler that may return it, the last round, or memory.
 ///
 /// # Errors
 ///
@@ -42,7 +44,7 @@ pub fn explore<C: Chare<A>, A: Allocator + Copy>(
     ensures answer { MatchResult result (λ _. MayExplore schedule.now (length chares.items)) (RefusesSchedule schedule.now (length chares.items)) }
     ensures explored { IfOk result (IsExplored C.step C.fits C.pack C.unpack chares.items schedule.now.pes schedule.now.strategy) }
     ensures few { IfOk result (λ x. length x.steps ≤ schedule.now.steps) }
-    ensures stopped { IfOk result (λ x. x.outcome.fault ≡ Some Stopped → length x.steps ≡ schedule.now.steps) }
+    ensures ends { IfOk result (EndsRun C.step C.pack C.refuses C.unpack schedule.now.steps) }
 {
     if let Some(setting) = schedule.first_outside(chares.len()) {
         return Err(RunError::Config(setting));
@@ -65,7 +67,7 @@ fn explore_as<C: Chare<A>, H: Openings<C>, A: Allocator + Copy>(
     requires opened { chares.items ≡ H.opened }
     ensures explored { IfOk result (IsExplored C.step C.fits C.pack C.unpack H.opened H.pes schedule.now.strategy) }
     ensures few { IfOk result (λ x. length x.steps ≤ schedule.now.steps) }
-    ensures stopped { IfOk result (λ x. x.outcome.fault ≡ Some Stopped → length x.steps ≡ schedule.now.steps) }
+    ensures ends { IfOk result (EndsRun C.step C.pack C.refuses C.unpack schedule.now.steps) }
 {
     let mut course = Course::<C, H, A>::new(alloc, schedule.pes, chares, schedule.strategy)?;
     let mut chooser = Chooser::new(alloc, course.world(), seed, schedule.bias)?;
@@ -82,41 +84,69 @@ fn draw_steps<C: Chare<A>, H: Openings<C>, A: Allocator + Copy>(
     requires fresh { course.old.steps ≡ [] }
     ensures strategy { course.new.strategy ≡ course.old.strategy }
     ensures few { length course.new.steps ≤ steps }
-    ensures stopped { result.fault ≡ Stopped → length course.new.steps ≡ steps }
+    ensures ends { EndsCourse C.step C.pack C.refuses C.unpack course.new.world
+        (IsIdle C.step C.pack C.unpack course.new.world) (length course.new.steps ≡ steps) result }
 {
     for _step in 0..steps {
         if chooser.is_done(course.world()) {
-            return Ending::idle();
+            return Ending::Done;
         }
-        let Some(event) = chooser.draw(course.world()) else {
-            return Ending::idle();
-        };
-        match draw_step(course, chooser, &event) {
+        match draw_step(course, chooser) {
             Ok(true) => {}
-            Ok(false) => return Ending::idle(),
-            Err(error) => return Ending::refused(error, event),
+            Ok(false) => {
+                if is_done(course.world()) {
+                    return Ending::Done;
+                }
+                return Ending::Idle;
+            }
+            Err(refusal) => return Ending::Refused(refusal),
         }
     }
-    Ending::at_last()
+    if is_done(course.world()) {
+        return Ending::Done;
+    }
+    Ending::Stopped
 }
 
-// Takes a step that was drawn, and updates what is enabled; or returns false where the event is not enabled.
+// Takes a step that is drawn, and updates what is enabled; or returns false where no event is enabled.
 fn draw_step<C: Chare<A>, H: Openings<C>, A: Allocator + Copy>(
     course: &mut Course<C, H, A>,
     chooser: &mut Chooser<A>,
-    event: &Event,
-) -> Result<bool, StepError>
+) -> Result<bool, Refusal>
     ensures strategy { course.new.strategy ≡ course.old.strategy }
-    ensures one { IfOk result (λ taken. MatchBool taken (length course.new.steps ≡ length course.old.steps + 1) (course.new.steps ≡ course.old.steps)) }
+    ensures one { IfOk result (λ taken. MatchBool taken (length course.new.steps ≡ length course.old.steps + 1)
+        ((course.new.steps ≡ course.old.steps) × IsIdle C.step C.pack C.unpack course.new.world)) }
     ensures none { OnErr result (course.new.steps ≡ course.old.steps) }
+    ensures refused { IfErr result (λ refusal. RefusesTaking C.step C.pack C.refuses C.unpack course.new.world refusal.event refusal.error) }
 {
-    let to = goes_to(course.world(), event);
-    if !course.take(event)? {
+    if let Some(event) = chooser.draw(course.world()) {
+        let to = goes_to(course.world(), &event);
+        if course.take(&event)? {
+            if let Some(step) = course.steps().last() {
+                chooser.see(course.world(), &event, to, step.entries());
+            }
+            return Ok(true);
+        }
+    }
+    find_step(course, chooser)
+}
+
+// Takes a step with an event that is enabled and was overlooked, which never is; or returns false where no event is enabled. So
+// that a run is idle only where nothing can happen rests on no bookkeeping.
+fn find_step<C: Chare<A>, H: Openings<C>, A: Allocator + Copy>(
+    course: &mut Course<C, H, A>,
+    chooser: &mut Chooser<A>,
+) -> Result<bool, Refusal>
+    ensures strategy { course.new.strategy ≡ course.old.strategy }
+    ensures one { IfOk result (λ taken. MatchBool taken (length course.new.steps ≡ length course.old.steps + 1)
+        ((course.new.steps ≡ course.old.steps) × IsIdle C.step C.pack C.unpack course.new.world)) }
+    ensures none { OnErr result (course.new.steps ≡ course.old.steps) }
+    ensures refused { IfErr result (λ refusal. RefusesTaking C.step C.pack C.refuses C.unpack course.new.world refusal.event refusal.error) }
+{
+    if !take_any(course)? {
         return Ok(false);
     }
-    if let Some(step) = course.steps().last() {
-        chooser.see(course.world(), event, to, step.entries());
-    }
+    chooser.look_again(course.world());
     Ok(true)
 }
 

@@ -1,12 +1,13 @@
 //! What a course leaves.
 
-ghost use Rattle.std.specs.Prelude.{◌≡◌, ◌≢◌, IfOk, IfSome, None, Some, map};
-ghost use Rattle.pe_worker.specs.declared.fault.Fault.TheVariants.{Stopped};
-ghost use Rattle.schedules.specs.Courses.{IsDone, IsExplored};
+ghost use Rattle.std.specs.Prelude.{◌≡◌, ◌↔◌, IfOk, IsTrue, map};
+ghost use Rattle.schedules.specs.Courses.{IsDone, IsExplored, left_by};
+ghost use Rattle.schedules.specs.Endings.{fault_in, fault_of, refused_in};
+ghost use Rattle.schedules.specs.declared.leaving.Ending.TheVariants.{Done};
 
-use crate::course::Course;
 use crate::explored::Explored;
 use chares::{Chare, Openings};
+use courses::{Course, Refusal};
 use pe_state::{HeldParcel, PeEnd, PeState, StepError, into_held};
 use pe_worker::Fault;
 use rts_core::{Event, Queue, World};
@@ -15,51 +16,46 @@ use run_account::take_next;
 use std::alloc::{AllocError, Allocator};
 use std::collections::VecDeque;
 
-/// How a course ended: the event that was refused, if there was one, and the fault that the run ends with, if an event was
-/// refused or the run is not done.
+/// How a course ended.
 #[derive(Clone, Copy)]
-pub(crate) struct Ending {
-    pub(crate) fault: Fault,
-    pub(crate) refused: Option<Event>,
+pub(crate) enum Ending {
+    /// Every element has finished, and no letter is held.
+    Done,
+    /// It is not done, and no event is enabled.
+    Idle,
+    /// It is not done, and its events are used up.
+    Stopped,
+    /// An event was refused.
+    Refused(Refusal),
 }
 
 impl Ending {
-    /// All its events have been used.
-    pub(crate) fn at_last() -> Self
-        ensures refused { result.refused ≡ None }
+    /// Why the run ended early.
+    fn fault(&self) -> Option<Fault>
+        ensures value { result ≡ fault_in self.now }
     {
-        Ending {
-            fault: Fault::Stopped,
-            refused: None,
+        match self {
+            Ending::Done => None,
+            Ending::Idle => Some(Fault::Idle),
+            Ending::Stopped => Some(Fault::Stopped),
+            Ending::Refused(refusal) => Some(fault_of(refusal.error)),
         }
     }
 
-    /// No event is enabled.
-    pub(crate) fn idle() -> Self
-        ensures fault { result.fault ≢ Stopped }
-        ensures refused { result.refused ≡ None }
+    /// The event that was refused, if there was one.
+    fn refused(&self) -> Option<Event>
+        ensures value { result ≡ refused_in self.now }
     {
-        Ending {
-            fault: Fault::Idle,
-            refused: None,
-        }
-    }
-
-    /// This event was refused.
-    pub(crate) fn refused(error: StepError, event: Event) -> Self
-        ensures fault { result.fault ≢ Stopped }
-        ensures refused { result.refused ≡ Some event }
-    {
-        Ending {
-            fault: fault_of(error),
-            refused: Some(event),
+        match self {
+            Ending::Refused(refusal) => Some(refusal.event),
+            _ => None,
         }
     }
 }
 
 // The fault for a step that was refused.
 fn fault_of(error: StepError) -> Fault
-    ensures value { result ≢ Stopped }
+    ensures value { result ≡ fault_of error }
 {
     match error {
         StepError::OutOfMemory => Fault::OutOfMemory,
@@ -70,41 +66,34 @@ fn fault_of(error: StepError) -> Fault
     }
 }
 
+/// Whether every element has finished and no letter is held.
+pub(crate) fn is_done<C: Chare<A>, H: Openings<C>, A: Allocator>(world: &World<C, H, A>) -> bool
+    ensures answer { IsTrue result ↔ IsDone world.now }
+{
+    world.board().all_finished() && world.account().held == 0
+}
+
 /// What a course left that ended in this way.
 pub(crate) fn leave<C: Chare<A>, H: Openings<C>, A: Allocator + Copy>(
     alloc: A,
     course: Course<C, H, A>,
     ending: Ending,
 ) -> Result<Explored<C, A>, AllocError>
+    requires done { ending ≡ Done → IsDone course.world }
     ensures explored { IfOk result (IsExplored C.step C.fits C.pack C.unpack H.opened H.pes course.strategy) }
+    ensures world { IfOk result (λ x. left_by x ≡ course.world) }
     ensures steps { IfOk result (λ x. x.steps ≡ course.steps) }
-    ensures refused { IfOk result (λ x. x.refused ≡ ending.refused) }
-    ensures fault { IfOk result (λ x. IfSome x.outcome.fault (λ fault. fault ≡ ending.fault)) }
+    ensures refused { IfOk result (λ x. x.refused ≡ refused_in ending) }
+    ensures fault { IfOk result (λ x. x.outcome.fault ≡ fault_in ending) }
 {
     let (world, steps) = course.into_parts();
-    let fault = fault_at_end(&world, &ending);
     let (pes, queues, words, board) = world.into_parts();
     let ends = ends_of(alloc, pes)?;
     let left = left_in(alloc, queues)?;
+    let fault = ending.fault();
+    let refused = ending.refused();
     let outcome = Outcome::new(ends, left, board, fault);
-    Ok(Explored::new(outcome, words, steps, ending.refused))
-}
-
-// The fault of a world whose course ended in this way.
-fn fault_at_end<C: Chare<A>, H: Openings<C>, A: Allocator>(
-    world: &World<C, H, A>,
-    ending: &Ending,
-) -> Option<Fault>
-    ensures value { IfSome result (λ fault. fault ≡ ending.now.fault) }
-    ensures done { result ≡ None → IsDone world.now }
-{
-    if ending.refused.is_some() {
-        return Some(ending.fault);
-    }
-    if world.board().all_finished() && world.account().held == 0 {
-        return None;
-    }
-    Some(ending.fault)
+    Ok(Explored::new(outcome, words, steps, refused))
 }
 
 // The ends of these PEs.

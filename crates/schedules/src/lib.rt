@@ -11,27 +11,22 @@
 
 mod bias;
 mod chooser;
-mod course;
 mod error;
 mod explored;
 mod exploring;
 mod generator;
-mod laws;
 mod leaving;
 mod number_set;
 mod replaying;
 mod schedule;
 mod shrinking;
-mod step;
-mod trying;
 
 pub use bias::Bias;
+pub use courses::{Step, course_laws};
 pub use error::ReplayError;
 pub use explored::Explored;
 pub use exploring::explore;
 pub use generator::SplitMix64;
-pub use laws::course_laws;
 pub use replaying::{replay, replay_enabled};
 pub use schedule::Schedule;
 pub use shrinking::{Cast, Suspect, shrink};
-pub use step::Step;

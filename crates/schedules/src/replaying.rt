@@ -1,17 +1,20 @@
 //! Runs by a list of events.
 
-ghost use Rattle.std.specs.Prelude.{◌≡◌, ◌≤◌, [], IfErr, IfOk, MatchResult, length};
-ghost use Rattle.schedules.specs.Courses.{IsExplored, events_of};
-ghost use Rattle.schedules.specs.Replays.{Follows, FollowsTo, RefusesReplay, StopsAt};
+ghost use Rattle.std.specs.Prelude.{◌≡◌, ◌≤◌, [], IfErr, IfNone, IfOk, IfSome, MatchResult, None, length};
+ghost use Rattle.courses.specs.Courses.{events_of};
+ghost use Rattle.courses.specs.Picks.{PicksUpTo};
+ghost use Rattle.schedules.specs.Courses.{IsExplored};
+ghost use Rattle.schedules.specs.Endings.{EndsCourse, EndsList, refused_in};
+ghost use Rattle.schedules.specs.Replays.{Follows, FollowsTo, PicksFrom, RefusesReplay, StopsAt};
 ghost use Rattle.schedules.specs.Schedules.{MayExplore, RefusesSchedule};
 
-use crate::course::Course;
 use crate::error::ReplayError;
 use crate::explored::Explored;
-use crate::leaving::{Ending, leave};
+use crate::leaving::{Ending, is_done, leave};
 use crate::schedule::Schedule;
 use chares::{Chare, Openings};
-use rts_core::Event;
+use courses::Course;
+use rts_core::{Event, World};
 use rts_run::RunError;
 use std::alloc::{AllocError, Allocator};
 use std::marker::Brand;
@@ -20,7 +23,8 @@ use std::marker::Brand;
 /// same world again. Of the schedule only the number of PEs and the strategy matter.
 ///
 /// Where a handler refuses an event the run ends with that fault, and the rest of the list is not run. Without such a fault all
-/// events have happened, and the run is [`Stopped`](pe_worker::Fault::Stopped) where it is not done.
+/// events have happened, and the run is [`Stopped`](pe_worker::Fault::Stopped) where it is not done. The clause `ends` says so, and
+/// that each other fault has its cause in the event that was refused.
 ///
 /// # Errors
 ///
@@ -37,6 +41,7 @@ pub fn replay<C: Chare<A>, A: Allocator + Copy>(
         (RefusesReplay A C.step C.pack C.unpack chares.items schedule.now events.now) }
     ensures explored { IfOk result (IsExplored C.step C.fits C.pack C.unpack chares.items schedule.now.pes schedule.now.strategy) }
     ensures follows { IfOk result (Follows events.now) }
+    ensures ends { IfOk result (EndsList C.step C.pack C.refuses C.unpack) }
 {
     if let Some(setting) = schedule.first_outside(chares.len()) {
         return Err(ReplayError::Config(setting));
@@ -44,7 +49,8 @@ pub fn replay<C: Chare<A>, A: Allocator + Copy>(
     replay_as::<C, Brand, A>(alloc, schedule, chares, events)
 }
 
-/// Runs chares by those events of a list that are enabled, each after those before it, and leaves out the others.
+/// Runs chares by those events of a list that are enabled, each after those before it, and leaves out the others: the clause
+/// `picks`. It ends as [`replay`] does.
 ///
 /// # Errors
 ///
@@ -57,6 +63,8 @@ pub fn replay_enabled<C: Chare<A>, A: Allocator + Copy>(
 ) -> Result<Explored<C, A>, RunError>
     ensures answer { MatchResult result (λ _. MayExplore schedule.now (length chares.items)) (RefusesSchedule schedule.now (length chares.items)) }
     ensures explored { IfOk result (IsExplored C.step C.fits C.pack C.unpack chares.items schedule.now.pes schedule.now.strategy) }
+    ensures picks { IfOk result (PicksFrom C.step C.pack C.unpack chares.items schedule.now.pes schedule.now.strategy events.now) }
+    ensures ends { IfOk result (EndsList C.step C.pack C.refuses C.unpack) }
     ensures few { IfOk result (λ x. length x.steps ≤ length events.now) }
 {
     if let Some(setting) = schedule.first_outside(chares.len()) {
@@ -81,32 +89,45 @@ fn replay_as<C: Chare<A>, H: Openings<C>, A: Allocator + Copy>(
     ensures refused { IfErr result (RefusesReplay A C.step C.pack C.unpack H.opened schedule.now events.now) }
     ensures explored { IfOk result (IsExplored C.step C.fits C.pack C.unpack H.opened H.pes schedule.now.strategy) }
     ensures follows { IfOk result (Follows events.now) }
+    ensures ends { IfOk result (EndsList C.step C.pack C.refuses C.unpack) }
 {
     let mut course = Course::<C, H, A>::new(alloc, schedule.pes, chares, schedule.strategy)?;
     match follow(&mut course, events) {
-        Ok(ending) => Ok(leave(alloc, course, ending)?),
-        Err(at) => Err(ReplayError::NotEnabled(at)),
+        Some(ending) => Ok(leave(alloc, course, ending)?),
+        None => Err(ReplayError::NotEnabled(course.steps().len())),
     }
 }
 
-// Takes these events one after another, or returns the index of the first that is not enabled.
+// Takes these events one after another, or returns `None` at the first that is not enabled.
 fn follow<C: Chare<A>, H: Openings<C>, A: Allocator + Copy>(
     course: &mut Course<C, H, A>,
     events: &[Event],
-) -> Result<Ending, usize>
+) -> Option<Ending>
     requires fresh { course.old.steps ≡ [] }
     ensures strategy { course.new.strategy ≡ course.old.strategy }
-    ensures follows { IfOk result (λ ending. FollowsTo events.now (events_of course.new.steps) ending.refused) }
-    ensures stops { IfErr result (StopsAt C.step C.pack C.unpack events.now course.new) }
+    ensures follows { IfSome result (λ ending. FollowsTo events.now (events_of course.new.steps) (refused_in ending)) }
+    ensures ends { IfSome result (EndsCourse C.step C.pack C.refuses C.unpack course.new.world ⊥ (Unit {0})) }
+    ensures stops { IfNone result (StopsAt C.step C.pack C.unpack events.now course.new (length course.new.steps)) }
 {
-    for (at, event) in events.iter().enumerate() {
+    for event in events {
         match course.take(event) {
             Ok(true) => {}
-            Ok(false) => return Err(at),
-            Err(error) => return Ok(Ending::refused(error, *event)),
+            Ok(false) => return None,
+            Err(refusal) => return Some(Ending::Refused(refusal)),
         }
     }
-    Ok(Ending::at_last())
+    Some(at_last(course.world()))
+}
+
+// How a course ends whose events are used up.
+fn at_last<C: Chare<A>, H: Openings<C>, A: Allocator>(world: &World<C, H, A>) -> Ending
+    ensures ends { EndsCourse C.step C.pack C.refuses C.unpack world.now ⊥ (Unit {0}) result }
+    ensures refused { refused_in result ≡ None }
+{
+    if is_done(world) {
+        return Ending::Done;
+    }
+    Ending::Stopped
 }
 
 // The run of the chares that `H` names by those of these events that are enabled.
@@ -120,6 +141,8 @@ fn replay_enabled_as<C: Chare<A>, H: Openings<C>, A: Allocator + Copy>(
     requires run { schedule.now.pes ≡ H.pes }
     requires opened { chares.items ≡ H.opened }
     ensures explored { IfOk result (IsExplored C.step C.fits C.pack C.unpack H.opened H.pes schedule.now.strategy) }
+    ensures picks { IfOk result (PicksFrom C.step C.pack C.unpack H.opened H.pes schedule.now.strategy events.now) }
+    ensures ends { IfOk result (EndsList C.step C.pack C.refuses C.unpack) }
     ensures few { IfOk result (λ x. length x.steps ≤ length events.now) }
 {
     let mut course = Course::<C, H, A>::new(alloc, schedule.pes, chares, schedule.strategy)?;
@@ -134,12 +157,15 @@ fn follow_enabled<C: Chare<A>, H: Openings<C>, A: Allocator + Copy>(
 ) -> Ending
     requires fresh { course.old.steps ≡ [] }
     ensures strategy { course.new.strategy ≡ course.old.strategy }
+    ensures picks { PicksUpTo C.step C.pack C.unpack course.old.world events.now (refused_in result) course.new.steps course.new.world }
+    ensures ends { EndsCourse C.step C.pack C.refuses C.unpack course.new.world ⊥ (Unit {0}) result }
     ensures few { length course.new.steps ≤ length events.now }
 {
     for event in events {
-        if let Err(error) = course.take(event) {
-            return Ending::refused(error, *event);
+        match course.take(event) {
+            Ok(_) => {}
+            Err(refusal) => return Ending::Refused(refusal),
         }
     }
-    Ending::at_last()
+    at_last(course.world())
 }

@@ -2,8 +2,9 @@
 //! input", IEEE Transactions on Software Engineering 28(2), 2002: chunks are left out, at first of half the list, and in the end
 //! single events.
 
-ghost use Rattle.std.specs.Prelude.{◌≡◌, ◌≤◌, ◌<◌, IfOk, IfSome, length, true};
+ghost use Rattle.std.specs.Prelude.{◌≡◌, ◌≤◌, ◌<◌, IfOk, IfSome, MatchOption, length, true};
 ghost use Rattle.schedules.specs.Courses.{IsExplored};
+ghost use Rattle.schedules.specs.Shrinking.{IsWell};
 
 use crate::explored::Explored;
 use crate::replaying::replay_enabled;
@@ -38,10 +39,12 @@ pub trait Suspect<C: Chare<A>, A: Allocator> {
         ensures value { result ≡ Self.is_bad self.now explored.now };
 }
 
-/// Finds a shorter list of events whose run is still bad, and returns that run; or `None` where the run by those of these events
-/// that are enabled is not bad. Chunks of the list are left out. Each candidate is run anew, which also leaves out events that
-/// are no longer enabled, and is kept where it is shorter and still bad. In the end no single step can be left out. The event
-/// that was refused, where there is one, stays the last of each candidate, also where the run without it would be bad.
+/// Finds a shorter list of events whose run is still bad, and returns that run; or `None`, and only where the run by those of these
+/// events that are enabled is not bad: the clause `answer`. Chunks of the list are left out. Each candidate is run anew, which also
+/// leaves out events that are no longer enabled, and is kept where it is shorter and still bad. In the end each single step was left
+/// out, and the run without it was not bad, or no shorter, since an event that was refused happened in it. So the answer need not
+/// lose its badness by leaving out a step, and a list that is still shorter may lack two steps or more. The event that was refused,
+/// where there is one, stays the last of each candidate, also where the run without it would be bad.
 ///
 /// # Errors
 ///
@@ -53,7 +56,9 @@ pub fn shrink<C: Chare<A>, K: Cast<C, A>, S: Suspect<C, A>, A: Allocator + Copy>
     events: &[Event],
     suspect: &S,
 ) -> Result<Option<Explored<C, A>>, RunError>
-    ensures bad { IfOk result (λ found. IfSome found (λ x. S.is_bad suspect.now x ≡ true)) }
+    ensures answer { IfOk result (λ found. MatchOption found
+        (IsWell C.step C.fits C.pack C.unpack (K.chares cast.now) schedule.now.pes schedule.now.strategy (S.is_bad suspect.now) events.now)
+        (λ x. S.is_bad suspect.now x ≡ true)) }
     ensures explored { IfOk result (λ found. IfSome found
         (IsExplored C.step C.fits C.pack C.unpack (K.chares cast.now) schedule.now.pes schedule.now.strategy)) }
     ensures few { IfOk result (λ found. IfSome found (λ x. length x.steps ≤ length events.now)) }
@@ -85,7 +90,9 @@ fn bad_run<C: Chare<A>, K: Cast<C, A>, S: Suspect<C, A>, A: Allocator + Copy>(
     events: &[Event],
     suspect: &S,
 ) -> Result<Option<Explored<C, A>>, RunError>
-    ensures bad { IfOk result (λ found. IfSome found (λ x. S.is_bad suspect.now x ≡ true)) }
+    ensures answer { IfOk result (λ found. MatchOption found
+        (IsWell C.step C.fits C.pack C.unpack (K.chares cast.now) schedule.now.pes schedule.now.strategy (S.is_bad suspect.now) events.now)
+        (λ x. S.is_bad suspect.now x ≡ true)) }
     ensures explored { IfOk result (λ found. IfSome found
         (IsExplored C.step C.fits C.pack C.unpack (K.chares cast.now) schedule.now.pes schedule.now.strategy)) }
     ensures few { IfOk result (λ found. IfSome found (λ x. length x.steps ≤ length events.now)) }

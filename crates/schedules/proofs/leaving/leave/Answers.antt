@@ -1,12 +1,13 @@
-use Rattle.std.proofs.Common.{◌≡◌, ◌∙◌, List, Option, IfSome, sym, ap, subst}
+use Rattle.std.proofs.Common.{◌≡◌, ◌∙◌, List, sym, ap, subst}
 use Rattle.at_sync.specs.Boards.{BoardState}
+use Rattle.courses.specs.Courses.{Leads, Made, events_of, trace_of}
+use Rattle.courses.proofs.Courses.{reaches}
 use Rattle.lb_database.specs.Measuring.{elements}
-use Rattle.pe_worker.specs.declared.fault.Fault.{Fault}
 use Rattle.rts_core.specs.Histories.{AreHistories}
 use Rattle.rts_core.specs.Worlds.{WorldView, opening_world}
 use Rattle.rts_core.proofs.RunAccount.{accounted}
-use Rattle.schedules.specs.Courses.{ExploredView, IsDone, Leads, Made, events_of, left_by, trace_of}
-use Rattle.schedules.proofs.Courses.{reaches}
+use Rattle.schedules.specs.Courses.{ExploredView, IsDone, left_by}
+use Rattle.schedules.proofs.Endings.{only_done}
 use Rattle.schedules.proofs.LeftWorlds.{left_is}
 use Rattle.schedules.proofs.leaving.leave.Goals as goal
 
@@ -34,14 +35,27 @@ returns-clause-explored g c =
       histories = subst (λ (v : world). AreHistories g.C.Chare.step g.C.Pup.fits g.C.Pup.pack g.H.Openings.opened v) (sym is) c.into_parts-pes.ensures.histories;
       elements = ap (λ (b : BoardState g.row.A.Denot). elements b.database) board ∙ c.into_parts-pes.ensures.world.board_counted;
       on_pes = ap (λ (b : BoardState g.row.A.Denot). b.pes) board ∙ c.into_parts-pes.ensures.world.board_pes;
-      done = λ none. subst (λ (v : world). IsDone v) (sym is)
-          (c.fault_at_end-fault.ensures.done (sym (ap (λ (v : view). v.outcome.fault) c.new.ensures.made ∙ c.new-outcome.ensures.fault) ∙ none));
+      done = λ none.
+          let fault = ap (λ (v : view). v.outcome.fault) c.new.ensures.made ∙ (c.new-outcome.ensures.fault ∙ c.fault-fault.ensures.value) in
+          subst (λ (v : world). IsDone v) (sym same) (c.requires.done (only_done c.args.ending (sym fault ∙ none)));
     }
+
+pub returns-clause-world : goal.returns-clause-world
+returns-clause-world g c =
+    let x = c.new.result in
+    let view = ExploredView g.row.C.Denot g.row.A.Denot in
+    let pes = ap (λ (v : view). v.outcome.ends) c.new.ensures.made ∙ (c.new-outcome.ensures.ends ∙ (c.in_ok-ends.ensures.value ∙ c.into_parts-pes.ensures.pes)) in
+    let queues = ap (λ (v : view). v.outcome.left) c.new.ensures.made ∙ (c.new-outcome.ensures.left ∙ (c.in_ok-left.ensures.value ∙ c.into_parts-pes.ensures.queues)) in
+    let words = ap (λ (v : view). v.words) c.new.ensures.made ∙ c.into_parts-pes.ensures.words in
+    let board = ap (λ (v : view). v.outcome.board) c.new.ensures.made ∙ (c.new-outcome.ensures.board ∙ c.into_parts-pes.ensures.board) in
+    left_is x c.into_parts-world.result.0 pes queues words board ∙ c.into_parts-world.ensures.world
 
 pub returns-clause-steps : goal.returns-clause-steps
 returns-clause-steps g c = ap (λ (v : ExploredView g.row.C.Denot g.row.A.Denot). v.steps) c.new.ensures.made ∙ c.into_parts-world.ensures.steps
 
+pub returns-clause-refused : goal.returns-clause-refused
+returns-clause-refused g c = ap (λ (v : ExploredView g.row.C.Denot g.row.A.Denot). v.refused) c.new.ensures.made ∙ c.refused-refused.ensures.value
+
 pub returns-clause-fault : goal.returns-clause-fault
 returns-clause-fault g c =
-    let same = ap (λ (v : ExploredView g.row.C.Denot g.row.A.Denot). v.outcome.fault) c.new.ensures.made ∙ c.new-outcome.ensures.fault in
-    subst (λ (o : Option Fault). IfSome o (λ fault. fault ≡ c.args.ending.fault)) (sym same) c.fault_at_end-fault.ensures.value
+    ap (λ (v : ExploredView g.row.C.Denot g.row.A.Denot). v.outcome.fault) c.new.ensures.made ∙ (c.new-outcome.ensures.fault ∙ c.fault-fault.ensures.value)

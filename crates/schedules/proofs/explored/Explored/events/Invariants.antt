@@ -1,5 +1,5 @@
 use Rattle.std.proofs.Common.{◌≡◌, take}
-use Rattle.schedules.specs.Courses.{events_of}
+use Rattle.courses.specs.Courses.{events_of}
 use Rattle.schedules.proofs.explored.Explored.events.Given as goal
 
 abbrev pub invariant-loop-step : goal.invariant-loop-step

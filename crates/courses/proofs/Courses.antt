@@ -8,7 +8,7 @@ use Rattle.rts_core.specs.declared.event.Event.{Event}
 use Rattle.rts_core.specs.Events.{Happens}
 use Rattle.rts_core.specs.Runs.{Reaches}
 use Rattle.rts_core.specs.Worlds.{WorldView}
-use Rattle.schedules.specs.Courses.{IsEnabled, Leads, Made, events_of, trace_of}
+use Rattle.courses.specs.Courses.{IsEnabled, Leads, Made, events_of, trace_of}
 
 module _ {C A : Type 0} (step : Step C) (pack : C → List ℕ) (unpack : List ℕ → Result (C × ℕ) PupError) where
   -- one more step

@@ -3,7 +3,7 @@
 ghost use Rattle.std.specs.Prelude.{List};
 ghost use Rattle.rts_core.specs.Runs.{Reaches};
 ghost use Rattle.rts_core.specs.Worlds.{WorldView};
-ghost use Rattle.schedules.specs.Courses.{Leads, Made, events_of, trace_of};
+ghost use Rattle.courses.specs.Courses.{Leads, Made, events_of, trace_of};
 
 use chares::Chare;
 use std::alloc::Allocator;

@@ -1,8 +1,9 @@
 //! An event that happens where it is enabled.
 
-ghost use Rattle.std.specs.Prelude.{◌≡◌, IfOk, IsSome, OnErr, MatchBool, MatchOption, true};
+ghost use Rattle.std.specs.Prelude.{◌≡◌, IfErr, IfOk, IsSome, OnErr, MatchBool, MatchOption, true};
 ghost use Rattle.rts_core.specs.Events.{Happens, board_after};
-ghost use Rattle.schedules.specs.Courses.{IsEnabled, is_silent};
+ghost use Rattle.rts_core.specs.Refusals.{RefusesEvent};
+ghost use Rattle.courses.specs.Courses.{IsEnabled, is_silent};
 
 use at_sync::Board;
 use chare_index::Pe;
@@ -23,6 +24,7 @@ pub(crate) fn try_step<C: Chare<A>, H: Openings<C>, A: Allocator + Copy>(
 ) -> Result<Option<Reports<A>>, StepError>
     ensures tried { IfOk result (λ tried. MatchOption tried (¬ (IsEnabled C.step C.pack C.unpack world.old event.now) × (world.new ≡ world.old))
         (λ reports. IsEnabled C.step C.pack C.unpack world.old event.now × Happens C.step C.pack C.unpack world.old event.now (world.new, reports))) }
+    ensures refused { IfErr result (RefusesEvent C.step C.pack C.refuses C.unpack world.old event.now) }
     ensures err { OnErr result (world.new ≡ world.old) }
 {
     if is_silent(event) {
@@ -53,6 +55,7 @@ fn try_silent<C: Chare<A>, H: Openings<C>, A: Allocator + Copy>(
     requires silent { is_silent event.now ≡ true }
     ensures tried { IfOk result (λ tried. MatchOption tried (¬ (IsEnabled C.step C.pack C.unpack world.old event.now) × (world.new ≡ world.old))
         (λ reports. IsEnabled C.step C.pack C.unpack world.old event.now × Happens C.step C.pack C.unpack world.old event.now (world.new, reports))) }
+    ensures refused { IfErr result (RefusesEvent C.step C.pack C.refuses C.unpack world.old event.now) }
     ensures err { OnErr result (world.new ≡ world.old) }
 {
     if !may_happen(world, event) {

@@ -13,7 +13,7 @@ pub struct Step<A: Allocator = Global> {
 }
 
 impl<A: Allocator> Model for Step<A> {
-    ghost use Rattle.schedules.specs.Courses.{Made};
+    ghost use Rattle.courses.specs.Courses.{Made};
 
     ghost Value = { Made };
 

@@ -9,8 +9,8 @@ use Rattle.pup_pack.specs.declared.error.PupError.{PupError}
 use Rattle.rts_core.specs.declared.event.Event.{Event}
 use Rattle.rts_core.specs.Events.{After, Happens, MayDecide, enabled, or_nothing, pe_of}
 use Rattle.rts_core.specs.Worlds.{WorldView}
-use Rattle.schedules.proofs.Shown.{Shows, enabled_shows, not_empty}
-use Rattle.schedules.specs.Courses.{IsEnabled, is_silent}
+use Rattle.courses.proofs.Shown.{Shows, enabled_shows, not_empty}
+use Rattle.courses.specs.Courses.{IsEnabled, is_silent}
 
 module _ {C A : Type 0} (step : Step C) (pack : C → List ℕ) (unpack : List ℕ → Result (C × ℕ) PupError) (w w' : WorldView C A) (event : Event) (reports : List TraceEntry) where
   abbrev Was : Option ℕ → Type 0

@@ -14,7 +14,7 @@ use Rattle.rts_core.specs.declared.event.Event.{Event}
 use Rattle.rts_core.specs.declared.event.Event.TheVariants as Happening
 use Rattle.rts_core.specs.Events.{LocalView, enabled, local_step, local_view, start_event, act_event, depart_event, resume_event, due, where_true, with_local}
 use Rattle.rts_core.specs.Worlds.{WorldView}
-use Rattle.schedules.specs.Courses.{is_silent}
+use Rattle.courses.specs.Courses.{is_silent}
 
 pub not_empty : {X : Type 0} (x : X) (xs : List X) → x ∷ xs ≢ []
 not_empty x xs e = cc

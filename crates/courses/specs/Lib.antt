@@ -1,0 +1,3 @@
+pub mod Courses
+pub mod Searches
+pub mod Picks
