@@ -1,5 +1,5 @@
 -- What a run of the tallies of a workload on one thread left.
-use Rattle.std.proofs.Common.{◌≡◌, ℕ, ◌+◌, List, ◌∷◌, length, length-append, Result, Ok, Err, arith, ap, subst, sym, ◌∙◌}
+use Rattle.std.proofs.Common.{◌≡◌, ℕ, ◌+◌, List, ◌∷◌, length, length-append, Option, Result, Ok, Err, arith, ap, subst, sym, ◌∙◌}
 use Rattle.std.specs.Prelude.{◌<◌, ◌≤◌, ◌^◌, IfErr, MatchResult}
 use Rattle.std.proofs.lemmas.List.{length-map}
 use Rattle.std.proofs.lemmas.List.FromFn.{length-map-range_with_len}
@@ -21,9 +21,8 @@ use Rattle.schedules.specs.declared.schedule.Schedule.{Schedule}
 use Rattle.tally.specs.Tallies.{TallyView, tally_pack, tally_step}
 use Rattle.workload.specs.Text.{IsWithin, WorkloadView}
 use Rattle.workload_run.specs.Tallies.{tallies_of, tally_of}
-use Rattle.std.specs.List.{All}
-use Rattle.schedule_run.specs.Seeds.{IsVerdict}
-use Rattle.schedule_run.specs.declared.verdict.Verdict.{Verdict}
+use Rattle.schedule_run.specs.Seeds.{TellsSeeds}
+use Rattle.workload_run.specs.declared.ended.Ended.{Ended}
 use Rattle.schedule_run.specs.OneThread.{IsRunOnOne, RefusesRun, StopsRun, Unpack}
 
 -- what a run of these chares on this number of PEs left
@@ -36,15 +35,15 @@ on_one fits unpack chares chares' pes pes' strategy strategy' x same_chares same
     (subst (λ (p : ℕ). IsExplored tally_step fits tally_pack unpack chares p strategy' x) same_pes
     (subst (λ (s : Strategy). IsExplored tally_step fits tally_pack unpack chares pes s x) same_strategy left))
 
--- how the runs of these chares on this number of PEs ended
-pub verdicts_on_one : (A : Type 0) (fits : TallyView → Type 0) (unpack : Unpack) (chares chares' : List TallyView) (pes pes' : ℕ) (strategy strategy' : Strategy) (vs : List Verdict)
+-- what was told of the runs of these chares on this number of PEs
+pub seeds_on_one : (A : Type 0) (fits : TallyView → Type 0) (unpack : Unpack) (chares chares' : List TallyView) (pes pes' : ℕ) (strategy strategy' : Strategy) (seeds : ℕ) (old new : Option (List ℕ)) (ended : Ended)
     → chares ≡ chares' → pes ≡ pes' → strategy ≡ strategy'
-    → All (IsVerdict A tally_step fits tally_pack unpack chares pes strategy) vs
-    → All (IsVerdict A tally_step fits tally_pack unpack chares' pes' strategy') vs
-verdicts_on_one A fits unpack chares chares' pes pes' strategy strategy' vs same_chares same_pes same_strategy each =
-    subst (λ cs. All (IsVerdict A tally_step fits tally_pack unpack cs pes' strategy') vs) same_chares
-    (subst (λ (p : ℕ). All (IsVerdict A tally_step fits tally_pack unpack chares p strategy') vs) same_pes
-    (subst (λ (s : Strategy). All (IsVerdict A tally_step fits tally_pack unpack chares pes s) vs) same_strategy each))
+    → TellsSeeds A tally_step fits tally_pack unpack chares pes strategy seeds old new ended
+    → TellsSeeds A tally_step fits tally_pack unpack chares' pes' strategy' seeds old new ended
+seeds_on_one A fits unpack chares chares' pes pes' strategy strategy' seeds old new ended same_chares same_pes same_strategy told =
+    subst (λ cs. TellsSeeds A tally_step fits tally_pack unpack cs pes' strategy' seeds old new ended) same_chares
+    (subst (λ (p : ℕ). TellsSeeds A tally_step fits tally_pack unpack chares p strategy' seeds old new ended) same_pes
+    (subst (λ (s : Strategy). TellsSeeds A tally_step fits tally_pack unpack chares pes s seeds old new ended) same_strategy told))
 
 -- what is reported are tallies, as many as the workload has chares
 pub are_tallies : {A : Type 0} (fits : TallyView → Type 0) (unpack : Unpack) → ((t : TallyView) → fits t → t.sum < 2 ^ 64)

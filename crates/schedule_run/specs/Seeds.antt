@@ -57,10 +57,15 @@ seeds_text verdicts = fault_lines 1 verdicts ++ count_line (length verdicts) (fa
 abbrev pub fault_of_first : List Verdict → Option Fault
 fault_of_first verdicts = first_fault (map (λ v. v.fault) verdicts)
 
--- The workload was run by each of the seeds from 1 to this number, and the text of that was written, or a prefix of it; or memory
+-- These chares were run by each of the seeds from 1 to this number, and the text of that was written, or a prefix of it; or memory
 -- was refused, and the line for that was written, or a prefix of it.
-abbrev pub TriesSeeds : (A : Type 0) → (TallyView → Type 0) → Unpack → WorkloadView → Strategy → ℕ → Option (List ℕ) → Option (List ℕ) → Ended → Type 0
-TriesSeeds A fits unpack w strategy seeds old new ended =
-    ((verdicts : List Verdict) × All (IsVerdict A tally_step fits tally_pack unpack (tallies_of w) w.pes strategy) verdicts × (length verdicts ≡ seeds)
+abbrev pub TellsSeeds : {C : Type 0} (A : Type 0) → Step C → (C → Type 0) → (C → List ℕ) → (List ℕ → Result (C × ℕ) PupError) → List C → ℕ → Strategy → ℕ → Option (List ℕ) → Option (List ℕ) → Ended → Type 0
+TellsSeeds A step fits pack unpack chares pes strategy seeds old new ended =
+    ((verdicts : List Verdict) × All (IsVerdict A step fits pack unpack chares pes strategy) verdicts × (length verdicts ≡ seeds)
     × TellsOutcome (seeds_text verdicts) old new (fault_of_first verdicts) ended)
     ⊎ WritesText memory_line OutOfMemory old new ended
+
+-- so for the tallies of a workload
+abbrev pub TriesSeeds : (A : Type 0) → (TallyView → Type 0) → Unpack → WorkloadView → Strategy → ℕ → Option (List ℕ) → Option (List ℕ) → Ended → Type 0
+TriesSeeds A fits unpack w strategy seeds old new ended =
+    TellsSeeds A tally_step fits tally_pack unpack (tallies_of w) w.pes strategy seeds old new ended

@@ -3,7 +3,8 @@
 //! - [`read_workload`]: the workload in a file.
 //! - [`drive_seed`], [`drive_events`]: its run by a seed, or by a list of events, and the text of what that left, as for a run
 //!   over threads. [`DrivenOnOne`]: the result.
-//! - [`drive_seeds`]: its runs by the seeds from 1 on, and the text that says which of them a fault ended.
+//! - [`drive_seeds`]: its runs by the seeds from 1 on, and the text that says which of them a fault ended; [`tell_seeds`]: the same
+//!   of any chares.
 //! - [`search`], [`follow`]: the same runs, without a text.
 //! - [`read_list`], [`write_list`]: reads a list of events from a file, and writes one; [`report_list`]: writes the line of a
 //!   [`ListFault`].
@@ -39,5 +40,5 @@ pub use list_fault::{ListFault, report_list};
 pub use lists::{read_list, write_list};
 pub use on_one::DrivenOnOne;
 pub use running::{follow, search};
-pub use seeds::drive_seeds;
+pub use seeds::{drive_seeds, tell_seeds};
 pub use workload_file::read_workload;

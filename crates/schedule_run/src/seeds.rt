@@ -2,7 +2,7 @@
 
 ghost use Rattle.std.specs.Prelude.{◌≡◌, ◌++◌, All, IfOk, OnOk, length};
 ghost use Rattle.std.specs.String.{string_bytes};
-ghost use Rattle.schedule_run.specs.Seeds.{IsVerdict, TriesSeeds, count_line, fault_count, fault_line, fault_lines, fault_of_first, faults_among, seeds_text};
+ghost use Rattle.schedule_run.specs.Seeds.{IsVerdict, TellsSeeds, TriesSeeds, count_line, fault_count, fault_line, fault_lines, fault_of_first, faults_among, seeds_text};
 ghost use Rattle.workload.specs.Text.{IsWithin};
 
 use crate::cast::TallyCast;
@@ -20,10 +20,7 @@ use tally::Tally;
 use workload::Workload;
 use workload_run::{Ended, report_memory, report_text};
 
-/// Runs a workload by each of the seeds 1 to `seeds`, as [`search`](crate::search) does, and writes a line for each run that a
-/// fault ended, with the number of letters that it left, and the number of such runs. A run without a fault leaves no letters.
-///
-/// The fault that is returned is that of the first run that ended with one.
+/// Runs a workload by each of the seeds 1 to `seeds`, as [`search`](crate::search) does, and writes what [`tell_seeds`] does.
 pub fn drive_seeds<W: Write, A: Allocator + Copy>(
     alloc: A,
     workload: &Workload<A>,
@@ -37,7 +34,25 @@ pub fn drive_seeds<W: Write, A: Allocator + Copy>(
 {
     let schedule = schedule_of(workload.pes, strategy);
     let cast = TallyCast::new(workload);
-    let Ok(verdicts) = try_seeds(alloc, &schedule, &cast, seeds) else {
+    tell_seeds(alloc, &schedule, &cast, seeds, writer)
+}
+
+/// Runs chares by each of the seeds 1 to `seeds`, as [`explore`](schedules::explore) does under this schedule, and writes a line for
+/// each run that a fault ended, with the number of letters that it left, and the number of such runs. A run without a fault leaves
+/// no letters.
+///
+/// The fault that is returned is that of the first run that ended with one.
+pub fn tell_seeds<C: Chare<A>, K: Cast<C, A>, W: Write, A: Allocator + Copy>(
+    alloc: A,
+    schedule: &Schedule,
+    cast: &K,
+    seeds: u32,
+    writer: &mut W,
+) -> Ended
+    ensures tried { TellsSeeds A C.step C.fits C.pack C.unpack (K.chares cast.now) schedule.now.pes schedule.now.strategy seeds
+        (W.contents writer.old) (W.contents writer.new) result }
+{
+    let Ok(verdicts) = try_seeds(alloc, schedule, cast, seeds) else {
         return report_memory(writer);
     };
     let Ok(text) = seeds_text(alloc, &verdicts) else {

@@ -2,8 +2,11 @@
 
 use super::fixtures::{listed, worked};
 use crate::fixtures::assert_for;
+use crate::planted::Desks;
 use at_sync::Strategy;
-use schedule_run::drive_seeds;
+use pe_worker::Fault;
+use schedule_run::{drive_seeds, tell_seeds};
+use schedules::Schedule;
 use tests_fixtures::Sink;
 use workload_run::Ended;
 
@@ -44,4 +47,20 @@ fn a_writer_that_fails(rt: HostRuntime) {
     let ended = drive_seeds(rt.alloc(), &workload, Strategy::Least, 2, &mut writer);
     assert_for(&rt, ended == Ended::WriteFailed, 2);
     assert_for(&rt, writer.taken.as_slice() == b"seeds 2".as_slice(), 7);
+}
+
+// Runs of three desks on two PEs by the seeds 1 to 20: by thirteen of them element 1 hands something in before element 0 has opened
+// the desk. A separate program drew them, benches/schedules/desks.py.
+const DESKS: &str = "seed 1 fault stranger held 2\nseed 2 fault stranger held 2\n\
+    seed 4 fault stranger held 2\nseed 5 fault stranger held 2\nseed 7 fault stranger held 1\n\
+    seed 8 fault stranger held 2\nseed 9 fault stranger held 2\nseed 12 fault stranger held 2\n\
+    seed 13 fault stranger held 2\nseed 14 fault stranger held 2\nseed 15 fault stranger held 2\n\
+    seed 16 fault stranger held 1\nseed 17 fault stranger held 2\nseeds 20 faults 13\n";
+
+#[test]
+fn some_seeds_end_in_a_fault_and_others_do_not(rt: HostRuntime) {
+    let mut text = Vec::new(rt.alloc());
+    let ended = tell_seeds(rt.alloc(), &Schedule::usual(2), &Desks, 20, &mut text);
+    assert_for(&rt, ended == Ended::Ran(Some(Fault::Stranger)), 0);
+    assert_for(&rt, text.as_slice() == DESKS.as_bytes(), 20);
 }
