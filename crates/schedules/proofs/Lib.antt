@@ -1,4 +1,3 @@
 pub mod Endings
 pub mod LeftWorlds
 pub mod Lists
-pub mod Shrinking

@@ -2,17 +2,14 @@
 //! input", IEEE Transactions on Software Engineering 28(2), 2002: chunks are left out, at first of half the list, and in the end
 //! single events.
 
-ghost use Rattle.std.specs.Prelude.{◌≡◌, ◌≤◌, ◌<◌, ◌++◌, IfOk, IfSome, MatchOption, OnOk, length, true};
-ghost use Rattle.courses.specs.Courses.{events_of};
+ghost use Rattle.std.specs.Prelude.{◌≡◌, ◌≤◌, ◌<◌, IfOk, IfSome, MatchOption, length, true};
 ghost use Rattle.schedules.specs.Courses.{IsExplored};
-ghost use Rattle.schedules.specs.Replays.{PicksFrom};
-ghost use Rattle.schedules.specs.Shrinking.{IsLeast, IsNeeded, IsWell, events_without};
+ghost use Rattle.schedules.specs.Shrinking.{IsWell};
 
 use crate::explored::Explored;
 use crate::replaying::replay_enabled;
 use crate::schedule::Schedule;
 use chares::Chare;
-use courses::Step;
 use rts_core::Event;
 use rts_run::RunError;
 use std::alloc::{AllocError, Allocator};
@@ -44,9 +41,10 @@ pub trait Suspect<C: Chare<A>, A: Allocator> {
 
 /// Finds a shorter list of events whose run is still bad, and returns that run; or `None`, and only where the run by those of these
 /// events that are enabled is not bad: the clause `answer`. Chunks of the list are left out. Each candidate is run anew, which also
-/// leaves out events that are no longer enabled, and is kept where it is shorter and still bad. In the end no single step can be left
-/// out: the clause `least` says that a run without it is not bad, or no shorter, as where the event that was refused happens in it.
-/// That event, where there is one, stays the last of each candidate, also where the run without it would be bad.
+/// leaves out events that are no longer enabled, and is kept where it is shorter and still bad. In the end each single step was left
+/// out, and the run without it was not bad, or no shorter, since an event that was refused happened in it. So the answer need not
+/// lose its badness by leaving out a step, and a list that is still shorter may lack two steps or more. The event that was refused,
+/// where there is one, stays the last of each candidate, also where the run without it would be bad.
 ///
 /// # Errors
 ///
@@ -63,8 +61,6 @@ pub fn shrink<C: Chare<A>, K: Cast<C, A>, S: Suspect<C, A>, A: Allocator + Copy>
         (λ x. S.is_bad suspect.now x ≡ true)) }
     ensures explored { IfOk result (λ found. IfSome found
         (IsExplored C.step C.fits C.pack C.unpack (K.chares cast.now) schedule.now.pes schedule.now.strategy)) }
-    ensures least { IfOk result (λ found. IfSome found
-        (IsLeast C.step C.fits C.pack C.unpack (K.chares cast.now) schedule.now.pes schedule.now.strategy (S.is_bad suspect.now))) }
     ensures few { IfOk result (λ found. IfSome found (λ x. length x.steps ≤ length events.now)) }
 {
     let Some(first) = bad_run(alloc, schedule, cast, events, suspect)? else {
@@ -80,7 +76,7 @@ pub fn shrink<C: Chare<A>, K: Cast<C, A>, S: Suspect<C, A>, A: Allocator + Copy>
         let before = best.steps().len();
         best = without_chunks(alloc, schedule, cast, suspect, best, 1)?;
         if best.steps().len() == before {
-            return Ok(Some(best));
+            break;
         }
     }
     Ok(Some(best))
@@ -99,8 +95,6 @@ fn bad_run<C: Chare<A>, K: Cast<C, A>, S: Suspect<C, A>, A: Allocator + Copy>(
         (λ x. S.is_bad suspect.now x ≡ true)) }
     ensures explored { IfOk result (λ found. IfSome found
         (IsExplored C.step C.fits C.pack C.unpack (K.chares cast.now) schedule.now.pes schedule.now.strategy)) }
-    ensures picks { IfOk result (λ found. IfSome found
-        (PicksFrom C.step C.pack C.unpack (K.chares cast.now) schedule.now.pes schedule.now.strategy events.now)) }
     ensures few { IfOk result (λ found. IfSome found (λ x. length x.steps ≤ length events.now)) }
 {
     let chares = cast.chares(alloc)?;
@@ -123,85 +117,66 @@ fn without_chunks<C: Chare<A>, K: Cast<C, A>, S: Suspect<C, A>, A: Allocator + C
 ) -> Result<Explored<C, A>, RunError>
     requires bad { S.is_bad suspect.now bad ≡ true }
     requires explored { IsExplored C.step C.fits C.pack C.unpack (K.chares cast.now) schedule.now.pes schedule.now.strategy bad }
-    requires some { 1 ≤ size }
     ensures bad { IfOk result (λ x. S.is_bad suspect.now x ≡ true) }
     ensures explored { IfOk result (IsExplored C.step C.fits C.pack C.unpack (K.chares cast.now) schedule.now.pes schedule.now.strategy) }
-    ensures least { IfOk result (λ x. size ≡ 1 → length x.steps ≡ length bad.steps → IsLeast C.step C.fits C.pack C.unpack (K.chares cast.now) schedule.now.pes schedule.now.strategy (S.is_bad suspect.now) x) }
     ensures few { IfOk result (λ x. length x.steps ≤ length bad.steps) }
 {
     let mut best = bad;
     let mut at = 0;
     for _turn in 0..best.steps().len() {
-        let len = best.steps().len();
-        if len <= at {
-            return Ok(best);
+        if best.steps().len() <= at {
+            break;
         }
-        let end = if size < len - at { at + size } else { len };
-        match without_chunk(alloc, schedule, cast, suspect, &best, at, end)? {
-            Some(run) => best = run,
-            None => at = end,
-        }
+        let (run, next) = without_chunk(alloc, schedule, cast, suspect, best, at, size)?;
+        best = run;
+        at = next;
     }
     Ok(best)
 }
 
-// A shorter run that is still bad without the steps from `at` up to `end`; or `None` where the run without them is not bad, or no
-// shorter.
+// A run that is still bad without a chunk of this size from step `at` on, and the step at which the next chunk begins; or the
+// given run where it is not bad without the chunk, or no shorter.
 fn without_chunk<C: Chare<A>, K: Cast<C, A>, S: Suspect<C, A>, A: Allocator + Copy>(
     alloc: A,
     schedule: &Schedule,
     cast: &K,
     suspect: &S,
-    bad: &Explored<C, A>,
+    bad: Explored<C, A>,
     at: usize,
-    end: usize,
-) -> Result<Option<Explored<C, A>>, RunError>
-    requires some { at < end }
-    requires within { end ≤ length bad.now.steps }
-    ensures answer { IfOk result (λ found. MatchOption found (IsNeeded C.step C.fits C.pack C.unpack (K.chares cast.now) schedule.now.pes schedule.now.strategy (S.is_bad suspect.now) at end bad.now)
-        (λ x. S.is_bad suspect.now x ≡ true)) }
-    ensures explored { IfOk result (λ found. IfSome found (IsExplored C.step C.fits C.pack C.unpack (K.chares cast.now) schedule.now.pes schedule.now.strategy)) }
-    ensures shorter { IfOk result (λ found. IfSome found (λ x. length x.steps < length bad.now.steps)) }
+    size: usize,
+) -> Result<(Explored<C, A>, usize), RunError>
+    requires bad { S.is_bad suspect.now bad ≡ true }
+    requires explored { IsExplored C.step C.fits C.pack C.unpack (K.chares cast.now) schedule.now.pes schedule.now.strategy bad }
+    ensures bad { IfOk result (λ next. S.is_bad suspect.now next.0 ≡ true) }
+    ensures explored { IfOk result (λ next. IsExplored C.step C.fits C.pack C.unpack (K.chares cast.now) schedule.now.pes schedule.now.strategy next.0) }
+    ensures few { IfOk result (λ next. length next.0.steps ≤ length bad.steps) }
 {
-    let candidate = events_without(alloc, bad, at, end)?;
+    let candidate = events_without(alloc, &bad, at, size)?;
     let Some(run) = bad_run(alloc, schedule, cast, &candidate, suspect)? else {
-        return Ok(None);
+        return Ok((bad, at.saturating_add(size)));
     };
     if bad.steps().len() <= run.steps().len() {
-        return Ok(None);
+        return Ok((bad, at.saturating_add(size)));
     }
-    Ok(Some(run))
+    Ok((run, at))
 }
 
-// The events of a run without the steps from `at` up to `end`, and the event that was refused.
+// The events of a run except a chunk of this size from step `at` on, and the event that was refused.
 fn events_without<C: Chare<A>, A: Allocator + Copy>(
     alloc: A,
     run: &Explored<C, A>,
     at: usize,
-    end: usize,
-) -> Result<Vec<Event, A>, AllocError>
-    requires some { at < end }
-    requires within { end ≤ length run.now.steps }
-    ensures value { IfOk result (λ events. events.items ≡ events_without at end run.now) }
-{
+    size: usize,
+) -> Result<Vec<Event, A>, AllocError> {
+    let end = at.saturating_add(size);
     let mut events = Vec::new(alloc);
-    push_events(&mut events, &run.steps()[..at])?;
-    push_events(&mut events, &run.steps()[end..])?;
+    for (place, step) in run.steps().iter().enumerate() {
+        if place < at || end <= place {
+            events.push(step.event())?;
+        }
+    }
     if let Some(event) = run.refused() {
         events.push(event)?;
     }
     Ok(events)
-}
-
-// Adds the events of these steps.
-fn push_events<A: Allocator>(
-    events: &mut Vec<Event, A>,
-    steps: &[Step<A>],
-) -> Result<(), AllocError>
-    ensures value { OnOk result (events.new.items ≡ events.old.items ++ events_of steps.now) }
-{
-    for step in steps {
-        events.push(step.event())?;
-    }
-    Ok(())
 }

@@ -1,4 +1,4 @@
-use Rattle.std.proofs.Common.{◌≡◌, ◌∙◌, length, suc, drop, refl, ap, sym, subst}
+use Rattle.std.proofs.Common.{◌∙◌, length, suc, drop, refl, ap, sym, subst}
 use Rattle.courses.specs.Courses.{CourseView, events_of}
 use Rattle.schedules.specs.Replays.{StopsAt}
 use Rattle.schedules.proofs.Lists.{happened_before, not_taken, refused_next}

@@ -1,4 +1,4 @@
-use Rattle.std.proofs.Common.{◌≡◌, ◌+◌, ◌≤◌, length, true}
+use Rattle.std.proofs.Common.{◌≡◌, ◌≤◌, length, true}
 use Rattle.schedules.specs.Courses.{IsExplored}
 use Rattle.schedules.proofs.shrinking.shrink.Given as goal
 
@@ -17,5 +17,4 @@ invariant-loop-pass g l = record {
   bad : g.S.Suspect.is_bad l.suspect l.best ≡ true;
   explored : IsExplored g.C.Chare.step g.C.Pup.fits g.C.Pup.pack g.C.Pup.unpack (g.K.Cast.chares l.cast) l.schedule.pes l.schedule.strategy l.best;
   few : length l.best.steps ≤ length l.events;
-  shorter : length l.best.steps + l._pass ≤ length l.initial.best.steps;
 }
