@@ -1,12 +1,13 @@
 -- Events and lines that are added one at a time.
 use Rattle.std.proofs.Common.{◌≡◌, ℕ, ◌+◌, ◌-◌, ◌<◌, ◌≤◌, List, [], ◌∷◌, ◌++◌, length, take, get_or, map, sym, ap, subst, ◌∙◌, append_assoc, append-nil, arith}
-use Rattle.std.proofs.lemmas.List.{take_more}
+use Rattle.std.proofs.lemmas.List.{flat_map_more, take_more}
 use Rattle.std.proofs.lemmas.List.FromFn.{map-range_with_len_more}
-use Rattle.std.specs.List.{range_with_len}
+use Rattle.std.specs.List.{flat_map, range_with_len}
 use Rattle.trace_events.specs.declared.event.TraceEvent.{TraceEvent}
 use Rattle.trace_events.specs.declared.event.TraceEvent.TheVariants.{Row}
 use Rattle.trace_events.specs.Lines.{AddsLine, AddsLines, more}
-use Rattle.trace_events.specs.Shown.{IsBehind, post_event, post_events, rows}
+use Rattle.lb_snapshot.specs.Measured.{Taken}
+use Rattle.trace_events.specs.Shown.{load_event, post_event, post_events, rows}
 
 -- one more row
 pub rows_more : (before : List TraceEvent) (pe : ℕ) → (before ++ rows pe) ++ Row pe ∷ [] ≡ before ++ rows (pe + 1)
@@ -27,14 +28,17 @@ pub lines_more : (events : List TraceEvent) (i : ℕ) (d : TraceEvent) (before o
     → AddsLines before (take i events) old → AddsLine old (get_or events i d) new → AddsLines before (take (i + 1) events) new
 lines_more events i d before old new inside were now = subst (λ es. AddsLines before es new) (sym (take_more events i d inside)) (more were now)
 
--- nothing more
-pub behind_self : (xs : List TraceEvent) → IsBehind xs xs
-behind_self xs = ([], sym (append-nil xs))
+-- the load of one more PE
+pub loads_more : (before : List TraceEvent) (at : ℕ) (snapshot : Taken) (pe : ℕ)
+    → (before ++ map (load_event at snapshot) (range_with_len 0 pe)) ++ load_event at snapshot pe ∷ [] ≡ before ++ map (load_event at snapshot) (range_with_len 0 (pe + 1))
+loads_more before at snapshot pe =
+    append_assoc before (map (load_event at snapshot) (range_with_len 0 pe)) (load_event at snapshot pe ∷ [])
+    ∙ ap (λ xs. before ++ xs) (sym (map-range_with_len_more (load_event at snapshot) 0 pe pe (omega arith)))
 
--- more after more
-pub behind_more : (a b c : List TraceEvent) → IsBehind a b → IsBehind b c → IsBehind a c
-behind_more a b c first second = (first.0 ++ second.0, second.1 ∙ ap (λ xs. xs ++ second.0) first.1 ∙ append_assoc a first.0 second.0)
-
--- one more event
-pub behind_one : (a b c : List TraceEvent) (event : TraceEvent) → IsBehind a b → c ≡ b ++ event ∷ [] → IsBehind a c
-behind_one a b c event first second = behind_more a b c first (event ∷ [], second)
+-- what one more item adds
+pub all_more : {X : Type 0} (f : X → List TraceEvent) (before : List TraceEvent) (xs : List X) (i : ℕ) (item : X) → i < length xs
+    → item ≡ get_or xs i item → (before ++ flat_map f (take i xs)) ++ f item ≡ before ++ flat_map f (take (i + 1) xs)
+all_more f before xs i item inside is =
+    ap (λ it. (before ++ flat_map f (take i xs)) ++ f it) is
+    ∙ flat_map_more f before (take i xs) (get_or xs i item)
+    ∙ ap (λ ys. before ++ flat_map f ys) (sym (take_more xs i item inside))

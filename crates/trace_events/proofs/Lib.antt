@@ -1,3 +1,4 @@
 pub mod Adding
 pub mod Depths
 pub mod Stepping
+pub mod Sums

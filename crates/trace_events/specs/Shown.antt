@@ -1,8 +1,10 @@
 -- The events of a trace that show what happened.
-use Rattle.std.specs.Prelude.{◌≡◌, ℕ, ◌-◌, List, [], ◌∷◌, ◌++◌, map}
-use Rattle.std.specs.List.{range_with_len}
+use Rattle.std.specs.Prelude.{ℕ, ◌-◌, ◌==◌, List, [], ◌∷◌, ◌++◌, map, sum_by, zip, if◌then◌else◌, Option, Some, None}
+use Rattle.std.specs.List.{flat_map, range_with_len}
+use Rattle.at_sync.specs.Boards.{Kept, kept_of}
+use Rattle.lb_snapshot.specs.Measured.{Taken}
 use Rattle.trace_events.specs.declared.event.TraceEvent.{TraceEvent}
-use Rattle.trace_events.specs.declared.event.TraceEvent.TheVariants.{Row, Slice, Instant, Decision, Leaves, Comes}
+use Rattle.trace_events.specs.declared.event.TraceEvent.TheVariants.{Row, Slice, Instant, Decision, Load, Leaves, Comes}
 use Rattle.trace_events.specs.declared.event.Work.TheVariants.{Start, Letter, Resume, Depart, Arrive}
 use Rattle.trace_events.specs.declared.event.Sign.TheVariants.{Report, Resumption, Shelve, Forward}
 use Rattle.trace_events.specs.declared.event.Flow.TheVariants as flow
@@ -44,6 +46,36 @@ shown h = what_events h.at h.long h.what
 abbrev pub rows : ℕ → List TraceEvent
 rows pes = map Row (range_with_len 0 pes)
 
--- the second list is the first with more after it
-abbrev pub IsBehind : List TraceEvent → List TraceEvent → Type 0
-IsBehind first all = (more : List TraceEvent) × (all ≡ first ++ more)
+-- an element's load where its place is the PE, and otherwise 0
+abbrev pub load_at : ℕ → ℕ × (ℕ × ℕ) → ℕ
+load_at pe element = if element.1.1 == pe then element.0 else 0
+
+-- the load of a PE: the sum of the loads of the elements whose place it is
+abbrev pub load_on : List ℕ → List (ℕ × ℕ) → ℕ → ℕ
+load_on loads sizes pe = sum_by (load_at pe) (zip loads sizes)
+
+-- the load of a PE in a snapshot that was taken then
+abbrev pub load_event : ℕ → Taken → ℕ → TraceEvent
+load_event at snapshot pe = Load pe at (load_on snapshot.loads snapshot.sizes pe)
+
+-- the load of each PE, in order
+abbrev pub load_events : ℕ → Taken → List TraceEvent
+load_events at snapshot = map (load_event at snapshot) (range_with_len 0 snapshot.procs)
+
+-- the loads of a round, if it was kept
+abbrev pub kept_loads : {A : Type 0} → ℕ → Option (Kept A) → List TraceEvent
+kept_loads at None = []
+kept_loads at (Some kept) = load_events at kept.0
+
+-- the loads of the round that was decided
+abbrev pub decided_loads : {A : Type 0} → List (Kept A) → ℕ → What → List TraceEvent
+decided_loads rounds at (Done pe deed first end) = []
+decided_loads rounds at (Decided r) = kept_loads at (kept_of rounds r)
+
+-- the loads of the round that was decided, if what happened is a decision
+abbrev pub loads_shown : {A : Type 0} → List (Kept A) → Happening → List TraceEvent
+loads_shown rounds h = decided_loads rounds h.at h.what
+
+-- the events of a trace: the rows, what happened, and the loads of each round that was decided
+abbrev pub all_events : {A : Type 0} → ℕ → List Happening → List (Kept A) → List TraceEvent
+all_events pes happenings rounds = rows pes ++ flat_map shown happenings ++ flat_map (loads_shown rounds) happenings

@@ -2,7 +2,7 @@
 
 ghost use Rattle.std.specs.Prelude.{◌≡◌, ◌++◌, Err, IfOk};
 ghost use Rattle.std.specs.List.{flat_map};
-ghost use Rattle.trace_events.specs.Shown.{IsBehind, rows, shown};
+ghost use Rattle.trace_events.specs.Shown.{all_events, rows, shown};
 ghost use Rattle.trace_events.specs.Writing.{WritesTrace};
 ghost use Rattle.trace_events.specs.declared.error.TraceError.TheVariants.{OutOfMemory};
 
@@ -32,7 +32,7 @@ pub fn trace_of<A: Allocator, B: Allocator + Copy>(
     happenings: &[Happening],
     rounds: &[(Snapshot<A>, Refined<A>)],
 ) -> Result<Vec<TraceEvent, B>, AllocError>
-    ensures shown { IfOk result (λ events. IsBehind (rows pes ++ flat_map shown happenings.now) events.items) }
+    ensures shown { IfOk result (λ events. events.items ≡ all_events pes happenings.now rounds.now) }
 {
     let mut events = shown_in(alloc, pes, happenings)?;
     push_loads(alloc, &mut events, happenings, rounds)?;
@@ -66,7 +66,7 @@ pub fn write_trace<A: Allocator, W: Write>(
     happenings: &[Happening],
     rounds: &[(Snapshot<A>, Refined<A>)],
 ) -> Result<(), TraceError>
-    ensures written { IfOk result (λ _. WritesTrace (W.contents writer.old) (W.contents writer.new) (rows pes ++ flat_map shown happenings.now)) }
+    ensures written { IfOk result (λ _. WritesTrace (W.contents writer.old) (W.contents writer.new) (all_events pes happenings.now rounds.now)) }
     ensures untouched { result ≡ Err OutOfMemory → writer.new ≡ writer.old }
 {
     let events = trace_of(alloc, pes, happenings, rounds)?;

@@ -1,6 +1,17 @@
-use Rattle.trace_events.proofs.Adding.{behind_more}
+use Rattle.std.proofs.Common.{◌++◌, length, ap, arith, sym, ◌∙◌}
+use Rattle.std.proofs.lemmas.List.{take_all}
+use Rattle.std.specs.List.{flat_map}
+use Rattle.trace_events.specs.Shown.{loads_shown}
+use Rattle.trace_events.proofs.Adding.{all_more}
 use Rattle.trace_events.proofs.loads.push_loads.Goals as goal
 
 pub loop-happening-preserved : goal.loop-happening-preserved
 loop-happening-preserved g c =
-    behind_more c.args.events.now.items c.loop-happening.events.items c.push_decided.new.events.items c.loop-happening.invariant c.in_ok-push_decided.ensures.added
+    rw (c.in_ok-push_decided.ensures.loads, c.loop-happening.invariant)
+    (all_more (loads_shown c.args.rounds.now) c.args.events.now.items c.args.happenings.now c.loop-happening.happening-index c.happening-item.result c.loop-happening-test.true c.happening-item.is)
+
+pub returns : goal.returns
+returns g c = record {
+  loads = c.loop-happening.invariant
+      ∙ ap (λ hs. c.args.events.now.items ++ flat_map (loads_shown c.args.rounds.now) hs) (take_all c.loop-happening.happening-index c.args.happenings.now (omega (arith, c.loop-happening-test.false)));
+}

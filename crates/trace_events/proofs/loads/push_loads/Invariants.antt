@@ -1,5 +1,8 @@
-use Rattle.trace_events.specs.Shown.{IsBehind}
+use Rattle.std.proofs.Common.{◌≡◌, ◌++◌, take}
+use Rattle.std.specs.List.{flat_map}
+use Rattle.trace_events.specs.Shown.{loads_shown}
 use Rattle.trace_events.proofs.loads.push_loads.Given as goal
 
 abbrev pub invariant-loop-happening : goal.invariant-loop-happening
-invariant-loop-happening g l = IsBehind l.initial.events.items l.events.items
+invariant-loop-happening g l =
+    l.events.items ≡ l.initial.events.items ++ flat_map (loads_shown l.rounds) (take l.happening-index l.happenings)
