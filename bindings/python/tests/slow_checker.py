@@ -10,12 +10,14 @@ def first_flaw(run, claim):
     return "check: ok"
 
 
-def first_near_flaw(run, claim):
-    """The same of a claim within a tolerance. That there are no heights for a block, or only a part of them, is HeightCount."""
+def first_near_flaw(run, claim, whole=False):
+    """The same of a claim within a tolerance. That there are no heights for a block is HeightCount. So it is, where the steps are to be
+    whole, as the page wants them, that the lists have only a part of a block's steps. Otherwise its steps are those that they have."""
     least = {**claim, "cuts": claim["least_cuts"], "bottleneck": claim["least"]}
     kept = (flaw_of_kept_names, flaw_of_moved, flaw_of_moves)
     flaw = flaw_of_cuts(run, least) or flaw_of_floor(run, least)
-    for look in (flaw_of_order, flaw_of_near_cuts, flaw_of_heights, flaw_of_present, flaw_of_bottleneck) + (
+    steps = (flaw_of_steps, flaw_of_heights) if whole else (flaw_of_heights,)
+    for look in (flaw_of_order, flaw_of_near_cuts) + steps + (flaw_of_present, flaw_of_bottleneck) + (
             kept if claim["keep_order"] else (flaw_of_names, flaw_of_prices, flaw_of_moves)):
         flaw = flaw or look(run, claim)
     return "check: " + (flaw or "ok")
@@ -131,10 +133,17 @@ def flaw_of_near_cuts(run, claim):
     return f"PastLimit {heavy[0]}" if heavy else None
 
 
+def flaw_of_steps(run, claim):
+    """The numbers of steps rise, and each step has a place and a rise."""
+    starts, places = claim["step_starts"], claim["step_places"]
+    part = falls(starts) or starts[-1:] > [len(places)] or len(places) != len(claim["step_rises"])
+    return "HeightCount" if part else None
+
+
 def flaw_of_heights(run, claim):
     """The height of a block is the sum of the rises of its steps at a place, up to the first step that lies behind the place."""
     pes, starts, places, count = claim["pes"], claim["step_starts"], claim["step_places"], len(run["loads"])
-    if len(starts) != pes + 1 or falls(starts) or starts[-1] > len(places) or len(places) != len(claim["step_rises"]):
+    if len(starts) != pes + 1:
         return "HeightCount"
 
     def height(block, place):

@@ -432,7 +432,7 @@ class Seen(InAFolder):
                   (apart, near(apart, 1000)), (past, flat)]
         found = [row[17] for row in self.open(claims).rows("all-rounds")]
         self.assertEqual(found, ["holds"] + ["OrderWrong"] * 5)
-        lines = [slow_checker.first_near_flaw(as_lists(one), as_lists(claim)) for one, claim in claims]
+        lines = [slow_checker.first_near_flaw(as_lists(one), as_lists(claim), True) for one, claim in claims]
         self.assertEqual(found, [line[len("check: "):].replace("ok", "holds") for line in lines])
 
     def test_random_decisions_within_a_tolerance(self):
@@ -440,7 +440,7 @@ class Seen(InAFolder):
         right = [(run, near(run, 40 * (seed % 11), seed % 2 == 1)) for seed, run in enumerate(runs)]
         forged = [(run, forge_near(random.Random(seed), run, one)) for seed, (run, one) in enumerate(right)]
         found = [row[17] for row in self.open(right + forged).rows("all-rounds")]
-        lines = [slow_checker.first_near_flaw(as_lists(run), as_lists(one)) for run, one in right + forged]
+        lines = [slow_checker.first_near_flaw(as_lists(run), as_lists(one), True) for run, one in right + forged]
         self.assertEqual(found, [line[len("check: "):].replace("ok", "holds") for line in lines])
         self.assertEqual(set(found[:150]), {"holds"})
         self.assertGreater(len({line.split()[0] for line in found[150:]}), 15)
