@@ -36,7 +36,11 @@ impl Found {
     fn add_parcel<A: Allocator>(&mut self, rt: &impl Abort, parcel: &HeldParcel<A>) {
         match parcel {
             Carried::Letter(letter) => self.add_letter(rt, letter),
-            Carried::Element(element) => self.add_element(rt, element.index(), element.journal().kept()),
+            Carried::Element(element) => self.add_element(
+                rt,
+                element.index(),
+                element.journal().kept(),
+            ),
         }
     }
 
