@@ -27,7 +27,7 @@ returns-clause-named c =
     let named : are_distinct (ids_of chain) ≡ true = rw (ap (λ r. r.id) c.file.ensures.rule, ap (λ r. r.id) c.procs.ensures.rule, ap (λ r. r.id) c.tolerance.ensures.rule, ap (λ r. r.id) c.keep_order.ensures.rule, ap (λ r. r.id) c.check.ensures.rule) distinct in
     let all = All-from_recursion FitsChain chain (c.file.ensures.fits, (c.procs.ensures.fits, (c.tolerance.ensures.fits, (c.keep_order.ensures.fits, (c.check.ensures.fits, tt))))) in
     let bare = c.new_program-command.ensures.bare in
-    IfOk-weaker c.arg-4.result _ _ (λ command added m parsed.
+    IfOk-weaker c.arg-5.result _ _ (λ command added m parsed.
     subst (λ id. is_some (first_value (found_of m) id) ≡ true) (ap (λ r. r.id) c.file.ensures.rule)
     (required_in_chain c.new_program-command.result command chain 0 c.file.result m
     (c.in_ok-command.command, c.in_ok-command.ensures, (c.in_ok-command-2.command, c.in_ok-command-2.ensures, (c.in_ok-command-3.command, c.in_ok-command-3.ensures, (c.in_ok-command-4.command, c.in_ok-command-4.ensures, (command, added, refl)))))
