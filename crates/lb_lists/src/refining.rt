@@ -153,7 +153,8 @@ pub fn refine_into<A: Allocator + Copy>(
     ensures placed { IfOk result (λ _. ArePlaces room.new.cuts.now room.new.names.now (length run.now.loads) room.new.new_places.now) }
     ensures peak { IfOk result (λ d. d.bottleneck ≡ peak run.now.loads room.new.cuts.now) }
     ensures within { IfOk result (λ d. d.bottleneck ≤ limit_of d.least thousandths) }
-    ensures no_more { IfOk result (λ d. keep_order ≡ false → (places : List ℕ) (bottleneck moved : ℕ) → IsPlan run.now pes places bottleneck moved → d.moved ≤ moved) }
+    ensures no_more { IfOk result (λ d. keep_order ≡ false → (places : List ℕ) (bottleneck moved : ℕ)
+        → IsPlan run.now pes places bottleneck moved → d.moved ≤ moved) }
     ensures kept_whole { IfOk result (λ d. (order present : List ℕ) → IsPresentOrder (sizes_of run.now) pes order present
         → AreWithin run.now.loads order (limit_of d.least thousandths) present → d.moved ≡ 0) }
     ensures bounded { IfOk result (λ _. keep_order ≡ false
