@@ -5,6 +5,7 @@ ghost use Rattle.chares.specs.Annals.{AnnalsView};
 ghost use Rattle.chares.specs.Letters.{Done};
 ghost use Rattle.chares.specs.declared.entry.Entry.{Entry};
 
+use crate::history::History;
 use crate::journal::Journal;
 use crate::letter::Letter;
 use crate::past::Past;
@@ -12,13 +13,17 @@ use chare_index::Round;
 use std::alloc::{AllocError, Allocator, Global};
 use std::marker::Model;
 
+/// How many letters an element keeps at most whose history is dropped: so its buffer of them stays below a kilobyte.
+const MOST_LETTERS: usize = 16;
+
 /// All that an element has handled, in order. Its last entries are kept; those before are settled: they take no memory, and only
-/// contracts know them. Contracts see the annals as the record `AnnalsView`.
+/// contracts know them. How many are kept depends on the [`History`]. Contracts see the annals as the record `AnnalsView`.
 #[derive(Drop)]
 pub struct Annals<A: Allocator = Global> {
     past: Past,
     kept: Journal<A>,
     settled: u64,
+    history: History,
 }
 
 impl<A: Allocator> Model for Annals<A> {
@@ -39,7 +44,7 @@ impl<A: Allocator> Model for Annals<A> {
 }
 
 impl<A: Allocator> Annals<A> {
-    /// Empty annals.
+    /// Empty annals, which keep their entries.
     pub(crate) fn new(alloc: A) -> Self
     where
         A: Copy,
@@ -49,23 +54,42 @@ impl<A: Allocator> Annals<A> {
             past: Past::new(),
             kept: Journal::new(alloc),
             settled: 0,
+            history: History::Kept,
         }
     }
 
-    /// Reserves the memory of one more letter.
+    /// Keeps or drops what is handled from now on.
+    pub(crate) fn set_history(&mut self, history: History)
+        ensures entries { self.new.entries ≡ self.old.entries }
+    {
+        self.history = history;
+    }
+
+    /// Reserves the memory of one more letter. What is kept is settled first, where the history is dropped and it is long.
     pub(crate) fn reserve_letter(&mut self) -> Result<(), AllocError>
         ensures entries { self.new.entries ≡ self.old.entries }
         ensures reserved { OnOk result (0 < self.new.letter_room) }
     {
+        if self.is_dropped() && self.kept.letters().len() >= MOST_LETTERS {
+            self.settle();
+        }
         self.kept.reserve_letter()
     }
 
-    /// Reserves the memory of one more resumption.
+    /// Reserves the memory of one more resumption. What is kept is settled first, where the history is dropped.
     pub(crate) fn reserve_resumption(&mut self) -> Result<(), AllocError>
         ensures entries { self.new.entries ≡ self.old.entries }
         ensures reserved { OnOk result (0 < self.new.resumption_room) }
     {
+        if self.is_dropped() {
+            self.settle();
+        }
         self.kept.reserve_resumption()
+    }
+
+    // Whether the history is dropped.
+    fn is_dropped(&self) -> bool {
+        matches!(self.history, History::Dropped)
     }
 
     /// Adds a letter, in memory that was reserved for it.
@@ -84,8 +108,8 @@ impl<A: Allocator> Annals<A> {
         self.kept.push_resumption(round);
     }
 
-    /// Settles what is kept: it takes no more memory.
-    pub(crate) fn settle(&mut self)
+    // Settles what is kept: it takes no more memory.
+    fn settle(&mut self)
         ensures entries { self.new.entries ≡ self.old.entries }
     {
         let Some(settled) = self.settled.checked_add(self.kept.len() as u64) else {

@@ -12,6 +12,7 @@ ghost use Rattle.chares.specs.Progressing.{note_at, synced_mark};
 
 use crate::annals::Annals;
 use crate::chare::{Chare, Here};
+use crate::history::History;
 use crate::kept_mark::KeptMark;
 use crate::letter::Letter;
 use crate::note::Note;
@@ -90,11 +91,11 @@ impl<C: Chare<A>, A: Allocator> Element<C, A> {
         &self.journal
     }
 
-    /// Settles what it has handled: its journal takes no more memory, and is what it was.
-    pub fn settle(&mut self)
+    /// Keeps or drops what it handles from now on. Its journal is what it was.
+    pub fn set_history(&mut self, history: History)
         ensures same { self.new ≡ self.old }
     {
-        self.journal.settle();
+        self.journal.set_history(history);
     }
 
     /// How far it has come.

@@ -5,6 +5,7 @@
 //! - [`Sends`], with [`SendError`]: how a handler posts letters.
 //! - [`Letter`], with [`LetterId`]: what is posted.
 //! - [`Element`], with [`Progress`] and [`Entry`]: a chare with what it has done.
+//! - [`Annals`] and [`Journal`], by a [`History`]: what an element has handled, and how much of that it keeps in memory.
 //! - [`Packed`]: an element on its way; [`PackedElement`]: one whose bytes are the pack of what its journal
 //!   says.
 //! - [`Carried`] and [`Addressed`]: what goes from PE to PE, and where.
@@ -19,6 +20,7 @@ mod carried;
 mod chare;
 mod element;
 mod entry;
+mod history;
 mod journal;
 mod kept_mark;
 mod letter;
@@ -35,6 +37,7 @@ pub use carried::{Addressed, Carried};
 pub use chare::{Chare, Effect, Here, Openings};
 pub use element::{Element, Unread};
 pub use entry::Entry;
+pub use history::History;
 pub use journal::{Journal, ResumedAt};
 pub use kept_mark::KeptMark;
 pub use letter::{Letter, LetterId};

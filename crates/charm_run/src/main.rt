@@ -1,5 +1,5 @@
-//! `charm_run [--dump PREFIX] [--lbd1] [--progress] [--tolerance T] FILE` runs the chares of a workload over threads: it prints what each
-//! round decided, what each chare added up, and where every letter is. With `--seed S`, `--seeds N` or `--replay LIST` it runs them on
+//! `charm_run [--dump PREFIX] [--lbd1] [--progress] [--tolerance T] [--no-journal] FILE` runs the chares of a workload over threads: it
+//! prints what each round decided, what each chare added up, and where every letter is. With `--seed S`, `--seeds N` or `--replay LIST` it runs them on
 //! one thread, in an order of events that can be repeated; `--events LIST` writes that order. `--trace FILE` writes what happened.
 //!
 //! - `program_words::on_words`: the arguments of the command line, and the status. `run_command_line::asked`: what the arguments
@@ -25,6 +25,7 @@ use chain_refinement::Tolerance;
 use file_faults::Advice;
 use program_words::{BAD_FILE, on_words, refused};
 use progress_line::Progress;
+use rts_run::History;
 use run_command_line::{Asked, Task, asked, refuse};
 use run_trace::Tracing;
 use std::fs::{File, Files};
@@ -103,6 +104,7 @@ fn ran_watched<R: Threads + Wait + Sync + Files + Clock + Print + Eprint + Alloc
         &mut writer,
         TURNS,
         strategy,
+        history_of(asked),
         &onlookers,
     );
     let Onlookers { progress, tracing } = onlookers;
@@ -112,4 +114,12 @@ fn ran_watched<R: Threads + Wait + Sync + Files + Clock + Print + Eprint + Alloc
     let is_lost = keep_recorded(rt, asked.trace, tracing, &driven, &mut writer);
     let status = dumped(rt, asked, &driven, &mut writer);
     status_beside(status, is_lost)
+}
+
+// Whether elements keep what they have handled.
+fn history_of(asked: &Asked<'_>) -> History {
+    if asked.no_journal {
+        return History::Dropped;
+    }
+    History::Kept
 }

@@ -1,5 +1,5 @@
-//! `hot_spot [--elements N] [--pes P] [--rounds R] [--work W] [--static] [--tolerance T] [--trace FILE]` runs a chain of strips
-//! whose work wanders. It prints the loads of each round and the checksum of all cells, and to the standard error how long the
+//! `hot_spot [--elements N] [--pes P] [--rounds R] [--work W] [--static] [--tolerance T] [--trace FILE] [--no-journal]
+//! [--quiet]` runs a chain of strips whose work wanders. It prints the loads of each round and the checksum of all cells, and to the standard error how long the
 //! run took.
 //!
 //! - `program_words::on_words`: the arguments of the command line, and the status.
@@ -12,11 +12,11 @@ mod words;
 use crate::words::{RunOptions, read_options};
 use at_sync::Strategy;
 use chain_refinement::Tolerance;
-use hot_spot_run::{run_chain_watched, text_of};
+use hot_spot_run::{ending_of, run_chain_watched, text_of};
 use hot_spot_strip::{Chain, ChainError, Mode, Strip};
 use pe_worker::Watch;
 use program_words::{NO_OUTPUT, RUN_FAULT, on_words, refused};
-use rts_run::{Config, Outcome};
+use rts_run::{Config, History, Outcome};
 use run_trace::Tracing;
 use std::alloc::AllocError;
 use std::fs::{File, Files};
@@ -111,6 +111,11 @@ fn told<V: Watch + Sync, R: Threads + Wait + Sync + Clock + Print + Eprint + All
 ) -> Result<(Outcome<Strip>, u8), ChainError> {
     let config = Config {
         strategy: Strategy::within(options.tolerance.and_then(Tolerance::new)),
+        history: if options.no_journal {
+            History::Dropped
+        } else {
+            History::Kept
+        },
         ..Config::usual(options.pes)
     };
     let start = Instant::now(rt);
@@ -118,7 +123,11 @@ fn told<V: Watch + Sync, R: Threads + Wait + Sync + Clock + Print + Eprint + All
     if let Ok(start) = start {
         tell_time(rt, &start, outcome.account().executed);
     }
-    let text = text_of(rt.alloc(), chain, options.pes, &outcome)?;
+    let text = if options.is_quiet {
+        ending_of(rt.alloc(), chain, &outcome)?
+    } else {
+        text_of(rt.alloc(), chain, options.pes, &outcome)?
+    };
     if !write_out(&mut io::writer(rt), text.as_bytes()) {
         return Ok((outcome, NO_OUTPUT));
     }

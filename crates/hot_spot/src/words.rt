@@ -17,6 +17,8 @@ pub(crate) struct RunOptions<'a> {
     pub(crate) is_static: bool,
     pub(crate) tolerance: Option<u32>,
     pub(crate) trace: Option<&'a str>,
+    pub(crate) no_journal: bool,
+    pub(crate) is_quiet: bool,
 }
 
 /// Reads the arguments of a command line, the program's name first. The error has the text to print.
@@ -38,7 +40,9 @@ fn command<'a>(alloc: Global) -> Result<Command<'a>, AllocError> {
     let command = command.arg(work(alloc))?;
     let command = command.arg(is_static(alloc))?;
     let command = command.arg(tolerance(alloc))?;
-    command.arg(trace(alloc))
+    let command = command.arg(trace(alloc))?;
+    let command = command.arg(no_journal(alloc))?;
+    command.arg(quiet(alloc))
 }
 
 fn elements<'a>(alloc: Global) -> Arg<'a> {
@@ -86,6 +90,22 @@ fn trace<'a>(alloc: Global) -> Arg<'a> {
     )
 }
 
+fn no_journal<'a>(alloc: Global) -> Arg<'a> {
+    flag(
+        alloc,
+        "no-journal",
+        "Drops what each strip has handled, so that memory does not grow with{n}its letters",
+    )
+}
+
+fn quiet<'a>(alloc: Global) -> Arg<'a> {
+    flag(
+        alloc,
+        "quiet",
+        "Prints the checksum, and no line for a round",
+    )
+}
+
 // What the arguments ask for.
 fn found<'a>(matches: &ArgMatches<'a>) -> RunOptions<'a> {
     RunOptions {
@@ -96,5 +116,7 @@ fn found<'a>(matches: &ArgMatches<'a>) -> RunOptions<'a> {
         is_static: matches.get_one("static") == Some(true),
         tolerance: tolerance_in(matches),
         trace: matches.get_str("trace"),
+        no_journal: matches.get_one("no-journal") == Some(true),
+        is_quiet: matches.get_one("quiet") == Some(true),
     }
 }

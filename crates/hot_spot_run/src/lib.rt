@@ -1,7 +1,7 @@
 //! Runs a chain of strips over threads, and reports the loads of each round and the checksum of all cells.
 //!
 //! - [`run_chain`]: the run of a [`Chain`]; [`run_chain_watched`]: the same, observed by a watch.
-//! - [`text_of`]: a line for each round, and the checksum of all cells; [`checksum`] alone.
+//! - [`text_of`]: a line for each round, and the checksum of all cells; [`ending_of`]: its last line; [`checksum`] alone.
 //!
 //! ```
 //! use hot_spot_run::{run_chain, text_of};
@@ -31,4 +31,4 @@ mod text;
 
 pub use chain::{run_chain, run_chain_watched};
 pub use sums::checksum;
-pub use text::text_of;
+pub use text::{ending_of, text_of};

@@ -33,6 +33,21 @@ pub fn text_of<A: Allocator + Copy>(
     Ok(text)
 }
 
+/// The last line of that text alone: the checksum, or what ended the run early.
+///
+/// # Errors
+///
+/// Memory was refused.
+pub fn ending_of<A: Allocator + Copy>(
+    alloc: A,
+    chain: &Chain<'_>,
+    outcome: &Outcome<Strip<A>, A>,
+) -> Result<String<A>, AllocError> {
+    let mut text = String::new(alloc);
+    push_ending(&mut text, chain, outcome)?;
+    Ok(text)
+}
+
 fn push_measured<A: Allocator + Copy>(
     text: &mut String<A>,
     pes: u32,

@@ -13,7 +13,7 @@ use crate::error::StepError;
 use crate::parcel::{HeldParcel, Item, Parcel, into_held, into_parcel};
 use crate::room::Room;
 use chare_index::{Index, Limits, Pe, Round};
-use chares::{Addressed, Carried, Chare, Note, Openings, Progress};
+use chares::{Addressed, Carried, Chare, History, Note, Openings, Progress};
 use std::alloc::{AllocError, Allocator, Global};
 use std::marker::{Model, PhantomData};
 
@@ -160,11 +160,11 @@ impl<C: Chare<A>, H: Openings<C>, A: Allocator + Copy> PeState<C, H, A> {
         end.kept = None;
     }
 
-    /// Settles what an element has handled, where it stands here: its journal takes no more memory, and is what it was.
-    pub fn settle(&mut self, index: Index)
+    /// Keeps or drops what an element handles from now on, where it stands here. Its journal is what it was.
+    pub fn set_history(&mut self, index: Index, history: History)
         ensures same { self.new ≡ self.old }
     {
-        self.end.room.settle(index);
+        self.end.room.set_history(index, history);
     }
 
     /// Packs an element, which stands here and waits for the end of its round, and puts it into the outbox, addressed

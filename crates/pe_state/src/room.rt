@@ -12,7 +12,7 @@ ghost use Rattle.pe_state.specs.Rows.{row_of, row_count, entries_of, IsRoom};
 use crate::entries::Entries;
 use crate::row::Row;
 use chare_index::{Gate, Index, Limits, Pe, Round};
-use chares::{Chare, Element, Letter, Note, Packed, SendError, Sends, Unread};
+use chares::{Chare, Element, History, Letter, Note, Packed, SendError, Sends, Unread};
 use std::alloc::{AllocError, AllocFailed, Allocator, Global};
 use std::marker::Model;
 
@@ -196,15 +196,15 @@ impl<C: Chare<A>, A: Allocator + Copy> Room<C, A> {
         self.rows[row].resume(gate, pe, index, round, sends)
     }
 
-    /// Settles what an element has handled, where it stands here.
-    pub(crate) fn settle(&mut self, index: Index)
+    /// Keeps or drops what an element handles from now on, where it stands here.
+    pub(crate) fn set_history(&mut self, index: Index, history: History)
         ensures same { self.new ≡ self.old }
     {
         let row = row_number(index);
         if self.rows.len() <= row {
             return;
         }
-        self.rows[row].settle(index);
+        self.rows[row].set_history(index, history);
     }
 
     /// Takes in an element that was packed, with the chare that its bytes unpacked to, where none with its index

@@ -10,7 +10,7 @@ ghost use Rattle.pe_state.specs.Rooms.{found, joined, without, ran_in, sends_in,
 ghost use Rattle.pe_state.specs.Rows.{IsPlace, IsGap, StandsAt, BelongsAt};
 
 use chare_index::{Gate, Index, Limits, Pe, Round};
-use chares::{Chare, Element, Letter, Note, Packed, Packing, SendError, Sends, Unread};
+use chares::{Chare, Element, History, Letter, Note, Packed, Packing, SendError, Sends, Unread};
 use std::alloc::{AllocError, AllocFailed, Allocator, Global};
 use std::marker::Model;
 
@@ -189,14 +189,14 @@ impl<C: Chare<A>, A: Allocator + Copy> Row<C, A> {
         self.items[place].1.resume(gate, pe, round, sends)
     }
 
-    /// Settles what an element has handled, which is of this row.
-    pub(crate) fn settle(&mut self, index: Index)
+    /// Keeps or drops what an element handles from now on, which is of this row.
+    pub(crate) fn set_history(&mut self, index: Index, history: History)
         ensures same { self.new ≡ self.old }
     {
         let Ok(place) = self.seek(index) else {
             return;
         };
-        self.items[place].1.settle();
+        self.items[place].1.set_history(history);
     }
 
     /// Takes in an element that was packed, with the chare that its bytes unpacked to, where none with its index

@@ -8,7 +8,7 @@ use crate::seated::{OfRun, RunBeginning};
 use at_sync::Board;
 use barrier::{Barrier, RunStrategy};
 use chare_index::{Limits, Round};
-use chares::{Chare, Openings};
+use chares::{Chare, History, Openings};
 use pe_queues::{Locations, Post};
 use pe_state::Parcel;
 use std::alloc::{Allocator, Global};
@@ -40,6 +40,8 @@ pub struct Field<
     executed: AtomicU64,
     // After how many turns in a row without a step a worker gives up.
     pub(crate) turns: u64,
+    // Whether elements keep what they have handled.
+    pub(crate) history: History,
     probe_workers: u32,
     of: PhantomData<J>,
 }
@@ -65,13 +67,14 @@ impl<C: Chare<A>, H: Openings<C> + RunStrategy, J: RunBeginning<C>, A: Allocator
     J,
     A,
 > {
-    /// The queues, words and board of a run as it opens. Its workers give up after so many idle turns, and a round is
-    /// decided by at most so many probe workers, 1 to 64, and by one where its PEs are few.
+    /// The queues, words and board of a run as it opens. Its workers give up after so many idle turns, its elements keep or drop
+    /// what they have handled, and a round is decided by at most so many probe workers, 1 to 64, and by one where its PEs are few.
     pub fn new(
         post: Post<Parcel<C, H, A>, A>,
         words: Locations<OfRun<C, H>, A>,
         board: Board<A>,
         turns: u64,
+        history: History,
         probe_workers: u32,
     ) -> Self
         requires own { post ≡ J.beginning.post }
@@ -94,6 +97,7 @@ impl<C: Chare<A>, H: Openings<C> + RunStrategy, J: RunBeginning<C>, A: Allocator
             stopped: AtomicBool::new(false),
             executed: AtomicU64::new(0),
             turns,
+            history,
             probe_workers,
             of: PhantomData,
         }
@@ -182,6 +186,7 @@ impl<C: Chare<A>, H: Openings<C> + RunStrategy, J: RunBeginning<C>, A: Allocator
             stopped: _,
             executed: _,
             turns: _,
+            history: _,
             probe_workers: _,
             of: _,
         } = self;

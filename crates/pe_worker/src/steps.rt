@@ -10,7 +10,7 @@ ghost use Rattle.pe_worker.specs.Steps.{Delivers, Executes, Flushes, Looks, Look
 
 use crate::seated::{OfRun, RunBeginning, SeatedPe};
 use chare_index::{Gate, Index, Round};
-use chares::{Chare, Openings};
+use chares::{Chare, History, Openings};
 use pe_queues::{Locations, Post};
 use pe_state::{Acted, Parcel, PeState, StepError};
 use std::alloc::Allocator;
@@ -159,6 +159,13 @@ impl<C: Chare<A>, H: Openings<C>, J: RunBeginning<C>, A: Allocator + Copy> Seate
     {
         let _room = self.pe.room();
         self.pe.act(gate)
+    }
+
+    /// Keeps or drops what an element handles from now on, where it stands here.
+    pub fn set_history(&mut self, element: Index, history: History)
+        ensures same { self.new ≡ self.old }
+    {
+        self.pe.set_history(element, history);
     }
 
     /// Start: starts an element, if it stands here and has not started, and returns whether it did.

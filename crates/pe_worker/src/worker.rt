@@ -191,19 +191,25 @@ impl<C: Chare<A>, H: Openings<C> + RunStrategy, J: RunBeginning<C>, A: Allocator
             if watch.wants_stop() {
                 return Err(Fault::Stopped);
             }
-            self.start_next(gate, watch)?;
+            self.start_next(gate, watch, field)?;
         }
         Ok(())
     }
 
-    // Starts the element that is due next.
-    fn start_next<G: Gate, V: Watch>(&mut self, gate: &G, watch: &V) -> Result<(), Fault>
+    // Starts the element that is due next, which keeps or drops what it handles as the run says.
+    fn start_next<G: Gate, V: Watch>(
+        &mut self,
+        gate: &G,
+        watch: &V,
+        field: &Field<C, H, J, A>,
+    ) -> Result<(), Fault>
         ensures same_me { self.new.seated.pe.me ≡ self.old.seated.pe.me }
         ensures cause { IfErr result (HasCause C.step C.pack C.refuses H.opened) }
     {
         let Some(element) = self.agenda.next_due() else {
             return Ok(());
         };
+        self.seated.set_history(element, field.history);
         before_element(watch, self.seated.pe());
         match self.seated.start(gate, element) {
             Ok(started) => {

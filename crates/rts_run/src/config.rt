@@ -1,10 +1,12 @@
 ghost use Rattle.std.specs.Prelude.{◌≡◌, ◌≤◌, IsTrue, ◌↔◌, MatchOption};
 ghost use Rattle.at_sync.specs.declared.strategy.Strategy.TheVariants.{Least};
+ghost use Rattle.chares.specs.declared.history.History.TheVariants.{Kept};
 ghost use Rattle.rts_run.specs.Configs.{IsFirstOutside, IsWithin, MayBegin};
 
 use crate::error::Setting;
 use at_sync::Strategy;
 use chare_index::Limits;
+use chares::History;
 
 /// The numbers of a run, and how its rounds are decided.
 #[derive(Clone, Copy, Debug, PartialEq)]
@@ -27,14 +29,19 @@ pub struct Config {
     pub probe_workers: u32,
     /// How each round is decided.
     pub strategy: Strategy,
+    /// Whether elements keep what they have handled. Where they do, each letter takes memory until the run ends; where they do not,
+    /// an element settles its journal: [`Annals`](chares::Annals) counts what is settled, and keeps the rest. What is said of
+    /// journals holds of either.
+    pub history: History,
 }
 
 impl Config {
     /// The usual numbers of a run on this number of PEs, 1 to [`Limits::PES`]: queues with capacity for 1,024 parcels, rounds
-    /// decided by [`Strategy::Least`] with up to 4 workers, and PE workers that give up after 1,000,000,000 idle turns in a row,
-    /// about five minutes. A program whose handlers take as long sets [`turns`](Config::turns) higher.
+    /// decided by [`Strategy::Least`] with up to 4 workers, PE workers that give up after 1,000,000,000 idle turns in a row, about
+    /// five minutes, and elements that keep what they have handled. A program whose handlers take as long sets
+    /// [`turns`](Config::turns) higher.
     pub fn usual(pes: u32) -> Self
-        ensures value { result ≡ record { pes = pes; capacity = 1024; turns = 1000000000; probe_workers = 4; strategy = Least } }
+        ensures value { result ≡ record { pes = pes; capacity = 1024; turns = 1000000000; probe_workers = 4; strategy = Least; history = Kept } }
         ensures within { 1 ≤ pes → pes ≤ Limits.PES → IsWithin result }
     {
         Config {
@@ -43,6 +50,7 @@ impl Config {
             turns: 1_000_000_000,
             probe_workers: 4,
             strategy: Strategy::Least,
+            history: History::Kept,
         }
     }
 

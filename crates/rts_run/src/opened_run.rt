@@ -94,7 +94,14 @@ impl<C: Chare<A>, H: Openings<C> + RunStrategy, A: Allocator + Copy> OpenedRun<C
         } = self;
         let (states, seats) = (VecDeque::from_vec(states), VecDeque::from_vec(seats));
         let workers = open_workers::<C, H, J, A>(alloc, config.pes, states, seats)?;
-        let field = Field::new(post, words, board, config.turns, config.probe_workers);
+        let field = Field::new(
+            post,
+            words,
+            board,
+            config.turns,
+            config.history,
+            config.probe_workers,
+        );
         Ok((field, workers))
     }
 }

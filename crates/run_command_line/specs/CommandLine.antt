@@ -1,12 +1,12 @@
 -- What clap reads from the arguments of a command line: `charm_run [--dump PREFIX] [--lbd1] [--progress] [--tolerance T]
--- [--seed S] [--seeds N] [--events FILE] [--replay FILE] [--trace FILE] FILE`.
+-- [--seed S] [--seeds N] [--events FILE] [--replay FILE] [--trace FILE] [--no-journal] FILE`.
 use Rattle.std.specs.Prelude.{ℕ, ◌≡◌, ◌≤◌, List, [], ◌∷◌, ◌++◌, Option, None, Some, codes, pos, true}
 use Rattle.std.specs.Str.Parse.{IsNumeral, digits_value, without_leading_plus}
 use Rattle.clap.specs.Words.{App, Rule, Text, first_of, matches_of, one_of, with_rule}
 use Rattle.clap.specs.declared.builder.value_parser.ValueParser.TheVariants.{Signed, Unsigned}
 use Rattle.program_words.specs.Arguments.{file_rule, flag_rule, tolerance_rule, versioned, word_rule}
 use Rattle.run_command_line.specs.declared.request.Clash.{Clash}
-use Rattle.run_command_line.specs.declared.request.Clash.TheVariants.{SeedAndSeeds, SeedAndReplay, SeedsAndReplay, EventsWithoutSeed, SeedsAndDump, SeedsAndTrace}
+use Rattle.run_command_line.specs.declared.request.Clash.TheVariants.{SeedAndSeeds, SeedAndReplay, SeedsAndReplay, EventsWithoutSeed, SeedsAndDump, SeedsAndTrace, NoJournalOnOneThread}
 
 -- the prefix of the names of the files that the dumps go to
 abbrev pub dump_rule : Rule
@@ -37,6 +37,10 @@ replay_rule = word_rule (codes "replay")
 abbrev pub trace_rule : Rule
 trace_rule = word_rule (codes "trace")
 
+-- a flag
+abbrev pub no_journal_rule : Rule
+no_journal_rule = flag_rule (codes "no-journal")
+
 -- with the arguments for runs on one thread
 abbrev pub with_schedules : App → App
 with_schedules app =
@@ -44,7 +48,7 @@ with_schedules app =
 
 -- the program with its arguments, to which clap adds those that ask for help and for the version
 abbrev pub program : App
-program = with_schedules (with_rule (with_rule (with_rule (with_rule (with_rule (versioned (codes "charm_run")) file_rule) dump_rule) lbd1_rule) progress_rule) tolerance_rule)
+program = with_rule (with_schedules (with_rule (with_rule (with_rule (with_rule (with_rule (versioned (codes "charm_run")) file_rule) dump_rule) lbd1_rule) progress_rule) tolerance_rule)) no_journal_rule
 
 -- the argument that names the file
 abbrev pub file_in : List Text → Option Text
@@ -92,6 +96,9 @@ AsksLbd1 words = one_of (codes "lbd1") (matches_of program words) ≡ Some (code
 abbrev pub TellsProgress : List Text → Type 0
 TellsProgress words = one_of (codes "progress") (matches_of program words) ≡ Some (codes "true")
 
+abbrev pub DropsJournal : List Text → Type 0
+DropsJournal words = one_of (codes "no-journal") (matches_of program words) ≡ Some (codes "true")
+
 -- the line for options that do not go together, or of which one is missing
 abbrev pub clash_line : Clash → List ℕ
 clash_line SeedAndSeeds = codes "charm_run: --seed and --seeds" ++ 10 ∷ []
@@ -100,3 +107,4 @@ clash_line SeedsAndReplay = codes "charm_run: --seeds and --replay" ++ 10 ∷ []
 clash_line EventsWithoutSeed = codes "charm_run: --events without --seed" ++ 10 ∷ []
 clash_line SeedsAndDump = codes "charm_run: --seeds and --dump" ++ 10 ∷ []
 clash_line SeedsAndTrace = codes "charm_run: --seeds and --trace" ++ 10 ∷ []
+clash_line NoJournalOnOneThread = codes "charm_run: --no-journal with --seed, --seeds or --replay" ++ 10 ∷ []

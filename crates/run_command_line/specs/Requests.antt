@@ -1,9 +1,10 @@
 -- How the arguments of a command line ask for the run of a workload, and which options do not go together.
 use Rattle.std.specs.Borrow.{Bor}
-use Rattle.std.specs.Prelude.{ℕ, List, Option, None, Some, Result, Ok, Err}
+use Rattle.std.specs.Prelude.{ℕ, List, Option, None, Some, Result, Ok, Err, Bool, true, false}
+use Rattle.std.specs.Option.{option_or}
 use Rattle.run_command_line.specs.declared.request.Asked.{Asked}
 use Rattle.run_command_line.specs.declared.request.Clash.{Clash}
-use Rattle.run_command_line.specs.declared.request.Clash.TheVariants.{SeedAndSeeds, SeedAndReplay, SeedsAndReplay, EventsWithoutSeed, SeedsAndDump, SeedsAndTrace}
+use Rattle.run_command_line.specs.declared.request.Clash.TheVariants.{SeedAndSeeds, SeedAndReplay, SeedsAndReplay, EventsWithoutSeed, SeedsAndDump, SeedsAndTrace, NoJournalOnOneThread}
 use Rattle.run_command_line.specs.declared.request.Task.{Task}
 use Rattle.run_command_line.specs.declared.request.Task.TheVariants.{Threads, Seed, Seeds, Replay}
 
@@ -33,12 +34,17 @@ clash_with_seeds None (Some dump) trace = Some SeedsAndDump
 clash_with_seeds None None (Some trace) = Some SeedsAndTrace
 clash_with_seeds None None None = None
 
+-- a run on one thread keeps what its elements have handled
+abbrev pub clash_of_journal : Bool → Option Clash
+clash_of_journal true = Some NoJournalOnOneThread
+clash_of_journal false = None
+
 -- the first option that does not go with a task
 abbrev pub clash_with : Asked → Task → Option Clash
 clash_with asked Threads = clash_without_seed asked.events
-clash_with asked (Seed seed) = None
-clash_with asked (Seeds seeds) = clash_with_seeds asked.events asked.dump asked.trace
-clash_with asked (Replay replay) = clash_without_seed asked.events
+clash_with asked (Seed seed) = clash_of_journal asked.no_journal
+clash_with asked (Seeds seeds) = option_or (clash_with_seeds asked.events asked.dump asked.trace) (clash_of_journal asked.no_journal)
+clash_with asked (Replay replay) = option_or (clash_without_seed asked.events) (clash_of_journal asked.no_journal)
 
 -- a task, where nothing that is asked for clashes with it
 abbrev pub unless_clash : Task → Option Clash → Result Task Clash

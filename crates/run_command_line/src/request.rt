@@ -1,5 +1,5 @@
 ghost use Rattle.std.specs.Prelude.{◌≡◌};
-ghost use Rattle.run_command_line.specs.Requests.{clash_with, clash_with_seeds, clash_without_seed, task_of, way_of};
+ghost use Rattle.run_command_line.specs.Requests.{clash_of_journal, clash_with, clash_with_seeds, clash_without_seed, task_of, way_of};
 
 /// What the arguments of a command line ask for.
 #[derive(Clone, Copy, Debug, PartialEq, Eq)]
@@ -24,6 +24,8 @@ pub struct Asked<'a> {
     pub replay: Option<&'a str>,
     /// The file that the trace of a run goes to.
     pub trace: Option<&'a str>,
+    /// Whether elements drop what they have handled, so that the memory of a run over threads does not grow with its letters.
+    pub no_journal: bool,
 }
 
 /// How the chares of a workload are run.
@@ -54,6 +56,8 @@ pub enum Clash {
     SeedsAndDump,
     /// Many seeds, and a trace.
     SeedsAndTrace,
+    /// Elements are to drop what they have handled, and the run is on one thread, where they keep it.
+    NoJournalOnOneThread,
 }
 
 impl<'a> Asked<'a> {
@@ -77,9 +81,16 @@ impl<'a> Asked<'a> {
         ensures value { result ≡ clash_with self.entry task.entry }
     {
         match task {
-            Task::Threads | Task::Replay(_) => clash_without_seed(self.events),
-            Task::Seed(_) => None,
-            Task::Seeds(_) => clash_with_seeds(self.events, self.dump, self.trace),
+            Task::Threads => clash_without_seed(self.events),
+            Task::Replay(_) => clash_without_seed(self.events).or(clash_of_journal(
+                self.no_journal,
+            )),
+            Task::Seed(_) => clash_of_journal(self.no_journal),
+            Task::Seeds(_) => {
+                clash_with_seeds(self.events, self.dump, self.trace).or(clash_of_journal(
+                    self.no_journal,
+                ))
+            }
         }
     }
 }
@@ -115,6 +126,16 @@ fn clash_without_seed(events: Option<&str>) -> Option<Clash>
         Some(_) => Some(Clash::EventsWithoutSeed),
         None => None,
     }
+}
+
+// The clash of a run on one thread whose elements are to drop what they have handled.
+fn clash_of_journal(no_journal: bool) -> Option<Clash>
+    ensures value { result ≡ clash_of_journal no_journal }
+{
+    if no_journal {
+        return Some(Clash::NoJournalOnOneThread);
+    }
+    None
 }
 
 // The clash of many seeds with another option.

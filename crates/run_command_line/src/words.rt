@@ -6,8 +6,8 @@ ghost use Rattle.clap.specs.Words.{FailsBy, app_of, fault_of, first_value, found
 ghost use Rattle.clap.specs.declared.builder.value_parser.ValueParser.TheVariants.{Signed, Unsigned};
 ghost use Rattle.program_words.specs.Arguments.{NamesFile, SpellsTolerance, file_rule, tolerance_rule};
 ghost use Rattle.streams.specs.Writing.{WritesPrefix};
-ghost use Rattle.run_command_line.specs.CommandLine.{AsksLbd1, SpellsSeed, SpellsSeeds, TellsProgress, clash_line, dump_in, events_in, file_in, lbd1_rule};
-ghost use Rattle.run_command_line.specs.CommandLine.{dump_rule, events_rule, program, progress_rule, replay_in, replay_rule, seed_in, seed_rule, seeds_in, seeds_rule};
+ghost use Rattle.run_command_line.specs.CommandLine.{AsksLbd1, DropsJournal, SpellsSeed, SpellsSeeds, TellsProgress, clash_line, dump_in, events_in, file_in, lbd1_rule};
+ghost use Rattle.run_command_line.specs.CommandLine.{dump_rule, events_rule, no_journal_rule, program, progress_rule, replay_in, replay_rule, seed_in, seed_rule, seeds_in, seeds_rule};
 ghost use Rattle.run_command_line.specs.CommandLine.{tolerance_in, trace_in, trace_rule, with_schedules};
 
 use crate::help::{ABOUT, HOW_TO};
@@ -39,6 +39,7 @@ fn line_of(clash: Clash) -> &'static str
         Clash::EventsWithoutSeed => "charm_run: --events without --seed\n",
         Clash::SeedsAndDump => "charm_run: --seeds and --dump\n",
         Clash::SeedsAndTrace => "charm_run: --seeds and --trace\n",
+        Clash::NoJournalOnOneThread => "charm_run: --no-journal with --seed, --seeds or --replay\n",
     }
 }
 
@@ -47,8 +48,8 @@ fn line_of(clash: Clash) -> &'static str
 /// # Errors
 ///
 /// The arguments are not `[--dump PREFIX] [--lbd1] [--progress] [--tolerance T] [--seed S] [--seeds N] [--events FILE]
-/// [--replay FILE] [--trace FILE] FILE` with a T of 0 to 1,000, an S below 2^64 and an N of 1 to 1,000,000; or help or the
-/// version is asked for; or memory ran out. The error has the text to print; [`words_status`] is the status for it. Options that
+/// [--replay FILE] [--trace FILE] [--no-journal] FILE` with a T of 0 to 1,000, an S below 2^64 and an N of 1 to 1,000,000; or help
+/// or the version is asked for; or memory ran out. The error has the text to print; [`words_status`] is the status for it. Options that
 /// do not go together are no error here: [`Asked::task`] returns the [`Clash`].
 pub fn asked<'a>(alloc: Global, words: &'a [&'a str]) -> Result<Asked<'a>, Error>
     ensures faults { FailsBy (fault_of program (texts words.now)) result }
@@ -65,6 +66,7 @@ pub fn asked<'a>(alloc: Global, words: &'a [&'a str]) -> Result<Asked<'a>, Error
     ensures events { IfOk result (λ asked. events_in (texts words.now) ≡ option_map (λ name. name.now) asked.events) }
     ensures replay { IfOk result (λ asked. replay_in (texts words.now) ≡ option_map (λ name. name.now) asked.replay) }
     ensures trace { IfOk result (λ asked. trace_in (texts words.now) ≡ option_map (λ name. name.now) asked.trace) }
+    ensures no_journal { IfOk result (λ asked. IsTrue asked.no_journal ↔ DropsJournal (texts words.now)) }
 {
     match command(alloc)?.try_get_matches_from(words) {
         Ok(matches) => Ok(found(&matches)),
@@ -72,8 +74,8 @@ pub fn asked<'a>(alloc: Global, words: &'a [&'a str]) -> Result<Asked<'a>, Error
     }
 }
 
-// The arguments that are understood: `charm_run [--dump PREFIX] [--lbd1] [--progress] [--tolerance T] FILE`, those for runs on
-// one thread, and those for help and for the version, which clap adds.
+// The arguments that are understood: `charm_run [--dump PREFIX] [--lbd1] [--progress] [--tolerance T] [--no-journal] FILE`, those for
+// runs on one thread, and those for help and for the version, which clap adds.
 fn command<'a>(alloc: Global) -> Result<Command<'a>, AllocError>
     ensures program { IfOk result (λ command. app_of command ≡ program) }
     ensures named { IfOk result NamesFile }
@@ -88,7 +90,8 @@ fn command<'a>(alloc: Global) -> Result<Command<'a>, AllocError>
     let command = command.arg(seeds(alloc))?;
     let command = command.arg(events(alloc))?;
     let command = command.arg(replay(alloc))?;
-    command.arg(trace(alloc))
+    let command = command.arg(trace(alloc))?;
+    command.arg(no_journal(alloc))
 }
 
 fn file<'a>(alloc: Global) -> Arg<'a>
@@ -207,6 +210,17 @@ fn trace<'a>(alloc: Global) -> Arg<'a>
     )
 }
 
+fn no_journal<'a>(alloc: Global) -> Arg<'a>
+    ensures rule { rule_of result ≡ no_journal_rule }
+    ensures fits { FitsChain result }
+{
+    flag(
+        alloc,
+        "no-journal",
+        "Drops what each chare has handled, so that the memory of{n}a run over threads does not grow with its letters",
+    )
+}
+
 // Any number of 64 bits.
 fn any_number<'a>() -> ValueParser<'a>
     ensures { result ≡ Unsigned 0 18446744073709551615 }
@@ -237,6 +251,7 @@ fn found<'a>(matches: &ArgMatches<'a>) -> Asked<'a>
     ensures events { first_value (found_of matches.now) (codes "events") ≡ option_map (λ name. name.now) result.events }
     ensures replay { first_value (found_of matches.now) (codes "replay") ≡ option_map (λ name. name.now) result.replay }
     ensures trace { first_value (found_of matches.now) (codes "trace") ≡ option_map (λ name. name.now) result.trace }
+    ensures no_journal { IsTrue result.no_journal ↔ (one_text (found_of matches.now) (codes "no-journal") ≡ Some (codes "true")) }
 {
     Asked {
         file: matches.get_str("file").unwrap(),
@@ -249,6 +264,7 @@ fn found<'a>(matches: &ArgMatches<'a>) -> Asked<'a>
         events: matches.get_str("events"),
         replay: matches.get_str("replay"),
         trace: matches.get_str("trace"),
+        no_journal: matches.get_one("no-journal") == Some(true),
     }
 }
 

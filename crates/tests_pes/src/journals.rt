@@ -4,7 +4,7 @@ ghost use Rattle.std.specs.Prelude.{◌≡◌, ◌∷◌, []};
 
 use crate::fixtures::{index, pe, round, start, take_front, with_two};
 use chare_index::NoGate;
-use chares::{Letter, LetterId, Openings, ResumedAt};
+use chares::{History, Letter, LetterId, Openings, ResumedAt};
 use pe_state::PeState;
 use std::marker::Brand;
 use std::process::Abort;
@@ -75,19 +75,24 @@ fn two_rounds<H: Openings<Tally>>(rt: &(impl Abort + AllocGlobal), first: Tally,
     drop(at);
 }
 
-// The same, while the first element settles between the rounds: what it has handled so far is counted and no longer kept.
-fn settled_between<H: Openings<Tally>>(rt: &(impl Abort + AllocGlobal), first: Tally, second: Tally)
+// The same, where the first element drops what it handles from its start on: as it goes on after the round, what it has handled so
+// far is counted and no longer kept.
+fn dropped_by_first<H: Openings<Tally>>(
+    rt: &(impl Abort + AllocGlobal),
+    first: Tally,
+    second: Tally,
+)
     requires pes { H.pes ≡ 1 }
     requires opening { H.opened ≡ first ∷ second ∷ [] }
 {
     let mut at = with_two::<Tally, H>(rt, first, second);
+    at.set_history(index(rt, 0), History::Dropped);
+    at.set_history(index(rt, 70), History::Dropped);
     assert!(rt; start(rt, &mut at, &NoGate, 0).is_ok());
     assert!(rt; start(rt, &mut at, &NoGate, 1).is_ok());
     execute(rt, &mut at);
     execute(rt, &mut at);
-    at.settle(index(rt, 0));
-    at.settle(index(rt, 70));
-    first_did(rt, &at, &[], &[]);
+    first_did(rt, &at, &[(pe(rt, 0), 1)], &[resumed(rt, 0, 0)]);
     go_on(rt, &mut at, 0);
     go_on(rt, &mut at, 1);
     execute(rt, &mut at);
@@ -117,5 +122,5 @@ fn a_journal_has_letters_and_resumptions_in_order(rt: HostRuntime) {
 #[test]
 fn what_is_settled_is_counted_and_not_kept(rt: HostRuntime) {
     let (first, second) = (tally(&rt, &[5, 6]), tally(&rt, &[7, 8]));
-    settled_between::<Brand>(&rt, first, second);
+    dropped_by_first::<Brand>(&rt, first, second);
 }

@@ -3,6 +3,8 @@
 #![tactic(auto)]
 
 #[cfg(test)]
+mod dropped;
+#[cfg(test)]
 mod ends_early;
 #[cfg(test)]
 mod errand;

@@ -5,7 +5,7 @@ use crate::fixtures::{assert_for, patient, try_run};
 use at_sync::Strategy;
 use chare_index::NoGate;
 use pe_worker::Fault;
-use rts_run::{Config, RunError, Setting};
+use rts_run::{Config, History, RunError, Setting};
 use std::fmt::Display;
 use std::process::Abort;
 use std::sync::Wait;
@@ -126,6 +126,7 @@ const LEAST: Config = Config {
     turns: 1,
     probe_workers: 1,
     strategy: Strategy::Least,
+    history: History::Kept,
 };
 
 // Numbers of a run, and which of them is past its limits.

@@ -6,7 +6,7 @@ use at_sync::Strategy;
 use chare_index::NoGate;
 use chares::Chare;
 use pe_worker::Fault;
-use rts_run::{Config, Outcome};
+use rts_run::{Config, History, Outcome};
 use std::alloc::Global;
 use std::process::Abort;
 use std::sync::Wait;
@@ -46,8 +46,15 @@ impl Draw {
         self.below(most).saturating_add(1)
     }
 
-    // The limits of a run on up to six PEs, with queues for up to four parcels. Its workers give up at once, soon or late.
+    // The limits of a run on up to six PEs, with queues for up to four parcels. Its workers give up at once, soon or late, and its
+    // elements keep or drop what they have handled.
     fn config(&mut self) -> Config {
+        // No number is drawn for it, so that the chares stay those that are known to end.
+        let history = if self.state & 1 == 0 {
+            History::Kept
+        } else {
+            History::Dropped
+        };
         let turns = match self.below(5) {
             0 => 1,
             1 => 5,
@@ -60,6 +67,7 @@ impl Draw {
             turns,
             probe_workers: self.up_to(2),
             strategy: Strategy::Least,
+            history,
         }
     }
 

@@ -5,6 +5,7 @@ use at_sync::Strategy;
 use chare_index::Round;
 use file_faults::Advice;
 use pe_worker::Watch;
+use rts_run::History;
 use std::io::{self, Error, ErrorKind};
 use std::process::Abort;
 use std::sync::Wait;
@@ -62,6 +63,7 @@ fn ends<R: Threads + Wait + Sync + Abort + AllocGlobal>(
         &mut text,
         TURNS,
         Strategy::Least,
+        History::Kept,
         &seen,
     );
     let right = driven.ended == ended && found.map(|error| error.kind()) == reason;

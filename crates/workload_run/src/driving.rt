@@ -13,7 +13,7 @@ use at_sync::Strategy;
 use chare_index::{Limits, NoGate};
 use pe_worker::NoWatch;
 use pup_pack::Pup;
-use rts_run::{Config, Outcome, run_watched};
+use rts_run::{Config, History, Outcome, run_watched};
 use std::alloc::{AllocError, Allocator};
 use std::io::{self, Read, Write};
 use std::sync::Wait;
@@ -29,8 +29,8 @@ const CAPACITY: u32 = 1_024;
 const PROBE_WORKERS: u32 = 4;
 
 /// Reads a workload, runs its tallies on its PEs, and writes the text of what that left, or the one line of a fault, and
-/// nothing else. A worker gives up after this number of idle turns in a row, of 1 to [`Limits::IDLE_TURNS`], and rounds are
-/// decided by `strategy`.
+/// nothing else. A worker gives up after this number of idle turns in a row, of 1 to [`Limits::IDLE_TURNS`], rounds are
+/// decided by `strategy`, and elements keep what they have handled.
 ///
 /// The workload is checked as it is read. After a faulty line it is read on, to its end or the byte past the longest text,
 /// since a text that is too long is reported as such. The workload is dropped before the run.
@@ -49,11 +49,15 @@ pub fn drive<T: Threads + Wait + Sync, R: Read, W: Write, A: Allocator + Copy + 
     ensures outcome { IsOfWorkload ⟦<Tally<A> as Pup<A>>⟧.fits strategy (R.remaining reader.old) (R.remaining reader.new)
         (W.contents writer.old) (W.contents writer.new) result.outcome }
 {
-    drive_watched(rt, alloc, reader, writer, turns, strategy, &NoWatch)
+    let history = History::Kept;
+    drive_watched(
+        rt, alloc, reader, writer, turns, strategy, history, &NoWatch,
+    )
 }
 
 /// Runs the workload in a file as [`drive`] does, observed by an [`Onlooker`], and returns also the system's reason where a
-/// read failed. A file that could not be opened is reported as a workload that was not read.
+/// read failed. A file that could not be opened is reported as a workload that was not read. Elements keep or drop what they have
+/// handled, as `history` says; the text is the same.
 pub fn drive_file<
     T: Threads + Wait + Sync,
     R: Read + Drop,
@@ -67,6 +71,7 @@ pub fn drive_file<
     writer: &mut W,
     turns: u64,
     strategy: Strategy,
+    history: History,
     watch: &V,
 ) -> (Driven<A>, Option<io::Error>)
     requires some_turn { 1 ≤ turns }
@@ -83,7 +88,9 @@ pub fn drive_file<
     match file {
         Ok(reader) => {
             let mut noted = Noted::new(reader);
-            let driven = drive_watched(rt, alloc, &mut noted, writer, turns, strategy, watch);
+            let driven = drive_watched(
+                rt, alloc, &mut noted, writer, turns, strategy, history, watch,
+            );
             (driven, noted.failure())
         }
         Err(reason) => {
@@ -107,6 +114,7 @@ fn drive_watched<
     writer: &mut W,
     turns: u64,
     strategy: Strategy,
+    history: History,
     watch: &V,
 ) -> Driven<A>
     requires some_turn { 1 ≤ turns }
@@ -119,7 +127,7 @@ fn drive_watched<
     match Workload::read_from(alloc, reader) {
         Ok(workload) => {
             watch.expects(workload.rounds);
-            run_workload(rt, alloc, workload, writer, turns, strategy, watch)
+            run_workload(rt, alloc, workload, writer, turns, strategy, history, watch)
         }
         Err(fault) => without_run(report_fault(alloc, writer, fault)),
     }
@@ -149,6 +157,7 @@ fn run_workload<
     writer: &mut W,
     turns: u64,
     strategy: Strategy,
+    history: History,
     watch: &V,
 ) -> Driven<A>
     requires some_turn { 1 ≤ turns }
@@ -157,7 +166,7 @@ fn run_workload<
     ensures ran { EndsRun ⟦<Tally<A> as Pup<A>>⟧.fits strategy workload (W.contents writer.old) (W.contents writer.new) result.outcome result.ended }
 {
     let chares = workload.chares as usize;
-    match outcome_of(rt, alloc, workload, turns, strategy, watch) {
+    match outcome_of(rt, alloc, workload, turns, strategy, history, watch) {
         Ok(outcome) => {
             let ended = tell_outcome(alloc, chares, &outcome, writer);
             Driven {
@@ -176,6 +185,7 @@ fn outcome_of<T: Threads + Wait + Sync, V: Onlooker + Sync, A: Allocator + Copy 
     workload: Workload<A>,
     turns: u64,
     strategy: Strategy,
+    history: History,
     watch: &V,
 ) -> Result<Outcome<Tally<A>, A>, AllocError>
     requires some_turn { 1 ≤ turns }
@@ -189,6 +199,7 @@ fn outcome_of<T: Threads + Wait + Sync, V: Onlooker + Sync, A: Allocator + Copy 
         turns,
         probe_workers: PROBE_WORKERS,
         strategy,
+        history,
     };
     let chares = tallies_of(alloc, &workload)?;
     drop(workload);

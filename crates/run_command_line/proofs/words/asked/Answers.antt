@@ -56,6 +56,11 @@ returns-in-Ok-clause-trace c =
     let rows = found_by program _ (texts c.args.words.now) c.in-Ok.matches simple c.in_ok-command.ensures.program c.in-Ok.ensures.matches in
     sym (first_word program (texts c.args.words.now) c.in-Ok.matches (codes "trace") rows) ∙ c.found.ensures.trace
 
+pub returns-in-Ok-clause-no_journal : goal.returns-in-Ok-clause-no_journal
+returns-in-Ok-clause-no_journal c =
+    let rows = found_by program _ (texts c.args.words.now) c.in-Ok.matches simple c.in_ok-command.ensures.program c.in-Ok.ensures.matches in
+    by_word _ (λ word. word ≡ Some (codes "true")) _ _ (one_word program (texts c.args.words.now) c.in-Ok.matches (codes "no-journal") rows) c.found.ensures.no_journal
+
 pub returns-in-Ok-clause-seed : goal.returns-in-Ok-clause-seed
 returns-in-Ok-clause-seed c n =
     let rows = found_by program _ (texts c.args.words.now) c.in-Ok.matches simple c.in_ok-command.ensures.program c.in-Ok.ensures.matches in

@@ -1,0 +1,9 @@
+/// Whether elements keep what they have handled.
+#[derive(Clone, Copy, Debug, Default, PartialEq, Eq)]
+pub enum History {
+    /// An element keeps every letter and resumption that it has handled, so its memory grows with each.
+    #[default]
+    Kept,
+    /// An element settles what it has handled when it goes on after a round, and before it would keep more than 16 letters.
+    Dropped,
+}
