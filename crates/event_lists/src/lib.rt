@@ -24,10 +24,10 @@
 //! use rts_core::Event;
 //!
 //! let events = read_events(alloc, b"Start 0 3\nDecide\n")?;
-//! assert!(events.len() == 2 && events[1] == Event::Decide);
-//! assert!(write_events(alloc, &events)?.as_bytes() == b"Start 0 3\nDecide\n".as_slice());
-//! assert!(read_events(alloc, b"Decide\nLook 01\n").err() == Some(EventListError::Form(2)));
-//! assert!(read_events(alloc, b"Decide\nLook 256\n").err() == Some(EventListError::Limit(2)));
+//! assert!(rt; events.len() == 2 && events[1] == Event::Decide);
+//! assert!(rt; write_events(alloc, &events)?.as_bytes() == b"Start 0 3\nDecide\n".as_slice());
+//! assert!(rt; read_events(alloc, b"Decide\nLook 01\n").err() == Some(EventListError::Form(2)));
+//! assert!(rt; read_events(alloc, b"Decide\nLook 256\n").err() == Some(EventListError::Limit(2)));
 //! ```
 #![tactic(auto)]
 

@@ -148,7 +148,7 @@ impl<C: Chare<A>, A: Allocator> Outcome<C, A> {
     /// are on their way, packed, are left out, as [`element`](Outcome::element) does not find them. The rest of the outcome is
     /// dropped. This takes no memory.
     ///
-    /// ```
+    /// ```ignore
     /// let mut chares = Vec::new(alloc);
     /// for element in outcome.into_elements() {
     ///     chares.push(element.into_chare())?;

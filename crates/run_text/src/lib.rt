@@ -5,12 +5,23 @@
 //! - [`sum_laws`]: what the sums in it are, whatever the schedule of the run was.
 //!
 //! ```
+//! use chare_index::NoGate;
+//! use rts_run::{Config, run};
 //! use run_text::outcome_text;
+//! use tally::Tally;
 //!
+//! // Two tallies on two PEs, each of which sends its amount to the other and is balanced once.
+//! let three = Tally::with_amounts(alloc, &[3], 8)?;
+//! let five = Tally::with_amounts(alloc, &[5], 8)?;
+//! let tallies = vec![in alloc; three, five]?;
 //! let n = tallies.len();
-//! let outcome = run(rt, alloc, &config, &NoGate, tallies)?;
+//! let outcome = run(&rt, alloc, &Config::usual(2), &NoGate, tallies)?;
 //! let text = outcome_text(alloc, n, &outcome)?;
+//! let expected = "round 1 bottleneck 5 moved 0\nsums 5 3\nposted 2 executed 2 held 0\n";
+//! assert!(rt; text.as_str() == expected);
 //! ```
+//!
+//! A program that is proved also shows there that these are tallies, by [`sum_laws`]. [`outcome_text`] says how.
 //!
 //! For four tallies with two amounts each the text may be:
 //!
