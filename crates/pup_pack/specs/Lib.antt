@@ -4,4 +4,6 @@ pub mod Pairs
 pub mod Lists
 pub mod ListTrips
 pub mod Structs
+pub mod Signed
+pub mod Truths
 pub mod Trips

@@ -1,15 +1,25 @@
 -- The law of each type, as a value: that of a list is made from that of its items, and that of a struct from those
 -- of its fields, as the types are.
-use Rattle.std.specs.Prelude.{◌≡◌, ℕ, ◌<◌, ◌^◌, List, ◌++◌, length, All, Bool, true, Result, Ok}
-use Rattle.std.specs.Int.{w32, w64, to_be_bytes}
-use Rattle.std.proofs.Common.{subst}
+use Rattle.std.specs.Prelude.{◌≡◌, ℕ, FitsSigned, ◌<◌, ◌^◌, List, ◌++◌, length, All, Bool, true, Option, Some, Result, Ok}
+use Rattle.std.specs.Int.{w16, w32, w64, Width, to_be_bytes, cast_unsigned}
+use Rattle.std.proofs.Common.{refl, subst}
+use Rattle.std.proofs.Math.Facts.{Fits-of_z, Fits-lt-pow}
+use mir.Val.{bits}
 use Rattle.pup_pack.specs.declared.error.PupError.{PupError}
 use Rattle.pup_pack.specs.Packing.{RoundTrip}
-use Rattle.pup_pack.specs.Numbers.{unpack_u32, u32_round_trip, unpack_u64, u64_round_trip}
+use Rattle.pup_pack.specs.Numbers.{pack_u8, unpack_u8, unpack_u16, u16_round_trip, unpack_u32, u32_round_trip, unpack_u64, u64_round_trip}
 use Rattle.pup_pack.specs.Pairs.{unpack_pair, pair_round_trip, le_first, le_second}
 use Rattle.pup_pack.specs.Lists.{IsCounted, pack_list, unpack_list, pack_bytes, unpack_bytes}
 use Rattle.pup_pack.specs.ListTrips.{list_round_trip, bytes_round_trip}
-use Rattle.pup_pack.specs.Structs.{made, judged, made_round_trip, judged_round_trip}
+use Rattle.pup_pack.specs.Structs.{made, judged, decoded, made_round_trip, judged_round_trip, decoded_round_trip}
+use Rattle.pup_pack.specs.Signed.{pack_signed, unpack_signed, made_signed}
+use Rattle.pup_pack.specs.Truths.{pack_bool, unpack_bool, bool_code, bool_of, bool_again}
+
+pub u8_trips : RoundTrip (λ n. n < 2 ^ 8) (λ _. Unit {0}) pack_u8 unpack_u8
+u8_trips = record { trip = λ n rest _ _ _. refl }
+
+pub u16_trips : RoundTrip (λ n. n < 2 ^ 16) (λ _. Unit {0}) (to_be_bytes w16) unpack_u16
+u16_trips = record { trip = λ n rest fit _ _. u16_round_trip n rest fit }
 
 pub u32_trips : RoundTrip (λ n. n < 2 ^ 32) (λ _. Unit {0}) (to_be_bytes w32) unpack_u32
 u32_trips = record { trip = λ n rest fit _ _. u32_round_trip n rest fit }
@@ -41,3 +51,18 @@ pub judged_trips : {S : Type 0} {f c : S → Type 0} {p : S → List ℕ} {u : L
     → RoundTrip f c p u → RoundTrip (λ s. f s × (test s ≡ true)) c p (λ bytes. judged test (u bytes))
 judged_trips {p = p} {u = u} test whole =
     record { trip = λ s rest fit count few. judged_round_trip test (u (p s ++ rest)) s (length (p s)) fit.1 (whole.trip s rest fit.0 count few) }
+
+-- of a type whose values are written as those of another type, and are read from these
+pub decoded_trips : {F S : Type 0} {f c : F → Type 0} {p : F → List ℕ} {u : List ℕ → Result (F × ℕ) PupError} (fits : S → Type 0) (code : S → F) (read : F → Option S)
+    → ((s : S) → fits s → read (code s) ≡ Some s) → ((s : S) → fits s → f (code s))
+    → RoundTrip f c p u → RoundTrip fits (λ s. c (code s)) (λ s. p (code s)) (λ bytes. decoded read (u bytes))
+decoded_trips {p = p} {u = u} fits code read same fitting whole =
+    record { trip = λ s rest fit count few. decoded_round_trip read (u (p (code s) ++ rest)) (code s) s (length (p (code s))) (same s fit) (whole.trip (code s) rest (fitting s fit) count few) }
+
+pub bool_trips : RoundTrip (λ _. Unit {0}) (λ _. Unit {0}) pack_bool unpack_bool
+bool_trips = record { trip = λ b rest _ _ _. decoded_round_trip bool_of (unpack_u8 (pack_bool b ++ rest)) (bool_code b) b 1 (bool_again b) refl }
+
+pub signed_trips : (w : Width) {p : ℕ → List ℕ} {u : List ℕ → Result (ℕ × ℕ) PupError} → RoundTrip (λ n. n < 2 ^ bits w) (λ _. Unit {0}) p u
+    → RoundTrip (FitsSigned w) (λ _. Unit {0}) (pack_signed w p) (unpack_signed w u)
+signed_trips w {p = p} {u = u} whole =
+    record { trip = λ z rest fit count few. made_signed w z (length (p (cast_unsigned w z))) fit (u (p (cast_unsigned w z) ++ rest)) (whole.trip (cast_unsigned w z) rest (Fits-lt-pow (Fits-of_z fit)) count few) }

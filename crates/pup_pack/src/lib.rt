@@ -30,8 +30,11 @@ mod four_bytes;
 mod items;
 mod lists;
 mod measure;
+mod one_byte;
 mod pair;
 mod pup;
+mod truth;
+mod two_bytes;
 
 pub use bytes::Bytes;
 pub use error::PupError;
