@@ -3,6 +3,7 @@ pub mod Numbers
 pub mod Pairs
 pub mod Lists
 pub mod ListTrips
+pub mod Options
 pub mod Structs
 pub mod Signed
 pub mod Truths

@@ -1,6 +1,6 @@
 -- The law of each type, as a value: that of a list is made from that of its items, and that of a struct from those
 -- of its fields, as the types are.
-use Rattle.std.specs.Prelude.{◌≡◌, ℕ, FitsSigned, ◌<◌, ◌^◌, List, ◌++◌, length, All, Bool, true, Option, Some, Result, Ok}
+use Rattle.std.specs.Prelude.{◌≡◌, ℕ, FitsSigned, ◌<◌, ◌^◌, List, ◌++◌, length, All, Bool, true, Option, Some, IfSome, Result, Ok}
 use Rattle.std.specs.Int.{w16, w32, w64, Width, to_be_bytes, cast_unsigned}
 use Rattle.std.proofs.Common.{refl, subst}
 use Rattle.std.proofs.Math.Facts.{Fits-of_z, Fits-lt-pow}
@@ -11,6 +11,7 @@ use Rattle.pup_pack.specs.Numbers.{pack_u8, unpack_u8, unpack_u16, u16_round_tri
 use Rattle.pup_pack.specs.Pairs.{unpack_pair, pair_round_trip, le_first, le_second}
 use Rattle.pup_pack.specs.Lists.{IsCounted, pack_list, unpack_list, pack_bytes, unpack_bytes}
 use Rattle.pup_pack.specs.ListTrips.{list_round_trip, bytes_round_trip}
+use Rattle.pup_pack.specs.Options.{pack_option, unpack_option, option_round_trip}
 use Rattle.pup_pack.specs.Structs.{made, judged, decoded, made_round_trip, judged_round_trip, decoded_round_trip}
 use Rattle.pup_pack.specs.Signed.{pack_signed, unpack_signed, made_signed}
 use Rattle.pup_pack.specs.Truths.{pack_bool, unpack_bool, bool_code, bool_of, bool_again}
@@ -34,6 +35,11 @@ pub list_trips : {T : Type 0} {fits counted : T → Type 0} {pack : T → List �
     → RoundTrip (All fits) (λ xs. IsCounted xs × All counted xs) (pack_list pack) (unpack_list unpack)
 list_trips {fits = fits} {counted = counted} {pack = pack} {unpack = unpack} item =
     record { trip = λ xs rest fit count few. list_round_trip fits counted pack unpack item xs rest fit count.1 count.0 few }
+
+pub option_trips : {T : Type 0} {fits counted : T → Type 0} {pack : T → List ℕ} {unpack : List ℕ → Result (T × ℕ) PupError} → RoundTrip fits counted pack unpack
+    → RoundTrip (λ o. IfSome o fits) (λ o. IfSome o counted) (pack_option pack) (unpack_option unpack)
+option_trips {fits = fits} {counted = counted} {pack = pack} {unpack = unpack} item =
+    record { trip = λ o rest fit count few. option_round_trip fits counted pack unpack item o rest fit count few }
 
 pub pair_trips : {T U : Type 0} {f c : T → Type 0} {p : T → List ℕ} {u : List ℕ → Result (T × ℕ) PupError} {g d : U → Type 0} {q : U → List ℕ} {v : List ℕ → Result (U × ℕ) PupError}
     → RoundTrip f c p u → RoundTrip g d q v → RoundTrip (λ s. f s.0 × g s.1) (λ s. c s.0 × d s.1) (λ s. p s.0 ++ q s.1) (unpack_pair u v)

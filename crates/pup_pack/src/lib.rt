@@ -31,9 +31,11 @@ mod items;
 mod lists;
 mod measure;
 mod one_byte;
+mod option;
 mod pair;
 mod pup;
 mod truth;
+mod tuples;
 mod two_bytes;
 
 pub use bytes::Bytes;
