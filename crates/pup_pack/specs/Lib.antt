@@ -6,5 +6,7 @@ pub mod ListTrips
 pub mod Options
 pub mod Structs
 pub mod Signed
+pub mod Floats
+pub mod Texts
 pub mod Truths
 pub mod Trips
