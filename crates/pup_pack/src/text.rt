@@ -7,8 +7,8 @@ use crate::pup::Pup;
 use std::alloc::{Allocator, Global};
 use std::marker::Model;
 
-/// A text. It packs into the number of the bytes of its UTF-8, in four bytes, and then these bytes. Contracts see it
-/// as the list of these bytes.
+/// A text. It packs into the number of bytes of its UTF-8, in four bytes, and then these bytes. Bytes that are not
+/// UTF-8 are [`Bad`](PupError::Bad), which is found last. Contracts see a text as the list of its bytes.
 #[derive(Debug, Drop)]
 pub struct Text<A: Allocator = Global> {
     all: String<A>,
