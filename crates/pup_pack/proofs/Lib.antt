@@ -1,2 +1,3 @@
 pub mod Resumed
 pub mod Packs
+pub mod Texts

@@ -3,5 +3,10 @@ pub mod Numbers
 pub mod Pairs
 pub mod Lists
 pub mod ListTrips
+pub mod Options
 pub mod Structs
+pub mod Signed
+pub mod Floats
+pub mod Texts
+pub mod Truths
 pub mod Trips

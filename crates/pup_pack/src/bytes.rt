@@ -1,4 +1,6 @@
-ghost use Rattle.std.specs.Prelude.{◌≡◌};
+ghost use Rattle.std.specs.Prelude.{◌≡◌, ◌+◌, ◌<◌, ◌≤◌, ◌++◌, Err, length, OnErr, OnOk, vec_capacity, vec_len};
+ghost use Rattle.pup_pack.specs.Lists.{IsCounted, pack_bytes};
+ghost use Rattle.pup_pack.specs.Packing.{PackAnswer};
 
 use crate::error::PupError;
 use crate::lists::unpack_count;
@@ -60,23 +62,11 @@ impl<A: Allocator> Pup<A> for Bytes<A> {
     ghost round_trip = { bytes_trips.trip };
 
     fn packed_len(&self) -> u32 {
-        let count = self.all.len();
-        if count > (Limits::STATE_BYTES - 4) as usize {
-            return Limits::STATE_BYTES + 1;
-        }
-        4 + count as u32
+        counted_len(self.all.len())
     }
 
     fn pack_into(&self, out: &mut Vec<u8, A>) -> Result<(), PupError> {
-        let count = self.all.len();
-        if count > (Limits::STATE_BYTES - 4) as usize {
-            return Err(PupError::TooLong);
-        }
-        out.reserve(4 + count)?;
-        out.extend_from_slice(&(count as u32).to_be_bytes())
-            .unwrap();
-        out.extend_from_slice(self.all.as_slice()).unwrap();
-        Ok(())
+        pack_counted(self.all.as_slice(), out)
     }
 
     fn unpack(alloc: A, bytes: &[u8]) -> Result<(Bytes<A>, usize), PupError> {
@@ -93,4 +83,34 @@ impl<A: Allocator> Pup<A> for Bytes<A> {
             4 + count,
         ))
     }
+}
+
+/// The packed length of a list of this number of bytes, as [`Pup::packed_len`] gives it.
+pub fn counted_len(count: usize) -> u32
+    ensures len { 4 + count ≤ Limits.STATE_BYTES → result ≡ 4 + count }
+    ensures over { Limits.STATE_BYTES < 4 + count → result ≡ Limits.STATE_BYTES + 1 }
+{
+    if count > (Limits::STATE_BYTES - 4) as usize {
+        return Limits::STATE_BYTES + 1;
+    }
+    4 + count as u32
+}
+
+/// Appends the number of these bytes and the bytes, as [`Pup::pack_into`] does.
+pub fn pack_counted<A: Allocator>(bytes: &[u8], out: &mut Vec<u8, A>) -> Result<(), PupError>
+    ensures appended { OnOk result (out.new.items ≡ out.old.items ++ pack_bytes bytes.now) }
+    ensures answer { PackAnswer (IsCounted bytes.now) (length (pack_bytes bytes.now)) result }
+    ensures full { result ≡ Err PupError.OutOfMemory → vec_capacity out.old < vec_len out.old + length (pack_bytes bytes.now) }
+    ensures err { OnErr result (out.new.items ≡ out.old.items) }
+    ensures capacity { vec_capacity out.old ≤ vec_capacity out.new }
+{
+    let count = bytes.len();
+    if count > (Limits::STATE_BYTES - 4) as usize {
+        return Err(PupError::TooLong);
+    }
+    out.reserve(4 + count)?;
+    out.extend_from_slice(&(count as u32).to_be_bytes())
+        .unwrap();
+    out.extend_from_slice(bytes).unwrap();
+    Ok(())
 }

@@ -10,7 +10,8 @@ pub enum PupError {
     /// The bytes end before the value does.
     #[error("the packed bytes are too short")]
     Short = 1,
-    /// The bytes are not a value of the type. No type of this crate returns this.
+    /// The bytes are not a value of the type: a truth value or an option that begins with another byte than 0 or 1, or
+    /// a text that is not UTF-8.
     #[error("the packed bytes are no value")]
     Bad = 2,
     /// The pack is longer than 1,048,576 bytes, or a list in it has more than 1,048,576 items.

@@ -1,11 +1,17 @@
 //! Packed states: an element that moves between PEs moves as bytes, and unpacking them yields the value that was
 //! packed, whatever bytes follow.
 //!
-//! - [`Pup`]: a value that packs, with its law. It is implemented for `u32`, `u64`, [`Bytes`], [`Items`] and pairs;
-//!   its docs show how to implement it for a type of your own.
-//! - [`Bytes`]: a list of bytes. [`Items`]: a list of packed values.
+//! - [`Pup`]: a value that packs, with its law. It is implemented for integers of 8 to 64 bits, `f32`, `f64`, `bool`,
+//!   `Option`, tuples of two to six parts, [`Text`], [`Bytes`] and [`Items`]; its docs show how to implement it for a
+//!   type of your own.
+//! - [`Text`]: a text. [`Bytes`]: a list of bytes. [`Items`]: a list of packed values.
 //! - [`Fields`]: the fields of a struct, packed one after another.
 //! - [`PupError`]: why a value is not packed, or bytes are not unpacked.
+//!
+//! A number packs into its bytes, the highest first, and a signed one into those of its two's complement. A float packs
+//! into the bytes of its bits (IEEE 754), and comes back as it was, with the sign of a zero; a NaN comes back as a NaN,
+//! which has no sign and no payload here. A truth value is the byte 0 or 1. An option is the byte 0, or the byte 1 and
+//! then the value. A tuple is its parts, one after another.
 //!
 //! ```
 //! use pup_pack::{Items, Pup, PupError};
@@ -26,15 +32,23 @@ mod bytes;
 mod eight_bytes;
 mod error;
 mod fields;
+mod floats;
 mod four_bytes;
 mod items;
 mod lists;
 mod measure;
+mod one_byte;
+mod option;
 mod pair;
 mod pup;
+mod text;
+mod truth;
+mod tuples;
+mod two_bytes;
 
 pub use bytes::Bytes;
 pub use error::PupError;
 pub use fields::Fields;
 pub use items::Items;
 pub use pup::Pup;
+pub use text::Text;

@@ -56,7 +56,11 @@ use std::alloc::Allocator;
 ///
 /// This needs no proof file. The law is put together as the type is: `pair_trips` of the laws of the fields, and `struct_trips`
 /// of how the struct is made of them. Where not all fields make a value of the type, its `unpack` tests them and returns
-/// [`Bad`](PupError::Bad), and its impl has `judged` and `judged_trips` in place of these.
+/// [`Bad`](PupError::Bad), and its impl has `judged` and `judged_trips` in place of these; or `decoded` and
+/// `decoded_trips`, where the value is another type's, as that of a byte is for `bool`.
+///
+/// The law of a signed integer is `signed_trips w32 u32_trips`, that of a float `float_trips binary64 u64_trips`, and
+/// that of an option `option_trips` of the law of its value.
 pub trait Pup<A: Allocator>: Sized {
     /// Holds of every value of the type. The law below asks for it, since there an integer is any natural number.
     ghost fits: { Self → Type 0 };

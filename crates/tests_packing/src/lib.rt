@@ -8,3 +8,5 @@ mod fixtures;
 mod opening_pes;
 #[cfg(test)]
 mod packing;
+#[cfg(test)]
+mod values;

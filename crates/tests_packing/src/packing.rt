@@ -1,6 +1,6 @@
 //! Packed states: the worked rows, types of a user's own, and packs of full size.
 
-use crate::fixtures::assert_for;
+use crate::fixtures::{again, assert_for, expect_short};
 use pup_pack::{Bytes, Fields, Items, Pup, PupError};
 use std::alloc::{Allocator, Global};
 use std::marker::Model;
@@ -49,27 +49,6 @@ impl<A: Allocator + Copy> Pup<A> for State<A> {
 const STATE: [u8; 25] = [
     17, 18, 19, 20, 21, 22, 23, 24, 0, 0, 0, 1, 1, 2, 3, 4, 0, 0, 0, 1, 170, 1, 2, 3, 4,
 ];
-
-// Whether the value that these bytes begin with packs into the same bytes again, after a byte that is already there; or
-// how the bytes are refused.
-fn again<T: Pup<Global> + Drop>(
-    rt: &(impl Abort + AllocGlobal),
-    bytes: &[u8],
-) -> Result<bool, PupError> {
-    let (value, len) = T::unpack(rt.alloc(), bytes)?;
-    let mut out = Vec::from_slice(rt.alloc(), &[255])?;
-    value.pack_into(&mut out)?;
-    let same = out.as_slice().split_first() == Some((&255, &bytes[..len]));
-    Ok(same && value.packed_len() as usize == len)
-}
-
-// Each of these first bytes alone is too short.
-fn expect_short<T: Pup<Global> + Drop>(rt: &(impl Abort + AllocGlobal), bytes: &[u8]) {
-    for end in 0..bytes.len() {
-        let answer = again::<T>(rt, &bytes[..end]);
-        assert_for(rt, answer == Err(PupError::Short), &bytes[..end]);
-    }
-}
 
 // Whether these bytes begin with the number, the list and the byte.
 fn is_the_state(alloc: Global, bytes: &[u8]) -> bool {
