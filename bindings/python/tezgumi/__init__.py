@@ -19,6 +19,7 @@ says; then by the system's loader. (In a clone, what bindings/build made comes b
 - figures: figures, sweep, table, pe_loads
 - dumps: read_dump, write_dump, decode, encode, of the formats LBD1 and LBD2
 - texts: replay_text, the text that lb_sim prints
+- mpi: rebalance, decide, move and report of arrays on MPI ranks; `import tezgumi.mpi`, which needs mpi4py
 - page: page, which shows the rounds of a run in a browser
 - errors: TezgumiError and its kinds
 
