@@ -1,5 +1,5 @@
-"""Tests of tezgumi.mpi, which mpirun starts on some ranks: python3 tests/under_mpi.py. Rank 0 prints a line for each test, ok and its
-name, or FAILED and its name. What is expected comes from plain loops over all elements, which every rank knows here."""
+"""Tests of tezgumi.mpi, which mpirun starts on some ranks: python3 tests/under_mpi.py. Rank 0 prints a line for each test, ok
+and its name, or FAILED and its name. What is expected comes from plain loops over all elements, which every rank knows here."""
 import os
 import resource
 import sys
@@ -289,22 +289,22 @@ def test_a_library_that_is_not_there():
     expect(over_mpi.report(comm, [1]).max_load_after == 1, "the library is not found again")
 
 
+def passes(name, test):
+    """Runs a test on all ranks, and prints how it went."""
+    trouble = ""
+    try:
+        test()
+    except Exception:
+        trouble = traceback.format_exc()
+    all_trouble = [text for text in comm.allgather(trouble) if text]
+    if RANK == 0:
+        print(f"{'FAILED' if all_trouble else 'ok'}: {name}", *all_trouble[:1], sep="\n", flush=True)
+    return not all_trouble
+
+
 def main():
-    failed = 0
-    for name, test in sorted(globals().items()):
-        if not name.startswith("test_"):
-            continue
-        trouble = ""
-        try:
-            test()
-        except Exception:
-            trouble = traceback.format_exc()
-        all_trouble = [text for text in comm.allgather(trouble) if text]
-        failed += bool(all_trouble)
-        if RANK == 0:
-            print(f"{'FAILED' if all_trouble else 'ok'}: {name[5:].replace('_', ' ')}", *all_trouble[:1], sep="\n" if all_trouble else "")
-            sys.stdout.flush()
-    return failed > 0
+    tests = [(name[5:].replace("_", " "), test) for name, test in globals().items() if name.startswith("test_")]
+    return not all([passes(name, test) for name, test in tests])
 
 
 if __name__ == "__main__":

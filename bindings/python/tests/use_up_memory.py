@@ -46,5 +46,6 @@ planning.np.empty = empty
 call_without_memory("plan", lambda: tezgumi.plan(run))
 call_without_memory("decide", lambda: tezgumi.decide(run))
 planning.np.empty = numpy_empty
+call_without_memory("divide", lambda: tezgumi.divide(run.loads, 2))
 call_without_memory("check", lambda: tezgumi.check(run, right))
 print("after", bool(tezgumi.check(run, tezgumi.decide(run))))

@@ -6,18 +6,20 @@
     new = tezgumi.mpi.rebalance(MPI.COMM_WORLD, loads, [positions, names], keep_order=True)
     loads, (positions, names) = new.loads, new.fields
 
-The elements lie along a chain, and each rank holds some consecutive ones: entry k of each of its arrays is its k-th element. Behind
-a rebalance each rank holds consecutive elements again, and no other division has a smaller greatest load of a rank. Unless
-the ranks are to keep their order, they get their parts so that the fewest bytes move. No rank sees all elements.
+The elements lie along a chain, and each rank holds some consecutive ones: entry k of each of its arrays is its k-th element.
+Behind a rebalance each rank holds consecutive elements again, and no other division has a smaller greatest load of a rank.
+Unless the ranks are to keep their order, they get their parts so that the fewest bytes move. No rank sees all elements.
 
 - rebalance: decides and moves; decide: decides alone; move: moves arrays by what was decided; report: what a rebalance would give
 - Division, what was decided; Rebalanced, what was moved; Report, the figures of either
 
-Each call is made by all ranks of the communicator. Where one rank fails, be it by an array that does not fit or by memory that it is
-refused, all ranks raise, and the arrays that were given are as they were: a call writes new arrays alone. The text names the rank.
+Each call is made by all ranks of the communicator. Where one rank fails, be it by an array that does not fit or by memory
+that it is refused, all ranks raise, and the arrays that were given are as they were: a call writes new arrays alone. The text
+of the others names that rank.
 
-The library is looked for where TEZGUMI_MPI_LIBRARY says, then, in a clone, where bindings/build puts it, and then by the system's
-loader. It is for one MPI, which has to be that of mpi4py. This module is tested, and not proved; the division is, and is checked.
+The library is looked for where TEZGUMI_MPI_LIBRARY says, then, in a clone, where bindings/build puts it, and then by the
+system's loader. It is for one MPI, which has to be that of mpi4py. This module is tested, and not proved; the division is, and
+is checked.
 """
 from __future__ import annotations
 
@@ -129,8 +131,8 @@ class Rebalanced(NamedTuple):
 
 
 def place() -> str:
-    """The library's place: where TEZGUMI_MPI_LIBRARY says; or where bindings/build puts it beside a package that lies in a clone; or its
-    name, for the system's loader to look for."""
+    """The library's place: where TEZGUMI_MPI_LIBRARY says; or where bindings/build puts it beside a package that lies in a clone;
+    or its name, for the system's loader to look for."""
     named = os.environ.get("TEZGUMI_MPI_LIBRARY")
     if named:
         return named
@@ -160,14 +162,14 @@ def library() -> ctypes.CDLL:
 def decide(
         comm: MPI.Comm, loads: ArrayLike, sizes: ArrayLike | int, tolerance: int = 0, keep_order: bool = False,
         first: int | None = None) -> Division:
-    """Where all elements are to be. `loads` has the load of each element that this rank holds, whole numbers that add up to less than
-    2^63 on all ranks, and `sizes` the bytes of each, or of every one, which is what moving it costs.
+    """Where all elements are to be. `loads` has the load of each element that this rank holds, whole numbers that add up to less
+    than 2^63 on all ranks, and `sizes` the bytes of each, or of every one, which is what moving it costs.
 
-    `first` is the number of this rank's first element along the chain, given on all ranks or on none. Without it the ranks hold the
-    chain in their own order, as keep_order=True leaves it.
+    `first` is the number of this rank's first element along the chain, given on all ranks or on none. Without it the ranks
+    hold the chain in their own order, as keep_order=True leaves it.
 
-    Nothing is to move where the heaviest rank has at most so many thousandths more than the least possible load, `tolerance`, and,
-    with keep_order, the ranks hold the chain in their own order. With keep_order rank 0 gets the first block, and so on;
+    Nothing is to move where the heaviest rank has at most so many thousandths more than the least possible load, `tolerance`,
+    and, with keep_order, the ranks hold the chain in their own order. With keep_order rank 0 gets the first block, and so on;
     without it the ranks get their blocks so that the fewest bytes move.
     """
     def prepare() -> Tuple[NDArray[np.uint64], NDArray[np.uint32], _Options, int]:
@@ -199,9 +201,9 @@ def move(comm: MPI.Comm, division: Division, fields: Sequence[ArrayLike], room: 
 def rebalance(
         comm: MPI.Comm, loads: ArrayLike, fields: Sequence[ArrayLike], tolerance: int = 0, keep_order: bool = False,
         first: int | None = None, room: int = 0) -> Rebalanced:
-    """Decides, by `decide`, and moves the loads and the fields, by `move`. Give the `first` of what it returns to the next call, or
-    keep the order. What moving an element costs is the bytes of its load and of all its fields. Where nothing is to move the arrays
-    are copies too."""
+    """Decides, by `decide`, and moves the loads and the fields, by `move`. Give the `first` of what it returns to the next call,
+    or keep the order. What moving an element costs is the bytes of its load and of all its fields. Where nothing is to move the
+    arrays are copies too."""
     arrays = _together(comm, lambda: _given(loads, fields), _print_of)
     division = decide(comm, arrays[0], sum(map(_row_bytes, arrays)), tolerance, keep_order, first)
     (new_loads, *new_fields), exchanges = _move(comm, division, arrays, room)
@@ -289,8 +291,8 @@ def _division(comm: MPI.Comm, layout: _Layout, figures: _Report) -> Division:
     cuts, names = _words(layout.cuts, ranks + 1), _words(layout.names, ranks)
     own = int(np.flatnonzero(names == comm.Get_rank())[0])
     made = Report(*(getattr(figures, name) for name in Report.__dataclass_fields__))
-    return Division(
-        layout.n, _words(layout.firsts, ranks), _words(layout.counts, ranks), cuts, names, int(cuts[own]), int(cuts[own + 1]), made)
+    firsts, counts = _words(layout.firsts, ranks), _words(layout.counts, ranks)
+    return Division(layout.n, firsts, counts, cuts, names, int(cuts[own]), int(cuts[own + 1]), made)
 
 
 def _words(pointer: int, count: int) -> NDArray[np.uint32]:
@@ -411,5 +413,5 @@ def _hold(status: int, figures: _Report) -> None:
     """Raises what a status of the library other than 0 stands for."""
     if status != 0:
         text = library().tezgumi_mpi_status_name(status).decode()
-        where = f"rank {figures.failed_rank}, element {figures.failed_at}" if figures.failed_rank >= 0 else "no rank in particular"
-        raise _FAILURES.get(status, TezgumiError)(f"{text} ({where})")
+        where = f" (rank {figures.failed_rank}, element {figures.failed_at})" if figures.failed_rank >= 0 else ""
+        raise _FAILURES.get(status, TezgumiError)(text + where)
