@@ -256,6 +256,28 @@ int tezgumi_mpi_move_part(MPI_Comm comm, const tezgumi_mpi_part *part, tezgumi_m
  * where the layout has no such rank. Not collective. */
 int tezgumi_mpi_new_range(const tezgumi_mpi_layout *layout, int rank, uint32_t *first, uint32_t *end);
 
+/* What one rank imports and exports, element by element, in order of index. It begins as all 0, can be used again and again, and ends
+ * with tezgumi_mpi_lists_free. */
+typedef struct {
+    uint32_t imports;         /* how many elements come to the rank: */
+    uint32_t *import_indices; /* of each its index, */
+    uint32_t *import_ranks;   /* and the rank that it comes from */
+    uint32_t exports;         /* how many elements leave the rank: */
+    uint32_t *export_indices; /* of each its index, */
+    uint32_t *export_ranks;   /* and the rank that it goes to */
+    void *room;               /* what tezgumi_mpi_lists_free gives back */
+} tezgumi_mpi_lists;
+
+/* Gives the room back and makes all of *lists null and 0. lists may be null. Not collective. */
+void tezgumi_mpi_lists_free(tezgumi_mpi_lists *lists);
+
+/* Lists what a rank, this one or another, imports and exports by the decision of a layout, which is only read. Where callbacks have
+ * ended a move, it is what is still to go, and for the rank alone whose layout it is. Not collective.
+ *
+ * TEZGUMI_BAD_INPUT where a pointer is null, the layout has no such rank, its cuts do not divide the elements, or its names are not all
+ * ranks; TEZGUMI_NO_MEMORY. After either the lists are as they were. */
+int tezgumi_mpi_lists_of(const tezgumi_mpi_layout *layout, int rank, tezgumi_mpi_lists *lists);
+
 /* A field of the elements: so many bytes of each, in an array of the elements that this rank holds, and in another of those that it
  * is to hold. An array that would have no elements, or no bytes, may be null. */
 typedef struct {
