@@ -410,6 +410,22 @@ static void refusals(void)
     expect_arrays();
 }
 
+/* Ranges of which two have elements in common, and as many others are in none, on all ranks alike: of this rank and another, and of two
+ * others. */
+static void overlaps(void)
+{
+    tezgumi_mpi_layout before;
+    uint32_t words[6 * 64 + 1], other;
+    for (other = 1; other < (uint32_t)ranks && other < 3; other++) {
+        begin_funnel(6);
+        layout.firsts[other] -= 3;
+        before = layout;
+        memcpy(words, layout.room, (6 * (size_t)ranks + 1) * sizeof *words);
+        EXPECT(move_within(0) == TEZGUMI_BAD_INPUT && report.failed_rank == 0);
+        expect_untouched(&before, words);
+    }
+}
+
 /* What the ranks do not have in common. */
 static void differences(void)
 {
@@ -525,6 +541,7 @@ int main(int argc, char **argv)
     run_test("arrays as by callbacks", as_by_callbacks);
     if (ranks > 1) {
         run_test("room for an exchange of arrays", room);
+        run_test("ranges that overlap", overlaps);
         run_test("arrays that differ from rank to rank", differences);
         run_test("two groups of ranks with arrays", two_groups);
     }
