@@ -14,7 +14,8 @@
  *
  *   1. tezgumi_mpi_decide_part: the ranks find the least ranges together, by numbers of their parts and a few runs of
  *      elements, and prove them by sums over all ranks. The ranks compare a fingerprint of what they decided.
- *   2. tezgumi_mpi_move_part: what leaves a rank is packed and exchanged, and what arrives is unpacked.
+ *   2. tezgumi_mpi_move_part: what leaves a rank is packed and exchanged, and what arrives is unpacked. Where the elements are
+ *      plain arrays, tezgumi_mpi_move_arrays copies them, without callbacks.
  *
  * Otherwise each rank gets to know all elements, which are few then, in three steps:
  *
@@ -250,6 +251,66 @@ int tezgumi_mpi_decide_part(MPI_Comm comm, const tezgumi_mpi_part *part, const t
  * not ended; TEZGUMI_NO_MEMORY; TEZGUMI_MPI_DISAGREE where the layouts or the room differ, or sent and received: nothing has moved. */
 int tezgumi_mpi_move_part(MPI_Comm comm, const tezgumi_mpi_part *part, tezgumi_mpi_layout *layout,
     const tezgumi_mpi_callbacks *callbacks, const tezgumi_mpi_options *options, tezgumi_mpi_report *report);
+
+/* The elements that a rank is to hold by the decision: *first .. *end - 1, empty where *first == *end. Answers 0, and an empty range,
+ * where the layout has no such rank. Not collective. */
+int tezgumi_mpi_new_range(const tezgumi_mpi_layout *layout, int rank, uint32_t *first, uint32_t *end);
+
+/* What one rank imports and exports, element by element, in order of index. It begins as all 0, can be used again and again, and ends
+ * with tezgumi_mpi_lists_free. */
+typedef struct {
+    uint32_t imports;         /* how many elements come to the rank: */
+    uint32_t *import_indices; /* of each its index, */
+    uint32_t *import_ranks;   /* and the rank that it comes from */
+    uint32_t exports;         /* how many elements leave the rank: */
+    uint32_t *export_indices; /* of each its index, */
+    uint32_t *export_ranks;   /* and the rank that it goes to */
+    void *room;               /* what tezgumi_mpi_lists_free gives back */
+} tezgumi_mpi_lists;
+
+/* Gives the room back and makes all of *lists null and 0. lists may be null. Not collective. */
+void tezgumi_mpi_lists_free(tezgumi_mpi_lists *lists);
+
+/* Lists what a rank, this one or another, imports and exports by the decision of a layout, which is only read. Where callbacks have
+ * ended a move, it is what is still to go, and for the rank alone whose layout it is. Not collective.
+ *
+ * TEZGUMI_BAD_INPUT where a pointer is null, the layout has no such rank, its cuts do not divide the elements, or its names are not all
+ * ranks; TEZGUMI_NO_MEMORY. After either the lists are as they were. */
+int tezgumi_mpi_lists_of(const tezgumi_mpi_layout *layout, int rank, tezgumi_mpi_lists *lists);
+
+/* A field of the elements: so many bytes of each, in an array of the elements that this rank holds, and in another of those that it
+ * is to hold. An array that would have no elements, or no bytes, may be null. */
+typedef struct {
+    const void *from;   /* of element firsts[rank] + k the bytes are at from + k * from_stride; they are not written to */
+    void *to;           /* with the range of tezgumi_mpi_new_range, those of element *first + k come to be at to + k * to_stride */
+    size_t from_stride; /* from one element to the next: bytes at least, where there are two */
+    size_t to_stride;   /* likewise; strides may differ from rank to rank */
+    size_t bytes;       /* of each element, the same on all ranks */
+} tezgumi_mpi_field;
+
+/* Step 2 for parts whose elements are plain arrays: moves so many fields in place of calling callbacks. What stays on its rank is copied
+ * too, so that each `to` has all elements of the new range, in order, and nothing else is written. Then firsts and counts are the
+ * new ranges. Cuts and names may come from another partitioner.
+ *
+ *     tezgumi_mpi_new_range(&layout, rank, &first, &end);
+ *     double *after = malloc((end - first) * sizeof *after);
+ *     const tezgumi_mpi_field field = {before, after, sizeof *before, sizeof *after, sizeof *after};
+ *     status = tezgumi_mpi_move_arrays(comm, &layout, &field, 1, NULL, NULL);
+ *
+ * It goes in exchanges, as with callbacks: a rank sends so many whole elements as fit into the room of the options, and receives so
+ * many, one at least. Bytes of an element are those of all its fields, not rounded up. A rank needs two buffers of that room, or as
+ * great as all that it sends and receives, if that is less.
+ *
+ * All of it is done or nothing: all memory is there on all ranks before anything is written, and afterwards nothing but MPI can fail. What
+ * is in `from` stays, to be given back by the caller. After any answer but TEZGUMI_OK and TEZGUMI_MPI_ERROR no `to` was written, and
+ * the layout is as it was. The caller owes that what is written overlaps nothing else that any field names.
+ *
+ * TEZGUMI_BAD_INPUT where there are two groups of ranks, a pointer is null, the layout is of another number of ranks, its ranges or its
+ * cuts do not divide the elements, the names are not all ranks, a move by callbacks has not ended, a stride is less than bytes
+ * or past the address space, or an element has more than TEZGUMI_MPI_BYTES; TEZGUMI_NO_MEMORY; TEZGUMI_MPI_DISAGREE where the
+ * layouts, the room, the number of fields or their bytes differ. */
+int tezgumi_mpi_move_arrays(MPI_Comm comm, tezgumi_mpi_layout *layout, const tezgumi_mpi_field *fields, uint32_t count,
+    const tezgumi_mpi_options *options, tezgumi_mpi_report *report);
 
 /* ---- All elements on all ranks ---- */
 

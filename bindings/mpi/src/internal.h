@@ -123,6 +123,32 @@ typedef struct {
 /* Room for a layout on so many ranks, from the last time or anew. TEZGUMI_NO_MEMORY where malloc refused. */
 int tezgumi_mpi_layout_room(tezgumi_mpi_layout *layout, uint32_t ranks);
 
+/* Consecutive elements that go from one rank to another. */
+typedef struct {
+    uint32_t peer;
+    uint32_t next, end; /* those that are still to go */
+} tezgumi_mpi_piece;
+
+/* What leaves a rank, or what comes to it. */
+typedef struct {
+    uint32_t count;          /* pieces, fewer than ranks */
+    tezgumi_mpi_piece *list; /* in order of index */
+    uint64_t left;           /* elements that are still to go */
+} tezgumi_mpi_pieces;
+
+/* Whether the cuts divide the elements, and each name is another rank; marks, one for each rank, are written meanwhile. */
+int tezgumi_mpi_is_decision(const tezgumi_mpi_layout *layout, uint32_t *marks);
+
+/* Finds what is still to leave a rank, and to come to it, by a decision. The lists have room for a piece of each rank. */
+void tezgumi_mpi_find_pieces(
+    const tezgumi_mpi_layout *layout, uint32_t rank, tezgumi_mpi_pieces *out, tezgumi_mpi_pieces *in);
+
+/* A fingerprint of who sends what to whom; never 0. */
+uint64_t tezgumi_mpi_print_of_move(const tezgumi_mpi_layout *layout);
+
+/* Everything is where it belongs: the layout follows. */
+void tezgumi_mpi_settle(tezgumi_mpi_layout *layout);
+
 /* tezgumi_mpi_decide_part, on a rank that has found a reason to refuse already, or TEZGUMI_OK. */
 int tezgumi_mpi_decide_part_or(MPI_Comm comm, int refused, const tezgumi_mpi_part *part, const tezgumi_mpi_options *options,
     tezgumi_mpi_layout *layout, tezgumi_mpi_report *report);

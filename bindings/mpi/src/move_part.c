@@ -7,24 +7,16 @@
 enum { MOST_OFFERED = 1 << 24, MOST_TOLD = 1 << 30 }; /* elements of a rank in a round, and of all ranks: an int counts these */
 enum { BYTES, LARGEST, ELEMENTS, TOLD };              /* what a rank tells another of all that will come from it */
 
-/* Consecutive elements that go from one rank to another. */
-typedef struct {
-    uint32_t peer;
-    uint32_t next, end; /* those that are still to go */
-} piece;
-
 /* What leaves this rank, or what arrives. Lists have an entry for each rank. */
 typedef struct {
-    uint32_t count;       /* pieces */
-    piece *pieces;        /* in order of index */
+    tezgumi_mpi_pieces pieces;
     uint32_t *offered;    /* elements that are offered in this round, */
     uint32_t *taken;      /* and those of them that go */
     int *told, *told_at;  /* of the list of sizes what is for each peer, and where it begins */
     int *bytes, *starts;  /* and of the buffer */
     uint32_t *sizes;      /* of what is offered, by piece */
     unsigned char *buffer;
-    uint64_t left;        /* elements that are still to go, */
-    uint64_t left_bytes;  /* their bytes, */
+    uint64_t left_bytes;  /* of the elements that are still to go, */
     uint64_t largest;     /* and those of the largest */
 } side;
 
@@ -43,48 +35,11 @@ typedef struct {
     void *lists, *buffers;
 } mover;
 
-/* Adds what two ranges have in common, but for so many elements that have gone already. */
-static void add_piece(side *d, uint32_t peer, uint64_t begin, uint64_t end, uint64_t gone)
-{
-    piece *p = &d->pieces[d->count];
-    if (begin + gone >= end) return;
-    p->peer = peer;
-    p->next = (uint32_t)(begin + gone);
-    p->end = (uint32_t)end;
-    d->left += end - begin - gone;
-    d->count++;
-}
-
-static int by_index(const void *a, const void *b)
-{
-    const piece *x = (const piece *)a, *y = (const piece *)b;
-    return x->next < y->next ? -1 : x->next > y->next;
-}
-
-/* Finds the pieces of both sides. */
-static void find_pieces(mover *m)
-{
-    const tezgumi_mpi_layout *l = m->layout;
-    const uint64_t first = l->firsts[m->rank], last = first + l->counts[m->rank];
-    uint32_t b, r, own = 0;
-    for (b = 0; b < m->ranks; b++) {
-        const uint64_t begin = tezgumi_mpi_later(first, l->cuts[b]), end = tezgumi_mpi_earlier(last, l->cuts[b + 1]);
-        if (l->names[b] == m->rank) own = b;
-        else add_piece(&m->out, l->names[b], begin, end, l->sent[l->names[b]]);
-    }
-    for (r = 0; r < m->ranks; r++) {
-        if (r == m->rank) continue;
-        add_piece(&m->in, r, tezgumi_mpi_later(l->firsts[r], l->cuts[own]),
-            tezgumi_mpi_earlier((uint64_t)l->firsts[r] + l->counts[r], l->cuts[own + 1]), l->received[r]);
-    }
-    qsort(m->in.pieces, m->in.count, sizeof *m->in.pieces, by_index);
-}
-
 /* Room for the lists of one side. */
 static unsigned char *lay_lists(side *d, size_t ranks, unsigned char *at)
 {
-    d->pieces = (piece *)at;
-    d->offered = (uint32_t *)(d->pieces + ranks);
+    d->pieces.list = (tezgumi_mpi_piece *)at;
+    d->offered = (uint32_t *)(d->pieces.list + ranks);
     d->taken = d->offered + ranks;
     d->told = (int *)(d->taken + ranks);
     d->told_at = d->told + ranks;
@@ -95,23 +50,12 @@ static unsigned char *lay_lists(side *d, size_t ranks, unsigned char *at)
 
 static int get_lists(mover *m)
 {
-    const size_t ranks = m->ranks, each = sizeof(piece) + 2 * sizeof(uint32_t) + 4 * sizeof(int);
+    const size_t ranks = m->ranks, each = sizeof(tezgumi_mpi_piece) + 2 * sizeof(uint32_t) + 4 * sizeof(int);
     m->lists = malloc(ranks * (2 * TOLD * sizeof *m->totals + 2 * each));
     if (!m->lists) return TEZGUMI_NO_MEMORY;
     m->totals = (uint64_t *)m->lists;
     lay_lists(&m->in, ranks, lay_lists(&m->out, ranks, (unsigned char *)(m->totals + 2 * TOLD * ranks)));
     return TEZGUMI_OK;
-}
-
-/* Whether the cuts divide the elements, and each name is another rank; marks are written meanwhile. */
-static int is_decision(const tezgumi_mpi_layout *l, uint32_t *marks)
-{
-    uint32_t b;
-    if (l->cuts[0] != 0 || l->cuts[l->ranks] != l->n) return 0;
-    memset(marks, 0, l->ranks * sizeof *marks);
-    for (b = 0; b < l->ranks; b++)
-        if (l->cuts[b] > l->cuts[b + 1] || l->names[b] >= l->ranks || marks[l->names[b]]++) return 0;
-    return 1;
 }
 
 /* Whether all that is given is there, and the part is what the layout says. */
@@ -128,25 +72,15 @@ static int is_usable(const mover *m)
     return 1;
 }
 
-/* A fingerprint of who sends what to whom; never 0. */
-static uint64_t print_of(const tezgumi_mpi_layout *l)
-{
-    uint64_t print = tezgumi_mpi_fingerprint(TEZGUMI_MPI_FINGERPRINT, &l->n, 1);
-    print = tezgumi_mpi_fingerprint(print, l->firsts, l->ranks);
-    print = tezgumi_mpi_fingerprint(print, l->counts, l->ranks);
-    print = tezgumi_mpi_fingerprint(print, l->names, l->ranks);
-    return tezgumi_mpi_fingerprint(print, l->cuts, (size_t)l->ranks + 1) | 1;
-}
-
 /* Whether what is sent and received so far, if anything is, went by the same cuts and names. */
 static int goes_on(const tezgumi_mpi_layout *l)
 {
-    return l->move == 0 || l->move == print_of(l);
+    return l->move == 0 || l->move == tezgumi_mpi_print_of_move(l);
 }
 
 int tezgumi_mpi_is_under_way(const tezgumi_mpi_layout *layout, uint32_t ranks)
 {
-    return layout && layout->room && layout->ranks == ranks && layout->move == print_of(layout);
+    return layout && layout->room && layout->ranks == ranks && layout->move == tezgumi_mpi_print_of_move(layout);
 }
 
 /* What all ranks have to have in common: who sends what to whom, and the room. */
@@ -167,8 +101,8 @@ static int tell_totals(mover *m)
     uint64_t *told = m->totals + TOLD * (size_t)m->ranks;
     uint32_t k, r, e;
     memset(told, 0, TOLD * (size_t)m->ranks * sizeof *told);
-    for (k = 0; k < m->out.count; k++) {
-        const piece *p = &m->out.pieces[k];
+    for (k = 0; k < m->out.pieces.count; k++) {
+        const tezgumi_mpi_piece *p = &m->out.pieces.list[k];
         uint64_t *to = told + TOLD * (size_t)p->peer;
         for (e = p->next; e < p->end; e++) {
             to[BYTES] += size_at(m, e);
@@ -192,12 +126,12 @@ static int are_expected(const mover *m)
 {
     uint64_t all = 0;
     uint32_t k, r;
-    for (k = 0; k < m->in.count; k++) {
-        const piece *p = &m->in.pieces[k];
+    for (k = 0; k < m->in.pieces.count; k++) {
+        const tezgumi_mpi_piece *p = &m->in.pieces.list[k];
         if (m->totals[TOLD * (size_t)p->peer + ELEMENTS] != p->end - p->next) return 0;
     }
     for (r = 0; r < m->ranks; r++) all += m->totals[TOLD * (size_t)r + ELEMENTS];
-    return all == m->in.left;
+    return all == m->in.pieces.left;
 }
 
 /* How many elements a rank offers in a round at most. */
@@ -216,8 +150,8 @@ static size_t buffer_of(const mover *m, const side *d)
 static int get_buffers(mover *m)
 {
     const size_t out = buffer_of(m, &m->out), in = buffer_of(m, &m->in);
-    const size_t offers = (size_t)tezgumi_mpi_earlier(m->out.left, most_offered(m));
-    const size_t offered = (size_t)tezgumi_mpi_earlier(m->in.left, m->ranks * most_offered(m));
+    const size_t offers = (size_t)tezgumi_mpi_earlier(m->out.pieces.left, most_offered(m));
+    const size_t offered = (size_t)tezgumi_mpi_earlier(m->in.pieces.left, m->ranks * most_offered(m));
     m->buffers = malloc(out + in + (offers + offered) * sizeof(uint32_t) + 16); /* not null for no element of 0 bytes */
     if (!m->buffers) return TEZGUMI_NO_MEMORY;
     m->out.buffer = (unsigned char *)m->buffers;
@@ -228,7 +162,7 @@ static int get_buffers(mover *m)
 }
 
 /* Offers the next elements of a piece. 0 where one does not fit any more. */
-static int offer_of(mover *m, const piece *p, size_t *used, uint64_t *count)
+static int offer_of(mover *m, const tezgumi_mpi_piece *p, size_t *used, uint64_t *count)
 {
     uint32_t e;
     for (e = p->next; e < p->end; e++) {
@@ -248,7 +182,7 @@ static void offer(mover *m)
     uint64_t count = 0;
     uint32_t k = 0;
     memset(m->out.offered, 0, m->ranks * sizeof *m->out.offered);
-    while (k < m->out.count && offer_of(m, &m->out.pieces[k], &used, &count)) k++;
+    while (k < m->out.pieces.count && offer_of(m, &m->out.pieces.list[k], &used, &count)) k++;
 }
 
 /* Lets the sizes that are offered stand piece by piece. */
@@ -256,8 +190,8 @@ static void lay_sizes(side *d)
 {
     uint32_t k;
     int at = 0;
-    for (k = 0; k < d->count; k++) {
-        const uint32_t peer = d->pieces[k].peer;
+    for (k = 0; k < d->pieces.count; k++) {
+        const uint32_t peer = d->pieces.list[k].peer;
         d->told[peer] = (int)d->offered[peer];
         d->told_at[peer] = at;
         at += d->told[peer];
@@ -284,8 +218,8 @@ static int take(mover *m)
     uint32_t k, count;
     int fits = 1;
     memset(in->taken, 0, m->ranks * sizeof *in->taken);
-    for (k = 0; k < in->count && fits; k++) {
-        const uint32_t peer = in->pieces[k].peer;
+    for (k = 0; k < in->pieces.count && fits; k++) {
+        const uint32_t peer = in->pieces.list[k].peer;
         const uint32_t *sizes = in->sizes + in->told_at[peer];
         for (count = 0; count < in->offered[peer]; count++) {
             fits = !tezgumi_mpi_is_full(used, tezgumi_mpi_padded(sizes[count]), m->room);
@@ -303,8 +237,8 @@ static void lay_out(side *d)
 {
     uint32_t k, i;
     int at = 0;
-    for (k = 0; k < d->count; k++) {
-        const uint32_t peer = d->pieces[k].peer;
+    for (k = 0; k < d->pieces.count; k++) {
+        const uint32_t peer = d->pieces.list[k].peer;
         d->starts[peer] = at;
         for (i = 0; i < d->taken[peer]; i++) at += (int)tezgumi_mpi_padded(d->sizes[d->told_at[peer] + (int)i]);
         d->bytes[peer] = at - d->starts[peer];
@@ -317,8 +251,8 @@ static tezgumi_mpi_outcome pack_all(mover *m)
     const tezgumi_mpi_callbacks *call = m->callbacks;
     unsigned char *to = m->out.buffer;
     uint32_t k, e;
-    for (k = 0; k < m->out.count; k++) {
-        const piece *p = &m->out.pieces[k];
+    for (k = 0; k < m->out.pieces.count; k++) {
+        const tezgumi_mpi_piece *p = &m->out.pieces.list[k];
         for (e = p->next; e < p->next + m->out.taken[p->peer]; e++) {
             const uint32_t bytes = m->part->bytes[e - m->part->first];
             unsigned char *pad = to + bytes;
@@ -337,8 +271,8 @@ static tezgumi_mpi_outcome unpack_all(mover *m)
     const unsigned char *from = m->in.buffer;
     uint32_t k, i;
     m->unpacked = 0;
-    for (k = 0; k < m->in.count; k++) {
-        const piece *p = &m->in.pieces[k];
+    for (k = 0; k < m->in.pieces.count; k++) {
+        const tezgumi_mpi_piece *p = &m->in.pieces.list[k];
         const uint32_t *sizes = m->in.sizes + m->in.told_at[p->peer];
         for (i = 0; i < m->in.taken[p->peer]; i++) {
             if (call->unpack(call->app, p->next + i, from, sizes[i])) return tezgumi_mpi_outcome_of(TEZGUMI_MPI_CALLBACK, p->next + i);
@@ -354,8 +288,8 @@ static tezgumi_mpi_outcome unpack_all(mover *m)
 static void undo(mover *m)
 {
     uint32_t k, i;
-    for (k = 0; m->callbacks->drop && k < m->in.count; k++) {
-        const piece *p = &m->in.pieces[k];
+    for (k = 0; m->callbacks->drop && k < m->in.pieces.count; k++) {
+        const tezgumi_mpi_piece *p = &m->in.pieces.list[k];
         for (i = 0; i < m->in.taken[p->peer] && m->unpacked > 0; i++, m->unpacked--) m->callbacks->drop(m->callbacks->app, p->next + i);
     }
 }
@@ -366,8 +300,8 @@ static int finish(mover *m, uint64_t *left, tezgumi_mpi_report *report)
     uint64_t gone[2] = {0}; /* elements, and their bytes */
     uint32_t k, e;
     m->layout->move = m->print;
-    for (k = 0; k < m->out.count; k++) {
-        piece *p = &m->out.pieces[k];
+    for (k = 0; k < m->out.pieces.count; k++) {
+        tezgumi_mpi_piece *p = &m->out.pieces.list[k];
         const uint32_t taken = m->out.taken[p->peer];
         for (e = p->next; e < p->next + taken; e++) {
             if (m->callbacks->drop) m->callbacks->drop(m->callbacks->app, e);
@@ -377,8 +311,8 @@ static int finish(mover *m, uint64_t *left, tezgumi_mpi_report *report)
         m->layout->sent[p->peer] += taken;
         gone[0] += taken;
     }
-    for (k = 0; k < m->in.count; k++) {
-        piece *p = &m->in.pieces[k];
+    for (k = 0; k < m->in.pieces.count; k++) {
+        tezgumi_mpi_piece *p = &m->in.pieces.list[k];
         p->next += m->in.taken[p->peer];
         m->layout->received[p->peer] += m->in.taken[p->peer];
     }
@@ -411,28 +345,14 @@ static int exchange(mover *m, uint64_t *left, tezgumi_mpi_report *report)
     return status;
 }
 
-/* Everything is where it belongs: the layout follows. */
-static void settle(tezgumi_mpi_layout *l)
-{
-    uint32_t b;
-    for (b = 0; b < l->ranks; b++) {
-        const uint32_t count = l->cuts[b + 1] - l->cuts[b];
-        l->firsts[l->names[b]] = count ? l->cuts[b] : 0;
-        l->counts[l->names[b]] = count;
-    }
-    memset(l->sent, 0, l->ranks * sizeof *l->sent);
-    memset(l->received, 0, l->ranks * sizeof *l->received);
-    l->move = 0;
-}
-
 /* Learns what goes where, and gets all memory. */
 static int prepare(mover *m, uint64_t *left, tezgumi_mpi_report *report)
 {
     int status;
     memset(m->out.told, 0, 4 * m->ranks * sizeof(int));
     memset(m->in.told, 0, 4 * m->ranks * sizeof(int));
-    find_pieces(m);
-    *left = m->out.left;
+    tezgumi_mpi_find_pieces(m->layout, m->rank, &m->out.pieces, &m->in.pieces);
+    *left = m->out.pieces.left;
     if (MPI_Allreduce(MPI_IN_PLACE, left, 1, MPI_UINT64_T, MPI_SUM, m->comm) != MPI_SUCCESS) return TEZGUMI_MPI_ERROR;
     status = tell_totals(m);
     if (status != TEZGUMI_OK) return status;
@@ -445,14 +365,14 @@ static int move(mover *m, tezgumi_mpi_report *report)
 {
     uint64_t left = 0;
     int status = is_usable(m) ? get_lists(m) : TEZGUMI_BAD_INPUT;
-    if (status == TEZGUMI_OK && !(is_decision(m->layout, m->out.offered) && goes_on(m->layout))) status = TEZGUMI_BAD_INPUT;
-    if (status == TEZGUMI_OK) m->print = print_of(m->layout);
+    if (status == TEZGUMI_OK && !(tezgumi_mpi_is_decision(m->layout, m->out.offered) && goes_on(m->layout))) status = TEZGUMI_BAD_INPUT;
+    if (status == TEZGUMI_OK) m->print = tezgumi_mpi_print_of_move(m->layout);
     status = tezgumi_mpi_agree(m->comm, tezgumi_mpi_outcome_of(status, 0), status == TEZGUMI_OK ? common_print(m) : 0, report);
     report->elements_moved = report->exchanges = 0;
     report->bytes_moved = 0;
     if (status == TEZGUMI_OK) status = prepare(m, &left, report);
     while (status == TEZGUMI_OK && left > 0) status = exchange(m, &left, report);
-    if (status == TEZGUMI_OK) settle(m->layout);
+    if (status == TEZGUMI_OK) tezgumi_mpi_settle(m->layout);
     free(m->lists);
     free(m->buffers);
     return status;

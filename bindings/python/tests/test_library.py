@@ -11,7 +11,7 @@ from support import CHECKOUT, PACKAGES, THREE, TimedTest
 from tezgumi import library
 
 OTHER = "unsigned tezgumi_abi(void) { return 99; } int tezgumi_plan, tezgumi_decide, tezgumi_check, tezgumi_scale, " \
-    "tezgumi_refine, tezgumi_check_refined;"
+    "tezgumi_refine, tezgumi_check_refined, tezgumi_divide;"
 
 
 class Found(TimedTest):

@@ -157,7 +157,7 @@ class Statuses(TimedTest):
         # In a process of its own, whose memory is used up when the library asks for some.
         words = [sys.executable, os.path.join(HERE, "use_up_memory.py")]
         ended = subprocess.run(words, stdout=subprocess.PIPE, env={**os.environ, "PYTHONPATH": PACKAGES}, timeout=15)
-        self.assertEqual(ended.stdout.decode(), "plan OutOfMemory\ndecide OutOfMemory\ncheck OutOfMemory\nafter True\n")
+        self.assertEqual(ended.stdout.decode(), "plan OutOfMemory\ndecide OutOfMemory\ndivide OutOfMemory\ncheck OutOfMemory\nafter True\n")
 
     def test_a_status_that_is_not_known(self):
         with mock.patch.object(planning, "library", lambda: mock.Mock(**{"tezgumi_plan.return_value": -9})):

@@ -8,6 +8,8 @@ from tezgumi import planning
 
 index = np.arange(tezgumi.DUMP_ELEMENTS)
 run = tezgumi.Run(256, index % 1000, index % 1000, index % 256)
+# What a division asks for is half a byte of an element.
+many = np.zeros(10_000_000, np.uint64)
 # What a check asks for is little, and most for the most PEs.
 right = tezgumi.decide(run, tezgumi.PES)
 
@@ -46,5 +48,6 @@ planning.np.empty = empty
 call_without_memory("plan", lambda: tezgumi.plan(run))
 call_without_memory("decide", lambda: tezgumi.decide(run))
 planning.np.empty = numpy_empty
+call_without_memory("divide", lambda: tezgumi.divide(many, 2))
 call_without_memory("check", lambda: tezgumi.check(run, right))
 print("after", bool(tezgumi.check(run, tezgumi.decide(run))))

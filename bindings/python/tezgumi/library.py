@@ -44,7 +44,7 @@ def library() -> ctypes.CDLL:
         abi = found.tezgumi_abi()
         calls = (
             found.tezgumi_plan, found.tezgumi_decide, found.tezgumi_check, found.tezgumi_scale, found.tezgumi_refine,
-            found.tezgumi_check_refined)
+            found.tezgumi_check_refined, found.tezgumi_divide)
     except (OSError, AttributeError) as error:
         raise LibraryError(f"no libtezgumi ({error}); {_HELP}") from error
     if abi != ABI:
@@ -58,6 +58,7 @@ def library() -> ctypes.CDLL:
         _RUN + [_WORD, _WORD] + _LIST + [_POINTER] * 4 + _LIST * 2 + [_POINTER] + _LIST * 9 + [_POINTER])
     found.tezgumi_check_refined.argtypes = _RUN + [_WORD, _WORD] + _LIST + [_LONG] * 3 + _LIST * 11 + [_POINTER] * 2
     found.tezgumi_scale.argtypes = _LIST * 2 + [_POINTER]
+    found.tezgumi_divide.argtypes = _LIST + [_WORD, _POINTER] + _LIST * 2 + [_POINTER]
     return found
 
 

@@ -1,18 +1,18 @@
-"""The calls of the library: to plan, to decide with certificates, and to check."""
+"""The calls of the library: to plan, to decide with certificates, to check, and to divide alone."""
 from __future__ import annotations
 
 import ctypes
-from typing import Any, Tuple, TypeVar
+from typing import Any, Literal, Tuple, TypeVar, overload
 
 import numpy as np
-from numpy.typing import NDArray
+from numpy.typing import ArrayLike, NDArray
 
 from .checking import Flaw, Verdict, numbers_of
 from .errors import InputError
 from .library import library, lists
-from .lists import truth, whole_number
+from .lists import frozen, truth, whole_number
 from .refining import check_near, decide_within, plan_within
-from .runs import MOVE, PES, TOLERANCE, Decision, NearDecision, Plan, Run
+from .runs import DIVISION_PES, MOVE, PES, TOLERANCE, TOTAL_LOAD, Decision, NearDecision, Plan, Run
 from .statuses import hold
 
 _Array = TypeVar("_Array", bound="NDArray[Any]")
@@ -20,6 +20,9 @@ _Array = TypeVar("_Array", bound="NDArray[Any]")
 
 def plan(run: Run, pes: int | None = None, tolerance: int | None = None, keep_order: bool = False) -> Plan:
     """The plan for `pes` PEs, 1 to 4,096; for as many as the run has, if none are named.
+
+    Its greatest load is the least: no division of the chain into so many consecutive blocks has a lighter heaviest block. And
+    it moves the fewest bytes: no other way to name these blocks by PEs moves fewer. Both are proved.
 
     With a tolerance, 0 to 1000, the heaviest block may weigh so many thousandths more than the least one can, the limit
     rounded down. It is for runs that a dump holds. Where the elements of each PE are together, on PEs below `pes`, these stand
@@ -59,6 +62,33 @@ def decide(run: Run, pes: int | None = None, tolerance: int | None = None, keep_
     return Decision(
         pes, _done(places), bottleneck.value, moved.value, _done(cuts), stops[:count.value], _done(names),
         _done(block_prices), _done(pe_prices), _done(moves))
+
+
+@overload
+def divide(loads: ArrayLike, pes: int) -> NDArray[np.uint32]: ...
+@overload
+def divide(loads: ArrayLike, pes: int, fence: Literal[False]) -> NDArray[np.uint32]: ...
+@overload
+def divide(loads: ArrayLike, pes: int, fence: Literal[True]) -> Tuple[NDArray[np.uint32], NDArray[np.uint32]]: ...
+
+
+def divide(loads: ArrayLike, pes: int, fence: bool = False) -> Any:
+    """The pes + 1 cuts of a chain of loads, 0 first: block b is the elements cuts[b] .. cuts[b + 1] - 1. The greatest load of
+    a block is the least: no division into so many consecutive blocks has a lesser one.
+
+    There are 1 to 65,536 blocks, up to 4,294,967,295 elements, and loads that add up to less than 2^63. With fence=True it is
+    a pair: the cuts, and the stops of the fence, of which there are none where all loads are 0. From each stop to the next,
+    both included, the elements weigh as much as the heaviest block at least, which shows that no lighter blocks do.
+
+    An array or a buffer of whole numbers of 64 bits, one behind the other, is read where it is, and not copied.
+    """
+    numbers = frozen(loads, np.uint64, "loads", most=TOTAL_LOAD, copy=False)
+    pes, wanted = whole_number(pes, 1, DIVISION_PES, "pes"), truth(fence, "fence")
+    cuts, stops = np.empty(pes + 1, np.uint32), np.empty(pes + 1, np.uint32)
+    bottleneck, count = ctypes.c_uint64(), ctypes.c_size_t()
+    hold(library().tezgumi_divide(
+        *lists(numbers), pes, ctypes.addressof(bottleneck), *lists(cuts, stops), ctypes.addressof(count)))
+    return (_done(cuts), _done(stops[:count.value])) if wanted else _done(cuts)
 
 
 def check(run: Run, decision: Decision) -> Verdict:

@@ -15,6 +15,8 @@ ELEMENTS = 4_294_967_295
 """At most so many elements."""
 PES = 4_096
 """At most so many processing elements (PEs), and at least one."""
+DIVISION_PES = 65_536
+"""At most so many blocks of a division alone, and at least one."""
 TOTAL_LOAD = 9_223_372_036_854_775_807
 """The greatest load of all elements together, in work units: 63 bits."""
 TOTAL_BYTES = 140_737_488_355_328
