@@ -160,7 +160,7 @@ def library() -> ctypes.CDLL:
 
 
 def decide(
-        comm: MPI.Comm, loads: ArrayLike, sizes: ArrayLike | int, tolerance: int = 0, keep_order: bool = False,
+        comm: MPI.Intracomm, loads: ArrayLike, sizes: ArrayLike | int, tolerance: int = 0, keep_order: bool = False,
         first: int | None = None) -> Division:
     """Where all elements are to be. `loads` has the load of each element that this rank holds, whole numbers that add up to less
     than 2^63 on all ranks, and `sizes` the bytes of each, or of every one, which is what moving it costs.
@@ -172,23 +172,27 @@ def decide(
     and, with keep_order, the ranks hold the chain in their own order. With keep_order rank 0 gets the first block, and so on;
     without it the ranks get their blocks so that the fewest bytes move.
     """
-    def prepare() -> Tuple[NDArray[np.uint64], NDArray[np.uint32], _Options, int]:
+    def prepare() -> _Asked:
         numbers = _loads(loads)
-        return numbers, _sizes(sizes, len(numbers)), _options(tolerance, keep_order), _given_first(first)
+        return _Asked(numbers, _sizes(sizes, len(numbers)), _options(tolerance, keep_order), _given_first(first))
+
+    def has_first(it: _Asked) -> int:
+        return int(it.first >= 0)
 
     found = _together(comm, library)
-    numbers, each, options, given = _together(comm, prepare, lambda it: int(it[3] >= 0))
-    part = _Part(_address(numbers), _address(each), given if given >= 0 else _before(comm, len(numbers)), len(numbers))
+    it = _together(comm, prepare, has_first)
+    begin = it.first if it.first >= 0 else _before(comm, len(it.loads))
+    part = _Part(_address(it.loads), _address(it.sizes), begin, len(it.loads))
     layout, figures = _Layout(), _Report()
     try:
         _hold(found.tezgumi_mpi_decide_part(
-            _handle(comm), ctypes.byref(part), ctypes.byref(options), ctypes.byref(layout), ctypes.byref(figures)), figures)
+            _handle(comm), ctypes.byref(part), ctypes.byref(it.options), ctypes.byref(layout), ctypes.byref(figures)), figures)
         return _together(comm, lambda: _division(comm, layout, figures))
     finally:
         found.tezgumi_mpi_layout_free(ctypes.byref(layout))
 
 
-def move(comm: MPI.Comm, division: Division, fields: Sequence[ArrayLike], room: int = 0) -> Tuple[NDArray[Any], ...]:
+def move(comm: MPI.Intracomm, division: Division, fields: Sequence[ArrayLike], room: int = 0) -> Tuple[NDArray[Any], ...]:
     """New arrays of the elements that this rank is to hold, from those of the elements that it holds.
 
     The first axis of each array is the elements. Types and the other axes are the same on all ranks, also where a rank has no
@@ -199,7 +203,7 @@ def move(comm: MPI.Comm, division: Division, fields: Sequence[ArrayLike], room: 
 
 
 def rebalance(
-        comm: MPI.Comm, loads: ArrayLike, fields: Sequence[ArrayLike], tolerance: int = 0, keep_order: bool = False,
+        comm: MPI.Intracomm, loads: ArrayLike, fields: Sequence[ArrayLike], tolerance: int = 0, keep_order: bool = False,
         first: int | None = None, room: int = 0) -> Rebalanced:
     """Decides, by `decide`, and moves the loads and the fields, by `move`. Give the `first` of what it returns to the next call,
     or keep the order. What moving an element costs is the bytes of its load and of all its fields. Where nothing is to move the
@@ -211,13 +215,22 @@ def rebalance(
 
 
 def report(
-        comm: MPI.Comm, loads: ArrayLike, sizes: ArrayLike | int = 0, tolerance: int = 0, keep_order: bool = False,
+        comm: MPI.Intracomm, loads: ArrayLike, sizes: ArrayLike | int = 0, tolerance: int = 0, keep_order: bool = False,
         first: int | None = None) -> Report:
     """What a rebalance would give: the greatest load now and then, and how much would move. Nothing moves."""
     return decide(comm, loads, sizes, tolerance, keep_order, first).report
 
 
 # What is given
+
+
+class _Asked(NamedTuple):
+    """What a decision is asked for; the first element is -1 where it is not given."""
+
+    loads: NDArray[np.uint64]
+    sizes: NDArray[np.uint32]
+    options: _Options
+    first: int
 
 
 def _loads(loads: ArrayLike) -> NDArray[np.uint64]:
@@ -242,7 +255,7 @@ def _given_first(first: int | None) -> int:
     return -1 if first is None else whole_number(first, 0, 2**32 - 1, "first")
 
 
-def _before(comm: MPI.Comm, count: int) -> int:
+def _before(comm: MPI.Intracomm, count: int) -> int:
     """How many elements the ranks before this one hold; at most 2^32 - 1, as what is past it is refused."""
     before = comm.exscan(count)
     return min(before or 0, 2**32 - 1)
@@ -286,7 +299,7 @@ def _print_of(arrays: List[NDArray[Any]]) -> int:
 # What the library is given, and answers
 
 
-def _division(comm: MPI.Comm, layout: _Layout, figures: _Report) -> Division:
+def _division(comm: MPI.Intracomm, layout: _Layout, figures: _Report) -> Division:
     ranks = layout.ranks
     cuts, names = _words(layout.cuts, ranks + 1), _words(layout.names, ranks)
     own = int(np.flatnonzero(names == comm.Get_rank())[0])
@@ -301,7 +314,7 @@ def _words(pointer: int, count: int) -> NDArray[np.uint32]:
     return array
 
 
-def _layout_of(comm: MPI.Comm, division: Division) -> Tuple[_Layout, NDArray[np.uint32]]:
+def _layout_of(comm: MPI.Intracomm, division: Division) -> Tuple[_Layout, NDArray[np.uint32]]:
     """The layout before the move, and the numbers that it is in, which it does not own."""
     d, ranks = division, comm.Get_size()
     lists = [d.firsts, d.counts, d.cuts, d.names]
@@ -313,7 +326,7 @@ def _layout_of(comm: MPI.Comm, division: Division) -> Tuple[_Layout, NDArray[np.
     return _Layout(whole_number(d.elements, 0, 2**32 - 1, "elements"), ranks, *map(int, at), 0, _address(words)), words
 
 
-def _own_block(comm: MPI.Comm, division: Division) -> int:
+def _own_block(comm: MPI.Intracomm, division: Division) -> int:
     """The elements that this rank is to hold; the library refuses a division in which they are none of its."""
     own = np.flatnonzero(division.names == comm.Get_rank())
     return max(int(division.cuts[own[0] + 1]) - int(division.cuts[own[0]]), 0) if len(own) else 0
@@ -330,7 +343,7 @@ class _Move(NamedTuple):
     options: _Options
 
 
-def _prepared(comm: MPI.Comm, division: Division, fields: Sequence[ArrayLike], room: int) -> _Move:
+def _prepared(comm: MPI.Intracomm, division: Division, fields: Sequence[ArrayLike], room: int) -> _Move:
     layout, words = _layout_of(comm, division)
     old = _arrays(_names(fields), fields, int(division.counts[comm.Get_rank()]))
     count = _own_block(comm, division)
@@ -338,10 +351,16 @@ def _prepared(comm: MPI.Comm, division: Division, fields: Sequence[ArrayLike], r
     return _Move(layout, words, old, new, (_Field * len(old))(*map(_field, old, new)), _options(0, False, room))
 
 
-def _move(comm: MPI.Comm, division: Division, fields: Sequence[ArrayLike], room: int) -> Tuple[Tuple[NDArray[Any], ...], int]:
+def _move(comm: MPI.Intracomm, division: Division, fields: Sequence[ArrayLike], room: int) -> Tuple[Tuple[NDArray[Any], ...], int]:
     """The new arrays, and how many exchanges there were."""
+    def prepare() -> _Move:
+        return _prepared(comm, division, fields, room)
+
+    def print_of(it: _Move) -> int:
+        return _print_of(it.old)
+
     found = _together(comm, library)
-    it = _together(comm, lambda: _prepared(comm, division, fields, room), lambda it: _print_of(it.old))
+    it = _together(comm, prepare, print_of)
     figures = _Report()
     status = found.tezgumi_mpi_move_arrays(
         _handle(comm), ctypes.byref(it.layout), it.fields, len(it.old), ctypes.byref(it.options), ctypes.byref(figures))
@@ -359,7 +378,7 @@ def _address(array: NDArray[Any]) -> int:
     return int(array.__array_interface__["data"][0])
 
 
-def _handle(comm: MPI.Comm) -> Any:
+def _handle(comm: MPI.Intracomm) -> Any:
     """The communicator, as C knows it: a number for one MPI, and a pointer for another."""
     kind = ctypes.c_int if MPI._sizeof(MPI.Comm) == ctypes.sizeof(ctypes.c_int) else ctypes.c_void_p
     return kind.from_address(MPI._addressof(comm))
@@ -375,7 +394,7 @@ def _mpi_of(found: ctypes.CDLL) -> str:
 # How the ranks fail together
 
 
-def _together(comm: MPI.Comm, work: Callable[[], _Answer], common: Callable[[_Answer], int] = lambda _: 0) -> _Answer:
+def _together(comm: MPI.Intracomm, work: Callable[[], _Answer], common: Callable[[_Answer], int] = lambda _: 0) -> _Answer:
     """What `work` answers, where it does so on all ranks, and what is common is the same on all. Otherwise all raise."""
     if comm.Is_inter():
         raise InputError("the communicator has two groups of ranks")
