@@ -13,8 +13,10 @@ use Rattle.run_text.specs.Sums.{AreTallies}
 use Rattle.run_text.proofs.Histories as of_runs
 use Rattle.courses.specs.Courses.{Leads, Made, events_of}
 use Rattle.schedules.specs.Courses.{ExploredView, IsExplored}
+use Rattle.schedules.specs.Drawn.{IsDrawn}
 use Rattle.schedules.specs.Replays.{RefusesReplay}
 use Rattle.schedules.specs.Schedules.{MayExplore, RefusesSchedule}
+use Rattle.schedules.specs.declared.bias.Bias.{Bias}
 use Rattle.schedules.specs.declared.error.ReplayError.{ReplayError}
 use Rattle.schedules.specs.declared.error.ReplayError.TheVariants as Ends
 use Rattle.schedules.specs.declared.schedule.Schedule.{Schedule}
@@ -35,15 +37,27 @@ on_one fits unpack chares chares' pes pes' strategy strategy' x same_chares same
     (subst (λ (p : ℕ). IsExplored tally_step fits tally_pack unpack chares p strategy' x) same_pes
     (subst (λ (s : Strategy). IsExplored tally_step fits tally_pack unpack chares pes s x) same_strategy left))
 
+-- its steps are those that a seed draws
+pub drawn_on_one : {A : Type 0} (unpack : Unpack) (bias bias' : Bias) (seed : ℕ) (chares chares' : List TallyView) (pes pes' : ℕ) (strategy strategy' : Strategy) (x : ExploredView TallyView A)
+    → bias ≡ bias' → chares ≡ chares' → pes ≡ pes' → strategy ≡ strategy'
+    → IsDrawn tally_step tally_pack unpack bias seed (opening_world pes chares strategy) x
+    → IsDrawn tally_step tally_pack unpack bias' seed (opening_world pes' chares' strategy') x
+drawn_on_one unpack bias bias' seed chares chares' pes pes' strategy strategy' x same_bias same_chares same_pes same_strategy drawn =
+    subst (λ (b : Bias). IsDrawn tally_step tally_pack unpack b seed (opening_world pes' chares' strategy') x) same_bias
+    (subst (λ (cs : List TallyView). IsDrawn tally_step tally_pack unpack bias seed (opening_world pes' cs strategy') x) same_chares
+    (subst (λ (p : ℕ). IsDrawn tally_step tally_pack unpack bias seed (opening_world p chares strategy') x) same_pes
+    (subst (λ (s : Strategy). IsDrawn tally_step tally_pack unpack bias seed (opening_world pes chares s) x) same_strategy drawn)))
+
 -- what was told of the runs of these chares on this number of PEs
-pub seeds_on_one : (A : Type 0) (fits : TallyView → Type 0) (unpack : Unpack) (chares chares' : List TallyView) (pes pes' : ℕ) (strategy strategy' : Strategy) (seeds : ℕ) (old new : Option (List ℕ)) (ended : Ended)
-    → chares ≡ chares' → pes ≡ pes' → strategy ≡ strategy'
-    → TellsSeeds A tally_step fits tally_pack unpack chares pes strategy seeds old new ended
-    → TellsSeeds A tally_step fits tally_pack unpack chares' pes' strategy' seeds old new ended
-seeds_on_one A fits unpack chares chares' pes pes' strategy strategy' seeds old new ended same_chares same_pes same_strategy told =
-    subst (λ cs. TellsSeeds A tally_step fits tally_pack unpack cs pes' strategy' seeds old new ended) same_chares
-    (subst (λ (p : ℕ). TellsSeeds A tally_step fits tally_pack unpack chares p strategy' seeds old new ended) same_pes
-    (subst (λ (s : Strategy). TellsSeeds A tally_step fits tally_pack unpack chares pes s seeds old new ended) same_strategy told))
+pub seeds_on_one : (A : Type 0) (fits : TallyView → Type 0) (unpack : Unpack) (bias bias' : Bias) (chares chares' : List TallyView) (pes pes' : ℕ) (strategy strategy' : Strategy) (seeds : ℕ) (old new : Option (List ℕ)) (ended : Ended)
+    → bias ≡ bias' → chares ≡ chares' → pes ≡ pes' → strategy ≡ strategy'
+    → TellsSeeds A tally_step fits tally_pack unpack chares pes strategy bias seeds old new ended
+    → TellsSeeds A tally_step fits tally_pack unpack chares' pes' strategy' bias' seeds old new ended
+seeds_on_one A fits unpack bias bias' chares chares' pes pes' strategy strategy' seeds old new ended same_bias same_chares same_pes same_strategy told =
+    subst (λ (b : Bias). TellsSeeds A tally_step fits tally_pack unpack chares' pes' strategy' b seeds old new ended) same_bias
+    (subst (λ cs. TellsSeeds A tally_step fits tally_pack unpack cs pes' strategy' bias seeds old new ended) same_chares
+    (subst (λ (p : ℕ). TellsSeeds A tally_step fits tally_pack unpack chares p strategy' bias seeds old new ended) same_pes
+    (subst (λ (s : Strategy). TellsSeeds A tally_step fits tally_pack unpack chares pes s bias seeds old new ended) same_strategy told)))
 
 -- what is reported are tallies, as many as the workload has chares
 pub are_tallies : {A : Type 0} (fits : TallyView → Type 0) (unpack : Unpack) → ((t : TallyView) → fits t → t.sum < 2 ^ 64)

@@ -4,8 +4,13 @@ ghost use Rattle.std.specs.Prelude.{◌≡◌, ℕ, ◌+◌, IfErr, IfOk, IfSome
 ghost use Rattle.run_text.specs.Sums.{AreTallies};
 ghost use Rattle.run_text.specs.Text.{outcome_text};
 ghost use Rattle.schedule_run.specs.OneThread.{EndsOnOne, StopsRun};
+ghost use Rattle.rts_core.specs.Worlds.{opening_world};
+ghost use Rattle.schedules.specs.Drawn.{IsDrawn};
 ghost use Rattle.schedules.specs.Replays.{Follows};
+ghost use Rattle.schedules.specs.Schedules.{no_bias};
+ghost use Rattle.tally.specs.Tallies.{tally_pack, tally_step};
 ghost use Rattle.workload.specs.Text.{IsWithin};
+ghost use Rattle.workload_run.specs.Tallies.{tallies_of};
 ghost use Rattle.workload_run.specs.Telling.{TellsOutcome, WritesText};
 ghost use Rattle.workload_run.specs.Lines.{memory_line};
 ghost use Rattle.workload_run.specs.declared.ended.Ended.TheVariants.{OutOfMemory};
@@ -33,6 +38,8 @@ pub fn drive_seed<W: Write, A: Allocator + Copy>(
     requires within { IsWithin workload.now }
     ensures ran { EndsOnOne ⟦<Tally<A> as Pup<A>>⟧.fits ⟦<Tally<A> as Pup<A>>⟧.unpack workload.now strategy
         (W.contents writer.old) (W.contents writer.new) result.explored result.ended }
+    ensures drawn { IfSome result.explored (IsDrawn tally_step tally_pack ⟦<Tally<A> as Pup<A>>⟧.unpack no_bias seed
+        (opening_world workload.now.pes (tallies_of workload.now) strategy)) }
 {
     match search(alloc, workload, strategy, seed) {
         Ok(explored) => told(alloc, workload.chares as usize, explored, writer),

@@ -2,8 +2,13 @@
 
 ghost use Rattle.std.specs.Prelude.{◌≡◌, IfErr, IfOk};
 ghost use Rattle.schedule_run.specs.OneThread.{IsRunOnOne, RefusesRun};
+ghost use Rattle.rts_core.specs.Worlds.{opening_world};
+ghost use Rattle.schedules.specs.Drawn.{IsDrawn};
 ghost use Rattle.schedules.specs.Replays.{Follows};
+ghost use Rattle.schedules.specs.Schedules.{no_bias};
+ghost use Rattle.tally.specs.Tallies.{tally_pack, tally_step};
 ghost use Rattle.workload.specs.Text.{IsWithin};
+ghost use Rattle.workload_run.specs.Tallies.{tallies_of};
 
 use at_sync::Strategy;
 use pup_pack::Pup;
@@ -15,7 +20,8 @@ use workload::Workload;
 use workload_run::tallies_of;
 
 /// Runs the tallies of a workload on one thread until every one has finished and no letter is held, or a fault ends the run. Each next
-/// event is drawn by a generator with this seed, as [`explore`] does without a bias, and rounds are decided by `strategy`.
+/// event is drawn by a generator with this seed, as [`explore`] does without a bias, and rounds are decided by `strategy`. The clause
+/// `drawn` says that each step is the one that the seed draws.
 ///
 /// # Errors
 ///
@@ -28,6 +34,8 @@ pub fn search<A: Allocator + Copy>(
 ) -> Result<Explored<Tally<A>, A>, AllocError>
     requires within { IsWithin workload.now }
     ensures left { IfOk result (IsRunOnOne ⟦<Tally<A> as Pup<A>>⟧.fits ⟦<Tally<A> as Pup<A>>⟧.unpack workload.now strategy) }
+    ensures drawn { IfOk result (IsDrawn tally_step tally_pack ⟦<Tally<A> as Pup<A>>⟧.unpack no_bias seed
+        (opening_world workload.now.pes (tallies_of workload.now) strategy)) }
 {
     let schedule = schedule_of(workload.pes, strategy);
     let tallies = tallies_of(alloc, workload)?;
@@ -67,6 +75,7 @@ pub(crate) fn schedule_of(pes: u32, strategy: Strategy) -> Schedule
     ensures pes { result.pes ≡ pes }
     ensures strategy { result.strategy ≡ strategy }
     ensures steps { result.steps ≡ 18446744073709551615 }
+    ensures bias { result.bias ≡ no_bias }
 {
     Schedule {
         pes,

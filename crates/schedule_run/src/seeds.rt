@@ -1,8 +1,8 @@
 //! Runs of a workload by many seeds.
 
-ghost use Rattle.std.specs.Prelude.{◌≡◌, ◌++◌, All, IfOk, OnOk, length};
+ghost use Rattle.std.specs.Prelude.{◌≡◌, ◌++◌, IfOk, OnOk, length};
 ghost use Rattle.std.specs.String.{string_bytes};
-ghost use Rattle.schedule_run.specs.Seeds.{IsVerdict, TellsSeeds, TriesSeeds, count_line, fault_count, fault_line, fault_lines, fault_of_first, faults_among, seeds_text};
+ghost use Rattle.schedule_run.specs.Seeds.{AreVerdicts, TellsSeeds, TriesSeeds, count_line, fault_count, fault_line, fault_lines, fault_of_first, faults_among, seeds_text};
 ghost use Rattle.workload.specs.Text.{IsWithin};
 
 use crate::cast::TallyCast;
@@ -49,7 +49,7 @@ pub fn tell_seeds<C: Chare<A>, K: Cast<C, A>, W: Write, A: Allocator + Copy>(
     seeds: u32,
     writer: &mut W,
 ) -> Ended
-    ensures tried { TellsSeeds A C.step C.fits C.pack C.unpack (K.chares cast.now) schedule.now.pes schedule.now.strategy seeds
+    ensures tried { TellsSeeds A C.step C.fits C.pack C.unpack (K.chares cast.now) schedule.now.pes schedule.now.strategy schedule.now.bias seeds
         (W.contents writer.old) (W.contents writer.new) result }
 {
     let Ok(verdicts) = try_seeds(alloc, schedule, cast, seeds) else {
@@ -69,7 +69,7 @@ fn try_seeds<C: Chare<A>, K: Cast<C, A>, A: Allocator + Copy>(
     seeds: u32,
 ) -> Result<Vec<Verdict, A>, AllocError>
     ensures verdicts { IfOk result (λ verdicts.
-        All (IsVerdict A C.step C.fits C.pack C.unpack (K.chares cast.now) schedule.now.pes schedule.now.strategy) verdicts.items) }
+        AreVerdicts A C.step C.fits C.pack C.unpack (K.chares cast.now) schedule.now.pes schedule.now.strategy schedule.now.bias 1 verdicts.items) }
     ensures each { IfOk result (λ verdicts. length verdicts.items ≡ seeds) }
 {
     let mut verdicts = Vec::new(alloc);

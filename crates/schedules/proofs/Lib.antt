@@ -1,3 +1,13 @@
+pub mod Choosers
+pub mod Counts
+pub mod Drawings
+pub mod DrawnRuns
+pub mod Draws
+pub mod Elements
 pub mod Endings
+pub mod Frames
 pub mod LeftWorlds
 pub mod Lists
+pub mod Opened
+pub mod Rooms
+pub mod Sets

@@ -1,6 +1,10 @@
+pub mod Choices
 pub mod Courses
+pub mod Drawn
+pub mod Draws
 pub mod Endings
 pub mod Generators
+pub mod NumberSets
 pub mod Replays
 pub mod Schedules
 pub mod Shrinking

@@ -1,3 +1,6 @@
+ghost use Rattle.std.specs.Prelude.{◌≡◌, ◌≤◌};
+ghost use Rattle.schedules.specs.Draws.{factor, weight};
+
 use chare_index::Pe;
 
 /// What is drawn more often than the rest, or less often. Without a bias each enabled event is as likely as every other.
@@ -31,15 +34,23 @@ pub(crate) enum Kind {
 
 impl Bias {
     /// The factor by which a bias makes the events of this kind more likely.
-    pub(crate) fn weight(&self, kind: Kind) -> u64 {
+    pub(crate) fn weight(&self, kind: Kind) -> u64
+        ensures value { result ≡ weight self.now kind }
+        ensures some { 1 ≤ result }
+        ensures few { result ≤ 256 }
+    {
         match kind {
-            Kind::Look => factor(self.letters_first).wrapping_mul(factor(self.stale_looks)),
+            Kind::Look => factor(self.letters_first) * factor(self.stale_looks),
             Kind::Flush | Kind::Deliver | Kind::Act => factor(self.letters_first),
             Kind::Report | Kind::Element | Kind::Decide => factor(self.moves_first),
         }
     }
 }
 
-fn factor(biased: bool) -> u64 {
+fn factor(biased: bool) -> u64
+    ensures value { result ≡ factor biased }
+    ensures some { 1 ≤ result }
+    ensures few { result ≤ 16 }
+{
     if biased { FACTOR } else { 1 }
 }

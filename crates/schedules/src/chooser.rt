@@ -1,17 +1,18 @@
 //! Which event happens next. docs/SCHEDULES.md says how it is drawn.
 
-ghost use Rattle.std.specs.Prelude.{IsTrue};
-ghost use Rattle.schedules.specs.Courses.{IsDone};
+ghost use Rattle.std.specs.Prelude.{◌≡◌, ◌*◌, ◌≤◌, IfOk, MatchOption, length, sum_by};
+ghost use Rattle.rts_core.specs.Events.{pe_of};
+ghost use Rattle.schedules.specs.Choices.{Knows, KnowsBut, turn_of};
+ghost use Rattle.schedules.specs.Draws.{drawn, drawn_once, events_of, is_starved, kinds, picked, places_after, share};
 
 use crate::bias::{Bias, Kind};
+use crate::choices::Choices;
 use crate::generator::SplitMix64;
-use crate::leaving::is_done;
-use crate::number_set::NumberSet;
-use chare_index::{Index, Pe};
-use chares::{Carried, Chare, Openings, TraceEntry};
-use pe_state::PeState;
+use chare_index::{Limits, Pe};
+use chares::{Chare, Openings, TraceEntry};
 use rts_core::{Event, World};
 use std::alloc::{AllocError, Allocator, Global};
+use std::marker::Model;
 
 // The kinds of events, in the order in which a number that is drawn goes through them.
 const KINDS: [Kind; 7] = [
@@ -27,24 +28,22 @@ const KINDS: [Kind; 7] = [
 // How often an event of a PE that is starved is drawn again.
 const REDRAWS: u32 = 15;
 
-/// What is enabled in a world, kept up to date from step to step, and the generator that draws from it. No clause rests on
-/// either: each event is checked to be enabled before it happens.
+/// What is enabled in a world, and the generator that draws from it. Contracts see it as the record `ChooserView`.
 #[derive(Drop)]
 pub(crate) struct Chooser<A: Allocator = Global> {
     generator: SplitMix64,
     bias: Bias,
-    // The PEs that may make each of these steps.
-    looks: NumberSet<A>,
-    flushes: NumberSet<A>,
-    delivers: NumberSet<A>,
-    acts: NumberSet<A>,
-    reports: NumberSet<A>,
-    // The elements that may start, depart or go on, and the PE on which each element was last.
-    elements: NumberSet<A>,
-    places: Vec<Pe, A>,
-    decides: bool,
-    // How many letters are held.
+    choices: Choices<A>,
+    // How many letters are held. No clause rests on it.
     held: u64,
+}
+
+impl<A: Allocator> Model for Chooser<A> {
+    ghost use Rattle.schedules.specs.Choices.{ChooserView};
+
+    ghost Value = { ChooserView };
+
+    ghost view = { λ c. record { state = c.generator; bias = c.bias; choices = c.choices } };
 }
 
 impl<A: Allocator + Copy> Chooser<A> {
@@ -54,256 +53,171 @@ impl<A: Allocator + Copy> Chooser<A> {
         world: &World<C, H, A>,
         seed: u64,
         bias: Bias,
-    ) -> Result<Self, AllocError> {
-        let pes = short(world.pes());
-        let places = places_in(alloc, world)?;
-        let mut chooser = Chooser {
+    ) -> Result<Self, AllocError>
+        requires few_pes { length world.now.pes ≤ Limits.PES }
+        requires few { length world.now.words ≤ Limits.ELEMENTS }
+        ensures state { IfOk result (λ chooser. chooser.state ≡ seed) }
+        ensures bias { IfOk result (λ chooser. chooser.bias ≡ bias) }
+        ensures places { IfOk result (λ chooser. chooser.choices.places ≡ world.now.words) }
+        ensures knows { IfOk result (λ chooser. Knows world.now chooser.choices) }
+    {
+        Ok(Chooser {
             generator: SplitMix64::new(seed),
             bias,
-            looks: NumberSet::new(alloc, pes)?,
-            flushes: NumberSet::new(alloc, pes)?,
-            delivers: NumberSet::new(alloc, pes)?,
-            acts: NumberSet::new(alloc, pes)?,
-            reports: NumberSet::new(alloc, pes)?,
-            elements: NumberSet::new(alloc, short(places.len()))?,
-            places,
-            decides: world.board().is_complete(),
+            choices: Choices::new(alloc, world)?,
             held: 0,
-        };
-        chooser.see_elements(world);
-        Ok(chooser)
+        })
     }
 }
 
 impl<A: Allocator> Chooser<A> {
-    /// Whether every element has finished and no letter is held. The letters are counted only where none seems to be held.
-    pub(crate) fn is_done<C: Chare<A>, H: Openings<C>>(&self, world: &World<C, H, A>) -> bool
-        ensures done { IsTrue result → IsDone world.now }
-    {
-        self.held == 0 && is_done(world)
+    /// Whether no letter seems to be held.
+    pub(crate) fn holds_none(&self) -> bool {
+        self.held == 0
     }
 
     /// Draws one of the events that are enabled, or returns `None` where none is.
     pub(crate) fn draw<C: Chare<A>, H: Openings<C>>(
         &mut self,
         world: &World<C, H, A>,
-    ) -> Option<Event> {
+    ) -> Option<Event>
+        requires knows { Knows world.now self.old.choices }
+        ensures drawn { (result, self.new.state) ≡ drawn self.old.bias (turn_of world.now self.old) }
+        ensures only { self.new ≡ record self.old { state = self.new.state } }
+    {
+        let bias = self.bias;
         for _again in 0..REDRAWS {
-            let event = self.draw_any(world)?;
-            if event.pe().is_none() || event.pe() != self.bias.starved {
-                return Some(event);
+            let event = self.draw_any(world);
+            if !is_starved(&bias, &event) {
+                return event;
             }
         }
         self.draw_any(world)
     }
 
-    /// Updates what is enabled after an event, in the world after it. `to` is the PE whose queue it put a parcel into.
+    /// Updates what is enabled after a step with this event and these trace entries, in the world after it. `to` is the PE whose queue
+    /// it put a parcel into.
     pub(crate) fn see<C: Chare<A>, H: Openings<C>>(
         &mut self,
         world: &World<C, H, A>,
         event: &Event,
         to: Option<Pe>,
         entries: &[TraceEntry],
-    ) {
-        if let Some(p) = event.pe() {
-            self.see_pe(world, p);
-            for entry in entries {
-                self.see_entry(world, p, entry);
-            }
-        } else {
-            self.see_elements(world);
+    )
+        requires rest { MatchOption (pe_of event.now) (length self.old.choices.looks ≡ length world.now.pes)
+            (λ p. KnowsBut world.now self.old.choices p to entries.now) }
+        ensures places { self.new.choices.places ≡ places_after self.old.choices.places (event.now, entries.now) }
+        ensures knows { Knows world.now self.new.choices }
+        ensures state { self.new.state ≡ self.old.state }
+        ensures bias { self.new.bias ≡ self.old.bias }
+    {
+        match event.pe() {
+            Some(p) => self.choices.see(world, p, to, entries),
+            None => self.choices.look_again(world, event, entries),
         }
-        if let Some(q) = to {
-            self.see_pe(world, q);
-        }
-        self.decides = world.board().is_complete();
+        self.held = held_after(self.held, entries);
     }
 
-    /// Looks again at everything that may be enabled, after an event that was overlooked.
-    pub(crate) fn look_again<C: Chare<A>, H: Openings<C>>(&mut self, world: &World<C, H, A>) {
-        for number in 0..short(world.pes()) {
-            if let Some(p) = Pe::new(number) {
-                self.see_pe(world, p);
-            }
-        }
-        self.see_elements(world);
-        self.decides = world.board().is_complete();
+    /// Looks again at everything that may be enabled, after a step that was not drawn.
+    pub(crate) fn look_again<C: Chare<A>, H: Openings<C>>(
+        &mut self,
+        world: &World<C, H, A>,
+        event: &Event,
+        entries: &[TraceEntry],
+    )
+        requires counted { length self.old.choices.looks ≡ length world.now.pes }
+        ensures places { self.new.choices.places ≡ places_after self.old.choices.places (event.now, entries.now) }
+        ensures knows { Knows world.now self.new.choices }
+        ensures state { self.new.state ≡ self.old.state }
+        ensures bias { self.new.bias ≡ self.old.bias }
+    {
+        self.choices.look_again(world, event, entries);
         self.held = world.account().held;
     }
 
     // Draws one of the events that are enabled, of any PE.
-    fn draw_any<C: Chare<A>, H: Openings<C>>(&mut self, world: &World<C, H, A>) -> Option<Event> {
-        let total = self.total();
+    fn draw_any<C: Chare<A>, H: Openings<C>>(&mut self, world: &World<C, H, A>) -> Option<Event>
+        requires knows { Knows world.now self.old.choices }
+        ensures drawn { (result, self.new.state) ≡ drawn_once self.old.bias (events_of world.now self.old.choices.places) self.old.state }
+        ensures only { self.new ≡ record self.old { state = self.new.state } }
+    {
+        let total = self.total(world);
         if total == 0 {
             return None;
         }
-        let mut left = self.generator.below(total);
-        for kind in KINDS {
-            let weight = self.bias.weight(kind);
-            let share = weight.wrapping_mul(self.enabled(kind));
+        let left = self.generator.below(total);
+        self.pick(world, left)
+    }
+
+    // The event at a number, in the shares of the kinds.
+    fn pick<C: Chare<A>, H: Openings<C>>(
+        &self,
+        world: &World<C, H, A>,
+        number: u64,
+    ) -> Option<Event>
+        requires knows { Knows world.now self.now.choices }
+        ensures value { result ≡ picked self.now.bias (events_of world.now self.now.choices.places) kinds number }
+    {
+        let mut left = number;
+        for kind in &KINDS {
+            let share = self.share(world, *kind);
             if left < share {
-                return self.event_at(world, kind, left.checked_div(weight)?);
+                let place = left / self.bias.weight(*kind);
+                return self.choices.event_at(world, *kind, place);
             }
-            left = left.wrapping_sub(share);
+            left -= share;
         }
         None
     }
 
     // The sum of the weights of everything that is enabled.
-    fn total(&self) -> u64 {
-        let mut total = 0u64;
-        for kind in KINDS {
-            let share = self.bias.weight(kind).wrapping_mul(self.enabled(kind));
-            total = total.wrapping_add(share);
-        }
-        total
+    fn total<C: Chare<A>, H: Openings<C>>(&self, world: &World<C, H, A>) -> u64
+        requires knows { Knows world.now self.now.choices }
+        ensures value { result ≡ sum_by (share self.now.bias (events_of world.now self.now.choices.places)) kinds }
+    {
+        let letters = self.share(world, Kind::Look)
+            + self.share(world, Kind::Flush)
+            + self.share(world, Kind::Deliver)
+            + self.share(world, Kind::Act);
+        let moves = self.share(world, Kind::Report)
+            + self.share(world, Kind::Element)
+            + self.share(world, Kind::Decide);
+        letters + moves
     }
 
-    // How many events of a kind are enabled.
-    fn enabled(&self, kind: Kind) -> u64 {
-        match kind {
-            Kind::Look => self.looks.len(),
-            Kind::Flush => self.flushes.len(),
-            Kind::Deliver => self.delivers.len(),
-            Kind::Act => self.acts.len(),
-            Kind::Report => self.reports.len(),
-            Kind::Element => self.elements.len(),
-            Kind::Decide => u64::from(self.decides),
-        }
+    // The weight of all events of a kind that are enabled.
+    fn share<C: Chare<A>, H: Openings<C>>(&self, world: &World<C, H, A>, kind: Kind) -> u64
+        requires knows { Knows world.now self.now.choices }
+        ensures value { result ≡ share self.now.bias (events_of world.now self.now.choices.places) kind }
+        ensures few { result ≤ 256 * Limits.ELEMENTS }
+    {
+        let _pes = world.pes();
+        self.bias.weight(kind) * self.choices.count(kind)
     }
+}
 
-    // The event of a kind with this number of enabled events before it in order.
-    fn event_at<C: Chare<A>, H: Openings<C>>(
-        &self,
-        world: &World<C, H, A>,
-        kind: Kind,
-        place: u64,
-    ) -> Option<Event> {
-        match kind {
-            Kind::Look => Some(Event::Look(Pe::new(self.looks.nth(place)?)?)),
-            Kind::Flush => Some(Event::Flush(Pe::new(self.flushes.nth(place)?)?)),
-            Kind::Deliver => Some(Event::Deliver(Pe::new(self.delivers.nth(place)?)?)),
-            Kind::Act => Some(Event::Act(Pe::new(self.acts.nth(place)?)?)),
-            Kind::Report => Some(Event::Report(Pe::new(self.reports.nth(place)?)?)),
-            Kind::Element => {
-                let element = Index::new(self.elements.nth(place)?)?;
-                element_event(world, element, *self.places.get(element.get() as usize)?)
-            }
-            Kind::Decide => Some(Event::Decide),
-        }
-    }
+// Whether an event is one of the PE that is starved.
+fn is_starved(bias: &Bias, event: &Option<Event>) -> bool
+    ensures value { result ≡ is_starved bias.now event.now }
+{
+    let Some(event) = event else {
+        return false;
+    };
+    let (Some(p), Some(starved)) = (event.pe(), bias.starved) else {
+        return false;
+    };
+    p == starved
+}
 
-    // Updates which steps a PE may make.
-    fn see_pe<C: Chare<A>, H: Openings<C>>(&mut self, world: &World<C, H, A>, p: Pe) {
-        let (Some(pe), Some(queue)) = (world.pe(p), world.queue(p)) else {
-            return;
-        };
-        let number = p.get();
-        let waits = !queue.parcels().is_empty();
-        self.looks.put(number, pe.wants().is_some());
-        self.flushes.put(number, pe.front_out().is_some());
-        self.delivers
-            .put(number, waits && pe.as_end().hand().is_none());
-        self.acts.put(number, may_act(pe));
-        self.reports.put(number, pe.next_note().is_some());
-    }
-
-    // Updates what an entry in the trace of a step of PE p changes for an element, and counts letters.
-    fn see_entry<C: Chare<A>, H: Openings<C>>(
-        &mut self,
-        world: &World<C, H, A>,
-        p: Pe,
-        entry: &TraceEntry,
-    ) {
+// How many letters are held after a step with these entries: no clause rests on it.
+fn held_after(held: u64, entries: &[TraceEntry]) -> u64 {
+    let mut held = held;
+    for entry in entries {
         match entry {
-            TraceEntry::Posted(_, _) => self.held = self.held.wrapping_add(1),
-            TraceEntry::Executed(_, element) => {
-                self.held = self.held.wrapping_sub(1);
-                self.see_element(world, *element);
-            }
-            TraceEntry::Installed(element) => {
-                if let Some(place) = self.places.get_mut(element.get() as usize) {
-                    *place = p;
-                }
-                self.see_element(world, *element);
-            }
-            TraceEntry::Resumed(element, _) | TraceEntry::Departed(element) => {
-                self.see_element(world, *element)
-            }
+            TraceEntry::Posted(_, _) => held = held.wrapping_add(1),
+            TraceEntry::Executed(_, _) => held = held.wrapping_sub(1),
             _ => {}
         }
     }
-
-    // Updates whether an element may start, depart or go on.
-    fn see_element<C: Chare<A>, H: Openings<C>>(&mut self, world: &World<C, H, A>, element: Index) {
-        let number = element.get();
-        let Some(place) = self.places.get(number as usize).copied() else {
-            return;
-        };
-        let may = element_event(world, element, place).is_some();
-        self.elements.put(number, may);
-    }
-
-    // Does the same for all elements.
-    fn see_elements<C: Chare<A>, H: Openings<C>>(&mut self, world: &World<C, H, A>) {
-        for number in 0..short(self.places.len()) {
-            if let Some(element) = Index::new(number) {
-                self.see_element(world, element);
-            }
-        }
-    }
-}
-
-// A number of PEs or of elements, all of which fit this type.
-fn short(number: usize) -> u32 {
-    u32::try_from(number).unwrap_or(u32::MAX)
-}
-
-// Whether a PE may act on what is in its hand: not on a letter whose element has not started, or that has to be looked up
-// first.
-fn may_act<C: Chare<A>, H: Openings<C>, A: Allocator>(pe: &PeState<C, H, A>) -> bool {
-    let Some(item) = pe.as_end().hand() else {
-        return false;
-    };
-    let Carried::Letter(letter) = &item.parcel else {
-        return true;
-    };
-    match pe.room().element(letter.to()) {
-        Some(element) => element.progress().started,
-        None => item.address.is_some(),
-    }
-}
-
-// The event by which an element starts, departs or goes on, where it is on this PE and may do so.
-fn element_event<C: Chare<A>, H: Openings<C>, A: Allocator>(
-    world: &World<C, H, A>,
-    element: Index,
-    at: Pe,
-) -> Option<Event> {
-    let pe = world.pe(at)?;
-    if !pe.room().element(element)?.progress().started {
-        return Some(Event::Start(at, element));
-    }
-    let round = pe.waits_for(element)?;
-    let place = world.board().place_for(round, element)?;
-    if place == at {
-        Some(Event::Resume(at, element))
-    } else {
-        Some(Event::Depart(at, element))
-    }
-}
-
-// The PE of each element as a world opens.
-fn places_in<C: Chare<A>, H: Openings<C>, A: Allocator + Copy>(
-    alloc: A,
-    world: &World<C, H, A>,
-) -> Result<Vec<Pe, A>, AllocError> {
-    let elements = short(world.board().len());
-    let mut places = Vec::with_capacity(alloc, elements as usize)?;
-    for number in 0..elements {
-        if let Some(place) = Index::new(number).and_then(|element| world.word(element)) {
-            places.push(place)?;
-        }
-    }
-    Ok(places)
+    held
 }

@@ -1,19 +1,22 @@
 //! Runs by a seed.
 
-ghost use Rattle.std.specs.Prelude.{◌≡◌, ◌+◌, ◌≤◌, [], IfErr, IfOk, OnErr, MatchBool, MatchResult, length};
-ghost use Rattle.courses.specs.Courses.{IsIdle, RefusesTaking};
+ghost use Rattle.std.specs.Prelude.{◌≡◌, ◌≤◌, [], IfOk, MatchResult, length};
+ghost use Rattle.courses.specs.Courses.{IsIdle};
+ghost use Rattle.rts_core.specs.Worlds.{opening_world};
+ghost use Rattle.schedules.specs.Choices.{Knows, turn_of};
 ghost use Rattle.schedules.specs.Courses.{IsExplored};
-ghost use Rattle.schedules.specs.Endings.{EndsCourse, EndsRun};
+ghost use Rattle.schedules.specs.Drawn.{DrawsTo, IsDrawn};
+ghost use Rattle.schedules.specs.Endings.{EndsCourse, EndsRun, refused_in};
 ghost use Rattle.schedules.specs.Schedules.{MayExplore, RefusesSchedule};
 
 use crate::chooser::Chooser;
+use crate::drawing::draw_step;
 use crate::explored::Explored;
 use crate::leaving::{Ending, is_done, leave};
 use crate::schedule::Schedule;
-use chare_index::{Limits, Pe};
+use chare_index::Limits;
 use chares::{Chare, Openings};
-use courses::{Course, Refusal, take_any};
-use rts_core::{Event, World};
+use courses::Course;
 use rts_run::RunError;
 use std::alloc::{AllocError, Allocator};
 use std::marker::Brand;
@@ -28,7 +31,8 @@ use std::marker::Brand;
 /// and without a fault every element has finished and no letter is held. The clause `ends` says why it ended: as
 /// [`Idle`](pe_worker::Fault::Idle) only where no event at all is enabled, as [`Stopped`](pe_worker::Fault::Stopped) only where it
 /// has taken as many steps as the schedule allows, and with any other fault only where the event that was refused has a cause for
-/// it in the world that is left: a handler that may return it, the last round, or memory.
+/// it in the world that is left: a handler that may return it, the last round, or memory. The clause `drawn` says that each step has
+/// the event that the seed draws there under the bias, and so has the event that was refused.
 ///
 /// # Errors
 ///
@@ -45,6 +49,8 @@ pub fn explore<C: Chare<A>, A: Allocator + Copy>(
     ensures explored { IfOk result (IsExplored C.step C.fits C.pack C.unpack chares.items schedule.now.pes schedule.now.strategy) }
     ensures few { IfOk result (λ x. length x.steps ≤ schedule.now.steps) }
     ensures ends { IfOk result (EndsRun C.step C.pack C.refuses C.unpack schedule.now.steps) }
+    ensures drawn { IfOk result (IsDrawn C.step C.pack C.unpack schedule.now.bias seed
+        (opening_world schedule.now.pes chares.items schedule.now.strategy)) }
 {
     if let Some(setting) = schedule.first_outside(chares.len()) {
         return Err(RunError::Config(setting));
@@ -68,6 +74,7 @@ fn explore_as<C: Chare<A>, H: Openings<C>, A: Allocator + Copy>(
     ensures explored { IfOk result (IsExplored C.step C.fits C.pack C.unpack H.opened H.pes schedule.now.strategy) }
     ensures few { IfOk result (λ x. length x.steps ≤ schedule.now.steps) }
     ensures ends { IfOk result (EndsRun C.step C.pack C.refuses C.unpack schedule.now.steps) }
+    ensures drawn { IfOk result (IsDrawn C.step C.pack C.unpack schedule.now.bias seed (opening_world H.pes H.opened schedule.now.strategy)) }
 {
     let mut course = Course::<C, H, A>::new(alloc, schedule.pes, chares, schedule.strategy)?;
     let mut chooser = Chooser::new(alloc, course.world(), seed, schedule.bias)?;
@@ -82,13 +89,16 @@ fn draw_steps<C: Chare<A>, H: Openings<C>, A: Allocator + Copy>(
     steps: u64,
 ) -> Ending
     requires fresh { course.old.steps ≡ [] }
+    requires knows { Knows course.old.world chooser.old.choices }
     ensures strategy { course.new.strategy ≡ course.old.strategy }
     ensures few { length course.new.steps ≤ steps }
     ensures ends { EndsCourse C.step C.pack C.refuses C.unpack course.new.world
         (IsIdle C.step C.pack C.unpack course.new.world) (length course.new.steps ≡ steps) result }
+    ensures drawn { DrawsTo C.step C.pack C.unpack chooser.old.bias (turn_of course.old.world chooser.old) course.new.steps
+        course.new.world (refused_in result) }
 {
     for _step in 0..steps {
-        if chooser.is_done(course.world()) {
+        if chooser.holds_none() && is_done(course.world()) {
             return Ending::Done;
         }
         match draw_step(course, chooser) {
@@ -106,57 +116,4 @@ fn draw_steps<C: Chare<A>, H: Openings<C>, A: Allocator + Copy>(
         return Ending::Done;
     }
     Ending::Stopped
-}
-
-// Takes a step that is drawn, and updates what is enabled; or returns false where no event is enabled.
-fn draw_step<C: Chare<A>, H: Openings<C>, A: Allocator + Copy>(
-    course: &mut Course<C, H, A>,
-    chooser: &mut Chooser<A>,
-) -> Result<bool, Refusal>
-    ensures strategy { course.new.strategy ≡ course.old.strategy }
-    ensures one { IfOk result (λ taken. MatchBool taken (length course.new.steps ≡ length course.old.steps + 1)
-        ((course.new.steps ≡ course.old.steps) × IsIdle C.step C.pack C.unpack course.new.world)) }
-    ensures none { OnErr result (course.new.steps ≡ course.old.steps) }
-    ensures refused { IfErr result (λ refusal. RefusesTaking C.step C.pack C.refuses C.unpack course.new.world refusal.event refusal.error) }
-{
-    if let Some(event) = chooser.draw(course.world()) {
-        let to = goes_to(course.world(), &event);
-        if course.take(&event)? {
-            if let Some(step) = course.steps().last() {
-                chooser.see(course.world(), &event, to, step.entries());
-            }
-            return Ok(true);
-        }
-    }
-    find_step(course, chooser)
-}
-
-// Takes a step with an event that is enabled and was overlooked, which never is; or returns false where no event is enabled. So
-// that a run is idle only where nothing can happen rests on no bookkeeping.
-fn find_step<C: Chare<A>, H: Openings<C>, A: Allocator + Copy>(
-    course: &mut Course<C, H, A>,
-    chooser: &mut Chooser<A>,
-) -> Result<bool, Refusal>
-    ensures strategy { course.new.strategy ≡ course.old.strategy }
-    ensures one { IfOk result (λ taken. MatchBool taken (length course.new.steps ≡ length course.old.steps + 1)
-        ((course.new.steps ≡ course.old.steps) × IsIdle C.step C.pack C.unpack course.new.world)) }
-    ensures none { OnErr result (course.new.steps ≡ course.old.steps) }
-    ensures refused { IfErr result (λ refusal. RefusesTaking C.step C.pack C.refuses C.unpack course.new.world refusal.event refusal.error) }
-{
-    if !take_any(course)? {
-        return Ok(false);
-    }
-    chooser.look_again(course.world());
-    Ok(true)
-}
-
-// The PE whose queue an event puts a parcel into.
-fn goes_to<C: Chare<A>, H: Openings<C>, A: Allocator>(
-    world: &World<C, H, A>,
-    event: &Event,
-) -> Option<Pe> {
-    let Event::Flush(p) = event else {
-        return None;
-    };
-    world.pe(*p)?.front_out()
 }

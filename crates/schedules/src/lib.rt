@@ -10,12 +10,15 @@
 #![tactic(auto)]
 
 mod bias;
+mod choices;
 mod chooser;
+mod drawing;
 mod error;
 mod explored;
 mod exploring;
 mod generator;
 mod leaving;
+mod moves;
 mod number_set;
 mod replaying;
 mod schedule;

@@ -10,4 +10,4 @@ told-requires g c =
 pub returns-in-Ok : goal.returns-in-Ok
 returns-in-Ok g c =
     let chares : c.workload.inside.chares ≡ c.args.workload.now.chares = ap (λ w. w.chares) c.workload.view_is in
-    record { ran = rw c.told.ensures.kept (c.in-Ok.ensures.left, rw chares at c.told.ensures.told) }
+    record { ran = rw c.told.ensures.kept (c.in-Ok.ensures.left, rw chares at c.told.ensures.told); drawn = rw c.told.ensures.kept c.in-Ok.ensures.drawn }

@@ -1,12 +1,14 @@
 use Rattle.std.proofs.Common.{length-append, arith, ◌∙◌}
-use Rattle.std.proofs.lemmas.List.Elements.{All-push}
-use Rattle.schedule_run.specs.Seeds.{IsVerdict}
+use Rattle.schedule_run.proofs.Verdicts.{verdicts_more}
 use Rattle.schedule_run.proofs.seeds.try_seeds.Goals as goal
 
 pub loop-before-preserved : goal.loop-before-preserved
 loop-before-preserved g c =
     let before = c.loop-before in
     rw c.in_ok-push.ensures.items (record {
-      verdicts = All-push (IsVerdict g.row.A.Denot g.C.Chare.step g.C.Pup.fits g.C.Pup.pack g.C.Pup.unpack (g.K.Cast.chares c.args.cast.now) c.args.schedule.now.pes c.args.schedule.now.strategy) before.verdicts.items c.in_ok-verdict_of.field-0 before.invariant.verdicts c.in_ok-verdict_of.ensures.verdict;
+      verdicts =
+          verdicts_more g.row.A.Denot g.C.Chare.step g.C.Pup.fits g.C.Pup.pack g.C.Pup.unpack (g.K.Cast.chares c.args.cast.now) c.args.schedule.now.pes c.args.schedule.now.strategy
+          c.args.schedule.now.bias 1 before.verdicts.items c.in_ok-verdict_of.field-0 (before.before + 1) (omega (arith, before.invariant.each)) before.invariant.verdicts
+          c.in_ok-verdict_of.ensures.verdict;
       each = length-append before.verdicts.items _ ∙ omega (arith, before.invariant.each);
     })
