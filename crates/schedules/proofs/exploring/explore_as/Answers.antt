@@ -7,8 +7,8 @@ use Rattle.schedules.proofs.Endings.{done_then, run_left}
 use Rattle.schedules.proofs.Opened.{open_pes, open_words}
 use Rattle.schedules.proofs.exploring.explore_as.Goals as goal
 
-pub new-chooser-requires : goal.new-chooser-requires
-new-chooser-requires g c =
+pub new-requires-2 : goal.new-requires-2
+new-requires-2 g c =
     let opens = c.world.ensures.value ∙ c.in_ok-course.ensures.world in
     let few : length g.H.Openings.opened ≤ ELEMENTS = subst (λ (cs : List g.row.C.Denot). length cs ≤ ELEMENTS) c.requires.opened c.requires.may.1 in
     record {
