@@ -30,6 +30,7 @@ static ROWS: [Row<'static>; 2] = [
             events: None,
             replay: None,
             trace: None,
+            no_journal: false,
         },
     ),
     (
@@ -52,6 +53,7 @@ static ROWS: [Row<'static>; 2] = [
             "1000000",
             "--trace",
             "t",
+            "--no-journal",
         ],
         Asked {
             file: "f",
@@ -64,6 +66,7 @@ static ROWS: [Row<'static>; 2] = [
             events: Some("e"),
             replay: Some("r"),
             trace: Some("t"),
+            no_journal: true,
         },
     ),
 ];
@@ -107,8 +110,29 @@ fn words_that_ask_for_no_run(rt: HostRuntime) {
 // Arguments for runs on one thread, and the task that they ask for, or the line of those that do not go together.
 type TaskRow<'a> = (&'a [&'a str], Result<Task<'a>, &'a str>);
 
-static TASKS: [TaskRow<'static>; 12] = [
+static TASKS: [TaskRow<'static>; 16] = [
     (&["charm_run", "--trace", "t", "f"], Ok(Task::Threads)),
+    (&["charm_run", "--no-journal", "f"], Ok(Task::Threads)),
+    (
+        &["charm_run", "--no-journal", "--seed", "7", "f"],
+        Err("charm_run: --no-journal with --seed, --seeds or --replay\n"),
+    ),
+    (
+        &["charm_run", "--no-journal", "--replay", "e", "f"],
+        Err("charm_run: --no-journal with --seed, --seeds or --replay\n"),
+    ),
+    (
+        &[
+            "charm_run",
+            "--no-journal",
+            "--seeds",
+            "2",
+            "--trace",
+            "t",
+            "f",
+        ],
+        Err("charm_run: --seeds and --trace\n"),
+    ),
     (
         &["charm_run", "--seed", "0", "--events", "e", "f"],
         Ok(Task::Seed(0)),

@@ -1,4 +1,4 @@
-use Rattle.std.proofs.Common.{length-append, arith, ◌∙◌}
+use Rattle.std.proofs.Common.{length-append, arith, ◌+◌, ◌∙◌}
 use Rattle.schedule_run.proofs.Verdicts.{verdicts_more}
 use Rattle.schedule_run.proofs.seeds.try_seeds.Goals as goal
 
