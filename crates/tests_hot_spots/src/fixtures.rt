@@ -3,6 +3,7 @@
 ghost use Rattle.std.specs.Prelude.{◌≡◌, true};
 
 use at_sync::Strategy;
+use chares::History;
 use hot_spot_run::run_chain;
 use hot_spot_strip::{Chain, ChainError, Mode, Strip};
 use rts_run::{Config, Outcome};
@@ -43,6 +44,7 @@ pub(crate) fn run_on<R: Threads + Wait + Sync, A: Allocator + Copy + Send + Sync
         turns: 1_000_000_000,
         probe_workers: 1,
         strategy: Strategy::Least,
+        history: History::Kept,
     };
     run_chain(rt, alloc, &config, chain)
 }
