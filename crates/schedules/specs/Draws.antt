@@ -169,6 +169,10 @@ module _ {C A : Type 0} (step : Step C) (pack : C → List ℕ) (unpack : List �
   abbrev pub IsChosen : Turn C A → Event → Type 0
   IsChosen at event = IfSome (drawn bias at).0 (λ chosen. IsEnabled step pack unpack at.world chosen → event ≡ chosen)
 
+  -- none is drawn that is enabled, so that any event may follow
+  abbrev pub AnyIsChosen : Turn C A → Type 0
+  AnyIsChosen at = (event : Event) → IsChosen at event
+
   -- a step with the event that is drawn leads from one turn to the next
   pub record Draws (at : Turn C A) (made : Made) (next : Turn C A) : Type 0 where
     pub enabled : IsEnabled step pack unpack at.world made.0

@@ -5,7 +5,7 @@ ghost use Rattle.courses.specs.Courses.{IsEnabled, IsIdle, Made, RefusesTaking};
 ghost use Rattle.rts_core.specs.Events.{Happens};
 ghost use Rattle.rts_core.specs.declared.event.Event.{Event};
 ghost use Rattle.schedules.specs.Choices.{Knows, put_into, turn_of};
-ghost use Rattle.schedules.specs.Draws.{Draws, IsChosen, drawn, places_after};
+ghost use Rattle.schedules.specs.Draws.{AnyIsChosen, Draws, IsChosen, drawn, places_after};
 
 use crate::chooser::Chooser;
 use chare_index::Pe;
@@ -48,7 +48,7 @@ fn take_drawn<C: Chare<A>, H: Openings<C>, A: Allocator + Copy>(
     ensures knows { IfOk result (λ _. Knows course.new.world chooser.new.choices) }
     ensures drawn { IfOk result (λ taken. MatchBool taken ((made : Made) × (course.new.steps ≡ course.old.steps ++ made ∷ [])
         × Draws C.step C.pack C.unpack chooser.old.bias (turn_of course.old.world chooser.old) made (turn_of course.new.world chooser.new)) (course.new ≡ course.old)) }
-    ensures any { IfOk result (λ taken. MatchBool taken (Unit {0}) ((event : Event) → IsChosen C.step C.pack C.unpack chooser.old.bias (turn_of course.old.world chooser.old) event)) }
+    ensures any { IfOk result (λ taken. MatchBool taken (Unit {0}) (AnyIsChosen C.step C.pack C.unpack chooser.old.bias (turn_of course.old.world chooser.old))) }
     ensures rest { IfOk result (λ taken. MatchBool taken (Unit {0}) ((chooser.new.choices ≡ chooser.old.choices)
         × (chooser.new.state ≡ (drawn chooser.old.bias (turn_of course.old.world chooser.old)).1))) }
     ensures none { OnErr result (course.new ≡ course.old) }
