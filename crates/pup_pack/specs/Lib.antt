@@ -10,3 +10,4 @@ pub mod Floats
 pub mod Texts
 pub mod Truths
 pub mod Trips
+pub mod Tuples

@@ -13,6 +13,7 @@ impl<A: Allocator + Copy, X: Pup<A> + Drop, Y: Pup<A> + Drop, Z: Pup<A> + Drop> 
     ghost use Rattle.pup_pack.specs.Packing.{trips_by};
     ghost use Rattle.pup_pack.specs.Structs.{made};
     ghost use Rattle.pup_pack.specs.Trips.{pair_trips, struct_trips};
+    ghost use Rattle.pup_pack.specs.Tuples.{three_of, pairs_of_three};
 
     ghost fits = { λ s. X.fits s.0 × (Y.fits s.1 × Z.fits s.2) };
 
@@ -20,10 +21,12 @@ impl<A: Allocator + Copy, X: Pup<A> + Drop, Y: Pup<A> + Drop, Z: Pup<A> + Drop> 
 
     ghost pack = { λ s. X.pack s.0 ++ (Y.pack s.1 ++ Z.pack s.2) };
 
-    ghost unpack = { λ bytes. made (λ x. (x.0, x.1.0, x.1.1)) (unpack_pair X.unpack (unpack_pair Y.unpack Z.unpack) bytes) };
+    ghost unpack = { λ bytes. made three_of (unpack_pair X.unpack (unpack_pair Y.unpack Z.unpack) bytes) };
 
-    ghost round_trip = { (struct_trips (λ s. (s.0, (s.1, s.2))) (λ x. (x.0, x.1.0, x.1.1)) (λ _. refl)
-        (pair_trips (trips_by X.fits X.counted X.pack X.unpack X.round_trip) (pair_trips (trips_by Y.fits Y.counted Y.pack Y.unpack Y.round_trip) (trips_by Z.fits Z.counted Z.pack Z.unpack Z.round_trip)))).trip };
+    ghost round_trip = { (struct_trips pairs_of_three three_of (λ _. refl)
+        (pair_trips (trips_by X.fits X.counted X.pack X.unpack X.round_trip)
+        (pair_trips (trips_by Y.fits Y.counted Y.pack Y.unpack Y.round_trip)
+        (trips_by Z.fits Z.counted Z.pack Z.unpack Z.round_trip)))).trip };
 
     fn packed_len(&self) -> u32 {
         both_len(
@@ -54,6 +57,7 @@ impl<
     ghost use Rattle.pup_pack.specs.Packing.{trips_by};
     ghost use Rattle.pup_pack.specs.Structs.{made};
     ghost use Rattle.pup_pack.specs.Trips.{pair_trips, struct_trips};
+    ghost use Rattle.pup_pack.specs.Tuples.{four_of, pairs_of_four};
 
     ghost fits = { λ s. W.fits s.0 × (X.fits s.1 × (Y.fits s.2 × Z.fits s.3)) };
 
@@ -61,10 +65,13 @@ impl<
 
     ghost pack = { λ s. W.pack s.0 ++ (X.pack s.1 ++ (Y.pack s.2 ++ Z.pack s.3)) };
 
-    ghost unpack = { λ bytes. made (λ x. (x.0, x.1.0, x.1.1.0, x.1.1.1)) (unpack_pair W.unpack (unpack_pair X.unpack (unpack_pair Y.unpack Z.unpack)) bytes) };
+    ghost unpack = { λ bytes. made four_of (unpack_pair W.unpack (unpack_pair X.unpack (unpack_pair Y.unpack Z.unpack)) bytes) };
 
-    ghost round_trip = { (struct_trips (λ s. (s.0, (s.1, (s.2, s.3)))) (λ x. (x.0, x.1.0, x.1.1.0, x.1.1.1)) (λ _. refl)
-        (pair_trips (trips_by W.fits W.counted W.pack W.unpack W.round_trip) (pair_trips (trips_by X.fits X.counted X.pack X.unpack X.round_trip) (pair_trips (trips_by Y.fits Y.counted Y.pack Y.unpack Y.round_trip) (trips_by Z.fits Z.counted Z.pack Z.unpack Z.round_trip))))).trip };
+    ghost round_trip = { (struct_trips pairs_of_four four_of (λ _. refl)
+        (pair_trips (trips_by W.fits W.counted W.pack W.unpack W.round_trip)
+        (pair_trips (trips_by X.fits X.counted X.pack X.unpack X.round_trip)
+        (pair_trips (trips_by Y.fits Y.counted Y.pack Y.unpack Y.round_trip)
+        (trips_by Z.fits Z.counted Z.pack Z.unpack Z.round_trip))))).trip };
 
     fn packed_len(&self) -> u32 {
         both_len(
@@ -101,6 +108,7 @@ impl<
     ghost use Rattle.pup_pack.specs.Packing.{trips_by};
     ghost use Rattle.pup_pack.specs.Structs.{made};
     ghost use Rattle.pup_pack.specs.Trips.{pair_trips, struct_trips};
+    ghost use Rattle.pup_pack.specs.Tuples.{five_of, pairs_of_five};
 
     ghost fits = { λ s. V.fits s.0 × (W.fits s.1 × (X.fits s.2 × (Y.fits s.3 × Z.fits s.4))) };
 
@@ -108,10 +116,14 @@ impl<
 
     ghost pack = { λ s. V.pack s.0 ++ (W.pack s.1 ++ (X.pack s.2 ++ (Y.pack s.3 ++ Z.pack s.4))) };
 
-    ghost unpack = { λ bytes. made (λ x. (x.0, x.1.0, x.1.1.0, x.1.1.1.0, x.1.1.1.1)) (unpack_pair V.unpack (unpack_pair W.unpack (unpack_pair X.unpack (unpack_pair Y.unpack Z.unpack))) bytes) };
+    ghost unpack = { λ bytes. made five_of (unpack_pair V.unpack (unpack_pair W.unpack (unpack_pair X.unpack (unpack_pair Y.unpack Z.unpack))) bytes) };
 
-    ghost round_trip = { (struct_trips (λ s. (s.0, (s.1, (s.2, (s.3, s.4))))) (λ x. (x.0, x.1.0, x.1.1.0, x.1.1.1.0, x.1.1.1.1)) (λ _. refl)
-        (pair_trips (trips_by V.fits V.counted V.pack V.unpack V.round_trip) (pair_trips (trips_by W.fits W.counted W.pack W.unpack W.round_trip) (pair_trips (trips_by X.fits X.counted X.pack X.unpack X.round_trip) (pair_trips (trips_by Y.fits Y.counted Y.pack Y.unpack Y.round_trip) (trips_by Z.fits Z.counted Z.pack Z.unpack Z.round_trip)))))).trip };
+    ghost round_trip = { (struct_trips pairs_of_five five_of (λ _. refl)
+        (pair_trips (trips_by V.fits V.counted V.pack V.unpack V.round_trip)
+        (pair_trips (trips_by W.fits W.counted W.pack W.unpack W.round_trip)
+        (pair_trips (trips_by X.fits X.counted X.pack X.unpack X.round_trip)
+        (pair_trips (trips_by Y.fits Y.counted Y.pack Y.unpack Y.round_trip)
+        (trips_by Z.fits Z.counted Z.pack Z.unpack Z.round_trip)))))).trip };
 
     fn packed_len(&self) -> u32 {
         both_len(
@@ -152,6 +164,7 @@ impl<
     ghost use Rattle.pup_pack.specs.Packing.{trips_by};
     ghost use Rattle.pup_pack.specs.Structs.{made};
     ghost use Rattle.pup_pack.specs.Trips.{pair_trips, struct_trips};
+    ghost use Rattle.pup_pack.specs.Tuples.{six_of, pairs_of_six};
 
     ghost fits = { λ s. U.fits s.0 × (V.fits s.1 × (W.fits s.2 × (X.fits s.3 × (Y.fits s.4 × Z.fits s.5)))) };
 
@@ -159,10 +172,15 @@ impl<
 
     ghost pack = { λ s. U.pack s.0 ++ (V.pack s.1 ++ (W.pack s.2 ++ (X.pack s.3 ++ (Y.pack s.4 ++ Z.pack s.5)))) };
 
-    ghost unpack = { λ bytes. made (λ x. (x.0, x.1.0, x.1.1.0, x.1.1.1.0, x.1.1.1.1.0, x.1.1.1.1.1)) (unpack_pair U.unpack (unpack_pair V.unpack (unpack_pair W.unpack (unpack_pair X.unpack (unpack_pair Y.unpack Z.unpack)))) bytes) };
+    ghost unpack = { λ bytes. made six_of (unpack_pair U.unpack (unpack_pair V.unpack (unpack_pair W.unpack (unpack_pair X.unpack (unpack_pair Y.unpack Z.unpack)))) bytes) };
 
-    ghost round_trip = { (struct_trips (λ s. (s.0, (s.1, (s.2, (s.3, (s.4, s.5)))))) (λ x. (x.0, x.1.0, x.1.1.0, x.1.1.1.0, x.1.1.1.1.0, x.1.1.1.1.1)) (λ _. refl)
-        (pair_trips (trips_by U.fits U.counted U.pack U.unpack U.round_trip) (pair_trips (trips_by V.fits V.counted V.pack V.unpack V.round_trip) (pair_trips (trips_by W.fits W.counted W.pack W.unpack W.round_trip) (pair_trips (trips_by X.fits X.counted X.pack X.unpack X.round_trip) (pair_trips (trips_by Y.fits Y.counted Y.pack Y.unpack Y.round_trip) (trips_by Z.fits Z.counted Z.pack Z.unpack Z.round_trip))))))).trip };
+    ghost round_trip = { (struct_trips pairs_of_six six_of (λ _. refl)
+        (pair_trips (trips_by U.fits U.counted U.pack U.unpack U.round_trip)
+        (pair_trips (trips_by V.fits V.counted V.pack V.unpack V.round_trip)
+        (pair_trips (trips_by W.fits W.counted W.pack W.unpack W.round_trip)
+        (pair_trips (trips_by X.fits X.counted X.pack X.unpack X.round_trip)
+        (pair_trips (trips_by Y.fits Y.counted Y.pack Y.unpack Y.round_trip)
+        (trips_by Z.fits Z.counted Z.pack Z.unpack Z.round_trip))))))).trip };
 
     fn packed_len(&self) -> u32 {
         both_len(
