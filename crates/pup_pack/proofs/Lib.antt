@@ -1,3 +1,4 @@
 pub mod Resumed
 pub mod Packs
 pub mod Texts
+pub mod Products

@@ -3,6 +3,8 @@ pub mod Numbers
 pub mod Pairs
 pub mod Lists
 pub mod ListTrips
+pub mod Arrays
+pub mod FixedLens
 pub mod Options
 pub mod Structs
 pub mod Signed

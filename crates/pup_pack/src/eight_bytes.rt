@@ -55,7 +55,7 @@ impl<A: Allocator> Pup<A> for i64 {
     ghost use Rattle.std.specs.Int.{w64, to_be_bytes};
     ghost use Rattle.pup_pack.specs.Numbers.{unpack_u64};
     ghost use Rattle.pup_pack.specs.Signed.{pack_signed, unpack_signed};
-    ghost use Rattle.pup_pack.specs.Trips.{u64_trips, signed_trips};
+    ghost use Rattle.pup_pack.specs.Trips.{i64_trips};
 
     ghost fits = { FitsSigned w64 };
 
@@ -65,7 +65,7 @@ impl<A: Allocator> Pup<A> for i64 {
 
     ghost unpack = { unpack_signed w64 unpack_u64 };
 
-    ghost round_trip = { (signed_trips w64 u64_trips).trip };
+    ghost round_trip = { i64_trips.trip };
 
     fn packed_len(&self) -> u32 {
         let _value = *self;

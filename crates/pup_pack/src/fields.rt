@@ -9,7 +9,7 @@ use crate::pup::Pup;
 use chare_index::Limits;
 use std::alloc::Allocator;
 
-/// The fields of a struct, borrowed to be packed one after another: a reference to a field, or a pair of such.
+/// The fields of a struct, borrowed to be packed one after another: a reference to a field, or a tuple of two to six such.
 pub trait Fields<A: Allocator> {
     /// What [`Pup`] says of each field.
     ghost fits: { Self → Type 0 };
@@ -51,6 +51,50 @@ impl<'a, A: Allocator, T: Pup<A>> Fields<A> for &'a T {
     }
 }
 
+/// Two groups of fields, the second after the first.
+#[derive(Drop)]
+pub(crate) struct Joined<'a, X, Y> {
+    first: &'a X,
+    second: &'a Y,
+}
+
+/// These two groups of fields.
+pub(crate) fn join<'a, X, Y>(first: &'a X, second: &'a Y) -> Joined<'a, X, Y>
+    ensures first { result.first.now ≡ first.now }
+    ensures second { result.second.now ≡ second.now }
+{
+    Joined { first, second }
+}
+
+impl<'a, A: Allocator, X: Fields<A>, Y: Fields<A>> Fields<A> for Joined<'a, X, Y> {
+    ghost use Rattle.std.specs.Prelude.{◌++◌};
+
+    ghost fits = { λ s. X.fits s.first.now × Y.fits s.second.now };
+
+    ghost counted = { λ s. X.counted s.first.now × Y.counted s.second.now };
+
+    ghost pack = { λ s. X.pack s.first.now ++ Y.pack s.second.now };
+
+    fn fields_len(&self) -> u32 {
+        both_len(self.first.fields_len(), self.second.fields_len())
+    }
+
+    fn pack_fields(&self, out: &mut Vec<u8, A>) -> Result<(), PupError> {
+        let before = out.len();
+        let len = self.fields_len();
+        if len > Limits::STATE_BYTES {
+            return Err(PupError::TooLong);
+        }
+        out.reserve(len as usize)?;
+        self.first.pack_fields(out)?;
+        if let Err(refusal) = self.second.pack_fields(out) {
+            out.truncate(before);
+            return Err(refusal);
+        }
+        Ok(())
+    }
+}
+
 impl<A: Allocator, X: Fields<A>, Y: Fields<A>> Fields<A> for (X, Y) {
     ghost use Rattle.std.specs.Prelude.{◌++◌};
 
@@ -65,17 +109,6 @@ impl<A: Allocator, X: Fields<A>, Y: Fields<A>> Fields<A> for (X, Y) {
     }
 
     fn pack_fields(&self, out: &mut Vec<u8, A>) -> Result<(), PupError> {
-        let before = out.len();
-        let len = self.fields_len();
-        if len > Limits::STATE_BYTES {
-            return Err(PupError::TooLong);
-        }
-        out.reserve(len as usize)?;
-        self.0.pack_fields(out)?;
-        if let Err(refusal) = self.1.pack_fields(out) {
-            out.truncate(before);
-            return Err(refusal);
-        }
-        Ok(())
+        join(&self.0, &self.1).pack_fields(out)
     }
 }

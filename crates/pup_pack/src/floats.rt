@@ -18,7 +18,7 @@ impl<A: Allocator> Pup<A> for f32 {
     ghost use Rattle.std.specs.Int.{w32, to_be_bytes};
     ghost use Rattle.pup_pack.specs.Floats.{IsFloat, pack_float, unpack_float};
     ghost use Rattle.pup_pack.specs.Numbers.{unpack_u32};
-    ghost use Rattle.pup_pack.specs.Trips.{float_trips, u32_trips};
+    ghost use Rattle.pup_pack.specs.Trips.{f32_trips};
 
     ghost fits = { IsFloat binary32 };
 
@@ -28,7 +28,7 @@ impl<A: Allocator> Pup<A> for f32 {
 
     ghost unpack = { unpack_float binary32 unpack_u32 };
 
-    ghost round_trip = { (float_trips binary32 u32_trips).trip };
+    ghost round_trip = { f32_trips.trip };
 
     fn packed_len(&self) -> u32 {
         f32_len(*self)
@@ -53,7 +53,7 @@ impl<A: Allocator> Pup<A> for f64 {
     ghost use Rattle.std.specs.Int.{w64, to_be_bytes};
     ghost use Rattle.pup_pack.specs.Floats.{IsFloat, pack_float, unpack_float};
     ghost use Rattle.pup_pack.specs.Numbers.{unpack_u64};
-    ghost use Rattle.pup_pack.specs.Trips.{float_trips, u64_trips};
+    ghost use Rattle.pup_pack.specs.Trips.{f64_trips};
 
     ghost fits = { IsFloat binary64 };
 
@@ -63,7 +63,7 @@ impl<A: Allocator> Pup<A> for f64 {
 
     ghost unpack = { unpack_float binary64 unpack_u64 };
 
-    ghost round_trip = { (float_trips binary64 u64_trips).trip };
+    ghost round_trip = { f64_trips.trip };
 
     fn packed_len(&self) -> u32 {
         f64_len(*self)

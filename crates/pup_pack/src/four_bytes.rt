@@ -55,7 +55,7 @@ impl<A: Allocator> Pup<A> for i32 {
     ghost use Rattle.std.specs.Int.{w32, to_be_bytes};
     ghost use Rattle.pup_pack.specs.Numbers.{unpack_u32};
     ghost use Rattle.pup_pack.specs.Signed.{pack_signed, unpack_signed};
-    ghost use Rattle.pup_pack.specs.Trips.{u32_trips, signed_trips};
+    ghost use Rattle.pup_pack.specs.Trips.{i32_trips};
 
     ghost fits = { FitsSigned w32 };
 
@@ -65,7 +65,7 @@ impl<A: Allocator> Pup<A> for i32 {
 
     ghost unpack = { unpack_signed w32 unpack_u32 };
 
-    ghost round_trip = { (signed_trips w32 u32_trips).trip };
+    ghost round_trip = { i32_trips.trip };
 
     fn packed_len(&self) -> u32 {
         let _value = *self;

@@ -1,7 +1,7 @@
 ghost use Rattle.std.specs.Prelude.{◌≡◌, ◌++◌, ◌∷◌, [], IfErr, length, OnErr, OnOk};
 
 use crate::error::PupError;
-use crate::lists::{list_len, pack_items, unpack_count, unpack_items};
+use crate::lists::{list_len, pack_list, unpack_count, unpack_items};
 use crate::pup::Pup;
 use chare_index::Limits;
 use std::alloc::{AllocFailed, Allocator, Global};
@@ -75,19 +75,7 @@ impl<A: Allocator + Copy, T: Pup<A> + Drop> Pup<A> for Items<T, A> {
     }
 
     fn pack_into(&self, out: &mut Vec<u8, A>) -> Result<(), PupError> {
-        let before = out.len();
-        let count = self.all.len();
-        let len = self.packed_len();
-        if count > Limits::STATE_BYTES as usize || len > Limits::STATE_BYTES {
-            return Err(PupError::TooLong);
-        }
-        out.reserve(len as usize)?;
-        out.extend_from_slice(&(count as u32).to_be_bytes())?;
-        if let Err(refusal) = pack_items(self.all.as_slice(), out) {
-            out.truncate(before);
-            return Err(refusal);
-        }
-        Ok(())
+        pack_list(self.all.as_slice(), self.packed_len(), out)
     }
 
     fn unpack(alloc: A, bytes: &[u8]) -> Result<(Items<T, A>, usize), PupError> {

@@ -2,16 +2,18 @@
 //! packed, whatever bytes follow.
 //!
 //! - [`Pup`]: a value that packs, with its law. It is implemented for integers of 8 to 64 bits, `f32`, `f64`, `bool`,
-//!   `Option`, tuples of two to six parts, [`Text`], [`Bytes`] and [`Items`]; its docs show how to implement it for a
-//!   type of your own.
+//!   `Option`, tuples of two to six parts, arrays, [`Text`], [`Bytes`], [`Items`] and [`FixedItems`]; its docs show how to
+//!   implement it for a type of your own.
 //! - [`Text`]: a text. [`Bytes`]: a list of bytes. [`Items`]: a list of packed values.
+//! - [`FixedItems`]: a list of values of a type that is [`FixedLen`], whose packs all have the same length. It knows
+//!   the length of its pack without going over its items.
 //! - [`Fields`]: the fields of a struct, packed one after another.
 //! - [`PupError`]: why a value is not packed, or bytes are not unpacked.
 //!
 //! A number packs into its bytes, the highest first, and a signed one into those of its two's complement. A float packs
 //! into the bytes of its bits (IEEE 754), and comes back as it was, with the sign of a zero; a NaN comes back as a NaN,
 //! which has no sign and no payload here. A truth value is the byte 0 or 1. An option is the byte 0, or the byte 1 and
-//! then the value. A tuple is its parts, one after another.
+//! then the value. A tuple is its parts, one after another, and an array its items.
 //!
 //! ```
 //! use pup_pack::{Items, Pup, PupError};
@@ -28,10 +30,14 @@
 //! ```
 #![tactic(auto)]
 
+mod arrays;
 mod bytes;
 mod eight_bytes;
 mod error;
+mod field_tuples;
 mod fields;
+mod fixed_items;
+mod fixed_len;
 mod floats;
 mod four_bytes;
 mod items;
@@ -49,6 +55,8 @@ mod two_bytes;
 pub use bytes::Bytes;
 pub use error::PupError;
 pub use fields::Fields;
+pub use fixed_items::FixedItems;
+pub use fixed_len::FixedLen;
 pub use items::Items;
 pub use pup::Pup;
 pub use text::Text;

@@ -51,7 +51,7 @@ impl<A: Allocator> Pup<A> for i8 {
     ghost use Rattle.std.specs.Int.{w8};
     ghost use Rattle.pup_pack.specs.Numbers.{pack_u8, unpack_u8};
     ghost use Rattle.pup_pack.specs.Signed.{pack_signed, unpack_signed};
-    ghost use Rattle.pup_pack.specs.Trips.{u8_trips, signed_trips};
+    ghost use Rattle.pup_pack.specs.Trips.{i8_trips};
 
     ghost fits = { FitsSigned w8 };
 
@@ -61,7 +61,7 @@ impl<A: Allocator> Pup<A> for i8 {
 
     ghost unpack = { unpack_signed w8 unpack_u8 };
 
-    ghost round_trip = { (signed_trips w8 u8_trips).trip };
+    ghost round_trip = { i8_trips.trip };
 
     fn packed_len(&self) -> u32 {
         let _value = *self;

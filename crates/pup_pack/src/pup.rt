@@ -13,8 +13,8 @@ use std::alloc::Allocator;
 ///
 /// # A type of your own
 ///
-/// A state of several fields packs into its fields, one after another. They are a pair, or pairs within a pair, to
-/// which every member and method delegates:
+/// A state of several fields packs into its fields, one after another. They are a tuple, to which every member and method
+/// delegates:
 ///
 /// ```text
 /// #[derive(Drop)]
@@ -24,43 +24,50 @@ use std::alloc::Allocator;
 ///     pad: Bytes<A>,
 /// }
 ///
+/// type Parts<A> = (u64, Items<u32, A>, Bytes<A>);
+///
 /// impl<A: Allocator + Copy> Pup<A> for Tally<A> {
 ///     ghost use Rattle.std.specs.Prelude.{refl};
 ///     ghost use Rattle.pup_pack.specs.Structs.{made};
-///     ghost use Rattle.pup_pack.specs.Trips.{bytes_trips, list_trips, pair_trips, struct_trips, u32_trips, u64_trips};
+///     ghost use Rattle.pup_pack.specs.Trips.{bytes_trips, list_trips, struct_trips, three_trips, u32_trips, u64_trips};
 ///
-///     ghost fits = { λ t. ⟦<(u64, (Items<u32, A>, Bytes<A>)) as Pup<A>>⟧.fits (t.sum, (t.amounts, t.pad)) };
-///     ghost counted = { λ t. ⟦<(u64, (Items<u32, A>, Bytes<A>)) as Pup<A>>⟧.counted (t.sum, (t.amounts, t.pad)) };
-///     ghost pack = { λ t. ⟦<(u64, (Items<u32, A>, Bytes<A>)) as Pup<A>>⟧.pack (t.sum, (t.amounts, t.pad)) };
-///     ghost unpack = { λ bytes. made (λ x. record { sum = x.0; amounts = x.1.0; pad = x.1.1 })
-///         (⟦<(u64, (Items<u32, A>, Bytes<A>)) as Pup<A>>⟧.unpack bytes) };
-///     ghost round_trip = { (struct_trips (λ t. (t.sum, (t.amounts, t.pad)))
-///         (λ x. record { sum = x.0; amounts = x.1.0; pad = x.1.1 }) (λ _. refl)
-///         (pair_trips u64_trips (pair_trips (list_trips u32_trips) bytes_trips))).trip };
+///     ghost fits = { λ t. ⟦<Parts<A> as Pup<A>>⟧.fits (t.sum, t.amounts, t.pad) };
+///     ghost counted = { λ t. ⟦<Parts<A> as Pup<A>>⟧.counted (t.sum, t.amounts, t.pad) };
+///     ghost pack = { λ t. ⟦<Parts<A> as Pup<A>>⟧.pack (t.sum, t.amounts, t.pad) };
+///     ghost unpack = { λ bytes. made (λ x. record { sum = x.0; amounts = x.1; pad = x.2 })
+///         (⟦<Parts<A> as Pup<A>>⟧.unpack bytes) };
+///     ghost round_trip = { (struct_trips (λ t. (t.sum, t.amounts, t.pad))
+///         (λ x. record { sum = x.0; amounts = x.1; pad = x.2 }) (λ _. refl)
+///         (three_trips u64_trips (list_trips u32_trips) bytes_trips)).trip };
 ///
 ///     fn packed_len(&self) -> u32 {
-///         (&self.sum, (&self.amounts, &self.pad)).fields_len()
+///         (&self.sum, &self.amounts, &self.pad).fields_len()
 ///     }
 ///
 ///     fn pack_into(&self, out: &mut Vec<u8, A>) -> Result<(), PupError> {
-///         (&self.sum, (&self.amounts, &self.pad)).pack_fields(out)
+///         (&self.sum, &self.amounts, &self.pad).pack_fields(out)
 ///     }
 ///
 ///     fn unpack(alloc: A, bytes: &[u8]) -> Result<(Tally<A>, usize), PupError> {
-///         let (fields, len) = <(u64, (Items<u32, A>, Bytes<A>)) as Pup<A>>::unpack(alloc, bytes)?;
-///         let (sum, (amounts, pad)) = fields;
+///         let ((sum, amounts, pad), len) = <Parts<A> as Pup<A>>::unpack(alloc, bytes)?;
 ///         Ok((Tally { sum, amounts, pad }, len))
 ///     }
 /// }
 /// ```
 ///
-/// This needs no proof file. The law is put together as the type is: `pair_trips` of the laws of the fields, and `struct_trips`
-/// of how the struct is made of them. Where not all fields make a value of the type, its `unpack` tests them and returns
-/// [`Bad`](PupError::Bad), and its impl has `judged` and `judged_trips` in place of these; or `decoded` and
-/// `decoded_trips`, where the value is another type's, as that of a byte is for `bool`.
+/// This needs no proof file. The law is put together as the type is: `struct_trips` says how the struct is made of its fields,
+/// and `three_trips` has the law of each. Where a struct has more than six fields, the sixth part is a tuple of the others. Where
+/// not all fields make a value of the type, its `unpack` tests them and returns [`Bad`](PupError::Bad), and its impl has
+/// `judged` and `judged_trips` in place of these; or `decoded` and `decoded_trips`, where the value is another type's, as
+/// that of a byte is for `bool`.
 ///
-/// The law of a signed integer is `signed_trips w32 u32_trips`, that of a float `float_trips binary64 u64_trips`, and
-/// that of an option `option_trips` of the law of its value.
+/// | Type | Its law |
+/// |---|---|
+/// | `u8` to `u64`, `i8` to `i64`, `f32`, `f64`, `bool` | `u8_trips`, `i8_trips`, `f32_trips`, `bool_trips`, .. |
+/// | [`Text`](crate::Text), [`Bytes`](crate::Bytes) | `text_trips`, `bytes_trips` |
+/// | `Option<T>`, `[T; N]` | `option_trips` of the law of `T`; `array_trips N` of it |
+/// | [`Items`](crate::Items), [`FixedItems`](crate::FixedItems) | `list_trips` of the law of its items |
+/// | tuples of two to six parts | `pair_trips`, `three_trips`, `four_trips`, `five_trips`, `six_trips` of the laws of the parts |
 pub trait Pup<A: Allocator>: Sized {
     /// Holds of every value of the type. The law below asks for it, since there an integer is any natural number.
     ghost fits: { Self → Type 0 };

@@ -2,18 +2,17 @@
 
 use crate::error::PupError;
 use crate::fields::Fields;
-use crate::measure::both_len;
 use crate::pup::Pup;
 use std::alloc::Allocator;
 
 impl<A: Allocator + Copy, X: Pup<A> + Drop, Y: Pup<A> + Drop, Z: Pup<A> + Drop> Pup<A>
     for (X, Y, Z) {
-    ghost use Rattle.std.specs.Prelude.{◌++◌, refl};
+    ghost use Rattle.std.specs.Prelude.{◌++◌};
     ghost use Rattle.pup_pack.specs.Pairs.{unpack_pair};
     ghost use Rattle.pup_pack.specs.Packing.{trips_by};
     ghost use Rattle.pup_pack.specs.Structs.{made};
-    ghost use Rattle.pup_pack.specs.Trips.{pair_trips, struct_trips};
-    ghost use Rattle.pup_pack.specs.Tuples.{three_of, pairs_of_three};
+    ghost use Rattle.pup_pack.specs.Trips.{three_trips};
+    ghost use Rattle.pup_pack.specs.Tuples.{three_of};
 
     ghost fits = { λ s. X.fits s.0 × (Y.fits s.1 × Z.fits s.2) };
 
@@ -23,20 +22,17 @@ impl<A: Allocator + Copy, X: Pup<A> + Drop, Y: Pup<A> + Drop, Z: Pup<A> + Drop> 
 
     ghost unpack = { λ bytes. made three_of (unpack_pair X.unpack (unpack_pair Y.unpack Z.unpack) bytes) };
 
-    ghost round_trip = { (struct_trips pairs_of_three three_of (λ _. refl)
-        (pair_trips (trips_by X.fits X.counted X.pack X.unpack X.round_trip)
-        (pair_trips (trips_by Y.fits Y.counted Y.pack Y.unpack Y.round_trip)
-        (trips_by Z.fits Z.counted Z.pack Z.unpack Z.round_trip)))).trip };
+    ghost round_trip = { (three_trips
+        (trips_by X.fits X.counted X.pack X.unpack X.round_trip)
+        (trips_by Y.fits Y.counted Y.pack Y.unpack Y.round_trip)
+        (trips_by Z.fits Z.counted Z.pack Z.unpack Z.round_trip)).trip };
 
     fn packed_len(&self) -> u32 {
-        both_len(
-            self.0.packed_len(),
-            both_len(self.1.packed_len(), self.2.packed_len()),
-        )
+        (&self.0, &self.1, &self.2).fields_len()
     }
 
     fn pack_into(&self, out: &mut Vec<u8, A>) -> Result<(), PupError> {
-        (&self.0, (&self.1, &self.2)).pack_fields(out)
+        (&self.0, &self.1, &self.2).pack_fields(out)
     }
 
     fn unpack(alloc: A, bytes: &[u8]) -> Result<((X, Y, Z), usize), PupError> {
@@ -52,12 +48,12 @@ impl<
     Y: Pup<A> + Drop,
     Z: Pup<A> + Drop,
 > Pup<A> for (W, X, Y, Z) {
-    ghost use Rattle.std.specs.Prelude.{◌++◌, refl};
+    ghost use Rattle.std.specs.Prelude.{◌++◌};
     ghost use Rattle.pup_pack.specs.Pairs.{unpack_pair};
     ghost use Rattle.pup_pack.specs.Packing.{trips_by};
     ghost use Rattle.pup_pack.specs.Structs.{made};
-    ghost use Rattle.pup_pack.specs.Trips.{pair_trips, struct_trips};
-    ghost use Rattle.pup_pack.specs.Tuples.{four_of, pairs_of_four};
+    ghost use Rattle.pup_pack.specs.Trips.{four_trips};
+    ghost use Rattle.pup_pack.specs.Tuples.{four_of};
 
     ghost fits = { λ s. W.fits s.0 × (X.fits s.1 × (Y.fits s.2 × Z.fits s.3)) };
 
@@ -67,24 +63,18 @@ impl<
 
     ghost unpack = { λ bytes. made four_of (unpack_pair W.unpack (unpack_pair X.unpack (unpack_pair Y.unpack Z.unpack)) bytes) };
 
-    ghost round_trip = { (struct_trips pairs_of_four four_of (λ _. refl)
-        (pair_trips (trips_by W.fits W.counted W.pack W.unpack W.round_trip)
-        (pair_trips (trips_by X.fits X.counted X.pack X.unpack X.round_trip)
-        (pair_trips (trips_by Y.fits Y.counted Y.pack Y.unpack Y.round_trip)
-        (trips_by Z.fits Z.counted Z.pack Z.unpack Z.round_trip))))).trip };
+    ghost round_trip = { (four_trips
+        (trips_by W.fits W.counted W.pack W.unpack W.round_trip)
+        (trips_by X.fits X.counted X.pack X.unpack X.round_trip)
+        (trips_by Y.fits Y.counted Y.pack Y.unpack Y.round_trip)
+        (trips_by Z.fits Z.counted Z.pack Z.unpack Z.round_trip)).trip };
 
     fn packed_len(&self) -> u32 {
-        both_len(
-            self.0.packed_len(),
-            both_len(
-                self.1.packed_len(),
-                both_len(self.2.packed_len(), self.3.packed_len()),
-            ),
-        )
+        (&self.0, &self.1, &self.2, &self.3).fields_len()
     }
 
     fn pack_into(&self, out: &mut Vec<u8, A>) -> Result<(), PupError> {
-        (&self.0, (&self.1, (&self.2, &self.3))).pack_fields(out)
+        (&self.0, &self.1, &self.2, &self.3).pack_fields(out)
     }
 
     fn unpack(alloc: A, bytes: &[u8]) -> Result<((W, X, Y, Z), usize), PupError> {
@@ -103,12 +93,12 @@ impl<
     Y: Pup<A> + Drop,
     Z: Pup<A> + Drop,
 > Pup<A> for (V, W, X, Y, Z) {
-    ghost use Rattle.std.specs.Prelude.{◌++◌, refl};
+    ghost use Rattle.std.specs.Prelude.{◌++◌};
     ghost use Rattle.pup_pack.specs.Pairs.{unpack_pair};
     ghost use Rattle.pup_pack.specs.Packing.{trips_by};
     ghost use Rattle.pup_pack.specs.Structs.{made};
-    ghost use Rattle.pup_pack.specs.Trips.{pair_trips, struct_trips};
-    ghost use Rattle.pup_pack.specs.Tuples.{five_of, pairs_of_five};
+    ghost use Rattle.pup_pack.specs.Trips.{five_trips};
+    ghost use Rattle.pup_pack.specs.Tuples.{five_of};
 
     ghost fits = { λ s. V.fits s.0 × (W.fits s.1 × (X.fits s.2 × (Y.fits s.3 × Z.fits s.4))) };
 
@@ -118,28 +108,19 @@ impl<
 
     ghost unpack = { λ bytes. made five_of (unpack_pair V.unpack (unpack_pair W.unpack (unpack_pair X.unpack (unpack_pair Y.unpack Z.unpack))) bytes) };
 
-    ghost round_trip = { (struct_trips pairs_of_five five_of (λ _. refl)
-        (pair_trips (trips_by V.fits V.counted V.pack V.unpack V.round_trip)
-        (pair_trips (trips_by W.fits W.counted W.pack W.unpack W.round_trip)
-        (pair_trips (trips_by X.fits X.counted X.pack X.unpack X.round_trip)
-        (pair_trips (trips_by Y.fits Y.counted Y.pack Y.unpack Y.round_trip)
-        (trips_by Z.fits Z.counted Z.pack Z.unpack Z.round_trip)))))).trip };
+    ghost round_trip = { (five_trips
+        (trips_by V.fits V.counted V.pack V.unpack V.round_trip)
+        (trips_by W.fits W.counted W.pack W.unpack W.round_trip)
+        (trips_by X.fits X.counted X.pack X.unpack X.round_trip)
+        (trips_by Y.fits Y.counted Y.pack Y.unpack Y.round_trip)
+        (trips_by Z.fits Z.counted Z.pack Z.unpack Z.round_trip)).trip };
 
     fn packed_len(&self) -> u32 {
-        both_len(
-            self.0.packed_len(),
-            both_len(
-                self.1.packed_len(),
-                both_len(
-                    self.2.packed_len(),
-                    both_len(self.3.packed_len(), self.4.packed_len()),
-                ),
-            ),
-        )
+        (&self.0, &self.1, &self.2, &self.3, &self.4).fields_len()
     }
 
     fn pack_into(&self, out: &mut Vec<u8, A>) -> Result<(), PupError> {
-        (&self.0, (&self.1, (&self.2, (&self.3, &self.4)))).pack_fields(out)
+        (&self.0, &self.1, &self.2, &self.3, &self.4).pack_fields(out)
     }
 
     fn unpack(alloc: A, bytes: &[u8]) -> Result<((V, W, X, Y, Z), usize), PupError> {
@@ -159,12 +140,12 @@ impl<
     Y: Pup<A> + Drop,
     Z: Pup<A> + Drop,
 > Pup<A> for (U, V, W, X, Y, Z) {
-    ghost use Rattle.std.specs.Prelude.{◌++◌, refl};
+    ghost use Rattle.std.specs.Prelude.{◌++◌};
     ghost use Rattle.pup_pack.specs.Pairs.{unpack_pair};
     ghost use Rattle.pup_pack.specs.Packing.{trips_by};
     ghost use Rattle.pup_pack.specs.Structs.{made};
-    ghost use Rattle.pup_pack.specs.Trips.{pair_trips, struct_trips};
-    ghost use Rattle.pup_pack.specs.Tuples.{six_of, pairs_of_six};
+    ghost use Rattle.pup_pack.specs.Trips.{six_trips};
+    ghost use Rattle.pup_pack.specs.Tuples.{six_of};
 
     ghost fits = { λ s. U.fits s.0 × (V.fits s.1 × (W.fits s.2 × (X.fits s.3 × (Y.fits s.4 × Z.fits s.5)))) };
 
@@ -174,32 +155,20 @@ impl<
 
     ghost unpack = { λ bytes. made six_of (unpack_pair U.unpack (unpack_pair V.unpack (unpack_pair W.unpack (unpack_pair X.unpack (unpack_pair Y.unpack Z.unpack)))) bytes) };
 
-    ghost round_trip = { (struct_trips pairs_of_six six_of (λ _. refl)
-        (pair_trips (trips_by U.fits U.counted U.pack U.unpack U.round_trip)
-        (pair_trips (trips_by V.fits V.counted V.pack V.unpack V.round_trip)
-        (pair_trips (trips_by W.fits W.counted W.pack W.unpack W.round_trip)
-        (pair_trips (trips_by X.fits X.counted X.pack X.unpack X.round_trip)
-        (pair_trips (trips_by Y.fits Y.counted Y.pack Y.unpack Y.round_trip)
-        (trips_by Z.fits Z.counted Z.pack Z.unpack Z.round_trip))))))).trip };
+    ghost round_trip = { (six_trips
+        (trips_by U.fits U.counted U.pack U.unpack U.round_trip)
+        (trips_by V.fits V.counted V.pack V.unpack V.round_trip)
+        (trips_by W.fits W.counted W.pack W.unpack W.round_trip)
+        (trips_by X.fits X.counted X.pack X.unpack X.round_trip)
+        (trips_by Y.fits Y.counted Y.pack Y.unpack Y.round_trip)
+        (trips_by Z.fits Z.counted Z.pack Z.unpack Z.round_trip)).trip };
 
     fn packed_len(&self) -> u32 {
-        both_len(
-            self.0.packed_len(),
-            both_len(
-                self.1.packed_len(),
-                both_len(
-                    self.2.packed_len(),
-                    both_len(
-                        self.3.packed_len(),
-                        both_len(self.4.packed_len(), self.5.packed_len()),
-                    ),
-                ),
-            ),
-        )
+        (&self.0, &self.1, &self.2, &self.3, &self.4, &self.5).fields_len()
     }
 
     fn pack_into(&self, out: &mut Vec<u8, A>) -> Result<(), PupError> {
-        (&self.0, (&self.1, (&self.2, (&self.3, (&self.4, &self.5))))).pack_fields(out)
+        (&self.0, &self.1, &self.2, &self.3, &self.4, &self.5).pack_fields(out)
     }
 
     fn unpack(alloc: A, bytes: &[u8]) -> Result<((U, V, W, X, Y, Z), usize), PupError> {

@@ -52,7 +52,7 @@ impl<A: Allocator> Pup<A> for i16 {
     ghost use Rattle.std.specs.Int.{w16, to_be_bytes};
     ghost use Rattle.pup_pack.specs.Numbers.{unpack_u16};
     ghost use Rattle.pup_pack.specs.Signed.{pack_signed, unpack_signed};
-    ghost use Rattle.pup_pack.specs.Trips.{u16_trips, signed_trips};
+    ghost use Rattle.pup_pack.specs.Trips.{i16_trips};
 
     ghost fits = { FitsSigned w16 };
 
@@ -62,7 +62,7 @@ impl<A: Allocator> Pup<A> for i16 {
 
     ghost unpack = { unpack_signed w16 unpack_u16 };
 
-    ghost round_trip = { (signed_trips w16 u16_trips).trip };
+    ghost round_trip = { i16_trips.trip };
 
     fn packed_len(&self) -> u32 {
         let _value = *self;

@@ -3,10 +3,14 @@
 #![tactic(auto)]
 
 #[cfg(test)]
+mod fixed_items;
+#[cfg(test)]
 mod fixtures;
 #[cfg(test)]
 mod opening_pes;
 #[cfg(test)]
 mod packing;
+#[cfg(test)]
+mod structs;
 #[cfg(test)]
 mod values;

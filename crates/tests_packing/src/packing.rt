@@ -14,33 +14,35 @@ struct State<A: Allocator = Global> {
     pad: Bytes<A>,
 }
 
+// Its fields, as they are packed.
+type Parts<A> = (u64, Items<u32, A>, Bytes<A>);
+
 impl<A: Allocator + Copy> Pup<A> for State<A> {
     ghost use Rattle.std.specs.Prelude.{refl};
     ghost use Rattle.pup_pack.specs.Structs.{made};
-    ghost use Rattle.pup_pack.specs.Trips.{bytes_trips, list_trips, pair_trips, struct_trips, u32_trips, u64_trips};
+    ghost use Rattle.pup_pack.specs.Trips.{bytes_trips, list_trips, struct_trips, three_trips, u32_trips, u64_trips};
 
-    ghost fits = { λ t. ⟦<(u64, (Items<u32, A>, Bytes<A>)) as Pup<A>>⟧.fits (t.sum, (t.amounts, t.pad)) };
+    ghost fits = { λ t. ⟦<Parts<A> as Pup<A>>⟧.fits (t.sum, t.amounts, t.pad) };
 
-    ghost counted = { λ t. ⟦<(u64, (Items<u32, A>, Bytes<A>)) as Pup<A>>⟧.counted (t.sum, (t.amounts, t.pad)) };
+    ghost counted = { λ t. ⟦<Parts<A> as Pup<A>>⟧.counted (t.sum, t.amounts, t.pad) };
 
-    ghost pack = { λ t. ⟦<(u64, (Items<u32, A>, Bytes<A>)) as Pup<A>>⟧.pack (t.sum, (t.amounts, t.pad)) };
+    ghost pack = { λ t. ⟦<Parts<A> as Pup<A>>⟧.pack (t.sum, t.amounts, t.pad) };
 
-    ghost unpack = { λ bytes. made (λ x. record { sum = x.0; amounts = x.1.0; pad = x.1.1 }) (⟦<(u64, (Items<u32, A>, Bytes<A>)) as Pup<A>>⟧.unpack bytes) };
+    ghost unpack = { λ bytes. made (λ x. record { sum = x.0; amounts = x.1; pad = x.2 }) (⟦<Parts<A> as Pup<A>>⟧.unpack bytes) };
 
-    ghost round_trip = { (struct_trips (λ t. (t.sum, (t.amounts, t.pad))) (λ x. record { sum = x.0; amounts = x.1.0; pad = x.1.1 })
-        (λ _. refl) (pair_trips u64_trips (pair_trips (list_trips u32_trips) bytes_trips))).trip };
+    ghost round_trip = { (struct_trips (λ t. (t.sum, t.amounts, t.pad)) (λ x. record { sum = x.0; amounts = x.1; pad = x.2 })
+        (λ _. refl) (three_trips u64_trips (list_trips u32_trips) bytes_trips)).trip };
 
     fn packed_len(&self) -> u32 {
-        (&self.sum, (&self.amounts, &self.pad)).fields_len()
+        (&self.sum, &self.amounts, &self.pad).fields_len()
     }
 
     fn pack_into(&self, out: &mut Vec<u8, A>) -> Result<(), PupError> {
-        (&self.sum, (&self.amounts, &self.pad)).pack_fields(out)
+        (&self.sum, &self.amounts, &self.pad).pack_fields(out)
     }
 
     fn unpack(alloc: A, bytes: &[u8]) -> Result<(State<A>, usize), PupError> {
-        let (fields, len) = <(u64, (Items<u32, A>, Bytes<A>)) as Pup<A>>::unpack(alloc, bytes)?;
-        let (sum, (amounts, pad)) = fields;
+        let ((sum, amounts, pad), len) = <Parts<A> as Pup<A>>::unpack(alloc, bytes)?;
         Ok((State { sum, amounts, pad }, len))
     }
 }

@@ -183,6 +183,15 @@ fn tuples_pack_part_after_part(rt: HostRuntime) {
     expect_short::<(u8, u8, u8, u8, u8, u8)>(&rt, &[1, 2, 3, 4, 5, 6]);
 }
 
+#[test]
+fn arrays_pack_item_after_item(rt: HostRuntime) {
+    assert!(rt; packs_so(&rt, &[258_u16, 3], &[1, 2, 0, 3]));
+    assert!(rt; packs_so(&rt, &[[1_u8, 2], [3, 4], [5, 6]], &[1, 2, 3, 4, 5, 6]));
+    assert!(rt; packs_so(&rt, &(7_u8, [true, false, true]), &[7, 1, 0, 1]));
+    assert!(rt; again::<[bool; 3]>(&rt, &[1, 2]) == Err(PupError::Bad));
+    expect_short::<[u16; 2]>(&rt, &[1, 2, 0, 3]);
+}
+
 // Whether this text is unpacked from the bytes, and is made of them.
 fn is_read_as(alloc: Global, bytes: &[u8], text: &str) -> bool {
     match <Text as Pup<Global>>::unpack(alloc, bytes) {

@@ -1,4 +1,4 @@
-use Rattle.std.proofs.Common.{rules, ◌≡◌, ◌+◌, ◌-◌, suc, length, Err, arith, sym, ◌∙◌, take, drop}
+use Rattle.std.proofs.Common.{rules, ◌≡◌, ◌+◌, ◌-◌, suc, [], ◌∷◌, length, length-append, Err, arith, sym, ◌∙◌, take, drop}
 use Rattle.pup_pack.specs.Lists.{unpack_items}
 use Rattle.pup_pack.specs.Packing.{UnpackAnswer}
 use Rattle.pup_pack.proofs.Resumed.{resumed_more, resumed_end, resumed_refused, refused_by, from_end}
@@ -23,6 +23,7 @@ loop-preserved g c =
     record {
       within = search rules;
       left = omega arith;
+      found = rw c.in_ok-push.ensures.appended (omega (arith, length-append c.loop.items (c.in_ok-item.item ∷ []), c.loop.invariant.found));
       read = rw c.in_ok-push.ensures.appended (sym more ∙ read);
     }
 

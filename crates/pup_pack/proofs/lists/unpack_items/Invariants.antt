@@ -8,5 +8,6 @@ invariant-loop g l =
     record {
       within : l.end ≤ length l.bytes;
       left : l.counter ≤ l.count;
+      found : length l.items ≡ l.counter;
       read : resumed g.T.Pup.unpack l.bytes l.items l.end (l.count - l.counter) ≡ unpack_items g.T.Pup.unpack l.count l.bytes;
     }
