@@ -13,6 +13,7 @@ pub mod Raises
 pub mod Reaches
 pub mod Rows
 pub mod Scans
+pub mod Settlings
 pub mod Steps
 pub mod Sums
 pub mod Tight

@@ -1,3 +1,4 @@
+pub mod Discounted
 pub mod Held
 pub mod Least
 pub mod Lists

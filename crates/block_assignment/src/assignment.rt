@@ -2,15 +2,15 @@ ghost use Rattle.std.specs.Prelude.{◌≡◌, ℕ, ◌+◌, ◌*◌, ◌<◌, �
 ghost use Rattle.lb_certificates.specs.Naming.{IsFirstCheapest, IsNaming, Proves, naming_cost, price_at};
 ghost use Rattle.block_assignment.specs.declared.error.NameError.TheVariants.{OutOfMemory};
 ghost use Rattle.block_assignment.specs.declared.limits.TheConstants.MatrixLimits.{BLOCKS, BYTES};
-ghost use Rattle.block_assignment.specs.Search.{State, IsMatched, IsSized, IsSmall, IsTight};
+ghost use Rattle.block_assignment.specs.Search.{IsTight};
 ghost use Rattle.block_assignment.specs.Table.{Table, cost_at, greatest, AreWithin};
 
 use crate::block_set::{BlockSets, words_for};
+use crate::cheapest_names::cheapest;
 use crate::costs::Costs;
 use crate::error::NameError;
 use crate::least::make_least;
 use crate::matrix::CostMatrix;
-use crate::search::Search;
 use crate::table::CostTable;
 use crate::takers::write_takers;
 use lb_certificates::{Naming, PriceList, Prices};
@@ -107,46 +107,6 @@ fn name_and_price<A: Allocator + Copy>(
     drop(discount);
     renamed?;
     Ok(names)
-}
-
-// A cheapest naming, the price of each block and the discount of each PE. `to_scan` is room for the PEs that a tree has
-// not scanned.
-fn cheapest<A: Allocator + Copy>(
-    alloc: A,
-    table: &Costs<'_>,
-    to_scan: &mut [u32],
-) -> Result<(Vec<u32, A>, Vec<u64, A>, Vec<u64, A>), AllocError>
-    requires room { length to_scan.old ≡ table.now.blocks }
-    ensures tight { IfOk result (λ parts. IsTight table.now.blocks (cost_at table.now) parts.1.items parts.2.items parts.0.items) }
-    ensures price { IfOk result (λ parts. length parts.1.items ≡ table.now.blocks) }
-    ensures discounts { IfOk result (λ parts. length parts.2.items ≡ table.now.blocks) }
-    ensures prices_small { IfOk result (λ parts. (b : ℕ) → b < table.now.blocks → slice_index parts.1.items b ≤ greatest table.now.costs) }
-    ensures discounts_small { IfOk result (λ parts. (p : ℕ) → p < table.now.blocks → slice_index parts.2.items p ≤ greatest table.now.costs) }
-    ensures costs_small { IfOk result (λ _. greatest table.now.costs ≤ BYTES) }
-{
-    let blocks = table.blocks();
-    let mut search = Search::new(alloc, table)?;
-    name_all(&mut search, blocks, to_scan);
-    Ok(search.into_parts())
-}
-
-// Names all blocks, none of which has a name. `to_scan` is room for the PEs that a tree has not scanned.
-fn name_all<A: Allocator>(search: &mut Search<'_, A>, blocks: u32, to_scan: &mut [u32])
-    requires sized { IsSized search.old }
-    requires matched { IsMatched search.old }
-    requires small { IsSmall search.old }
-    requires none_named { search.old.named ≡ 0 }
-    requires blocks { blocks ≡ search.old.table.blocks }
-    requires room { length to_scan.old ≡ blocks }
-    ensures sized { IsSized search.new }
-    ensures matched { IsMatched search.new }
-    ensures small { IsSmall search.new }
-    ensures named { search.new.named ≡ blocks }
-    ensures table { search.new.table ≡ search.old.table }
-{
-    for _ in 0..blocks {
-        search.name_next(to_scan);
-    }
 }
 
 // Of all cheapest namings, the first in dictionary order. The prices stay as they are: the cheapest namings are those

@@ -47,10 +47,12 @@ impl<'a> Costs<'a> {
     }
 
     /// The costs of block `b`, on each PE.
+    #[tactic(auto, using(crate::proofs::Sums::cost_within))]
     pub(crate) fn row(&self, b: u32) -> &[u64]
         requires { b < self.now.blocks }
         ensures counted { length result.now ≡ self.now.blocks }
         ensures costs { (p : ℕ) → p < self.now.blocks → slice_index result.now p ≡ cost_at self.now b p }
+        ensures small { (p : ℕ) → p < self.now.blocks → slice_index result.now p ≤ BYTES }
     {
         let start = b as usize * self.blocks() as usize;
         &self.costs[start..start + self.blocks() as usize]
@@ -67,6 +69,20 @@ impl<'a> Costs<'a> {
             total += self.cost(b, names[b as usize]);
         }
         total
+    }
+
+    /// The greatest cost.
+    pub(crate) fn greatest(&self) -> u64
+        ensures low { (b p : ℕ) → b < self.now.blocks → p < self.now.blocks → cost_at self.now b p ≤ result }
+        ensures small { result ≤ BYTES }
+    {
+        let mut greatest = 0;
+        for i in 0..self.costs.len() {
+            if self.costs[i] > greatest {
+                greatest = self.costs[i];
+            }
+        }
+        greatest
     }
 
     /// How many blocks there are, and as many PEs.

@@ -28,8 +28,11 @@
 #![tactic(auto)]
 
 mod assignment;
+mod auction;
 mod block_set;
+mod cheapest_names;
 mod costs;
+mod discounted;
 mod error;
 mod held_rows;
 mod least;

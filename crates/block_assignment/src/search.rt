@@ -83,9 +83,9 @@ impl<'t, A: Allocator + Copy> Search<'t, A> {
 }
 
 impl<A: Allocator> Search<'_, A> {
-    /// Names the first block that has no name. Its tree reaches a free PE before it has scanned all. `to_scan` is room
-    /// for the PEs that the tree has not scanned.
-    pub(crate) fn name_next(&mut self, to_scan: &mut [u32])
+    /// Names the first block that has no name, and returns how many PEs it scanned, which says how long it took. Its tree
+    /// reaches a free PE before it has scanned all. `to_scan` is room for the PEs that the tree has not scanned.
+    pub(crate) fn name_next(&mut self, to_scan: &mut [u32]) -> u32
         requires sized { IsSized self.old }
         requires matched { IsMatched self.old }
         requires unnamed { self.old.named < self.old.table.blocks }
@@ -105,13 +105,14 @@ impl<A: Allocator> Search<'_, A> {
             let Some(block) = self.holders[pe as usize] else {
                 self.raise(pe, rank);
                 self.augment(pe);
-                return;
+                return rank;
             };
             take_out(to_scan, count, place);
             count -= 1;
             nearest = self.grow(&to_scan[..count], block, pe, rank);
             rank += 1;
         }
+        rank
     }
 
     /// The names, the price of each block and the discount of each PE.

@@ -6,7 +6,7 @@ ghost use Rattle.lb_certificates.specs.Naming.{IsNaming};
 
 use crate::fixtures::{assert_for, is_list, list, push, same};
 use block_assignment::{CostError, CostMatrix, name_blocks_of};
-use lb_certificates::Cuts;
+use lb_certificates::{Cuts, Naming, Prices, check_held};
 use std::process::Abort;
 
 fn costs(rt: &(impl Abort + AllocGlobal), matrix: &CostMatrix) -> Vec<u64> {
@@ -115,4 +115,43 @@ fn three_hundred_blocks(rt: HostRuntime) {
         matrix.cost_of(&names) == 0 && same(&names, &places),
         "names",
     );
+}
+
+// Puts the bytes of block `b` on each of 257 PEs at the end of the table.
+fn push_crowded(rt: &impl Abort, held: &mut Vec<u64>, b: u32) {
+    for p in 1..258u32 {
+        push(rt, held, u64::from(b) * u64::from(p));
+    }
+}
+
+// The bytes of 257 blocks on as many PEs, which grow with both numbers: all blocks want the last PEs.
+fn crowded(rt: &(impl Abort + AllocGlobal)) -> Vec<u64> {
+    let mut held = list(rt, &[]);
+    for b in 1..258u32 {
+        push_crowded(rt, &mut held, b);
+    }
+    held
+}
+
+// Whether these names of 257 blocks are right by this table, and each block runs on the PE of its number.
+fn ascend(held: &[u64], naming: &Naming, prices: &Prices) -> bool {
+    if held.len() != 66_049 || check_held(held, 257, naming, prices).is_err() {
+        return false;
+    }
+    for (b, &pe) in naming.as_slice().iter().enumerate() {
+        if pe as usize != b {
+            return false;
+        }
+    }
+    true
+}
+
+// Products of two lists of numbers add up to most where both ascend (the rearrangement inequality: G. H. Hardy,
+// J. E. Littlewood and G. Polya, "Inequalities", Cambridge 1934, section 10.2).
+#[test]
+fn all_blocks_want_the_last_pes(rt: HostRuntime) {
+    let held = crowded(&rt);
+    let matrix = CostMatrix::of_held(rt.alloc(), &held, 257).expect(&rt, "no costs");
+    let (naming, prices) = name_blocks_of(rt.alloc(), &matrix).expect(&rt, "out of memory");
+    assert_for(&rt, ascend(&held, &naming, &prices), "names");
 }

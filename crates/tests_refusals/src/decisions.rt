@@ -1,10 +1,10 @@
 //! Divisions, namings and whole decisions, and copies of a snapshot and of a decision.
 
 use crate::fixtures::{
-    Lent, assert_requests, assert_requests_on, cuts, five, is_copied, outcome, outcome_of, same,
-    snapshot, sums, table, table_of,
+    Lent, assert_requests, assert_requests_on, crowded, cuts, five, is_copied, outcome, outcome_of,
+    same, snapshot, sums, table, table_of,
 };
-use block_assignment::{CostTable, name_blocks};
+use block_assignment::{CostMatrix, CostTable, name_blocks, name_blocks_of};
 use chain_partition::{
     Chain, ChainError, Prefix, divide, divide_chain, divide_with, probe, probe_chain, probe_on,
 };
@@ -21,6 +21,10 @@ const DIVIDING: u64 = 3;
 
 // The requests of the search for names: two lists of prices, seven of the search, and two of the exchange.
 const NAMING: u64 = 11;
+
+// Those where all blocks want the same PEs: beside these the five lists of an auction, the costs with its discounts and a row
+// of them, and the seven lists of the search that begins with these.
+const CROWDED: u64 = NAMING + 5 + 2 + 7;
 
 // The requests of a whole decision: those of a division, of the table of costs and of the naming, and one for all moves.
 const PLANNING: u64 = DIVIDING + 2 + NAMING + 1;
@@ -109,6 +113,19 @@ fn costs_and_namings(rt: HostRuntime) {
     let things = "the prices, the search and the exchange";
     assert_requests_on(&rt, names, &table, NAMING, things);
     drop(table);
+}
+
+// The outcome of a naming of blocks that all want the last PEs.
+fn crowded_names(alloc: Lent<'_>, matrix: &CostMatrix) -> Outcome {
+    outcome(name_blocks_of(alloc, matrix))
+}
+
+#[test]
+fn crowded_namings(rt: HostRuntime) {
+    let matrix = crowded(&rt);
+    let things = "those of a naming, the auction, and a second search";
+    assert_requests_on(&rt, crowded_names, &matrix, CROWDED, things);
+    drop(matrix);
 }
 
 // Whether this is the decision on the example, whose first element moves. Its prices are any that `check` accepts.

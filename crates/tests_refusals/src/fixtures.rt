@@ -2,7 +2,7 @@
 
 ghost use Rattle.std.specs.Prelude.{◌≡◌, true};
 
-use block_assignment::CostTable;
+use block_assignment::{CostMatrix, CostTable};
 use chain_partition::Prefix;
 use lb_certificates::Cuts;
 use lb_snapshot::{Loads, Sizes, Snapshot};
@@ -71,6 +71,25 @@ pub(crate) fn table<A: Allocator + Copy>(
     drop(cuts);
     drop(sizes);
     table.expect(rt, "two blocks").expect(rt, "out of memory")
+}
+
+// Puts the bytes of block `b` on each of 257 PEs at the end of the table.
+fn push_crowded(rt: &impl Abort, held: &mut Vec<u64>, b: u32) {
+    for p in 1..258u32 {
+        held.push(u64::from(b) * u64::from(p))
+            .expect(rt, "out of memory");
+    }
+}
+
+/// The costs of 257 blocks whose bytes on as many PEs grow with both numbers: all blocks want the last PEs.
+pub(crate) fn crowded(rt: &(impl Abort + AllocGlobal)) -> CostMatrix {
+    let mut held = Vec::new(rt.alloc());
+    for b in 1..258u32 {
+        push_crowded(rt, &mut held, b);
+    }
+    let matrix = CostMatrix::of_held(rt.alloc(), &held, 257);
+    drop(held);
+    matrix.expect(rt, "no costs")
 }
 
 /// Whether these are the same items.
