@@ -1,6 +1,6 @@
 -- What a PE has posted and not yet put into a queue, and how a handler adds to it.
 use Rattle.std.specs.Prelude.{◌≡◌, ℕ, ◌+◌, ◌<◌, ◌≤◌, List, [], ◌∷◌, ◌++◌, length, None, Bool, if◌then◌else◌}
-use Rattle.chare_index.specs.declared.limits.TheConstants.Limits.{BODY_BYTES, LETTERS}
+use Rattle.chare_index.specs.declared.limits.TheConstants.Limits.{LETTERS}
 use Rattle.chares.specs.declared.carried.Addressed.{Addressed}
 use Rattle.chares.specs.declared.carried.Carried.{Carried}
 use Rattle.chares.specs.declared.carried.Carried.TheVariants.{Letter}
@@ -14,11 +14,12 @@ use Rattle.chares.specs.Letters.{LetterView}
 abbrev pub Out : Type 0 → Type 0
 Out P = Addressed (Carried LetterView P)
 
--- a PE as a handler on it sees it: its number, how many elements there are, how many letters it has posted, its outbox,
--- whether a place of that is kept free, and where a trace is kept the entries of the event so far
+-- a PE as a handler on it sees it: its number, how many elements there are, how many bytes a body may have, how many letters it has
+-- posted, its outbox, whether a place of that is kept free, and where a trace is kept the entries of the event so far
 pub record Posting (P : Type 0) : Type 0 where
   pub me : ℕ
   pub n : ℕ
+  pub longest : ℕ
   pub count : ℕ
   pub outbox : List (Out P)
   pub spare : Bool
@@ -53,6 +54,7 @@ posted p sends =
     record {
       me = p.me;
       n = p.n;
+      longest = p.longest;
       count = p.count + length sends;
       outbox = p.outbox ++ letters_of p.me p.count sends;
       spare = p.spare;
@@ -70,12 +72,12 @@ with_resumption p e round sends = posted (with_entry p (Resumed e round)) sends
 -- a letter is posted to an element of the array, with a body within the limit, while a letter number is left
 pub record IsPost {P : Type 0} (p : Posting P) (to : ℕ) (body : List ℕ) : Type 0 where
   pub known : to < p.n
-  pub short : length body ≤ BODY_BYTES
+  pub short : length body ≤ p.longest
   pub numbered : p.count < LETTERS
 
 -- any other is refused with the first of these reasons that applies
 abbrev pub RefusesPut : {P : Type 0} → Posting P → ℕ → List ℕ → SendError → Type 0
 RefusesPut p to body Stranger = p.n ≤ to
-RefusesPut p to body TooLong = (to < p.n) × (BODY_BYTES < length body)
-RefusesPut p to body Worn = (to < p.n) × (length body ≤ BODY_BYTES) × (p.count ≡ LETTERS)
+RefusesPut p to body TooLong = (to < p.n) × (p.longest < length body)
+RefusesPut p to body Worn = (to < p.n) × (length body ≤ p.longest) × (p.count ≡ LETTERS)
 RefusesPut p to body OutOfMemory = IsPost p to body

@@ -51,13 +51,29 @@ impl<A: Allocator + Copy> Body<A> {
         if bytes.len() <= SHORT {
             return Ok(Body::short(bytes));
         }
-        let long = Vec::from_slice(alloc, bytes)?;
-        let Ok(long) = Box::new(alloc, long) else {
-            return Err(AllocError);
-        };
-        Ok(Body {
-            bytes: Bytes::Long(long),
-        })
+        Body::long(alloc, Vec::from_slice(alloc, bytes)?)
+    }
+
+    /// These bytes, which are moved where there are more than 15.
+    pub(crate) fn of_vec(alloc: A, bytes: Vec<u8, A>) -> Result<Self, AllocError>
+        ensures value { IfOk result (λ body. body ≡ bytes.items) }
+    {
+        if bytes.len() <= SHORT {
+            return Ok(Body::short(&bytes));
+        }
+        Body::long(alloc, bytes)
+    }
+
+    // These bytes, on the heap.
+    fn long(alloc: A, bytes: Vec<u8, A>) -> Result<Self, AllocError>
+        ensures value { IfOk result (λ body. body ≡ bytes.items) }
+    {
+        match Box::new(alloc, bytes) {
+            Ok(bytes) => Ok(Body {
+                bytes: Bytes::Long(bytes),
+            }),
+            Err(_) => Err(AllocError),
+        }
     }
 
     // A copy of a few bytes.

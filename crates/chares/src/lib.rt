@@ -2,7 +2,7 @@
 //! or packed on its way to another.
 //!
 //! - [`Chare`], with [`Here`], [`Effect`] and [`Openings`]: what a program writes, and what its handlers return.
-//! - [`Sends`], with [`SendError`]: how a handler posts letters.
+//! - [`Sends`], with [`SendError`]: how a handler posts letters, with bodies up to a [`BodyLimit`].
 //! - [`Letter`], with [`LetterId`]: what is posted.
 //! - [`Element`], with [`Progress`] and [`Entry`]: a chare with what it has done.
 //! - [`Annals`] and [`Journal`], by a [`History`]: what an element has handled, and how much of that it keeps in memory.
@@ -16,6 +16,7 @@
 
 mod annals;
 mod body;
+mod body_limit;
 mod carried;
 mod chare;
 mod element;
@@ -33,6 +34,7 @@ mod state_bytes;
 mod trace_entry;
 
 pub use annals::Annals;
+pub use body_limit::BodyLimit;
 pub use carried::{Addressed, Carried};
 pub use chare::{Chare, Effect, Here, Openings};
 pub use element::{Element, Unread};

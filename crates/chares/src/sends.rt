@@ -1,12 +1,13 @@
 //! What a handler posts letters with.
 
 ghost use Rattle.std.specs.Prelude.{◌≡◌, ℕ, ◌+◌, ◌∷◌, ◌++◌, [], ◌<◌, ◌≤◌, length, take, true, false, IfOk, IfErr, OnOk, OnErr, MatchResult, vec_len, vec_capacity, if◌then◌else◌};
-ghost use Rattle.chare_index.specs.declared.limits.TheConstants.Limits.{LETTERS};
+ghost use Rattle.chare_index.specs.declared.limits.TheConstants.Limits.{BODY_BYTES, LETTERS};
 ghost use Rattle.std.specs.VecDeque.{deque_len, deque_capacity};
 ghost use Rattle.chares.specs.declared.sends.SendError.TheVariants.{OutOfMemory};
 ghost use Rattle.chares.specs.Posting.{Posting, posted, traced, with_entry, IsPost, RefusesPut};
 
 use crate::body::Body;
+use crate::body_limit::BodyLimit;
 use crate::carried::{Addressed, Carried};
 use crate::letter::Letter;
 use crate::trace_entry::TraceEntry;
@@ -23,7 +24,7 @@ pub enum SendError {
     /// There is no element with this index.
     #[error("there is no such element")]
     Stranger = 1,
-    /// The body is longer than 1,024 bytes.
+    /// The body is longer than a letter of the run may be: than 1,024 bytes, where it asks for no more.
     #[error("the body is too long")]
     TooLong = 2,
     /// The PE has posted as many letters as it may.
@@ -59,6 +60,7 @@ pub type Out<P, A = Global> = Addressed<Carried<Letter<A>, P>>;
 pub struct Sends<P, A: Allocator = Global> {
     me: Pe,
     n: u32,
+    longest: BodyLimit,
     count: u64,
     outbox: VecDeque<Out<P, A>, A>,
     // Whether one place of the outbox is kept free, for a parcel that may come back.
@@ -77,13 +79,13 @@ impl<P, A: Allocator> Model for Sends<P, A> {
 
     ghost Value = { Posting P };
 
-    ghost view = { λ s. record { me = s.me; n = s.n; count = s.count; outbox = s.outbox.items; spare = s.spare; tracing = s.tracing; trace = s.trace.items } };
+    ghost view = { λ s. record { me = s.me; n = s.n; longest = s.longest; count = s.count; outbox = s.outbox.items; spare = s.spare; tracing = s.tracing; trace = s.trace.items } };
 
     ghost invariant = { λ s. (s.count ≤ LETTERS) × (s.spare ≡ true → deque_len s.outbox < deque_capacity s.outbox) };
 }
 
 impl<P: Drop, A: Allocator> Sends<P, A> {
-    /// Posts a letter with this body to an element.
+    /// Posts a letter with a copy of this body to an element.
     ///
     /// # Errors
     ///
@@ -95,17 +97,59 @@ impl<P: Drop, A: Allocator> Sends<P, A> {
         ensures answer { MatchResult result (λ _. IsPost self.old to body.now) (RefusesPut self.old to body.now) }
         ensures ok { OnOk result (self.new ≡ posted self.old ((to, body.now) ∷ [])) }
         ensures err { OnErr result (self.new ≡ self.old) }
+        ensures least { BODY_BYTES ≤ self.old.longest }
     {
+        self.judge(to, body)?;
+        let body = Body::copy_of(self.alloc, body)?;
+        self.post(to, body)?;
+        Ok(())
+    }
+
+    /// Posts a letter with this body to an element. A body of more than 15 bytes is moved into the letter, and not copied.
+    ///
+    /// # Errors
+    ///
+    /// Those of [`put`](Sends::put). The body is dropped.
+    pub fn put_vec(&mut self, to: Index, body: Vec<u8, A>) -> Result<(), SendError>
+    where
+        A: Copy,
+        ensures answer { MatchResult result (λ _. IsPost self.old to body.items) (RefusesPut self.old to body.items) }
+        ensures ok { OnOk result (self.new ≡ posted self.old ((to, body.items) ∷ [])) }
+        ensures err { OnErr result (self.new ≡ self.old) }
+        ensures least { BODY_BYTES ≤ self.old.longest }
+    {
+        self.judge(to, &body)?;
+        let body = Body::of_vec(self.alloc, body)?;
+        self.post(to, body)?;
+        Ok(())
+    }
+
+    // Whether a letter with this body may be posted to an element, or else the first reason why not.
+    fn judge(&self, to: Index, body: &[u8]) -> Result<(), SendError>
+        ensures answer { MatchResult result (λ _. IsPost self.now to body.now) (RefusesPut self.now to body.now) }
+        ensures least { BODY_BYTES ≤ self.now.longest }
+    {
+        let longest = self.longest.get();
         if self.n <= to.get() {
             return Err(SendError::Stranger);
         }
-        if body.len() > Limits::BODY_BYTES as usize {
+        if body.len() > longest as usize {
             return Err(SendError::TooLong);
         }
         if self.count == Limits::LETTERS {
             return Err(SendError::Worn);
         }
-        let body = Body::copy_of(self.alloc, body)?;
+        Ok(())
+    }
+
+    // Posts a letter with this body, where it may be posted.
+    fn post(&mut self, to: Index, body: Body<A>) -> Result<(), AllocError>
+    where
+        A: Copy,
+        requires may { IsPost self.old to body }
+        ensures ok { OnOk result (self.new ≡ posted self.old ((to, body) ∷ [])) }
+        ensures err { OnErr result (self.new ≡ self.old) }
+    {
         reserve_entry(&mut self.trace, self.tracing)?;
         self.outbox.reserve(2)?;
         let number = self.count as u32;
@@ -162,14 +206,30 @@ impl<P: Drop, A: Allocator> Sends<P, A> {
         self.n
     }
 
+    /// Where its letters take their memory: a handler that packs what it posts takes it there too.
+    pub fn allocator(&self) -> A
+    where
+        A: Copy,
+    {
+        self.alloc
+    }
+
+    /// How many bytes the body of a letter may have.
+    pub fn longest(&self) -> BodyLimit
+        ensures value { result ≡ self.now.longest }
+    {
+        self.longest
+    }
+
     /// How many letters the PE has posted.
     pub fn count(&self) -> u64
         ensures value { result ≡ self.now.count }
+        ensures few { result ≤ LETTERS }
     {
         self.count
     }
 
-    /// The outbox of a PE that has posted `count` letters, with the trace of the event so far.
+    /// The outbox of a PE that has posted `count` letters, whose bodies may have `longest` bytes, with the trace of the event so far.
     ///
     /// It is public only for the crate of the PEs, which lends its outbox to a handler: the language has no items that a
     /// single other crate may use. A chare is handed a `Sends` and cannot make one for a PE that runs; a caller elsewhere
@@ -178,6 +238,7 @@ impl<P: Drop, A: Allocator> Sends<P, A> {
         alloc: A,
         me: Pe,
         n: u32,
+        longest: BodyLimit,
         count: u64,
         outbox: VecDeque<Out<P, A>, A>,
         spare: bool,
@@ -186,11 +247,12 @@ impl<P: Drop, A: Allocator> Sends<P, A> {
     ) -> Self
         requires numbered { count ≤ LETTERS }
         requires spare_place { spare ≡ true → deque_len outbox < deque_capacity outbox }
-        ensures value { result ≡ record { me = me; n = n; count = count; outbox = outbox.items; spare = spare; tracing = tracing; trace = trace.items } }
+        ensures value { result ≡ record { me = me; n = n; longest = longest; count = count; outbox = outbox.items; spare = spare; tracing = tracing; trace = trace.items } }
     {
         Sends {
             me,
             n,
+            longest,
             count,
             outbox,
             spare,
@@ -211,6 +273,7 @@ impl<P: Drop, A: Allocator> Sends<P, A> {
         let Sends {
             me: _,
             n: _,
+            longest: _,
             count,
             outbox,
             spare: _,

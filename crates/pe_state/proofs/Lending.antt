@@ -5,14 +5,14 @@ use Rattle.chares.specs.declared.trace_entry.TraceEntry.{TraceEntry}
 use Rattle.pe_state.proofs.Traces.{traced_twice}
 
 -- what is lent
-abbrev pub lending : {P : Type 0} → ℕ → ℕ → ℕ → List (Out P) → Bool → List TraceEntry → Posting P
-lending me n k outbox b rs = record { me = me; n = n; count = k; outbox = outbox; spare = true; tracing = b; trace = rs }
+abbrev pub lending : {P : Type 0} → ℕ → ℕ → ℕ → ℕ → List (Out P) → Bool → List TraceEntry → Posting P
+lending me n longest k outbox b rs = record { me = me; n = n; longest = longest; count = k; outbox = outbox; spare = true; tracing = b; trace = rs }
 
 -- A handler answers r; s is lent to it, and t comes back. If it is Ok, these are posted after a report of what it handled.
 abbrev pub Posts : {P R E : Type 0} → Result R E → Posting P → Posting P → TraceEntry → List (ℕ × List ℕ) → Type 0
 Posts r s t rep sends = OnOk r (t ≡ posted (with_entry s rep) sends)
 
-module _ {P R E : Type 0} (r : Result R E) (me n k : ℕ) (outbox : List (Out P)) (b : Bool) (rs : List TraceEntry) (s t : Posting P) (lent : s ≡ lending me n k outbox b rs) where
+module _ {P R E : Type 0} {longest : ℕ} (r : Result R E) (me n k : ℕ) (outbox : List (Out P)) (b : Bool) (rs : List TraceEntry) (s t : Posting P) (lent : s ≡ lending me n longest k outbox b rs) where
   pub outbox_after : (rep : TraceEntry) (sends : List (ℕ × List ℕ)) (back old : List (Out P)) → back ≡ t.outbox → outbox ≡ old → Posts r s t rep sends → OnOk r (back ≡ old ++ letters_of me k sends)
   outbox_after rep sends back old e o h = by r h
     where

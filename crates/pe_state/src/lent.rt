@@ -15,7 +15,7 @@ ghost use Rattle.pe_state.specs.Rooms.{found, ran_in, sends_in, execution_entrie
 use crate::parcel::Item;
 use crate::room::Room;
 use chare_index::{Gate, Index, Limits, Pe, Round};
-use chares::{Chare, Letter, Note, SendError, Sends, TraceEntry, Unread};
+use chares::{BodyLimit, Chare, Letter, Note, SendError, Sends, TraceEntry, Unread};
 use std::alloc::Allocator;
 use std::collections::VecDeque;
 use std::mem::replace;
@@ -27,6 +27,7 @@ pub(crate) fn execute<C: Chare<A>, A: Allocator + Copy, G: Gate>(
     gate: &G,
     me: Pe,
     n: u32,
+    longest: BodyLimit,
     letter: Letter<A>,
     room: &mut Room<C, A>,
     outbox: &mut VecDeque<Item<A>, A>,
@@ -54,7 +55,7 @@ pub(crate) fn execute<C: Chare<A>, A: Allocator + Copy, G: Gate>(
 {
     let lent = replace(outbox, VecDeque::new(alloc));
     let entries = replace(trace, Vec::new(alloc));
-    let mut sends = Sends::lend(alloc, me, n, *count, lent, true, tracing, entries);
+    let mut sends = Sends::lend(alloc, me, n, longest, *count, lent, true, tracing, entries);
     let handled = room.execute(gate, me, letter, &mut sends);
     let (posted, back, entries) = sends.give_back();
     *count = posted;
@@ -70,6 +71,7 @@ pub(crate) fn resume<C: Chare<A>, A: Allocator + Copy, G: Gate>(
     gate: &G,
     me: Pe,
     n: u32,
+    longest: BodyLimit,
     index: Index,
     round: Round,
     room: &mut Room<C, A>,
@@ -98,7 +100,7 @@ pub(crate) fn resume<C: Chare<A>, A: Allocator + Copy, G: Gate>(
 {
     let lent = replace(outbox, VecDeque::new(alloc));
     let entries = replace(trace, Vec::new(alloc));
-    let mut sends = Sends::lend(alloc, me, n, *count, lent, true, tracing, entries);
+    let mut sends = Sends::lend(alloc, me, n, longest, *count, lent, true, tracing, entries);
     let handled = room.resume(gate, me, index, round, &mut sends);
     let (posted, back, entries) = sends.give_back();
     *count = posted;

@@ -13,7 +13,7 @@ use crate::error::StepError;
 use crate::parcel::{HeldParcel, Item, Parcel, into_held, into_parcel};
 use crate::room::Room;
 use chare_index::{Index, Limits, Pe, Round};
-use chares::{Addressed, Carried, Chare, History, Note, Openings, Progress};
+use chares::{Addressed, BodyLimit, Carried, Chare, History, Note, Openings, Progress};
 use std::alloc::{AllocError, Allocator, Global};
 use std::marker::{Model, PhantomData};
 
@@ -32,6 +32,8 @@ pub struct PeState<C: Chare<A>, H: Openings<C>, A: Allocator = Global> {
     end: PeEnd<C, A>,
     // How many PEs there are.
     pes: u32,
+    // How many bytes the body of a letter that is posted here may have.
+    longest: BodyLimit,
     alloc: A,
     of: PhantomData<H>,
 }
@@ -60,6 +62,7 @@ impl<C: Chare<A>, H: Openings<C>, A: Allocator + Copy> PeState<C, H, A> {
         PeState {
             end: PeEnd::new(alloc, me, n),
             pes,
+            longest: BodyLimit::usual(),
             alloc,
             of: PhantomData,
         }
@@ -158,6 +161,13 @@ impl<C: Chare<A>, H: Openings<C>, A: Allocator + Copy> PeState<C, H, A> {
         let end = &mut self.end;
         let _note = end.notes.pop_front();
         end.kept = None;
+    }
+
+    /// Lets the bodies of letters that are posted here have this many bytes, in place of [`BodyLimit::usual`].
+    pub fn set_longest(&mut self, longest: BodyLimit)
+        ensures same { self.new ≡ self.old }
+    {
+        self.longest = longest;
     }
 
     /// Keeps or drops what an element handles from now on, where it stands here. Its journal is what it was.

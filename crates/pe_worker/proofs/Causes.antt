@@ -78,6 +78,7 @@ module _ {C : Type 0} (step : Step C) (fits : C → Type 0) (pack : C → List �
   caused_unpacks Met.Worn h k = cc
   caused_unpacks Met.Mismatch h k = h
   caused_unpacks Met.Stopped h k = cc
+  caused_unpacks Met.Quiet h k = cc
 
   pub caused_agrees : (fault : Fault) → HasCause step pack refuses opened fault → fault ≢ Met.Mismatch
   caused_agrees Met.Unpack h k = h
@@ -88,3 +89,4 @@ module _ {C : Type 0} (step : Step C) (fits : C → Type 0) (pack : C → List �
   caused_agrees Met.Worn h k = cc
   caused_agrees Met.Mismatch h k = h
   caused_agrees Met.Stopped h k = cc
+  caused_agrees Met.Quiet h k = cc

@@ -8,7 +8,7 @@ use Rattle.chares.specs.declared.entry.Entry.{Entry}
 use Rattle.chares.specs.declared.sends.SendError.{SendError}
 use Rattle.chares.specs.declared.sends.SendError.TheVariants as Send
 use Rattle.pe_worker.specs.declared.fault.Fault.{Fault}
-use Rattle.pe_worker.specs.declared.fault.Fault.TheVariants.{OutOfMemory, Idle, Unpack, Stranger, TooLong, Worn, Mismatch, Stopped}
+use Rattle.pe_worker.specs.declared.fault.Fault.TheVariants.{OutOfMemory, Idle, Unpack, Stranger, TooLong, Worn, Mismatch, Stopped, Quiet}
 
 module _ {C : Type 0} (step : Step C) (pack : C → List ℕ) (refuses : Refuses C) (opened : List C) where
   -- The handler of an element of the run may return this error: of one that is what its journal says, on a PE that has
@@ -31,3 +31,4 @@ module _ {C : Type 0} (step : Step C) (pack : C → List ℕ) (refuses : Refuses
   HasCause Worn = MayRefuse Send.Worn ⊎ IsRefusedDecision (length opened) Board.Worn
   HasCause Mismatch = ⊥
   HasCause Stopped = Unit {0}
+  HasCause Quiet = Unit {0}

@@ -35,6 +35,9 @@ pub enum Fault {
     /// The run was stopped before every element had finished: its [`Watch`](crate::Watch) asked it to, or no worker says why.
     #[error("the run was stopped before every element had finished")]
     Stopped = 9,
+    /// Nothing was left to do, and not every element had finished: no letter was anywhere but on a shelf, and no element could go on.
+    #[error("nothing was left to do, and not every element had finished")]
+    Quiet = 10,
 }
 
 /// What a refused step of a PE comes to. The bytes of an element always are a state.

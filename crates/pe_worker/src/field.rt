@@ -1,9 +1,10 @@
 //! What the workers of a run share.
 
-ghost use Rattle.std.specs.Prelude.{◌≡◌, ◌≤◌, length};
+ghost use Rattle.std.specs.Prelude.{◌≡◌, ◌≤◌, IfOk, length};
 ghost use Rattle.at_sync.specs.Boards.{IsBoard};
 ghost use Rattle.lb_database.specs.Measuring.{elements};
 
+use crate::ballot::Ballot;
 use crate::seated::{OfRun, RunBeginning};
 use at_sync::Board;
 use barrier::{Barrier, RunStrategy};
@@ -11,7 +12,7 @@ use chare_index::{Limits, Round};
 use chares::{Chare, History, Openings};
 use pe_queues::{Locations, Post};
 use pe_state::Parcel;
-use std::alloc::{Allocator, Global};
+use std::alloc::{AllocError, Allocator, Global};
 use std::marker::{Model, PhantomData};
 use std::sync::Wait;
 use std::sync::atomic::Ordering::SeqCst;
@@ -38,6 +39,8 @@ pub struct Field<
     finished: AtomicBool,
     stopped: AtomicBool,
     executed: AtomicU64,
+    // What the workers say of their idle turns.
+    pub(crate) ballot: Ballot<A>,
     // After how many turns in a row without a step a worker gives up.
     pub(crate) turns: u64,
     // Whether elements keep what they have handled.
@@ -48,7 +51,7 @@ pub struct Field<
 
 impl<C: Chare<A>, H: Openings<C> + RunStrategy, J: RunBeginning<C>, A: Allocator> Model
     for Field<C, H, J, A> {
-    ghost use Rattle.std.specs.Prelude.{◌≡◌, ◌≤◌, length};
+    ghost use Rattle.std.specs.Prelude.{◌≡◌, ◌≤◌, IfOk, length};
     ghost use Rattle.chare_index.specs.declared.limits.TheConstants.Limits.{PROBE_WORKERS};
     ghost use Rattle.pe_queues.specs.Seats.{PostView};
 
@@ -67,16 +70,17 @@ impl<C: Chare<A>, H: Openings<C> + RunStrategy, J: RunBeginning<C>, A: Allocator
     J,
     A,
 > {
-    /// The queues, words and board of a run as it opens. Its workers give up after so many idle turns, its elements keep or drop
+    /// The queues, words and board of a run as it opens, which takes some bytes for each PE: the only error is that memory was refused. Its workers give up after so many idle turns, its elements keep or drop
     /// what they have handled, and a round is decided by at most so many probe workers, 1 to 64, and by one where its PEs are few.
     pub fn new(
+        alloc: A,
         post: Post<Parcel<C, H, A>, A>,
         words: Locations<OfRun<C, H>, A>,
         board: Board<A>,
         turns: u64,
         history: History,
         probe_workers: u32,
-    ) -> Self
+    ) -> Result<Self, AllocError>
         requires own { post ≡ J.beginning.post }
         requires run_pes { words.pes ≡ H.pes }
         requires run_elements { words.elements ≡ length H.opened }
@@ -85,10 +89,11 @@ impl<C: Chare<A>, H: Openings<C> + RunStrategy, J: RunBeginning<C>, A: Allocator
         requires by_strategy { board.strategy ≡ H.strategy }
         requires some_worker { 1 ≤ probe_workers }
         requires few_workers { probe_workers ≤ Limits.PROBE_WORKERS }
-        ensures post { result ≡ post }
+        ensures post { IfOk result (λ field. field ≡ post) }
     {
         let finished = AtomicBool::new(board.all_finished());
-        Field {
+        let ballot = Ballot::new(alloc, post.pes())?;
+        Ok(Field {
             post,
             words,
             barrier: Barrier::new(board),
@@ -96,11 +101,12 @@ impl<C: Chare<A>, H: Openings<C> + RunStrategy, J: RunBeginning<C>, A: Allocator
             finished,
             stopped: AtomicBool::new(false),
             executed: AtomicU64::new(0),
+            ballot,
             turns,
             history,
             probe_workers,
             of: PhantomData,
-        }
+        })
     }
 
     /// The flag that lets all workers stop.
@@ -185,6 +191,7 @@ impl<C: Chare<A>, H: Openings<C> + RunStrategy, J: RunBeginning<C>, A: Allocator
             finished: _,
             stopped: _,
             executed: _,
+            ballot: _,
             turns: _,
             history: _,
             probe_workers: _,

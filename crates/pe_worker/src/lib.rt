@@ -3,6 +3,7 @@
 #![tactic(auto)]
 
 mod agenda;
+mod ballot;
 mod fault;
 mod field;
 mod rounds;

@@ -5,6 +5,7 @@ ghost use Rattle.std.specs.VecDeque.{deque_capacity, deque_len};
 ghost use Rattle.pe_worker.specs.Causes.{HasCause};
 
 use crate::agenda::Agenda;
+use crate::ballot::{Ballot, Question};
 use crate::fault::{Fault, fault_of};
 use crate::field::Field;
 use crate::seated::{OfRun, RunBeginning, SeatedPe};
@@ -233,7 +234,9 @@ impl<C: Chare<A>, H: Openings<C> + RunStrategy, J: RunBeginning<C>, A: Allocator
         ensures same_me { self.new.seated.pe.me ≡ self.old.seated.pe.me }
         ensures cause { IfErr result (HasCause C.step C.pack C.refuses H.opened) }
     {
+        let me = self.me();
         let mut idle = 0u64;
+        let mut question = None;
         for _ in rt.forever() {
             if field.is_stopped() || field.all_finished(rt) {
                 return Ok(());
@@ -241,12 +244,21 @@ impl<C: Chare<A>, H: Openings<C> + RunStrategy, J: RunBeginning<C>, A: Allocator
             if watch.wants_stop() {
                 return Err(Fault::Stopped);
             }
-            idle = match self.turn(rt, gate, watch, field)? {
-                true => 0,
-                false => idle.saturating_add(1),
-            };
+            let asked = field.ballot.asked();
+            if self.turn(rt, gate, watch, field)? {
+                if idle > 0 {
+                    field.ballot.wake(me);
+                }
+                idle = 0;
+                continue;
+            }
+            idle = idle.saturating_add(1);
+            field.ballot.answer(me, asked);
             if idle >= field.turns {
                 return Err(Fault::Idle);
+            }
+            if is_quiet(&field.ballot, me, idle, &mut question) {
+                return Err(Fault::Quiet);
             }
             pause(idle);
         }
@@ -468,6 +480,28 @@ fn report_all<C: Chare<A>, H: Openings<C> + RunStrategy, J: RunBeginning<C>, A: 
         taken = true;
     }
     taken
+}
+
+// Whether nothing is left to do in the whole run. The worker of PE 0 finds out, once it has been idle for a while: it asks the others,
+// and asks again where one of them has done something meanwhile.
+fn is_quiet<A: Allocator>(
+    ballot: &Ballot<A>,
+    me: Pe,
+    idle: u64,
+    question: &mut Option<Question>,
+) -> bool {
+    if me.get() != 0 {
+        return false;
+    }
+    let Some(asked) = *question else {
+        *question = ballot.ask(idle);
+        return false;
+    };
+    if ballot.is_void(asked) {
+        *question = ballot.ask(idle);
+        return false;
+    }
+    ballot.is_quiet(asked)
 }
 
 // Lets time pass in an idle turn.

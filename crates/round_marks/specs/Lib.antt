@@ -1,3 +1,4 @@
 pub mod Finished
 pub mod Marked
+pub mod Quiet
 pub mod Runs

@@ -11,8 +11,9 @@ pub use Rattle.pe_state.specs.InOrder.{element_on}
 use Rattle.pe_state.specs.Pes.{PeView, Parcel}
 use Rattle.pe_worker.specs.Causes.{HasCause}
 use Rattle.pe_worker.specs.declared.fault.Fault.{Fault}
-use Rattle.pe_worker.specs.declared.fault.Fault.TheVariants.{Mismatch, Unpack}
+use Rattle.pe_worker.specs.declared.fault.Fault.TheVariants.{Mismatch, Quiet, Unpack}
 use Rattle.round_marks.specs.Finished.{HaveAllFinished}
+use Rattle.round_marks.specs.Quiet.{IsQuiet}
 use Rattle.round_marks.specs.Runs.{AreAllMarked}
 use Rattle.rts_core.specs.Histories.{AreHistories}
 use Rattle.rts_core.specs.Orders.{AreInOrder}
@@ -35,7 +36,7 @@ first_fault (fault ∷ faults) = option_or fault (first_fault faults)
 -- every element is what its journal says, in which its rounds come in order. The board is one of these chares on these PEs: each
 -- round was decided for a snapshot of all of them, by the strategy. The marks of the elements agree with the rounds unless the
 -- fault is a mismatch, and do not agree where it is one. Any other fault has a cause, and no element failed to unpack. Without a
--- fault every element has finished, and the board says so of each.
+-- fault every element has finished, and the board says so of each; and where the fault is that nothing was left to do, nothing was.
 pub record IsOutcome {C A : Type 0} (step : Step C) (fits : C → Type 0) (pack : C → List ℕ) (refuses : Refuses C) (chares : List C) (pes : ℕ) (strategy : Strategy) (o : OutcomeView C A) : Type 0 where
   pub ends : map (λ pe. pe.me) o.ends ≡ range_with_len 0 pes
   pub queues : length o.left ≡ pes
@@ -53,3 +54,4 @@ pub record IsOutcome {C A : Type 0} (step : Step C) (fits : C → Type 0) (pack 
   pub cause : o.fault ≢ Some Mismatch → IfSome o.fault (HasCause step pack refuses chares)
   pub finished : o.fault ≡ None → HaveFinished o.board
   pub all_finished : o.fault ≡ None → HaveAllFinished o.ends o.left
+  pub quiet : o.fault ≡ Some Quiet → IsQuiet o.board o.ends o.left

@@ -1,12 +1,13 @@
 ghost use Rattle.std.specs.Prelude.{◌≡◌, ◌≤◌, IsTrue, ◌↔◌, MatchOption};
 ghost use Rattle.at_sync.specs.declared.strategy.Strategy.TheVariants.{Least};
+ghost use Rattle.chare_index.specs.declared.limits.TheConstants.Limits.{BODY_BYTES};
 ghost use Rattle.chares.specs.declared.history.History.TheVariants.{Kept};
 ghost use Rattle.rts_run.specs.Configs.{IsFirstOutside, IsWithin, MayBegin};
 
 use crate::error::Setting;
 use at_sync::Strategy;
 use chare_index::Limits;
-use chares::History;
+use chares::{BodyLimit, History};
 
 /// The numbers of a run, and how its rounds are decided.
 #[derive(Clone, Copy, Debug, PartialEq)]
@@ -27,6 +28,8 @@ pub struct Config {
     /// The most workers that decide a round, 1 to [`Limits::PROBE_WORKERS`]. With few PEs a single worker is faster, and only one
     /// is used.
     pub probe_workers: u32,
+    /// How many bytes the body of a letter may have. A handler that posts a longer one is refused.
+    pub longest: BodyLimit,
     /// How each round is decided.
     pub strategy: Strategy,
     /// Whether elements keep what they have handled. Where they do, each letter takes memory until the run ends; where they do not,
@@ -38,10 +41,10 @@ pub struct Config {
 impl Config {
     /// The usual numbers of a run on this number of PEs, 1 to [`Limits::PES`]: queues with capacity for 1,024 parcels, rounds
     /// decided by [`Strategy::Least`] with up to 4 workers, PE workers that give up after 1,000,000,000 idle turns in a row, about
-    /// five minutes, and elements that keep what they have handled. A program whose handlers take as long sets
-    /// [`turns`](Config::turns) higher.
+    /// five minutes, letters with bodies of up to 1,024 bytes, and elements that keep what they have handled. A program whose handlers
+    /// take as long sets [`turns`](Config::turns) higher.
     pub fn usual(pes: u32) -> Self
-        ensures value { result ≡ record { pes = pes; capacity = 1024; turns = 1000000000; probe_workers = 4; strategy = Least; history = Kept } }
+        ensures value { result ≡ record { pes = pes; capacity = 1024; turns = 1000000000; probe_workers = 4; longest = BODY_BYTES; strategy = Least; history = Kept } }
         ensures within { 1 ≤ pes → pes ≤ Limits.PES → IsWithin result }
     {
         Config {
@@ -49,6 +52,7 @@ impl Config {
             capacity: 1_024,
             turns: 1_000_000_000,
             probe_workers: 4,
+            longest: BodyLimit::usual(),
             strategy: Strategy::Least,
             history: History::Kept,
         }
@@ -67,6 +71,7 @@ impl Config {
             && 1 <= self.probe_workers
             && self.probe_workers <= Limits::PROBE_WORKERS
     }
+
     /// The first number that is out of its limits in a run of this number of elements, which may be up to [`Limits::ELEMENTS`];
     /// or `None` where each is within its limits.
     pub fn first_outside(&self, elements: usize) -> Option<Setting>

@@ -2,8 +2,8 @@
 //!
 //! - [`run`]: runs chares until every one has finished, or a fault is met.
 //! - [`run_watched`]: the same, observed by a [`Watch`].
-//! - [`Config`]: on how many PEs, with which limits, how rounds are decided (a [`Strategy`], within a [`Tolerance`]), and whether
-//!   elements keep what they have handled (a [`History`]).
+//! - [`Config`]: on how many PEs, with which limits (a [`BodyLimit`] among them), how rounds are decided (a [`Strategy`], within a
+//!   [`Tolerance`]), and whether elements keep what they have handled (a [`History`]).
 //! - [`Outcome`]: what a run left. Nothing is lost, whatever the schedule was and whatever went wrong.
 //! - [`RunError`]: why a run did not begin, with the [`Setting`] that is out of its limits. [`Fault`]: why one ended early.
 //!
@@ -38,7 +38,7 @@ mod workers;
 
 pub use at_sync::Strategy;
 pub use chain_refinement::Tolerance;
-pub use chares::History;
+pub use chares::{BodyLimit, History};
 pub use config::Config;
 pub use error::{RunError, Setting};
 pub use outcome::Outcome;

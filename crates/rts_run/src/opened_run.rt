@@ -93,15 +93,16 @@ impl<C: Chare<A>, H: Openings<C> + RunStrategy, A: Allocator + Copy> OpenedRun<C
             board,
         } = self;
         let (states, seats) = (VecDeque::from_vec(states), VecDeque::from_vec(seats));
-        let workers = open_workers::<C, H, J, A>(alloc, config.pes, states, seats)?;
+        let workers = open_workers::<C, H, J, A>(alloc, config, states, seats)?;
         let field = Field::new(
+            alloc,
             post,
             words,
             board,
             config.turns,
             config.history,
             config.probe_workers,
-        );
+        )?;
         Ok((field, workers))
     }
 }

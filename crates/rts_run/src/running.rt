@@ -4,8 +4,9 @@ ghost use Rattle.std.specs.Prelude.{◌≡◌, ◌≢◌, ◌≤◌, IfOk, IfSom
 ghost use Rattle.std.specs.VecDeque.{deque_len};
 ghost use Rattle.at_sync.specs.Boards.{HaveFinished};
 ghost use Rattle.pe_worker.specs.Causes.{HasCause};
-ghost use Rattle.pe_worker.specs.declared.fault.Fault.TheVariants.{Mismatch, Stopped, Unpack};
+ghost use Rattle.pe_worker.specs.declared.fault.Fault.TheVariants.{Mismatch, Quiet, Stopped, Unpack};
 ghost use Rattle.round_marks.specs.Finished.{HaveAllFinished};
+ghost use Rattle.round_marks.specs.Quiet.{IsQuiet};
 ghost use Rattle.round_marks.specs.Runs.{AreAllMarked};
 ghost use Rattle.rts_core.specs.Accounts.{IsCounted};
 ghost use Rattle.run_account.specs.RunAccounts.{left_world};
@@ -23,7 +24,7 @@ use chare_index::{Gate, Limits};
 use chares::{Chare, Openings};
 use pe_state::{HeldParcel, PeEnd};
 use pe_worker::{Fault, Field, NoWatch, RunBeginning, Watch, Worker};
-use round_marks::{run_agrees, run_finished};
+use round_marks::{run_agrees, run_finished, run_is_quiet};
 use run_account::{LeftBuffers, take_next};
 use std::alloc::{AllocError, Allocator};
 use std::collections::VecDeque;
@@ -43,8 +44,9 @@ use worker_threads::Crew;
 /// letter, and then waited and was resumed for each round in turn; `rounds`, what was decided, on a board of these chares and PEs
 /// (`elements`, `on_pes`) that decides as the config says (`by_strategy`); and `marks`, that the elements were measured and placed
 /// as the rounds say, unless its fault is [`Mismatch`](Fault::Mismatch). That comes only where they were not (`mismatch`), and in
-/// place of any other. Else the fault is that of the lowest PE whose worker met one, and has a cause (`cause`). Without one every
-/// element has finished (`all_finished`), and the board was told so (`finished`).
+/// place of any other. Else the fault is that of the lowest PE whose worker met one, and has a cause (`cause`). Where it is
+/// [`Quiet`](Fault::Quiet), nothing was left to do (`quiet`). Without one every element has finished (`all_finished`), and the board
+/// was told so (`finished`).
 ///
 /// # Errors
 ///
@@ -229,10 +231,12 @@ fn ended<C: Chare<A>, H: Openings<C>, A: Allocator>(
     ensures cause { result.fault ≢ Some Mismatch → IfSome result.fault (HasCause C.step C.pack C.refuses H.opened) }
     ensures finished { result.fault ≡ None → HaveFinished result.board }
     ensures all_finished { result.fault ≡ None → HaveAllFinished result.ends result.left }
+    ensures quiet { result.fault ≡ Some Quiet → IsQuiet result.board result.ends result.left }
 {
     if run_agrees(&board, &ends, &left) {
         let finished = all_finished(&board, &ends, &left);
-        let fault = fault_at_end::<C, H, A>(finished, met);
+        let quiet = is_quiet(&board, &ends, &left, met);
+        let fault = fault_at_end::<C, H, A>(finished, quiet, met);
         return Outcome::new(ends, left, board, fault);
     }
     Outcome::new(ends, left, board, Some(Fault::Mismatch))
@@ -250,21 +254,39 @@ fn all_finished<C: Chare<A>, A: Allocator>(
     board.all_finished() && run_finished(ends, left)
 }
 
-// The fault of a run whose first worker that met a fault met this one. Where none met one, and yet an element has not
-// finished, the workers were stopped: they end in no other way, but no lock can show that.
+// Whether nothing was left to do, where a worker found so.
+fn is_quiet<C: Chare<A>, A: Allocator>(
+    board: &Board<A>,
+    ends: &[PeEnd<C, A>],
+    left: &[Vec<HeldParcel<A>, A>],
+    met: Option<Fault>,
+) -> bool
+    ensures quiet { IsTrue result → IsQuiet board.now ends.now (map (λ q. q.items) left.now) }
+    ensures all { met ≡ Some Quiet → IsQuiet board.now ends.now (map (λ q. q.items) left.now) → IsTrue result }
+{
+    met == Some(Fault::Quiet) && run_is_quiet(board, ends, left)
+}
+
+// The fault of a run whose first worker that met a fault met this one. That nothing was left to do has to show in what was left. Where
+// none met one, and yet an element has not finished, the workers were stopped: they end in no other way, but no lock can show that.
 fn fault_at_end<C: Chare<A>, H: Openings<C>, A: Allocator>(
     finished: bool,
+    quiet: bool,
     met: Option<Fault>,
 ) -> Option<Fault>
     requires cause { IfSome met (HasCause C.step C.pack C.refuses H.opened) }
-    ensures met { IfSome met (λ fault. result ≡ Some fault) }
+    ensures met { IfSome met (λ fault. fault ≢ Quiet → result ≡ Some fault) }
+    ensures quiet { result ≡ Some Quiet → IsTrue quiet }
+    ensures all_quiet { met ≡ Some Quiet → IsTrue quiet → result ≡ Some Quiet }
     ensures well { met ≡ None → IsTrue finished → result ≡ None }
     ensures stopped { met ≡ None → ¬ (IsTrue finished) → result ≡ Some Stopped }
     ensures finished { result ≡ None → IsTrue finished }
     ensures cause { IfSome result (HasCause C.step C.pack C.refuses H.opened) }
 {
-    if met.is_some() {
-        return met;
+    if let Some(fault) = met {
+        if fault != Fault::Quiet || quiet {
+            return met;
+        }
     }
     if finished {
         return None;

@@ -1,13 +1,14 @@
 //! The workers of a run, before they begin.
 
-ghost use Rattle.std.specs.Prelude.{◌≡◌, ◌<◌, All, IfOk, length, map};
+ghost use Rattle.std.specs.Prelude.{◌≡◌, ◌<◌, All, IfOk, Some, length, map, slice_get};
 ghost use Rattle.std.specs.List.{range_with_len};
 ghost use Rattle.std.specs.VecDeque.{deque_len};
 ghost use Rattle.pe_queues.specs.Seats.{new_seat, pes};
 ghost use Rattle.rts_core.specs.Ledgers.{no_ledger, IsLocalAccount};
 
+use crate::config::Config;
 use barrier::RunStrategy;
-use chares::{Chare, Openings};
+use chares::{BodyLimit, Chare, Openings};
 use pe_queues::Seat;
 use pe_state::{Parcel, PeState};
 use pe_worker::{Agenda, RunBeginning, SeatedPe, Worker};
@@ -23,11 +24,11 @@ pub(crate) fn open_workers<
     A: Allocator + Copy,
 >(
     alloc: A,
-    count: u32,
+    config: &Config,
     mut states: VecDeque<PeState<C, H, A>, A>,
     mut seats: VecDeque<Seat<Parcel<C, H, A>, A>, A>,
 ) -> Result<VecDeque<Worker<C, H, J, A>, A>, AllocError>
-    requires run { count ≡ H.pes }
+    requires run { config.now.pes ≡ H.pes }
     requires served { pes J.beginning.post ≡ H.pes }
     requires starts { states.items ≡ J.beginning.starts }
     requires shares { map (λ s. s.seats) seats.items ≡ J.beginning.shares }
@@ -43,8 +44,26 @@ pub(crate) fn open_workers<
         let Some(seat) = take_next(&mut seats) else {
             unreachable!()
         };
-        let agenda = Agenda::new(alloc, &pe, count)?;
-        workers.push_back_reserved(Worker::new(SeatedPe::new(pe, seat), agenda));
+        let agenda = Agenda::new(alloc, &pe, config.pes)?;
+        let seated = seated(pe, seat, config.longest);
+        workers.push_back_reserved(Worker::new(seated, agenda));
     }
     Ok(workers)
+}
+
+// A PE with its seat, on which letters are posted with bodies of up to this length.
+fn seated<C: Chare<A>, H: Openings<C> + RunStrategy, J: RunBeginning<C>, A: Allocator + Copy>(
+    mut pe: PeState<C, H, A>,
+    seat: Seat<Parcel<C, H, A>, A>,
+    longest: BodyLimit,
+) -> SeatedPe<C, H, J, A>
+    requires start { slice_get J.beginning.starts pe.me ≡ Some pe }
+    requires fresh { IsLocalAccount C.step H.opened pe pe no_ledger }
+    requires seat { seat ≡ new_seat J.beginning.post seat.seats }
+    requires share { slice_get J.beginning.shares pe.me ≡ Some seat.seats }
+    requires served { pes J.beginning.post ≡ H.pes }
+    ensures made { result ≡ record { pe = pe; seat = seat } }
+{
+    pe.set_longest(longest);
+    SeatedPe::new(pe, seat)
 }

@@ -7,7 +7,7 @@ use Rattle.std.specs.Option.{option_map_or}
 use Rattle.at_sync.specs.Boards.{Kept, kept_of}
 use Rattle.lb_refinement.specs.Refined.{refined_bottleneck, refined_moved}
 use Rattle.pe_worker.specs.declared.fault.Fault.{Fault}
-use Rattle.pe_worker.specs.declared.fault.Fault.TheVariants.{OutOfMemory, Idle, Unpack, Stranger, TooLong, Worn, Mismatch, Stopped}
+use Rattle.pe_worker.specs.declared.fault.Fault.TheVariants.{OutOfMemory, Idle, Unpack, Stranger, TooLong, Worn, Mismatch, Stopped, Quiet}
 use Rattle.rts_core.specs.Accounts.{posted_count, executed_count, held_count}
 use Rattle.rts_run.specs.Outcomes.{OutcomeView}
 use Rattle.run_account.specs.RunAccounts.{left_world}
@@ -58,6 +58,7 @@ fault_word TooLong = codes "toolong"
 fault_word Worn = codes "worn"
 fault_word Mismatch = codes "mismatch"
 fault_word Stopped = codes "stopped"
+fault_word Quiet = codes "quiet"
 
 -- fault, and its word
 abbrev pub fault_line : Fault → List ℕ

@@ -138,6 +138,7 @@ pub fn fault_word(fault: Fault) -> &'static str
         Fault::Worn => "worn",
         Fault::Mismatch => "mismatch",
         Fault::Stopped => "stopped",
+        Fault::Quiet => "quiet",
     }
 }
 

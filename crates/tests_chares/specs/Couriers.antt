@@ -7,7 +7,7 @@ use Rattle.chare_index.specs.declared.limits.TheConstants.Limits.{BODY_BYTES, LE
 use Rattle.chares.specs.declared.entry.Entry.{Entry}
 use Rattle.chares.specs.declared.entry.Entry.TheVariants.{Letter, Resumption}
 use Rattle.chares.specs.declared.sends.SendError.{SendError}
-use Rattle.chares.specs.declared.sends.SendError.TheVariants.{Stranger, TooLong, Worn}
+use Rattle.chares.specs.declared.sends.SendError.TheVariants.{Stranger, TooLong, Worn, OutOfMemory}
 use Rattle.chares.specs.Steps.{Outcome}
 use Rattle.pup_pack.specs.Lists.{IsCounted, pack_bytes}
 
@@ -39,6 +39,17 @@ sends_of c n = if nat_lt c.to n && not (nat_lt BODY_BYTES (length c.body)) then 
 abbrev pub courier_step : CourierView → ℕ → ℕ → Entry (List ℕ) → Outcome CourierView
 courier_step c me n (Letter body) = record { state = c; effect = record { units = 0; at_sync = false; finished = true }; sends = [] }
 courier_step c me n (Resumption round) = record { state = c; effect = record { units = 0; at_sync = true; finished = false }; sends = sends_of c n }
+
+-- its send is posted to an element of n, with a body of at most 1,024 bytes
+abbrev pub MaySend : CourierView → ℕ → Type 0
+MaySend c n = (c.to < n) × (length c.body ≤ BODY_BYTES)
+
+-- any other is refused, on a PE that has posted so many letters, with the first of these reasons
+abbrev pub RefusesSend : CourierView → ℕ → ℕ → SendError → Type 0
+RefusesSend c n count Stranger = n ≤ c.to
+RefusesSend c n count TooLong = (c.to < n) × (BODY_BYTES < length c.body)
+RefusesSend c n count Worn = MaySend c n × (count ≡ LETTERS)
+RefusesSend c n count OutOfMemory = MaySend c n
 
 -- it returns the error of its send, except where it is made to go on
 abbrev pub CourierRefuses : CourierView → ℕ → ℕ → ℕ → Entry (List ℕ) → SendError → Type 0

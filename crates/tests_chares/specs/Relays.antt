@@ -47,7 +47,7 @@ relay_step r me n (Resumption round) = on_resume r me n r.left
 -- it returns an error where no letter number is left for what it would send, or the rest of a letter is too long
 abbrev pub RelayRefuses : RelayView → ℕ → ℕ → ℕ → Entry (List ℕ) → SendError → Type 0
 RelayRefuses r me n count (Letter (first ∷ rest)) TooLong = BODY_BYTES < length rest
-RelayRefuses r me n count (Letter (first ∷ rest)) Worn = (length rest ≤ BODY_BYTES) × (count ≡ LETTERS)
+RelayRefuses r me n count (Letter (first ∷ rest)) Worn = count ≡ LETTERS
 RelayRefuses r me n count (Resumption round) Worn = (0 < r.left) × (count ≡ LETTERS)
 RelayRefuses r me n count _ _ = ⊥
 

@@ -3,11 +3,11 @@
 ghost use Rattle.std.specs.Prelude.{◌≡◌, ◌≢◌, ◌↔◌, [], ◌∷◌, ◌⊎◌, ◌≤◌, replicate, false, IfOk, IfSome, IsNone, IsTrue, IfErr, MatchResult, OnOk, OnErr};
 ghost use Rattle.chare_index.specs.declared.limits.TheConstants.Limits.{ELEMENTS};
 ghost use Rattle.chares.specs.declared.sends.SendError.TheVariants.{Stranger, TooLong};
-ghost use Rattle.chares.specs.Posting.{posted, RefusesPut, IsPost};
+ghost use Rattle.chares.specs.Posting.{posted};
 ghost use Rattle.pup_pack.specs.declared.error.PupError.TheVariants.{Bad, OutOfMemory};
-ghost use Rattle.tests_chares.specs.Couriers.{is_courier, of_parts};
+ghost use Rattle.tests_chares.specs.Couriers.{MaySend, RefusesSend, is_courier, of_parts};
 
-use chare_index::{Gate, Index, Round};
+use chare_index::{Gate, Index, Limits, Round};
 use chares::{Chare, Effect, Here, SendError, Sends};
 use pup_pack::{Bytes, Fields, Pup, PupError};
 use std::alloc::{Allocator, Global};
@@ -74,16 +74,22 @@ impl<A: Allocator> Courier<A> {
         Some(Courier { to, goes_on, body })
     }
 
-    // Sends the body.
+    // Sends the body, where it has at most 1,024 bytes, whatever the run allows.
     fn send<P: Drop>(&self, sends: &mut Sends<P, A>) -> Result<(), SendError>
     where
         A: Copy,
         requires few { sends.old.n ≤ ELEMENTS }
-        ensures answer { MatchResult result (λ _. IsPost sends.old self.now.to self.now.body) (RefusesPut sends.old self.now.to self.now.body) }
+        ensures answer { MatchResult result (λ _. MaySend self.now sends.old.n) (RefusesSend self.now sends.old.n sends.old.count) }
         ensures ok { OnOk result (sends.new ≡ posted sends.old ((self.now.to, self.now.body) ∷ [])) }
         ensures err { OnErr result (sends.new ≡ sends.old) }
     {
         let to = Index::new(self.to).ok_or(SendError::Stranger)?;
+        if sends.n() <= to.get() {
+            return Err(SendError::Stranger);
+        }
+        if self.body.as_slice().len() > Limits::BODY_BYTES as usize {
+            return Err(SendError::TooLong);
+        }
         sends.put(to, self.body.as_slice())
     }
 

@@ -3,7 +3,7 @@
 ghost use Rattle.std.specs.Prelude.{◌≡◌, true};
 
 use at_sync::Strategy;
-use chares::History;
+use chares::{BodyLimit, History};
 use hot_spot_run::run_chain;
 use hot_spot_strip::{Chain, ChainError, Mode, Strip};
 use rts_run::{Config, Outcome};
@@ -43,6 +43,7 @@ pub(crate) fn run_on<R: Threads + Wait + Sync, A: Allocator + Copy + Send + Sync
         capacity,
         turns: 1_000_000_000,
         probe_workers: 1,
+        longest: BodyLimit::usual(),
         strategy: Strategy::Least,
         history: History::Kept,
     };

@@ -6,7 +6,7 @@ use at_sync::Strategy;
 use chare_index::{Gate, Index};
 use chares::Chare;
 use rts_core::Account;
-use rts_run::{Config, History, Outcome, RunError, run};
+use rts_run::{BodyLimit, Config, History, Outcome, RunError, run};
 use std::alloc::{Allocator, Global};
 use std::fmt::Debug;
 use std::process::Abort;
@@ -36,6 +36,7 @@ pub(crate) fn patient(pes: u32, capacity: u32) -> Config {
         capacity,
         turns: 1_000_000_000,
         probe_workers: 1,
+        longest: BodyLimit::usual(),
         strategy: Strategy::Least,
         history: History::Kept,
     }

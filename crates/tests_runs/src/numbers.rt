@@ -5,7 +5,7 @@ use crate::fixtures::{assert_for, patient, try_run};
 use at_sync::Strategy;
 use chare_index::NoGate;
 use pe_worker::Fault;
-use rts_run::{Config, History, RunError, Setting};
+use rts_run::{BodyLimit, Config, History, RunError, Setting};
 use std::fmt::Display;
 use std::process::Abort;
 use std::sync::Wait;
@@ -55,7 +55,7 @@ fn refused_runs_have_their_numbers_and_texts(rt: HostRuntime) {
 
 #[test]
 fn faults_have_their_numbers_and_texts(rt: HostRuntime) {
-    static ROWS: [(Fault, u8, &str); 8] = [
+    static ROWS: [(Fault, u8, &str); 9] = [
         (
             Fault::OutOfMemory,
             1,
@@ -88,6 +88,11 @@ fn faults_have_their_numbers_and_texts(rt: HostRuntime) {
             9,
             "the run was stopped before every element had finished",
         ),
+        (
+            Fault::Quiet,
+            10,
+            "nothing was left to do, and not every element had finished",
+        ),
     ];
     for (fault, number, text) in &ROWS {
         let right = *fault as u8 == *number && is_shown(&rt, fault, *text);
@@ -119,80 +124,44 @@ fn refusal<R: Threads + Wait + Sync + Abort + AllocGlobal>(
     }
 }
 
-// The least numbers.
-const LEAST: Config = Config {
-    pes: 1,
-    capacity: 1,
-    turns: 1,
-    probe_workers: 1,
-    strategy: Strategy::Least,
-    history: History::Kept,
-};
+// PEs, a capacity, idle turns and probe workers.
+type Numbers = (u32, u32, u64, u32);
 
 // Numbers of a run, and which of them is past its limits.
-const ROWS: [(Config, Option<Setting>); 11] = [
-    (LEAST, None),
-    (
-        Config {
-            pes: 256,
-            turns: 1_099_511_627_776,
-            probe_workers: 64,
-            ..LEAST
-        },
-        None,
-    ),
-    (
-        Config {
-            capacity: 4_096,
-            ..LEAST
-        },
-        None,
-    ),
-    (Config { pes: 0, ..LEAST }, Some(Setting::Pes)),
-    (Config { pes: 257, ..LEAST }, Some(Setting::Pes)),
-    (
-        Config {
-            capacity: 0,
-            ..LEAST
-        },
-        Some(Setting::Capacity),
-    ),
-    (
-        Config {
-            capacity: 4_097,
-            ..LEAST
-        },
-        Some(Setting::Capacity),
-    ),
-    (Config { turns: 0, ..LEAST }, Some(Setting::Turns)),
-    (
-        Config {
-            turns: 1_099_511_627_777,
-            ..LEAST
-        },
-        Some(Setting::Turns),
-    ),
-    (
-        Config {
-            probe_workers: 0,
-            ..LEAST
-        },
-        Some(Setting::ProbeWorkers),
-    ),
-    (
-        Config {
-            probe_workers: 65,
-            ..LEAST
-        },
-        Some(Setting::ProbeWorkers),
-    ),
+const ROWS: [(Numbers, Option<Setting>); 11] = [
+    ((1, 1, 1, 1), None),
+    ((256, 1, 1_099_511_627_776, 64), None),
+    ((1, 4_096, 1, 1), None),
+    ((0, 1, 1, 1), Some(Setting::Pes)),
+    ((257, 1, 1, 1), Some(Setting::Pes)),
+    ((1, 0, 1, 1), Some(Setting::Capacity)),
+    ((1, 4_097, 1, 1), Some(Setting::Capacity)),
+    ((1, 1, 0, 1), Some(Setting::Turns)),
+    ((1, 1, 1_099_511_627_777, 1), Some(Setting::Turns)),
+    ((1, 1, 1, 0), Some(Setting::ProbeWorkers)),
+    ((1, 1, 1, 65), Some(Setting::ProbeWorkers)),
 ];
+
+// A run with these numbers.
+fn config_of(numbers: Numbers) -> Config {
+    let (pes, capacity, turns, probe_workers) = numbers;
+    Config {
+        pes,
+        capacity,
+        turns,
+        probe_workers,
+        longest: BodyLimit::usual(),
+        strategy: Strategy::Least,
+        history: History::Kept,
+    }
+}
 
 #[test]
 fn numbers_at_their_limits_and_past_them(rt: HostRuntime) {
-    for (config, setting) in &ROWS {
+    for (numbers, setting) in &ROWS {
         let want = setting.map(|setting| RunError::Config(setting));
-        assert_for(&rt, refusal(&rt, config, 1) == want, *config);
+        let config = config_of(*numbers);
+        assert_for(&rt, refusal(&rt, &config, 1) == want, *numbers);
     }
 }
 

@@ -6,7 +6,7 @@ use at_sync::Strategy;
 use chare_index::NoGate;
 use chares::Chare;
 use pe_worker::Fault;
-use rts_run::{Config, History, Outcome};
+use rts_run::{BodyLimit, Config, History, Outcome};
 use std::alloc::Global;
 use std::process::Abort;
 use std::sync::Wait;
@@ -66,6 +66,7 @@ impl Draw {
             capacity: self.up_to(4),
             turns,
             probe_workers: self.up_to(2),
+            longest: BodyLimit::usual(),
             strategy: Strategy::Least,
             history,
         }

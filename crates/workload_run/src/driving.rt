@@ -13,7 +13,7 @@ use at_sync::Strategy;
 use chare_index::{Limits, NoGate};
 use pe_worker::NoWatch;
 use pup_pack::Pup;
-use rts_run::{Config, History, Outcome, run_watched};
+use rts_run::{BodyLimit, Config, History, Outcome, run_watched};
 use std::alloc::{AllocError, Allocator};
 use std::io::{self, Read, Write};
 use std::sync::Wait;
@@ -198,6 +198,7 @@ fn outcome_of<T: Threads + Wait + Sync, V: Onlooker + Sync, A: Allocator + Copy 
         capacity: CAPACITY,
         turns,
         probe_workers: PROBE_WORKERS,
+        longest: BodyLimit::usual(),
         strategy,
         history,
     };

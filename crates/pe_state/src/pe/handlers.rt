@@ -74,6 +74,7 @@ impl<C: Chare<A>, H: Openings<C>, A: Allocator + Copy> PeState<C, H, A> {
             gate,
             end.me,
             end.n,
+            self.longest,
             index,
             round,
             &mut end.room,

@@ -24,5 +24,10 @@ returns-then-run_agrees-clause-all_finished g c =
     λ none.
     rw c.new.ensures.ends (rw c.new.ensures.left (rw (← c.deref-then-run_agrees.ensures.value) (rw (← c.deref-then-run_agrees-2.ensures.value) (c.all_finished-finished.ensures.elements (c.fault_at_end-fault.ensures.finished (sym c.new.ensures.fault ∙ none))))))
 
+pub returns-then-run_agrees-clause-quiet : goal.returns-then-run_agrees-clause-quiet
+returns-then-run_agrees-clause-quiet g c =
+    λ is.
+    rw c.new.ensures.board (rw c.new.ensures.ends (rw c.new.ensures.left (rw (← c.deref-then-run_agrees-3.ensures.value) (rw (← c.deref-then-run_agrees-4.ensures.value) (c.is_quiet-quiet.ensures.quiet (c.fault_at_end-fault.ensures.quiet (sym c.new.ensures.fault ∙ is)))))))
+
 pub returns-clause-mismatch : goal.returns-clause-mismatch
 returns-clause-mismatch g c = λ _ marked. iff_false c.run_agrees.ensures.agree c.if-run_agrees.false (rw c.deref.ensures.value (rw c.deref-2.ensures.value (rw (← c.new-2.ensures.left) (rw (← c.new-2.ensures.ends) (rw (← c.new-2.ensures.board) marked)))))

@@ -97,5 +97,6 @@ returns g c =
         cause = c.ended.ensures.cause;
         finished = c.ended.ensures.finished;
         all_finished = c.ended.ensures.all_finished;
+        quiet = c.ended.ensures.quiet;
       };
     }

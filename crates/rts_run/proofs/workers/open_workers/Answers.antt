@@ -23,25 +23,25 @@ loop-pe-init g c =
       new = c.requires.new;
     }
 
-pub new-requires-in-Some-clause-start : goal.new-requires-in-Some-clause-start
-new-requires-in-Some-clause-start g c =
+pub seated-seated-requires-clause-start : goal.seated-seated-requires-clause-start
+seated-seated-requires-clause-start g c =
     let i = c.loop-pe.invariant in
     let is = c.in-Some.ensures.taken in
     ap (slice_get g.J.RunBeginning.beginning.starts) (next_is (λ pe. pe.me) (length c.loop-pe.workers.items) c.in-Some.pe c.take_next.new.left.items c.loop-pe.states.items is i.in_order)
     ∙ (drop_next g.J.RunBeginning.beginning.starts (length c.loop-pe.workers.items) c.in-Some.pe c.take_next.new.left.items (sym is ∙ i.starts)).1
 
-pub new-requires-in-Some-clause-share : goal.new-requires-in-Some-clause-share
-new-requires-in-Some-clause-share g c =
+pub seated-seated-requires-clause-share : goal.seated-seated-requires-clause-share
+seated-seated-requires-clause-share g c =
     let i = c.loop-pe.invariant in
     rw (next_is (λ pe. pe.me) (length c.loop-pe.workers.items) c.in-Some.pe c.take_next.new.left.items c.loop-pe.states.items c.in-Some.ensures.taken i.in_order)
     (drop_head (λ s. s.seats) g.J.RunBeginning.beginning.shares (length c.loop-pe.workers.items) c.in-Some-take_next.seat c.take_next-in-Some.new.left.items c.loop-pe.seats.items c.in-Some-take_next.ensures.taken i.shares).1
 
-pub new-requires-in-Some-clause-fresh : goal.new-requires-in-Some-clause-fresh
-new-requires-in-Some-clause-fresh g c =
+pub seated-seated-requires-clause-fresh : goal.seated-seated-requires-clause-fresh
+seated-seated-requires-clause-fresh g c =
     (all_next (λ pe. IsLocalAccount g.C.Chare.step g.H.Openings.opened pe pe no_ledger) c.in-Some.pe c.take_next.new.left.items c.loop-pe.states.items c.in-Some.ensures.taken c.loop-pe.invariant.fresh).0
 
-pub new-requires-in-Some-clause-seat : goal.new-requires-in-Some-clause-seat
-new-requires-in-Some-clause-seat g c =
+pub seated-seated-requires-clause-seat : goal.seated-seated-requires-clause-seat
+seated-seated-requires-clause-seat g c =
     (all_next (λ s. s ≡ new_seat g.J.RunBeginning.beginning.post s.seats) c.in-Some-take_next.seat c.take_next-in-Some.new.left.items c.loop-pe.seats.items c.in-Some-take_next.ensures.taken c.loop-pe.invariant.new).0
 
 pub loop-pe-preserved : goal.loop-pe-preserved
@@ -51,9 +51,9 @@ loop-pe-preserved g c =
     let at = c.in-Some-take_next.ensures.taken in
     let made = c.loop-pe.workers.items in
     let me = next_is (λ pe. pe.me) (length made) c.in-Some.pe c.take_next.new.left.items c.loop-pe.states.items is i.in_order in
-    let n = counted_more made c.push_back_reserved.new.self.items c.new-in-Some-2.result c.push_back_reserved.ensures.items in
+    let n = counted_more made c.push_back_reserved.new.self.items c.new-in-Some.result c.push_back_reserved.ensures.items in
     record {
-      workers = more_in_order (λ w. w.seated.pe.me) c.new-in-Some-2.result made c.push_back_reserved.new.self.items c.push_back_reserved.ensures.items (ap (λ w. w.seated.pe.me) c.new-in-Some-2.ensures.made ∙ (ap (λ s. s.pe.me) c.new-in-Some.ensures.made ∙ me)) i.workers;
+      workers = more_in_order (λ w. w.seated.pe.me) c.new-in-Some.result made c.push_back_reserved.new.self.items c.push_back_reserved.ensures.items (ap (λ w. w.seated.pe.me) c.new-in-Some.ensures.made ∙ (ap (λ s. s.pe.me) c.seated-seated.ensures.made ∙ me)) i.workers;
       counted = omega (arith, i.counted, n, ap length is);
       as_many = omega (arith, i.as_many, ap length is, ap length at);
       wide = omega (arith, i.wide, c.push_back_reserved.ensures.capacity);

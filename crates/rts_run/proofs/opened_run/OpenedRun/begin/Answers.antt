@@ -20,8 +20,8 @@ open_workers-requires-clause-new g c =
     let own = ap (λ b. b.post) (c.self.view_is ∙ c.requires.beginning) in
     rw c.from_vec-seats.ensures.items (rw (← own) c.self.invariant.1)
 
-pub new-field-requires-clause-own : goal.new-field-requires-clause-own
-new-field-requires-clause-own g c = ap (λ b. b.post) (c.self.view_is ∙ c.requires.beginning)
+pub new-requires-clause-own : goal.new-requires-clause-own
+new-requires-clause-own g c = ap (λ b. b.post) (c.self.view_is ∙ c.requires.beginning)
 
 pub returns-clause-beginning : goal.returns-clause-beginning
 returns-clause-beginning g c = subst (IsBeginning g.H.Openings.pes g.H.Openings.opened) (c.self.view_is ∙ c.requires.beginning) c.self.invariant.0

@@ -1,0 +1,27 @@
+use Rattle.std.proofs.Common.{rules}
+use Rattle.std.specs.Map.Iter.{deref_pair}
+use Rattle.std.proofs.lemmas.Bool.{false≢true, iff_false}
+use Rattle.std.proofs.lemmas.Map.Iter.{rest_more}
+use Rattle.round_marks.specs.Quiet.{IsAtRest}
+use Rattle.round_marks.proofs.Walks.{walk_on, walk_stops}
+use Rattle.round_marks.proofs.quiet.room_rests.Goals as goal
+
+pub returns-then-not-is_at_rest : goal.returns-then-not-is_at_rest
+returns-then-not-is_at_rest g c =
+    let at = c.loop-element in
+    let next = rest_more deref_pair at.element-iterator c.next.new.self c.next.result (c.in-Some.field-0-0, c.in-Some.element) c.in-Some.is c.next.ensures.steps in
+    let tells = c.is_at_rest.ensures in (
+      λ t. absurd (false≢true t),
+      λ h. absurd (walk_stops (λ x. IsAtRest c.args.board.now x.1) c.args.pe.now.room at.element-iterator at.invariant.same (c.in-Some.field-0-0.now, c.in-Some.element.now) c.next.new.self next (iff_false tells c.if-not-is_at_rest.true) h),
+    )
+
+pub loop-element-preserved : goal.loop-element-preserved
+loop-element-preserved g c =
+    let at = c.loop-element in
+    let next = rest_more deref_pair at.element-iterator c.next.new.self c.next.result (c.in-Some.field-0-0, c.in-Some.element) c.in-Some.is c.next.ensures.steps in
+    let tells = c.is_at_rest.ensures in
+    record {
+      can = search rules;
+      ends = search rules;
+      same = walk_on (λ x. IsAtRest c.args.board.now x.1) c.args.pe.now.room at.element-iterator at.invariant.same (c.in-Some.field-0-0.now, c.in-Some.element.now) c.next.new.self next (tells.0 c.if-not-is_at_rest.false);
+    }

@@ -1,0 +1,10 @@
+use Rattle.std.proofs.Common.{◌↔◌, All}
+use Rattle.round_marks.specs.Quiet.{IsAtRest}
+use Rattle.round_marks.proofs.quiet.room_rests.Given as goal
+
+abbrev pub invariant-loop-element : goal.invariant-loop-element
+invariant-loop-element g l = record {
+  can : (goal.iterator-loop-element g).can_next l.element-iterator;
+  ends : (goal.iterator-loop-element g).is_finite l.element-iterator;
+  same : All (λ x. IsAtRest l.board x.1) l.element-iterator ↔ All (λ x. IsAtRest l.board x.1) l.pe.room;
+}
