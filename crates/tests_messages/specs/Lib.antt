@@ -1,0 +1,2 @@
+pub mod Bulks
+pub mod Gossips
