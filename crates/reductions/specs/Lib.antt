@@ -1,0 +1,10 @@
+pub mod Combining
+pub mod Exchanges
+pub mod Laws
+pub mod NodePacks
+pub mod Nodes
+pub mod Reactions
+pub mod Stepping
+pub mod TreeMessages
+pub mod Trees
+pub mod Values
