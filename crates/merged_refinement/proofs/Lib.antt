@@ -1,0 +1,14 @@
+pub mod Clamped
+pub mod KeptCuts
+pub mod MergedCuts
+pub mod Placed
+pub mod Tables
+pub mod WholeChains
+pub mod ReadNearest
+pub mod Reaches
+pub mod Readings
+pub mod LeastStarts
+pub mod StandingCosts
+pub mod Rows
+pub mod Piles
+pub mod Found

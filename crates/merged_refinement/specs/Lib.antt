@@ -1,0 +1,4 @@
+pub mod InOrder
+pub mod Lists
+pub mod Merged
+pub mod Rows
