@@ -11,10 +11,10 @@ use Rattle.chain_refinement.specs.Tolerances.{limit_of}
 use Rattle.chain_refinement.proofs.Orders.{block_around}
 use Rattle.any_order.specs.AnyOrder.{IsReordered, reordered_limit}
 use Rattle.any_order.specs.declared.reordered.Reordered.{Reordered}
-use Rattle.lb_refinement.specs.Refined.{IsRefined, least_load, refined_bottleneck, refined_cuts, refined_least, refined_moved, refined_names}
+use Rattle.lb_refinement.specs.Refined.{ArePricesSmall, IsRefined, least_load, refined_bottleneck, refined_cuts, refined_least, refined_moved, refined_names}
 use Rattle.lb_refinement.specs.declared.refined.Refined.{Refined}
 use Rattle.lb_refinement.specs.declared.refined.Refined.TheVariants.{Near, Planned}
-use Rattle.lb_any_order.specs.Reorderings.{HasPlaceBelow, IsFewest, IsLesser, IsReordering, reordering_cuts, reordering_least, reordering_moved, reordering_names}
+use Rattle.lb_any_order.specs.Reorderings.{ArePricesSmallInOrder, HasPlaceBelow, IsFewest, IsLesser, IsReordering, reordering_cuts, reordering_least, reordering_moved, reordering_names}
 use Rattle.lb_any_order.specs.declared.reordering.Fewest.{Fewest}
 use Rattle.lb_any_order.specs.declared.reordering.Reordering.{Reordering}
 use Rattle.lb_any_order.specs.declared.reordering.Reordering.TheVariants.{InAnyOrder, InOrder}
@@ -98,3 +98,8 @@ lesser_places pes i refined fewest (InOrder r) one other same =
     subst (λ (q : Refined _). HasPlaceBelow pes (refined_cuts q) (refined_names q) i) (sym same) one
 lesser_places pes i refined fewest (InAnyOrder f) one other (same, no_more) =
     subst (λ (g : Fewest _). HasPlaceBelow pes g.reordered.cuts g.reordered.names i) (sym same) other
+
+-- the lesser has small prices, where it is the one in the present order
+pub lesser_prices : {A : Type 0} (sizes : List (ℕ × ℕ)) (refined : Refined A) (fewest : Fewest A) (r : Reordering A) → ArePricesSmall sizes refined → IsLesser refined fewest r → ArePricesSmallInOrder sizes r
+lesser_prices sizes refined fewest (InOrder r) small same = subst (ArePricesSmall sizes) (sym same) small
+lesser_prices sizes refined fewest (InAnyOrder f) small that = tt

@@ -1,9 +1,10 @@
 -- Decisions within a tolerance where the PEs may change their order.
 use Rattle.std.specs.Prelude.{◌≡◌, ℕ, ◌<◌, ◌≤◌, List, length}
 use Rattle.lb_certificates.specs.Naming.{bytes_moved}
+use Rattle.lb_certificates.specs.declared.division.Division.{Division}
 use Rattle.lb_strategy.specs.Moves.{HasPlace, moves_below, planned_pe}
 use Rattle.any_order.specs.AnyOrder.{AreFewestOfAll, IsReordered, reordered_limit}
-use Rattle.lb_refinement.specs.Refined.{IsRefined, least_load, refined_cuts, refined_moved, refined_moves, refined_names}
+use Rattle.lb_refinement.specs.Refined.{ArePricesSmall, IsRefined, least_load, refined_cuts, refined_least, refined_moved, refined_moves, refined_names}
 use Rattle.lb_refinement.specs.declared.refined.Refined.{Refined}
 use Rattle.lb_any_order.specs.declared.reordering.Fewest.{Fewest}
 use Rattle.lb_any_order.specs.declared.reordering.Reordering.{Reordering}
@@ -27,7 +28,7 @@ pub record HasMoves {A : Type 0} (sizes : List (ℕ × ℕ)) (f : Fewest A) : Ty
   pub moved_is : f.moved ≡ bytes_moved sizes f.reordered.cuts f.reordered.names
   pub moves_are : f.moves ≡ moves_below sizes f.reordered.cuts f.reordered.names (length sizes)
 
--- the cuts, the names, the bytes that move, the moves and the load that the limit is measured from
+-- the cuts, the names, the bytes that move, the moves, and the division and the load that the limit is measured from
 abbrev pub reordering_cuts : {A : Type 0} → Reordering A → List ℕ
 reordering_cuts (InOrder r) = refined_cuts r
 reordering_cuts (InAnyOrder f) = f.reordered.cuts
@@ -44,9 +45,18 @@ abbrev pub reordering_moves : {A : Type 0} → Reordering A → List (ℕ × ℕ
 reordering_moves (InOrder r) = refined_moves r
 reordering_moves (InAnyOrder f) = f.moves
 
+abbrev pub reordering_division : {A : Type 0} → Reordering A → Division A
+reordering_division (InOrder r) = refined_least r
+reordering_division (InAnyOrder f) = f.reordered.least
+
 abbrev pub reordering_least : {A : Type 0} → Reordering A → ℕ
 reordering_least (InOrder r) = least_load r
 reordering_least (InAnyOrder f) = f.reordered.least.bottleneck
+
+-- the prices of a decision in the present order are in the range of those of a plan; in another order there are none
+abbrev pub ArePricesSmallInOrder : {A : Type 0} → List (ℕ × ℕ) → Reordering A → Type 0
+ArePricesSmallInOrder sizes (InOrder r) = ArePricesSmall sizes r
+ArePricesSmallInOrder sizes (InAnyOrder f) = Unit {0}
 
 -- the one in any order where it moves no more bytes, and otherwise the other
 abbrev pub IsLesser : {A : Type 0} → Refined A → Fewest A → Reordering A → Type 0

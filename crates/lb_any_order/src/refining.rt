@@ -4,7 +4,7 @@ ghost use Rattle.chain_refinement.specs.Tolerances.{limit_of};
 ghost use Rattle.any_order.specs.AnyOrder.{IsReordered};
 ghost use Rattle.lb_refinement.specs.Refined.{IsRefined, refined_least, refined_moved};
 ghost use Rattle.lb_refinement.specs.declared.refined.Refined.{Refined};
-ghost use Rattle.lb_any_order.specs.Reorderings.{HasMoves, HasPlaceBelow, IsFewest, IsLesser, IsReordering, reordering_cuts, reordering_least, reordering_moved, reordering_names};
+ghost use Rattle.lb_any_order.specs.Reorderings.{ArePricesSmallInOrder, HasMoves, HasPlaceBelow, IsFewest, IsLesser, IsReordering, reordering_cuts, reordering_least, reordering_moved, reordering_names};
 
 use crate::reordering::{Fewest, Reordering};
 use any_order::{Reordered, moved_by};
@@ -43,6 +43,7 @@ pub fn refine_in_any_order<A: Allocator + Copy, B: Allocator>(
     ensures no_more { IfOk result (λ r. (other : Refined A) → IsRefined snapshot.now.loads snapshot.now.sizes pes tolerance other
         → reordering_moved r ≤ refined_moved other) }
     ensures places { IfOk result (λ r. (i : ℕ) → i < length snapshot.now.sizes → HasPlaceBelow pes (reordering_cuts r) (reordering_names r) i) }
+    ensures bounded { IfOk result (ArePricesSmallInOrder snapshot.now.sizes) }
 {
     let refined = refine(alloc, snapshot, pes, tolerance)?;
     one_refined::<A>();

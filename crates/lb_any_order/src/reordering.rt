@@ -1,7 +1,8 @@
 ghost use Rattle.std.specs.Prelude.{◌≡◌};
-ghost use Rattle.lb_any_order.specs.Reorderings.{reordering_cuts, reordering_moved, reordering_moves, reordering_names};
+ghost use Rattle.lb_any_order.specs.Reorderings.{reordering_cuts, reordering_division, reordering_moved, reordering_moves, reordering_names};
 
 use any_order::Reordered;
+use lb_certificates::Division;
 use lb_refinement::Refined;
 use lb_strategy::Moves;
 use std::alloc::{Allocator, Global};
@@ -30,6 +31,16 @@ pub enum Reordering<A: Allocator = Global> {
 }
 
 impl<A: Allocator> Reordering<A> {
+    /// The division that the limit is measured from.
+    pub fn least(&self) -> &Division<A>
+        ensures value { result.now ≡ reordering_division self.now }
+    {
+        match self {
+            Reordering::InOrder(refined) => refined.least(),
+            Reordering::InAnyOrder(fewest) => &fewest.reordered.least,
+        }
+    }
+
     /// Where the blocks begin and end.
     pub fn cuts(&self) -> &[u32]
         ensures value { result.now ≡ reordering_cuts self.now }

@@ -3,6 +3,8 @@ use Rattle.std.specs.Prelude.{Bool, not, ℕ, ◌==◌, List, ℤ, negsuc}
 use Rattle.lb_lists.specs.Claims.{Claimed}
 use Rattle.lb_lists.specs.RefinedClaims.{RefinedClaimed}
 use Rattle.lb_lists.specs.RefinedRooms.{StandingLists}
+use Rattle.lb_lists.specs.ReorderedClaims.{ReorderedClaimed}
+use Rattle.lb_lists.specs.Reorderings.{LevelLists}
 use Rattle.lb_lists.specs.Rooms.{Lists}
 use Rattle.lb_lists.specs.Runs.{Listed}
 use Rattle.lb_lists.specs.declared.error.RunError.{RunError}
@@ -71,6 +73,23 @@ refined_claim_of keep_order least decision standing =
       step_starts = standing.step_starts;
       step_places = standing.step_places;
       step_rises = standing.step_rises;
+    }
+
+-- the lists of the levels
+abbrev pub level_room_of : List ℕ → List ℕ → List ℕ → LevelLists
+level_room_of level_starts level_places level_bytes =
+    record { level_starts = level_starts; level_places = level_places; level_bytes = level_bytes }
+
+-- the claim of a decision in any order of the PEs, above this least possible load
+abbrev pub reordered_claim_of : ℕ → Claimed → List ℕ → LevelLists → ReorderedClaimed
+reordered_claim_of least decision least_cuts levels =
+    record {
+      decision = decision;
+      least = least;
+      least_cuts = least_cuts;
+      level_starts = levels.level_starts;
+      level_places = levels.level_places;
+      level_bytes = levels.level_bytes;
     }
 
 -- the status that says why a call was refused

@@ -4,6 +4,8 @@
 //! - [`tezgumi_plan`]: plans over the caller's own lists; [`tezgumi_decide`] writes the certificates too.
 //! - [`tezgumi_check`]: checks a plan with its certificates, whoever made it.
 //! - [`tezgumi_refine`]: decides within a tolerance, with all that proves it; [`tezgumi_check_refined`] checks it.
+//! - `tezgumi_reorder`: decides within a tolerance in any order of the PEs; `tezgumi_check_reordered` checks it.
+//! - `tezgumi_run_refusal`: why a run is refused.
 //! - [`tezgumi_scale`]: loads in seconds as whole numbers, which can be planned.
 //! - [`tezgumi_abi`]: the number of this interface.
 #![tactic(auto)]
@@ -31,7 +33,10 @@ ghost use Rattle.lb_lists.specs.Scales.{IsFirstScaleFault, IsMeasured, IsRoomFor
 ghost use Rattle.lb_lists.specs.declared.scaling.ScaleError.TheVariants.{NotANumber, Negative, Infinite};
 ghost use Rattle.lb_capi.specs.Calls.{claim_of, is_set, refine_status, refusal_status, room_of, run_of, refined_claim_of, scale_status, standing_room_of};
 
+mod keeping;
 mod parts;
+mod refusals;
+mod reordering;
 
 use lb_lists::{
     Claim, RefineError, RefinedClaim, Room, Run, RunError, ScaleError, StandingRoom, check_claim,
@@ -41,12 +46,12 @@ use lb_lists::{
 use std::alloc::Global;
 
 // The number of this interface.
-const ABI: u32 = 3;
+const ABI: u32 = 4;
 
-/// The number of this interface. It changes where the arguments of a call or their meaning change.
+/// The number of this interface. It changes where the arguments of a call or their meaning change, and where calls are added.
 #[unsafe(no_mangle)]
 pub extern "C" fn tezgumi_abi() -> u32
-    ensures value { result ≡ 3 }
+    ensures value { result ≡ 4 }
 {
     ABI
 }
@@ -229,8 +234,8 @@ pub extern "C" fn tezgumi_check(
     }
 }
 
-// The status of a refusal to decide within a tolerance.
-fn refine_status_of(error: RefineError) -> i32
+/// The status of a refusal to decide within a tolerance.
+pub(crate) fn refine_status_of(error: RefineError) -> i32
     ensures { result ≡ refine_status error }
 {
     match error {
@@ -240,15 +245,15 @@ fn refine_status_of(error: RefineError) -> i32
     }
 }
 
-// 1 where the cuts are near the present ones, and otherwise 0.
-fn flag_of(near: bool) -> u32
-    ensures flag { (result == 1) ≡ near }
+/// 1 where something is so, and otherwise 0.
+pub(crate) fn flag_of(is: bool) -> u32
+    ensures flag { (result == 1) ≡ is }
 {
-    u32::from(near)
+    u32::from(is)
 }
 
-// Whether a number says yes.
-fn flag_in(number: u32) -> bool
+/// Whether a number says yes.
+pub(crate) fn flag_in(number: u32) -> bool
     ensures flag { result ≡ is_set number }
 {
     number != 0

@@ -46,7 +46,7 @@ use merged_chains::{
 use std::alloc::Global;
 
 // The status of a refusal.
-fn part_status_of(error: PartError) -> i32
+pub(crate) fn part_status_of(error: PartError) -> i32
     ensures { result ≡ part_status error }
 {
     match error {

@@ -13,6 +13,8 @@ pub mod OneRefinedRun
 pub mod Plans
 pub mod RefinedClaims
 pub mod RefinedRuns
+pub mod ReorderedClaims
+pub mod ReorderedRuns
 pub mod ShortClaims
 pub mod Ticks
 pub mod Zipped

@@ -8,3 +8,5 @@ pub mod Steps
 pub mod Refinings
 pub mod RefinedRooms
 pub mod RefinedClaims
+pub mod Reorderings
+pub mod ReorderedClaims

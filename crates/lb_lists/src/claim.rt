@@ -1,4 +1,4 @@
-ghost use Rattle.std.specs.Prelude.{◌≡◌, ◌≤◌, take};
+ghost use Rattle.std.specs.Prelude.{◌≡◌, ◌≤◌, drop, take};
 ghost use Rattle.lb_lists.specs.Claims.{shortened};
 ghost use Rattle.lb_lists.specs.declared.limits.TheConstants.RunLimits.{PES};
 
@@ -42,11 +42,18 @@ impl<'a> Model for Claim<'a> {
     } };
 }
 
-// The first entries of a list, at most `most` of them.
-fn front<T>(list: &[T], most: usize) -> &[T]
+/// The first entries of a list, at most `most` of them.
+pub(crate) fn front<T>(list: &[T], most: usize) -> &[T]
     ensures { result.now ≡ take most list.now }
 {
     list.get(..most).unwrap_or(list)
+}
+
+/// The entries of a list behind the first `count`.
+pub(crate) fn back<T>(list: &[T], count: usize) -> &[T]
+    ensures { result.now ≡ drop count list.now }
+{
+    list.get(count..).unwrap_or(&[])
 }
 
 /// A claim with each list of the certificates cut off one entry past its proper length for `pes` PEs. A list that is too long

@@ -8,9 +8,13 @@
 //! - [`refine_run`]: decides within a tolerance, for a run within the limits of a snapshot; [`refine_into`] writes the decision
 //!   into a [`Room`] and a [`StandingRoom`], or returns a [`RefineError`].
 //! - [`refine_run_in_order`]: decides so that the PEs keep their order, which [`refine_into`] does where that is asked for.
+//! - [`reorder_run`]: decides where the PEs may change their order, as a [`ReorderedRun`]; [`reorder_into`] writes the decision
+//!   into these and a [`BoundsRoom`].
 //! - [`check_claim`]: whether a [`Claim`] is right, whoever made it, or its first flaw; [`number_of`]: the number of a flaw.
 //! - [`check_refined`]: whether a [`RefinedClaim`] of a decision within a tolerance is right, or its first [`RefinedFlaw`],
 //!   with its [number](number_of_refined) and its [place](place_of_refined).
+//! - [`check_reordered_claim`]: whether a [`ReorderedClaim`] of a decision in any order is right, or its first
+//!   [`ReorderedClaimFlaw`], with its [number](number_of_reordered) and its [place](place_of_reordered).
 //! - [`scale_loads`]: loads in seconds as whole numbers, or a [`ScaleError`].
 //! - [`RunError`]: why a run was not planned, or a claim not checked.
 //! - [`one_plan`], [`one_refined_run`]: the laws that a run has one plan, and one decision within a tolerance; [`near_least`]: the
@@ -33,6 +37,7 @@
 //! ```
 #![tactic(auto)]
 
+mod bounds;
 mod checking;
 mod claim;
 mod deciding;
@@ -47,11 +52,16 @@ mod refined_checking;
 mod refined_claim;
 mod refined_writing;
 mod refining;
+mod reordered_checking;
+mod reordered_claim;
+mod reordered_writing;
+mod reordering;
 mod run;
 mod scaling;
 mod snapshot;
 mod steps;
 
+pub use bounds::BoundsRoom;
 pub use checking::{check_claim, number_of};
 pub use claim::Claim;
 pub use deciding::{Decided, Room, decide_into};
@@ -64,5 +74,10 @@ pub use planning::{Planned, plan_into};
 pub use refined_checking::{RefinedFlaw, check_refined, number_of_refined, place_of_refined};
 pub use refined_claim::RefinedClaim;
 pub use refining::{RefinedNumbers, StandingRoom, refine_into, refine_run};
+pub use reordered_checking::{
+    ReorderedClaimFlaw, check_reordered_claim, number_of_reordered, place_of_reordered,
+};
+pub use reordered_claim::ReorderedClaim;
+pub use reordering::{ReorderedNumbers, ReorderedRun, reorder_into, reorder_run};
 pub use run::Run;
 pub use scaling::{ScaleError, scale_loads};

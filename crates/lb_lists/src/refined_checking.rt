@@ -18,6 +18,7 @@ use crate::error::{RefineError, RunError};
 use crate::refined_claim::RefinedClaim;
 use crate::run::Run;
 use crate::snapshot::snapshot_of;
+use crate::steps::pairs_between;
 use chain_refinement::{Heights, Refinement, RefinementFlaw, Steps, Tolerance, check_refinement};
 use chare_index::Limits;
 use lb_certificates::{Cuts, Division, Flaw, Naming, Prices, check_naming};
@@ -41,24 +42,6 @@ pub enum RefinedFlaw {
     OfDecision(Flaw),
 }
 
-// The steps first..end of these lists, without those past the end of the lists.
-fn row_of<A: Allocator>(
-    alloc: A,
-    places: &[u32],
-    rises: &[u64],
-    first: usize,
-    end: usize,
-) -> Result<Steps<A>, AllocError>
-    ensures { IfOk result (λ steps. steps ≡ between first end (zip places.now rises.now)) }
-{
-    let mut steps = Vec::new(alloc);
-    let last = end.min(places.len()).min(rises.len());
-    for i in first..last {
-        steps.push((places[i], rises[i]))?;
-    }
-    Ok(Steps::new(steps))
-}
-
 // The heights that are claimed.
 fn heights_from<A: Allocator + Copy>(
     alloc: A,
@@ -69,13 +52,14 @@ fn heights_from<A: Allocator + Copy>(
     let starts = claim.step_starts;
     let mut rows = Vec::new(alloc);
     for b in 1..starts.len() {
-        rows.push(row_of(
+        let steps = pairs_between(
             alloc,
             claim.step_places,
             claim.step_rises,
             starts[b - 1],
             starts[b],
-        )?)?;
+        )?;
+        rows.push(Steps::new(steps))?;
     }
     Ok(Heights::new(rows))
 }
@@ -376,8 +360,8 @@ pub fn place_of_refined(flaw: RefinedFlaw) -> (u32, u32)
     }
 }
 
-// The same of a flaw of a decision.
-fn place_of(flaw: Flaw) -> (u32, u32)
+/// The same of a flaw of a decision.
+pub(crate) fn place_of(flaw: Flaw) -> (u32, u32)
     ensures { result ≡ flaw_place flaw }
 {
     match flaw {

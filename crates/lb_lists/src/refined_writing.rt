@@ -67,8 +67,8 @@ pub(crate) fn write_planned<A: Allocator>(
     numbers(decided, bottleneck, false, 0)
 }
 
-// The numbers of a decision whose bottleneck was written as the least possible one, with what is reported beside it.
-fn numbers(decided: Decided, bottleneck: u64, near: bool, steps: usize) -> RefinedNumbers
+/// The numbers of a decision whose bottleneck was written as the least possible one, with what is reported beside it.
+pub(crate) fn numbers(decided: Decided, bottleneck: u64, near: bool, steps: usize) -> RefinedNumbers
     ensures least { result.least ≡ decided.bottleneck }
     ensures bottleneck { result.bottleneck ≡ bottleneck }
     ensures moved { result.moved ≡ decided.moved }
@@ -206,8 +206,8 @@ pub(crate) fn write_near<A: Allocator>(
     numbers(decided, bottleneck, true, count)
 }
 
-// Writes these at the front of a list.
-fn write_front<T: Copy>(list: &mut [T], front: &[T])
+/// Writes these at the front of a list.
+pub(crate) fn write_front<T: Copy>(list: &mut [T], front: &[T])
     requires room { length front.now ≤ length list.old }
     ensures written { take (length front.now) list.new ≡ front.now }
     ensures behind { drop (length front.now) list.new ≡ drop (length front.now) list.old }

@@ -115,8 +115,13 @@ fn has_standing_room(room: &StandingRoom<'_>, pes: u32) -> bool
         && room.step_rises.len() == room.step_places.len()
 }
 
-// The same, and whether those of the decision have the lengths that this number of elements needs.
-fn has_refined_room(room: &Room<'_>, standing: &StandingRoom<'_>, elements: usize, pes: u32) -> bool
+/// Whether they do, and those of the decision have the lengths that this number of elements needs.
+pub(crate) fn has_refined_room(
+    room: &Room<'_>,
+    standing: &StandingRoom<'_>,
+    elements: usize,
+    pes: u32,
+) -> bool
     ensures { IsTrue result ↔ HasRefinedRoom elements pes (lists_in room.now) (standing_lists_in standing.now) }
 {
     has_room(room, elements, pes) && has_standing_room(standing, pes)

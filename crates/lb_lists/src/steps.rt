@@ -1,6 +1,7 @@
 //! The steps of heights in plain lists, block after block.
 
 ghost use Rattle.std.specs.Prelude.{◌≡◌, ◌++◌, OnOk, IfOk};
+ghost use Rattle.std.specs.List.{between, zip};
 ghost use Rattle.lb_lists.specs.Steps.{all_steps, first_steps, places_of, rises_of};
 
 use chain_refinement::Steps;
@@ -43,8 +44,30 @@ pub(crate) fn flat_steps<A: Allocator + Copy>(
     })
 }
 
-// Appends these steps to the others.
-fn push_steps<A: Allocator>(
+/// The pairs first..end of these lists, without those past the end of the lists.
+///
+/// # Errors
+///
+/// Out of memory.
+pub(crate) fn pairs_between<A: Allocator>(
+    alloc: A,
+    places: &[u32],
+    rises: &[u64],
+    first: usize,
+    end: usize,
+) -> Result<Vec<(u32, u64), A>, AllocError>
+    ensures { IfOk result (λ pairs. pairs.items ≡ between first end (zip places.now rises.now)) }
+{
+    let mut pairs = Vec::new(alloc);
+    let last = end.min(places.len()).min(rises.len());
+    for i in first..last {
+        pairs.push((places[i], rises[i]))?;
+    }
+    Ok(pairs)
+}
+
+/// Appends these steps to the others.
+pub(crate) fn push_steps<A: Allocator>(
     places: &mut Vec<u32, A>,
     rises: &mut Vec<u64, A>,
     steps: &[(u32, u64)],

@@ -6,4 +6,5 @@ pub mod OneTexts
 pub mod OrderedTexts
 pub mod PeLines
 pub mod RefinedTexts
+pub mod ReorderedTexts
 pub mod RightTexts

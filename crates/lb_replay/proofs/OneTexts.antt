@@ -11,10 +11,10 @@ use Rattle.lb_refinement.proofs.InOrderCases.{one_in_order}
 use Rattle.lb_refinement.proofs.OneRefined.{one_refined}
 use Rattle.lb_strategy.specs.declared.decision.Decision.{Decision}
 use Rattle.lb_strategy.proofs.OneDecisions.{IsSame, one_decision}
-use Rattle.lb_replay.specs.Simulation.{blocks_of, IsDecided, IsInOrder, IsPlanned, IsReplay, IsWithin}
+use Rattle.lb_replay.specs.Simulation.{blocks_of, HasOneText, IsDecided, IsInOrder, IsPlanned, IsReplay, IsWithin}
 use Rattle.lb_replay.specs.Text.{head_line, bottleneck_line, floor_line, block_lines, moved_line, decision_text, text_within}
 use Rattle.lb_replay.specs.declared.way.Way.{Way}
-use Rattle.lb_replay.specs.declared.way.Way.TheVariants.{Least, Within, InOrder}
+use Rattle.lb_replay.specs.declared.way.Way.TheVariants.{Least, Within, InOrder, InAnyOrder}
 use Rattle.lb_replay.proofs.OrderedTexts.{chosen_from_ordered}
 use Rattle.lb_replay.proofs.RefinedTexts.{chosen_from_refined}
 
@@ -57,14 +57,15 @@ module _ {A : Type 0} (s : Taken) (pes tolerance : ℕ) where
       let same : AreSameInOrder this.decision that.decision = one_in_order s.loads s.sizes pes tolerance this.decision that.decision this.refined that.refined in
       this.printed ∙ same_within _ _ _ _ _ _ _ _ least same.cuts same.names same.moved ∙ sym that.printed
 
-one_decided : (A : Type 0) (s : Taken) (blocks : ℕ) (way : Way) (text other : List ℕ) → IsDecided A s blocks way text → IsDecided A s blocks way other → text ≡ other
-one_decided A s blocks Least text other this that = one_planned A s blocks text other this that
-one_decided A s blocks (Within tolerance) text other this that =
+one_decided : (A : Type 0) (s : Taken) (blocks : ℕ) (way : Way) (text other : List ℕ) → HasOneText way → IsDecided A s blocks way text → IsDecided A s blocks way other → text ≡ other
+one_decided A s blocks Least text other one this that = one_planned A s blocks text other this that
+one_decided A s blocks (Within tolerance) text other one this that =
     one_within {A = A} s blocks tolerance text other this that
-one_decided A s blocks (InOrder tolerance) text other this that =
+one_decided A s blocks (InOrder tolerance) text other one this that =
     one_ordered {A = A} s blocks tolerance text other this that
+one_decided A s blocks (InAnyOrder tolerance) text other one this that = absurd one
 
-pub one_text : (A : Type 0) (procs : Option ℕ) (way : Way) (bytes text other : List ℕ) → IsReplay A (Some bytes) procs way text → IsReplay A (Some bytes) procs way other → text ≡ other
-one_text A procs way bytes text other this that =
+pub one_text : (A : Type 0) (procs : Option ℕ) (way : Way) (bytes text other : List ℕ) → HasOneText way → IsReplay A (Some bytes) procs way text → IsReplay A (Some bytes) procs way other → text ≡ other
+one_text A procs way bytes text other one this that =
     let same : that.dump ≡ this.dump = one_dump that.dump this.dump bytes that.read this.read in
-    one_decided A this.dump.snapshot (blocks_of procs this.dump.snapshot) way text other this.decided (subst (λ (d : Dumped A). IsDecided A d.snapshot (blocks_of procs d.snapshot) way other) same that.decided)
+    one_decided A this.dump.snapshot (blocks_of procs this.dump.snapshot) way text other one this.decided (subst (λ (d : Dumped A). IsDecided A d.snapshot (blocks_of procs d.snapshot) way other) same that.decided)

@@ -1,5 +1,5 @@
 -- How a replay of a dump ends, and what its writer has then.
-use Rattle.std.specs.Prelude.{◌≡◌, ℕ, ◌⊎◌, List, Option, Some, None, IfSome, unwrap_or}
+use Rattle.std.specs.Prelude.{◌≡◌, ℕ, ◌≤◌, ◌⊎◌, List, Option, IfSome, unwrap_or}
 use Rattle.std.specs.Io.KnownBytes.{Appends, Consumes, IsAtEnd}
 use Rattle.lb_snapshot.specs.Measured.{Taken}
 use Rattle.lb_certificates.specs.Naming.{IsLeastNaming}
@@ -10,20 +10,22 @@ use Rattle.dump_format.specs.Text.{IsText}
 use Rattle.dump_format.specs.declared.error.DumpError.{DumpError}
 use Rattle.dump_format.specs.declared.error.DumpError.TheVariants.{Read}
 use Rattle.lb_refinement.specs.InOrder.{IsRefinedInOrder}
-use Rattle.lb_refinement.specs.Refined.{IsRefined}
+use Rattle.lb_refinement.specs.Refined.{IsRefined, refined_moved}
 use Rattle.lb_refinement.specs.declared.in_order.RefinedInOrder.{RefinedInOrder}
 use Rattle.lb_refinement.specs.declared.refined.Refined.{Refined}
+use Rattle.lb_any_order.specs.Reorderings.{IsReordering, reordering_moved}
+use Rattle.lb_any_order.specs.declared.reordering.Reordering.{Reordering}
 use Rattle.lb_strategy.specs.Decisions.{IsRight}
 use Rattle.lb_strategy.specs.declared.decision.Decision.{Decision}
 use Rattle.lb_strategy.specs.declared.error.PlanError.{PlanError}
 use Rattle.streams.specs.Writing.{WritesPrefix}
-use Rattle.lb_replay.specs.Text.{decision_text, fault_line, ordered_text, refined_text}
+use Rattle.lb_replay.specs.Text.{decision_text, fault_line, ordered_text, refined_text, reordering_text}
 use Rattle.lb_replay.specs.declared.ended.Ended.{Ended}
 use Rattle.lb_replay.specs.declared.ended.Ended.TheVariants.{Printed, WriteFailed}
 use Rattle.lb_replay.specs.declared.fault.Fault.{Fault}
 use Rattle.lb_replay.specs.declared.fault.Fault.TheVariants.{Dump, Plan, Flawed, NoDecision}
 use Rattle.lb_replay.specs.declared.way.Way.{Way}
-use Rattle.lb_replay.specs.declared.way.Way.TheVariants.{Least, Within, InOrder}
+use Rattle.lb_replay.specs.declared.way.Way.TheVariants.{Least, Within, InOrder, InAnyOrder}
 
 -- the number of blocks: the one asked for, or otherwise that of the dump
 abbrev pub blocks_of : Option ℕ → Taken → ℕ
@@ -49,11 +51,25 @@ pub record IsInOrder (A : Type 0) (s : Taken) (blocks tolerance : ℕ) (text : L
   pub refined : IsRefinedInOrder s.loads s.sizes blocks tolerance decision
   pub printed : text ≡ ordered_text s blocks tolerance decision
 
+-- This is the text of a decision on the snapshot within the tolerance in any order of the PEs, which moves no more bytes than the
+-- one where that is not asked for.
+pub record IsInAnyOrder (A : Type 0) (s : Taken) (blocks tolerance : ℕ) (text : List ℕ) : Type 0 where
+  pub decision : Reordering A
+  pub reordering : IsReordering s.loads s.sizes blocks tolerance decision
+  pub no_more : (other : Refined A) → IsRefined s.loads s.sizes blocks tolerance other → reordering_moved decision ≤ refined_moved other
+  pub printed : text ≡ reordering_text s blocks tolerance decision
+
 -- the text of the decision that is made in this way
 abbrev pub IsDecided : (A : Type 0) → Taken → ℕ → Way → List ℕ → Type 0
 IsDecided A s blocks Least text = IsPlanned A s blocks text
 IsDecided A s blocks (Within tolerance) text = IsWithin A s blocks tolerance text
 IsDecided A s blocks (InOrder tolerance) text = IsInOrder A s blocks tolerance text
+IsDecided A s blocks (InAnyOrder tolerance) text = IsInAnyOrder A s blocks tolerance text
+
+-- The snapshot determines what is printed. Only in any order of the PEs several decisions may move the fewest bytes.
+abbrev pub HasOneText : Way → Type 0
+HasOneText (InAnyOrder tolerance) = ⊥
+HasOneText _ = Unit {0}
 
 -- This is such a text for the snapshot of the dump that the bytes are a text of. A decision in the dump does not matter. Where
 -- the reader does not report its bytes, it is so for some dump.

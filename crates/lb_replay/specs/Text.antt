@@ -15,6 +15,9 @@ use Rattle.lb_refinement.specs.InOrder.{ordered_cuts, ordered_least, ordered_mov
 use Rattle.lb_refinement.specs.Refined.{refined_cuts, refined_least, refined_moved, refined_names}
 use Rattle.lb_refinement.specs.declared.in_order.RefinedInOrder.{RefinedInOrder}
 use Rattle.lb_refinement.specs.declared.refined.Refined.{Refined}
+use Rattle.lb_any_order.specs.Reorderings.{reordering_cuts, reordering_division, reordering_moved, reordering_names}
+use Rattle.lb_any_order.specs.declared.reordering.Reordering.{Reordering}
+use Rattle.lb_any_order.specs.declared.reordering.Reordering.TheVariants.{InAnyOrder, InOrder}
 use Rattle.lb_strategy.specs.declared.decision.Decision.{Decision}
 use Rattle.lb_certificates.specs.declared.division.Division.{Division}
 use Rattle.lb_certificates.specs.declared.division.Floor.{Floor}
@@ -92,6 +95,16 @@ refined_text s pes tolerance r =
 abbrev pub ordered_text : {A : Type 0} → Taken → ℕ → ℕ → RefinedInOrder A → List ℕ
 ordered_text s pes tolerance r =
     text_within s pes tolerance (ordered_least r) (ordered_cuts r) (ordered_names r) (ordered_moved r)
+
+-- reordered yes where no cuts within the limit and no names move fewer bytes, and otherwise reordered no
+abbrev pub reordered_line : {A : Type 0} → Reordering A → List ℕ
+reordered_line (InAnyOrder f) = codes "reordered yes" ++ newline
+reordered_line (InOrder r) = codes "reordered no" ++ newline
+
+-- the text of a decision in any order of the PEs, with that line behind the limit
+abbrev pub reordering_text : {A : Type 0} → Taken → ℕ → ℕ → Reordering A → List ℕ
+reordering_text s pes tolerance r =
+    head_line s.step pes (length s.loads) ++ bottleneck_line (reordering_division r).bottleneck ++ floor_line (reordering_division r).floor ++ limit_line (limit_of (reordering_division r).bottleneck tolerance) ++ reordered_line r ++ block_lines s.loads (reordering_cuts r) (reordering_names r) pes ++ moved_line (reordering_moved r)
 
 -- the one line for out of memory
 abbrev pub memory_line : List ℕ

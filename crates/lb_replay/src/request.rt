@@ -1,6 +1,6 @@
 ghost use Rattle.std.specs.Option.{ForSome};
 ghost use Rattle.std.specs.Prelude.{◌≡◌, ◌≤◌, ℕ, List, Option, Some, IfOk, IfErr, IfSome};
-ghost use Rattle.lb_replay.specs.Requests.{EndsTask, MayRun, task_of};
+ghost use Rattle.lb_replay.specs.Requests.{EndsTask, MayRun, check_of, task_of};
 ghost use Rattle.lb_replay.specs.Simulation.{ReportsUnread};
 
 use crate::ended::Ended;
@@ -24,6 +24,8 @@ pub struct Asked<'a> {
     pub tolerance: Option<u32>,
     /// Whether the PEs are to keep their order.
     pub keep_order: bool,
+    /// Whether the PEs may change their order, so that the fewest bytes move.
+    pub any_order: bool,
     /// Whether the recorded decision is to be checked.
     pub check: bool,
 }
@@ -37,6 +39,8 @@ pub enum Task {
     Refine(Option<u32>, u32),
     /// The same, and the PEs keep their order.
     RefineInOrder(Option<u32>, u32),
+    /// Within this tolerance, where the PEs may change their order.
+    RefineInAnyOrder(Option<u32>, u32),
     /// Its decision is checked.
     Check,
 }
@@ -52,6 +56,12 @@ pub enum Clash {
     KeepOrderAndCheck,
     /// An order that is to be kept, and no tolerance within which it can be.
     KeepOrderAlone,
+    /// Any order of the PEs, and a check, which decides nothing.
+    AnyOrderAndCheck,
+    /// Any order of the PEs, and no tolerance within which it may be.
+    AnyOrderAlone,
+    /// An order that is to be kept, and any order.
+    KeepOrderAndAnyOrder,
 }
 
 impl Asked<'_> {
@@ -59,24 +69,43 @@ impl Asked<'_> {
     ///
     /// # Errors
     ///
-    /// A check is asked for, and a number of PEs too, or a tolerance, or that the order is kept; or the order is to be kept without a
-    /// tolerance.
+    /// A check is asked for, and a number of PEs too, or a tolerance, or that the order is kept, or any order; or the order is to be
+    /// kept, or may be any, without a tolerance; or both of these with one.
     pub fn task(self) -> Result<Task, Clash>
-        ensures value { result ≡ task_of self.entry.procs self.entry.tolerance self.entry.keep_order self.entry.check }
+        ensures value { result ≡ task_of self.entry.procs self.entry.tolerance self.entry.keep_order self.entry.any_order self.entry.check }
         ensures may_run { ForSome self.entry.procs (λ p. 1 ≤ p) → ForSome self.entry.procs (λ p. p ≤ Limits.PES)
             → ForSome self.entry.tolerance (λ t. t ≤ Tolerance.MOST) → IfOk result MayRun }
     {
-        match (self.check, (self.procs, (self.tolerance, self.keep_order))) {
-            (false, (procs, (None, false))) => Ok(Task::Replay(procs)),
-            (false, (_, (None, true))) => Err(Clash::KeepOrderAlone),
-            (false, (procs, (Some(thousandths), false))) => Ok(Task::Refine(procs, thousandths)),
-            (false, (procs, (Some(thousandths), true))) => {
-                Ok(Task::RefineInOrder(procs, thousandths))
-            }
-            (true, (Some(_), _)) => Err(Clash::ProcsAndCheck),
-            (true, (None, (Some(_), _))) => Err(Clash::ToleranceAndCheck),
-            (true, (None, (None, true))) => Err(Clash::KeepOrderAndCheck),
-            (true, (None, (None, false))) => Ok(Task::Check),
+        if self.check {
+            return self.check_task();
+        }
+        match (
+            self.procs,
+            (self.tolerance, (self.keep_order, self.any_order)),
+        ) {
+            (procs, (None, (false, false))) => Ok(Task::Replay(procs)),
+            (_, (None, (true, _))) => Err(Clash::KeepOrderAlone),
+            (_, (None, (false, true))) => Err(Clash::AnyOrderAlone),
+            (procs, (Some(t), (false, false))) => Ok(Task::Refine(procs, t)),
+            (procs, (Some(t), (true, false))) => Ok(Task::RefineInOrder(procs, t)),
+            (procs, (Some(t), (false, true))) => Ok(Task::RefineInAnyOrder(procs, t)),
+            (_, (Some(_), (true, true))) => Err(Clash::KeepOrderAndAnyOrder),
+        }
+    }
+
+    // A check, which no other option goes with.
+    fn check_task(self) -> Result<Task, Clash>
+        ensures { result ≡ check_of self.entry.procs self.entry.tolerance self.entry.keep_order self.entry.any_order }
+    {
+        match (
+            self.procs,
+            (self.tolerance, (self.keep_order, self.any_order)),
+        ) {
+            (Some(_), _) => Err(Clash::ProcsAndCheck),
+            (None, (Some(_), _)) => Err(Clash::ToleranceAndCheck),
+            (None, (None, (true, _))) => Err(Clash::KeepOrderAndCheck),
+            (None, (None, (false, true))) => Err(Clash::AnyOrderAndCheck),
+            (None, (None, (false, false))) => Ok(Task::Check),
         }
     }
 }
@@ -102,6 +131,10 @@ pub fn run<A: Allocator + Copy, R: Read + Drop, W: Write>(
         }
         Task::RefineInOrder(procs, thousandths) => {
             let way = Way::InOrder(tolerance_of(thousandths));
+            replay_file(alloc, file, writer, procs, way)
+        }
+        Task::RefineInAnyOrder(procs, thousandths) => {
+            let way = Way::InAnyOrder(tolerance_of(thousandths));
             replay_file(alloc, file, writer, procs, way)
         }
         Task::Check => verify_file(alloc, file, writer),

@@ -5,15 +5,16 @@ ghost use Rattle.lb_strategy.specs.declared.error.PlanError.TheVariants.{OutOfMe
 ghost use Rattle.lb_replay.specs.Text.{fault_line};
 ghost use Rattle.lb_replay.specs.declared.fault.Fault.TheVariants.{Plan};
 ghost use Rattle.lb_replay.specs.Internal.{without_memory};
-ghost use Rattle.lb_replay.specs.Simulation.{EndsReplay, IsDecided, IsInOrder, IsPlanned, IsReplay, IsReplayFault, IsWithin, ReportsFault, ReportsUnread};
+ghost use Rattle.lb_replay.specs.Simulation.{EndsReplay, HasOneText, IsDecided, IsInAnyOrder, IsInOrder, IsPlanned, IsReplay, IsReplayFault, IsWithin, ReportsFault, ReportsUnread};
 
 use crate::ended::Ended;
 use crate::fault::{Fault, NO_MEMORY, fault_line};
-use crate::text::{decision_text, ordered_text, refined_text};
+use crate::text::{decision_text, ordered_text, refined_text, reordering_text};
 use crate::way::Way;
 use chain_refinement::Tolerance;
 use chare_index::Limits;
 use dump_format::DumpError;
+use lb_any_order::refine_in_any_order;
 use lb_dump::read_from;
 use lb_refinement::{refine, refine_keeping_order};
 use lb_snapshot::Snapshot;
@@ -24,12 +25,13 @@ use streams::{Noted, write_out};
 
 /// Replays a dump offline: reads it, decides its balancing step for `procs` PEs (1 to 256), or for the number of PEs of the
 /// dump, and writes the text of the decision, or the one line of a fault, and nothing else. The way says which decision that is: the
-/// least one, that of [`plan`], or the one within a tolerance, that of [`refine`] or of [`refine_keeping_order`]. A decision in
-/// the dump is read, and ignored.
+/// least one, that of [`plan`], or the one within a tolerance, that of [`refine`], of [`refine_keeping_order`] or of
+/// [`refine_in_any_order`]. A decision in the dump is read, and ignored.
 ///
 /// Out of memory is a fault of the dump while that is read, and a fault of the plan after that. The line is the same.
 ///
-/// What is printed is a function of the bytes read, the number of PEs and the way: the clause `one_text`.
+/// What is printed is a function of the bytes read, the number of PEs and the way: the clause `one_text`. Only in any order of the PEs
+/// that is not proved: several decisions may move the fewest bytes.
 pub fn simulate<A: Allocator + Copy, R: Read, W: Write>(
     alloc: A,
     reader: &mut R,
@@ -40,7 +42,7 @@ pub fn simulate<A: Allocator + Copy, R: Read, W: Write>(
     requires some_pe { ForSome procs (λ p. 1 ≤ p) }
     requires few_pes { ForSome procs (λ p. p ≤ Limits.PES) }
     ensures ends { EndsReplay A (R.remaining reader.old) (R.remaining reader.new) procs way (W.contents writer.old) (W.contents writer.new) result }
-    ensures one_text { (bytes text other : List ℕ) → IsReplay A (Some bytes) procs way text
+    ensures one_text { (bytes text other : List ℕ) → HasOneText way → IsReplay A (Some bytes) procs way text
         → IsReplay A (Some bytes) procs way other → text ≡ other }
 {
     match replay(alloc, reader, procs, way) {
@@ -119,6 +121,7 @@ fn decided_text<A: Allocator + Copy, B: Allocator>(
         Way::Least => planned_text(alloc, snapshot, pes),
         Way::Within(tolerance) => text_within(alloc, snapshot, pes, tolerance),
         Way::InOrder(tolerance) => text_in_order(alloc, snapshot, pes, tolerance),
+        Way::InAnyOrder(tolerance) => text_in_any_order(alloc, snapshot, pes, tolerance),
     }
 }
 
@@ -154,6 +157,24 @@ fn text_in_order<A: Allocator + Copy, B: Allocator>(
 {
     match refine_keeping_order(alloc, snapshot, pes, tolerance) {
         Ok(decision) => ordered_text(alloc, snapshot, pes, tolerance, &decision),
+        Err(_) => Err(Fault::Plan(PlanError::OutOfMemory)),
+    }
+}
+
+// The text of the decision within a tolerance in any order of the PEs, or out of memory.
+fn text_in_any_order<A: Allocator + Copy, B: Allocator>(
+    alloc: A,
+    snapshot: &Snapshot<B>,
+    pes: u32,
+    tolerance: Tolerance,
+) -> Result<String<A>, Fault>
+    requires some_pe { 1 ≤ pes }
+    requires few_pes { pes ≤ Limits.PES }
+    ensures text { IfOk result (λ text. IsInAnyOrder A snapshot.now pes tolerance (string_bytes text)) }
+    ensures fault { IfErr result (λ fault. fault ≡ Plan OutOfMemory) }
+{
+    match refine_in_any_order(alloc, snapshot, pes, tolerance) {
+        Ok(decision) => reordering_text(alloc, snapshot, pes, tolerance, &decision),
         Err(_) => Err(Fault::Plan(PlanError::OutOfMemory)),
     }
 }

@@ -9,4 +9,6 @@ pub enum Way {
     Within(Tolerance),
     /// The same, and the PEs keep their order: [`refine_keeping_order`](lb_refinement::refine_keeping_order).
     InOrder(Tolerance),
+    /// Within this tolerance, where the PEs may change their order: [`refine_in_any_order`](lb_any_order::refine_in_any_order).
+    InAnyOrder(Tolerance),
 }

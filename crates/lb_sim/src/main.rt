@@ -1,7 +1,8 @@
-//! `lb_sim [--procs P] [--tolerance T] [--keep-order] [--check] FILE` replays a dump of the load database offline: it prints the
-//! least division of the elements into consecutive blocks, with the fence that proves it, the PE of each block and the bytes that
-//! move. With `--tolerance` the blocks may weigh up to a limit above the least load, and fewer bytes move; with `--keep-order` the
-//! PEs then keep their order. With `--check` it prints instead whether the decision in the dump is right.
+//! `lb_sim [--procs P] [--tolerance T] [--keep-order] [--any-order] [--check] FILE` replays a dump of the load database offline: it
+//! prints the least division of the elements into consecutive blocks, with the fence that proves it, the PE of each block and the
+//! bytes that move. With `--tolerance` the blocks may weigh up to a limit above the least load, and fewer bytes move; with
+//! `--keep-order` the PEs then keep their order, and with `--any-order` they may change it, so that the fewest bytes move. With
+//! `--check` it prints instead whether the decision in the dump is right.
 //!
 //! - `program_words::on_words`: the arguments of the command line, and the status. `sim_command_line::asked`: what the
 //!   arguments ask for; `program_words::refused`: the status where they ask for nothing to be done.

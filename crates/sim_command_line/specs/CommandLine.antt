@@ -1,12 +1,12 @@
 -- What the arguments of a command line ask for, as clap reads them: `lb_sim [--procs P] [--tolerance T] [--keep-order]
--- [--check] FILE`.
-use Rattle.std.specs.Prelude.{ℕ, ◌≡◌, ◌≤◌, List, [], ◌∷◌, ◌++◌, Option, None, Some, codes, pos, true}
+-- [--any-order] [--check] FILE`.
+use Rattle.std.specs.Prelude.{ℕ, ◌≡◌, ◌≤◌, List, [], ◌∷◌, ◌++◌, Option, None, Some, codes, pos}
 use Rattle.std.specs.Str.Parse.{IsNumeral, digits_value, without_leading_plus}
 use Rattle.clap.specs.Words.{App, Rule, Text, first_of, matches_of, one_of, with_rule}
 use Rattle.clap.specs.declared.builder.value_parser.ValueParser.TheVariants.{Signed}
 use Rattle.chare_index.specs.declared.limits.TheConstants.Limits.{PES}
 use Rattle.lb_replay.specs.declared.request.Clash.{Clash}
-use Rattle.lb_replay.specs.declared.request.Clash.TheVariants.{ProcsAndCheck, ToleranceAndCheck, KeepOrderAndCheck, KeepOrderAlone}
+use Rattle.lb_replay.specs.declared.request.Clash.TheVariants.{ProcsAndCheck, ToleranceAndCheck, KeepOrderAndCheck, KeepOrderAlone, AnyOrderAndCheck, AnyOrderAlone, KeepOrderAndAnyOrder}
 use Rattle.program_words.specs.Arguments.{file_rule, flag_rule, tolerance_rule, versioned, word_rule}
 
 -- a number of PEs in place of the dump's own
@@ -17,6 +17,10 @@ procs_rule = record (word_rule (codes "procs")) { parser = Some (Signed (pos 1) 
 abbrev pub keep_order_rule : Rule
 keep_order_rule = flag_rule (codes "keep-order")
 
+-- another: the PEs may change their order
+abbrev pub any_order_rule : Rule
+any_order_rule = flag_rule (codes "any-order")
+
 -- another: the decision in the dump is to be checked
 abbrev pub check_rule : Rule
 check_rule = flag_rule (codes "check")
@@ -24,7 +28,7 @@ check_rule = flag_rule (codes "check")
 -- the program with its arguments, to which clap adds those that ask for help and for the version
 abbrev pub program : App
 program =
-    with_rule (with_rule (with_rule (with_rule (with_rule (versioned (codes "lb_sim")) file_rule) procs_rule) tolerance_rule) keep_order_rule) check_rule
+    with_rule (with_rule (with_rule (with_rule (with_rule (with_rule (versioned (codes "lb_sim")) file_rule) procs_rule) tolerance_rule) keep_order_rule) any_order_rule) check_rule
 
 -- the argument that names the file
 abbrev pub file_in : List Text → Option Text
@@ -50,9 +54,16 @@ AsksCheck words = one_of (codes "check") (matches_of program words) ≡ Some (co
 abbrev pub AsksKeepOrder : List Text → Type 0
 AsksKeepOrder words = one_of (codes "keep-order") (matches_of program words) ≡ Some (codes "true")
 
--- the line where a check is asked for, and also a number of PEs, a tolerance or an order that is kept; or such an order alone
+abbrev pub AsksAnyOrder : List Text → Type 0
+AsksAnyOrder words = one_of (codes "any-order") (matches_of program words) ≡ Some (codes "true")
+
+-- the line where a check is asked for, and also a number of PEs, a tolerance, an order that is kept or any order; or such an order
+-- without a tolerance; or both with one
 abbrev pub both_line : Clash → List ℕ
 both_line ProcsAndCheck = codes "lb_sim: --procs and --check" ++ 10 ∷ []
 both_line ToleranceAndCheck = codes "lb_sim: --tolerance and --check" ++ 10 ∷ []
 both_line KeepOrderAndCheck = codes "lb_sim: --keep-order and --check" ++ 10 ∷ []
 both_line KeepOrderAlone = codes "lb_sim: --keep-order without --tolerance" ++ 10 ∷ []
+both_line AnyOrderAndCheck = codes "lb_sim: --any-order and --check" ++ 10 ∷ []
+both_line AnyOrderAlone = codes "lb_sim: --any-order without --tolerance" ++ 10 ∷ []
+both_line KeepOrderAndAnyOrder = codes "lb_sim: --keep-order and --any-order" ++ 10 ∷ []

@@ -24,6 +24,9 @@ fence S0 S1 ..            proves that: from each stop to the next, both
                           included, the elements weigh B or more
 limit L                   with --tolerance T the most that a block may weigh:
                           B and T thousandths of it
+reordered yes             with --any-order: no cuts within L, for processors in
+                          any order, move fewer bytes; no: the decision is
+                          the one without --any-order
 block b I..J load L pe P  the elements I to J - 1 go to PE P; - for no element
 moved M                   the bytes that move
 

@@ -6,7 +6,7 @@ ghost use Rattle.clap.specs.Words.{FailsBy, app_of, fault_of, first_value, found
 ghost use Rattle.clap.specs.declared.builder.value_parser.ValueParser.TheVariants.{Signed};
 ghost use Rattle.program_words.specs.Arguments.{NamesFile, SpellsTolerance, file_rule, tolerance_rule};
 ghost use Rattle.streams.specs.Writing.{WritesPrefix};
-ghost use Rattle.sim_command_line.specs.CommandLine.{AsksCheck, AsksKeepOrder, Spells, both_line, check_rule, file_in, keep_order_rule, procs_in, procs_rule};
+ghost use Rattle.sim_command_line.specs.CommandLine.{AsksAnyOrder, AsksCheck, AsksKeepOrder, Spells, any_order_rule, both_line, check_rule, file_in, keep_order_rule, procs_in, procs_rule};
 ghost use Rattle.sim_command_line.specs.CommandLine.{program, tolerance_in};
 
 use crate::help::{ABOUT, HOW_TO};
@@ -32,6 +32,15 @@ const KEEP_ORDER_AND_CHECK: &str = "lb_sim: --keep-order and --check\n";
 /// What is printed where an order is to be kept, and no tolerance is given.
 const KEEP_ORDER_ALONE: &str = "lb_sim: --keep-order without --tolerance\n";
 
+/// What is printed where both a check and any order are asked for.
+const ANY_ORDER_AND_CHECK: &str = "lb_sim: --any-order and --check\n";
+
+/// What is printed where any order is asked for, and no tolerance is given.
+const ANY_ORDER_ALONE: &str = "lb_sim: --any-order without --tolerance\n";
+
+/// What is printed where an order is to be kept, and may be any.
+const KEEP_ORDER_AND_ANY_ORDER: &str = "lb_sim: --keep-order and --any-order\n";
+
 /// Writes which two options cannot be combined, or which one needs another, and returns the status for that, [`NO_WORDS`].
 pub fn refuse_both<W: Write>(writer: &mut W, clash: Clash) -> u8
     ensures told { WritesPrefix (W.contents writer.old) (W.contents writer.new) (both_line clash) }
@@ -50,6 +59,9 @@ fn line_of(clash: Clash) -> &'static str
         Clash::ToleranceAndCheck => TOLERANCE_AND_CHECK,
         Clash::KeepOrderAndCheck => KEEP_ORDER_AND_CHECK,
         Clash::KeepOrderAlone => KEEP_ORDER_ALONE,
+        Clash::AnyOrderAndCheck => ANY_ORDER_AND_CHECK,
+        Clash::AnyOrderAlone => ANY_ORDER_ALONE,
+        Clash::KeepOrderAndAnyOrder => KEEP_ORDER_AND_ANY_ORDER,
     }
 }
 
@@ -57,16 +69,18 @@ fn line_of(clash: Clash) -> &'static str
 ///
 /// # Errors
 ///
-/// The arguments are not `[--procs P] [--tolerance T] [--keep-order] [--check] FILE` with a P of 1 to 256 (`Limits::PES`) and a T of
-/// 0 to 1,000 (`Tolerance::MOST`), help or the version is asked for, or memory ran out. The error has the text to print;
-/// [`words_status`] is the status for it. Arguments that ask for a check and also for another of these, or for an order that is
-/// kept and for no tolerance, are no error here: [`Asked::task`] returns the [`Clash`].
+/// The arguments are not `[--procs P] [--tolerance T] [--keep-order] [--any-order] [--check] FILE` with a P of 1 to 256
+/// (`Limits::PES`) and a T of 0 to 1,000 (`Tolerance::MOST`), help or the version is asked for, or memory ran out. The error has
+/// the text to print; [`words_status`] is the status for it. Arguments that ask for a check and also for another of these, for an
+/// order that is kept or any order and for no tolerance, or for both orders, are no error here: [`Asked::task`] returns the
+/// [`Clash`].
 pub fn asked<'a>(alloc: Global, words: &'a [&'a str]) -> Result<Asked<'a>, Error>
     ensures faults { FailsBy (fault_of program (texts words.now)) result }
     ensures file { IfOk result (λ asked. file_in (texts words.now) ≡ Some asked.file.now) }
     ensures procs { IfOk result (λ asked. (n : ℕ) → (asked.procs ≡ Some n) ↔ Spells (procs_in (texts words.now)) n) }
     ensures tolerance { IfOk result (λ asked. (n : ℕ) → (asked.tolerance ≡ Some n) ↔ SpellsTolerance (tolerance_in (texts words.now)) n) }
     ensures keep_order { IfOk result (λ asked. IsTrue asked.keep_order ↔ AsksKeepOrder (texts words.now)) }
+    ensures any_order { IfOk result (λ asked. IsTrue asked.any_order ↔ AsksAnyOrder (texts words.now)) }
     ensures check { IfOk result (λ asked. IsTrue asked.check ↔ AsksCheck (texts words.now)) }
     ensures some_pe { IfOk result (λ asked. ForSome asked.procs (λ p. 1 ≤ p)) }
     ensures few_pes { IfOk result (λ asked. ForSome asked.procs (λ p. p ≤ Limits.PES)) }
@@ -78,8 +92,8 @@ pub fn asked<'a>(alloc: Global, words: &'a [&'a str]) -> Result<Asked<'a>, Error
     }
 }
 
-// The arguments that are understood: `lb_sim [--procs P] [--tolerance T] [--keep-order] [--check] FILE`, and those for help and
-// for the version, which clap adds.
+// The arguments that are understood: `lb_sim [--procs P] [--tolerance T] [--keep-order] [--any-order] [--check] FILE`, and those for
+// help and for the version, which clap adds.
 fn command<'a>(alloc: Global) -> Result<Command<'a>, AllocError>
     ensures program { IfOk result (λ command. app_of command ≡ program) }
     ensures named { IfOk result NamesFile }
@@ -89,6 +103,7 @@ fn command<'a>(alloc: Global) -> Result<Command<'a>, AllocError>
     let command = command.arg(procs(alloc))?;
     let command = command.arg(tolerance(alloc))?;
     let command = command.arg(keep_order(alloc))?;
+    let command = command.arg(any_order(alloc))?;
     command.arg(check(alloc))
 }
 
@@ -131,6 +146,19 @@ fn keep_order<'a>(alloc: Global) -> Arg<'a>
     )
 }
 
+fn any_order<'a>(alloc: Global) -> Arg<'a>
+    ensures rule { rule_of result ≡ any_order_rule }
+    ensures fits { FitsChain result }
+{
+    flag(
+        alloc,
+        "any-order",
+        "With --tolerance: the processors may change their order along{n}\
+         the chain, so that the fewest bytes move. It does not go with{n}\
+         --keep-order nor with --check",
+    )
+}
+
 fn check<'a>(alloc: Global) -> Arg<'a>
     ensures rule { rule_of result ≡ check_rule }
     ensures fits { FitsChain result }
@@ -157,6 +185,7 @@ fn found<'a>(matches: &ArgMatches<'a>) -> Asked<'a>
     ensures procs { (n : ℕ) → (result.procs ≡ Some n) ↔ Spells (one_text (found_of matches.now) (codes "procs")) n }
     ensures tolerance { (n : ℕ) → (result.tolerance ≡ Some n) ↔ SpellsTolerance (one_text (found_of matches.now) (codes "tolerance")) n }
     ensures keep_order { IsTrue result.keep_order ↔ (one_text (found_of matches.now) (codes "keep-order") ≡ Some (codes "true")) }
+    ensures any_order { IsTrue result.any_order ↔ (one_text (found_of matches.now) (codes "any-order") ≡ Some (codes "true")) }
     ensures check { IsTrue result.check ↔ (one_text (found_of matches.now) (codes "check") ≡ Some (codes "true")) }
     ensures some_pe { ForSome result.procs (λ p. 1 ≤ p) }
     ensures few_pes { ForSome result.procs (λ p. p ≤ Limits.PES) }
@@ -167,6 +196,7 @@ fn found<'a>(matches: &ArgMatches<'a>) -> Asked<'a>
         procs: number_in(matches),
         tolerance: tolerance_in(matches),
         keep_order: matches.get_one("keep-order") == Some(true),
+        any_order: matches.get_one("any-order") == Some(true),
         check: matches.get_one("check") == Some(true),
     }
 }

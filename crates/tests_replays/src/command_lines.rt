@@ -6,20 +6,20 @@ use program_words::words_status;
 use sim_command_line::{asked, refuse_both};
 use std::alloc::Global;
 
-// Arguments, the file, the number of PEs and the tolerance that they ask for, whether they ask for an order that is kept and for a
-// check, and why these options cannot be combined.
+// Arguments, the file, the number of PEs and the tolerance that they ask for, whether they ask for an order that is kept, for any
+// order and for a check, and why these options cannot be combined.
 type Asking = (
     &'static [&'static str],
     &'static str,
     Option<u32>,
     Option<u32>,
-    (bool, bool),
+    (bool, bool, bool),
     Option<Clash>,
 );
 
 // Whether they ask for this, which can be done or not.
 fn is_asked(alloc: Global, row: &Asking) -> bool {
-    let &(words, file, procs, tolerance, (keep_order, check), clash) = row;
+    let &(words, file, procs, tolerance, (keep_order, any_order, check), clash) = row;
     let Ok(asked) = asked(alloc, words) else {
         return false;
     };
@@ -28,14 +28,15 @@ fn is_asked(alloc: Global, row: &Asking) -> bool {
         procs,
         tolerance,
         keep_order,
+        any_order,
         check,
     };
     asked == expected && asked.task().err() == clash
 }
 
-const PLAIN: (bool, bool) = (false, false);
+const PLAIN: (bool, bool, bool) = (false, false, false);
 
-static ASKING: [Asking; 13] = [
+static ASKING: [Asking; 18] = [
     (&["lb_sim", "f"], "f", None, None, PLAIN, None),
     (
         &["lb_sim", "--procs", "2", "f"],
@@ -90,7 +91,7 @@ static ASKING: [Asking; 13] = [
         "f",
         None,
         None,
-        (false, true),
+        (false, false, true),
         None,
     ),
     (
@@ -98,7 +99,7 @@ static ASKING: [Asking; 13] = [
         "f",
         Some(2),
         None,
-        (false, true),
+        (false, false, true),
         Some(Clash::ProcsAndCheck),
     ),
     (
@@ -106,7 +107,7 @@ static ASKING: [Asking; 13] = [
         "f",
         None,
         Some(20),
-        (false, true),
+        (false, false, true),
         Some(Clash::ToleranceAndCheck),
     ),
     (
@@ -114,7 +115,7 @@ static ASKING: [Asking; 13] = [
         "f",
         None,
         Some(20),
-        (true, false),
+        (true, false, false),
         None,
     ),
     (
@@ -122,7 +123,7 @@ static ASKING: [Asking; 13] = [
         "f",
         None,
         None,
-        (true, false),
+        (true, false, false),
         Some(Clash::KeepOrderAlone),
     ),
     (
@@ -130,8 +131,54 @@ static ASKING: [Asking; 13] = [
         "f",
         None,
         None,
-        (true, true),
+        (true, false, true),
         Some(Clash::KeepOrderAndCheck),
+    ),
+    (
+        &["lb_sim", "--any-order", "--tolerance", "20", "f"],
+        "f",
+        None,
+        Some(20),
+        (false, true, false),
+        None,
+    ),
+    (
+        &["lb_sim", "f", "--any-order"],
+        "f",
+        None,
+        None,
+        (false, true, false),
+        Some(Clash::AnyOrderAlone),
+    ),
+    (
+        &["lb_sim", "--any-order", "--keep-order", "f"],
+        "f",
+        None,
+        None,
+        (true, true, false),
+        Some(Clash::KeepOrderAlone),
+    ),
+    (
+        &["lb_sim", "--any-order", "--check", "f"],
+        "f",
+        None,
+        None,
+        (false, true, true),
+        Some(Clash::AnyOrderAndCheck),
+    ),
+    (
+        &[
+            "lb_sim",
+            "--any-order",
+            "--keep-order",
+            "f",
+            "--tolerance=0",
+        ],
+        "f",
+        None,
+        Some(0),
+        (true, true, false),
+        Some(Clash::KeepOrderAndAnyOrder),
     ),
 ];
 
@@ -183,7 +230,7 @@ fn is_told(rt: &impl AllocGlobal, clash: Clash, line: &str) -> bool {
     right
 }
 
-static CLASHES: [(Clash, &str); 4] = [
+static CLASHES: [(Clash, &str); 7] = [
     (Clash::ProcsAndCheck, "lb_sim: --procs and --check\n"),
     (
         Clash::ToleranceAndCheck,
@@ -196,6 +243,15 @@ static CLASHES: [(Clash, &str); 4] = [
     (
         Clash::KeepOrderAlone,
         "lb_sim: --keep-order without --tolerance\n",
+    ),
+    (Clash::AnyOrderAndCheck, "lb_sim: --any-order and --check\n"),
+    (
+        Clash::AnyOrderAlone,
+        "lb_sim: --any-order without --tolerance\n",
+    ),
+    (
+        Clash::KeepOrderAndAnyOrder,
+        "lb_sim: --keep-order and --any-order\n",
     ),
 ];
 

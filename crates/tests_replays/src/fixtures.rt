@@ -79,6 +79,10 @@ pub(crate) fn ended<R: Read, W: Write>(
             let way = Way::InOrder(Tolerance::new(thousandths).unwrap());
             simulate(alloc, reader, writer, procs, way)
         }
+        Task::RefineInAnyOrder(procs, thousandths) => {
+            let way = Way::InAnyOrder(Tolerance::new(thousandths).unwrap());
+            simulate(alloc, reader, writer, procs, way)
+        }
         Task::Check => verify(alloc, reader, writer),
     }
 }

@@ -4,6 +4,8 @@
 #![tactic(auto)]
 
 #[cfg(test)]
+mod any_orders;
+#[cfg(test)]
 mod command_lines;
 #[cfg(test)]
 mod failures;

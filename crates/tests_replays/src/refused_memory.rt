@@ -1,7 +1,8 @@
 //! Each request of a replay, and of a check, for memory is refused in turn.
 
+use crate::any_orders::EIGHT;
 use crate::fixtures::{DECIDED, RIGHT, TEXT, assert_for};
-use crate::tolerances::{TEN, WITHIN};
+use crate::tolerances::{FOUR, TEN, WITHIN};
 use chain_refinement::Tolerance;
 use dump_format::DumpError;
 use lb_replay::{Ended, Way, simulate, verify};
@@ -67,6 +68,10 @@ const WITHIN_IN_ALL: u64 = TO_READ + PLANNING + 2 + 2 + 9 + (2 + NAMING + 1) + 6
 // for the moves; and each growth of the text.
 const IN_ORDER_IN_ALL: u64 = TO_READ + 2 + 3 + 9 + 1 + 6;
 
+// The requests of one in any order of four elements on three PEs: for reading; for the decision where that is not asked for; for the
+// search, the cuts, the names and the bounds; for the moves; and each growth of the text.
+const ANY_ORDER_IN_ALL: u64 = 102;
+
 // The requests for checking the decision are those for reading it: the two lists of the snapshot, its own six, the piece, and
 // three for its bytes as they come. Neither the check nor its line takes memory.
 const TO_CHECK: u64 = 12;
@@ -76,12 +81,15 @@ fn memory_refused_at_each_request(rt: HostRuntime) {
     let within = Tolerance::new(167).expect(&rt, "no tolerance");
     let (least, near) = (Some(Way::Least), Some(Way::Within(within)));
     let kept = Some(Way::InOrder(within));
+    let any = Tolerance::new(300).expect(&rt, "no tolerance");
+    let any = Some(Way::InAnyOrder(any));
     let printed = Ended::Printed;
-    let rows: [Row; 5] = [
+    let rows: [Row; 6] = [
         // Each growth of the text, too.
         (&EXAMPLE_DUMP, least, TEXT, printed, TO_READ + PLANNING + 5),
         (&TEN, near, WITHIN, printed, WITHIN_IN_ALL),
         (&TEN, kept, WITHIN, printed, IN_ORDER_IN_ALL),
+        (&FOUR, any, EIGHT, printed, ANY_ORDER_IN_ALL),
         (&DECIDED, None, RIGHT, printed, TO_CHECK),
         // The line takes memory here.
         (

@@ -40,8 +40,8 @@ const WIDE: [u8; 84] = *b"LBD2\
     \0\0\0\0\0\0\0\x07\0\0\0\x09\0\0\0\0\
     \0\0\0\0";
 
-// Four elements on three PEs, whose order is 0, 1, 2: loads 6, 2, 1 and 2, of 2, 37, 15 and 6 bytes.
-const FOUR: [u8; 64] = *b"LBD1\
+/// Four elements on three PEs, whose order is 0, 1, 2: loads 6, 2, 1 and 2, of 2, 37, 15 and 6 bytes.
+pub(crate) const FOUR: [u8; 64] = *b"LBD1\
     \0\0\0\x01\0\0\0\x03\0\0\0\x04\
     \0\0\0\x06\0\0\0\x02\0\0\0\0\
     \0\0\0\x02\0\0\0\x25\0\0\0\0\

@@ -1,7 +1,7 @@
 use Rattle.std.proofs.Common.{ℕ, ◌<◌, length, IfSome, arith, subst}
 use Rattle.lb_any_order.specs.Reorderings.{HasPlaceBelow, IsFewest}
 use Rattle.lb_any_order.specs.declared.reordering.Fewest.{Fewest}
-use Rattle.lb_any_order.proofs.Cases.{below_names, lesser_moves, lesser_places, within}
+use Rattle.lb_any_order.proofs.Cases.{below_names, lesser_moves, lesser_places, lesser_prices, within}
 use Rattle.lb_any_order.proofs.refining.refine_in_any_order.Goals as goal
 
 pub returns-in_default-clause-no_more : goal.returns-in_default-clause-no_more
@@ -26,3 +26,7 @@ returns-clause-places g c = λ i inside.
     lesser_places c.args.pes i c.in_ok-refined.refined c.in-Some.fewest c.lesser.result
     (below_names c.args.pes _ _ i c.in_ok-refined.ensures.naming (c.in_ok-refined.ensures.places i inside))
     there c.lesser.ensures
+
+pub returns-clause-bounded : goal.returns-clause-bounded
+returns-clause-bounded g c =
+    lesser_prices c.args.snapshot.now.sizes c.in_ok-refined.refined c.in-Some.fewest c.lesser.result c.in_ok-refined.ensures.bounded c.lesser.ensures

@@ -1,6 +1,6 @@
 use Rattle.std.proofs.Common.{◌≡◌, ◌∙◌, refl, sym, true, Ok, Err, codes, Some}
 use Rattle.clap.specs.Walk.{texts}
-use Rattle.clap.specs.Words.{found_of, is_simple, is_simple_and_free}
+use Rattle.clap.specs.Words.{is_simple, is_simple_and_free}
 use Rattle.clap.specs.declared.parser.matches.ArgMatches.{ArgMatches}
 use Rattle.clap.proofs.OnLiterals.{clap_on_literals}
 use Rattle.program_words.proofs.Chains.{by_word, first_word, found_by, one_word, refused_by}
@@ -40,6 +40,11 @@ pub returns-in-Ok-clause-keep_order : goal.returns-in-Ok-clause-keep_order
 returns-in-Ok-clause-keep_order c =
     let rows = found_by program _ (texts c.args.words.now) c.in-Ok.matches simple c.in_ok-command.ensures.program c.in-Ok.ensures.matches in
     by_word _ (λ word. word ≡ Some (codes "true")) _ _ (one_word program (texts c.args.words.now) c.in-Ok.matches (codes "keep-order") rows) c.found.ensures.keep_order
+
+pub returns-in-Ok-clause-any_order : goal.returns-in-Ok-clause-any_order
+returns-in-Ok-clause-any_order c =
+    let rows = found_by program _ (texts c.args.words.now) c.in-Ok.matches simple c.in_ok-command.ensures.program c.in-Ok.ensures.matches in
+    by_word _ (λ word. word ≡ Some (codes "true")) _ _ (one_word program (texts c.args.words.now) c.in-Ok.matches (codes "any-order") rows) c.found.ensures.any_order
 
 pub returns-in-Ok-clause-faults : goal.returns-in-Ok-clause-faults
 returns-in-Ok-clause-faults c =

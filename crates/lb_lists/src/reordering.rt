@@ -1,0 +1,216 @@
+//! Decisions within a tolerance where the PEs may change their order.
+
+ghost use Rattle.std.specs.Prelude.{◌≡◌, ◌≤◌, ◌<◌, ◌+◌, ◌↔◌, false, true, ℕ, Bool, IsTrue, List, length, drop, IfOk, IfErr, OnOk, OnErr};
+ghost use Rattle.lb_certificates.specs.Chain.{peak, IsDivision};
+ghost use Rattle.lb_certificates.specs.Naming.{IsNaming};
+ghost use Rattle.lb_strategy.specs.Decisions.{ArePricesBounded};
+ghost use Rattle.chain_refinement.specs.Orders.{IsPresentOrder};
+ghost use Rattle.chain_refinement.specs.Refinement.{AreWithin};
+ghost use Rattle.chain_refinement.specs.Tolerances.{limit_of};
+ghost use Rattle.lb_refinement.specs.Refined.{refined_moved, IsRefined};
+ghost use Rattle.lb_refinement.specs.declared.refined.Refined.{Refined};
+ghost use Rattle.lb_any_order.specs.Reorderings.{reordering_cuts, reordering_least, reordering_moved, reordering_names, ArePricesSmallInOrder, HasPlaceBelow, IsReordering};
+ghost use Rattle.lb_lists.specs.Plans.{IsPlan};
+ghost use Rattle.lb_lists.specs.Places.{ArePlaces};
+ghost use Rattle.lb_lists.specs.RefinedRooms.{standing_in, standing_lists_in, told_in, HasRefinedRoom, HasStandingListsOf, IsStandingIn};
+ghost use Rattle.lb_lists.specs.Refinings.{IsRefinedRun, Standing, Told};
+ghost use Rattle.lb_lists.specs.Reorderings.{level_lists_in, AreBoundsIn, BoundRows, HasLevelListsOf, HasReorderedRoom, IsReorderedRun};
+ghost use Rattle.lb_lists.specs.Rooms.{lists_in, HasListsOf};
+ghost use Rattle.lb_lists.specs.Runs.{sizes_of, AreSmall, FitsSnapshot, IsAsked, IsRefineRefusal, IsSnapshotRefusal};
+
+use crate::bounds::{BoundsRoom, flat_levels, has_level_room};
+use crate::deciding::Room;
+use crate::error::{RefineError, RunError};
+use crate::refined_writing::{write_near, write_planned};
+use crate::refining::{RefinedNumbers, StandingRoom, has_refined_room};
+use crate::reordered_writing::{no_prices, write_fewest};
+use crate::run::Run;
+use crate::snapshot::snapshot_of;
+use crate::steps::flat_steps;
+use chain_refinement::Tolerance;
+use lb_any_order::{Reordering, refine_in_any_order};
+use lb_refinement::{Refined, greatest_load};
+use std::alloc::{Allocator, Global};
+
+/// What is decided for a run within a tolerance where the PEs may change their order.
+#[derive(Drop)]
+#[derive_where(Debug)]
+pub struct ReorderedRun<A: Allocator = Global> {
+    /// Cuts and names that move the fewest bytes of all, or what is decided where that is not asked for.
+    pub decided: Reordering<A>,
+    /// The load of the heaviest block, in work units.
+    pub bottleneck: u64,
+}
+
+/// The numbers of a decision in any order of the PEs that was written.
+#[derive(Clone, Copy, Debug, PartialEq, Eq)]
+pub struct ReorderedNumbers {
+    /// Those of every decision within a tolerance. Where no cuts and names move fewer bytes, the cuts count as not near the
+    /// present ones, and there are no heights.
+    pub refined: RefinedNumbers,
+    /// Whether no cuts and no names within the tolerance move fewer bytes; otherwise the decision is that of
+    /// [`refine_into`](crate::refine_into).
+    pub reordered: bool,
+    /// The number of levels of the bounds; 0 for a decision that is not so.
+    pub levels: usize,
+}
+
+/// Decides on which of `pes` PEs each element of a run continues, within a tolerance, as [`refine_in_any_order`] does: by cuts and
+/// names that move the fewest bytes of all, with their proof. Where the elements of some PE are not consecutive, the search would
+/// be too large ([`TABLE`](any_order_search::TABLE)) or it finds none with its proof, it decides as
+/// [`refine_run`](crate::refine_run) does.
+///
+/// # Errors
+///
+/// As [`refine_run`](crate::refine_run).
+pub fn reorder_run<A: Allocator + Copy>(
+    alloc: A,
+    run: &Run<'_>,
+    pes: u32,
+    tolerance: Tolerance,
+) -> Result<ReorderedRun<A>, RefineError>
+    ensures reordering { IfOk result (λ r. IsReordering run.now.loads (sizes_of run.now) pes tolerance r.decided) }
+    ensures blocks { IfOk result (λ r. IsDivision 0 (length run.now.loads) pes (reordering_cuts r.decided)) }
+    ensures naming { IfOk result (λ r. IsNaming pes (reordering_names r.decided)) }
+    ensures peak { IfOk result (λ r. r.bottleneck ≡ peak run.now.loads (reordering_cuts r.decided)) }
+    ensures within { IfOk result (λ r. r.bottleneck ≤ limit_of (reordering_least r.decided) tolerance) }
+    ensures no_more { IfOk result (λ r. (other : Refined A) → IsRefined run.now.loads (sizes_of run.now) pes tolerance other
+        → reordering_moved r.decided ≤ refined_moved other) }
+    ensures kept_whole { IfOk result (λ r. (names present : List ℕ) → IsPresentOrder (sizes_of run.now) pes names present
+        → AreWithin run.now.loads names (limit_of (reordering_least r.decided) tolerance) present → reordering_moved r.decided ≡ 0) }
+    ensures places { IfOk result (λ r. (i : ℕ) → i < length (sizes_of run.now) → HasPlaceBelow pes (reordering_cuts r.decided) (reordering_names r.decided) i) }
+    ensures bounded { IfOk result (λ r. ArePricesSmallInOrder (sizes_of run.now) r.decided) }
+    ensures asked { OnOk result (IsAsked run.now pes) }
+    ensures small { OnOk result (AreSmall run.now.loads) }
+    ensures fits { OnOk result (FitsSnapshot run.now pes) }
+    ensures refused { IfErr result (IsSnapshotRefusal (IsAsked run.now pes) (AreSmall run.now.loads) (FitsSnapshot run.now pes)) }
+{
+    let snapshot = match snapshot_of(alloc, run, pes) {
+        Ok(snapshot) => snapshot,
+        Err(refused) => return Err(refused),
+    };
+    let Ok(decided) = refine_in_any_order(alloc, &snapshot, pes, tolerance) else {
+        return Err(RefineError::Run(RunError::OutOfMemory));
+    };
+    let bottleneck = greatest_load(snapshot.loads(), pes, decided.cuts());
+    drop(snapshot);
+    Ok(ReorderedRun {
+        decided,
+        bottleneck,
+    })
+}
+
+// Whether the lists of all three rooms have the lengths that this number of elements and `pes` PEs need.
+fn has_reordered_room(
+    room: &Room<'_>,
+    standing: &StandingRoom<'_>,
+    bounds: &BoundsRoom<'_>,
+    elements: usize,
+    pes: u32,
+) -> bool
+    ensures { IsTrue result ↔ HasReorderedRoom elements pes (lists_in room.now) (standing_lists_in standing.now) (level_lists_in bounds.now) }
+{
+    has_refined_room(room, standing, elements, pes) && has_level_room(bounds, pes)
+}
+
+// The numbers of a decision in the present order, or of the plan.
+fn in_order(refined: RefinedNumbers) -> ReorderedNumbers
+    ensures refined { result.refined ≡ refined }
+    ensures reordered { result.reordered ≡ false }
+    ensures levels { result.levels ≡ 0 }
+{
+    ReorderedNumbers {
+        refined,
+        reordered: false,
+        levels: 0,
+    }
+}
+
+/// Decides within a tolerance in thousandths where the PEs may change their order, as [`reorder_run`] does, and writes the decision
+/// with all that proves it. Where no cuts and names move fewer bytes, these are the cuts, the names and the places, prices of 0, the
+/// least cuts and the stops that prove the least load, and the levels of the bounds, if the lists have the capacity for all of
+/// them; the order, the present cuts and the steps are left unchanged. Otherwise it writes what
+/// [`refine_into`](crate::refine_into) does without `keep_order`, and leaves the lists of the bounds unchanged.
+///
+/// # Errors
+///
+/// As [`refine_into`](crate::refine_into). After an error nothing was written.
+pub fn reorder_into<A: Allocator + Copy>(
+    alloc: A,
+    run: &Run<'_>,
+    pes: u32,
+    thousandths: u32,
+    room: &mut Room<'_>,
+    standing: &mut StandingRoom<'_>,
+    bounds: &mut BoundsRoom<'_>,
+) -> Result<ReorderedNumbers, RefineError>
+    ensures same_lists { HasListsOf room.old room.new }
+    ensures same_standing { HasStandingListsOf standing.old standing.new }
+    ensures same_bounds { HasLevelListsOf bounds.old bounds.new }
+    ensures reordered { IfOk result (λ d. (heights : List (List (ℕ × ℕ))) × (rows : BoundRows)
+        × IsReorderedRun run.now pes thousandths d.reordered d.refined.near
+        (told_in d.refined.least d.refined.moved d.refined.stops (lists_in room.new) (standing_lists_in standing.new))
+        (standing_in heights (standing_lists_in standing.new)) rows
+        × IsStandingIn d.refined.near heights d.refined.steps (standing_lists_in standing.old) (standing_lists_in standing.new)
+        × AreBoundsIn d.reordered rows d.levels (level_lists_in bounds.old) (level_lists_in bounds.new)) }
+    ensures placed { IfOk result (λ _. ArePlaces room.new.cuts.now room.new.names.now (length run.now.loads) room.new.new_places.now) }
+    ensures peak { IfOk result (λ d. d.refined.bottleneck ≡ peak run.now.loads room.new.cuts.now) }
+    ensures within { IfOk result (λ d. d.refined.bottleneck ≤ limit_of d.refined.least thousandths) }
+    ensures no_more { IfOk result (λ d. (places : List ℕ) (bottleneck moved : ℕ) → IsPlan run.now pes places bottleneck moved → d.refined.moved ≤ moved) }
+    ensures no_more_refined { IfOk result (λ d. (near : Bool) (told : Told) (stood : Standing)
+        → IsRefinedRun run.now pes thousandths near told stood → d.refined.moved ≤ told.moved) }
+    ensures kept_whole { IfOk result (λ d. (order present : List ℕ) → IsPresentOrder (sizes_of run.now) pes order present
+        → AreWithin run.now.loads order (limit_of d.refined.least thousandths) present → d.refined.moved ≡ 0) }
+    ensures bounded { IfOk result (λ d. d.reordered ≡ false → ArePricesBounded (sizes_of run.now) room.new.cuts.now room.new.block_prices.now room.new.pe_prices.now) }
+    ensures counted { IfOk result (λ d. d.refined.stops ≤ pes + 1) }
+    ensures behind { IfOk result (λ d. drop d.refined.stops room.new.stops.now ≡ drop d.refined.stops room.old.stops.now) }
+    ensures small_tolerance { OnOk result (thousandths ≤ 1000) }
+    ensures asked { OnOk result (IsAsked run.now pes × HasReorderedRoom (length run.now.loads) pes (lists_in room.old) (standing_lists_in standing.old) (level_lists_in bounds.old)) }
+    ensures small { OnOk result (AreSmall run.now.loads) }
+    ensures fits { OnOk result (FitsSnapshot run.now pes) }
+    ensures refused { IfErr result (IsRefineRefusal thousandths
+        (IsAsked run.now pes × HasReorderedRoom (length run.now.loads) pes (lists_in room.old) (standing_lists_in standing.old) (level_lists_in bounds.old))
+        (AreSmall run.now.loads) (FitsSnapshot run.now pes)) }
+    ensures kept { OnErr result (lists_in room.new ≡ lists_in room.old) }
+    ensures standing_kept { OnErr result (standing_lists_in standing.new ≡ standing_lists_in standing.old) }
+    ensures bounds_kept { OnErr result (level_lists_in bounds.new ≡ level_lists_in bounds.old) }
+{
+    let Some(tolerance) = Tolerance::new(thousandths) else {
+        return Err(RefineError::BadTolerance);
+    };
+    if !has_reordered_room(room, standing, bounds, run.loads.len(), pes) {
+        return Err(RefineError::Run(RunError::BadInput));
+    }
+    let found = match reorder_run(alloc, run, pes, tolerance) {
+        Ok(found) => found,
+        Err(refused) => return Err(refused),
+    };
+    let ReorderedRun {
+        decided,
+        bottleneck,
+    } = found;
+    match decided {
+        Reordering::InOrder(Refined::Planned(decision)) => Ok(in_order(write_planned(
+            decision, room, standing,
+        ))),
+        Reordering::InOrder(Refined::Near(kept)) => {
+            let Ok(flat) = flat_steps(alloc, kept.refinement.heights.as_slice()) else {
+                return Err(RefineError::Run(RunError::OutOfMemory));
+            };
+            Ok(in_order(write_near(kept, flat, room, standing)))
+        }
+        Reordering::InAnyOrder(fewest) => {
+            let (any, free) = (
+                fewest.reordered.any.as_slice(),
+                fewest.reordered.free.as_slice(),
+            );
+            let Ok(flat) = flat_levels(alloc, any, free) else {
+                return Err(RefineError::Run(RunError::OutOfMemory));
+            };
+            let Ok(prices) = no_prices(alloc, pes as usize) else {
+                return Err(RefineError::Run(RunError::OutOfMemory));
+            };
+            Ok(write_fewest(fewest, bottleneck, prices, flat, room, standing, bounds))
+        }
+    }
+}

@@ -1,0 +1,11 @@
+use Rattle.std.proofs.lemmas.Result.{IfOk-weaker}
+use Rattle.lb_replay.proofs.simulation.text_in_any_order.Goals as goal
+
+pub returns-in-Ok-clause-text : goal.returns-in-Ok-clause-text
+returns-in-Ok-clause-text g c =
+    IfOk-weaker c.reordering_text.result _ _ (λ text printed. record {
+      decision = c.in-Ok.decision;
+      reordering = c.in-Ok.ensures.reordering;
+      no_more = c.in-Ok.ensures.no_more;
+      printed = printed;
+    }) c.reordering_text.ensures.text
