@@ -43,7 +43,7 @@ extern "C" {
 #endif
 
 /* The number of this interface. A library fits this header where its tezgumi_abi() answers the same. */
-#define TEZGUMI_ABI 3u
+#define TEZGUMI_ABI 4u
 
 /* Limits of a run. Each is the greatest value that is taken. */
 #define TEZGUMI_ELEMENTS 4294967295u                       /* elements, from 0: 2^32 - 1 */
@@ -96,7 +96,7 @@ enum {
     TEZGUMI_ORDER_COUNT = 21,  /* there are not pes PEs in the order */
     TEZGUMI_ORDER_RANGE = 22,  /* a PE of the order is not below pes */
     TEZGUMI_ORDER_TWICE = 23,  /* a PE stands in the order twice */
-    TEZGUMI_NEAR_COUNT = 24,   /* there are not pes + 1 cuts near the present ones */
+    TEZGUMI_NEAR_COUNT = 24,   /* there are not pes + 1 cuts within the tolerance */
     TEZGUMI_NO_DIVISION = 25,  /* these cuts do not divide the elements */
     TEZGUMI_PAST_LIMIT = 26,   /* the load of a block is above the limit */
     TEZGUMI_HEIGHT_COUNT = 27, /* there are not heights for pes blocks */
@@ -107,7 +107,12 @@ enum {
     TEZGUMI_BOTTLENECK_WRONG = 32, /* the bottleneck is not the load of the heaviest block */
     TEZGUMI_NAMES_NOT_ORDER = 33,  /* the PEs are to keep their order, and the names are another */
     /* And of a plan, which tezgumi_check_refinement alone reports. */
-    TEZGUMI_LEAST_WRONG = 34   /* least is not the bottleneck of the plan, or least_cuts are not its cuts */
+    TEZGUMI_LEAST_WRONG = 34,  /* least is not the bottleneck of the plan, or least_cuts are not its cuts */
+    /* The flaws of bounds, which tezgumi_check_reordered of tezgumi_any_order.h alone reports. */
+    TEZGUMI_ROW_COUNT = 35,    /* there are not bounds for 0 to pes blocks, twice */
+    TEZGUMI_BOUND_START = 36,  /* a bound for no blocks is not 0 at the beginning of the chain */
+    TEZGUMI_BOUND_STEEP = 37,  /* bounds rise by more than one more block brings to some PE */
+    TEZGUMI_BOUND_LOW = 38     /* the bound for all blocks and the whole chain is below the bytes that move */
 };
 
 /* The status in words. */
@@ -157,6 +162,10 @@ static inline const char *tezgumi_status_name(int32_t status)
     case TEZGUMI_BOTTLENECK_WRONG: return "the bottleneck is not the load of the heaviest block";
     case TEZGUMI_NAMES_NOT_ORDER: return "the names do not keep the order of the PEs";
     case TEZGUMI_LEAST_WRONG: return "the least load or its cuts are not those of the plan";
+    case TEZGUMI_ROW_COUNT: return "wrong number of bounds";
+    case TEZGUMI_BOUND_START: return "the bounds do not begin with 0";
+    case TEZGUMI_BOUND_STEEP: return "bounds rise by more than a block brings";
+    case TEZGUMI_BOUND_LOW: return "the bounds are below the bytes moved";
     default: return "unknown status";
     }
 }
@@ -226,7 +235,8 @@ int32_t tezgumi_check(
  *
  * With keep_order 0 it then names these blocks anew, as tezgumi_decide does, so that the fewest bytes move: PEs may change
  * places. Where that moves no fewer bytes than the plan does, and where the PEs stand in no order, the decision is the plan. So
- * never more bytes move than by the plan. Other cuts within the limit, with names in another order, may move fewer.
+ * never more bytes move than by the plan. Other cuts within the limit, with names in another order, may move fewer:
+ * tezgumi_any_order.h.
  * With any other keep_order the PEs keep their order: names are that order, in which no cuts within the limit move fewer bytes,
  * though the plan may. Where the PEs stand in no order, the decision is the plan.
  * Either way nothing moves where the PEs stand in an order and their present blocks keep to the limit. The same run, pes,

@@ -23,6 +23,23 @@
  *   7. tezgumi_part_held: what a part has of each block, in bytes. The lists of all processes make a table with a row for each
  *      block; tezgumi_name names the blocks by processes, so that the fewest bytes move, and tezgumi_check_names checks it.
  *
+ * Where block b is to go to process b, and process b holds the elements from one present cut to the next, a few more
+ * units of load may save most of the moves. Within a limit, from the least load of the heaviest block on:
+ *
+ *   8. Bounds of each cut but the first and the last. The lower bound, by a walk from part to part: as far behind the
+ *      one before as a block within the limit reaches, or the present cut where that comes first; the first one begins
+ *      at 0. The upper bound, by a walk from the last part to the first: as far before the one behind as a block within
+ *      the limit reaches, or the present cut where that comes last; the last one begins at the end of the chain. Cuts
+ *      within the limit do not reach all that is between these bounds. The first place of each, by a walk from the last
+ *      part on: as far before the one behind as a block within the limit reaches. The last place, by a walk from the
+ *      first part on.
+ *   9. tezgumi_part_merge with what lies between the bounds and is reached as windows; and with each bound, each first
+ *      place and the element before it, and each last place and the element behind it, as windows of their own, all in
+ *      order. And tezgumi_part_held with the first element of the part and the ends of its runs as cuts: load and bytes
+ *      of each run. Those of all parts, one behind the other, go to everybody.
+ *  10. tezgumi_keep_order: the cuts that move the fewest bytes, as runs. With the first element of the run in place of
+ *      each, these are those of the chain: it checks all that this rests on, but that the runs are those of the parts.
+ *
  * These are exports, as those of tezgumi.h: what they answer is proved, lists are pointers and lengths in elements, memory is
  * taken and given back by malloc, realloc and free, and the caller owes what tezgumi.h says. pes is the number of blocks and of
  * processes, 1 to 65,536 where loads are read; loads are in any unit, and those of all elements add up to less than 2^63.
@@ -117,6 +134,24 @@ int32_t tezgumi_name(
 int32_t tezgumi_check_names(
     const uint64_t *held, size_t held_len, uint32_t pes, const uint32_t *names, size_t names_len,
     const int64_t *block_prices, size_t block_prices_len, const int64_t *pe_prices, size_t pe_prices_len, uint64_t moved);
+
+/* Of all cuts within the limit writes those that move the fewest bytes where block b goes to process b, and of several
+ * such cuts those nearest to the present ones, chosen from the end of the chain: for each the number of the run before
+ * which it is made. Of each run it takes the load, the bytes and the first element, and behind the last of these the
+ * number of elements: starts has one entry more than loads. present, lower and upper are numbers of runs, too: the cuts
+ * between the processes, from 0 to the number of runs, one more than processes; and the bounds of each. So are first
+ * and last, the places that each cut reaches. The bounds of the first and the last cut may be any that are in order:
+ * those of the cut beside it. 0 for each first place, and the number of runs for each last one, leave out no element.
+ *
+ * TEZGUMI_BAD_INPUT where the lists do not fit together, or the bytes add up to 2^61 or more; then TEZGUMI_BAD_LOAD;
+ * then TEZGUMI_BAD_INPUT where a bound is on the wrong side of its present cut, a block between lower bounds or between
+ * upper bounds is above the limit, a cut might reach further than its first or its last place, a run between the bounds
+ * of a cut that it reaches has more than one element, or no cuts are within the limit. It needs 4 bytes for each run,
+ * and 8 for each run between the bounds of each cut. */
+int32_t tezgumi_keep_order(
+    const uint64_t *loads, size_t loads_len, const uint64_t *bytes, size_t bytes_len, const uint32_t *starts, size_t starts_len,
+    const uint32_t *present, size_t present_len, const uint32_t *lower, size_t lower_len, const uint32_t *upper, size_t upper_len,
+    const uint32_t *first, size_t first_len, const uint32_t *last, size_t last_len, uint64_t limit, uint32_t *cuts, size_t cuts_len);
 
 #ifdef __cplusplus
 }

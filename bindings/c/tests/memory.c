@@ -4,7 +4,7 @@
  * -Wl,--wrap=malloc,--wrap=calloc,--wrap=realloc,--wrap=free -pthread. */
 #include "harness.h"
 #include <pthread.h>
-#include <tezgumi.h>
+#include <tezgumi_any_order.h>
 
 enum { N = 3, P = 2, MANY = 65536, PES = 256, MORE = 300, THREADS = 4, STACK = 32768 };
 
@@ -122,6 +122,36 @@ static int32_t call_check_refined(void *given)
         o->least, o->bottleneck, o->moved, o->near_cuts, Q + 1, o->ten_stops, o->stops_count, o->ten_names, Q, o->u, Q, o->v, Q,
         o->least_cuts, Q + 1, o->order, Q, o->present, Q + 1, o->starts, Q + 1, o->at, o->steps_count, o->rises,
         o->steps_count, &o->cuts[0], &o->cuts[1]);
+}
+
+/* Four elements on three PEs, of which the fewest bytes move in another order of the PEs. */
+enum { FOUR = 4, ROWS = 2 * Q + 3 };
+static const uint64_t four_loads[FOUR] = {6, 2, 1, 2};
+static const uint32_t four_bytes[FOUR] = {2, 37, 15, 6}, four_places[FOUR] = {0, 0, 1, 2};
+
+typedef struct {
+    uint32_t new_places[FOUR], cuts[Q + 1], stops[Q + 1], names[Q], near_present, reordered, least_cuts[Q + 1], order[Q], present[Q + 1];
+    int64_t u[Q], v[Q];
+    uint64_t least, bottleneck, moved, rises[STEPS], level_bytes[STEPS];
+    uint32_t at[STEPS], level_places[STEPS], flaw[3];
+    size_t starts[Q + 1], level_starts[ROWS], stops_count, steps_count, levels_count;
+} any_output;
+
+static int32_t call_reorder(void *given)
+{
+    any_output *o = (any_output *)given;
+    return tezgumi_reorder(four_loads, FOUR, four_bytes, FOUR, four_places, FOUR, Q, Q, 300, o->new_places, FOUR, &o->least,
+        &o->bottleneck, &o->moved, &o->near_present, &o->reordered, o->cuts, Q + 1, o->stops, Q + 1, &o->stops_count, o->names, Q, o->u, Q,
+        o->v, Q, o->least_cuts, Q + 1, o->order, Q, o->present, Q + 1, o->starts, Q + 1, o->at, STEPS, o->rises, STEPS, &o->steps_count,
+        o->level_starts, ROWS, o->level_places, STEPS, o->level_bytes, STEPS, &o->levels_count);
+}
+
+static int32_t call_check_reordered(void *given)
+{
+    any_output *o = (any_output *)given;
+    return tezgumi_check_reordered(four_loads, FOUR, four_bytes, FOUR, four_places, FOUR, Q, Q, 300, o->new_places, FOUR, o->least,
+        o->bottleneck, o->moved, o->cuts, Q + 1, o->stops, o->stops_count, o->names, Q, o->u, Q, o->v, Q, o->least_cuts, Q + 1,
+        o->level_starts, ROWS, o->level_places, o->levels_count, o->level_bytes, o->levels_count, &o->flaw[0], &o->flaw[1], &o->flaw[2]);
 }
 
 /* What is decided on as many elements as PEs, which are more than a dump has. */
@@ -279,6 +309,40 @@ static int a_thread_refines(void)
     return right;
 }
 
+/* A run whose elements stand on the PEs in falling order, with half of the load on a quarter of them. */
+enum { SOME = 16384, SOME_PES = 64 };
+static uint64_t some_loads[SOME];
+static uint32_t some_bytes[SOME], some_places[SOME];
+
+static void *reorder_much(void *arg)
+{
+    const tezgumi_run some = {SOME, SOME_PES, some_loads, some_bytes, some_places};
+    tezgumi_reordering *d = (tezgumi_reordering *)arg;
+    if (tezgumi_reorder_run(&some, 20, d) != TEZGUMI_OK || d->reordered != 1) return NULL;
+    return tezgumi_check_reordering(&some, d, NULL) == TEZGUMI_OK ? arg : NULL;
+}
+
+/* The same in any order of the PEs, in one thread. */
+static int a_thread_reorders(void)
+{
+    tezgumi_reordering d;
+    pthread_t thread;
+    pthread_attr_t small;
+    void *answer = NULL;
+    uint32_t i;
+    int right;
+    for (i = 0; i < SOME; i++) {
+        some_loads[i] = i < SOME / 4 ? 3 : 1;
+        some_bytes[i] = i % 7 + 1;
+        some_places[i] = (SOME_PES - 1) - i * SOME_PES / SOME;
+    }
+    if (pthread_attr_init(&small) || pthread_attr_setstacksize(&small, STACK)) return 0;
+    if (tezgumi_reordering_room(&d, SOME, SOME_PES) != TEZGUMI_OK || pthread_create(&thread, &small, reorder_much, &d)) return 0;
+    right = pthread_join(thread, &answer) == 0 && answer == &d;
+    tezgumi_reordering_free(&d);
+    return right;
+}
+
 /* So many threads decide, on so many PEs each. */
 static int threads_decide(int count, uint32_t pes)
 {
@@ -302,6 +366,7 @@ static int threads_decide(int count, uint32_t pes)
 int main(void)
 {
     output empty, decided;
+    any_output none, any;
     memset(&empty, 0x5a, sizeof empty);
     decided = empty;
     if (call_decide(&decided) != TEZGUMI_OK) return 1;
@@ -314,6 +379,11 @@ int main(void)
     if (call_refine(&decided) != TEZGUMI_OK || decided.near_present != 1) return 1;
     each_refused("refine", call_refine, &empty, sizeof empty);
     each_refused("check within a tolerance", call_check_refined, &decided, sizeof decided);
+    memset(&none, 0x5a, sizeof none);
+    any = none;
+    if (call_reorder(&any) != TEZGUMI_OK || any.reordered != 1) return 1;
+    each_refused("reorder", call_reorder, &none, sizeof none);
+    each_refused("check in any order", call_check_reordered, &any, sizeof any);
     {
         tezgumi_decision d;
         int32_t status;
@@ -325,6 +395,7 @@ int main(void)
         tezgumi_decision_free(&d);
     }
     test("a thread of 32 KiB of stack decides within a tolerance", a_thread_refines());
+    test("and in any order of the PEs", a_thread_reorders());
     test("threads of 32 KiB of stack decide and check 65,536 elements", threads_decide(THREADS, PES));
     test("and one on the greatest number of PEs", threads_decide(1, TEZGUMI_PES));
     return failures != 0;

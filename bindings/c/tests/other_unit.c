@@ -1,5 +1,5 @@
 /* The other unit of two_units.cpp. */
-#include <tezgumi.h>
+#include <tezgumi_refusal.h>
 
 int32_t check_in_c(const tezgumi_run *run, const tezgumi_decision *decision);
 

@@ -256,6 +256,29 @@ static void the_checked_names(void)
     same("no block", tezgumi_check_names(table, 4, 0, names, 0, prices, 0, prices, 0, 0), TEZGUMI_BAD_INPUT);
 }
 
+/* All on process 0: within 5 its block is the first run, or the first two. The latter leaves 6 bytes to move. */
+static void kept(const char *what, uint64_t load, size_t bytes_len, uint32_t bound, uint64_t limit, int32_t wanted)
+{
+    const uint64_t loads[4] = {load, 1, 1, 2}, bytes[4] = {9, 1, 2, 4};
+    const uint32_t starts[5] = {0, 3, 4, 5, 6}, present[3] = {0, 4, 4}, lower[3] = {0, bound, bound}, upper[3] = {4, 4, 4};
+    const uint32_t first[3] = {0, 0, 0};
+    uint32_t found[3] = {7, 7, 7};
+    same(what, tezgumi_keep_order(loads, 4, bytes, bytes_len, starts, 5, present, 3, lower, 3, upper, 3, first, 3, upper, 3, limit, found, 3),
+        wanted);
+    test("or leaves the cuts", wanted == TEZGUMI_OK ? found[0] == 0 && found[1] == 2 && found[2] == 4 : found[1] == 7);
+}
+
+static void the_kept_cuts(void)
+{
+    kept("cuts that keep the order", 4, 4, 2, 5, TEZGUMI_OK);
+    kept("a size less than runs", 4, 3, 2, 5, TEZGUMI_BAD_INPUT);
+    kept("loads of 2^63", TEZGUMI_TOTAL_LOAD - 3, 4, 2, 5, TEZGUMI_BAD_LOAD);
+    kept("both", TEZGUMI_TOTAL_LOAD - 3, 3, 2, 5, TEZGUMI_BAD_INPUT);
+    kept("a bound beyond the reach of a block", 4, 4, 3, 5, TEZGUMI_BAD_INPUT);
+    kept("a bound that begins before a long run", 4, 4, 0, 5, TEZGUMI_BAD_INPUT);
+    kept("no cuts within 3", 4, 4, 0, 3, TEZGUMI_BAD_INPUT);
+}
+
 int main(void)
 {
     the_bounds();
@@ -271,5 +294,6 @@ int main(void)
     the_bytes();
     the_names();
     the_checked_names();
+    the_kept_cuts();
     return failures != 0;
 }

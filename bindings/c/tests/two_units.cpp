@@ -1,7 +1,7 @@
 // The header in C++, beside another unit in C, over the shared library: a decision of one is checked by the other. And a class
 // that holds a decision within a tolerance.
 #include "harness.h"
-#include <tezgumi.h>
+#include <tezgumi_refusal.h>
 
 extern "C" int32_t check_in_c(const tezgumi_run *run, const tezgumi_decision *decision);
 

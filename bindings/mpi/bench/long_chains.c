@@ -2,13 +2,14 @@
  * it, as a program does whose first rank has gathered the loads.
  *
  *     mpicc -std=c99 -O2 bench/long_chains.c $(pkg-config --cflags --libs tezgumi-mpi) -o long_chains
- *     mpirun -n 4 ./long_chains [--elements=1000000] [--loads=even|skew|spot|giant] [--turns=3] [--alone]
+ *     mpirun -n 4 ./long_chains [--elements=1000000] [--loads=even|skew|spot|giant] [--turns=3] [--alone] [--tolerance=0.05]
  *
  * Loads are 50 to 150 with noise (even), one in a thousand of them up to 20,000 more (skew), up to 2,100 where a hot spot has
  * come (spot), or one of them nearly as great as a rank's share (giant); they change from turn to turn. An element has 8 bytes
  * to move. Rank 0 prints for each turn the milliseconds of the steps, on the slowest rank; the runs that were gathered, and
  * the passes; how much was moved; and whether bottleneck and cuts are those of the whole chain. --alone leaves the whole
- * chain out. At the end the peak of a rank's memory beside its own lists, of 20 bytes an element.
+ * chain out. With a tolerance the ranks keep their order, and the fewest bytes move; then the whole chain is left out. At the end the
+ * peak of a rank's memory beside its own lists, of 20 bytes an element.
  */
 #define _POSIX_C_SOURCE 200112L
 #include <stdio.h>
@@ -21,6 +22,7 @@ enum { STEPS = 7 };
 static int rank, ranks, turns = 3, alone;
 static uint32_t n = 1000000;
 static char loads_like[8] = "even";
+static tezgumi_mpi_options options;
 
 /* What this rank holds: the elements first .. first + count - 1. Values come and go by callbacks. */
 static tezgumi_mpi_part part;
@@ -33,6 +35,10 @@ static void understand(int argc, char **argv)
     for (k = 1; k < argc; k++) {
         if (sscanf(argv[k], "--elements=%u", &n) == 1 || sscanf(argv[k], "--turns=%d", &turns) == 1) continue;
         if (sscanf(argv[k], "--loads=%7s", loads_like) == 1) continue;
+        if (sscanf(argv[k], "--tolerance=%lf", &options.tolerance) == 1) {
+            options.refine = options.keep_order = alone = 1;
+            continue;
+        }
         if (strcmp(argv[k], "--alone") == 0) {
             alone = 1;
             continue;
@@ -172,7 +178,7 @@ static void turn_once(tezgumi_mpi_layout *l, int turn)
     for (i = 0; i < part.count; i++) own_loads[i] = load_of(part.first + i, turn);
     MPI_Barrier(MPI_COMM_WORLD);
     decided = MPI_Wtime();
-    status = tezgumi_mpi_decide_part(MPI_COMM_WORLD, &part, NULL, l, &report);
+    status = tezgumi_mpi_decide_part(MPI_COMM_WORLD, &part, &options, l, &report);
     decided = slowest(MPI_Wtime() - decided);
     if (rank == 0)
         printf("turn %d: %s: decide %.3f ms: greatest load %.6f of the average, %u runs gathered, %u passes, %u moved\n", turn,

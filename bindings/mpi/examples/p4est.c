@@ -1,9 +1,9 @@
 /* A forest of quadrants that is refined where a spot wanders, and whose quadrants near the spot are more work. After each step the
  * quadrants are dealt out anew: tezgumi_mpi_decide_part decides, of the weights as loads, and p4est_partition_given moves; or,
- * with --by=p4est, p4est_partition_ext does both.
+ * with --by=p4est, p4est_partition_ext does both. With --refine the fewest quadrants move that the tolerance lets.
  *
  *     mpicc -std=c99 p4est.c $(pkg-config --cflags --libs tezgumi-mpi) -lp4est -lsc
- *     mpirun -n 4 ./a.out --by=tezgumi --steps=20 --finest=7 --tolerance=0
+ *     mpirun -n 4 ./a.out --by=tezgumi --steps=20 --finest=7 --tolerance=0.05 --refine
  *
  * It prints what came out: the greatest load of a rank over the average, on average over the steps and at most, the quadrants that
  * moved, and a checksum of the forest, which is one however the quadrants are dealt out. */
@@ -26,7 +26,7 @@ typedef struct {
 
 /* What is asked for. */
 typedef struct {
-    int by_p4est, steps, finest;
+    int by_p4est, steps, finest, refine;
     double tolerance;
 } request;
 
@@ -101,7 +101,7 @@ static p4est_gloidx_t move_by(p4est_t *forest, const tezgumi_mpi_layout *layout)
 static p4est_gloidx_t rebalance(p4est_t *forest, const request *r)
 {
     const size_t count = (size_t)forest->local_num_quadrants;
-    const tezgumi_mpi_options options = {r->tolerance, 0, 0, 0, 1};
+    const tezgumi_mpi_options options = {r->tolerance, 0, 0, r->refine, 1};
     uint64_t *loads = (uint64_t *)malloc(count * sizeof *loads + 1);
     uint32_t *bytes = (uint32_t *)malloc(count * sizeof *bytes + 1);
     tezgumi_mpi_layout layout;
@@ -167,6 +167,7 @@ static int read_word(const char *word, request *r)
 {
     if (strcmp(word, "--by=p4est") == 0) r->by_p4est = 1;
     else if (strcmp(word, "--by=tezgumi") == 0) r->by_p4est = 0;
+    else if (strcmp(word, "--refine") == 0) r->refine = 1;
     else if (sscanf(word, "--steps=%d", &r->steps) == 1) return r->steps > 0;
     else if (sscanf(word, "--finest=%d", &r->finest) == 1) return r->finest >= COARSEST && r->finest <= 12;
     else return sscanf(word, "--tolerance=%lf", &r->tolerance) == 1;
@@ -175,14 +176,14 @@ static int read_word(const char *word, request *r)
 
 int main(int argc, char **argv)
 {
-    request r = {0, 20, 7, 0};
+    request r = {0, 20, 7, 0, 0};
     p4est_connectivity_t *square;
     p4est_t *forest;
     int i;
     MPI_Init(&argc, &argv);
     for (i = 1; i < argc; i++) {
         if (read_word(argv[i], &r)) continue;
-        fprintf(stderr, "usage: p4est [--by=tezgumi|p4est] [--steps=N] [--finest=LEVEL] [--tolerance=X]\n");
+        fprintf(stderr, "usage: p4est [--by=tezgumi|p4est] [--steps=N] [--finest=LEVEL] [--tolerance=X] [--refine]\n");
         MPI_Abort(MPI_COMM_WORLD, 2);
     }
     sc_init(MPI_COMM_WORLD, 1, 1, NULL, SC_LP_ERROR);

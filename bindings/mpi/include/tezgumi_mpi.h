@@ -76,6 +76,32 @@ enum {
 /* The status in words, those of tezgumi.h included. */
 const char *tezgumi_mpi_status_name(int status);
 
+/* Which rule of the input was broken, where a call answers TEZGUMI_BAD_INPUT or TEZGUMI_BAD_LOAD: failed_rule of the report says so. In
+ * failed_at is the element, where the rule is about one. */
+enum {
+    TEZGUMI_MPI_RULE_NONE = 0,         /* none */
+    TEZGUMI_MPI_RULE_GROUPS = 1,       /* comm has two groups of ranks (an intercommunicator) */
+    TEZGUMI_MPI_RULE_RANKS = 2,        /* comm has too many ranks */
+    TEZGUMI_MPI_RULE_NULL = 3,         /* a list of elements, the chain, the part or the layout is null */
+    TEZGUMI_MPI_RULE_CALLBACKS = 4,    /* pack or unpack is null, or both with their struct */
+    TEZGUMI_MPI_RULE_ELEMENTS = 5,     /* a rank has too many elements, or all have */
+    TEZGUMI_MPI_RULE_BYTES = 6,        /* this element is too large */
+    TEZGUMI_MPI_RULE_TOTAL_BYTES = 7,  /* all elements are too large together */
+    TEZGUMI_MPI_RULE_LOAD = 8,         /* this element has too great a load */
+    TEZGUMI_MPI_RULE_TOTAL_LOAD = 9,   /* the loads add up to too much; with parts the element has the greatest */
+    TEZGUMI_MPI_RULE_TOLERANCE = 10,   /* the option tolerance is below 0 or not a number; or above 1, with refine */
+    TEZGUMI_MPI_RULE_REFINE = 11,      /* the option refine is not for parts */
+    TEZGUMI_MPI_RULE_LAYOUT = 12,      /* the layout is of other ranks, or has not this move under way, or has another */
+    TEZGUMI_MPI_RULE_CUTS = 13,        /* the cuts, names, firsts and counts of the layout do not fit together */
+    TEZGUMI_MPI_RULE_PART = 14,        /* the part is not what the layout says that the rank holds */
+    TEZGUMI_MPI_RULE_CHAIN = 15,       /* the chain is of other ranks, or has no room for its elements */
+    TEZGUMI_MPI_RULE_PLACES = 16,      /* the present or the new place of this element is not a rank */
+    TEZGUMI_MPI_RULE_FIELDS = 17       /* an array of this field (failed_at) is null, or its stride is too narrow or too wide */
+};
+
+/* The rule in words: which argument, and what is wrong with it. */
+const char *tezgumi_mpi_rule_name(int rule);
+
 /* An element that this rank holds. */
 typedef struct {
     uint64_t load;  /* its work since the last rebalance, in any unit that all ranks share */
@@ -120,13 +146,15 @@ typedef struct {
     int refine;
     /* 1: block b goes to rank b, whatever that moves, so that neighbours along the chain are neighbouring ranks. No table of
      * ranks by ranks is made, so this is for more than TEZGUMI_MPI_NAMED_RANKS too. Together with refine the ranges within the limit
-     * are taken that move the fewest bytes so, where the ranks hold the chain in their own order, each one range and those without
-     * elements last; otherwise the least ranges. */
+     * are taken that move the fewest bytes so, and of several such ranges those nearest to the present ones, where the ranks hold the
+     * chain in their own order, each one range (and, if all elements are gathered, those without elements last); otherwise the least
+     * ranges. A mesh that is dealt out along a curve wants both: then as few elements move as the tolerance lets, between ranks that
+     * are neighbours mostly, and no rank sees all elements. */
     int keep_order;
 } tezgumi_mpi_options;
 
 /* What happened. All but the seconds is of all ranks together, and the same on all. After a refusal only failed_rank,
- * failed_at and seconds are of use; after TEZGUMI_MPI_CALLBACK all is. */
+ * failed_at, failed_rule and seconds are of use; after TEZGUMI_MPI_CALLBACK all is. */
 typedef struct {
     uint64_t max_load_before; /* load of the heaviest rank, as gathered */
     uint64_t max_load_after;  /* the same, by the decision */
@@ -146,6 +174,7 @@ typedef struct {
     uint32_t gathered;        /* elements that each rank got to know; where parts were divided, runs of elements */
     uint32_t passes;          /* where parts were divided: passes over all ranks, which narrow the bounds, */
     uint32_t retries;         /* and 1 where the checker refused the first division, and a wider search found another */
+    int failed_rule;          /* after TEZGUMI_BAD_INPUT and TEZGUMI_BAD_LOAD the rule that was broken: TEZGUMI_MPI_RULE_.. */
 } tezgumi_mpi_report;
 
 /* All elements, as every rank knows them. It begins as all 0, can be used again and again, and ends with
@@ -192,8 +221,8 @@ void tezgumi_mpi_layout_free(tezgumi_mpi_layout *layout);
  * where each element is: tezgumi_mpi_range then gives the range of each rank. layout, which is given on all ranks or on none, has
  * these ranges where no rank saw all elements (firsts and counts), and otherwise no ranks.
  *
- * Where chain is null, refine is 0 and each rank's elements are consecutive, no rank sees all elements. Otherwise they are
- * gathered. Where that is because of scattered elements alone, and there are more than TEZGUMI_MPI_GATHERED_ELEMENTS or
+ * Where chain is null, refine is 0 or keep_order is not, and each rank's elements are consecutive, no rank sees all elements. Otherwise they
+ * are gathered. Where that is because of scattered elements alone, and there are more than TEZGUMI_MPI_GATHERED_ELEMENTS or
  * TEZGUMI_MPI_GATHERED_RANKS, the status is TEZGUMI_MPI_SCATTERED, and failed_rank one that holds such elements.
  *
  * TEZGUMI_OK: all elements are where they belong. Otherwise the refusals of the steps, in their order. Nothing has moved, but where the
@@ -220,20 +249,24 @@ typedef struct {
 } tezgumi_mpi_part;
 
 /* Step 1 for parts. Fills the layout: firsts and counts as the parts are now, cuts and names by the decision, which is the same
- * as that of tezgumi_mpi_decide; they are the present ranges where the tolerance lets all be. With keep_order that is where
- * the ranks hold the chain in their own order too. It begins the report anew.
+ * as that of tezgumi_mpi_decide, but where a rank without elements is between others that are to keep their order; they are the
+ * present ranges where the tolerance lets all be. With keep_order that is where the ranks hold the chain in their own order too.
+ * refine is for keep_order alone here. It begins the report anew.
  *
  * How: the bounds of the least possible greatest load follow from totals, and are narrowed, where that saves much, by passes
  * that try up to 64 limits each. Elements that may begin a block of some such division stay single, and those between are
  * merged into runs, few enough to be gathered. All ranks divide the runs, and prove the division by its loads, summed up
  * over the ranks. A rank needs its part, what is gathered, some lists with an entry for each rank, and, unless the order is
- * kept, two tables of 8 bytes for each two ranks.
+ * kept, two tables of 8 bytes for each two ranks. With refine the limit follows from that division, and two walks over the ranks, from
+ * the first and from the last, bound the cuts that may move the fewest bytes; only elements between the bounds of a cut stay single
+ * then. From the runs, with their bytes, each rank finds the same cuts, and the ranks check by sums that these keep to the limit.
  *
  * In this order: TEZGUMI_BAD_INPUT where there are two groups of ranks (an intercommunicator), and the layout is as it was;
  * TEZGUMI_MPI_LIBRARY; TEZGUMI_BAD_INPUT for too many ranks or a null pointer; TEZGUMI_NO_MEMORY; TEZGUMI_BAD_INPUT for too many
  * elements; TEZGUMI_MPI_BAD_INDEX where a part does not begin where the one before it ends, failed_at being its first element;
  * TEZGUMI_BAD_INPUT for an element of too many bytes, or too many of all; TEZGUMI_BAD_LOAD where all loads are too great,
- * failed_at being an element of the greatest load; TEZGUMI_BAD_INPUT for the tolerance, or refine; TEZGUMI_MPI_DISAGREE where the
+ * failed_at being an element of the greatest load; TEZGUMI_BAD_INPUT for the tolerance, or for refine without keep_order or with a
+ * tolerance above 1; TEZGUMI_MPI_DISAGREE where the
  * options differ; then TEZGUMI_NO_MEMORY, which is also the answer to 2^31 runs or more to gather; TEZGUMI_MPI_WRONG_PLAN;
  * TEZGUMI_MPI_DISAGREE. After any of these the layout has no elements, no ranks and no move. */
 int tezgumi_mpi_decide_part(MPI_Comm comm, const tezgumi_mpi_part *part, const tezgumi_mpi_options *options,

@@ -15,6 +15,31 @@ const char *tezgumi_mpi_status_name(int status)
     }
 }
 
+const char *tezgumi_mpi_rule_name(int rule)
+{
+    switch (rule) {
+    case TEZGUMI_MPI_RULE_NONE: return "no rule of the input is broken";
+    case TEZGUMI_MPI_RULE_GROUPS: return "comm: there are two groups of ranks";
+    case TEZGUMI_MPI_RULE_RANKS: return "comm: there are too many ranks";
+    case TEZGUMI_MPI_RULE_NULL: return "a list, the chain, the part or the layout is null";
+    case TEZGUMI_MPI_RULE_CALLBACKS: return "callbacks: pack or unpack is null";
+    case TEZGUMI_MPI_RULE_ELEMENTS: return "count: there are too many elements";
+    case TEZGUMI_MPI_RULE_BYTES: return "bytes: an element is too large";
+    case TEZGUMI_MPI_RULE_TOTAL_BYTES: return "bytes: the elements are too large together";
+    case TEZGUMI_MPI_RULE_LOAD: return "load: an element has too great a load";
+    case TEZGUMI_MPI_RULE_TOTAL_LOAD: return "load: the loads add up to too much";
+    case TEZGUMI_MPI_RULE_TOLERANCE: return "tolerance: it is negative, not a number, or above 1 with refine";
+    case TEZGUMI_MPI_RULE_REFINE: return "refine: parts are not decided so";
+    case TEZGUMI_MPI_RULE_LAYOUT: return "layout: it is of other ranks, or has another move under way";
+    case TEZGUMI_MPI_RULE_CUTS: return "layout: cuts, names, firsts and counts do not fit together";
+    case TEZGUMI_MPI_RULE_PART: return "part: it is not what the layout says that this rank holds";
+    case TEZGUMI_MPI_RULE_CHAIN: return "chain: it is of other ranks, or has no room for its elements";
+    case TEZGUMI_MPI_RULE_PLACES: return "places or new_places: one is not a rank";
+    case TEZGUMI_MPI_RULE_FIELDS: return "fields: an array is null, or its stride does not fit";
+    default: return "unknown rule";
+    }
+}
+
 /* FNV-1a, word by word. */
 uint64_t tezgumi_mpi_fingerprint(uint64_t before, const uint32_t *words, size_t count)
 {
@@ -24,11 +49,13 @@ uint64_t tezgumi_mpi_fingerprint(uint64_t before, const uint32_t *words, size_t 
     return print;
 }
 
-/* An outcome and its rank as one number, 0 where all is well, so that the least number is that of the least status. */
+/* An outcome and its rank as one number, 0 where all is well, so that the least number is that of the least status: in 5 bits the
+ * status, in 20 the rank, in 32 the element, and in 5 the rule. */
 static int64_t coded(tezgumi_mpi_outcome outcome, int rank)
 {
+    const uint64_t status = (uint64_t)-tezgumi_mpi_status_of(outcome.status), rule = (uint64_t)tezgumi_mpi_rule_of(outcome.status);
     if (outcome.status == TEZGUMI_OK) return 0;
-    return -(int64_t)((uint64_t)-outcome.status << 52 | (uint64_t)rank << 32 | outcome.at);
+    return -(int64_t)(status << 57 | (uint64_t)rank << 37 | (uint64_t)outcome.at << 5 | rule);
 }
 
 int tezgumi_mpi_agree(MPI_Comm comm, tezgumi_mpi_outcome mine, uint64_t fingerprint, tezgumi_mpi_report *report)
@@ -39,6 +66,7 @@ int tezgumi_mpi_agree(MPI_Comm comm, tezgumi_mpi_outcome mine, uint64_t fingerpr
     int rank;
     report->failed_rank = -1;
     report->failed_at = 0;
+    report->failed_rule = TEZGUMI_MPI_RULE_NONE;
     if (MPI_Comm_rank(comm, &rank) != MPI_SUCCESS) return TEZGUMI_MPI_ERROR;
     told[0] = coded(mine, rank);
     told[1] = print;
@@ -46,7 +74,8 @@ int tezgumi_mpi_agree(MPI_Comm comm, tezgumi_mpi_outcome mine, uint64_t fingerpr
     if (MPI_Allreduce(told, least, 3, MPI_INT64_T, MPI_MIN, comm) != MPI_SUCCESS) return TEZGUMI_MPI_ERROR;
     if (least[0] == 0) return least[1] == -least[2] ? TEZGUMI_OK : TEZGUMI_MPI_DISAGREE;
     code = (uint64_t)-least[0];
-    report->failed_rank = (int)(code >> 32 & 0xfffff);
-    report->failed_at = (uint32_t)code;
-    return -(int)(code >> 52);
+    report->failed_rank = (int)(code >> 37 & 0xfffff);
+    report->failed_at = (uint32_t)(code >> 5);
+    report->failed_rule = (int)(code & 31);
+    return -(int)(code >> 57);
 }

@@ -113,16 +113,16 @@ static int is_covered(const mover *m)
     return in->left + (end - begin) == m->to_be_held;
 }
 
-/* Whether all arrays are there. */
-static int are_arrays(const mover *m)
+/* The first field of which an array is not there, or the number of fields. */
+static uint32_t first_astray(const mover *m)
 {
     uint32_t k;
     for (k = 0; k < m->count; k++) {
         const tezgumi_mpi_field *f = &m->fields[k];
-        if (!is_array(f->from, f->from_stride, f->bytes, m->held)) return 0;
-        if (!is_array(f->to, f->to_stride, f->bytes, m->to_be_held)) return 0;
+        if (!is_array(f->from, f->from_stride, f->bytes, m->held)) break;
+        if (!is_array(f->to, f->to_stride, f->bytes, m->to_be_held)) break;
     }
-    return 1;
+    return k;
 }
 
 /* Finds what goes where, if the layout says it. */
@@ -137,7 +137,7 @@ static int find_moves(mover *m)
     tezgumi_mpi_new_range(l, (int)m->rank, &m->new_first, &end);
     m->to_be_held = end - m->new_first;
     tezgumi_mpi_find_pieces(l, m->rank, &m->out.pieces, &m->in.pieces);
-    return is_covered(m) && are_arrays(m);
+    return is_covered(m);
 }
 
 /* The bytes of a side in its greatest round. */
@@ -300,25 +300,37 @@ static int exchange(mover *m, uint64_t *left, tezgumi_mpi_report *report)
     return TEZGUMI_OK;
 }
 
-/* Learns what goes where, and gets all memory. */
-static int prepare(mover *m)
+/* Whether all that the move is given is in order, for which it gets some of its memory. */
+static tezgumi_mpi_outcome refusal(mover *m)
 {
+    uint32_t k;
     int status;
-    if (!is_layout(m)) return TEZGUMI_BAD_INPUT;
+    if (!m->layout || (!m->fields && m->count > 0)) return tezgumi_mpi_outcome_of(tezgumi_mpi_broken(TEZGUMI_MPI_RULE_NULL), 0);
+    if (!is_layout(m)) return tezgumi_mpi_outcome_of(tezgumi_mpi_broken(TEZGUMI_MPI_RULE_LAYOUT), 0);
     m->size = size_of(m);
-    if (m->size > TEZGUMI_MPI_BYTES) return TEZGUMI_BAD_INPUT;
-    m->most = m->size == 0 ? UINT32_MAX : m->size > m->room ? 1 : (uint32_t)(m->room / m->size);
+    if (m->size > TEZGUMI_MPI_BYTES) return tezgumi_mpi_outcome_of(tezgumi_mpi_broken(TEZGUMI_MPI_RULE_BYTES), 0);
     status = get_lists(m);
-    if (status == TEZGUMI_OK && !find_moves(m)) status = TEZGUMI_BAD_INPUT;
-    return status == TEZGUMI_OK ? get_buffers(m) : status;
+    if (status != TEZGUMI_OK) return tezgumi_mpi_outcome_of(status, 0);
+    if (!find_moves(m)) return tezgumi_mpi_outcome_of(tezgumi_mpi_broken(TEZGUMI_MPI_RULE_CUTS), 0);
+    k = first_astray(m);
+    return k < m->count ? tezgumi_mpi_outcome_of(tezgumi_mpi_broken(TEZGUMI_MPI_RULE_FIELDS), k) : tezgumi_mpi_outcome_of(TEZGUMI_OK, 0);
+}
+
+/* Learns what goes where, and gets all memory. */
+static tezgumi_mpi_outcome prepare(mover *m)
+{
+    const tezgumi_mpi_outcome outcome = refusal(m);
+    if (outcome.status != TEZGUMI_OK) return outcome;
+    m->most = m->size == 0 ? UINT32_MAX : m->size > m->room ? 1 : (uint32_t)(m->room / m->size);
+    return tezgumi_mpi_outcome_of(get_buffers(m), 0);
 }
 
 /* The whole of it, but for the report's time. */
 static int move(mover *m, tezgumi_mpi_report *report)
 {
     uint64_t left = 0;
-    int status = prepare(m);
-    status = tezgumi_mpi_agree(m->comm, tezgumi_mpi_outcome_of(status, 0), status == TEZGUMI_OK ? common_print(m) : 0, report);
+    const tezgumi_mpi_outcome outcome = prepare(m);
+    int status = tezgumi_mpi_agree(m->comm, outcome, outcome.status == TEZGUMI_OK ? common_print(m) : 0, report);
     report->elements_moved = report->exchanges = 0;
     report->bytes_moved = 0;
     if (status == TEZGUMI_OK) left = m->out.pieces.left;
@@ -343,7 +355,7 @@ int tezgumi_mpi_move_arrays(MPI_Comm comm, tezgumi_mpi_layout *layout, const tez
     if (MPI_Comm_test_inter(comm, &groups) != MPI_SUCCESS || MPI_Comm_size(comm, &ranks) != MPI_SUCCESS
         || MPI_Comm_rank(comm, &rank) != MPI_SUCCESS)
         return TEZGUMI_MPI_ERROR;
-    if (groups) return TEZGUMI_BAD_INPUT;
+    if (groups) return tezgumi_mpi_told(tezgumi_mpi_broken(TEZGUMI_MPI_RULE_GROUPS), report);
     memset(&m, 0, sizeof m);
     m.comm = comm;
     m.rank = (uint32_t)rank;

@@ -1,5 +1,6 @@
 /* The decision, which each rank takes by itself. */
 #include "internal.h"
+#include <tezgumi_refusal.h>
 
 /* Whether the elements of each rank are one range. */
 static int in_ranges(const tezgumi_mpi_chain *chain)
@@ -139,7 +140,21 @@ static void keep_order(const tezgumi_mpi_options *options, tezgumi_refinement *d
         for (i = cuts[b]; i < cuts[b + 1]; i++) of->new_places[i] = b;
 }
 
-/* Plans and checks; the outcome's second part is the flaw that was found. */
+/* Why the run was refused: what was gathered keeps all limits, so that the chain has been changed since. */
+static tezgumi_mpi_outcome refused(const tezgumi_run *run, int status)
+{
+    tezgumi_refusal why;
+    tezgumi_no_refusal(&why);
+    if (tezgumi_why_run(run, run->procs, 0, &why) == status && why.rule == TEZGUMI_RULE_ASTRAY)
+        return tezgumi_mpi_outcome_of(tezgumi_mpi_broken(TEZGUMI_MPI_RULE_PLACES), why.entry);
+    if (why.rule == TEZGUMI_RULE_MANY_UNITS)
+        return tezgumi_mpi_outcome_of(tezgumi_mpi_refusal(status, TEZGUMI_MPI_RULE_TOTAL_LOAD), why.entry);
+    if (why.rule == TEZGUMI_RULE_MANY_BYTES)
+        return tezgumi_mpi_outcome_of(tezgumi_mpi_broken(TEZGUMI_MPI_RULE_TOTAL_BYTES), why.entry);
+    return tezgumi_mpi_outcome_of(tezgumi_mpi_refusal(status, TEZGUMI_MPI_RULE_CHAIN), 0);
+}
+
+/* Plans and checks; the outcome's second part is the flaw that was found, or the element that was refused. */
 static tezgumi_mpi_outcome plan(const tezgumi_mpi_chain *chain, const tezgumi_mpi_options *options, tezgumi_refinement *d,
     tezgumi_mpi_report *report)
 {
@@ -148,6 +163,7 @@ static tezgumi_mpi_outcome plan(const tezgumi_mpi_chain *chain, const tezgumi_mp
     int status = decide(&run, options, d);
     const double planned = MPI_Wtime();
     report->plan_seconds = planned - begin;
+    if (status == TEZGUMI_BAD_INPUT || status == TEZGUMI_BAD_LOAD) return refused(&run, status);
     if (status != TEZGUMI_OK || options->skip_check) return tezgumi_mpi_outcome_of(status, 0);
     status = options->refine ? tezgumi_check_refinement(&run, d, NULL) : tezgumi_check_run(&run, &d->decision);
     report->check_seconds = MPI_Wtime() - planned;
@@ -156,16 +172,18 @@ static tezgumi_mpi_outcome plan(const tezgumi_mpi_chain *chain, const tezgumi_mp
 }
 
 /* Whether all that decide is given is in order. */
-static int usable(MPI_Comm comm, const tezgumi_mpi_chain *chain, const tezgumi_mpi_options *options)
+static int refusal(MPI_Comm comm, const tezgumi_mpi_chain *chain, const tezgumi_mpi_options *options)
 {
-    return tezgumi_mpi_fits(comm, chain) && options->tolerance >= 0 && !(options->refine && options->tolerance > 1);
+    if (!tezgumi_mpi_fits(comm, chain)) return tezgumi_mpi_broken(chain ? TEZGUMI_MPI_RULE_CHAIN : TEZGUMI_MPI_RULE_NULL);
+    if (!(options->tolerance >= 0) || (options->refine && options->tolerance > 1)) return tezgumi_mpi_broken(TEZGUMI_MPI_RULE_TOLERANCE);
+    return TEZGUMI_OK;
 }
 
 int tezgumi_mpi_decide(MPI_Comm comm, tezgumi_mpi_chain *chain, const tezgumi_mpi_options *options,
     tezgumi_mpi_report *report)
 {
     const tezgumi_mpi_options defaults = {0, 0, 0, 0, 0};
-    tezgumi_mpi_outcome outcome = {TEZGUMI_BAD_INPUT, 0};
+    tezgumi_mpi_outcome outcome = {TEZGUMI_OK, 0};
     tezgumi_mpi_report unread;
     tezgumi_refinement d;
     verdict v;
@@ -176,7 +194,8 @@ int tezgumi_mpi_decide(MPI_Comm comm, tezgumi_mpi_chain *chain, const tezgumi_mp
     memset(&v, 0, sizeof v);
     if (!options) options = &defaults;
     if (!report) report = &unread;
-    if (usable(comm, chain, options)) outcome = plan(chain, options, &d, report);
+    outcome.status = refusal(comm, chain, options);
+    if (outcome.status == TEZGUMI_OK) outcome = plan(chain, options, &d, report);
     if (outcome.status == TEZGUMI_OK) {
         if (options->keep_order) keep_order(options, &d);
         choose(chain, &d, options, &v);

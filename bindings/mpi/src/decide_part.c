@@ -6,8 +6,10 @@ static int refusal(const tezgumi_mpi_search *s)
 {
     const tezgumi_mpi_part *part = s->part;
     if (tezgumi_abi() != TEZGUMI_ABI) return TEZGUMI_MPI_LIBRARY;
-    if (!s->layout || !part || (part->count > 0 && (!part->loads || !part->bytes))) return TEZGUMI_BAD_INPUT;
-    return s->ranks <= (s->options->keep_order ? TEZGUMI_MPI_RANKS : TEZGUMI_MPI_NAMED_RANKS) ? TEZGUMI_OK : TEZGUMI_BAD_INPUT;
+    if (!s->layout || !part || (part->count > 0 && (!part->loads || !part->bytes))) return tezgumi_mpi_broken(TEZGUMI_MPI_RULE_NULL);
+    if (s->ranks > (s->options->keep_order ? TEZGUMI_MPI_RANKS : TEZGUMI_MPI_NAMED_RANKS))
+        return tezgumi_mpi_broken(TEZGUMI_MPI_RULE_RANKS);
+    return TEZGUMI_OK;
 }
 
 /* Room for the lists with an entry for each rank. */
@@ -75,6 +77,7 @@ static int is_in_order(const tezgumi_mpi_search *s)
 static int stays(const tezgumi_mpi_search *s, uint64_t least)
 {
     if (s->options->keep_order && !is_in_order(s)) return 0;
+    if (s->options->refine) return s->heaviest <= tezgumi_mpi_limit(s->options, least);
     return tezgumi_mpi_is_enough(s->heaviest, least, s->options->tolerance);
 }
 
@@ -118,6 +121,13 @@ static int compare(tezgumi_mpi_search *s)
     return status;
 }
 
+/* Cuts and names where something moves: those of the least division, or of cuts near the present ones. */
+static int settle(tezgumi_mpi_search *s)
+{
+    const int status = s->options->refine && is_in_order(s) ? tezgumi_mpi_keep_cuts(s) : TEZGUMI_OK;
+    return status == TEZGUMI_OK ? tezgumi_mpi_name_blocks(s) : status;
+}
+
 /* Decides. What is no more than the lower bound is enough, before anything is searched for. */
 static int decide(tezgumi_mpi_search *s)
 {
@@ -135,7 +145,7 @@ static int decide(tezgumi_mpi_search *s)
     report->average_load = (double)s->total / (double)s->ranks;
     report->max_load_after = stays(s, s->bottleneck) ? s->heaviest : s->bottleneck;
     if (stays(s, s->bottleneck)) keep_ranges(s);
-    else status = tezgumi_mpi_name_blocks(s);
+    else status = settle(s);
     if (status == TEZGUMI_OK) status = compare(s);
     if (status == TEZGUMI_OK) report->elements_moved = count_moves(s->layout);
     return status;
@@ -153,7 +163,7 @@ int tezgumi_mpi_decide_part_or(MPI_Comm comm, int refused, const tezgumi_mpi_par
     if (MPI_Comm_test_inter(comm, &groups) != MPI_SUCCESS || MPI_Comm_size(comm, &ranks) != MPI_SUCCESS
         || MPI_Comm_rank(comm, &rank) != MPI_SUCCESS)
         return TEZGUMI_MPI_ERROR;
-    if (groups) return TEZGUMI_BAD_INPUT;
+    if (groups) return tezgumi_mpi_told(tezgumi_mpi_broken(TEZGUMI_MPI_RULE_GROUPS), report);
     s.comm = comm;
     s.rank = (uint32_t)rank;
     s.ranks = (uint32_t)ranks;
@@ -165,7 +175,7 @@ int tezgumi_mpi_decide_part_or(MPI_Comm comm, int refused, const tezgumi_mpi_par
     if (status == TEZGUMI_OK) status = tezgumi_mpi_layout_room(layout, s.ranks);
     if (status == TEZGUMI_OK) status = search_room(&s);
     status = tezgumi_mpi_agree(comm, tezgumi_mpi_outcome_of(status, 0), 0, report);
-    if (status == TEZGUMI_OK) status = decide(&s);
+    if (status == TEZGUMI_OK) status = tezgumi_mpi_told(decide(&s), report);
     free(s.room);
     if (status != TEZGUMI_OK && layout) {
         layout->n = layout->ranks = 0;

@@ -59,28 +59,34 @@ typedef struct {
 static int refusal(const tezgumi_mpi_element *mine, uint32_t count, const tezgumi_mpi_chain *chain)
 {
     if (tezgumi_abi() != TEZGUMI_ABI) return TEZGUMI_MPI_LIBRARY;
-    if (!chain || (count && !mine) || count > TEZGUMI_MPI_GATHERED_ELEMENTS) return TEZGUMI_BAD_INPUT;
-    return TEZGUMI_OK;
+    if (!chain || (count && !mine)) return tezgumi_mpi_broken(TEZGUMI_MPI_RULE_NULL);
+    return count > TEZGUMI_MPI_GATHERED_ELEMENTS ? tezgumi_mpi_broken(TEZGUMI_MPI_RULE_ELEMENTS) : TEZGUMI_OK;
+}
+
+/* A refusal as a number below 0, the less the less its status is. */
+static int told_of(int carried)
+{
+    return TEZGUMI_MPI_CARRIED * tezgumi_mpi_status_of(carried) - tezgumi_mpi_rule_of(carried);
 }
 
 /* Learns the number of elements of each rank, or the reason why a rank tells none: all ranks see the same numbers. */
 static int learn_counts(counts *c, int told, tezgumi_mpi_report *report)
 {
-    int all[TEZGUMI_MPI_GATHERED_RANKS], r, status = TEZGUMI_OK;
+    int all[TEZGUMI_MPI_GATHERED_RANKS], r, least = 0;
     if (MPI_Allgather(&told, 1, MPI_INT, all, 1, MPI_INT, c->comm) != MPI_SUCCESS) return TEZGUMI_MPI_ERROR;
     c->n = 0;
     for (r = 0; r < c->ranks; r++) {
-        if (all[r] < status) {
-            status = all[r];
+        if (all[r] < 0 && (least == 0 || all[r] / TEZGUMI_MPI_CARRIED < least / TEZGUMI_MPI_CARRIED)) {
+            least = all[r];
             report->failed_rank = r;
         }
-        if (status != TEZGUMI_OK) continue;
+        if (least < 0) continue;
         c->starts[r] = (int)(c->n * sizeof *c->mine);
         c->bytes[r] = all[r] * (int)sizeof *c->mine;
         c->n += (uint32_t)all[r];
     }
-    if (status != TEZGUMI_OK) return status;
-    return c->n <= TEZGUMI_MPI_GATHERED_ELEMENTS ? TEZGUMI_OK : TEZGUMI_BAD_INPUT;
+    if (least < 0) return tezgumi_mpi_refusal(least / TEZGUMI_MPI_CARRIED, -least % TEZGUMI_MPI_CARRIED);
+    return c->n <= TEZGUMI_MPI_GATHERED_ELEMENTS ? TEZGUMI_OK : tezgumi_mpi_broken(TEZGUMI_MPI_RULE_ELEMENTS);
 }
 
 /* Notes a refusal that every rank finds by itself. */
@@ -115,11 +121,11 @@ static int keep_limits(const tezgumi_mpi_chain *chain, tezgumi_mpi_report *repor
 {
     uint32_t i, heavy = UINT32_MAX;
     for (i = 0; i < chain->n; i++) {
-        if (chain->bytes[i] > TEZGUMI_MPI_GATHERED_BYTES) return refuse(TEZGUMI_BAD_INPUT, chain->places[i], i, report);
+        if (chain->bytes[i] > TEZGUMI_MPI_GATHERED_BYTES) return refuse(tezgumi_mpi_broken(TEZGUMI_MPI_RULE_BYTES), chain->places[i], i, report);
         if (chain->loads[i] > TEZGUMI_MPI_GATHERED_LOAD && heavy == UINT32_MAX) heavy = i;
     }
     if (heavy == UINT32_MAX) return TEZGUMI_OK;
-    return refuse(TEZGUMI_BAD_LOAD, chain->places[heavy], heavy, report);
+    return refuse(tezgumi_mpi_refusal(TEZGUMI_BAD_LOAD, TEZGUMI_MPI_RULE_LOAD), chain->places[heavy], heavy, report);
 }
 
 /* Exchanges the elements themselves. */
@@ -146,11 +152,12 @@ static int gather(MPI_Comm comm, int refused, const tezgumi_mpi_element *mine, u
     int status, groups = 0;
     if (MPI_Comm_test_inter(comm, &groups) != MPI_SUCCESS || MPI_Comm_size(comm, &c.ranks) != MPI_SUCCESS)
         return TEZGUMI_MPI_ERROR;
-    if (groups || c.ranks > (int)TEZGUMI_MPI_GATHERED_RANKS) return TEZGUMI_BAD_INPUT;
+    if (groups) return tezgumi_mpi_broken(TEZGUMI_MPI_RULE_GROUPS);
+    if (c.ranks > (int)TEZGUMI_MPI_GATHERED_RANKS) return tezgumi_mpi_broken(TEZGUMI_MPI_RULE_RANKS);
     c.comm = comm;
     c.mine = mine;
     status = refused == TEZGUMI_OK ? refusal(mine, count, chain) : refused;
-    status = learn_counts(&c, status == TEZGUMI_OK ? (int)count : status, report);
+    status = learn_counts(&c, status == TEZGUMI_OK ? (int)count : told_of(status), report);
     return status == TEZGUMI_OK ? learn_elements(&c, count, chain, report) : status;
 }
 
@@ -161,7 +168,7 @@ int tezgumi_mpi_gather_or(MPI_Comm comm, int refused, const tezgumi_mpi_element 
     int status;
     memset(report, 0, sizeof *report);
     report->failed_rank = -1;
-    status = gather(comm, refused, mine, count, chain, report);
+    status = tezgumi_mpi_told(gather(comm, refused, mine, count, chain, report), report);
     if (status != TEZGUMI_OK && chain) chain->n = chain->ranks = 0;
     if (status == TEZGUMI_OK) report->gathered = chain->n;
     report->gather_seconds = MPI_Wtime() - begin;

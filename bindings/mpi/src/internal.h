@@ -6,9 +6,23 @@
 #include <limits.h>
 #include <tezgumi_parts.h>
 
+/* A refusal of the input, by the rule that was broken: inside the library a status carries it, and tezgumi_mpi_told takes it off. */
+enum { TEZGUMI_MPI_CARRIED = 32 };
+static inline int tezgumi_mpi_refusal(int status, int rule) { return status - TEZGUMI_MPI_CARRIED * rule; }
+static inline int tezgumi_mpi_broken(int rule) { return tezgumi_mpi_refusal(TEZGUMI_BAD_INPUT, rule); }
+static inline int tezgumi_mpi_status_of(int carried) { return -(-carried % TEZGUMI_MPI_CARRIED); }
+static inline int tezgumi_mpi_rule_of(int carried) { return -carried / TEZGUMI_MPI_CARRIED; }
+
+/* The status alone. Where it carries a rule, the report is told. */
+static inline int tezgumi_mpi_told(int carried, tezgumi_mpi_report *report)
+{
+    if (tezgumi_mpi_rule_of(carried)) report->failed_rule = tezgumi_mpi_rule_of(carried);
+    return tezgumi_mpi_status_of(carried);
+}
+
 /* How one rank fared. */
 typedef struct {
-    int status;
+    int status; /* which may carry a rule */
     uint32_t at; /* what failed_at of the report tells of it */
 } tezgumi_mpi_outcome;
 
@@ -84,7 +98,7 @@ typedef struct {
     uint64_t greatest; /* the greatest load of one, */
     uint64_t bytes;    /* the size of all, */
     uint64_t largest;  /* and of the largest */
-    uint64_t options;  /* a fingerprint of its options; 0 where they are out of order */
+    uint64_t options;  /* a fingerprint of its options; even where they are out of order */
 } tezgumi_mpi_summary;
 
 /* Windows: each element in one of them begins a run of the merged chain. Both lists rise. */
@@ -119,6 +133,14 @@ typedef struct {
     int *counts, *starts;             /* of what the ranks gather */
     void *room;                       /* that of the lists */
 } tezgumi_mpi_search;
+
+/* Runs of elements, in order: their loads, and the element behind the last of each. */
+typedef struct {
+    size_t count;
+    uint64_t *loads;
+    uint32_t *ends;
+    void *room; /* to be freed */
+} tezgumi_mpi_runs;
 
 /* Room for a layout on so many ranks, from the last time or anew. TEZGUMI_NO_MEMORY where malloc refused. */
 int tezgumi_mpi_layout_room(tezgumi_mpi_layout *layout, uint32_t ranks);
@@ -166,8 +188,9 @@ static inline uint64_t tezgumi_mpi_later(uint64_t a, uint64_t b) { return a > b 
 static inline uint64_t tezgumi_mpi_earlier(uint64_t a, uint64_t b) { return a < b ? a : b; }
 
 /* The status of an export that was called in order: where it takes its input for bad, something before went wrong. */
-static inline int tezgumi_mpi_inner(int status)
+static inline int tezgumi_mpi_inner(int carried)
 {
+    const int status = tezgumi_mpi_status_of(carried);
     return status == TEZGUMI_BAD_INPUT || status == TEZGUMI_BAD_LOAD ? TEZGUMI_MPI_WRONG_PLAN : status;
 }
 
@@ -189,11 +212,22 @@ int tezgumi_mpi_windows_by_walks(tezgumi_mpi_search *s);
 /* The runs that the windows make of the elements first .. last - 1. */
 uint64_t tezgumi_mpi_runs_of(const tezgumi_mpi_windows *windows, uint32_t first, uint32_t last);
 
+/* Merges this part by the windows, and gathers the runs of all parts. Both begin as all 0. */
+int tezgumi_mpi_gather_runs(tezgumi_mpi_search *s, tezgumi_mpi_runs *own, tezgumi_mpi_runs *all);
+
 /* Gathers the runs of all parts and divides them: the layout's cuts, the stops and the bottleneck. */
 int tezgumi_mpi_divide_runs(tezgumi_mpi_search *s);
 
 /* Checks the division by its loads, added up over all ranks. TEZGUMI_MPI_WRONG_PLAN where it has a flaw. */
 int tezgumi_mpi_check_division(tezgumi_mpi_search *s);
+
+/* The greatest load that a block may have by the option refine, where this is the least possible one. */
+uint64_t tezgumi_mpi_limit(const tezgumi_mpi_options *options, uint64_t least);
+
+/* Finds the cuts within that limit above the bottleneck that move the fewest bytes where block b goes to rank b, and checks by sums
+ * over all ranks that they keep to it: the layout's cuts, and max_load_after of the report. The ranks hold the chain in their own
+ * order. */
+int tezgumi_mpi_keep_cuts(tezgumi_mpi_search *s);
 
 /* Names the blocks: the layout's names, and the bytes that move. */
 int tezgumi_mpi_name_blocks(tezgumi_mpi_search *s);

@@ -27,15 +27,18 @@ int tezgumi_mpi_layout_room(tezgumi_mpi_layout *layout, uint32_t ranks)
     return TEZGUMI_OK;
 }
 
-/* A fingerprint of options on which the decision depends; 0 where they are out of order. */
+/* A fingerprint of options on which the decision depends, which is odd; REFINES or NO_TOLERANCE where they are out of order. */
+enum { NO_TOLERANCE = 0, REFINES = 2 };
 static uint64_t print_of(const tezgumi_mpi_options *options)
 {
-    uint32_t words[4] = {0};
-    if (!(options->tolerance >= 0) || options->refine) return 0;
+    uint32_t words[5] = {0};
+    if (options->refine && !(options->keep_order && options->tolerance <= 1)) return REFINES;
+    if (!(options->tolerance >= 0)) return NO_TOLERANCE;
     memcpy(words, &options->tolerance, sizeof options->tolerance);
     words[2] = options->skip_check != 0;
     words[3] = options->keep_order != 0;
-    return tezgumi_mpi_fingerprint(TEZGUMI_MPI_FINGERPRINT, words, 4) | 1;
+    words[4] = options->refine != 0;
+    return tezgumi_mpi_fingerprint(TEZGUMI_MPI_FINGERPRINT, words, 5) | 1;
 }
 
 /* Adds up what this rank holds. */
@@ -95,7 +98,7 @@ static int join_parts(tezgumi_mpi_search *s)
     uint64_t n = 0, end = 0;
     uint32_t r, k;
     for (r = 0; r < s->ranks; r++) n += s->told[r].count;
-    if (n > TEZGUMI_MPI_ELEMENTS) return refuse(s, TEZGUMI_BAD_INPUT, -1, 0);
+    if (n > TEZGUMI_MPI_ELEMENTS) return refuse(s, tezgumi_mpi_broken(TEZGUMI_MPI_RULE_ELEMENTS), -1, 0);
     for (r = 0; r < s->ranks; r++) {
         l->firsts[r] = s->told[r].count ? (uint32_t)s->told[r].first : 0;
         l->counts[r] = (uint32_t)s->told[r].count;
@@ -139,8 +142,9 @@ static int add_up(tezgumi_mpi_search *s)
         if (t->largest > largest) largest = t->largest;
         bytes += t->bytes;
     }
-    if (largest > TEZGUMI_MPI_BYTES || bytes > TEZGUMI_MPI_TOTAL_BYTES) return TEZGUMI_BAD_INPUT;
-    return is_heavy ? TEZGUMI_BAD_LOAD : TEZGUMI_OK;
+    if (largest > TEZGUMI_MPI_BYTES) return tezgumi_mpi_broken(TEZGUMI_MPI_RULE_BYTES);
+    if (bytes > TEZGUMI_MPI_TOTAL_BYTES) return tezgumi_mpi_broken(TEZGUMI_MPI_RULE_TOTAL_BYTES);
+    return is_heavy ? tezgumi_mpi_refusal(TEZGUMI_BAD_LOAD, TEZGUMI_MPI_RULE_TOTAL_LOAD) : TEZGUMI_OK;
 }
 
 /* Tells the report of an element that has led to this refusal, if this rank holds one. */
@@ -148,7 +152,7 @@ static int blame(tezgumi_mpi_search *s, int status)
 {
     uint32_t i;
     for (i = 0; i < s->part->count; i++) {
-        if (status == TEZGUMI_BAD_INPUT ? s->part->bytes[i] > TEZGUMI_MPI_BYTES : s->part->loads[i] == s->greatest) break;
+        if (tezgumi_mpi_status_of(status) == TEZGUMI_BAD_INPUT ? s->part->bytes[i] > TEZGUMI_MPI_BYTES : s->part->loads[i] == s->greatest) break;
     }
     if (i == s->part->count) return tezgumi_mpi_agree(s->comm, tezgumi_mpi_outcome_of(TEZGUMI_OK, 0), 0, s->report);
     return tezgumi_mpi_agree(s->comm, tezgumi_mpi_outcome_of(status, s->part->first + i), 0, s->report);
@@ -158,8 +162,11 @@ static int blame(tezgumi_mpi_search *s, int status)
 static int compare_options(tezgumi_mpi_search *s)
 {
     uint32_t r;
-    for (r = 0; r < s->ranks; r++)
-        if (s->told[r].options == 0) return refuse(s, TEZGUMI_BAD_INPUT, (int)r, 0);
+    for (r = 0; r < s->ranks; r++) {
+        const uint64_t told = s->told[r].options;
+        if (told == NO_TOLERANCE) return refuse(s, tezgumi_mpi_broken(TEZGUMI_MPI_RULE_TOLERANCE), (int)r, 0);
+        if (told == REFINES) return refuse(s, tezgumi_mpi_broken(TEZGUMI_MPI_RULE_REFINE), (int)r, 0);
+    }
     for (r = 1; r < s->ranks; r++)
         if (s->told[r].options != s->told[0].options) return TEZGUMI_MPI_DISAGREE;
     return TEZGUMI_OK;

@@ -2,15 +2,7 @@
  * all ranks. */
 #include "internal.h"
 
-/* Runs, in order: their loads, and the element behind the last of each. */
-typedef struct {
-    size_t count;
-    uint64_t *loads;
-    uint32_t *ends;
-    void *room;
-} runs;
-
-static int runs_room(runs *r, size_t count)
+static int runs_room(tezgumi_mpi_runs *r, size_t count)
 {
     r->count = count;
     r->room = malloc((count + 1) * (sizeof *r->loads + sizeof *r->ends));
@@ -21,7 +13,7 @@ static int runs_room(runs *r, size_t count)
 }
 
 /* Merges this rank's part. */
-static int merge(const tezgumi_mpi_search *s, runs *own)
+static int merge(const tezgumi_mpi_search *s, tezgumi_mpi_runs *own)
 {
     const tezgumi_mpi_part *part = s->part;
     const tezgumi_mpi_windows *w = &s->windows;
@@ -60,7 +52,7 @@ static int learn_counts(tezgumi_mpi_search *s, int status, size_t count, uint64_
 }
 
 /* Gathers the runs of all ranks in the order of their parts. */
-static int gather(tezgumi_mpi_search *s, const runs *own, size_t count, runs *all)
+static int gather(tezgumi_mpi_search *s, const tezgumi_mpi_runs *own, size_t count, tezgumi_mpi_runs *all)
 {
     const int mine = (int)own->count;
     const int status = tezgumi_mpi_agree(s->comm, tezgumi_mpi_outcome_of(runs_room(all, count), 0), 0, s->report);
@@ -73,14 +65,14 @@ static int gather(tezgumi_mpi_search *s, const runs *own, size_t count, runs *al
 }
 
 /* Puts the first element of each of these runs in its place. */
-static void start_runs(const runs *all, uint32_t *places, size_t count)
+static void start_runs(const tezgumi_mpi_runs *all, uint32_t *places, size_t count)
 {
     size_t k;
     for (k = 0; k < count; k++) places[k] = places[k] == 0 ? 0 : all->ends[places[k] - 1];
 }
 
 /* Divides the merged chain: the division of the chain. */
-static int divide(tezgumi_mpi_search *s, const runs *all)
+static int divide(tezgumi_mpi_search *s, const tezgumi_mpi_runs *all)
 {
     const size_t places = (size_t)s->ranks + 1;
     const int status = tezgumi_mpi_inner(tezgumi_divide(all->loads, all->count, s->ranks, &s->bottleneck, s->layout->cuts, places,
@@ -102,20 +94,28 @@ static void take_ends(tezgumi_mpi_search *s)
     s->stops_count = s->bottleneck > 0 ? blocks + 1 : 0;
 }
 
+int tezgumi_mpi_gather_runs(tezgumi_mpi_search *s, tezgumi_mpi_runs *own, tezgumi_mpi_runs *all)
+{
+    double since = MPI_Wtime();
+    uint64_t count = 0;
+    int status = merge(s, own);
+    status = learn_counts(s, status, own->count, &count);
+    if (status == TEZGUMI_OK) status = gather(s, own, (size_t)count, all);
+    s->report->gather_seconds += tezgumi_mpi_lap(&since);
+    return status;
+}
+
 int tezgumi_mpi_divide_runs(tezgumi_mpi_search *s)
 {
-    runs own = {0, NULL, NULL, NULL}, all = {0, NULL, NULL, NULL};
-    double since = MPI_Wtime();
-    uint64_t count;
+    tezgumi_mpi_runs own = {0, NULL, NULL, NULL}, all = {0, NULL, NULL, NULL};
+    double since;
     int status;
     if (s->has_walked && s->low == s->high) {
         take_ends(s);
         return TEZGUMI_OK;
     }
-    status = merge(s, &own);
-    status = learn_counts(s, status, own.count, &count);
-    if (status == TEZGUMI_OK) status = gather(s, &own, (size_t)count, &all);
-    s->report->gather_seconds += tezgumi_mpi_lap(&since);
+    status = tezgumi_mpi_gather_runs(s, &own, &all);
+    since = MPI_Wtime();
     if (status == TEZGUMI_OK)
         status = tezgumi_mpi_agree(s->comm, tezgumi_mpi_outcome_of(divide(s, &all), 0), 0, s->report);
     s->report->plan_seconds += tezgumi_mpi_lap(&since);

@@ -137,15 +137,19 @@ static int exchange(mover *m, uint32_t round, tezgumi_mpi_report *report)
 }
 
 /* Whether all that move is given is in order. */
-static int usable(MPI_Comm comm, const tezgumi_mpi_chain *chain, const tezgumi_mpi_callbacks *callbacks)
+static tezgumi_mpi_outcome refusal(MPI_Comm comm, const tezgumi_mpi_chain *chain, const tezgumi_mpi_callbacks *callbacks)
 {
     uint32_t i;
-    if (!tezgumi_mpi_fits(comm, chain) || !callbacks || !callbacks->pack || !callbacks->unpack) return 0;
+    if (!tezgumi_mpi_fits(comm, chain))
+        return tezgumi_mpi_outcome_of(tezgumi_mpi_broken(chain ? TEZGUMI_MPI_RULE_CHAIN : TEZGUMI_MPI_RULE_NULL), 0);
+    if (!callbacks || !callbacks->pack || !callbacks->unpack)
+        return tezgumi_mpi_outcome_of(tezgumi_mpi_broken(TEZGUMI_MPI_RULE_CALLBACKS), 0);
     for (i = 0; i < chain->n; i++) {
-        if (chain->places[i] >= chain->ranks || chain->new_places[i] >= chain->ranks) return 0;
-        if (chain->bytes[i] > TEZGUMI_MPI_GATHERED_BYTES) return 0;
+        if (chain->places[i] >= chain->ranks || chain->new_places[i] >= chain->ranks)
+            return tezgumi_mpi_outcome_of(tezgumi_mpi_broken(TEZGUMI_MPI_RULE_PLACES), i);
+        if (chain->bytes[i] > TEZGUMI_MPI_GATHERED_BYTES) return tezgumi_mpi_outcome_of(tezgumi_mpi_broken(TEZGUMI_MPI_RULE_BYTES), i);
     }
-    return 1;
+    return tezgumi_mpi_outcome_of(TEZGUMI_OK, 0);
 }
 
 size_t tezgumi_mpi_room_of(const tezgumi_mpi_options *options)
@@ -179,11 +183,12 @@ static uint64_t print_of(const mover *m)
 }
 
 /* The whole of it, but for the report's time. */
-static int move(mover *m, size_t room, int status, tezgumi_mpi_report *report)
+static int move(mover *m, size_t room, tezgumi_mpi_outcome outcome, tezgumi_mpi_report *report)
 {
     uint32_t round;
-    if (status == TEZGUMI_OK) status = prepare(m, room);
-    status = tezgumi_mpi_agree(m->comm, tezgumi_mpi_outcome_of(status, 0), status == TEZGUMI_OK ? print_of(m) : 0, report);
+    int status;
+    if (outcome.status == TEZGUMI_OK) outcome.status = prepare(m, room);
+    status = tezgumi_mpi_agree(m->comm, outcome, outcome.status == TEZGUMI_OK ? print_of(m) : 0, report);
     report->elements_moved = report->exchanges = 0;
     report->bytes_moved = 0;
     for (round = 0; status == TEZGUMI_OK && round < m->schedule.rounds; round++) status = exchange(m, round, report);
@@ -207,8 +212,7 @@ int tezgumi_mpi_move(MPI_Comm comm, tezgumi_mpi_chain *chain, const tezgumi_mpi_
     m.rank = (uint32_t)rank;
     m.chain = chain;
     m.callbacks = callbacks;
-    status = usable(comm, chain, callbacks) ? TEZGUMI_OK : TEZGUMI_BAD_INPUT;
-    status = move(&m, tezgumi_mpi_room_of(options), status, report);
+    status = move(&m, tezgumi_mpi_room_of(options), refusal(comm, chain, callbacks), report);
     report->move_seconds = MPI_Wtime() - begin;
     return status;
 }

@@ -59,17 +59,21 @@ static int get_lists(mover *m)
 }
 
 /* Whether all that is given is there, and the part is what the layout says. */
-static int is_usable(const mover *m)
+static tezgumi_mpi_outcome refusal(const mover *m)
 {
     const tezgumi_mpi_part *part = m->part;
     const tezgumi_mpi_layout *l = m->layout;
     uint32_t i;
-    if (!l || !l->room || l->ranks != m->ranks || !part || !m->callbacks || !m->callbacks->pack || !m->callbacks->unpack) return 0;
-    if (part->count != l->counts[m->rank]) return 0;
-    if (part->count > 0 && (!part->bytes || part->first != l->firsts[m->rank])) return 0;
+    if (!l || !part) return tezgumi_mpi_outcome_of(tezgumi_mpi_broken(TEZGUMI_MPI_RULE_NULL), 0);
+    if (!l->room || l->ranks != m->ranks) return tezgumi_mpi_outcome_of(tezgumi_mpi_broken(TEZGUMI_MPI_RULE_LAYOUT), 0);
+    if (!m->callbacks || !m->callbacks->pack || !m->callbacks->unpack)
+        return tezgumi_mpi_outcome_of(tezgumi_mpi_broken(TEZGUMI_MPI_RULE_CALLBACKS), 0);
+    if (part->count != l->counts[m->rank] || (part->count > 0 && part->first != l->firsts[m->rank]))
+        return tezgumi_mpi_outcome_of(tezgumi_mpi_broken(TEZGUMI_MPI_RULE_PART), 0);
+    if (part->count > 0 && !part->bytes) return tezgumi_mpi_outcome_of(tezgumi_mpi_broken(TEZGUMI_MPI_RULE_NULL), 0);
     for (i = 0; i < part->count; i++)
-        if (part->bytes[i] > TEZGUMI_MPI_BYTES) return 0;
-    return 1;
+        if (part->bytes[i] > TEZGUMI_MPI_BYTES) return tezgumi_mpi_outcome_of(tezgumi_mpi_broken(TEZGUMI_MPI_RULE_BYTES), part->first + i);
+    return tezgumi_mpi_outcome_of(TEZGUMI_OK, 0);
 }
 
 /* Whether what is sent and received so far, if anything is, went by the same cuts and names. */
@@ -364,10 +368,14 @@ static int prepare(mover *m, uint64_t *left, tezgumi_mpi_report *report)
 static int move(mover *m, tezgumi_mpi_report *report)
 {
     uint64_t left = 0;
-    int status = is_usable(m) ? get_lists(m) : TEZGUMI_BAD_INPUT;
-    if (status == TEZGUMI_OK && !(tezgumi_mpi_is_decision(m->layout, m->out.offered) && goes_on(m->layout))) status = TEZGUMI_BAD_INPUT;
-    if (status == TEZGUMI_OK) m->print = tezgumi_mpi_print_of_move(m->layout);
-    status = tezgumi_mpi_agree(m->comm, tezgumi_mpi_outcome_of(status, 0), status == TEZGUMI_OK ? common_print(m) : 0, report);
+    tezgumi_mpi_outcome outcome = refusal(m);
+    int status;
+    if (outcome.status == TEZGUMI_OK) outcome.status = get_lists(m);
+    if (outcome.status == TEZGUMI_OK && !tezgumi_mpi_is_decision(m->layout, m->out.offered))
+        outcome.status = tezgumi_mpi_broken(TEZGUMI_MPI_RULE_CUTS);
+    if (outcome.status == TEZGUMI_OK && !goes_on(m->layout)) outcome.status = tezgumi_mpi_broken(TEZGUMI_MPI_RULE_LAYOUT);
+    if (outcome.status == TEZGUMI_OK) m->print = tezgumi_mpi_print_of_move(m->layout);
+    status = tezgumi_mpi_agree(m->comm, outcome, outcome.status == TEZGUMI_OK ? common_print(m) : 0, report);
     report->elements_moved = report->exchanges = 0;
     report->bytes_moved = 0;
     if (status == TEZGUMI_OK) status = prepare(m, &left, report);
@@ -389,7 +397,7 @@ int tezgumi_mpi_move_part(MPI_Comm comm, const tezgumi_mpi_part *part, tezgumi_m
     if (MPI_Comm_test_inter(comm, &groups) != MPI_SUCCESS || MPI_Comm_size(comm, &ranks) != MPI_SUCCESS
         || MPI_Comm_rank(comm, &rank) != MPI_SUCCESS)
         return TEZGUMI_MPI_ERROR;
-    if (groups) return TEZGUMI_BAD_INPUT;
+    if (groups) return tezgumi_mpi_told(tezgumi_mpi_broken(TEZGUMI_MPI_RULE_GROUPS), report);
     memset(&m, 0, sizeof m);
     m.comm = comm;
     m.rank = (uint32_t)rank;

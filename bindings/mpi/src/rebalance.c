@@ -75,7 +75,7 @@ typedef struct {
 /* Whether the callbacks are there, also where nothing turns out to move. */
 static int refusal(const request *r)
 {
-    return r->callbacks && r->callbacks->pack && r->callbacks->unpack ? TEZGUMI_OK : TEZGUMI_BAD_INPUT;
+    return r->callbacks && r->callbacks->pack && r->callbacks->unpack ? TEZGUMI_OK : tezgumi_mpi_broken(TEZGUMI_MPI_RULE_CALLBACKS);
 }
 
 static int by_gathering(const request *r)
@@ -107,12 +107,16 @@ static int by_parts(const request *r, const own_part *own)
 /* Goes on with the move that the layout has under way. */
 static int by_rest(const request *r, uint32_t ranks)
 {
-    tezgumi_mpi_outcome outcome = {TEZGUMI_BAD_INPUT, 0};
+    tezgumi_mpi_outcome outcome = {TEZGUMI_OK, 0};
     own_part rest;
     int rank, status;
     memset(&rest, 0, sizeof rest);
     if (MPI_Comm_rank(r->comm, &rank) != MPI_SUCCESS) return TEZGUMI_MPI_ERROR;
-    if (refusal(r) == TEZGUMI_OK && !r->chain && (r->mine || r->count == 0) && tezgumi_mpi_is_under_way(r->layout, ranks))
+    outcome.status = refusal(r);
+    if (outcome.status == TEZGUMI_OK && !r->mine && r->count > 0) outcome.status = tezgumi_mpi_broken(TEZGUMI_MPI_RULE_NULL);
+    if (outcome.status == TEZGUMI_OK && (r->chain || !tezgumi_mpi_is_under_way(r->layout, ranks)))
+        outcome.status = tezgumi_mpi_broken(TEZGUMI_MPI_RULE_LAYOUT);
+    if (outcome.status == TEZGUMI_OK)
         outcome = tezgumi_mpi_rest_of(r->layout, (uint32_t)rank, r->mine, r->count, &rest.part, &rest.room);
     status = tezgumi_mpi_agree(r->comm, outcome, 0, r->report);
     if (status == TEZGUMI_OK) status = tezgumi_mpi_move_part(r->comm, &rest.part, r->layout, r->callbacks, r->options, r->report);
@@ -130,7 +134,7 @@ static int is_under_way(const request *r)
 
 static int needs_chain(const request *r)
 {
-    return r->chain || (r->options && r->options->refine);
+    return r->chain || (r->options && r->options->refine && !r->options->keep_order);
 }
 
 static int rebalance(const request *r, const own_part *own)

@@ -381,6 +381,16 @@ static void spoil(int wrong, tezgumi_mpi_layout *l, tezgumi_mpi_field *fields)
     }
 }
 
+/* The rule that each breaks, and what is told of where. */
+static const struct { int rule; uint32_t at; } told[WRONGS] = {
+    [DOUBLE_NAME] = {TEZGUMI_MPI_RULE_CUTS, 0}, [FAR_NAME] = {TEZGUMI_MPI_RULE_CUTS, 0}, [FALLING_CUT] = {TEZGUMI_MPI_RULE_CUTS, 0},
+    [SHORT_CUTS] = {TEZGUMI_MPI_RULE_CUTS, 0}, [FAR_CUTS] = {TEZGUMI_MPI_RULE_CUTS, 0}, [OTHER_RANKS] = {TEZGUMI_MPI_RULE_LAYOUT, 0},
+    [NO_ROOM] = {TEZGUMI_MPI_RULE_LAYOUT, 0}, [UNDER_WAY] = {TEZGUMI_MPI_RULE_LAYOUT, 0}, [NO_FIELDS] = {TEZGUMI_MPI_RULE_NULL, 0},
+    [NO_FROM] = {TEZGUMI_MPI_RULE_FIELDS, 1}, [NO_TO] = {TEZGUMI_MPI_RULE_FIELDS, 2}, [NARROW_FROM] = {TEZGUMI_MPI_RULE_FIELDS, 0},
+    [NARROW_TO] = {TEZGUMI_MPI_RULE_FIELDS, 3}, [WIDE_FROM] = {TEZGUMI_MPI_RULE_FIELDS, 0}, [WIDE_TO] = {TEZGUMI_MPI_RULE_FIELDS, 0},
+    [GREAT_FIELD] = {TEZGUMI_MPI_RULE_BYTES, 0}, [GREAT_ELEMENT] = {TEZGUMI_MPI_RULE_BYTES, 0}, [OVERLAP] = {TEZGUMI_MPI_RULE_CUTS, 0},
+    [GAP] = {TEZGUMI_MPI_RULE_CUTS, 0}, [BOTH] = {TEZGUMI_MPI_RULE_CUTS, 0}, [FAR_RANGE] = {TEZGUMI_MPI_RULE_CUTS, 0}};
+
 /* The last rank, or each, does something wrong: all say so, and nothing is written. */
 static void refusals(void)
 {
@@ -398,6 +408,7 @@ static void refusals(void)
         memcpy(words, layout.firsts, (6 * (size_t)ranks + 1) * sizeof *words);
         EXPECT(move_these(&layout, spoilt && wrong == NO_FIELDS ? NULL : fields, FIELDS, 0) == TEZGUMI_BAD_INPUT);
         EXPECT(report.failed_rank >= 0 && (report.failed_rank == ranks - 1 || wrong >= SAME_WRONG));
+        EXPECT(report.failed_rule == told[wrong].rule && report.failed_at == told[wrong].at);
         layout.room = layout.firsts; /* the room begins with them */
         before.room = layout.room;
         expect_untouched(&before, words);
@@ -406,6 +417,7 @@ static void refusals(void)
     begin_ring(6);
     fields_of(fields);
     EXPECT(move_these(rank == ranks - 1 ? NULL : &layout, fields, FIELDS, 0) == TEZGUMI_BAD_INPUT);
+    EXPECT(report.failed_rule == TEZGUMI_MPI_RULE_NULL);
     EXPECT(move_within(0) == TEZGUMI_OK);
     expect_arrays();
 }
@@ -421,7 +433,7 @@ static void overlaps(void)
         layout.firsts[other] -= 3;
         before = layout;
         memcpy(words, layout.room, (6 * (size_t)ranks + 1) * sizeof *words);
-        EXPECT(move_within(0) == TEZGUMI_BAD_INPUT && report.failed_rank == 0);
+        EXPECT(move_within(0) == TEZGUMI_BAD_INPUT && report.failed_rank == 0 && report.failed_rule == TEZGUMI_MPI_RULE_CUTS);
         expect_untouched(&before, words);
     }
 }

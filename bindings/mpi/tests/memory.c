@@ -70,12 +70,12 @@ static void drop_uncounted(void *app, uint32_t index)
 static int rebalance_counted(int skip_check, int refine, tezgumi_mpi_report *report)
 {
     static tezgumi_mpi_element mine[FIELD_MOST];
-    const tezgumi_mpi_options options = {0, 1000, skip_check, refine, 0};
+    const tezgumi_mpi_options options = {0, 1000, skip_check, refine, as_parts && refine};
     const tezgumi_mpi_callbacks callbacks = {field_pack, unpack_uncounted, drop_uncounted, &f};
     tezgumi_mpi_chain chain = {0};
     uint32_t count;
     int status;
-    if (as_parts) deal_parts(&f, 60, 3, EVEN, 1);
+    if (as_parts && !refine) deal_parts(&f, 60, 3, EVEN, 1);
     else deal(&f, 60, 3, refine ? IN_ORDER : SCATTERED);
     f.fail_pack = fail_pack;
     f.fail_unpack = fail_unpack;
@@ -203,6 +203,13 @@ static void of_parts(void)
     as_parts = 0;
 }
 
+static void of_kept_parts(void)
+{
+    as_parts = 1;
+    on_each_rank(0, 1);
+    as_parts = 0;
+}
+
 static void after_callbacks_of_parts(void)
 {
     as_parts = 1;
@@ -217,6 +224,7 @@ int main(int argc, char **argv)
     run_test("memory refused on one rank, without the checker", unchecked);
     run_test("memory refused on one rank, within a tolerance", refined);
     run_test("memory refused on one rank, of parts", of_parts);
+    run_test("memory refused on one rank, of parts that keep the order", of_kept_parts);
     if (ranks > 1) run_test("memory is given back after a callback that failed", after_callbacks);
     if (ranks > 1) run_test("memory of parts is given back after a callback that failed", after_callbacks_of_parts);
     if (ranks > 1) run_test("memory refused on one rank, of a move that goes on", of_the_rest);

@@ -179,6 +179,7 @@ static void fail_in_second(int from, int while_packing)
     f.fail_pack = f.fail_unpack = UINT32_MAX;
     layout.cuts[1]++; /* other elements would follow those that have gone */
     EXPECT(move_within(4 * 64) == TEZGUMI_BAD_INPUT && report.exchanges == 0);
+    EXPECT(report.failed_rule == TEZGUMI_MPI_RULE_LAYOUT);
     layout.cuts[1]--;
     EXPECT(move_within(4 * 64) == TEZGUMI_OK);
     EXPECT(report.elements_moved == 8 * (uint32_t)ranks && report.exchanges == 2);
@@ -194,9 +195,9 @@ static void callbacks_that_fail(void)
     }
 }
 
-static void expect_refused(int status)
+static void expect_refused(int status, int rule)
 {
-    EXPECT(status == TEZGUMI_BAD_INPUT && report.failed_rank == ranks - 1);
+    EXPECT(status == TEZGUMI_BAD_INPUT && report.failed_rank == ranks - 1 && report.failed_rule == rule);
     EXPECT(f.packs == 0 && f.unpacks == 0 && f.drops == 0);
 }
 
@@ -210,20 +211,20 @@ static void refusals(void)
     begin_ring(3, 5);
     part = part_of(&f);
     if (wrong) layout.names[0] ^= 1;
-    expect_refused(move(NULL));
+    expect_refused(move(NULL), TEZGUMI_MPI_RULE_CUTS);
     if (wrong) layout.names[0] ^= 1;
     if (wrong) layout.cuts[1] = f.n + 1;
-    expect_refused(move(NULL));
+    expect_refused(move(NULL), TEZGUMI_MPI_RULE_CUTS);
     if (wrong) layout.cuts[1] = 3;
     if (wrong) part.first++;
-    expect_refused(tezgumi_mpi_move_part(MPI_COMM_WORLD, &part, &layout, &callbacks, NULL, &report));
+    expect_refused(tezgumi_mpi_move_part(MPI_COMM_WORLD, &part, &layout, &callbacks, NULL, &report), TEZGUMI_MPI_RULE_PART);
     part = part_of(&f);
     if (wrong) part.count--;
-    expect_refused(tezgumi_mpi_move_part(MPI_COMM_WORLD, &part, &layout, &callbacks, NULL, &report));
+    expect_refused(tezgumi_mpi_move_part(MPI_COMM_WORLD, &part, &layout, &callbacks, NULL, &report), TEZGUMI_MPI_RULE_PART);
     part = part_of(&f);
-    expect_refused(tezgumi_mpi_move_part(MPI_COMM_WORLD, wrong ? NULL : &part, &layout, &callbacks, NULL, &report));
-    expect_refused(tezgumi_mpi_move_part(MPI_COMM_WORLD, &part, wrong ? &fresh : &layout, &callbacks, NULL, &report));
-    expect_refused(tezgumi_mpi_move_part(MPI_COMM_WORLD, &part, &layout, wrong ? NULL : &callbacks, NULL, &report));
+    expect_refused(tezgumi_mpi_move_part(MPI_COMM_WORLD, wrong ? NULL : &part, &layout, &callbacks, NULL, &report), TEZGUMI_MPI_RULE_NULL);
+    expect_refused(tezgumi_mpi_move_part(MPI_COMM_WORLD, &part, wrong ? &fresh : &layout, &callbacks, NULL, &report), TEZGUMI_MPI_RULE_LAYOUT);
+    expect_refused(tezgumi_mpi_move_part(MPI_COMM_WORLD, &part, &layout, wrong ? NULL : &callbacks, NULL, &report), TEZGUMI_MPI_RULE_CALLBACKS);
     EXPECT(move_within(wrong ? 32 : 16) == (ranks > 1 ? TEZGUMI_MPI_DISAGREE : TEZGUMI_OK));
     EXPECT(move(NULL) == TEZGUMI_OK);
     if (ranks > 1) expect_moved();

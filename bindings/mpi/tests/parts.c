@@ -211,6 +211,7 @@ static void refusals(void)
     part = good;
     if (wrong) part.loads = NULL;
     expect_refused(part, TEZGUMI_BAD_INPUT, 0);
+    EXPECT(report.failed_rule == TEZGUMI_MPI_RULE_NULL);
     part = good;
     memcpy(bytes, part.bytes, part.count * sizeof *bytes);
     memcpy(loads, part.loads, part.count * sizeof *loads);
@@ -219,8 +220,10 @@ static void refusals(void)
     if (wrong) loads[1] = INT64_MAX;
     if (wrong) loads[2] = 1;
     expect_refused(part, TEZGUMI_BAD_LOAD, n - 3);
+    EXPECT(report.failed_rule == TEZGUMI_MPI_RULE_TOTAL_LOAD);
     if (wrong) bytes[3] = TEZGUMI_MPI_BYTES + 1;
     expect_refused(part, TEZGUMI_BAD_INPUT, n - 1);
+    EXPECT(report.failed_rule == TEZGUMI_MPI_RULE_BYTES);
     EXPECT(tezgumi_mpi_decide_part(MPI_COMM_WORLD, wrong ? NULL : &good, NULL, &layout, &report) == TEZGUMI_BAD_INPUT);
     EXPECT(tezgumi_mpi_decide_part(MPI_COMM_WORLD, &good, NULL, wrong ? NULL : &layout, &report) == TEZGUMI_BAD_INPUT);
     EXPECT(tezgumi_mpi_decide_part(MPI_COMM_WORLD, &good, NULL, &layout, NULL) == TEZGUMI_OK);
@@ -245,9 +248,10 @@ static void bad_options(void)
     deal(&f, 20, 1, IN_ORDER);
     if (rank == ranks - 1) options.tolerance = (double)NAN;
     EXPECT(decide(&options) == TEZGUMI_BAD_INPUT && report.failed_rank == ranks - 1);
+    EXPECT(report.failed_rule == TEZGUMI_MPI_RULE_TOLERANCE);
     options.tolerance = 0;
     options.refine = 1;
-    EXPECT(decide(&options) == TEZGUMI_BAD_INPUT);
+    EXPECT(decide(&options) == TEZGUMI_BAD_INPUT && report.failed_rule == TEZGUMI_MPI_RULE_REFINE);
     options.refine = 0;
     options.tolerance = rank == 0;
     EXPECT(decide(&options) == (ranks > 1 ? TEZGUMI_MPI_DISAGREE : TEZGUMI_OK));

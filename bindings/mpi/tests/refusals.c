@@ -11,9 +11,16 @@ static int wrong_here(void)
     return rank == ranks - 1;
 }
 
+/* Expects that this rule of the input was broken. */
+static void expect_rule(int rule)
+{
+    EXPECT(report.failed_rule == rule);
+}
+
 /* Expects a status on all ranks, of the last rank, and that nothing has moved. */
 static void expect_refused(int status, int expected, uint32_t at)
 {
+    EXPECT((status == TEZGUMI_BAD_INPUT || status == TEZGUMI_BAD_LOAD) == (report.failed_rule != TEZGUMI_MPI_RULE_NONE));
     EXPECT(status == expected);
     EXPECT(report.failed_rank == ranks - 1);
     EXPECT(report.failed_at == at);
@@ -90,6 +97,7 @@ static void too_many_bytes(void)
     if (wrong_here()) mine[position(18)].bytes = TEZGUMI_MPI_GATHERED_BYTES + 1;
     if (wrong_here()) mine[position(17)].load = TEZGUMI_MPI_GATHERED_LOAD + 1;
     expect_refused(try_gathered(count), TEZGUMI_BAD_INPUT, 18);
+    expect_rule(TEZGUMI_MPI_RULE_BYTES);
 }
 
 static void too_great_a_load(void)
@@ -97,6 +105,7 @@ static void too_great_a_load(void)
     const uint32_t count = deal_some();
     if (wrong_here()) mine[position(18)].load = mine[position(19)].load = TEZGUMI_MPI_GATHERED_LOAD + 1;
     expect_refused(try_gathered(count), TEZGUMI_BAD_LOAD, 18);
+    expect_rule(TEZGUMI_MPI_RULE_LOAD);
 }
 
 static void too_many_on_a_rank(void)
@@ -104,6 +113,7 @@ static void too_many_on_a_rank(void)
     const uint32_t count = deal_some();
     const uint32_t too_many = wrong_here() ? TEZGUMI_MPI_GATHERED_ELEMENTS + 1 : count;
     expect_refused(try_gathered(too_many), TEZGUMI_BAD_INPUT, 0);
+    expect_rule(TEZGUMI_MPI_RULE_ELEMENTS);
     expect_refused(try_with(too_many), TEZGUMI_MPI_SCATTERED, 0);
 }
 
@@ -113,7 +123,7 @@ static void too_many_in_all(void)
     const uint32_t most = wrong_here() ? TEZGUMI_MPI_GATHERED_ELEMENTS : count;
     const int status = try_gathered(most);
     if (ranks == 1) EXPECT(status == TEZGUMI_MPI_BAD_INDEX);
-    else EXPECT(status == TEZGUMI_BAD_INPUT && report.failed_rank == -1);
+    else EXPECT(status == TEZGUMI_BAD_INPUT && report.failed_rank == -1 && report.failed_rule == TEZGUMI_MPI_RULE_ELEMENTS);
     if (ranks > 1) expect_refused(try_with(most), TEZGUMI_MPI_SCATTERED, 0);
 }
 
@@ -123,6 +133,7 @@ static void no_elements(void)
     const uint32_t count = deal_some();
     expect_refused(tezgumi_mpi_rebalance(MPI_COMM_WORLD, wrong_here() ? NULL : mine, count, &callbacks, NULL, NULL, NULL, &report),
         TEZGUMI_BAD_INPUT, 0);
+    expect_rule(TEZGUMI_MPI_RULE_NULL);
 }
 
 static void no_callback(void)
@@ -137,6 +148,7 @@ static void no_callback(void)
         const tezgumi_mpi_callbacks *given = k < 2 ? &rows[k] : wrong_here() ? NULL : &rows[0];
         const int status = tezgumi_mpi_rebalance(MPI_COMM_WORLD, mine, count, given, NULL, NULL, NULL, &report);
         expect_refused(status, TEZGUMI_BAD_INPUT, 0);
+        expect_rule(TEZGUMI_MPI_RULE_CALLBACKS);
     }
 }
 
@@ -148,13 +160,18 @@ static void no_chain(void)
     const uint32_t count = deal_some();
     tezgumi_mpi_chain *given = wrong_here() ? NULL : &chain;
     expect_refused(tezgumi_mpi_gather(MPI_COMM_WORLD, mine, count, given, &report), TEZGUMI_BAD_INPUT, 0);
+    expect_rule(TEZGUMI_MPI_RULE_NULL);
     EXPECT(chain.n == 0 && chain.ranks == 0);
     EXPECT(tezgumi_mpi_gather(MPI_COMM_WORLD, mine, count, &chain, &report) == TEZGUMI_OK);
     expect_refused(tezgumi_mpi_decide(MPI_COMM_WORLD, given, NULL, &report), TEZGUMI_BAD_INPUT, 0);
+    expect_rule(TEZGUMI_MPI_RULE_NULL);
     expect_refused(tezgumi_mpi_move(MPI_COMM_WORLD, given, &callbacks, NULL, &report), TEZGUMI_BAD_INPUT, 0);
+    expect_rule(TEZGUMI_MPI_RULE_NULL);
     given = wrong_here() ? &fresh : &chain;
     expect_refused(tezgumi_mpi_decide(MPI_COMM_WORLD, given, NULL, &report), TEZGUMI_BAD_INPUT, 0);
+    expect_rule(TEZGUMI_MPI_RULE_CHAIN);
     expect_refused(tezgumi_mpi_move(MPI_COMM_WORLD, given, &callbacks, NULL, &report), TEZGUMI_BAD_INPUT, 0);
+    expect_rule(TEZGUMI_MPI_RULE_CHAIN);
     tezgumi_mpi_chain_free(&chain);
 }
 
@@ -165,7 +182,8 @@ static void place_that_is_no_rank(void)
     const uint32_t count = deal_some();
     EXPECT(tezgumi_mpi_gather(MPI_COMM_WORLD, mine, count, &chain, &report) == TEZGUMI_OK);
     if (wrong_here()) chain.new_places[3] = (uint32_t)ranks;
-    expect_refused(tezgumi_mpi_move(MPI_COMM_WORLD, &chain, &callbacks, NULL, &report), TEZGUMI_BAD_INPUT, 0);
+    expect_refused(tezgumi_mpi_move(MPI_COMM_WORLD, &chain, &callbacks, NULL, &report), TEZGUMI_BAD_INPUT, 3);
+    expect_rule(TEZGUMI_MPI_RULE_PLACES);
     tezgumi_mpi_chain_free(&chain);
 }
 
@@ -173,6 +191,7 @@ static void place_that_is_no_rank(void)
 static void forged_chain(void)
 {
     enum { NO_RANK, FAR_FROM_A_RANK, BYTES, ELEMENTS, ROWS };
+    static const int rules[ROWS] = {TEZGUMI_MPI_RULE_PLACES, TEZGUMI_MPI_RULE_PLACES, TEZGUMI_MPI_RULE_BYTES, TEZGUMI_MPI_RULE_CHAIN};
     const tezgumi_mpi_callbacks callbacks = callbacks_of(&f);
     tezgumi_mpi_chain chain = {0};
     int k;
@@ -183,10 +202,25 @@ static void forged_chain(void)
         if (wrong_here() && k == FAR_FROM_A_RANK) chain.places[3] = UINT32_MAX;
         if (wrong_here() && k == BYTES) chain.bytes[3] = TEZGUMI_MPI_GATHERED_BYTES + 1;
         if (wrong_here() && k == ELEMENTS) chain.n = chain.capacity + 1;
-        expect_refused(tezgumi_mpi_move(MPI_COMM_WORLD, &chain, &callbacks, NULL, &report), TEZGUMI_BAD_INPUT, 0);
+        expect_refused(tezgumi_mpi_move(MPI_COMM_WORLD, &chain, &callbacks, NULL, &report), TEZGUMI_BAD_INPUT, k == ELEMENTS ? 0 : 3);
+        expect_rule(rules[k]);
         if (k == BYTES) continue; /* the planner takes it */
-        expect_refused(tezgumi_mpi_decide(MPI_COMM_WORLD, &chain, NULL, &report), TEZGUMI_BAD_INPUT, 0);
+        expect_refused(tezgumi_mpi_decide(MPI_COMM_WORLD, &chain, NULL, &report), TEZGUMI_BAD_INPUT, k == ELEMENTS ? 0 : 3);
+        expect_rule(rules[k]);
     }
+    tezgumi_mpi_chain_free(&chain);
+}
+
+/* On the last rank the loads of a chain add up to more than 63 bits hold. */
+static void forged_loads(void)
+{
+    tezgumi_mpi_chain chain = {0};
+    const uint32_t count = deal_some();
+    EXPECT(tezgumi_mpi_gather(MPI_COMM_WORLD, mine, count, &chain, &report) == TEZGUMI_OK);
+    if (wrong_here()) chain.loads[0] = INT64_MAX;
+    if (wrong_here()) chain.loads[1] = 1;
+    expect_refused(tezgumi_mpi_decide(MPI_COMM_WORLD, &chain, NULL, &report), TEZGUMI_BAD_LOAD, 1);
+    expect_rule(TEZGUMI_MPI_RULE_TOTAL_LOAD);
     tezgumi_mpi_chain_free(&chain);
 }
 
@@ -201,7 +235,9 @@ static void chain_of_fewer_ranks(void)
     EXPECT(tezgumi_mpi_gather(MPI_COMM_SELF, &one, 1, &alone, NULL) == TEZGUMI_OK);
     EXPECT(tezgumi_mpi_gather(MPI_COMM_WORLD, mine, count, &chain, NULL) == TEZGUMI_OK);
     expect_refused(tezgumi_mpi_decide(MPI_COMM_WORLD, given, NULL, &report), TEZGUMI_BAD_INPUT, 0);
+    expect_rule(TEZGUMI_MPI_RULE_CHAIN);
     expect_refused(tezgumi_mpi_move(MPI_COMM_WORLD, given, &callbacks, NULL, &report), TEZGUMI_BAD_INPUT, 0);
+    expect_rule(TEZGUMI_MPI_RULE_CHAIN);
     tezgumi_mpi_chain_free(&chain);
     tezgumi_mpi_chain_free(&alone);
 }
@@ -240,6 +276,7 @@ static void two_sides(void)
     MPI_Comm_split(MPI_COMM_WORLD, rank % 2, rank, &half);
     MPI_Intercomm_create(half, 0, MPI_COMM_WORLD, 1 - rank % 2, 0, &both);
     EXPECT(tezgumi_mpi_rebalance(both, mine, deal_some(), &callbacks, NULL, NULL, NULL, &report) == TEZGUMI_BAD_INPUT);
+    expect_rule(TEZGUMI_MPI_RULE_GROUPS);
     MPI_Comm_free(&both);
     MPI_Comm_free(&half);
 }
@@ -321,9 +358,9 @@ static void two_reasons(void)
     f.fail_pack = 0;
     if (rank == 1) f.fail_pack = 12 + 2;
     EXPECT(tezgumi_mpi_decide(MPI_COMM_WORLD, &chain, &options, &report) == TEZGUMI_BAD_INPUT);
-    EXPECT(report.failed_rank == 0);
+    EXPECT(report.failed_rank == 0 && report.failed_rule == TEZGUMI_MPI_RULE_TOLERANCE);
     EXPECT(tezgumi_mpi_move(MPI_COMM_WORLD, &chain, &callbacks, NULL, &report) == TEZGUMI_MPI_CALLBACK);
-    EXPECT(report.failed_rank == 1 && report.failed_at == 14);
+    EXPECT(report.failed_rank == 1 && report.failed_at == 14 && report.failed_rule == TEZGUMI_MPI_RULE_NONE);
     expect_same(report.failed_at);
     expect_whole(&f);
     expect_at(&f, f.dealt);
@@ -332,7 +369,10 @@ static void two_reasons(void)
 
 static void names(void)
 {
-    int status;
+    int status, rule, other;
+    for (rule = TEZGUMI_MPI_RULE_NONE; rule <= TEZGUMI_MPI_RULE_FIELDS + 1; rule++)
+        for (other = TEZGUMI_MPI_RULE_NONE; other < rule; other++)
+            EXPECT(strcmp(tezgumi_mpi_rule_name(other), tezgumi_mpi_rule_name(rule)) != 0);
     for (status = TEZGUMI_MPI_SCATTERED; status <= TEZGUMI_MPI_BAD_INDEX; status++)
         EXPECT(strcmp(tezgumi_mpi_status_name(status), tezgumi_mpi_status_name(1000)) != 0);
     EXPECT(strcmp(tezgumi_mpi_status_name(TEZGUMI_BAD_LOAD), tezgumi_status_name(TEZGUMI_BAD_LOAD)) == 0);
@@ -354,8 +394,9 @@ int main(int argc, char **argv)
     run_test("null chain", no_chain);
     run_test("a place that is no rank", place_that_is_no_rank);
     run_test("a chain that is not what was gathered", forged_chain);
+    run_test("loads that add up to too much", forged_loads);
     run_test("a good call after a refused one", afterwards);
-    run_test("each status has a name", names);
+    run_test("each status and each rule has a name", names);
     if (ranks > 1) {
         run_test("a communicator of two groups", two_sides);
         run_test("a chain of fewer ranks", chain_of_fewer_ranks);

@@ -150,13 +150,18 @@ static void other_calls(void)
     tezgumi_mpi_layout fresh = {0};
     tezgumi_mpi_chain chain = {0};
     expect_refused(go_with(count, NULL, wrong ? NULL : &layout), TEZGUMI_BAD_INPUT, ranks - 1, 0);
+    EXPECT(report.failed_rule == TEZGUMI_MPI_RULE_LAYOUT);
     expect_refused(go_with(count, NULL, wrong ? &fresh : &layout), TEZGUMI_BAD_INPUT, ranks - 1, 0);
+    EXPECT(report.failed_rule == TEZGUMI_MPI_RULE_LAYOUT);
     expect_refused(go_with(count, wrong ? &chain : NULL, &layout), TEZGUMI_BAD_INPUT, ranks - 1, 0);
+    EXPECT(report.failed_rule == TEZGUMI_MPI_RULE_LAYOUT);
     layout.names[0] ^= (uint32_t)wrong;
     expect_refused(go_with(count, NULL, &layout), TEZGUMI_BAD_INPUT, ranks - 1, 0);
+    EXPECT(report.failed_rule == TEZGUMI_MPI_RULE_LAYOUT);
     layout.names[0] ^= (uint32_t)wrong;
     layout.ranks += (uint32_t)wrong;
     expect_refused(go_with(count, NULL, &layout), TEZGUMI_BAD_INPUT, ranks - 1, 0);
+    EXPECT(report.failed_rule == TEZGUMI_MPI_RULE_LAYOUT);
     layout.ranks -= (uint32_t)wrong;
 }
 

@@ -1,6 +1,6 @@
 /* Decisions on parts that go wrong: windows that are too narrow, which a wider search makes good, and a planner that goes wrong on
  * one rank, which is found out on all. Link with --wrap for tezgumi_mpi_enough, tezgumi_mpi_windows_by_totals,
- * tezgumi_mpi_windows_by_walks, tezgumi_part_walk, tezgumi_divide and tezgumi_name. */
+ * tezgumi_mpi_windows_by_walks, tezgumi_part_walk, tezgumi_divide, tezgumi_name and tezgumi_keep_order. */
 #include "internal.h"
 #include "parts.h"
 
@@ -9,6 +9,7 @@ static tezgumi_mpi_layout layout;
 static tezgumi_mpi_report report;
 static int wrong_totals, wrong_walks; /* how many searches are still to go wrong here */
 static int wrong_divide, wrong_name;  /* whether the planner goes wrong here */
+static int wrong_cuts;                /* how the cuts that keep the order go wrong here */
 static int32_t walk_status;           /* what each walk here answers, if it is not TEZGUMI_OK */
 
 extern __typeof__(tezgumi_mpi_windows_by_totals) __real_tezgumi_mpi_windows_by_totals, __wrap_tezgumi_mpi_windows_by_totals;
@@ -16,6 +17,7 @@ extern __typeof__(tezgumi_mpi_windows_by_walks) __real_tezgumi_mpi_windows_by_wa
 extern __typeof__(tezgumi_part_walk) __real_tezgumi_part_walk, __wrap_tezgumi_part_walk;
 extern __typeof__(tezgumi_divide) __real_tezgumi_divide, __wrap_tezgumi_divide;
 extern __typeof__(tezgumi_name) __real_tezgumi_name, __wrap_tezgumi_name;
+extern __typeof__(tezgumi_keep_order) __real_tezgumi_keep_order, __wrap_tezgumi_keep_order;
 
 void __wrap_tezgumi_mpi_windows_by_totals(tezgumi_mpi_search *s)
 {
@@ -54,6 +56,22 @@ int32_t __wrap_tezgumi_name(const uint64_t *held, size_t held_len, uint32_t pes,
         held, held_len, pes, names, names_len, block_prices, block_prices_len, pe_prices, pe_prices_len, moved);
     size_t b;
     for (b = 0; wrong_name && b < names_len; b++) names[b] = (names[b] + 1) % pes;
+    return status;
+}
+
+enum { RIGHT, NEAR, FAR, REFUSED };
+
+/* The first cut beside where it belongs, or at the end of the second block; or none. */
+int32_t __wrap_tezgumi_keep_order(const uint64_t *loads, size_t loads_len, const uint64_t *bytes, size_t bytes_len,
+    const uint32_t *starts, size_t starts_len, const uint32_t *present, size_t present_len, const uint32_t *lower, size_t lower_len,
+    const uint32_t *upper, size_t upper_len, const uint32_t *first, size_t first_len, const uint32_t *last, size_t last_len,
+    uint64_t limit, uint32_t *cuts, size_t cuts_len)
+{
+    const int32_t status = __real_tezgumi_keep_order(loads, loads_len, bytes, bytes_len, starts, starts_len, present, present_len, lower,
+        lower_len, upper, upper_len, first, first_len, last, last_len, limit, cuts, cuts_len);
+    if (wrong_cuts == REFUSED) return TEZGUMI_BAD_INPUT;
+    if (wrong_cuts == NEAR) cuts[1] += cuts[1] < cuts[2] ? 1 : -1;
+    if (wrong_cuts == FAR) cuts[1] = cuts[2];
     return status;
 }
 
@@ -139,6 +157,32 @@ static void cuts_of_its_own(void)
     wrong_divide = 0;
 }
 
+/* Cuts that keep the order, of ranks of which the first has all elements. */
+static int keep(int wrong, int skip_check)
+{
+    const tezgumi_mpi_options options = {0.02, 0, skip_check, 1, 1};
+    tezgumi_mpi_part part;
+    uint32_t i;
+    int status;
+    deal(&f, 200, 4, IN_ORDER);
+    for (i = 0; i < f.n; i++) f.dealt[i] = 0;
+    deal_again(&f);
+    part = part_of(&f);
+    wrong_cuts = wrong;
+    status = tezgumi_mpi_decide_part(MPI_COMM_WORLD, &part, &options, &layout, &report);
+    wrong_cuts = RIGHT;
+    return status;
+}
+
+static void wrong_kept_cuts(void)
+{
+    EXPECT(keep(RIGHT, 0) == TEZGUMI_OK && report.elements_moved > 0);
+    EXPECT(keep(rank == ranks - 1 ? NEAR : RIGHT, 0) == TEZGUMI_MPI_DISAGREE && report.failed_rank == -1);
+    EXPECT(keep(rank == ranks - 1 ? NEAR : RIGHT, 1) == TEZGUMI_MPI_DISAGREE);
+    EXPECT(keep(FAR, 0) == TEZGUMI_MPI_WRONG_PLAN && layout.n == 0 && layout.ranks == 0);
+    EXPECT(keep(rank == ranks - 1 ? REFUSED : RIGHT, 0) == TEZGUMI_MPI_WRONG_PLAN && report.failed_rank == ranks - 1);
+}
+
 static void names_of_its_own(void)
 {
     deal_uneven();
@@ -158,6 +202,7 @@ int main(int argc, char **argv)
     run_test("two failures in one pass", two_failures);
     run_test("cuts of its own on one rank", cuts_of_its_own);
     run_test("names of its own on one rank", names_of_its_own);
+    run_test("cuts that keep the order go wrong", wrong_kept_cuts);
     field_free(&f);
     tezgumi_mpi_layout_free(&layout);
     return end_tests();

@@ -192,3 +192,71 @@ def flaw_of_bottleneck(run, claim):
 
 def flaw_of_kept_names(run, claim):
     return None if claim["names"] == claim["order"] else "NamesNotOrder"
+
+
+def first_reordered_flaw(run, claim):
+    """The same of a claim in any order of the PEs."""
+    least = {**claim, "cuts": claim["least_cuts"], "bottleneck": claim["least"]}
+    flaw = flaw_of_cuts(run, least) or flaw_of_floor(run, least)
+    for look in (flaw_of_names, flaw_of_near_cuts, flaw_of_bounds, flaw_of_bottleneck, flaw_of_moved, flaw_of_moves):
+        flaw = flaw or look(run, claim)
+    return "check: " + (flaw or "ok")
+
+
+def levels_of(claim, first, end):
+    """The levels of the rows from one to another, each a list of pairs, as far as the lists go."""
+    starts, pairs = claim["level_starts"][first:end + 1], list(zip(claim["level_places"], claim["level_bytes"]))
+    return [pairs[a:b] if a < b else [] for a, b in zip(starts, starts[1:])]
+
+
+def level_at(row, place):
+    """The bytes of the last of the leading levels that are not behind a place."""
+    level = 0
+    for at, there in row:
+        if at > place:
+            break
+        level = there
+    return level
+
+
+def flaw_of_bounds(run, claim):
+    pes, count = claim["pes"], len(run["loads"])
+    any_rows, free_rows = levels_of(claim, 0, pes + 1), levels_of(claim, pes + 1, len(claim["level_starts"]))
+    if len(any_rows) != pes + 1 or len(free_rows) != pes + 1:
+        return "RowCount"
+    rows = [[level_at(row, place) for place in range(count + 2)] for row in any_rows + free_rows]
+    pairs = list(zip(rows[:pes + 1], rows[pes + 1:]))
+    if pairs[0][0][0] or pairs[0][1][0]:
+        return "BoundStart"
+    for blocks in range(pes):
+        found = first_steep(run, limit_of(claim), pairs[blocks], pairs[blocks + 1])
+        if found:
+            return "BoundSteep {} {} {}".format(blocks, *found)
+    return "BoundLow" if pairs[pes][0][count] < moved_by_names(run, claim) else None
+
+
+def first_steep(run, limit, low, high):
+    """The first block, by where it begins and then where it ends, that brings less to some PE than the bounds rise by; only at blocks
+    that begin where the one bounds or the PE of the elements change, and end where the others or the PE do, and at empty ones."""
+    count, homes = len(run["loads"]), run["places"] + [0, 0]
+
+    def is_level(bounds, place):
+        return homes[place] == homes[place + 1] and all(bound[place] == bound[place + 1] for bound in bounds)
+
+    for y in range(count + 1):
+        for x in range(y, count + 1):
+            if sum(run["loads"][y:x]) > limit:
+                break
+            if (x == y or not (is_level(low, y) or is_level(high, x - 1))) and is_steep(run, homes, low, high, y, x):
+                return y, x
+    return None
+
+
+def is_steep(run, homes, low, high, y, x):
+    for pe in {*homes, max(homes) + 1}:
+        brought = sum(size for size, home in zip(run["bytes"][y:x], homes[y:x]) if home != pe)
+        if high[0][x] > low[homes[y] == pe][y] + brought:
+            return True
+        if homes[x] != pe and high[1][x] > low[homes[y] in (pe, homes[x])][y] + brought:
+            return True
+    return False

@@ -10,8 +10,7 @@ import tezgumi
 from support import CHECKOUT, PACKAGES, THREE, TimedTest
 from tezgumi import library
 
-OTHER = "unsigned tezgumi_abi(void) { return 99; } int tezgumi_plan, tezgumi_decide, tezgumi_check, tezgumi_scale, " \
-    "tezgumi_refine, tezgumi_check_refined, tezgumi_divide;"
+OTHER = "unsigned tezgumi_abi(void) { return 99; } int " + ", ".join(library._CALLS) + ";"
 
 
 class Found(TimedTest):
@@ -38,7 +37,7 @@ class Found(TimedTest):
             with self.there(built):
                 self.assertEqual(library.place(), built)
             with self.there():
-                self.assertEqual(library.place(), "libtezgumi.so.3")
+                self.assertEqual(library.place(), "libtezgumi.so.4")
 
     def test_one_that_is_not_there(self):
         with self.named("/no/such/library.so"):
@@ -59,7 +58,7 @@ class Found(TimedTest):
             words = [compiler, "-shared", "-fPIC", "-x", "c", "-", "-o", path]
             subprocess.run(words, input=OTHER.encode(), check=True, timeout=15)
             with self.named(path):
-                text = "other.so has the interface 99, and this package is written for 3$"
+                text = "other.so has the interface 99, and this package is written for 4$"
                 self.assertRaisesRegex(tezgumi.LibraryError, text, tezgumi.plan, THREE)
 
     def test_dumps_are_read_without_it(self):

@@ -65,6 +65,9 @@ class Program(TimedTest):
         self.assertEqual(out.split("\n")[-3:], ["within 0 thousandths: 0 near the present cuts, 2 by the plan", "check: ok", ""])
         status, out, _ = call("examples/ten-elements.lbd2", "--tolerance", "0", "--keep-order")
         self.assertEqual(out.split("\n")[-3:], ["within 0 thousandths: 1 near the present cuts, 0 by the plan", "check: ok", ""])
+        status, out, _ = call("examples/ten-elements.lbd2", "--tolerance", "167", "--any-order", "--procs", "3,2")
+        told = "within 167 thousandths: 1 with the fewest bytes of all, 0 near the present cuts, 1 by the plan"
+        self.assertEqual((status, out.split("\n")[-3:]), (0, [told, "check: ok", ""]))
         with tempfile.TemporaryDirectory() as folder:
             page = os.path.join(folder, "page.html")
             self.assertEqual(call("page", "examples/ten-elements.lbd2", "--tolerance", "0", "--keep-order", "-o", page)[0], 0)
@@ -81,6 +84,8 @@ class Program(TimedTest):
                 (("a", "--procs", "2,x"), "'2,x' is no list of whole numbers"),
                 (("a", "--tolerance", "1001"), "'1001' is not 0 to 1000"), (("a", "--tolerance", "2%"), "'2%' is not 0 to 1000"),
                 (("a", "--keep-order"), "argument --keep-order: it is for a --tolerance, which may be 0"),
+                (("a", "--any-order"), "argument --any-order: it is for a --tolerance, which may be 0"),
+                (("a", "--tolerance", "0", "--keep-order", "--any-order"), "argument --any-order: not allowed with argument --keep-order"),
                 (("page", "a", "-o", "b", "--keep-order"), "argument --keep-order: it is for a --tolerance, which may be 0")):
             status, out, errors = call(*words)
             self.assertEqual((status, out), (2, ""))

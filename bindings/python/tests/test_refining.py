@@ -230,8 +230,8 @@ class Forged(TimedTest):
                 self.assertEqual(self.line(replace(near(), **changed)), "check: " + line)
                 words.add(line.split()[0])
         words |= {"PriceGap", "HeightStart", "Steep"}
-        # That the number of PEs is wrong is refused before a claim is looked at.
-        self.assertEqual(words, {flaw.word for flaw in Flaw} - {"PeCount"})
+        # That the number of PEs is wrong is refused before a claim is looked at. Those above 34 are of decisions in any order alone.
+        self.assertEqual(words, {flaw.word for flaw in Flaw if flaw <= 34} - {"PeCount"})
 
     def test_prices_and_steps(self):
         decision = near()

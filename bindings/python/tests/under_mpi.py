@@ -119,6 +119,33 @@ def test_within_a_tolerance():
         expect(abs(figures.average_load - total / RANKS) < 1e-6, figures)
 
 
+def most_kept(loads, sizes, cuts, limit):
+    """The most bytes that stay where block b goes to rank b and no block is above the limit, by all cuts."""
+    kept = {0: 0}
+    for rank in range(RANKS):
+        ends = {}
+        for begin, bytes_before in kept.items():
+            for end in range(begin, len(loads) + 1):
+                if loads[begin:end].sum() <= limit:
+                    stays = sizes[max(begin, cuts[rank]):max(min(end, cuts[rank + 1]), begin)].sum()
+                    ends[end] = max(ends.get(end, 0), bytes_before + int(stays))
+        kept = ends
+    return kept[len(loads)]
+
+
+def test_the_fewest_bytes_within_a_tolerance():
+    for seed in range(6):
+        rng = np.random.default_rng(seed)
+        loads, sizes, cuts = rng.integers(0, 40, 24), rng.integers(0, 9, 24), random_cuts(rng, 24)
+        own, least = slice(cuts[RANK], cuts[RANK + 1]), least_cuts(loads.tolist())[0]
+        for tolerance in (0, 50, 300):
+            limit = least + least * tolerance // 1000
+            figures = over_mpi.report(comm, loads[own], sizes[own], tolerance=tolerance, keep_order=True, refine=True)
+            expect(figures.max_load_after <= limit, (seed, tolerance, figures))
+            expect(figures.bytes_moved == int(sizes.sum()) - most_kept(loads, sizes, cuts, limit), (seed, tolerance, figures))
+    raises(tezgumi.InputError, lambda: over_mpi.report(comm, loads[own], 8, refine=True))
+
+
 def test_decide():
     loads, _ = chain(4, 90)
     cuts = random_cuts(np.random.default_rng(9), 90)
@@ -179,6 +206,7 @@ def test_what_one_rank_gives_is_refused_on_all():
         call(loads, values, tolerance=1001 if wrong else 0),
         call(loads, values, tolerance=0.5 if wrong else 0),
         call(loads, values, keep_order=1 if wrong else True),
+        call(loads, values, refine=1 if wrong else False),
         call(loads, values, room=-1 if wrong else 0),
         call(loads, values, first=-1 if wrong else int(sum(range(6, 6 + RANK)))),
         call(loads, values, first=7 if wrong else int(sum(range(6, 6 + RANK)))),
@@ -192,7 +220,7 @@ def test_what_one_rank_gives_is_refused_on_all():
         call(loads, values, keep_order=wrong),
         call(loads, values, first=None if wrong else int(sum(range(6, 6 + RANK))))]
     for k, case in enumerate(cases + differ * (RANKS > 1)):
-        if k == 12 and RANKS == 1:
+        if k == 13 and RANKS == 1:
             continue  # which is refused there for the first element, and not for what is behind
         text = raises(tezgumi.InputError, case)
         expect(wrong or k >= len(cases) or f"rank {LAST}" in text, (k, text))

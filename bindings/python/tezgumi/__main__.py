@@ -26,8 +26,11 @@ def main(words: Sequence[str] | None = None) -> int:
     parser, answer = named.get(words[0], (_parser, _answer)) if len(words) > 1 else (_parser, _answer)
     asking = parser()
     asked = asking.parse_args(words if parser is _parser else words[1:])
-    if getattr(asked, "keep_order", False) and asked.tolerance is None:
-        asking.error("argument --keep-order: it is for a --tolerance, which may be 0")
+    for name in "keep_order", "any_order":
+        if getattr(asked, name, False) and asked.tolerance is None:
+            asking.error(f"argument --{name.replace('_', '-')}: it is for a --tolerance, which may be 0")
+    if getattr(asked, "any_order", False) and asked.keep_order:
+        asking.error("argument --any-order: not allowed with argument --keep-order")
     try:
         return answer(asked)
     except (tezgumi.DumpError, tezgumi.TraceError) as error:
@@ -49,6 +52,8 @@ def _parser() -> argparse.ArgumentParser:
         "--tolerance", type=_tolerance, metavar="N",
         help="decide within N thousandths of the least load, 0 to 1000, where fewer bytes move by that")
     _ask_for_order(parser)
+    parser.add_argument(
+        "--any-order", action="store_true", help="within a tolerance, let the PEs change their order, so that the fewest bytes move")
     parser.add_argument(
         "--plot", type=_picture, metavar="OUT", help="draw into this file, .png, .pdf or .svg; of several P the sweep")
     return parser
@@ -131,12 +136,13 @@ def _answer(asked: argparse.Namespace) -> int:
     print(f"{asked.file}: {len(run):,} elements on {run.procs} PEs, step {run.step}")
     if recorded is not None:
         print(f"recorded for {recorded.pes} PEs, {tezgumi.check(run, recorded)}")
-    decisions = [tezgumi.decide(run, pes, asked.tolerance, asked.keep_order) for pes in counts]
+    decisions = [tezgumi.decide(run, pes, asked.tolerance, asked.keep_order, asked.any_order) for pes in counts]
     swept = [tezgumi.figures(run, decision) for decision in decisions]
     print(swept[0] if len(swept) == 1 else tezgumi.table(swept))
     if asked.tolerance is not None:
-        near = sum(isinstance(decision, tezgumi.NearDecision) for decision in decisions)
-        print(f"within {asked.tolerance} thousandths: {near} near the present cuts, {len(decisions) - near} by the plan")
+        near, any_order = (sum(isinstance(decision, kind) for decision in decisions) for kind in (tezgumi.NearDecision, tezgumi.ReorderedDecision))
+        told = f"{any_order} with the fewest bytes of all, " if asked.any_order else ""
+        print(f"within {asked.tolerance} thousandths: {told}{near} near the present cuts, {len(decisions) - near - any_order} by the plan")
     verdicts = [tezgumi.check(run, decision) for decision in decisions]
     wrong = [verdict for verdict in verdicts if not verdict]
     print(wrong[0] if wrong else verdicts[0])

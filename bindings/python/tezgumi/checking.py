@@ -13,8 +13,8 @@ if TYPE_CHECKING:
 
 
 class Flaw(enum.IntEnum):
-    """What is wrong with a decision. Of several flaws the first is told, which is the least, but for those of a NearDecision. `word`
-    is the name that lb_sim prints."""
+    """What is wrong with a decision. Of several flaws the first is told, which is the least, but for those of a NearDecision
+    or a ReorderedDecision. `word` is the name that lb_sim prints."""
 
     word: str
     meaning: str
@@ -60,13 +60,19 @@ class Flaw(enum.IntEnum):
     ORDER_WRONG = 31, "OrderWrong", "the order and the present cuts are not those of the elements today, or these stand in no order of PEs"
     BOTTLENECK_WRONG = 32, "BottleneckWrong", "the bottleneck is not the load of the heaviest block"
     NAMES_NOT_ORDER = 33, "NamesNotOrder", "the PEs are to keep their order, and the names are another"
+    # Those of a ReorderedDecision alone, of which 12 to 14 are looked for behind 20, then 24 to 26, 35 to 38, 32, 18 and 19.
+    ROW_COUNT = 35, "RowCount", "there are not bounds for 0 to pes blocks, twice"
+    BOUND_START = 36, "BoundStart", "a bound for no blocks is not 0 at the beginning of the chain"
+    BOUND_STEEP = 37, "BoundSteep", "behind {0} blocks the bounds rise by more than one from element {1} to {2} brings to some PE"
+    BOUND_LOW = 38, "BoundLow", "the bound for all blocks and the whole chain is below the bytes that move"
 
 
 @dataclass(frozen=True)
 class Verdict:
     """What a check says: true where every part of the decision is right, and else its least flaw.
 
-    `numbers` are those of the block, of the stop (from 1), or of the block and the PE that the flaw is found at first.
+    `numbers` are those of the block, of the stop (from 1), of the block and the PE, or of what else `meaning` names, at which the flaw
+    is found at first.
     """
 
     flaw: Flaw | None = None
@@ -88,6 +94,11 @@ class Verdict:
     def meaning(self) -> str:
         """The verdict in words."""
         return "every part is right" if self.flaw is None else self.flaw.meaning.format(*self.numbers)
+
+
+def flaw_of(status: int) -> Flaw:
+    """The flaw whose number this status above 0 is."""
+    return next(flaw for flaw in Flaw if flaw == status)
 
 
 def numbers_of(run: Run, decision: Decision, flaw: Flaw) -> Tuple[int, ...]:

@@ -10,7 +10,7 @@ from numpy.typing import NDArray
 
 from .errors import DumpError, InputError
 from .lists import whole_number
-from .runs import DUMP_ELEMENTS, DUMP_LOAD, DUMP_PES, DUMP_STATE_BYTES, MOVE, Decision, NearDecision, Run
+from .runs import DUMP_ELEMENTS, DUMP_LOAD, DUMP_PES, DUMP_STATE_BYTES, MOVE, Decision, NearDecision, ReorderedDecision, Run
 
 _ROW = {
     1: np.dtype([("load", ">u4"), ("bytes", ">u4"), ("place", ">u4")]),
@@ -65,7 +65,7 @@ def encode(run: Run, decision: Decision | None = None, version: int = 2) -> byte
     """The bytes of a dump."""
     if version not in _ROW:
         raise InputError(f"version is {version!r}, and the formats are 1 and 2")
-    if isinstance(decision, NearDecision):
+    if isinstance(decision, (NearDecision, ReorderedDecision)):
         raise InputError("a dump records a decision of the plan, and this one is within a tolerance")
     _refuse_large(run)
     rows = np.empty(len(run), _ROW[version])

@@ -3,7 +3,7 @@ buffer, as array.array and memoryview), tested, and kept as arrays that nobody w
 from __future__ import annotations
 
 import operator
-from typing import Any, Callable, Iterable, Type, TypeVar
+from typing import Any, Callable, Iterable, Iterator, Type, TypeVar
 
 import numpy as np
 from numpy.typing import ArrayLike, NDArray
@@ -12,6 +12,7 @@ from .errors import InputError
 
 _Whole = TypeVar("_Whole", bound="np.integer[Any]")
 _Refuser = Callable[[int, Any], InputError]
+_FEW = 2**20
 
 
 def frozen(
@@ -58,11 +59,15 @@ def truth(value: Any, name: str) -> bool:
 
 
 def total(numbers: NDArray[Any]) -> int:
-    """The sum of whole numbers from 0 on, exact."""
+    """The sum of whole numbers from 0 on, exact. No list of all of them is made."""
     if len(numbers) * int(numbers.max(initial=0)) < 2**64:
         return int(numbers.sum(dtype=np.uint64))
-    low, high = numbers & np.uint64(2**32 - 1), numbers >> np.uint64(32)
-    return int(low.sum(dtype=np.uint64)) + (int(high.sum(dtype=np.uint64)) << 32)
+    return sum(_total_of(numbers[k]) for k in slices(len(numbers)))
+
+
+def slices(count: int) -> Iterator[slice]:
+    """All of so many places, in order and a few at a time, for work that makes lists of its own."""
+    return (slice(first, min(first + _FEW, count)) for first in range(0, count, _FEW))
 
 
 def shown(array: NDArray[Any], ends: int = 3) -> str:
@@ -76,6 +81,11 @@ def shown(array: NDArray[Any], ends: int = 3) -> str:
 def same_fields(one: object, other: object, fields: Iterable[str]) -> bool:
     """Whether these fields of two objects hold the same numbers."""
     return all(np.array_equal(getattr(one, name), getattr(other, name)) for name in fields)
+
+
+def _total_of(few: NDArray[Any]) -> int:
+    low, high = few & np.uint64(2**32 - 1), few >> np.uint64(32)
+    return int(low.sum(dtype=np.uint64)) + (int(high.sum(dtype=np.uint64)) << 32)
 
 
 def _array(values: ArrayLike, name: str) -> NDArray[Any]:

@@ -81,7 +81,7 @@ class _Report(ctypes.Structure):
         ("max_load_before", _LONG), ("max_load_after", _LONG), ("average_load", ctypes.c_double), ("bytes_moved", _LONG),
         ("elements_moved", _WORD), ("exchanges", _WORD), ("failed_rank", ctypes.c_int), ("failed_at", _WORD),
         *((f"{name}_seconds", ctypes.c_double) for name in ("gather", "plan", "check", "agree", "move", "walk", "name")),
-        ("gathered", _WORD), ("passes", _WORD), ("retries", _WORD)]
+        ("gathered", _WORD), ("passes", _WORD), ("retries", _WORD), ("failed_rule", ctypes.c_int)]
 
 
 @dataclass(frozen=True)
@@ -147,7 +147,7 @@ def library() -> ctypes.CDLL:
     try:
         found = ctypes.CDLL(place())
         calls = found.tezgumi_mpi_decide_part, found.tezgumi_mpi_move_arrays
-        found.tezgumi_mpi_status_name.restype = ctypes.c_char_p
+        found.tezgumi_mpi_status_name.restype = found.tezgumi_mpi_rule_name.restype = ctypes.c_char_p
         found.tezgumi_mpi_layout_free.restype = None
         theirs = _mpi_of(found)
     except (OSError, AttributeError) as error:
@@ -161,7 +161,7 @@ def library() -> ctypes.CDLL:
 
 def decide(
         comm: MPI.Intracomm, loads: ArrayLike, sizes: ArrayLike | int, tolerance: int = 0, keep_order: bool = False,
-        first: int | None = None) -> Division:
+        first: int | None = None, refine: bool = False) -> Division:
     """Where all elements are to be. `loads` has the load of each element that this rank holds, whole numbers that add up to less
     than 2^63 on all ranks, and `sizes` the bytes of each, or of every one, which is what moving it costs.
 
@@ -170,11 +170,12 @@ def decide(
 
     Nothing is to move where the heaviest rank has at most so many thousandths more than the least possible load, `tolerance`,
     and, with keep_order, the ranks hold the chain in their own order. With keep_order rank 0 gets the first block, and so on;
-    without it the ranks get their blocks so that the fewest bytes move.
+    without it the ranks get their blocks so that the fewest bytes move. With refine, which needs keep_order, the fewest bytes
+    move that the tolerance lets, where the ranks hold the chain in their own order.
     """
     def prepare() -> _Asked:
         numbers = _loads(loads)
-        return _Asked(numbers, _sizes(sizes, len(numbers)), _options(tolerance, keep_order), _given_first(first))
+        return _Asked(numbers, _sizes(sizes, len(numbers)), _options(tolerance, keep_order, refine), _given_first(first))
 
     def has_first(it: _Asked) -> int:
         return int(it.first >= 0)
@@ -204,21 +205,21 @@ def move(comm: MPI.Intracomm, division: Division, fields: Sequence[ArrayLike], r
 
 def rebalance(
         comm: MPI.Intracomm, loads: ArrayLike, fields: Sequence[ArrayLike], tolerance: int = 0, keep_order: bool = False,
-        first: int | None = None, room: int = 0) -> Rebalanced:
+        first: int | None = None, room: int = 0, refine: bool = False) -> Rebalanced:
     """Decides, by `decide`, and moves the loads and the fields, by `move`. Give the `first` of what it returns to the next call,
     or keep the order. What moving an element costs is the bytes of its load and of all its fields. Where nothing is to move the
     arrays are copies too."""
     arrays = _together(comm, lambda: _given(loads, fields), _print_of)
-    division = decide(comm, arrays[0], sum(map(_row_bytes, arrays)), tolerance, keep_order, first)
+    division = decide(comm, arrays[0], sum(map(_row_bytes, arrays)), tolerance, keep_order, first, refine)
     (new_loads, *new_fields), exchanges = _move(comm, division, arrays, room)
     return Rebalanced(new_loads, tuple(new_fields), division.first, replace(division.report, exchanges=exchanges))
 
 
 def report(
         comm: MPI.Intracomm, loads: ArrayLike, sizes: ArrayLike | int = 0, tolerance: int = 0, keep_order: bool = False,
-        first: int | None = None) -> Report:
+        first: int | None = None, refine: bool = False) -> Report:
     """What a rebalance would give: the greatest load now and then, and how much would move. Nothing moves."""
-    return decide(comm, loads, sizes, tolerance, keep_order, first).report
+    return decide(comm, loads, sizes, tolerance, keep_order, first, refine).report
 
 
 # What is given
@@ -246,9 +247,12 @@ def _sizes(sizes: ArrayLike | int, count: int) -> NDArray[np.uint32]:
     return each
 
 
-def _options(tolerance: int, keep_order: bool, room: int = 0) -> _Options:
+def _options(tolerance: int, keep_order: bool, refine: bool = False, room: int = 0) -> _Options:
     within = whole_number(tolerance, 0, TOLERANCE, "tolerance") / 1000
-    return _Options(within, whole_number(room, 0, 2**63, "room"), 0, 0, truth(keep_order, "keep_order"))
+    keeps, refines = truth(keep_order, "keep_order"), truth(refine, "refine")
+    if refines and not keeps:
+        raise InputError("refine needs keep_order")
+    return _Options(within, whole_number(room, 0, 2**63, "room"), 0, refines, keeps)
 
 
 def _given_first(first: int | None) -> int:
@@ -348,7 +352,7 @@ def _prepared(comm: MPI.Intracomm, division: Division, fields: Sequence[ArrayLik
     old = _arrays(_names(fields), fields, int(division.counts[comm.Get_rank()]))
     count = _own_block(comm, division)
     new = tuple(np.empty((count, *array.shape[1:]), array.dtype) for array in old)
-    return _Move(layout, words, old, new, (_Field * len(old))(*map(_field, old, new)), _options(0, False, room))
+    return _Move(layout, words, old, new, (_Field * len(old))(*map(_field, old, new)), _options(0, False, room=room))
 
 
 def _move(comm: MPI.Intracomm, division: Division, fields: Sequence[ArrayLike], room: int) -> Tuple[Tuple[NDArray[Any], ...], int]:
@@ -432,5 +436,7 @@ def _hold(status: int, figures: _Report) -> None:
     """Raises what a status of the library other than 0 stands for."""
     if status != 0:
         text = library().tezgumi_mpi_status_name(status).decode()
+        if figures.failed_rule:
+            text += f": {library().tezgumi_mpi_rule_name(figures.failed_rule).decode()}"
         where = f" (rank {figures.failed_rank}, element {figures.failed_at})" if figures.failed_rank >= 0 else ""
         raise _FAILURES.get(status, TezgumiError)(text + where)

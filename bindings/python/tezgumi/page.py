@@ -21,7 +21,7 @@ from .dumps import read_dump
 from .errors import DumpError, InputError
 from .figures import pe_loads
 from .planning import decide as decide_now
-from .runs import Decision, Plan, Run
+from .runs import Decision, Plan, ReorderedDecision, Run
 from .traces import packed, read_trace
 from .version import __version__
 
@@ -61,7 +61,7 @@ def page(
     """Writes a page that shows the rounds of a run, in order, into a file.
 
     A round is the path of a dump, a Run, or a Run with its Decision. Where none is recorded, or of every round where `anew`
-    is set, `decide` makes one now; with decide=None such a round has none. `trace` is a file in the Trace Event Format.
+    is set, `decide` makes one now; with decide=None such a round has none. A ReorderedDecision is refused. `trace` is a file in the Trace Event Format.
     A page has at most `most` bytes where the elements of enough rounds can be left out for that. InputError tells that there
     are no rounds, DumpError and TraceError what is wrong with a file.
     """
@@ -85,9 +85,12 @@ def _taken(number: int, given: Given, decide: Callable[[Run], Decision | None] |
         run, decision = given
     else:
         name, (run, decision) = os.fspath(given), _read(given)
-    if decide is not None and (anew or decision is None):
-        return _Round(name, run, decide(run), True)
-    return _Round(name, run, decision, False)
+    is_new = decide is not None and (anew or decision is None)
+    if decide is not None and is_new:
+        decision = decide(run)
+    if isinstance(decision, ReorderedDecision):
+        raise InputError(f"{name} is decided in any order of the PEs, and a page has no check of the bounds of such a decision")
+    return _Round(name, run, decision, is_new)
 
 
 def _read(path: _Path) -> Tuple[Run, Decision | None]:

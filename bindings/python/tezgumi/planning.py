@@ -2,23 +2,25 @@
 from __future__ import annotations
 
 import ctypes
-from typing import Any, Literal, Tuple, TypeVar, overload
+from typing import Any, Literal, NamedTuple, Tuple, TypeVar, overload
 
 import numpy as np
 from numpy.typing import ArrayLike, NDArray
 
-from .checking import Flaw, Verdict, numbers_of
+from .checking import Flaw, Verdict, flaw_of, numbers_of
 from .errors import InputError
 from .library import library, lists
-from .lists import frozen, truth, whole_number
+from .lists import frozen, slices, truth, whole_number
 from .refining import check_near, decide_within, plan_within
-from .runs import DIVISION_PES, MOVE, PES, TOLERANCE, TOTAL_LOAD, Decision, NearDecision, Plan, Run
+from .reordering import check_reordered, decide_in_any_order, plan_in_any_order
+from .runs import DIVISION_PES, MOVE, PES, TOLERANCE, TOTAL_LOAD, Decision, NearDecision, Plan, ReorderedDecision, Run
 from .statuses import hold
 
 _Array = TypeVar("_Array", bound="NDArray[Any]")
 
 
-def plan(run: Run, pes: int | None = None, tolerance: int | None = None, keep_order: bool = False) -> Plan:
+def plan(
+        run: Run, pes: int | None = None, tolerance: int | None = None, keep_order: bool = False, any_order: bool = False) -> Plan:
     """The plan for `pes` PEs, 1 to 4,096; for as many as the run has, if none are named.
 
     Its greatest load is the least: no division of the chain into so many consecutive blocks has a lighter heaviest block. And
@@ -31,26 +33,29 @@ def plan(run: Run, pes: int | None = None, tolerance: int | None = None, keep_or
     Of all cuts within the limit those are taken that would move the fewest bytes in this order, and their blocks are named
     anew, so that the fewest bytes move: PEs may change places. Where that saves nothing, it is the plan without a tolerance. So
     never more bytes move than by that; but other cuts within the limit, in another order, may move fewer. With keep_order the
-    PEs keep their order: no cuts within the limit move fewer bytes in it, though the plan without a tolerance may. Either way
-    nothing moves where the PEs stand in an order and their present blocks keep to the limit.
+    PEs keep their order: no cuts within the limit move fewer bytes in it, though the plan without a tolerance may. With any_order
+    no cuts within the limit, with no names of their blocks, move fewer bytes. But where the elements of some PE are not together, and
+    where the search would be too large, it is what is decided without any_order. In each of these ways nothing moves where the PEs
+    stand in an order and their present blocks keep to the limit.
     """
-    pes = _pes(run, pes)
-    near = _near(tolerance, keep_order)
-    if near is not None:
-        return plan_within(run, pes, *near)
+    pes, asked = _pes(run, pes), _asked(tolerance, keep_order, any_order)
+    if asked is not None:
+        return plan_in_any_order(run, pes, asked.tolerance) if asked.any_order else plan_within(run, pes, *asked[:2])
     places = np.empty(len(run), np.uint32)
     bottleneck, moved = ctypes.c_uint64(), ctypes.c_uint64()
     hold(library().tezgumi_plan(*_plan_words(run, pes, places, bottleneck, moved)))
     return Plan(pes, _done(places), bottleneck.value, moved.value)
 
 
-def decide(run: Run, pes: int | None = None, tolerance: int | None = None, keep_order: bool = False) -> Decision:
+def decide(
+        run: Run, pes: int | None = None, tolerance: int | None = None, keep_order: bool = False,
+        any_order: bool = False) -> Decision:
     """The same with certificates, which `check` takes. With a tolerance it is a NearDecision; or the decision without one, where
-    the elements of some PE are not together, and, unless the PEs are to keep their order, where that moves no more bytes."""
-    pes = _pes(run, pes)
-    near = _near(tolerance, keep_order)
-    if near is not None:
-        return decide_within(run, pes, *near)
+    the elements of some PE are not together, and, unless the PEs are to keep their order, where that moves no more bytes. With
+    any_order it is a ReorderedDecision, or what is decided without any_order."""
+    pes, asked = _pes(run, pes), _asked(tolerance, keep_order, any_order)
+    if asked is not None:
+        return decide_in_any_order(run, pes, asked.tolerance) if asked.any_order else decide_within(run, pes, *asked[:2])
     places = np.empty(len(run), np.uint32)
     cuts, stops, names = (np.empty(count, np.uint32) for count in (pes + 1, pes + 1, pes))
     block_prices, pe_prices = np.empty(pes, np.int64), np.empty(pes, np.int64)
@@ -96,18 +101,19 @@ def check(run: Run, decision: Decision) -> Verdict:
 
     Then no division into so many consecutive blocks has a lighter heaviest block, and no naming of these blocks moves
     fewer bytes. Of a NearDecision: no block is above its limit, no cuts within the limit move fewer bytes in the order in which
-    the PEs stand, and no naming of these blocks moves fewer, or with keep_order their names are that order. That `moves` lists
+    the PEs stand, and no naming of these blocks moves fewer, or with keep_order their names are that order. Of a ReorderedDecision:
+    no block is above its limit, and no cuts within the limit, with no naming of their blocks, move fewer bytes. That `moves` lists
     the moves of the places is compared here, in Python.
     """
     d = decision
-    if isinstance(d, NearDecision):
-        verdict = check_near(run, d)
+    if isinstance(d, (NearDecision, ReorderedDecision)):
+        verdict = check_near(run, d) if isinstance(d, NearDecision) else check_reordered(run, d)
         return verdict if not verdict or _are_moves(run, d) else Verdict(Flaw.MOVES_WRONG)
     status = library().tezgumi_check(
         *lists(run.loads, run.bytes, run.places), run.procs, d.pes, *lists(d.places), d.bottleneck, d.moved,
         *lists(d.cuts, d.stops, d.names, d.block_prices, d.pe_prices))
     if status > 0:
-        flaw = next(flaw for flaw in Flaw if flaw == status)
+        flaw = flaw_of(status)
         return Verdict(flaw, numbers_of(run, d, flaw))
     hold(status)
     return Verdict() if _are_moves(run, d) else Verdict(Flaw.MOVES_WRONG)
@@ -115,24 +121,38 @@ def check(run: Run, decision: Decision) -> Verdict:
 
 def _are_moves(run: Run, decision: Decision) -> bool:
     # Field by field, which takes half the time of making the right list and comparing the two.
-    moves, moving = decision.moves, run.places != decision.places
-    if len(moves) != np.count_nonzero(moving):
-        return False
-    wanted = np.flatnonzero(moving), run.places[moving], decision.places[moving]
-    return all(np.array_equal(moves[name], numbers) for name, numbers in zip(MOVE.names or (), wanted))
+    end = 0
+    for k in slices(len(run)):
+        elements = k.start + np.flatnonzero(run.places[k] != decision.places[k])
+        begin, end = end, end + elements.size
+        wanted = elements, run.places[elements], decision.places[elements]
+        moves = decision.moves[begin:end]
+        if not all(np.array_equal(moves[name], numbers) for name, numbers in zip(MOVE.names or (), wanted)):
+            return False
+    return end == len(decision.moves)
 
 
 def _pes(run: Run, pes: int | None) -> int:
     return run.procs if pes is None else whole_number(pes, 1, PES, "pes")
 
 
-def _near(tolerance: int | None, keep_order: bool) -> Tuple[int, bool] | None:
-    """The tolerance, and whether the PEs keep their order; None where there is no tolerance."""
-    keeps = truth(keep_order, "keep_order")
+class _Asked(NamedTuple):
+    """A tolerance, and which order the PEs are to have."""
+
+    tolerance: int
+    keep_order: bool
+    any_order: bool
+
+
+def _asked(tolerance: int | None, keep_order: bool, any_order: bool) -> _Asked | None:
+    """What is asked of a decision within a tolerance; None where there is no tolerance."""
+    keeps, changes = truth(keep_order, "keep_order"), truth(any_order, "any_order")
+    if keeps and changes:
+        raise InputError("keep_order and any_order are two ways to decide: leave one out")
     if tolerance is not None:
-        return whole_number(tolerance, 0, TOLERANCE, "tolerance"), keeps
-    if keeps:
-        raise InputError("keep_order is for a decision within a tolerance, which may be 0")
+        return _Asked(whole_number(tolerance, 0, TOLERANCE, "tolerance"), keeps, changes)
+    if keeps or changes:
+        raise InputError(f"{'keep_order' if keeps else 'any_order'} is for a decision within a tolerance, which may be 0")
     return None
 
 

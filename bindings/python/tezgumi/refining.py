@@ -2,11 +2,11 @@
 from __future__ import annotations
 
 import ctypes
-from typing import List
+from typing import Any, List, Tuple
 
 import numpy as np
 
-from .checking import Flaw, Verdict
+from .checking import Verdict, flaw_of
 from .library import library, lists
 from .runs import Decision, NearDecision, Plan, Run
 from .statuses import hold
@@ -15,7 +15,7 @@ STEPS = 8
 """At first there is room for so many steps of heights for each PE."""
 
 
-class _Room:
+class Room:
     """The lists and numbers that tezgumi_refine writes, with room for so many steps."""
 
     def __init__(self, count: int, pes: int, steps: int) -> None:
@@ -31,11 +31,29 @@ class _Room:
 
     def words(self) -> List[int]:
         """What is passed behind the run, the number of PEs, the tolerance and whether the PEs keep their order."""
-        numbers = [ctypes.addressof(number) for number in (self.least, self.bottleneck, self.moved, self.near)]
+        return self.decided(self.least, self.bottleneck, self.moved, self.near)
+
+    def decided(self, *numbers: ctypes.c_uint64 | ctypes.c_uint32) -> List[int]:
+        """The lists of the decision and of the steps, with these numbers behind the places."""
         return [
-            *lists(self.places), *numbers, *lists(self.cuts, self.stops), ctypes.addressof(self.stops_count),
+            *lists(self.places), *map(ctypes.addressof, numbers), *lists(self.cuts, self.stops), ctypes.addressof(self.stops_count),
             *lists(self.names, self.block_prices, self.pe_prices, self.least_cuts, self.order, self.present),
             *lists(self.step_starts, self.step_places, self.step_rises), ctypes.addressof(self.steps_count)]
+
+    def told(self, run: Run) -> Tuple[Any, ...]:
+        """What every decision has."""
+        return (
+            self.pes, self.places, self.bottleneck.value, self.moved.value, self.cuts, self.stops[:self.stops_count.value],
+            self.names, self.block_prices, self.pe_prices, run.moves_to(self.places))
+
+    def decision(self, run: Run, tolerance: int, keep_order: bool) -> Decision:
+        """The decision that was written: a NearDecision, or that of the plan."""
+        if not self.near.value:
+            return Decision(*self.told(run))
+        steps = self.steps_count.value
+        return NearDecision(
+            *self.told(run), tolerance, self.least.value, self.least_cuts, self.order, self.present, self.step_starts,
+            self.step_places[:steps], self.step_rises[:steps], keep_order)
 
 
 def plan_within(run: Run, pes: int, tolerance: int, keep_order: bool) -> Plan:
@@ -49,15 +67,7 @@ def decide_within(run: Run, pes: int, tolerance: int, keep_order: bool) -> Decis
     room = _refined(run, pes, tolerance, keep_order, STEPS * pes)
     if room.steps_count.value > room.step_places.size:
         room = _refined(run, pes, tolerance, keep_order, room.steps_count.value)
-    steps = room.steps_count.value
-    told = (
-        pes, room.places, room.bottleneck.value, room.moved.value, room.cuts, room.stops[:room.stops_count.value],
-        room.names, room.block_prices, room.pe_prices, run.moves_to(room.places))
-    if not room.near.value:
-        return Decision(*told)
-    return NearDecision(
-        *told, tolerance, room.least.value, room.least_cuts, room.order, room.present, room.step_starts,
-        room.step_places[:steps], room.step_rises[:steps], keep_order)
+    return room.decision(run, tolerance, keep_order)
 
 
 def check_near(run: Run, decision: NearDecision) -> Verdict:
@@ -69,14 +79,14 @@ def check_near(run: Run, decision: NearDecision) -> Verdict:
         d.bottleneck, d.moved, *lists(d.cuts, d.stops, d.names, d.block_prices, d.pe_prices, d.least_cuts, d.order, d.present),
         *lists(d.step_starts, d.step_places, d.step_rises), ctypes.addressof(first), ctypes.addressof(second))
     if status > 0:
-        flaw = next(flaw for flaw in Flaw if flaw == status)
+        flaw = flaw_of(status)
         return Verdict(flaw, (first.value, second.value)[:flaw.meaning.count("{")])
     hold(status)
     return Verdict()
 
 
-def _refined(run: Run, pes: int, tolerance: int, keep_order: bool, steps: int) -> _Room:
-    room = _Room(len(run), pes, steps)
+def _refined(run: Run, pes: int, tolerance: int, keep_order: bool, steps: int) -> Room:
+    room = Room(len(run), pes, steps)
     hold(library().tezgumi_refine(
         *lists(run.loads, run.bytes, run.places), run.procs, pes, tolerance, keep_order, *room.words()))
     return room

@@ -8,7 +8,7 @@ import numpy as np
 from numpy.typing import ArrayLike, NDArray
 
 from .errors import InputError, LoadError
-from .lists import frozen, same_fields, shown, total, truth, whole, whole_number
+from .lists import frozen, same_fields, shown, slices, total, truth, whole, whole_number
 from .scales import are_floats, in_units, scaled, unit_of
 
 ELEMENTS = 4_294_967_295
@@ -138,11 +138,14 @@ class Run(_Record):
         """The elements whose present and planned place differ, in order of index, as an array of MOVE."""
         planned = whole(places, "places", 0, _WORD)
         self.refuse_other_places(planned)
-        moving = self.places != planned
-        elements = np.flatnonzero(moving)
-        rows = np.empty((elements.size, 3), np.uint32)
-        rows[:, 0], rows[:, 1], rows[:, 2] = elements, self.places[moving], planned[moving]
-        return rows.view(MOVE).reshape(-1)
+        moves = np.empty(sum(np.count_nonzero(self.places[k] != planned[k]) for k in slices(len(self))), MOVE)
+        end = 0
+        for k in slices(len(self)):
+            elements = k.start + np.flatnonzero(self.places[k] != planned[k])
+            begin, end = end, end + elements.size
+            rows = moves[begin:end]
+            rows["element"], rows["present"], rows["planned"] = elements, self.places[elements], planned[elements]
+        return moves
 
     def refuse_other_places(self, places: Sized) -> None:
         """Raises InputError unless there is one place for each element."""
@@ -234,7 +237,28 @@ class Decision(Plan):
 
 
 @dataclass(frozen=True, eq=False, repr=False)
-class NearDecision(Decision):
+class _WithinTolerance(Decision):
+    """A decision within a tolerance: of `least`, the least load that the heaviest block can have, which `least_cuts` and the `stops`
+    prove, in thousandths. `bottleneck` is the load of this decision's heaviest block."""
+
+    tolerance: int
+    least: int
+    least_cuts: NDArray[np.uint32]
+
+    def __post_init__(self) -> None:
+        super().__post_init__()
+        self._keep("tolerance", whole_number(self.tolerance, 0, TOLERANCE, "tolerance"))
+        self._keep("least", whole_number(self.least, 0, _LONG, "least"))
+        self._keep("least_cuts", frozen(self.least_cuts, np.uint32, "least_cuts"))
+
+    @property
+    def limit(self) -> int:
+        """The greatest load that a block may have."""
+        return self.least + self.least * self.tolerance // 1000
+
+
+@dataclass(frozen=True, eq=False, repr=False)
+class NearDecision(_WithinTolerance):
     """A decision within a tolerance, whose cuts are near the present ones, with its certificates. It may be anybody's too.
 
     `tolerance` is in thousandths of `least`, the least load that the heaviest block can have, which `least_cuts` and the
@@ -245,9 +269,6 @@ class NearDecision(Decision):
     order; so other cuts in another order may move fewer bytes. With `keep_order` the names are the order, and no price counts.
     """
 
-    tolerance: int
-    least: int
-    least_cuts: NDArray[np.uint32]
     order: NDArray[np.uint32]
     present: NDArray[np.uint32]
     step_starts: NDArray[np.uintp]
@@ -264,9 +285,7 @@ class NearDecision(Decision):
 
     def __post_init__(self) -> None:
         super().__post_init__()
-        self._keep("tolerance", whole_number(self.tolerance, 0, TOLERANCE, "tolerance"))
-        self._keep("least", whole_number(self.least, 0, _LONG, "least"))
-        for name in ("least_cuts", "order", "present", "step_places"):
+        for name in ("order", "present", "step_places"):
             self._keep(name, frozen(getattr(self, name), np.uint32, name))
         self._keep("step_starts", frozen(self.step_starts, np.uintp, "step_starts"))
         self._keep("step_rises", frozen(self.step_rises, np.uint64, "step_rises"))
@@ -276,19 +295,60 @@ class NearDecision(Decision):
             raise InputError("there are {} places and {} rises of steps; a step has one of each".format(*counts))
 
     @property
-    def limit(self) -> int:
-        """The greatest load that a block may have."""
-        return self.least + self.least * self.tolerance // 1000
-
-    @property
     def heights(self) -> List[List[Tuple[int, int]]]:
         """The steps of each block: the place and the rise of each."""
-        starts, places, rises = (array.tolist() for array in (self.step_starts, self.step_places, self.step_rises))
-        return [list(zip(places[first:end], rises[first:end])) for first, end in zip(starts, starts[1:])]
+        return _rows(self.step_starts, self.step_places, self.step_rises)
 
     def __repr__(self) -> str:
         kept = ", keep_order=True" if self.keep_order else ""
         return f"Near{super().__repr__()[:-1]}, tolerance={self.tolerance}, least={self.least}{kept})"
+
+
+@dataclass(frozen=True, eq=False, repr=False)
+class ReorderedDecision(_WithinTolerance):
+    """A decision within a tolerance whose cuts and names move the fewest bytes of all, with its certificates. It may be anybody's too.
+
+    `tolerance`, `least` and `least_cuts` are those of a NearDecision, and so is `limit`. The bounds prove that no cuts within the
+    tolerance, with no names of their blocks, move fewer bytes, wherever the elements are. No price counts.
+
+    Row r of the bounds is the levels level_starts[r] .. level_starts[r + 1] - 1, each of which has a place, from which on the bound is
+    so many bytes; before the first it is 0. Rows 0 to pes are for so many blocks: at a place they move so many bytes at least, if they
+    end there. Rows pes + 1 to 2 * pes + 1 are for 0 to pes blocks of which none is named after the PE of the element behind them.
+    """
+
+    level_starts: NDArray[np.uintp]
+    level_places: NDArray[np.uint32]
+    level_bytes: NDArray[np.uint64]
+
+    if TYPE_CHECKING:
+        def __init__(
+                self, pes: int, places: ArrayLike, bottleneck: int, moved: int, cuts: ArrayLike, stops: ArrayLike,
+                names: ArrayLike, block_prices: ArrayLike, pe_prices: ArrayLike, moves: Any, tolerance: int, least: int,
+                least_cuts: ArrayLike, level_starts: ArrayLike, level_places: ArrayLike, level_bytes: ArrayLike) -> None: ...
+
+    def __post_init__(self) -> None:
+        super().__post_init__()
+        self._keep("level_starts", frozen(self.level_starts, np.uintp, "level_starts"))
+        self._keep("level_places", frozen(self.level_places, np.uint32, "level_places"))
+        self._keep("level_bytes", frozen(self.level_bytes, np.uint64, "level_bytes"))
+        counts = len(self.level_places), len(self.level_bytes)
+        if counts[0] != counts[1]:
+            raise InputError("there are {} places and {} numbers of bytes of levels; a level has one of each".format(*counts))
+
+    @property
+    def bounds(self) -> Tuple[List[List[Tuple[int, int]]], List[List[Tuple[int, int]]]]:
+        """The levels for 0 to pes blocks, a place and the bytes of each: whatever the PEs are, and where that of the next element is free."""
+        rows = _rows(self.level_starts, self.level_places, self.level_bytes)
+        return rows[:self.pes + 1], rows[self.pes + 1:]
+
+    def __repr__(self) -> str:
+        return f"Reordered{super().__repr__()[:-1]}, tolerance={self.tolerance}, least={self.least})"
+
+
+def _rows(starts: NDArray[np.uintp], places: NDArray[np.uint32], numbers: NDArray[np.uint64]) -> List[List[Tuple[int, int]]]:
+    where, there = places.tolist(), numbers.tolist()
+    ends = starts.tolist()
+    return [list(zip(where[first:end], there[first:end])) for first, end in zip(ends, ends[1:])]
 
 
 def _moves(values: Any) -> NDArray[np.void]:

@@ -106,7 +106,7 @@ def _told_fence(made):
     stops = np.unique(made.stops)
     mark = "▲" if len(stops) <= MARKS else "|"
     fence = f"fence {mark}" if len(stops) <= DENSE else f"fence, {_each(stops)}stop {mark}"
-    load = few_letters(made.least if isinstance(made, tezgumi.NearDecision) else made.bottleneck)
+    load = few_letters(getattr(made, "least", made.bottleneck))
     told = f"the elements from each stop to the next, both included, weigh {load} or more"
     return f"{fence}: {told}, so no division is lighter"
 
@@ -130,7 +130,7 @@ def _write_figures(sheet, made, figures, checked):
         ("elements moved", f"{few_letters(figures.moved_elements)} of {few_letters(figures.elements)}"),
         ("bytes moved", f"{few_letters(figures.moved_bytes)} of {few_letters(figures.total_bytes)}"),
     ]
-    if isinstance(made, tezgumi.NearDecision):
+    if isinstance(made, (tezgumi.NearDecision, tezgumi.ReorderedDecision)):
         rows.insert(2, ("limit", f"{few_letters(made.limit)}, {made.tolerance} ‰ above {few_letters(made.least)}"))
     for row, (name, value) in enumerate(rows):
         top = 5.8 + 0.29 * row
