@@ -1,7 +1,7 @@
 //! A yardstick for `charm_run`: runs a workload over a thread for each PE, in plain Rust without proofs, over crossbeam's
-//! queues. Each element keeps a journal of the letters that it has executed, with their bodies, as charm_run does.
+//! queues. Each element keeps a journal of the letters that it has executed, with their bodies, as charm_run does; or none.
 //!
-//!     charm_run FILE
+//!     charm_run [--no-journal] FILE
 //!
 //! - `run`: what the threads share, and a whole run.
 //! - `pe`: a PE, its elements, and what it does in a turn.
@@ -31,15 +31,19 @@ fn print(outcome: &run::Outcome, out: &mut impl Write) -> io::Result<()> {
 
 fn main() -> ExitCode {
     let words: Vec<String> = std::env::args().skip(1).collect();
-    let [path] = words.as_slice() else {
-        eprintln!("usage: charm_run FILE");
-        return ExitCode::from(2);
+    let (path, keeps_journal) = match words.iter().map(String::as_str).collect::<Vec<_>>()[..] {
+        [path] => (path, true),
+        ["--no-journal", path] => (path, false),
+        _ => {
+            eprintln!("usage: charm_run [--no-journal] FILE");
+            return ExitCode::from(2);
+        }
     };
     let Some(workload) = std::fs::read_to_string(path).ok().and_then(|text| Workload::parse(&text)) else {
         eprintln!("charm_run: {path}: no workload");
         return ExitCode::from(3);
     };
-    let outcome = run::run(&workload);
+    let outcome = run::run(&workload, keeps_journal);
     let mut out = io::BufWriter::with_capacity(65_536, io::stdout().lock());
     match print(&outcome, &mut out).and_then(|()| out.flush()) {
         Ok(()) => ExitCode::SUCCESS,

@@ -18,11 +18,12 @@ pub struct Letter {
     pub body: Box<[u8]>,
 }
 
-/// An element on its way, packed. Its journal goes along.
+/// An element on its way, packed. Its journal, if it keeps one, goes along.
 pub struct Parcel {
     index: usize,
     bytes: Vec<u8>,
-    journal: Vec<Letter>,
+    executed: u64,
+    journal: Option<Vec<Letter>>,
 }
 
 pub enum Item {
@@ -42,13 +43,16 @@ pub struct Element {
     /// Whether it has reported, and waits for the round to be decided.
     waits: bool,
     index: usize,
-    pub journal: Vec<Letter>,
+    /// How many letters it has executed.
+    pub executed: u64,
+    journal: Option<Vec<Letter>>,
 }
 
 impl Element {
-    pub fn new(index: usize, amounts: Vec<u32>, pad: usize) -> Self {
+    pub fn new(index: usize, amounts: Vec<u32>, pad: usize, keeps_journal: bool) -> Self {
         let pad = vec![0; pad];
-        Element { posted: 0, got: 0, sum: 0, amounts, pad, load: 0, waits: false, index, journal: Vec::new() }
+        let journal = keeps_journal.then(Vec::new);
+        Element { posted: 0, got: 0, sum: 0, amounts, pad, load: 0, waits: false, index, executed: 0, journal }
     }
 
     fn size(&self) -> usize {
@@ -64,7 +68,7 @@ impl Element {
         self.amounts.iter().for_each(|amount| bytes.extend(amount.to_be_bytes()));
         bytes.extend((self.pad.len() as u32).to_be_bytes());
         bytes.extend(&self.pad);
-        Parcel { index: self.index, bytes, journal: self.journal }
+        Parcel { index: self.index, bytes, executed: self.executed, journal: self.journal }
     }
 
     fn unpacked(parcel: Parcel) -> Self {
@@ -79,6 +83,7 @@ impl Element {
             load: 0,
             waits: false,
             index: parcel.index,
+            executed: parcel.executed,
             journal: parcel.journal,
         }
     }
@@ -89,7 +94,10 @@ impl Element {
         self.got += 1;
         self.sum += u64::from(units);
         self.load += u64::from(units);
-        self.journal.push(letter);
+        self.executed += 1;
+        if let Some(journal) = &mut self.journal {
+            journal.push(letter);
+        }
         self.got == self.posted
     }
 

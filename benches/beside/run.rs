@@ -32,7 +32,7 @@ pub struct Outcome {
 }
 
 /// Runs the workload, a thread for each PE.
-pub fn run(workload: &Workload) -> Outcome {
+pub fn run(workload: &Workload, keeps_journal: bool) -> Outcome {
     let (pes, chares) = (workload.pes, workload.chares);
     let home = |element: usize| element * pes / chares;
     let shared = Shared {
@@ -46,7 +46,7 @@ pub fn run(workload: &Workload) -> Outcome {
     let mut elements: Vec<Vec<Element>> = (0..pes).map(|_| Vec::new()).collect();
     for element in 0..chares {
         let amounts = workload.rounds.iter().map(|row| row[element]).collect();
-        elements[home(element)].push(Element::new(element, amounts, workload.pad));
+        elements[home(element)].push(Element::new(element, amounts, workload.pad, keeps_journal));
     }
     let pes: Vec<Pe> = thread::scope(|scope| {
         let start = |(pe, elements)| {
@@ -66,7 +66,7 @@ fn outcome(shared: Shared, pes: Vec<Pe>) -> Outcome {
         posted += u64::from(pe.posted);
         for (index, element) in pe.elements {
             sums[index] = element.sum;
-            executed += element.journal.len() as u64;
+            executed += element.executed;
         }
     }
     Outcome { rounds: shared.board.into_inner().unwrap().rounds, sums, posted, executed }
