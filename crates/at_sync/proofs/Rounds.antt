@@ -1,5 +1,5 @@
 -- What is kept of rounds.
-use Rattle.std.proofs.Common.{◌≡◌, ◌≢◌, ◌∙◌, ℕ, suc, zero, ◌+◌, ◌-◌, ◌<◌, ◌≤◌, List, [], ◌∷◌, ◌++◌, length, slice_index, replicate, Option, None, Some, ap, sym, subst, refl, false, arith, length-append}
+use Rattle.std.proofs.Common.{◌≡◌, ◌≢◌, ◌∙◌, ℕ, suc, zero, ◌+◌, ◌-◌, ◌<◌, ◌≤◌, List, [], ◌∷◌, ◌++◌, length, replicate, Option, None, Some, ap, sym, subst, refl, false, arith, length-append}
 use Rattle.std.specs.Prelude.{IfSome, slice_get}
 use denote.Ref.{Bor}
 use Rattle.std.specs.Option.{option_copied}

@@ -1,7 +1,7 @@
 -- Prices and discounts that were found by costs with discounts added, as those of the costs.
-use Rattle.std.proofs.Common.{◌≡◌, ℕ, ◌+◌, ◌*◌, ◌^◌, ◌<◌, ◌≤◌, inl, inr, List, length, set, slice_index, replicate, arith, ap, ◌∙◌, subst}
+use Rattle.std.proofs.Common.{◌≡◌, ℕ, ◌+◌, ◌*◌, ◌<◌, ◌≤◌, inl, inr, List, length, set, slice_index, arith, ap, ◌∙◌, subst}
 use Rattle.std.proofs.lemmas.Bool.{cases_eq}
-use Rattle.std.proofs.lemmas.List.{get_or-set_same, get_or-set_other, get_or-replicate, length-replicate, length-set}
+use Rattle.std.proofs.lemmas.List.{get_or-set_same, get_or-set_other, length-set}
 use Rattle.block_assignment.specs.declared.limits.TheConstants.MatrixLimits.{BYTES}
 use Rattle.block_assignment.specs.Table.{Table, IsMatrix, cost_at, greatest}
 use Rattle.block_assignment.specs.Discounted.{discounted_cost, ArePes, IsSettled}

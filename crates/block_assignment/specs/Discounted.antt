@@ -1,7 +1,7 @@
 -- Costs with a discount of each PE added. The sum of all discounts is the same for every naming, so the same namings are
 -- cheapest. Source: R. K. Ahuja, T. L. Magnanti and J. B. Orlin, "Network Flows", Prentice Hall 1993, section 2.4: node
 -- potentials.
-use Rattle.std.specs.Prelude.{◌≡◌, ℕ, ◌+◌, ◌<◌, ◌≤◌, List, length, slice_index}
+use Rattle.std.specs.Prelude.{◌≡◌, ℕ, ◌+◌, ◌<◌, List, length, slice_index}
 use Rattle.block_assignment.specs.Table.{Table, cost_at}
 
 -- what block b costs on PE p, with the PE's discount

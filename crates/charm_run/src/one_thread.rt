@@ -11,7 +11,7 @@ use chain_refinement::Tolerance;
 use file_faults::Advice;
 use program_words::BAD_FILE;
 use run_command_line::Asked;
-use run_trace::Timeline;
+use run_trace::{Timeline, TraceError};
 use schedule_run::{
     DrivenOnOne, ListFault, drive_events, drive_seed, drive_seeds, read_list, read_workload,
     report_list, write_list,
@@ -21,7 +21,6 @@ use std::alloc::Global;
 use std::fs::{File, Files};
 use std::io::{self, Write};
 use tally::Tally;
-use trace_events::TraceError;
 use workload::Workload;
 use workload_run::{Beside, BesideText, status_beside};
 

@@ -6,14 +6,13 @@ use pe_worker::{PeStep, Watch};
 use progress_line::Progress;
 use rts_run::Outcome;
 use run_command_line::Asked;
-use run_trace::{Timeline, Tracing};
+use run_trace::{Timeline, TraceError, Tracing, write_trace};
 use std::alloc::Global;
 use std::fs::Files;
 use std::io::Write;
 use std::sync::Wait;
 use std::time::Clock;
 use tally::Tally;
-use trace_events::{TraceError, write_trace};
 use workload_run::{Beside, BesideText, Driven, Onlooker, report_lost, status_beside};
 
 /// The watches of a run over threads: the progress line, and the recorder of a trace.

@@ -9,7 +9,6 @@ use Rattle.std.proofs.lemmas.List.Elements.{All-head, All-tail}
 use Rattle.std.proofs.lemmas.Nat.{from_be_bytes-to_be_bytes_4, from_be_bytes-to_be_bytes_8}
 use Rattle.std.proofs.Math.Nat.{suc-add, suc-mul, zero-mul}
 use Rattle.chare_index.specs.declared.limits.TheConstants.Limits.{ELEMENTS, LOAD, PES, STATE_BYTES}
-use Rattle.lb_snapshot.specs.Measured.{Taken}
 use Rattle.lb_certificates.specs.declared.division.Floor.{Floor}
 use Rattle.lb_certificates.specs.declared.division.Floor.TheVariants.{Zero, Fence}
 use Rattle.lb_certificates.specs.Certificate.{MatchFloor}
@@ -17,11 +16,11 @@ use Rattle.dump_format.specs.Dumps.{AreFields, IsRecorded}
 use Rattle.dump_format.specs.Fields.{after_floor, body, decision, dump, element, elements, ending, move, moves, numbers, pes, unless}
 use Rattle.dump_format.specs.Kept.{AreKept}
 use Rattle.dump_format.specs.Layout.{Layout, End, Field, Verdict, Whole, Unfinished, Broken, judge}
-use Rattle.dump_format.specs.Text.{word, long, price, magic_1, magic_2, head_text, element_text, elements_text, floor_text, move_text, plan_text}
+use Rattle.dump_format.specs.Text.{word, long, price, magic_1, magic_2, element_text, elements_text, floor_text, move_text, plan_text}
 use Rattle.dump_format.specs.declared.error.DumpError.{DumpError}
 use Rattle.dump_format.specs.declared.error.DumpError.TheVariants.{Count, Floor as BadFloor, Load, Move, MoveCount, Place, Size}
 use Rattle.dump_format.specs.declared.recorded.Recorded.{Recorded}
-use Rattle.dump_format.proofs.Spelling.{number_length, prices_length, words_length}
+use Rattle.dump_format.proofs.Spelling.{nine_grouped, number_length, prices_length, words_length}
 
 some_bytes : (w : Width) → 0 < byte_len w
 some_bytes w8 = lit< tt
@@ -39,6 +38,13 @@ pub front_number : (w : Width) (text more : List ℕ) → byte_len w ≤ length 
 front_number w text more fits =
     same_sums (λ i. byte_worth (byte_len w - 1 - i) (slice_index (text ++ more) i)) (λ i. byte_worth (byte_len w - 1 - i) (slice_index text i)) (byte_len w - 1)
     (λ i within. ap (byte_worth (byte_len w - 1 - i)) (get_or_append_left text more 0 i (omega (arith, some_bytes w))))
+
+-- a rule that is kept gives no fault, and one that is broken gives its own
+pub gives_none : (b : Bool) (e : DumpError) → b ≡ true → unless b e ≡ None
+gives_none b e is = ap (λ it. unless it e) is
+
+pub gives_fault : (b : Bool) (e : DumpError) → b ≡ false → unless b e ≡ Some e
+gives_fault b e is = ap (λ it. unless it e) is
 
 -- what is found where the text ends within a field or does not, with the fault of its number and what is found after it
 abbrev found : Bool → Option DumpError → Verdict → Verdict
@@ -128,14 +134,8 @@ module _ (fault : ℕ → Option DumpError) (next : ℕ → Layout) where
   pub word_taken : (n : ℕ) (more : List ℕ) → n < 2 ^ 32 → fault n ≡ None → judge (Field w32 fault next) (to_be_bytes w32 n ++ more) ≡ judge (next n) more
   word_taken n more fits good = number_taken w32 fault next n (to_be_bytes w32 n) more refl (from_be_bytes-to_be_bytes_4 n fits) good
 
-  pub word_broken : (n : ℕ) (more : List ℕ) (e : DumpError) → n < 2 ^ 32 → fault n ≡ Some e → judge (Field w32 fault next) (to_be_bytes w32 n ++ more) ≡ Broken e
-  word_broken n more e fits bad = number_broken w32 fault next n (to_be_bytes w32 n) more e refl (from_be_bytes-to_be_bytes_4 n fits) bad
-
   pub long_taken : (n : ℕ) (more : List ℕ) → n < 2 ^ 64 → fault n ≡ None → judge (Field w64 fault next) (to_be_bytes w64 n ++ more) ≡ judge (next n) more
   long_taken n more fits good = number_taken w64 fault next n (to_be_bytes w64 n) more refl (from_be_bytes-to_be_bytes_8 n fits) good
-
-  pub long_broken : (n : ℕ) (more : List ℕ) (e : DumpError) → n < 2 ^ 64 → fault n ≡ Some e → judge (Field w64 fault next) (to_be_bytes w64 n ++ more) ≡ Broken e
-  long_broken n more e fits bad = number_broken w64 fault next n (to_be_bytes w64 n) more e refl (from_be_bytes-to_be_bytes_8 n fits) bad
 
 -- numbers without a rule
 pub numbers_taken : (w : Width) (n : ℕ) (next : Layout) (bytes more : List ℕ) → length bytes ≡ n * byte_len w → judge (numbers w n next) (bytes ++ more) ≡ judge next more
@@ -158,18 +158,15 @@ numbers_short w (suc n) next bytes short =
           ∙ numbers_short w n next (drop (byte_len w) bytes) (omega (arith, length-drop (byte_len w) bytes))
     ]
 
-none : (kept : Bool) (e : DumpError) → kept ≡ true → unless kept e ≡ None
-none kept e is = ap (λ b. unless b e) is
-
 -- an element, and then more
 element_taken : (w : Width) (procs i : ℕ) (next : Layout) (load : ℕ) (size : ℕ × ℕ) (more : List ℕ) → from_be_bytes w (to_be_bytes w load) ≡ load → procs ≤ PES
     → load ≤ LOAD → size.0 ≤ STATE_BYTES → size.1 < procs → judge (element w procs i next) (element_text w load size ++ more) ≡ judge next more
 element_taken w procs i next load size more spelled few light small placed =
     ap (judge (element w procs i next)) (append_assoc (to_be_bytes w load) (word size.0 ++ word size.1) more)
-    ∙ number_taken w _ _ load (to_be_bytes w load) ((word size.0 ++ word size.1) ++ more) (number_length w load) spelled (none (nat_le load LOAD) (Load i) (le-leb load LOAD light))
+    ∙ number_taken w _ _ load (to_be_bytes w load) ((word size.0 ++ word size.1) ++ more) (number_length w load) spelled (gives_none (nat_le load LOAD) (Load i) (le-leb load LOAD light))
     ∙ ap (judge _) (append_assoc (word size.0) (word size.1) more)
-    ∙ word_taken _ _ size.0 (word size.1 ++ more) (omega arith) (none (nat_le size.0 STATE_BYTES) (Size i) (le-leb size.0 STATE_BYTES small))
-    ∙ word_taken _ _ size.1 more (omega arith) (none (nat_lt size.1 procs) (Place i) (lt-ltb size.1 procs placed))
+    ∙ word_taken _ _ size.0 (word size.1 ++ more) (omega arith) (gives_none (nat_le size.0 STATE_BYTES) (Size i) (le-leb size.0 STATE_BYTES small))
+    ∙ word_taken _ _ size.1 more (omega arith) (gives_none (nat_lt size.1 procs) (Place i) (lt-ltb size.1 procs placed))
 
 kept_tail : (w : Width) (procs load : ℕ) (loads : List ℕ) (size : ℕ × ℕ) (sizes : List (ℕ × ℕ)) → AreKept w procs (load ∷ loads) (size ∷ sizes) → AreKept w procs loads sizes
 kept_tail w procs load loads size sizes kept =
@@ -217,10 +214,10 @@ move_taken : (count k : ℕ) (next : Layout) (index present planned : ℕ) (more
     → judge (move count k next) (move_text (index, present, planned) ++ more) ≡ judge next more
 move_taken count k next index present planned more few inside here there =
     ap (judge (move count k next)) (append_assoc (word index) (word present ++ word planned) more)
-    ∙ word_taken _ _ index ((word present ++ word planned) ++ more) (omega arith) (none (nat_lt index count) (Move k) (lt-ltb index count inside))
+    ∙ word_taken _ _ index ((word present ++ word planned) ++ more) (omega arith) (gives_none (nat_lt index count) (Move k) (lt-ltb index count inside))
     ∙ ap (judge _) (append_assoc (word present) (word planned) more)
-    ∙ word_taken _ _ present (word planned ++ more) (omega arith) (none (nat_lt present PES) (Move k) (lt-ltb present PES here))
-    ∙ word_taken _ _ planned more (omega arith) (none (nat_lt planned PES) (Move k) (lt-ltb planned PES there))
+    ∙ word_taken _ _ present (word planned ++ more) (omega arith) (gives_none (nat_lt present PES) (Move k) (lt-ltb present PES here))
+    ∙ word_taken _ _ planned more (omega arith) (gives_none (nat_lt planned PES) (Move k) (lt-ltb planned PES there))
 
 pub moves_taken : (count k n : ℕ) (list : List (ℕ × ℕ × ℕ)) (more : List ℕ) → count ≤ ELEMENTS → All (λ m. m.0 < count) list → All (λ m. m.1 < PES) list → All (λ m. m.2 < PES) list
     → judge (moves count k (length list + n)) (flat_map move_text list ++ more) ≡ judge (moves count (k + length list) n) more
@@ -246,7 +243,7 @@ moves_taken count k n (m ∷ list) more few inside here there =
 
 -- a number of PEs, and then more
 pub pes_taken : (fault : DumpError) (next : ℕ → Layout) (n : ℕ) (more : List ℕ) → 0 < n → n ≤ PES → judge (pes fault next) (word n ++ more) ≡ judge (next n) more
-pes_taken fault next n more some few = word_taken _ _ n more (omega arith) (none (nat_lt 0 n && nat_le n PES) fault (and_from (nat_lt 0 n) (nat_le n PES) (lt-ltb 0 n some) (le-leb n PES few)))
+pes_taken fault next n more some few = word_taken _ _ n more (omega arith) (gives_none (nat_lt 0 n && nat_le n PES) fault (and_from (nat_lt 0 n) (nat_le n PES) (lt-ltb 0 n some) (le-leb n PES few)))
 
 words_taken : (n : ℕ) (next : Layout) (words : List ℕ) (more : List ℕ) → length words ≡ n → judge (numbers w32 n next) (flat_map word words ++ more) ≡ judge next more
 words_taken n next words more len = numbers_taken w32 n next (flat_map word words) more (words_length words ∙ omega arith)
@@ -263,9 +260,6 @@ floor_taken count target (Fence stops) more is =
     ap (judge _) (append_assoc (word 1) (flat_map word stops) more)
     ∙ word_taken _ _ 1 (flat_map word stops ++ more) (omega arith) refl
     ∙ words_taken (target + 1) (after_floor count target 0) stops more is
-
-nine_grouped : (a b c d e f g h i more : List ℕ) → (a ++ (b ++ (c ++ (d ++ (e ++ (f ++ (g ++ (h ++ i)))))))) ++ more ≡ a ++ (b ++ (c ++ (d ++ (e ++ (f ++ (g ++ (h ++ (i ++ more))))))))
-nine_grouped a b c d e f g h i more = simp append_assoc
 
 -- a decision up to its moves, and then more
 pub plan_taken : {A : Type 0} (count : ℕ) (r : Recorded A) (more : List ℕ) → IsRecorded count r → AreFields r → count ≤ ELEMENTS
@@ -290,39 +284,38 @@ plan_taken count r more is fits few =
     ∙ prices_taken t _ prices.u _ is.block_prices
     ∙ prices_taken t _ prices.v _ is.pe_prices
     ∙ long_taken _ _ r.decision.moved _ fits.moved refl
-    ∙ word_taken _ _ (length r.decision.moves) more (omega (arith, is.few_moves)) (none (nat_le (length r.decision.moves) count) MoveCount (le-leb (length r.decision.moves) count is.few_moves))
+    ∙ word_taken _ _ (length r.decision.moves) more (omega (arith, is.few_moves)) (gives_none (nat_le (length r.decision.moves) count) MoveCount (le-leb (length r.decision.moves) count is.few_moves))
 
 -- the head of a snapshot after the magic, and then more
-body_taken : (w : Width) (behind : ℕ → Layout) (s : Taken) (more : List ℕ) → 0 < s.procs → s.procs ≤ PES → s.step < 2 ^ 32 → length s.loads ≤ ELEMENTS
-    → judge (body w behind) (head_text s ++ more) ≡ judge (elements w s.procs 0 (length s.loads) (behind (length s.loads))) more
-body_taken w behind s more some few step count =
-    let n = length s.loads in
-    ap (judge (body w behind)) (append_assoc (word s.step) (word s.procs ++ word n) more)
-    ∙ word_taken _ _ s.step ((word s.procs ++ word n) ++ more) step refl
-    ∙ ap (judge _) (append_assoc (word s.procs) (word n) more)
-    ∙ pes_taken _ _ s.procs (word n ++ more) some few
-    ∙ word_taken _ _ n more (omega arith) (none (nat_le n ELEMENTS) Count (le-leb n ELEMENTS count))
+body_taken : (w : Width) (behind : ℕ → Layout) (step procs n : ℕ) (more : List ℕ) → 0 < procs → procs ≤ PES → step < 2 ^ 32 → n ≤ ELEMENTS
+    → judge (body w behind) ((word step ++ (word procs ++ word n)) ++ more) ≡ judge (elements w procs 0 n (behind n)) more
+body_taken w behind step procs n more some few fits count =
+    ap (judge (body w behind)) (append_assoc (word step) (word procs ++ word n) more)
+    ∙ word_taken _ _ step ((word procs ++ word n) ++ more) fits refl
+    ∙ ap (judge _) (append_assoc (word procs) (word n) more)
+    ∙ pes_taken _ _ procs (word n ++ more) some few
+    ∙ word_taken _ _ n more (omega arith) (gives_none (nat_le n ELEMENTS) Count (le-leb n ELEMENTS count))
 
 -- the magic and the head of either format, and then more
-pub head_taken_1 : (s : Taken) (more : List ℕ) → 0 < s.procs → s.procs ≤ PES → s.step < 2 ^ 32 → length s.loads ≤ ELEMENTS
-    → judge dump (magic_1 ++ (head_text s ++ more)) ≡ judge (elements w32 s.procs 0 (length s.loads) End) more
-head_taken_1 s more some few step count =
-    let rest : List ℕ = head_text s ++ more in
+pub head_taken_1 : (step procs n : ℕ) (more : List ℕ) → 0 < procs → procs ≤ PES → step < 2 ^ 32 → n ≤ ELEMENTS
+    → judge dump (magic_1 ++ ((word step ++ (word procs ++ word n)) ++ more)) ≡ judge (elements w32 procs 0 n End) more
+head_taken_1 step procs n more some few fits count =
+    let rest : List ℕ = (word step ++ (word procs ++ word n)) ++ more in
     byte_taken _ _ 76 (66 ∷ 68 ∷ 49 ∷ rest) refl
     ∙ byte_taken _ _ 66 (68 ∷ 49 ∷ rest) refl
     ∙ byte_taken _ _ 68 (49 ∷ rest) refl
     ∙ byte_taken _ _ 49 rest refl
-    ∙ body_taken w32 (λ _. End) s more some few step count
+    ∙ body_taken w32 (λ _. End) step procs n more some few fits count
 
-pub head_taken_2 : (s : Taken) (more : List ℕ) → 0 < s.procs → s.procs ≤ PES → s.step < 2 ^ 32 → length s.loads ≤ ELEMENTS
-    → judge dump (magic_2 ++ (head_text s ++ more)) ≡ judge (elements w64 s.procs 0 (length s.loads) (ending (length s.loads))) more
-head_taken_2 s more some few step count =
-    let rest : List ℕ = head_text s ++ more in
+pub head_taken_2 : (step procs n : ℕ) (more : List ℕ) → 0 < procs → procs ≤ PES → step < 2 ^ 32 → n ≤ ELEMENTS
+    → judge dump (magic_2 ++ ((word step ++ (word procs ++ word n)) ++ more)) ≡ judge (elements w64 procs 0 n (ending n)) more
+head_taken_2 step procs n more some few fits count =
+    let rest : List ℕ = (word step ++ (word procs ++ word n)) ++ more in
     byte_taken _ _ 76 (66 ∷ 68 ∷ 50 ∷ rest) refl
     ∙ byte_taken _ _ 66 (68 ∷ 50 ∷ rest) refl
     ∙ byte_taken _ _ 68 (50 ∷ rest) refl
     ∙ byte_taken _ _ 50 rest refl
-    ∙ body_taken w64 ending s more some few step count
+    ∙ body_taken w64 ending step procs n more some few fits count
 
 -- the flag after the elements of LBD2, and then more
 pub no_decision_taken : (count : ℕ) (more : List ℕ) → judge (ending count) (word 0 ++ more) ≡ judge End more

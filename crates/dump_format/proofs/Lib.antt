@@ -1,6 +1,10 @@
-pub mod Cancelling
+pub mod Spelling
 pub mod Judging
+pub mod Cancelling
 pub mod OneText
 pub mod SameDumps
-pub mod Spelling
 pub mod OnlyFaults
+pub mod Bytes
+pub mod Decoding
+pub mod DecodedDecisions
+pub mod DecodedTexts

@@ -73,7 +73,7 @@ unfolding judge
 whole_lbd1 s text is =
     let front = elements_text w32 s.loads s.sizes in
     ap (judge dump) is.spelled
-    ∙ head_taken_1 s front is.snapshot.placed.some_pe is.snapshot.placed.few_pes is.step is.snapshot.loads.few
+    ∙ head_taken_1 s.step s.procs (length s.loads) front is.snapshot.placed.some_pe is.snapshot.placed.few_pes is.step is.snapshot.loads.few
     ∙ ap (judge (elements w32 s.procs 0 (length s.loads) End)) (sym (append-nil front))
     ∙ whole_word s End [] is.snapshot is.narrow
 
@@ -82,7 +82,7 @@ whole_lbd2 d text is =
     let s = d.snapshot in
     let rules = is.dump.snapshot in
     ap (judge dump) is.spelled
-    ∙ head_taken_2 s (elements_text w64 s.loads s.sizes ++ ending_text d.recorded) rules.placed.some_pe rules.placed.few_pes is.dump.step rules.loads.few
+    ∙ head_taken_2 s.step s.procs (length s.loads) (elements_text w64 s.loads s.sizes ++ ending_text d.recorded) rules.placed.some_pe rules.placed.few_pes is.dump.step rules.loads.few
     ∙ whole_long s (ending (length s.loads)) (ending_text d.recorded) rules
     ∙ whole_ending (length s.loads) d.recorded is.dump.recorded is.dump.fields rules.loads.few
 

@@ -1,5 +1,5 @@
 -- Where the texts of two dumps are equal, so are the dumps.
-use Rattle.std.proofs.Common.{◌≡◌, ℕ, ◌+◌, ◌^◌, ◌<◌, ◌≤◌, List, [], ◌++◌, length, append_assoc, ℤ, Option, Some, None, refl, ap, sym, ◌∙◌, arith}
+use Rattle.std.proofs.Common.{◌≡◌, ℕ, ◌+◌, ◌^◌, ◌<◌, ◌≤◌, List, [], ◌++◌, length, ℤ, Option, Some, None, refl, ap, sym, ◌∙◌, arith}
 use Rattle.std.specs.Prelude.{All, flat_map}
 use Rattle.std.specs.Int.{Width}
 use mir.Val.{bits}
@@ -13,6 +13,7 @@ use Rattle.dump_format.specs.Dumps.{AreFields, AreWords, IsRecorded, IsSnapshot,
 use Rattle.dump_format.specs.Text.{elements_text, ending_text, floor_text, head_text, long, move_text, plan_text, price, word}
 use Rattle.dump_format.specs.declared.recorded.Recorded.{Recorded}
 use Rattle.dump_format.proofs.Cancelling.{AreSpelled, FitsMove, Spells, same_elements, same_long, same_moves, same_prices, same_word, same_words}
+use Rattle.dump_format.proofs.Spelling.{nine_grouped}
 
 -- the numbers of stops fit their fields, and there is one more than the target
 abbrev FitsFloor : {A : Type 0} → ℕ → Floor A → Type 0
@@ -31,20 +32,17 @@ same_floor target (Fence xs) (Fence ys) a b fits fits' same =
 moves_fit : {A : Type 0} (count : ℕ) (r : Recorded A) → IsRecorded count r → AreFields r → count ≤ ELEMENTS → All FitsMove r.decision.moves
 moves_fit count r is fits few k d inside = (omega (arith, is.moved_elements k d inside), omega (arith, fits.present k d inside), omega (arith, fits.planned k d inside))
 
-nine_grouped : (a b c d e f g h i more : List ℕ) → (a ++ (b ++ (c ++ (d ++ (e ++ (f ++ (g ++ (h ++ i)))))))) ++ more ≡ a ++ (b ++ (c ++ (d ++ (e ++ (f ++ (g ++ (h ++ (i ++ more))))))))
-nine_grouped a b c d e f g h i more = simp append_assoc
-
 -- what follows the target, after the cuts, after the names, and after the prices
-abbrev moved_text : {A : Type 0} → Recorded A → List ℕ
+abbrev pub moved_text : {A : Type 0} → Recorded A → List ℕ
 moved_text r = long r.decision.moved ++ (word (length r.decision.moves) ++ flat_map move_text r.decision.moves)
 
-abbrev names_text : {A : Type 0} → Recorded A → List ℕ
+abbrev pub names_text : {A : Type 0} → Recorded A → List ℕ
 names_text r = flat_map word r.decision.naming ++ (flat_map price r.decision.prices.u ++ (flat_map price r.decision.prices.v ++ moved_text r))
 
-abbrev division_text : {A : Type 0} → Recorded A → List ℕ
+abbrev pub division_text : {A : Type 0} → Recorded A → List ℕ
 division_text r = long r.decision.division.bottleneck ++ (flat_map word r.decision.division.cuts ++ (floor_text r.decision.division.floor ++ names_text r))
 
-plan_is : {A : Type 0} (r : Recorded A) → plan_text r ++ flat_map move_text r.decision.moves ≡ word r.target ++ division_text r
+pub plan_is : {A : Type 0} (r : Recorded A) → plan_text r ++ flat_map move_text r.decision.moves ≡ word r.target ++ division_text r
 unfolding plan_text
 plan_is r =
     let d = r.decision in

@@ -4,12 +4,11 @@ use Rattle.std.specs.Prelude.{flat_map}
 use Rattle.std.specs.Int.{Width, w32, w64, byte_len, bytes_high_first, to_be_bytes}
 use Rattle.std.proofs.Math.Nat.{mul-suc, mul-zero}
 use Rattle.std.proofs.lemmas.List.{append-nil, flat_map_more, length-append}
-use Rattle.lb_snapshot.specs.Measured.{Taken}
 use Rattle.lb_certificates.specs.declared.division.Floor.{Floor}
 use Rattle.lb_certificates.specs.declared.division.Floor.TheVariants.{Zero, Fence}
 use Rattle.lb_certificates.specs.Certificate.{MatchFloor}
 use Rattle.dump_format.specs.Dumps.{IsRecorded}
-use Rattle.dump_format.specs.Text.{word, long, price, head_text, element_text, elements_text, floor_text, move_text, plan_text}
+use Rattle.dump_format.specs.Text.{word, long, price, element_text, elements_text, floor_text, move_text, plan_text}
 use Rattle.dump_format.specs.declared.recorded.Recorded.{Recorded}
 
 -- one number more, or one move
@@ -67,9 +66,6 @@ prices_length prices = pieces_length price 8 (λ z. refl) prices
 pub moves_length : (moves : List (ℕ × ℕ × ℕ)) → length (flat_map move_text moves) ≡ 12 * length moves
 moves_length moves = pieces_length move_text 12 (λ move. refl) moves
 
-pub head_length : (s : Taken) → length (head_text s) ≡ 12
-head_length s = refl
-
 -- the bytes of the stops of a fence, which are none for a floor that is 0
 abbrev pub stops_bytes : {A : Type 0} → Floor A → ℕ → ℕ
 stops_bytes Zero target = 0
@@ -78,6 +74,10 @@ stops_bytes (Fence stops) target = 4 * (target + 1)
 pub floor_length : {A : Type 0} (floor : Floor A) (target : ℕ) → MatchFloor floor (Unit {0}) (λ stops. length stops ≡ target + 1) → length (floor_text floor) ≡ 4 + stops_bytes floor target
 floor_length Zero target is = refl
 floor_length (Fence stops) target is = length-append (word 1) (flat_map word stops) ∙ omega (arith, words_length stops)
+
+-- nine parts, and then more
+pub nine_grouped : (a b c d e f g h i more : List ℕ) → (a ++ (b ++ (c ++ (d ++ (e ++ (f ++ (g ++ (h ++ i)))))))) ++ more ≡ a ++ (b ++ (c ++ (d ++ (e ++ (f ++ (g ++ (h ++ (i ++ more))))))))
+nine_grouped a b c d e f g h i more = simp append_assoc
 
 nine_lengths : (a b c d e f g h i : List ℕ) → length (a ++ (b ++ (c ++ (d ++ (e ++ (f ++ (g ++ (h ++ i)))))))) ≡ length a + (length b + (length c + (length d + (length e + (length f + (length g + (length h + length i)))))))
 nine_lengths a b c d e f g h i = simp length-append

@@ -1,4 +1,4 @@
-ghost use Rattle.std.specs.Prelude.{◌≡◌, ◌++◌, ℕ, List};
+ghost use Rattle.std.specs.Prelude.{◌≡◌, ◌++◌, ◌⊎◌, ◌<◌, ℕ, List, All};
 ghost use Rattle.lb_snapshot.specs.Measured.{Taken};
 ghost use Rattle.dump_format.specs.declared.error.DumpError.{DumpError};
 ghost use Rattle.dump_format.specs.Dumps.{Dumped};
@@ -21,4 +21,13 @@ pub fn format_laws<A: Allocator>()
     ensures good { (text : List ℕ) (e : DumpError) → IsGood text → IsBroken text e → ⊥ }
     ensures text_fault { (text : List ℕ) (e : DumpError) → IsBroken text e → IsTextFault e }
     ensures stays { (text more : List ℕ) (e : DumpError) → IsBroken text e → IsBroken (text ++ more) e }
+{}
+
+/// Laws of the two formats of a dump, LBD1 and LBD2. The function does nothing: its clauses are the laws. Bytes are the text of
+/// a dump, or they have a fault, and never both. Bytes that are judged whole, field by field, are the text of a dump: each
+/// field is that of a number.
+pub fn dump_laws<A: Allocator>()
+    ensures text_or_fault { (text : List ℕ) → All (λ byte. byte < 256) text → ((d : Dumped A) × IsText d text) ⊎ ((e : DumpError) × IsFault text e) }
+    ensures never_both { (d : Dumped A) (text : List ℕ) (e : DumpError) → IsText d text → IsFault text e → ⊥ }
+    ensures whole_is_text { (text : List ℕ) → All (λ byte. byte < 256) text → IsWhole text → (d : Dumped A) × IsText d text }
 {}

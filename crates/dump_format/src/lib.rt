@@ -4,6 +4,7 @@
 //!
 //! - [`Dump`], with [`Recorded`]: the values.
 //! - [`DumpError`]: the faults of a text, and why a dump was not read or written.
+//! - [`dump_laws`]: bytes are the text of a dump, or they have a fault, and never both.
 #![tactic(auto)]
 
 mod dump;
@@ -14,6 +15,7 @@ mod recorded;
 
 pub use dump::Dump;
 pub use error::DumpError;
+pub use laws::dump_laws;
 #[doc(hidden)]
 pub use laws::format_laws;
 pub use recorded::Recorded;

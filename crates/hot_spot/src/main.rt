@@ -17,7 +17,7 @@ use hot_spot_strip::{Chain, ChainError, Mode, Strip};
 use pe_worker::Watch;
 use program_words::{NO_OUTPUT, RUN_FAULT, on_words, refused};
 use rts_run::{Config, History, Outcome};
-use run_trace::Tracing;
+use run_trace::{TraceError, Tracing, write_trace};
 use std::alloc::AllocError;
 use std::fs::{File, Files};
 use std::io;
@@ -26,7 +26,6 @@ use std::sync::Wait;
 use std::thread::Threads;
 use std::time::{Clock, Instant};
 use streams::write_out;
-use trace_events::{TraceError, write_trace};
 
 /// Cells of each strip.
 const CELLS: u32 = 16;

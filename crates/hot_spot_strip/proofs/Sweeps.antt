@@ -1,5 +1,5 @@
 -- A round of the cells of a strip, one cell at a time.
-use Rattle.std.proofs.Common.{◌≡◌, ℕ, suc, ◌+◌, ◌<◌, ◌≤◌, List, [], ◌∷◌, ◌++◌, length, take, drop, set, get_or, refl, ap, ◌∙◌, arith, append_assoc, append-nil, add-one, drop-cons}
+use Rattle.std.proofs.Common.{◌≡◌, ℕ, suc, ◌+◌, ◌<◌, ◌≤◌, List, ◌++◌, length, take, drop, set, get_or, refl, ap, ◌∙◌, arith, append_assoc, append-nil, add-one, drop-cons}
 use Rattle.std.proofs.lemmas.List.{take_more_set, drop-set-lt, get_or-drop, take_all, drop_all}
 use Rattle.hot_spot_strip.specs.Mixing.{mixed}
 use Rattle.hot_spot_strip.specs.Cells.{computed, stirred}

@@ -2,7 +2,7 @@
 use Rattle.std.proofs.Common.{◌≡◌, ℕ, List, length, arith, subst, sym}
 use Rattle.lb_certificates.specs.Certificate.{IsCertified, NoneAbove}
 use Rattle.lb_certificates.specs.Chain.{IsDivision}
-use Rattle.lb_certificates.specs.Naming.{bytes_moved, IsNaming}
+use Rattle.lb_certificates.specs.Naming.{IsNaming}
 use Rattle.chain_refinement.specs.Orders.{IsPresentOrder}
 use Rattle.chain_refinement.specs.Refinement.{AreWithin}
 use Rattle.chain_refinement.specs.Tolerances.{limit_of}

@@ -9,16 +9,15 @@ use Rattle.dump_format.specs.Layout.{Broken, judge}
 use Rattle.dump_format.proofs.Spelling.{elements_length_long, elements_length_word}
 use Rattle.dump_format.specs.declared.error.DumpError.{DumpError}
 use Rattle.dump_format.specs.Text.{elements_text}
-use Rattle.dump_parts.proofs.ElementTexts.{elements_read}
-use Rattle.dump_parts.specs.Elements.{AreOf, BreaksElement, behind, body_of, elements_of}
-use Rattle.dump_parts.specs.Heads.{element_len, load_width}
-use Rattle.dump_parts.specs.declared.head.Format.{Format}
-use Rattle.dump_parts.specs.declared.head.Format.TheVariants.{Lbd1, Lbd2}
-use Rattle.dump_parts.specs.declared.head.Head.{Head}
-use Rattle.dump_plan.specs.declared.plan.Plan.{Plan}
-use Rattle.dump_plan.specs.declared.plan.Plan.TheVariants.{Begun, Nothing, Made}
+use Rattle.lb_dump.proofs.ElementTexts.{next_read}
+use Rattle.lb_dump.specs.Elements.{AreOf, BreaksElement, behind, body_of, elements_of}
+use Rattle.lb_dump.specs.Heads.{element_len, load_width}
+use Rattle.lb_dump.specs.declared.head.Format.{Format}
+use Rattle.lb_dump.specs.declared.head.Format.TheVariants.{Lbd1, Lbd2}
+use Rattle.lb_dump.specs.declared.head.Head.{Head}
+use Rattle.lb_dump.specs.declared.plan.Plan.{Plan}
+use Rattle.lb_dump.specs.declared.plan.Plan.TheVariants.{Begun, Nothing, Made}
 use Rattle.lb_dump.specs.Held.{AreSome, HasBegunElement, IsAt, IsAtElements, front_text}
-use Rattle.lb_dump.proofs.Standing.{next_element}
 use Rattle.lb_dump.proofs.Steps.{broken_behind, comes_behind, elements_break, elements_come, fresh_elements}
 
 -- where an element is missing, one may have begun, and no plan has
@@ -143,6 +142,5 @@ module _ (A : Type 0) (head : Option Head) (loads : List ℕ) (sizes : List (ℕ
 pub begun_breaks : (h : Head) (loads : List ℕ) (sizes : List (ℕ × ℕ)) (begun : List ℕ) (e : DumpError) → AreSome h loads sizes → length loads < h.count → BreaksElement h.format h.procs (length loads) begun e
     → judge (body_of h) (elements_of h loads sizes ++ begun) ≡ Broken e
 begun_breaks h loads sizes begun e some missing breaks =
-    elements_read h loads sizes some.head some.kept begun some.few
-    ∙ ap (λ l. judge l begun) (next_element (load_width h.format) h.procs (length loads) (h.count - length loads) (behind h.format h.count) (omega (arith, missing)))
+    next_read h loads sizes some.head some.kept begun missing
     ∙ breaks (elements (load_width h.format) h.procs (length loads + 1) (h.count - length loads - 1) (behind h.format h.count))

@@ -6,13 +6,13 @@ use Rattle.dump_format.specs.Faults.{IsGood}
 use Rattle.dump_format.specs.Fields.{dump}
 use Rattle.dump_format.specs.Layout.{Unfinished, judge}
 use Rattle.dump_format.specs.Text.{elements_text}
-use Rattle.dump_parts.specs.Heads.{IsHead, head_text}
-use Rattle.dump_parts.specs.declared.head.Head.{Head}
-use Rattle.dump_plan.specs.declared.plan.Plan.{Plan}
-use Rattle.dump_plan.specs.declared.plan.Plan.TheVariants.{Begun, Nothing, Made}
+use Rattle.lb_dump.specs.Heads.{IsHead, head_text}
+use Rattle.lb_dump.specs.declared.head.Head.{Head}
+use Rattle.lb_dump.specs.declared.plan.Plan.{Plan}
+use Rattle.lb_dump.specs.declared.plan.Plan.TheVariants.{Begun, Nothing, Made}
 use Rattle.lb_dump.specs.Held.{IsAt, elements_part, front_text, plan_part}
 use Rattle.lb_dump.specs.Reading.{HasGoodHead}
-use Rattle.dump_parts.specs.Moves.{moves_text}
+use Rattle.lb_dump.specs.Moves.{moves_text}
 use Rattle.lb_dump.proofs.Lengths.{magic_length}
 use Rattle.lb_dump.proofs.PlanSteps.{head_goes_on}
 use Rattle.lb_dump.proofs.Standing.{front_elements, front_none, held_good}

@@ -3,16 +3,16 @@ use Rattle.std.proofs.Common.{◌≡◌, ℕ, ◌+◌, ◌*◌, ◌≤◌, List,
 use Rattle.chare_index.specs.declared.limits.TheConstants.Limits.{ELEMENTS}
 use Rattle.dump_format.specs.Text.{elements_text, word}
 use Rattle.dump_format.proofs.Spelling.{elements_length_long, elements_length_word, moves_length}
-use Rattle.dump_parts.specs.Elements.{elements_of}
-use Rattle.dump_parts.specs.Heads.{element_len, head_text, magic_of, load_width}
-use Rattle.dump_parts.specs.Moves.{moves_text}
-use Rattle.dump_parts.specs.declared.head.Format.{Format}
-use Rattle.dump_parts.specs.declared.head.Format.TheVariants.{Lbd1, Lbd2}
-use Rattle.dump_parts.specs.declared.head.Head.{Head}
-use Rattle.dump_plan.specs.Plans.{IsMade, plan_bytes}
-use Rattle.dump_plan.proofs.MadePlans.{made_length}
-use Rattle.dump_plan.specs.declared.plan.Plan.{Plan}
-use Rattle.dump_plan.specs.declared.plan.Plan.TheVariants.{Begun, Nothing, Made}
+use Rattle.lb_dump.specs.Elements.{elements_of}
+use Rattle.lb_dump.specs.Heads.{element_len, head_text, magic_of, load_width}
+use Rattle.lb_dump.specs.Moves.{moves_text}
+use Rattle.lb_dump.specs.declared.head.Format.{Format}
+use Rattle.lb_dump.specs.declared.head.Format.TheVariants.{Lbd1, Lbd2}
+use Rattle.lb_dump.specs.declared.head.Head.{Head}
+use Rattle.lb_dump.specs.Plans.{IsMade, plan_bytes}
+use Rattle.lb_dump.proofs.MadePlans.{made_length}
+use Rattle.lb_dump.specs.declared.plan.Plan.{Plan}
+use Rattle.lb_dump.specs.declared.plan.Plan.TheVariants.{Begun, Nothing, Made}
 use Rattle.lb_dump.specs.Held.{IsAt, front_text, plan_part}
 use Rattle.lb_dump.specs.Made.{plan_size}
 

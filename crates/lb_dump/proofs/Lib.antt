@@ -1,3 +1,16 @@
+pub mod NumbersRead
+pub mod Partial
+pub mod Respelled
+pub mod WholePieces
+pub mod WholeElements
+pub mod ElementTexts
+pub mod MoveTexts
+pub mod Heads
+pub mod JudgedFrom
+pub mod PlanJudging
+pub mod PlanParts
+pub mod MadePlans
+pub mod BegunPlans
 pub mod Standing
 pub mod Steps
 pub mod ElementSteps

@@ -7,17 +7,16 @@ use Rattle.dump_format.specs.Faults.{IsBroken}
 use Rattle.dump_format.specs.Fields.{moves}
 use Rattle.dump_format.specs.Layout.{Broken, judge}
 use Rattle.chare_index.specs.declared.limits.TheConstants.Limits.{ELEMENTS}
-use Rattle.dump_format.proofs.Judging.{moves_taken}
 use Rattle.dump_format.proofs.Spelling.{moves_length}
 use Rattle.dump_format.specs.declared.error.DumpError.{DumpError}
 use Rattle.dump_format.specs.declared.recorded.Recorded.{Recorded}
-use Rattle.dump_parts.specs.Moves.{AreMoves, BreaksMove, moves_text}
-use Rattle.dump_parts.specs.declared.head.Head.{Head}
-use Rattle.dump_plan.specs.declared.plan.Plan.{Plan}
-use Rattle.dump_plan.specs.declared.plan.Plan.TheVariants.{Begun, Nothing, Made}
+use Rattle.lb_dump.specs.Moves.{AreMoves, BreaksMove, moves_text}
+use Rattle.lb_dump.specs.declared.head.Head.{Head}
+use Rattle.lb_dump.specs.declared.plan.Plan.{Plan}
+use Rattle.lb_dump.specs.declared.plan.Plan.TheVariants.{Begun, Nothing, Made}
 use Rattle.lb_dump.specs.Held.{HasBegunMove, HasMoves, IsAt, IsAtMoves, front_text}
 use Rattle.lb_dump.proofs.ElementSteps.{no_bytes}
-use Rattle.lb_dump.proofs.Standing.{next_move}
+use Rattle.lb_dump.proofs.MoveTexts.{next_move_read}
 use Rattle.lb_dump.proofs.Steps.{broken_behind, comes_behind, moves_break, moves_come, no_move_begun}
 
 -- after a plan with moves
@@ -145,8 +144,4 @@ module _ (A : Type 0) (head : Option Head) (loads : List ℕ) (sizes : List (ℕ
 pub begun_breaks : (count all : ℕ) (list : List (ℕ × ℕ × ℕ)) (begun : List ℕ) (e : DumpError) → count ≤ ELEMENTS → AreMoves count list → length list < all → BreaksMove count (length list) begun e
     → judge (moves count 0 all) (moves_text list ++ begun) ≡ Broken e
 begun_breaks count all list begun e few kept missing breaks =
-    ap (λ n. judge (moves count 0 n) (moves_text list ++ begun)) (omega (arith, missing))
-    ∙ moves_taken count 0 (all - length list) list begun few kept.elements kept.present kept.planned
-    ∙ ap (λ k. judge (moves count k (all - length list)) begun) (omega arith)
-    ∙ ap (λ l. judge l begun) (next_move count (length list) (all - length list) (omega (arith, missing)))
-    ∙ breaks (moves count (length list + 1) (all - length list - 1))
+    next_move_read count all list few kept begun missing ∙ breaks (moves count (length list + 1) (all - length list - 1))

@@ -7,14 +7,14 @@ use Rattle.dump_format.specs.Faults.{IsBroken}
 use Rattle.dump_format.specs.Fields.{dump, ending}
 use Rattle.dump_format.specs.Layout.{Broken, Unfinished, judge}
 use Rattle.dump_format.specs.declared.error.DumpError.{DumpError}
-use Rattle.dump_parts.specs.Elements.{behind}
-use Rattle.dump_parts.specs.Heads.{IsHead, head_text, load_width}
-use Rattle.dump_parts.specs.declared.head.Format.{Format}
-use Rattle.dump_parts.specs.declared.head.Format.TheVariants.{Lbd1, Lbd2}
-use Rattle.dump_parts.specs.declared.head.Head.{Head}
-use Rattle.dump_plan.specs.Plans.{IsBegun, IsPlan}
-use Rattle.dump_plan.specs.declared.plan.Plan.{Plan}
-use Rattle.dump_plan.specs.declared.plan.Plan.TheVariants.{Begun, Nothing, Made}
+use Rattle.lb_dump.specs.Elements.{behind}
+use Rattle.lb_dump.specs.Heads.{IsHead, head_text, load_width}
+use Rattle.lb_dump.specs.declared.head.Format.{Format}
+use Rattle.lb_dump.specs.declared.head.Format.TheVariants.{Lbd1, Lbd2}
+use Rattle.lb_dump.specs.declared.head.Head.{Head}
+use Rattle.lb_dump.specs.Plans.{IsBegun, IsPlan}
+use Rattle.lb_dump.specs.declared.plan.Plan.{Plan}
+use Rattle.lb_dump.specs.declared.plan.Plan.TheVariants.{Begun, Nothing, Made}
 use Rattle.lb_dump.specs.Held.{HasBegunPlan, IsAt, IsAtElements, IsAtHead, front_text, plan_part}
 use Rattle.lb_dump.proofs.Standing.{left, no_element}
 use Rattle.lb_dump.proofs.Steps.{broken_behind, comes_behind, fresh_elements, head_comes, left_breaks, no_move_begun, none_yet, plan_comes}

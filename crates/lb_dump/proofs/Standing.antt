@@ -1,5 +1,5 @@
 -- Where a reader is in its text: which fields are left after the parts that are whole, and what is found in the text so far.
-use Rattle.std.proofs.Common.{◌≡◌, ◌⊎◌, inl, inr, ℕ, zero, suc, ◌+◌, ◌-◌, ◌<◌, ◌≤◌, List, [], ◌++◌, length, Option, Some, None, refl, ap, sym, ◌∙◌, subst, append_assoc, arith}
+use Rattle.std.proofs.Common.{◌≡◌, ◌⊎◌, inl, inr, ℕ, ◌+◌, ◌-◌, ◌<◌, ◌≤◌, List, [], ◌++◌, length, Option, Some, None, refl, ap, sym, ◌∙◌, subst, append_assoc, arith}
 use Rattle.std.specs.Prelude.{Bool, true, false, MatchBool, nat_le}
 use Rattle.std.proofs.lemmas.Bool.{cases_lt, le-leb, lt-leb}
 use Rattle.std.proofs.lemmas.List.{append-nil}
@@ -8,25 +8,23 @@ use Rattle.dump_format.specs.Faults.{IsGood}
 use Rattle.dump_format.specs.Fields.{dump, element, elements, move, moves}
 use Rattle.dump_format.specs.Layout.{Layout, End, Whole, Unfinished, judge}
 use Rattle.dump_format.specs.Text.{word}
-use Rattle.dump_format.proofs.Judging.{field_short, moves_taken}
+use Rattle.dump_format.proofs.Judging.{field_short}
 use Rattle.dump_format.specs.declared.recorded.Recorded.{Recorded}
-use Rattle.dump_parts.specs.Elements.{behind, elements_of}
-use Rattle.dump_parts.specs.Heads.{head_text, load_width}
-use Rattle.dump_parts.specs.Moves.{moves_text}
-use Rattle.dump_parts.specs.declared.head.Format.{Format}
-use Rattle.dump_parts.specs.declared.head.Format.TheVariants.{Lbd1, Lbd2}
-use Rattle.dump_parts.specs.declared.head.Head.{Head}
-use Rattle.dump_plan.specs.Plans.{IsMade, plan_bytes}
-use Rattle.dump_plan.specs.declared.plan.Plan.{Plan}
-use Rattle.dump_plan.specs.declared.plan.Plan.TheVariants.{Begun, Nothing, Made}
+use Rattle.lb_dump.specs.Elements.{behind, elements_of}
+use Rattle.lb_dump.specs.Heads.{head_text, load_width}
+use Rattle.lb_dump.specs.Moves.{moves_text}
+use Rattle.lb_dump.specs.declared.head.Format.{Format}
+use Rattle.lb_dump.specs.declared.head.Format.TheVariants.{Lbd1, Lbd2}
+use Rattle.lb_dump.specs.declared.head.Head.{Head}
+use Rattle.lb_dump.specs.Plans.{IsMade, plan_bytes}
+use Rattle.lb_dump.specs.declared.plan.Plan.{Plan}
+use Rattle.lb_dump.specs.declared.plan.Plan.TheVariants.{Begun, Nothing, Made}
 use Rattle.lb_dump.specs.Held.{AreSome, HasBegunElement, HasBegunMove, HasBegunPlan, IsAt, IsAtElements, front_text}
-use Rattle.dump_parts.proofs.Heads.{head_read}
-use Rattle.dump_parts.proofs.ElementTexts.{elements_read}
-use Rattle.dump_parts.proofs.Partial.{element_unfinished, move_unfinished}
-use Rattle.dump_parts.proofs.Heads.{head_read}
-use Rattle.dump_parts.proofs.ElementTexts.{elements_read}
-use Rattle.dump_parts.proofs.Partial.{element_unfinished, move_unfinished}
-use Rattle.dump_plan.proofs.MadePlans.{made_judged, none_judged}
+use Rattle.lb_dump.proofs.Heads.{head_read}
+use Rattle.lb_dump.proofs.ElementTexts.{elements_read, next_element}
+use Rattle.lb_dump.proofs.MoveTexts.{moves_read, next_move}
+use Rattle.lb_dump.proofs.Partial.{element_unfinished, move_unfinished}
+use Rattle.lb_dump.proofs.MadePlans.{made_judged, none_judged}
 
 -- the fields that are left after the parts that are whole
 abbrev pub left : {A : Type 0} → Option Head → ℕ → Plan A → ℕ → Layout
@@ -35,21 +33,10 @@ left (Some h) j Begun k = elements (load_width h.format) h.procs j (h.count - j)
 left (Some h) j Nothing k = End
 left (Some h) j (Made r all) k = moves h.count k (all - k)
 
--- an element is the next, or none is left
-pub next_element : (w : Width) (procs i n : ℕ) (next : Layout) → 0 < n → elements w procs i n next ≡ element w procs i (elements w procs (i + 1) (n - 1) next)
-unfolding elements
-next_element w procs i zero next some = absurd (omega arith)
-next_element w procs i (suc n) next some = ap (λ k. element w procs i (elements w procs (i + 1) k next)) (omega arith)
-
+-- no element is left, or no move
 pub no_element : (w : Width) (procs i n : ℕ) (next : Layout) → n ≡ 0 → elements w procs i n next ≡ next
 unfolding elements
 no_element w procs i n next none = rw none refl
-
--- a move is the next, or none is left
-pub next_move : (count k n : ℕ) → 0 < n → moves count k n ≡ move count k (moves count (k + 1) (n - 1))
-unfolding moves
-next_move count k zero some = absurd (omega arith)
-next_move count k (suc n) some = ap (λ m. move count k (moves count (k + 1) m)) (omega arith)
 
 pub no_move : (count k n : ℕ) → n ≡ 0 → moves count k n ≡ End
 unfolding moves
@@ -92,9 +79,7 @@ front_judged (Some h) loads sizes (Made r all) list begun more at =
     rw (append_assoc (head_text h) (elements_of h loads sizes ++ (plan ++ text)) more, append_assoc (elements_of h loads sizes) (plan ++ text) more, append_assoc plan text more)
     (behind_all h loads sizes (plan ++ (text ++ more)) at.some at.all ∙ ap (λ f. judge (behind f h.count) (plan ++ (text ++ more))) at.wide
     ∙ made_judged h.count r all plan (text ++ more) at.some.head.few made
-    ∙ ap (λ n. judge (moves h.count 0 n) (text ++ more)) (omega (arith, at.few_moves))
-    ∙ moves_taken h.count 0 (all - length list) list more at.some.head.few at.kept.elements at.kept.present at.kept.planned
-    ∙ ap (λ k. judge (moves h.count k (all - length list)) more) (omega arith))
+    ∙ moves_read h.count all list at.some.head.few at.kept more at.few_moves)
 
 -- nothing is wrong with an element, a plan or a move that has begun, whatever may follow it
 pub element_left : (h : Head) (loads : List ℕ) (begun : List ℕ) → length loads < h.count → HasBegunElement h.format begun

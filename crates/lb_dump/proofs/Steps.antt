@@ -13,17 +13,17 @@ use Rattle.dump_format.proofs.Judging.{broken_stays, field_broken, field_short, 
 use Rattle.dump_format.specs.declared.error.DumpError.{DumpError}
 use Rattle.dump_format.specs.declared.error.DumpError.TheVariants.{Trailing}
 use Rattle.dump_format.specs.declared.recorded.Recorded.{Recorded}
-use Rattle.dump_parts.specs.Elements.{body_of, elements_of}
-use Rattle.dump_parts.specs.Heads.{IsHead, head_text}
-use Rattle.dump_parts.specs.Moves.{moves_text}
-use Rattle.dump_parts.specs.declared.head.Format.{Format}
-use Rattle.dump_parts.specs.declared.head.Format.TheVariants.{Lbd1, Lbd2}
-use Rattle.dump_parts.specs.declared.head.Head.{Head}
-use Rattle.dump_plan.specs.declared.plan.Plan.{Plan}
-use Rattle.dump_plan.specs.declared.plan.Plan.TheVariants.{Begun, Made}
+use Rattle.lb_dump.specs.Elements.{body_of, elements_of}
+use Rattle.lb_dump.specs.Heads.{IsHead, head_text}
+use Rattle.lb_dump.specs.Moves.{moves_text}
+use Rattle.lb_dump.specs.declared.head.Format.{Format}
+use Rattle.lb_dump.specs.declared.head.Format.TheVariants.{Lbd1, Lbd2}
+use Rattle.lb_dump.specs.declared.head.Head.{Head}
+use Rattle.lb_dump.specs.declared.plan.Plan.{Plan}
+use Rattle.lb_dump.specs.declared.plan.Plan.TheVariants.{Begun, Made}
 use Rattle.lb_dump.specs.Held.{AreSome, HasBegunElement, HasBegunMove, HasBegunPlan, IsAt, IsAtElements, IsAtMoves, elements_part, front_text, head_part, plan_part}
-use Rattle.dump_parts.proofs.Heads.{head_read}
-use Rattle.dump_plan.proofs.Begun.{none_begun}
+use Rattle.lb_dump.proofs.Heads.{head_read}
+use Rattle.lb_dump.proofs.BegunPlans.{none_begun}
 use Rattle.lb_dump.proofs.Standing.{front_elements, front_judged, left}
 
 -- no element has begun, and no plan

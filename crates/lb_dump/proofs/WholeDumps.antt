@@ -7,15 +7,15 @@ use Rattle.dump_format.specs.Dumps.{AreFields, IsRecorded, IsSnapshot, MayRecord
 use Rattle.dump_format.specs.Faults.{IsWhole}
 use Rattle.dump_format.specs.Text.{IsLbd1, IsLbd2, IsText, elements_text, head_text as snapshot_head, magic_2, plan_text, word}
 use Rattle.dump_format.specs.declared.recorded.Recorded.{Recorded}
-use Rattle.dump_parts.specs.Elements.{elements_of}
-use Rattle.dump_parts.specs.Heads.{head_text, magic_of, load_width}
-use Rattle.dump_parts.specs.Moves.{moves_text}
-use Rattle.dump_parts.specs.declared.head.Format.{Format}
-use Rattle.dump_parts.specs.declared.head.Format.TheVariants.{Lbd1, Lbd2}
-use Rattle.dump_parts.specs.declared.head.Head.{Head}
-use Rattle.dump_plan.specs.Plans.{plan_bytes}
-use Rattle.dump_plan.specs.declared.plan.Plan.{Plan}
-use Rattle.dump_plan.specs.declared.plan.Plan.TheVariants.{Begun, Nothing, Made}
+use Rattle.lb_dump.specs.Elements.{elements_of}
+use Rattle.lb_dump.specs.Heads.{head_text, magic_of, load_width}
+use Rattle.lb_dump.specs.Moves.{moves_text}
+use Rattle.lb_dump.specs.declared.head.Format.{Format}
+use Rattle.lb_dump.specs.declared.head.Format.TheVariants.{Lbd1, Lbd2}
+use Rattle.lb_dump.specs.declared.head.Head.{Head}
+use Rattle.lb_dump.specs.Plans.{plan_bytes}
+use Rattle.lb_dump.specs.declared.plan.Plan.{Plan}
+use Rattle.lb_dump.specs.declared.plan.Plan.TheVariants.{Begun, Nothing, Made}
 use Rattle.lb_dump.specs.Held.{AreSome, IsAt, IsAtElements, IsAtMoves, IsAtNothing, front_text}
 use Rattle.lb_dump.specs.Made.{recorded_with, taken_of, with_moves}
 use Rattle.lb_dump.proofs.Standing.{element_found, front_elements, head_found, move_found, plan_found}

@@ -8,15 +8,15 @@ use Rattle.dump_format.specs.Fields.{dump, ending}
 use Rattle.dump_format.specs.Layout.{Unfinished, judge}
 use Rattle.dump_format.specs.Text.{word}
 use Rattle.dump_format.specs.declared.recorded.Recorded.{Recorded}
-use Rattle.dump_parts.specs.Elements.{AreOf, elements_of}
-use Rattle.dump_parts.specs.Heads.{IsHead, element_len, head_text, load_width}
-use Rattle.dump_parts.specs.Moves.{AreMoves, moves_text}
-use Rattle.dump_parts.specs.declared.head.Format.{Format}
-use Rattle.dump_parts.specs.declared.head.Format.TheVariants.{Lbd1, Lbd2}
-use Rattle.dump_parts.specs.declared.head.Head.{Head}
-use Rattle.dump_plan.specs.Plans.{IsBegun, plan_bytes}
-use Rattle.dump_plan.specs.declared.plan.Plan.{Plan}
-use Rattle.dump_plan.specs.declared.plan.Plan.TheVariants.{Begun, Nothing, Made}
+use Rattle.lb_dump.specs.Elements.{AreOf, elements_of}
+use Rattle.lb_dump.specs.Heads.{IsHead, element_len, head_text, load_width}
+use Rattle.lb_dump.specs.Moves.{AreMoves, moves_text}
+use Rattle.lb_dump.specs.declared.head.Format.{Format}
+use Rattle.lb_dump.specs.declared.head.Format.TheVariants.{Lbd1, Lbd2}
+use Rattle.lb_dump.specs.declared.head.Head.{Head}
+use Rattle.lb_dump.specs.Plans.{IsBegun, plan_bytes}
+use Rattle.lb_dump.specs.declared.plan.Plan.{Plan}
+use Rattle.lb_dump.specs.declared.plan.Plan.TheVariants.{Begun, Nothing, Made}
 use Rattle.lb_dump.specs.declared.held.Held.{Held}
 
 -- the bytes of the parts that are whole

@@ -2,11 +2,11 @@
 use Rattle.std.specs.Prelude.{ℕ, ◌≤◌, List, Option, Some, None}
 use Rattle.chare_index.specs.declared.limits.TheConstants.Limits.{PES}
 use Rattle.lb_snapshot.specs.Measured.{Taken}
-use Rattle.dump_plan.specs.Plans.{floor_kind, plan_len}
+use Rattle.lb_dump.specs.Plans.{floor_kind, plan_len}
 use Rattle.dump_format.specs.declared.recorded.Recorded.{Recorded}
-use Rattle.dump_parts.specs.declared.head.Head.{Head}
-use Rattle.dump_plan.specs.declared.plan.Plan.{Plan}
-use Rattle.dump_plan.specs.declared.plan.Plan.TheVariants.{Begun, Nothing, Made}
+use Rattle.lb_dump.specs.declared.head.Head.{Head}
+use Rattle.lb_dump.specs.declared.plan.Plan.{Plan}
+use Rattle.lb_dump.specs.declared.plan.Plan.TheVariants.{Begun, Nothing, Made}
 
 -- the snapshot of a head and its elements
 abbrev pub taken_of : Head → List ℕ → List (ℕ × ℕ) → Taken

@@ -4,19 +4,20 @@ ghost use Rattle.std.specs.Prelude.{◌≡◌, ◌≢◌, ◌++◌, ◌+◌, ◌
 ghost use Rattle.dump_format.specs.Faults.{IsBroken, IsWhole};
 ghost use Rattle.dump_format.specs.Fields.{dump};
 ghost use Rattle.dump_format.specs.Layout.{judge, Unfinished};
-ghost use Rattle.dump_parts.specs.Heads.{IsHead, head_text};
-ghost use Rattle.dump_parts.specs.declared.head.Format.TheVariants.{Lbd2};
-ghost use Rattle.dump_plan.specs.declared.plan.Plan.TheVariants.{Begun};
+ghost use Rattle.lb_dump.specs.Heads.{IsHead, head_text};
+ghost use Rattle.lb_dump.specs.declared.head.Format.TheVariants.{Lbd2};
+ghost use Rattle.lb_dump.specs.declared.plan.Plan.TheVariants.{Begun};
 ghost use Rattle.lb_dump.specs.Held.{HasMoves, IsHeld, text_of};
 ghost use Rattle.lb_dump.specs.Reading.{HasGoodHead};
 
+use crate::elements::{judge_element, take_elements};
+use crate::head::{HEAD_LEN, Head, read_head};
+use crate::moves::{MOVE_LEN, judge_move, take_moves};
+use crate::plan::Plan;
+use crate::plan_reading::{plan_end, read_plan};
 use crate::whole_dump::is_whole;
 use chare_index::{Index, Pe};
 use dump_format::DumpError;
-use dump_parts::{
-    HEAD_LEN, Head, MOVE_LEN, judge_element, judge_move, read_head, take_elements, take_moves,
-};
-use dump_plan::{Plan, plan_end, read_plan};
 use lb_snapshot::Units;
 use std::alloc::{Allocator, Global};
 

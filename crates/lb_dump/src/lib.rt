@@ -8,6 +8,9 @@
 //! - [`DumpReader`]: the same for a text that comes in pieces.
 //! - [`DumpError`]: the faults.
 //!
+//! A text is read part by part: the head, the elements, the plan of a decision and its moves. Each part has a file here, whose
+//! calls take the bytes that have come, judge every field that is whole, and return the values or the first fault.
+//!
 //! ```
 //! use lb_dump::{DumpError, decode, encode};
 //!
@@ -21,7 +24,14 @@
 #![tactic(auto)]
 
 mod decoding;
+mod elements;
+mod head;
 mod held;
+mod moves;
+mod numbers;
+mod plan;
+mod plan_lists;
+mod plan_reading;
 mod reader;
 mod whole_dump;
 

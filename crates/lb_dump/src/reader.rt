@@ -2,9 +2,9 @@ ghost use Rattle.std.specs.Prelude.{◌≡◌, ◌≢◌, [], ◌++◌, Ok, Err,
 ghost use Rattle.lb_dump.specs.Reading.{EndsReading, Feeds, HasGoodHead, NeedsNone};
 
 use crate::held::{Held, take_in};
+use crate::plan::Plan;
 use crate::whole_dump::dump_at_end;
 use dump_format::{Dump, DumpError};
-use dump_plan::Plan;
 use std::alloc::{Allocator, Global};
 use std::marker::Model;
 

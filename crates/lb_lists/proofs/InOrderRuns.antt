@@ -8,7 +8,7 @@ use Rattle.chain_refinement.specs.Orders.{IsPresentOrder}
 use Rattle.chain_refinement.specs.Refinement.{AreNearest, AreProved, AreWithin}
 use Rattle.chain_refinement.specs.Tolerances.{limit_of}
 use Rattle.chain_refinement.specs.declared.refinement.Refinement.{Refinement}
-use Rattle.lb_strategy.specs.Decisions.{ArePricesBounded, HasBoundedPrices}
+use Rattle.lb_strategy.specs.Decisions.{HasBoundedPrices}
 use Rattle.lb_strategy.specs.declared.decision.Decision.{Decision}
 use Rattle.lb_refinement.specs.InOrder.{IsKeptInOrder, IsRefinedInOrder, HasSmallPrices, ordered_least_load, ordered_moved}
 use Rattle.lb_refinement.specs.declared.refined.Kept.{Kept}

@@ -13,7 +13,7 @@ use Rattle.present_order.proofs.OneOrder.{one_order}
 use Rattle.lb_lists.specs.Claims.{floor_of}
 use Rattle.lb_lists.specs.Places.{ArePlaces}
 use Rattle.lb_lists.specs.Plans.{stops_in}
-use Rattle.lb_lists.specs.Refinings.{told_division, AreToldSame, IsDecidedRun, IsInOrderRun, IsRefinedRun, IsToldInOrder, IsToldNear, IsToldPlan, IsToldRight, Standing, Told}
+use Rattle.lb_lists.specs.Refinings.{told_division, AreToldSame, IsDecidedRun, IsRefinedRun, IsToldInOrder, IsToldNear, IsToldPlan, IsToldRight, Standing, Told}
 use Rattle.lb_lists.specs.Runs.{sizes_of, Listed}
 use Rattle.lb_lists.proofs.OnePlan.{places_once}
 

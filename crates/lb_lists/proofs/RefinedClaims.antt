@@ -17,7 +17,7 @@ use Rattle.chain_refinement.specs.declared.flaw.RefinementFlaw.TheVariants.{Leas
 use Rattle.chain_refinement.proofs.Bounds.{fewest_from_proved}
 use Rattle.present_order.proofs.OneOrder.{one_order}
 use Rattle.lb_lists.specs.Claims.{right_moved, Claimed, IsFlawTold, IsPlacedRight, IsToldRight}
-use Rattle.lb_lists.specs.RefinedClaims.{claimed_refinement, refinement_of, AreInOrder, AreNamesBestBy, AreNamesRight, AreNamesRightBy, IsBestWithin, IsFirstRefinedFlaw, IsNamedSmall, IsNamesFlaw, IsNamesFlawBy, IsRightRefined, IsRightUpToNames, RefinedClaimed}
+use Rattle.lb_lists.specs.RefinedClaims.{claimed_refinement, refinement_of, AreNamesBestBy, AreNamesRight, AreNamesRightBy, IsBestWithin, IsFirstRefinedFlaw, IsNamedSmall, IsNamesFlaw, IsNamesFlawBy, IsRightRefined, IsRightUpToNames, RefinedClaimed}
 use Rattle.lb_lists.specs.declared.refined_checking.RefinedFlaw.{RefinedFlaw}
 use Rattle.lb_lists.specs.declared.refined_checking.RefinedFlaw.TheVariants.{OfDecision}
 use Rattle.lb_lists.specs.Runs.{sizes_of, IsRun, Listed}

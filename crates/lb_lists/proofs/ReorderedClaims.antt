@@ -1,6 +1,6 @@
 -- The reordered division of a claim is the same whatever holds its lists; the first flaw of a claim, from what the checker of
 -- reordered divisions answers; and what a right claim implies.
-use Rattle.std.proofs.Common.{◌≡◌, ℕ, ◌+◌, List, Option, None, Some, length, take, drop, arith, refl, subst, sym}
+use Rattle.std.proofs.Common.{◌≡◌, ℕ, List, Option, None, Some, length, arith, subst}
 use Rattle.std.specs.Prelude.{MatchOption}
 use Rattle.lb_certificates.specs.Chain.{peak}
 use Rattle.lb_certificates.specs.Naming.{bytes_moved}
@@ -12,7 +12,7 @@ use Rattle.any_order.specs.declared.reordered.Reordered.{Reordered}
 use Rattle.any_order.specs.declared.flaw.ReorderedFlaw.{ReorderedFlaw}
 use Rattle.any_order.specs.declared.flaw.ReorderedFlaw.TheVariants.{Least, PeCount, NameCount, NameRange, NameTwice, CutCount, NoDivision, Heavy, RowCount, Start, Steep, Low}
 use Rattle.any_order.proofs.LowerBounds.{fewest_from_bounds}
-use Rattle.lb_lists.specs.Claims.{right_moved, IsFlawTold, IsPlacedRight, IsToldRight}
+use Rattle.lb_lists.specs.Claims.{right_moved, IsFlawTold, IsToldRight}
 use Rattle.lb_lists.specs.ReorderedClaims.{claimed_reordered, reordered_in, IsBestOfAll, IsFirstClaimFlaw, IsPeakRight, IsReorderedRight, IsRightReordered, ReorderedClaimed}
 use Rattle.lb_lists.specs.declared.reordered_checking.ReorderedClaimFlaw.{ReorderedClaimFlaw}
 use Rattle.lb_lists.specs.declared.reordered_checking.ReorderedClaimFlaw.TheVariants.{OfReordered, OfDecision}

@@ -1,24 +1,22 @@
 -- What is decided in any order of the PEs, as plain lists.
-use Rattle.std.proofs.Common.{◌≡◌, ℕ, ◌+◌, ◌*◌, ◌/◌, ◌<◌, ◌≤◌, ◌++◌, Bool, true, false, List, [], ◌∷◌, length, take, drop, append_assoc, arith, ap, refl, replicate, subst, sym, ◌∙◌, inl, inr}
+use Rattle.std.proofs.Common.{◌≡◌, ℕ, ◌+◌, ◌<◌, ◌≤◌, ◌++◌, Bool, true, false, List, [], ◌∷◌, length, take, drop, append_assoc, arith, ap, replicate, subst, sym, ◌∙◌}
 use Rattle.std.specs.Prelude.{pos}
-use Rattle.lb_certificates.specs.Certificate.{IsCertified, NoneAbove}
-use Rattle.lb_certificates.specs.Chain.{peak, IsDivision, IsLeastDivision}
+use Rattle.lb_certificates.specs.Certificate.{NoneAbove}
+use Rattle.lb_certificates.specs.Chain.{IsDivision, IsLeastDivision}
 use Rattle.lb_certificates.specs.Naming.{bytes_moved, IsNaming}
 use Rattle.lb_certificates.proofs.Chains.{block_load-le-peak}
 use Rattle.lb_certificates.proofs.LeastDivisions.{least_from_certified}
-use Rattle.any_order.specs.AnyOrder.{bound_at, reordered_limit, AreBounds, AreFewestOfAll, IsPlan as IsWithin, IsReordered}
+use Rattle.any_order.specs.AnyOrder.{bound_at, AreBounds, AreFewestOfAll, IsPlan as IsWithin}
 use Rattle.chain_refinement.specs.Orders.{IsPresentOrder}
 use Rattle.chain_refinement.specs.Refinement.{AreWithin}
 use Rattle.chain_refinement.specs.Tolerances.{limit_of}
 use Rattle.lb_any_order.specs.Reorderings.{reordering_least, reordering_moved, IsFewest, IsReordering}
 use Rattle.lb_any_order.specs.declared.reordering.Fewest.{Fewest}
 use Rattle.lb_any_order.specs.declared.reordering.Reordering.{Reordering}
-use Rattle.lb_any_order.specs.declared.reordering.Reordering.TheVariants.{InAnyOrder, InOrder}
-use Rattle.lb_refinement.specs.Refined.{IsRefined}
-use Rattle.lb_refinement.specs.declared.refined.Refined.{Refined}
-use Rattle.lb_lists.specs.Plans.{stops_in, IsPlan}
-use Rattle.lb_lists.specs.Refinings.{told_division, AreToldSame, IsRefinedRun, IsToldNear, IsToldPlan, Standing, Told}
-use Rattle.lb_lists.specs.Reorderings.{all_rows, told_of_fewest, told_reordered, AreBoundsIn, AreFlat, AreLevelsIn, BoundRows, IsReorderedRun, IsToldReordered, LevelLists}
+use Rattle.lb_any_order.specs.declared.reordering.Reordering.TheVariants.{InAnyOrder}
+use Rattle.lb_lists.specs.Plans.{IsPlan}
+use Rattle.lb_lists.specs.Refinings.{IsRefinedRun, Standing, Told}
+use Rattle.lb_lists.specs.Reorderings.{all_rows, told_of_fewest, AreBoundsIn, AreFlat, AreLevelsIn, BoundRows, IsReorderedRun, IsToldReordered, LevelLists}
 use Rattle.lb_lists.specs.Runs.{sizes_of, Listed}
 use Rattle.lb_lists.specs.Steps.{all_steps, first_steps, places_of, rises_of}
 use Rattle.lb_lists.proofs.FlatSteps.{places-more, rises-more, starts-more}

@@ -1,6 +1,6 @@
 -- What somebody claims to be a decision in any order of the PEs, when the claim is right, and what is the first flaw of one that is
 -- not.
-use Rattle.std.specs.Prelude.{◌≡◌, ◌≢◌, ◌⊎◌, ℕ, ◌+◌, List, length, take, drop}
+use Rattle.std.specs.Prelude.{◌≡◌, ℕ, ◌+◌, List, length, take, drop}
 use Rattle.lb_certificates.specs.Chain.{peak, IsLeastDivision}
 use Rattle.lb_certificates.specs.Flaws.{flaw_number, flaw_place}
 use Rattle.any_order.specs.AnyOrder.{AreFewestOfAll, IsReordered}

@@ -1,9 +1,8 @@
 -- What a letter is read as.
-use Rattle.std.proofs.Common.{◌≡◌, ℕ, ◌≤◌, ◌++◌, List, [], length, Option, Some, Result, Ok, ap, ◌∙◌, sym, refl, arith}
+use Rattle.std.proofs.Common.{◌≡◌, ℕ, ◌≤◌, ◌++◌, List, [], length, Some, Result, Ok, ap, ◌∙◌, sym, arith}
 use Rattle.std.proofs.lemmas.Bool.Decides.{nat_tests}
 use Rattle.std.proofs.lemmas.List.{append-nil}
 use Rattle.chare_index.specs.declared.limits.TheConstants.Limits.{STATE_BYTES}
-use Rattle.chares.specs.Steps.{Outcome}
 use Rattle.chares.specs.declared.entry.Entry.TheVariants.{Letter}
 use Rattle.messages.specs.Messages.{MessageStep, as_letters, message_in, on_message, typed_step, whole}
 use Rattle.pup_pack.specs.declared.error.PupError.{PupError}

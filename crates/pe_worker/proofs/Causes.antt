@@ -1,5 +1,5 @@
 -- The cause of a fault, from what a PE or the board says of a refusal.
-use Rattle.std.proofs.Common.{◌≡◌, ◌≢◌, ℕ, List, length, Option, Some, None, MatchOption, Result, Ok, Err, IfErr, inl, inr, subst}
+use Rattle.std.proofs.Common.{◌≢◌, ℕ, List, Option, Some, None, MatchOption, Result, Ok, Err, IfErr, subst}
 use Rattle.std.specs.Prelude.{IfSome}
 use Rattle.std.specs.Ordering.{nat_cmp}
 use Rattle.std.specs.BTreeMap.{is_at}

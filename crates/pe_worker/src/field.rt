@@ -70,8 +70,9 @@ impl<C: Chare<A>, H: Openings<C> + RunStrategy, J: RunBeginning<C>, A: Allocator
     J,
     A,
 > {
-    /// The queues, words and board of a run as it opens, which takes some bytes for each PE: the only error is that memory was refused. Its workers give up after so many idle turns, its elements keep or drop
-    /// what they have handled, and a round is decided by at most so many probe workers, 1 to 64, and by one where its PEs are few.
+    /// The queues, words and board of a run as it opens, which takes some bytes for each PE: the only error is that memory was
+    /// refused. Its workers give up after so many idle turns, its elements keep or drop what they have handled, and a round is
+    /// decided by at most so many probe workers, 1 to 64, and by one where its PEs are few.
     pub fn new(
         alloc: A,
         post: Post<Parcel<C, H, A>, A>,

@@ -1,9 +1,8 @@
 -- A program whose arguments are declared one after the other, and what clap finds for them.
-use Rattle.std.proofs.Common.{◌≡◌, ◌∙◌, ◌<◌, ◌↔◌, ℕ, zero, suc, ap, subst, refl, sym, arith, true, false, Bool, cond, List, [], ◌∷◌, Option, Result, length, map, slice_index_or}
+use Rattle.std.proofs.Common.{◌≡◌, ◌∙◌, ◌<◌, ◌↔◌, ℕ, zero, suc, ap, subst, refl, sym, arith, true, false, Bool, cond, List, [], ◌∷◌, Option, Result, length, slice_index_or}
 use Rattle.std.proofs.lemmas.Slice.Eq.{bytes_eq-Decides}
 use Rattle.std.specs.Str.{bytes_eq}
 use Rattle.clap.specs.Built.{AddsArg, FitsChain, HasDistinctIds}
-use Rattle.clap.specs.Walk.{texts}
 use Rattle.clap.specs.Words.{App, FailsBy, HasMatchesOf, Rule, Text, app_of, fault_of, first_of, first_value, found_of, is_simple, is_simple_and_free, matches_of, one_of, one_text, rows_of, rule_of, with_rule}
 use Rattle.clap.specs.declared.builder.arg.Arg.{Arg}
 use Rattle.clap.specs.declared.builder.command.Command.{Command}

@@ -1,5 +1,5 @@
 -- What the programs have in common: how their arguments are declared, and what clap reads from them.
-use Rattle.std.specs.Prelude.{◌≡◌, ◌≤◌, ℕ, List, [], Option, None, Some, codes, false, is_some, pos, true}
+use Rattle.std.specs.Prelude.{◌≡◌, ◌≤◌, ℕ, [], Option, None, Some, codes, false, is_some, pos, true}
 use Rattle.std.specs.Str.Parse.{IsNumeral, digits_value, without_leading_plus}
 use Rattle.chain_refinement.specs.declared.tolerance.TheConstants.Tolerance.{MOST}
 use Rattle.clap.specs.Built.{IsParsedFrom}

@@ -4,7 +4,7 @@ use Rattle.std.specs.Prelude.{All, IfSome}
 use Rattle.std.specs.Map.{values_of}
 use Rattle.std.proofs.lemmas.List.Elements.{All-weaker}
 use Rattle.chares.specs.declared.carried.Carried.TheVariants.{Letter, Element}
-use Rattle.chares.specs.Elements.{ElementView, IsElementInOrder, IsHistory}
+use Rattle.chares.specs.Elements.{IsElementInOrder, IsHistory}
 use Rattle.chares.specs.Steps.{Step}
 use Rattle.pe_state.specs.Histories.{IsParcelHistory, HasHistories}
 use Rattle.pe_state.specs.Pes.{PeView, Parcel, Item}

@@ -1,5 +1,6 @@
 //! A watch that keeps what happened.
 
+use crate::error::TraceError;
 use crate::row::Row;
 use crate::timeline::Timeline;
 use chare_index::{Limits, Pe, Round};
@@ -8,7 +9,6 @@ use std::alloc::{AllocError, Allocator, Global};
 use std::collections::VecDeque;
 use std::sync::{Mutex, Wait};
 use std::time::{Clock, Instant};
-use trace_events::TraceError;
 
 /// Watches a run over threads, and keeps what each PE does, with its time by the monotonic clock: one reading of the clock as a
 /// step begins and one as it ends. Each worker keeps this in a row of its own, whose lock no other worker takes. Where memory is

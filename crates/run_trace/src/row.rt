@@ -2,10 +2,10 @@
 
 ghost use Rattle.std.specs.Prelude.{◌≡◌, ◌++◌, ◌∷◌, [], true, MatchBool, MatchResult};
 
+use crate::happening::{Deed, Happening, What};
 use chare_index::{Pe, Round};
 use pe_worker::PeStep;
 use std::alloc::{AllocError, Allocator};
-use trace_events::{Deed, Happening, What};
 
 /// What one PE did so far, in order.
 #[derive(Drop)]

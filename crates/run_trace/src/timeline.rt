@@ -1,12 +1,13 @@
 //! What happened in a run, in order of time.
 
 ghost use Rattle.std.specs.Prelude.{◌≡◌, ◌++◌, IfOk, IsPermutation, OnOk};
-ghost use Rattle.trace_events.specs.Steps.{event_happening, happenings_from, listed};
+ghost use Rattle.run_trace.specs.Steps.{event_happening, happenings_from, listed};
 
+use crate::happening::Happening;
+use crate::steps::happening_of;
 use schedules::Step;
 use std::alloc::{AllocError, Allocator, Global};
 use std::marker::Model;
-use trace_events::{Happening, happening_of};
 
 /// What happened in a run, in order of time. Contracts see it as a list.
 #[derive(Drop)]
@@ -16,7 +17,7 @@ pub struct Timeline<A: Allocator = Global> {
 
 impl<A: Allocator> Model for Timeline<A> {
     ghost use Rattle.std.specs.Prelude.{List};
-    ghost use Rattle.trace_events.specs.declared.happening.Happening.{Happening};
+    ghost use Rattle.run_trace.specs.declared.happening.Happening.{Happening};
 
     ghost Value = { List Happening };
 

@@ -3,6 +3,7 @@
 ghost use Rattle.std.specs.Prelude.{◌≡◌, ◌≢◌, IfOk, Ok, false, true};
 ghost use Rattle.run_trace.specs.declared.tracing.Tracing.TheVariants.{Off};
 
+use crate::error::TraceError;
 use crate::recorder::Recorder;
 use crate::timeline::Timeline;
 use chare_index::{Pe, Round};
@@ -10,7 +11,6 @@ use pe_worker::{PeStep, Watch};
 use std::alloc::{AllocError, Allocator, Global};
 use std::sync::Wait;
 use std::time::Clock;
-use trace_events::TraceError;
 
 /// A recorder, or none, which costs nothing.
 #[derive(Drop)]

@@ -1,5 +1,5 @@
 -- Verdicts by one seed after another: one more.
-use Rattle.std.proofs.Common.{◌≡◌, ◌∙◌, ℕ, ◌+◌, List, [], ◌∷◌, ◌++◌, length, sym, ap, subst, arith}
+use Rattle.std.proofs.Common.{◌≡◌, ℕ, ◌+◌, List, [], ◌∷◌, ◌++◌, length, subst, arith}
 use Rattle.std.specs.Prelude.{Result}
 use Rattle.at_sync.specs.declared.strategy.Strategy.{Strategy}
 use Rattle.chares.specs.Steps.{Step}

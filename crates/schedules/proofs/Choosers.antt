@@ -10,7 +10,7 @@ use Rattle.chares.specs.declared.trace_entry.TraceEntry.{TraceEntry}
 use Rattle.chares.specs.declared.trace_entry.TraceEntry.TheVariants as Trace
 use Rattle.rts_core.specs.Worlds.{WorldView}
 use Rattle.schedules.specs.Choices.{AreFlags, AreSilent, ChoicesView, Knows, KnowsBut, KnowsElement, moves_in, named}
-use Rattle.schedules.specs.Draws.{element_event, event_of, moves_at, moves_of, no_moves, settled}
+use Rattle.schedules.specs.Draws.{element_event, moves_at, moves_of, no_moves, settled}
 use Rattle.schedules.specs.NumberSets.{has}
 use Rattle.schedules.specs.declared.moves.Moves.{Moves}
 use Rattle.schedules.proofs.Frames.{other_place}

@@ -9,7 +9,6 @@ use Rattle.chares.specs.declared.trace_entry.TraceEntry.{TraceEntry}
 use Rattle.courses.specs.Courses.{CourseView, IsEnabled, Made, TakesStep}
 use Rattle.courses.specs.Searches.{TakesSome}
 use Rattle.lb_database.specs.Measuring.{IsComplete}
-use Rattle.pe_state.specs.Pes.{PeView}
 use Rattle.pup_pack.specs.declared.error.PupError.{PupError}
 use Rattle.rts_core.specs.declared.event.Event.{Event}
 use Rattle.rts_core.specs.Events.{After, Happens, MayDecide, enabled, or_nothing, pe_of}

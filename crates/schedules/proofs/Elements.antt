@@ -1,6 +1,6 @@
 -- What a step leaves as it is in a world: the moves of the other PEs, and the events of the elements that its trace does not name.
-use Rattle.std.proofs.Common.{◌≡◌, ◌≢◌, ◌∙◌, ◌⊎◌, inl, inr, ℕ, zero, suc, List, [], ◌∷◌, length, Option, Some, None, Bool, true, false, eqb, refl, sym, ap, subst}
-use Rattle.std.specs.Prelude.{IfSome, IsSome, Result, is_some, slice_get, slice_set, nat_lt, if◌then◌else◌}
+use Rattle.std.proofs.Common.{◌≡◌, ◌≢◌, ◌∙◌, ◌⊎◌, inl, inr, ℕ, zero, suc, List, [], ◌∷◌, length, Option, Some, None, Bool, true, false, eqb, refl, sym, ap}
+use Rattle.std.specs.Prelude.{IfSome, Result, is_some, slice_get, slice_set, nat_lt, if◌then◌else◌}
 use Rattle.std.specs.Option.{option_and_then, option_map, option_map_or}
 use Rattle.std.proofs.lemmas.Bool.Decides.{eqb_tells}
 use Rattle.std.proofs.lemmas.List.{length-set}
@@ -11,12 +11,12 @@ use Rattle.chares.specs.declared.trace_entry.TraceEntry.{TraceEntry}
 use Rattle.lb_database.specs.Measuring.{elements}
 use Rattle.lb_refinement.specs.Refined.{refined_cuts, refined_names}
 use Rattle.lb_strategy.specs.Moves.{planned_pe}
-use Rattle.pe_state.specs.Pes.{Parcel, PeView, waits_for}
+use Rattle.pe_state.specs.Pes.{PeView, waits_for}
 use Rattle.pe_state.specs.Rooms.{found}
 use Rattle.pup_pack.specs.declared.error.PupError.{PupError}
 use Rattle.rts_core.specs.declared.event.Event.{Event}
 use Rattle.rts_core.specs.declared.event.Event.TheVariants as Happening
-use Rattle.rts_core.specs.Events.{After, LocalView, enabled, local_step, local_view, or_nothing, pe_of, where_true, with_local}
+use Rattle.rts_core.specs.Events.{After, LocalView, enabled, local_step, local_view, pe_of, where_true, with_local}
 use Rattle.rts_core.specs.Worlds.{WorldView}
 use Rattle.schedules.specs.Choices.{AreSilent, ChoicesView, Knows, KnowsBut, put_into, put_to}
 use Rattle.schedules.specs.Draws.{element_event, element_goes, event_of, goes_to, moves_at, moves_of, no_moves, place_of}

@@ -1,7 +1,7 @@
 -- What a step of a PE leaves as it is: the other PEs, all queues but its own and the one that it puts a parcel into, the rounds that
 -- were decided, and the elements that no entry of its trace names.
-use Rattle.std.proofs.Common.{◌≡◌, ◌≢◌, ◌∙◌, ℕ, zero, suc, List, [], ◌∷◌, ◌++◌, length, Option, Some, None, Bool, true, false, refl, sym, ap, subst, cond}
-use Rattle.std.specs.Prelude.{IfSome, IsSome, Result, Ok, Err, slice_get, slice_set, if◌then◌else◌, not, is_none, ◌==◌}
+use Rattle.std.proofs.Common.{◌≡◌, ◌≢◌, ◌∙◌, ℕ, zero, suc, List, [], ◌∷◌, length, Option, Some, None, Bool, true, false, refl, sym, ap, subst}
+use Rattle.std.specs.Prelude.{IfSome, Result, Ok, Err, slice_get, slice_set, if◌then◌else◌, not, is_none, ◌==◌}
 use Rattle.std.specs.Option.{option_and_then, option_map, option_map_or}
 use Rattle.std.proofs.lemmas.List.{length-set}
 use Rattle.at_sync.specs.Boards.{BoardState}
@@ -14,13 +14,13 @@ use Rattle.chares.specs.declared.entry.Entry.TheVariants.{Letter as OfLetter, Re
 use Rattle.chares.specs.declared.note.Note.{Note}
 use Rattle.chares.specs.declared.note.Note.TheVariants.{Sync, Finish}
 use Rattle.chares.specs.declared.trace_entry.TraceEntry.{TraceEntry}
-use Rattle.pe_state.specs.Pes.{Acting, Item, Parcel, PeView, acting, acting_on, executed, forwarding, front_address, front_parcel, gave_up, hand_wants, handled, installing, looked, looked_in, on_element, on_letter, on_parcel, passing, shelving, wanted}
-use Rattle.pe_state.specs.Rooms.{changed, found, ran_in}
+use Rattle.pe_state.specs.Pes.{Acting, Item, Parcel, PeView, acting, acting_on, executed, forwarding, front_address, front_parcel, hand_wants, installing, looked_in, on_element, on_letter, on_parcel, passing, shelving, wanted}
+use Rattle.pe_state.specs.Rooms.{changed, found}
 use Rattle.pup_pack.specs.declared.error.PupError.{PupError}
 use Rattle.rts_core.specs.declared.event.Event.{Event}
 use Rattle.rts_core.specs.declared.event.Event.TheVariants as Happening
 use Rattle.rts_core.specs.Events.{LocalView, act_event, board_after, deliver_event, delivered, depart_event, due, flush_event, front_of, local_step, look_event, pe_of, report_event, resume_event, start_event, where_true}
-use Rattle.schedules.specs.Choices.{AreSilent, named, put_to}
+use Rattle.schedules.specs.Choices.{AreSilent, put_to}
 use Rattle.schedules.proofs.Rooms.{changed_other, joined_other, same_number, without_other}
 
 -- what holds of what follows from something

@@ -1,12 +1,12 @@
 -- How many PEs and elements an opening has.
-use Rattle.std.proofs.Common.{◌≡◌, ◌∙◌, ℕ, ◌+◌, ◌≤◌, List, [], ◌∷◌, length, map, Option, None, Some, refl, ap, subst, sym, arith}
+use Rattle.std.proofs.Common.{◌≡◌, ◌∙◌, ℕ, ◌+◌, ◌≤◌, List, [], ◌∷◌, length, map, Option, None, Some, refl, ap, subst, sym}
 use Rattle.std.specs.List.{range_with_len}
 use Rattle.std.specs.Prelude.{slice_get}
 use Rattle.std.proofs.lemmas.List.{length-set}
 use Rattle.std.proofs.lemmas.List.FromFn.{length-map-range_with_len}
 use Rattle.at_sync.specs.declared.strategy.Strategy.{Strategy}
 use Rattle.pe_state.specs.Pes.{PeView, new_pe, placed}
-use Rattle.rts_core.specs.Worlds.{WorldView, all_placed, home, opening_pes, opening_words, opening_world, placed_on}
+use Rattle.rts_core.specs.Worlds.{WorldView, all_placed, home, opening_pes, opening_world, placed_on}
 
 module _ {C : Type 0} where
   one_placed : (pes : List (PeView C)) (q e : ℕ) (chare : C) (o : Option (PeView C)) → length (placed_on pes q e chare o) ≡ length pes

@@ -1,5 +1,5 @@
 -- The sets from which an event is drawn, beside the events that they stand for.
-use Rattle.std.proofs.Common.{◌≡◌, ◌≢◌, ◌∙◌, ℕ, zero, suc, ◌+◌, ◌<◌, ◌≤◌, Bool, true, false, cond, List, [], ◌∷◌, length, map, get_or, Option, Some, None, refl, ap, sym, subst, arith}
+use Rattle.std.proofs.Common.{◌≡◌, ◌∙◌, ℕ, zero, suc, ◌+◌, ◌<◌, Bool, true, false, cond, List, [], ◌∷◌, length, map, Option, Some, None, refl, ap, sym, arith}
 use Rattle.std.specs.Prelude.{All, IsSome, IsTrue, ◌↔◌, is_some, slice_get, if◌then◌else◌}
 use Rattle.std.specs.List.{filter, filter_map, list_all, range_with_len}
 use Rattle.std.specs.Option.{option_and_then, option_map}

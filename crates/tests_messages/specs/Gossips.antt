@@ -1,5 +1,5 @@
 -- A chare that tells its number to all, and adds up the numbers that it is told.
-use Rattle.std.specs.Prelude.{◌≡◌, ℕ, ◌+◌, ◌-◌, ◌<◌, ◌≤◌, ◌==◌, ◌++◌, List, [], length, min, false}
+use Rattle.std.specs.Prelude.{ℕ, ◌+◌, ◌-◌, ◌<◌, ◌≤◌, ◌==◌, ◌++◌, [], length, min, false}
 use Rattle.std.specs.Int.{w32, w64, to_be_bytes}
 use Rattle.std.proofs.Common.{arith, length-append}
 use Rattle.chare_index.specs.declared.limits.TheConstants.Limits.{LETTERS, STATE_BYTES}

@@ -3,11 +3,10 @@
 use lb_refinement::Refined;
 use lb_snapshot::Snapshot;
 use rts_core::Account;
-use run_trace::Timeline;
+use run_trace::{Timeline, events_text, trace_of};
 use serde_json::Value;
 use std::alloc::Allocator;
 use std::process::Abort;
-use trace_events::{events_text, trace_of};
 
 /// Ends the test where this does not hold, and shows what should hold.
 pub(crate) fn assert_for(rt: &impl Abort, holds: bool, row: &str) {

@@ -1,7 +1,7 @@
 //! The text of each event.
 
 use crate::counting::assert_for;
-use trace_events::{Flow, Sign, TraceEvent, Work, event_text};
+use run_trace::{Flow, Sign, TraceEvent, Work, event_text};
 
 // Events, and their texts.
 static ROWS: [(TraceEvent, &str); 8] = [

@@ -5,14 +5,13 @@ use chare_index::{Index, Pe, Round};
 use lb_refinement::Refined;
 use lb_snapshot::Snapshot;
 use pe_worker::{PeStep, Watch};
-use run_trace::{Recorder, Timeline};
+use run_trace::{Deed, Happening, Recorder, Timeline, TraceError, What, write_trace};
 use std::alloc::Allocator;
 use std::io::{self, ErrorKind};
 use std::sync::Wait;
 use std::sync::atomic::{AtomicU64, Ordering};
 use std::time::{Clock, Duration};
 use tests_fixtures::{Outcome, Sink, each_refusal};
-use trace_events::{Deed, Happening, TraceError, What, write_trace};
 
 // A clock whose reading number n, from 0 on, is 7 seconds and n * n times 1,001 nanoseconds, or one that fails.
 #[derive(Drop)]

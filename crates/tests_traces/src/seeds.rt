@@ -5,14 +5,13 @@ use crate::counting::{
 };
 use lb_refinement::Refined;
 use lb_snapshot::Snapshot;
-use run_trace::Timeline;
+use run_trace::{Timeline, trace_of};
 use schedules::{Schedule, Step, explore};
 use serde_json::Value;
 use std::alloc::{AllocError, Allocator, Global};
 use std::process::Abort;
 use tally::Tally;
 use tests_fixtures::{Outcome, Refusing, each_refusal};
-use trace_events::trace_of;
 
 // A counter, the place of one of its values among them in the trace, and this value, if there is one.
 type Counted = (&'static str, u64, Option<u64>);

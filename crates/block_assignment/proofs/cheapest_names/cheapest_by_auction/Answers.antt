@@ -1,8 +1,8 @@
-use Rattle.std.proofs.Common.{◌≡◌, ℕ, ◌+◌, ◌*◌, ◌^◌, ◌<◌, ◌≤◌, ◌++◌, List, length, take, drop, slice_index, arith, ap, ◌∙◌, subst}
+use Rattle.std.proofs.Common.{◌≡◌, ℕ, ◌+◌, ◌<◌, ◌++◌, List, length, take, drop, arith, ap, ◌∙◌, subst}
 use Rattle.block_assignment.specs.declared.limits.TheConstants.MatrixLimits.{BYTES}
 use Rattle.block_assignment.specs.Table.{Table, cost_at}
 use Rattle.block_assignment.specs.Search.{IsTight}
-use Rattle.block_assignment.specs.Discounted.{discounted_cost, IsSettled}
+use Rattle.block_assignment.specs.Discounted.{IsSettled}
 use Rattle.block_assignment.proofs.Prices.{greatest_small}
 use Rattle.block_assignment.proofs.Settlings.{IsFoundBy, high_enough, settled_tight, settled_price_small, settled_discount_small, start_small}
 use Rattle.block_assignment.proofs.Trees.{written}

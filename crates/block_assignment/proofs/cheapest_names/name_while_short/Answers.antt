@@ -1,4 +1,4 @@
-use Rattle.std.proofs.Common.{◌+◌, ◌*◌, ◌^◌, ◌≤◌, refl, ◌∙◌, ap, arith}
+use Rattle.std.proofs.Common.{refl, ap, arith}
 use Rattle.block_assignment.specs.Table.{Table}
 use Rattle.block_assignment.proofs.cheapest_names.name_while_short.Goals as goal
 

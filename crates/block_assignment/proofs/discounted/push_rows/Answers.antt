@@ -1,8 +1,8 @@
-use Rattle.std.proofs.Common.{◌≡◌, ℕ, ◌+◌, ◌<◌, ◌≤◌, ◌++◌, List, length, slice_index, arith, ap, rules, subst}
+use Rattle.std.proofs.Common.{◌≡◌, ℕ, ◌+◌, ◌<◌, ◌++◌, List, length, slice_index, arith, rules}
 use Rattle.block_assignment.specs.declared.limits.TheConstants.MatrixLimits.{BYTES}
-use Rattle.block_assignment.specs.Table.{Table, cost_at}
+use Rattle.block_assignment.specs.Table.{Table}
 use Rattle.block_assignment.specs.Discounted.{discounted_cost}
-use Rattle.block_assignment.proofs.Rows.{HasRowsOf, rows_more_of}
+use Rattle.block_assignment.proofs.Rows.{rows_more_of}
 use Rattle.block_assignment.proofs.discounted.push_rows.Goals as goal
 
 pub loop-b-preserved : goal.loop-b-preserved

@@ -1,4 +1,4 @@
-use Rattle.std.proofs.Common.{◌≡◌, ◌<◌, ◌≤◌, length, slice_index, arith}
+use Rattle.std.proofs.Common.{◌<◌, length, arith}
 use Rattle.block_assignment.proofs.discounted.settle.Goals as goal
 
 pub lower_all-requires : goal.lower_all-requires

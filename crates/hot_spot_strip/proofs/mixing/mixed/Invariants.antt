@@ -1,4 +1,4 @@
-use Rattle.std.proofs.Common.{◌≡◌, ◌≤◌}
+use Rattle.std.proofs.Common.{◌≡◌}
 use Rattle.hot_spot_strip.specs.Mixing.{mixed}
 use Rattle.hot_spot_strip.proofs.mixing.mixed.Given as goal
 

@@ -1,7 +1,7 @@
 use Rattle.std.proofs.Common.{◌≡◌, ◌<◌, ◌∙◌, length, length-append, inl, inr, subst, ap, arith}
 use Rattle.std.proofs.lemmas.Result.{err_from_is_err_and}
-use Rattle.dump_parts.specs.Elements.{BreaksElement}
-use Rattle.dump_parts.specs.Heads.{element_len}
+use Rattle.lb_dump.specs.Elements.{BreaksElement}
+use Rattle.lb_dump.specs.Heads.{element_len}
 use Rattle.lb_dump.proofs.ElementSteps.{begun_breaks, old, one_breaks, one_ends, one_goes_on}
 use Rattle.lb_dump.proofs.held.take_element_bytes.Goals as goal
 

@@ -1,7 +1,7 @@
 use Rattle.std.proofs.Common.{◌≡◌, ◌∙◌, ◌<◌, length, inl, inr, sym, subst, ap, arith}
 use Rattle.std.proofs.lemmas.Result.{err_from_is_err_and}
 use Rattle.dump_format.specs.Layout.{judge}
-use Rattle.dump_parts.specs.Elements.{BreaksElement, body_of}
+use Rattle.lb_dump.specs.Elements.{BreaksElement, body_of}
 use Rattle.lb_dump.specs.Held.{AreSome}
 use Rattle.lb_dump.proofs.ElementSteps.{all_come, begun_breaks, old, one_begins, run_breaks, run_shorter}
 use Rattle.lb_dump.proofs.held.take_element_run.Goals as goal

@@ -1,6 +1,6 @@
 use Rattle.std.proofs.Common.{◌≡◌, ◌<◌, ◌∙◌, length, length-append, inl, inr, subst, ap, arith}
 use Rattle.std.proofs.lemmas.Result.{err_from_is_err_and}
-use Rattle.dump_parts.specs.Moves.{BreaksMove}
+use Rattle.lb_dump.specs.Moves.{BreaksMove}
 use Rattle.lb_dump.proofs.MoveSteps.{at, begun_breaks, few_elements, kept_moves, one_breaks, one_ends, one_goes_on}
 use Rattle.lb_dump.proofs.held.take_move_bytes.Goals as goal
 

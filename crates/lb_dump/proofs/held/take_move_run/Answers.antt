@@ -2,7 +2,7 @@ use Rattle.std.proofs.Common.{◌≡◌, ◌∙◌, ◌<◌, length, inl, inr, s
 use Rattle.std.proofs.lemmas.Result.{err_from_is_err_and}
 use Rattle.dump_format.specs.Fields.{moves}
 use Rattle.dump_format.specs.Layout.{judge}
-use Rattle.dump_parts.specs.Moves.{BreaksMove}
+use Rattle.lb_dump.specs.Moves.{BreaksMove}
 use Rattle.lb_dump.proofs.MoveSteps.{all_come, at, begun_breaks, one_begins, run_breaks, run_shorter}
 use Rattle.lb_dump.proofs.held.take_move_run.Goals as goal
 

@@ -1,6 +1,6 @@
 use Rattle.std.proofs.Common.{◌≡◌, refl, subst}
 use Rattle.dump_format.specs.Text.{IsText}
-use Rattle.dump_parts.specs.declared.head.Head.{Head}
+use Rattle.lb_dump.specs.declared.head.Head.{Head}
 use Rattle.lb_dump.specs.Held.{text_of}
 use Rattle.lb_dump.specs.Made.{recorded_with, taken_of}
 use Rattle.lb_dump.proofs.WholeDumps.{text_made, value_of}

@@ -1,5 +1,5 @@
 use Rattle.std.proofs.Common.{◌≡◌, ◌*◌, ◌∙◌, ap, length, length-append, arith}
-use Rattle.dump_parts.specs.Heads.{element_len}
+use Rattle.lb_dump.specs.Heads.{element_len}
 use Rattle.lb_dump.specs.Held.{front_text}
 use Rattle.lb_dump.proofs.Lengths.{front_length, none_length}
 use Rattle.lb_dump.proofs.whole_dump.text_len.Goals as goal

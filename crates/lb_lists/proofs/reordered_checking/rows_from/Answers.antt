@@ -1,4 +1,4 @@
-use Rattle.std.proofs.Common.{arith, ap, ◌∙◌}
+use Rattle.std.proofs.Common.{arith, ◌∙◌}
 use Rattle.std.specs.List.{zip}
 use Rattle.lb_lists.proofs.HeightRows.{one_more_row}
 use Rattle.lb_lists.proofs.reordered_checking.rows_from.Goals as goal

@@ -1,4 +1,4 @@
-use Rattle.std.proofs.Common.{◌≡◌, codes}
+use Rattle.std.proofs.Common.{codes}
 use Rattle.std.proofs.lemmas.Result.{IfOk-weaker}
 use Rattle.program_words.proofs.Chains.{with_argument}
 use Rattle.program_words.specs.Arguments.{tolerance_rule, versioned}

@@ -1,4 +1,4 @@
-use Rattle.std.proofs.Common.{◌≡◌, [], ◌+◌, All, drop, map, refl, ap}
+use Rattle.std.proofs.Common.{◌≡◌, [], ◌+◌, drop, map, refl, ap}
 use Rattle.std.proofs.lemmas.Bool.{false≢true, iff_false}
 use Rattle.std.proofs.lemmas.List.{drop_all}
 use Rattle.round_marks.proofs.Walks.{from_here, walk_ends, walk_on, walk_stops}

@@ -1,6 +1,5 @@
-use Rattle.std.proofs.Common.{◌≢◌, ◌∙◌, Some, subst, sym, rules}
+use Rattle.std.proofs.Common.{◌∙◌, sym}
 use Rattle.std.proofs.lemmas.Bool.{iff_false}
-use Rattle.pe_worker.specs.declared.fault.Fault.TheVariants.{Mismatch, Unpack}
 use Rattle.rts_run.proofs.Faults.{no_unpack, no_mismatch}
 use Rattle.rts_run.proofs.running.ended.Goals as goal
 

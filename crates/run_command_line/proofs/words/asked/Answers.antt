@@ -1,6 +1,6 @@
 use Rattle.std.proofs.Common.{◌≡◌, ◌∙◌, refl, sym, true, Ok, Err, codes, Some}
 use Rattle.clap.specs.Walk.{texts}
-use Rattle.clap.specs.Words.{found_of, is_simple, is_simple_and_free}
+use Rattle.clap.specs.Words.{is_simple, is_simple_and_free}
 use Rattle.clap.specs.declared.parser.matches.ArgMatches.{ArgMatches}
 use Rattle.clap.proofs.OnLiterals.{clap_on_literals}
 use Rattle.program_words.proofs.Chains.{by_word, first_word, found_by, one_word, refused_by}

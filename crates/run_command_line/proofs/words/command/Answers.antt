@@ -1,4 +1,4 @@
-use Rattle.std.proofs.Common.{◌≡◌, codes, ◌∙◌, ap, subst, refl, true, [], ◌∷◌, arith, is_some}
+use Rattle.std.proofs.Common.{◌≡◌, codes, ap, subst, refl, true, [], ◌∷◌, arith, is_some}
 use Rattle.std.proofs.lemmas.Result.{IfOk-weaker}
 use Rattle.std.proofs.lemmas.List.Elements.{All-from_recursion}
 use Rattle.clap.specs.Built.{FitsChain}

@@ -1,5 +1,4 @@
-use Rattle.std.proofs.Common.{◌<◌, length, sym, arith, rules}
-use Rattle.schedules.proofs.Counts.{few_below}
+use Rattle.std.proofs.Common.{◌<◌, sym, arith, rules}
 use Rattle.schedules.proofs.Sets.{member_below}
 use Rattle.schedules.proofs.choices.pe_in.Goals as goal
 

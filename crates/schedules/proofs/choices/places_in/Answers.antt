@@ -1,4 +1,4 @@
-use Rattle.std.proofs.Common.{◌≡◌, ◌∙◌, ℕ, List, ◌∷◌, [], ◌++◌, Some, sym, ap, rules}
+use Rattle.std.proofs.Common.{◌≡◌, ◌∙◌, ℕ, List, ◌∷◌, [], ◌++◌, sym, ap, rules}
 use Rattle.std.specs.Prelude.{slice_get}
 use Rattle.schedules.proofs.Choosers.{taken_next}
 use Rattle.schedules.proofs.choices.places_in.Goals as goal

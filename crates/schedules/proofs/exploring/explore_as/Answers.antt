@@ -1,4 +1,4 @@
-use Rattle.std.proofs.Common.{◌≡◌, ◌∙◌, ◌≤◌, List, ap, arith, length, subst, sym}
+use Rattle.std.proofs.Common.{◌∙◌, ◌≤◌, List, ap, arith, length, subst}
 use Rattle.chare_index.specs.declared.limits.TheConstants.Limits.{ELEMENTS, PES}
 use Rattle.rts_core.specs.Worlds.{opening_world}
 use Rattle.schedules.specs.Choices.{Knows}

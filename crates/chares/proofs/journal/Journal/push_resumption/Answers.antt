@@ -1,5 +1,5 @@
 use Rattle.std.proofs.Common.{◌∷◌, ◌++◌, [], length, ap, ◌∙◌, arith}
-use Rattle.chares.specs.Journals.{JournalView, entries_from}
+use Rattle.chares.specs.Journals.{JournalView}
 use Rattle.chares.specs.declared.entry.Entry.TheVariants.{Resumption}
 use Rattle.chares.proofs.Journals.{order_resumption, entries_resumption}
 use Rattle.chares.proofs.journal.Journal.push_resumption.Goals as goal

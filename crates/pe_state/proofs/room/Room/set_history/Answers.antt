@@ -1,4 +1,4 @@
-use Rattle.std.proofs.Common.{◌≡◌, ◌<◌, length, ◌∙◌, arith}
+use Rattle.std.proofs.Common.{◌<◌, length, ◌∙◌, arith}
 use Rattle.pe_state.proofs.Edits.{same_row}
 use Rattle.pe_state.proofs.room.Room.set_history.Goals as goal
 

@@ -1,4 +1,4 @@
-use Rattle.std.proofs.Common.{◌≡◌, ℕ, List, Option, Some, length, get_or, ap, sym, subst, ◌∙◌, arith}
+use Rattle.std.proofs.Common.{ℕ, List, Some, length, get_or, ap, sym, subst, ◌∙◌, arith}
 use Rattle.chare_index.specs.declared.limits.TheConstants.Limits.{ELEMENTS}
 use Rattle.chares.specs.Elements.{ElementView}
 use Rattle.pe_state.specs.Rows.{IsWithin}

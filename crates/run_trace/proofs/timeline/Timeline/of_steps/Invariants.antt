@@ -1,5 +1,5 @@
 use Rattle.std.proofs.Common.{◌≡◌, ◌++◌, drop}
-use Rattle.trace_events.specs.Steps.{happenings_from}
+use Rattle.run_trace.specs.Steps.{happenings_from}
 use Rattle.run_trace.proofs.timeline.Timeline.of_steps.Given as goal
 
 abbrev pub invariant-loop-number : goal.invariant-loop-number

@@ -1,8 +1,8 @@
-use Rattle.std.proofs.Common.{◌≡◌, ◌∙◌, ℕ, sym, ap, subst, rules, arith, length, ◌<◌}
+use Rattle.std.proofs.Common.{◌≡◌, ◌∙◌, ℕ, sym, ap, subst, rules, arith, ◌<◌}
 use Rattle.std.specs.Prelude.{slice_get}
 use Rattle.std.specs.Option.{option_and_then}
 use Rattle.schedules.specs.Choices.{AreFlags, ChoicesView}
-use Rattle.schedules.specs.Draws.{element_event, event_of}
+use Rattle.schedules.specs.Draws.{element_event}
 use Rattle.schedules.specs.NumberSets.{members}
 use Rattle.schedules.proofs.Sets.{member_below, no_element_is, some_element_is}
 use Rattle.schedules.proofs.choices.Choices.element_at.Goals as goal

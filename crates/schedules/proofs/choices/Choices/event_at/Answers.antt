@@ -1,4 +1,4 @@
-use Rattle.std.proofs.Common.{◌≡◌, ◌∙◌, ℕ, ap, subst}
+use Rattle.std.proofs.Common.{◌∙◌, ap, subst}
 use Rattle.std.specs.Prelude.{slice_get}
 use Rattle.rts_core.specs.declared.event.Event.TheVariants as Happening
 use Rattle.schedules.specs.Choices.{AreFlags, ChoicesView}

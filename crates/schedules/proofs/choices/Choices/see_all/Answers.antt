@@ -1,4 +1,4 @@
-use Rattle.std.proofs.Common.{◌≡◌, ◌∙◌, ℕ, length, ap}
+use Rattle.std.proofs.Common.{◌∙◌, length, ap}
 use Rattle.schedules.specs.Choices.{ChoicesView, moves_in}
 use Rattle.schedules.proofs.Choosers.{with_decides}
 use Rattle.schedules.proofs.choices.Choices.see_all.Goals as goal

@@ -1,6 +1,6 @@
-use Rattle.std.proofs.Common.{◌≡◌, ◌∙◌, List, ℕ, Some, sym, ap}
+use Rattle.std.proofs.Common.{◌∙◌, sym, ap}
 use Rattle.std.specs.Prelude.{is_some, slice_get}
-use Rattle.schedules.specs.Choices.{AreFlags, ChoicesView}
+use Rattle.schedules.specs.Choices.{ChoicesView}
 use Rattle.schedules.proofs.Choosers.{none_known, put_element}
 use Rattle.schedules.proofs.choices.Choices.see_element.Goals as goal
 

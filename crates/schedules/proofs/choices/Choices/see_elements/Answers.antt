@@ -1,4 +1,4 @@
-use Rattle.std.proofs.Common.{◌≡◌, ◌∙◌, length, ap, arith}
+use Rattle.std.proofs.Common.{◌≡◌, length, ap, arith}
 use Rattle.schedules.specs.Choices.{ChoicesView}
 use Rattle.schedules.proofs.Choosers.{all_elements}
 use Rattle.schedules.proofs.choices.Choices.see_elements.Goals as goal

@@ -1,4 +1,4 @@
-use Rattle.std.proofs.Common.{◌≡◌, ℕ, ◌<◌, length}
+use Rattle.std.proofs.Common.{◌≡◌, ℕ, ◌<◌}
 use Rattle.schedules.specs.Choices.{KnowsElement}
 use Rattle.schedules.proofs.choices.Choices.see_elements.Given as goal
 

@@ -1,4 +1,4 @@
-use Rattle.std.proofs.Common.{◌≡◌, ℕ, ◌<◌, length, take, drop}
+use Rattle.std.proofs.Common.{◌≡◌, ℕ, take, drop}
 use Rattle.schedules.specs.Choices.{AreSilent, KnowsElement}
 use Rattle.schedules.specs.Draws.{settled}
 use Rattle.schedules.proofs.choices.Choices.see_entries.Given as goal

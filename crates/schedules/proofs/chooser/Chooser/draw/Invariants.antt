@@ -1,5 +1,4 @@
 use Rattle.std.proofs.Common.{◌≡◌, ◌-◌}
-use Rattle.schedules.specs.Choices.{Knows}
 use Rattle.schedules.specs.Draws.{drawn_in, events_of}
 use Rattle.schedules.proofs.chooser.Chooser.draw.Given as goal
 

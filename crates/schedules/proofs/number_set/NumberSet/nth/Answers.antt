@@ -1,4 +1,4 @@
-use Rattle.std.proofs.Common.{◌≡◌, ◌+◌, ◌*◌, ◌-◌, length, arith, sym, ap}
+use Rattle.std.proofs.Common.{◌≡◌, ◌*◌, ◌-◌, length, arith, sym, ap}
 use Rattle.schedules.specs.NumberSets.{has}
 use Rattle.schedules.proofs.Counts.{count_grows, nth_past}
 use Rattle.schedules.proofs.number_set.NumberSet.nth.Goals as goal

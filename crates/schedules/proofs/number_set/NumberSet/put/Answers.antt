@@ -1,4 +1,4 @@
-use Rattle.std.proofs.Common.{◌≡◌, ◌<◌, length, arith, sym, ap}
+use Rattle.std.proofs.Common.{arith}
 use Rattle.schedules.proofs.Counts.{few_in_all, few_in_block, put_off, put_on, some_in_all, some_in_block}
 use Rattle.schedules.proofs.number_set.NumberSet.put.Goals as goal
 

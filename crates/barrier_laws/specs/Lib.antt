@@ -1,2 +1,0 @@
-pub mod Barrier
-pub mod Measured

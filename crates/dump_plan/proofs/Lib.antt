@@ -1,6 +1,0 @@
-pub mod Judged
-pub mod Numbers
-pub mod Decisions
-pub mod Begun
-pub mod Parts
-pub mod MadePlans

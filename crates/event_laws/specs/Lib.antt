@@ -1,0 +1,7 @@
+pub mod Agreement
+pub mod Barrier
+pub mod Bound
+pub mod Chase
+pub mod Finished
+pub mod Measured
+pub mod Rounds

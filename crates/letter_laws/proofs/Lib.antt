@@ -1,9 +1,0 @@
-pub mod Chased
-pub mod Chasing
-pub mod Hops
-pub mod Journals
-pub mod Lags
-pub mod Owned
-pub mod Shelved
-pub mod Steps
-pub mod Traces

@@ -1,9 +1,0 @@
-use Rattle.letter_laws.proofs.Chased.{chased}
-use Rattle.letter_laws.proofs.laws.chase_law.Goals as goal
-
--- src/laws.rt:17:1
-pub returns : goal.returns
-returns g c =
-    record {
-      chase = λ pes chares strategy events last some run. chased g.C.Chare.step g.C.Pup.pack g.C.Pup.unpack pes chares strategy some events last run;
-    }

@@ -1,8 +1,0 @@
-use Rattle.std.proofs.Common.{◌≡◌, ◌++◌, take}
-use Rattle.std.specs.List.{flat_map}
-use Rattle.trace_events.specs.Shown.{loads_shown}
-use Rattle.trace_events.proofs.loads.push_loads.Given as goal
-
-abbrev pub invariant-loop-happening : goal.invariant-loop-happening
-invariant-loop-happening g l =
-    l.events.items ≡ l.initial.events.items ++ flat_map (loads_shown l.rounds) (take l.happening-index l.happenings)

@@ -1,7 +1,0 @@
-use Rattle.std.proofs.Common.{◌≡◌, ◌++◌, take}
-use Rattle.std.specs.List.{flat_map}
-use Rattle.trace_events.specs.Shown.{shown}
-use Rattle.trace_events.proofs.shown.push_happenings.Given as goal
-
-abbrev pub invariant-loop-happening : goal.invariant-loop-happening
-invariant-loop-happening g l = l.events.items ≡ l.initial.events.items ++ flat_map shown (take l.happening-index l.happenings)

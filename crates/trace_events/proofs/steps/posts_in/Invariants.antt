@@ -1,6 +1,0 @@
-use Rattle.std.proofs.Common.{◌≡◌, drop}
-use Rattle.trace_events.specs.Steps.{posts_from, posts_in}
-use Rattle.trace_events.proofs.steps.posts_in.Given as goal
-
-abbrev pub invariant-loop-entry : goal.invariant-loop-entry
-invariant-loop-entry l = posts_from l.first l.end (drop l.entry-index l.entries) ≡ posts_in l.entries
