@@ -9,11 +9,14 @@ use std::sync::atomic::Ordering::SeqCst;
 const PATIENCE: u64 = 10_000;
 
 /// A question that all workers answer by an idle turn. Who asks has found nothing to do for a while. Each worker answers with the
-/// number of the question that it had read before its last turn, if that turn was idle. Once all have answered a question, and none
-/// has done anything since it was asked, then none will: each has looked for something to do, and there was nothing that another
-/// could have changed. (E. W. Dijkstra, W. H. J. Feijen and A. J. M. van Gasteren, "Derivation of a termination detection algorithm
-/// for distributed computations", Information Processing Letters 16(5), 1983, detect the end of a computation by a second look in
-/// the same way.)
+/// number of the question that it had read before its last turn, if that turn was idle.
+///
+/// Once all have answered, the same is asked again: a worker that answered early may have been sent a letter by one that answered
+/// late, and be busy with it. A worker that answers both questions and was not woken between them took idle turns alone from the one
+/// to the other. So when the second question was asked, nobody was doing anything, and since then each has looked for something to
+/// do, and there was nothing that another could have changed. (E. W. Dijkstra, W. H. J. Feijen and A. J. M. van Gasteren,
+/// "Derivation of a termination detection algorithm for distributed computations", Information Processing Letters 16(5), 1983, detect
+/// the end of a computation by a second look in the same way.)
 ///
 /// No clause rests on it: what is left of a run shows whether anything was left to do.
 #[derive(Drop)]
@@ -26,11 +29,12 @@ pub(crate) struct Ballot<A: Allocator = Global> {
     answers: Vec<AtomicU64, A>,
 }
 
-/// A question that was asked: its number, and how often workers had been woken before.
+/// A question that was asked: its number, how often workers had been woken before the first of the two, and whether it is the second.
 #[derive(Clone, Copy, Debug)]
 pub(crate) struct Question {
     number: u64,
     woken: u64,
+    is_second: bool,
 }
 
 impl<A: Allocator> Ballot<A> {
@@ -65,31 +69,52 @@ impl<A: Allocator> Ballot<A> {
         self.woken.fetch_add(1, SeqCst);
     }
 
-    /// Asks the workers, where this one has been idle for so many turns in a row.
+    /// Asks the workers for the first time, where this one has been idle for so many turns in a row.
     pub(crate) fn ask(&self, idle: u64) -> Option<Question> {
         if idle < PATIENCE {
             return None;
         }
         let woken = self.woken.load(SeqCst);
-        let before = self.asked.fetch_add(1, SeqCst);
         Some(Question {
-            number: before.saturating_add(1),
+            number: self.next_number(),
             woken,
+            is_second: false,
         })
     }
 
-    /// Whether a worker was woken since the question was asked. Then it has to be asked again.
+    /// Asks the workers again, once all have answered the first question.
+    pub(crate) fn ask_again(&self, first: Question) -> Question {
+        Question {
+            number: self.next_number(),
+            woken: first.woken,
+            is_second: true,
+        }
+    }
+
+    // The number of the next question.
+    fn next_number(&self) -> u64 {
+        self.asked.fetch_add(1, SeqCst).saturating_add(1)
+    }
+
+    /// Whether a worker was woken since the first question was asked. Then it has to be asked anew.
     pub(crate) fn is_void(&self, question: Question) -> bool {
         self.woken.load(SeqCst) != question.woken
     }
 
-    /// Whether all workers have answered a question, and none was woken since it was asked.
-    pub(crate) fn is_quiet(&self, question: Question) -> bool {
+    /// Whether all workers have answered a question, and none was woken since the first was asked.
+    pub(crate) fn is_answered(&self, question: Question) -> bool {
         for answer in self.answers.as_slice() {
             if answer.load(SeqCst) < question.number {
                 return false;
             }
         }
         !self.is_void(question)
+    }
+}
+
+impl Question {
+    /// Whether it is the second question, whose answers say that nothing is left to do.
+    pub(crate) fn is_second(self) -> bool {
+        self.is_second
     }
 }

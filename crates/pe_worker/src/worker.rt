@@ -482,8 +482,8 @@ fn report_all<C: Chare<A>, H: Openings<C> + RunStrategy, J: RunBeginning<C>, A: 
     taken
 }
 
-// Whether nothing is left to do in the whole run. The worker of PE 0 finds out, once it has been idle for a while: it asks the others,
-// and asks again where one of them has done something meanwhile.
+// Whether nothing is left to do in the whole run. The worker of PE 0 finds out, once it has been idle for a while: it asks the others
+// twice, and anew where one of them has done something meanwhile.
 fn is_quiet<A: Allocator>(
     ballot: &Ballot<A>,
     me: Pe,
@@ -501,7 +501,14 @@ fn is_quiet<A: Allocator>(
         *question = ballot.ask(idle);
         return false;
     }
-    ballot.is_quiet(asked)
+    if !ballot.is_answered(asked) {
+        return false;
+    }
+    if asked.is_second() {
+        return true;
+    }
+    *question = Some(ballot.ask_again(asked));
+    false
 }
 
 // Lets time pass in an idle turn.
