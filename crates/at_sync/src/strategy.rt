@@ -69,11 +69,13 @@ impl Strategy {
         ensures by_strategy { IfOk result (IsDecidedBy self snapshot.now.loads snapshot.now.sizes pes) }
         ensures placed { IfOk result (PlacesAll snapshot.now.loads snapshot.now.sizes pes) }
     {
-        let Strategy::Refine(tolerance) = self else {
-            let best = best(alloc, snapshot, pes)?;
-            return Ok(Refined::Planned(best));
-        };
-        refine(alloc, snapshot, pes, tolerance)
+        match self {
+            Strategy::Least => {
+                let best = best(alloc, snapshot, pes)?;
+                Ok(Refined::Planned(best))
+            }
+            Strategy::Refine(tolerance) => refine(alloc, snapshot, pes, tolerance),
+        }
     }
 
     // The same, with the least division found by several workers.
@@ -93,11 +95,15 @@ impl Strategy {
         ensures by_strategy { IfOk result (IsDecidedBy self snapshot.now.loads snapshot.now.sizes pes) }
         ensures placed { IfOk result (PlacesAll snapshot.now.loads snapshot.now.sizes pes) }
     {
-        let Strategy::Refine(tolerance) = self else {
-            let best = best_with(rt, alloc, snapshot, pes, workers, gate)?;
-            return Ok(Refined::Planned(best));
-        };
-        refine_with(rt, alloc, snapshot, pes, tolerance, workers, gate)
+        match self {
+            Strategy::Least => {
+                let best = best_with(rt, alloc, snapshot, pes, workers, gate)?;
+                Ok(Refined::Planned(best))
+            }
+            Strategy::Refine(tolerance) => {
+                refine_with(rt, alloc, snapshot, pes, tolerance, workers, gate)
+            }
+        }
     }
 }
 

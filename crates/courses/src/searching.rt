@@ -114,6 +114,6 @@ fn elements_at<C: Chare<A>, H: Openings<C>, A: Allocator>(world: &World<C, H, A>
     let Some(pe) = world.pe(p) else {
         return 0;
     };
-    let _room = pe.room();
+    pe.known();
     pe.n()
 }

@@ -18,7 +18,7 @@ use chare_index::{Gate, Index, Limits, Pe, Round};
 use chares::{BodyLimit, Chare, Letter, Note, SendError, Sends, TraceEntry, Unread};
 use std::alloc::Allocator;
 use std::collections::VecDeque;
-use std::mem::replace;
+use std::mem::{forget, replace};
 
 /// Executes a letter by its element, which stands in the room, and returns the note that is owed for it.
 #[tactic(auto, using(crate::proofs::Traces::traced_twice))]
@@ -59,8 +59,8 @@ pub(crate) fn execute<C: Chare<A>, A: Allocator + Copy, G: Gate>(
     let handled = room.execute(gate, me, letter, &mut sends);
     let (posted, back, entries) = sends.give_back();
     *count = posted;
-    *outbox = back;
-    *trace = entries;
+    put_back(outbox, back);
+    put_back(trace, entries);
     handled
 }
 
@@ -104,9 +104,17 @@ pub(crate) fn resume<C: Chare<A>, A: Allocator + Copy, G: Gate>(
     let handled = room.resume(gate, me, index, round, &mut sends);
     let (posted, back, entries) = sends.give_back();
     *count = posted;
-    *outbox = back;
-    *trace = entries;
+    put_back(outbox, back);
+    put_back(trace, entries);
     handled
+}
+
+// Puts back what was lent. The empty one that stood for it holds no memory, so there is nothing to drop: to find that out at each
+// letter would take some fifty instructions.
+fn put_back<T: Drop>(place: &mut T, lent: T)
+    ensures back { place.new ≡ lent }
+{
+    forget(replace(place, lent));
 }
 
 /// Owes the board a note, if there is one, in memory that was reserved for it.

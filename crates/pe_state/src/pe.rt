@@ -243,6 +243,14 @@ impl<C: Chare<A>, H: Openings<C>, A: Allocator> PeState<C, H, A> {
         self.end.room()
     }
 
+    /// What holds of every PE, for the proof of a caller that knows nothing else of this one. It costs a run nothing.
+    pub fn known(&self)
+        ensures keyed { IsKeyed self.now.room }
+        ensures histories { HasHistories C.step C.fits C.pack H.opened self.now }
+    {
+        let _room = self.room();
+    }
+
     /// The element that has to be looked for: that of a letter in the hand without a look, where it does not stand here,
     /// or else that of a letter without an address at the front of the outbox.
     pub fn wants(&self) -> Option<Index>

@@ -72,7 +72,7 @@ impl<C: Chare<A>, H: Openings<C> + RunStrategy, J: RunBeginning<C>, A: Allocator
         ensures refused { MatchOption result (IfSome (slice_get self.old.pe.notes 0) (λ note. board_after board.old note ≡ None)) (λ _. Unit {0}) }
         ensures same_me { self.new.pe.me ≡ self.old.pe.me }
     {
-        let _room = self.pe.room();
+        self.pe.known();
         let note = self.pe.next_note()?;
         if !take_note(board, &note) {
             return None;
@@ -105,7 +105,7 @@ impl<C: Chare<A>, H: Openings<C> + RunStrategy, J: RunBeginning<C>, A: Allocator
         ensures cause { IfErr result (RefusesStep (MayRefuse C.step C.pack C.refuses H.opened)) }
         ensures same_me { self.new.pe.me ≡ self.old.pe.me }
     {
-        let _room = self.pe.room();
+        self.pe.known();
         let Some(place) = self.due_at(places, element) else {
             return Ok(false);
         };

@@ -23,7 +23,7 @@ impl<C: Chare<A>, H: Openings<C>, J: RunBeginning<C>, A: Allocator + Copy> Seate
         ensures step { MatchBool result (Delivers self.old self.new) (self.new ≡ self.old) }
         ensures same_me { self.new.pe.me ≡ self.old.pe.me }
     {
-        let _room = self.pe.room();
+        self.pe.known();
         if self.pe.as_end().hand().is_some() {
             return false;
         }
@@ -58,7 +58,7 @@ impl<C: Chare<A>, H: Openings<C>, J: RunBeginning<C>, A: Allocator + Copy> Seate
         ensures cause { IfErr result (RefusesStep (MayRefuse C.step C.pack C.refuses H.opened)) }
         ensures same_me { self.new.pe.me ≡ self.old.pe.me }
     {
-        let _room = self.pe.room();
+        self.pe.known();
         if self.pe.as_end().hand().is_some() {
             return Ok(None);
         }
@@ -78,7 +78,7 @@ impl<C: Chare<A>, H: Openings<C>, J: RunBeginning<C>, A: Allocator + Copy> Seate
         ensures step { MatchBool result (Flushes self.old self.new) (Stays self.old self.new) }
         ensures same_me { self.new.pe.me ≡ self.old.pe.me }
     {
-        let _room = self.pe.room();
+        self.pe.known();
         let Some(to) = self.pe.front_out() else {
             return false;
         };
@@ -98,7 +98,7 @@ impl<C: Chare<A>, H: Openings<C>, J: RunBeginning<C>, A: Allocator + Copy> Seate
         ensures all { MatchBool result (Unit {0}) (IfSome (wanted self.old.pe) (λ element. words.now.elements ≤ element)) }
         ensures same_me { self.new.pe.me ≡ self.old.pe.me }
     {
-        let _room = self.pe.room();
+        self.pe.known();
         let Some(element) = self.pe.wants() else {
             return false;
         };
@@ -125,7 +125,7 @@ impl<C: Chare<A>, H: Openings<C>, J: RunBeginning<C>, A: Allocator + Copy> Seate
             (λ flushed. MatchBool flushed (LooksAndFlushes self.old self.new) (Looks self.old self.new)) }
         ensures same_me { self.new.pe.me ≡ self.old.pe.me }
     {
-        let _room = self.pe.room();
+        self.pe.known();
         if self.pe.as_end().hand().is_some() {
             return None;
         }
@@ -157,7 +157,7 @@ impl<C: Chare<A>, H: Openings<C>, J: RunBeginning<C>, A: Allocator + Copy> Seate
         ensures cause { IfErr result (RefusesStep (MayRefuse C.step C.pack C.refuses H.opened)) }
         ensures same_me { self.new.pe.me ≡ self.old.pe.me }
     {
-        let _room = self.pe.room();
+        self.pe.known();
         self.pe.act(gate)
     }
 
@@ -182,7 +182,7 @@ impl<C: Chare<A>, H: Openings<C>, J: RunBeginning<C>, A: Allocator + Copy> Seate
         ensures cause { IfErr result (RefusesStep (MayRefuse C.step C.pack C.refuses H.opened)) }
         ensures same_me { self.new.pe.me ≡ self.old.pe.me }
     {
-        let _room = self.pe.room();
+        self.pe.known();
         let start = Round::new(0).unwrap();
         if !self.pe.may_resume(element, start) {
             return Ok(false);

@@ -175,7 +175,8 @@ impl<C: Chare<A>, H: Openings<C> + RunStrategy, J: RunBeginning<C>, A: Allocator
         worker
     }
 
-    // Starts the elements of the PE, one after another.
+    // Starts the elements of the PE, one after another. A letter is flushed after each start, so that the outbox does not grow to all
+    // the letters that starts post.
     fn start_all<G: Gate, V: Watch>(
         &mut self,
         gate: &G,
@@ -193,6 +194,7 @@ impl<C: Chare<A>, H: Openings<C> + RunStrategy, J: RunBeginning<C>, A: Allocator
                 return Err(Fault::Stopped);
             }
             self.start_next(gate, watch, field)?;
+            let _flushed = self.flush_letter(field);
         }
         Ok(())
     }

@@ -109,10 +109,10 @@ impl<C: Chare<A>, H: Openings<C>, A: Allocator + Copy> World<C, H, A> {
     /// names a PE or an element that is not there, changes nothing and has no trace entries.
     ///
     /// Crates above this one prove what holds of the trace of every list of events: no element goes on before all have
-    /// reported and the round was decided, once, and each is then at its place (`barrier_laws::barrier_law`); the board takes
-    /// every note that is owed (`agreement_laws::agreement_laws`); no element arrives where there is one with its index
-    /// already (`place_laws::place_laws`); a letter is forwarded no more often than its element has departed since it was
-    /// posted, and a letter on a shelf waits for an element that is on its way (`letter_laws::chase_law`).
+    /// reported and the round was decided, once, and each is then at its place (`event_laws::barrier_law`); the board takes
+    /// every note that is owed (`event_laws::agreement_laws`); no element arrives where there is one with its index
+    /// already (`event_laws::place_laws`); a letter is forwarded no more often than its element has departed since it was
+    /// posted, and a letter on a shelf waits for an element that is on its way (`event_laws::chase_law`).
     ///
     /// # Errors
     ///

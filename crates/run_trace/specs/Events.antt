@@ -1,6 +1,7 @@
 -- The JSON value of each event of a trace. The members of an object are in the order of their keys.
 use Rattle.std.specs.Prelude.{ℕ, ◌+◌, ◌*◌, List, ◌∷◌, ◌++◌, codes}
 use Rattle.std.specs.Fmt.{decimal}
+use Rattle.chare_index.specs.declared.limits.TheConstants.Limits.{PES}
 use Rattle.serde_json.specs.Data.{Data, number, unsigned, string, object, member, no_members}
 use Rattle.run_trace.specs.Times.{time_data}
 use Rattle.run_trace.specs.declared.event.TraceEvent.{TraceEvent}
@@ -66,7 +67,7 @@ flow_name (flow.Element e) = codes "element"
 
 -- the number of an arrow among those of its name
 abbrev pub flow_number : Flow → ℕ
-flow_number (flow.Letter pe n) = n * 256 + pe
+flow_number (flow.Letter pe n) = n * PES + pe
 flow_number (flow.Element e) = e
 
 -- the value of an event

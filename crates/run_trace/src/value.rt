@@ -9,6 +9,7 @@ ghost use Rattle.run_trace.specs.Events.{count, event_data, flow_name, flow_numb
 
 use crate::event::{Flow, Sign, TraceEvent, Work};
 use crate::time::time_value;
+use chare_index::Limits;
 use serde_json::{Value, json};
 use std::alloc::{AllocError, Global};
 
@@ -184,7 +185,7 @@ fn flow_number(flow: &Flow) -> u64
     ensures value { result ≡ flow_number flow.now }
 {
     match flow {
-        Flow::Letter(pe, number) => u64::from(*number) * 256 + u64::from(*pe),
+        Flow::Letter(pe, number) => u64::from(*number) * u64::from(Limits::PES) + u64::from(*pe),
         Flow::Element(element) => u64::from(*element),
     }
 }
