@@ -9,10 +9,9 @@ use crate::plan::plan_of;
 use crate::row::{NONE, free_at};
 use crate::sized::is_small;
 use any_order::{Bounds, Reordered, check_reordered};
-use chain_refinement::Tolerance;
+use chain_refinement::{PresentOrder, Tolerance};
 use lb_certificates::{Cuts, Division, Naming};
 use lb_snapshot::{Sizes, Snapshot, Units};
-use present_order::PresentOrder;
 use std::alloc::{AllocError, Allocator};
 
 /// Cuts of this snapshot's elements within a tolerance above the least division, and names of their blocks, that move the

@@ -9,14 +9,13 @@ ghost use Rattle.lb_any_order.specs.Reorderings.{ArePricesSmallInOrder, HasMoves
 use crate::reordering::{Fewest, Reordering};
 use any_order::{Reordered, moved_by};
 use any_order_search::reorder;
-use chain_refinement::Tolerance;
+use chain_refinement::{Tolerance, present_order};
 use chare_index::Limits;
 use lb_certificates::Division;
 use lb_refinement::laws::one_refined;
 use lb_refinement::{Refined, refine};
 use lb_snapshot::Snapshot;
 use lb_strategy::moves_of;
-use present_order::present_order;
 use std::alloc::{AllocError, Allocator};
 
 /// Decides where each element of this snapshot runs next, on `pes` PEs, 1 to 256, so that the greatest load of a PE is within a

@@ -4,7 +4,7 @@ use Rattle.std.proofs.lemmas.Bool.{cases_lt, cases_eq}
 use Rattle.lb_certificates.specs.Chain.{IsDivision}
 use Rattle.lb_certificates.specs.Naming.{IsNaming}
 use Rattle.chain_refinement.specs.Orders.{place_of}
-use Rattle.present_order.specs.NoOrders.{HasNoOrder}
+use Rattle.chain_refinement.specs.NoOrders.{HasNoOrder}
 
 -- an element is in a block
 block_before : (cuts : List ℕ) (k i : ℕ) → slice_index cuts 0 ≡ 0 → i < slice_index cuts k → (b : ℕ) × (b < k) × (slice_index cuts b ≤ i) × (i < slice_index cuts (b + 1))

@@ -4,10 +4,10 @@ ghost use Rattle.std.specs.Prelude.{◌↔◌, IsTrue, length, IfOk, MatchOption
 ghost use Rattle.std.specs.List.{Contains};
 ghost use Rattle.lb_snapshot.specs.Measured.{IsSizes};
 ghost use Rattle.chain_refinement.specs.Orders.{IsPresentOrder};
-ghost use Rattle.present_order.specs.NoOrders.{HasNoOrder};
-ghost use Rattle.present_order.specs.Runs.{AreRuns, IsLast};
+ghost use Rattle.chain_refinement.specs.NoOrders.{HasNoOrder};
+ghost use Rattle.chain_refinement.specs.Runs.{AreRuns, IsLast};
 
-use crate::order::PresentOrder;
+use crate::present::PresentOrder;
 use chare_index::Pe;
 use lb_certificates::{Cuts, Naming};
 use std::alloc::{AllocError, Allocator};

@@ -1,9 +1,9 @@
 use Rattle.std.proofs.Common.{◌≡◌, length, arith, refl, sym, subst}
 use Rattle.std.proofs.lemmas.Bool.{iff_false}
 use Rattle.std.specs.List.{Contains}
-use Rattle.present_order.proofs.Idle.{AreListed, listed_all, listed_push, listed_skip}
-use Rattle.present_order.proofs.runs.with_idle.Goals as goal
-use Rattle.present_order.proofs.runs.with_idle.Goals.{then-not-has+in_ok-push+in_ok-push-2, else-not-has}
+use Rattle.chain_refinement.proofs.Idle.{AreListed, listed_all, listed_push, listed_skip}
+use Rattle.chain_refinement.proofs.runs.with_idle.Goals as goal
+use Rattle.chain_refinement.proofs.runs.with_idle.Goals.{then-not-has+in_ok-push+in_ok-push-2, else-not-has}
 
 pub loop-pe-preserved : goal.loop-pe-preserved
 loop-pe-preserved g c =

@@ -4,9 +4,9 @@ use Rattle.std.proofs.lemmas.Bool.{cases_lt, cases_eq}
 use Rattle.std.proofs.lemmas.List.{get_or_append_left, get_or_default, get_or_past, get_or_push, length_push}
 use Rattle.std.specs.List.{Contains}
 use Rattle.chain_refinement.specs.Orders.{place_of}
-use Rattle.present_order.specs.NoOrders.{HasNoOrder}
-use Rattle.present_order.specs.Runs.{AreRuns, IsLast}
-use Rattle.present_order.proofs.Orders.{no_order_apart}
+use Rattle.chain_refinement.specs.NoOrders.{HasNoOrder}
+use Rattle.chain_refinement.specs.Runs.{AreRuns, IsLast}
+use Rattle.chain_refinement.proofs.PresentOrders.{no_order_apart}
 
 -- no element was seen
 pub runs_none : (sizes : List (ℕ × ℕ)) (pes : ℕ) → AreRuns sizes pes 0 [] []

@@ -6,8 +6,8 @@ use Rattle.std.proofs.lemmas.List.Elements.{Contains-append_left, Contains-push}
 use Rattle.std.proofs.lemmas.List.Sorted.{IsNonDecreasingBy-from_all_adjacent}
 use Rattle.std.specs.List.{Contains}
 use Rattle.chain_refinement.specs.Orders.{place_of, IsPresentOrder}
-use Rattle.present_order.specs.Runs.{AreRuns}
-use Rattle.present_order.proofs.Counts.{covers, few}
+use Rattle.chain_refinement.specs.Runs.{AreRuns}
+use Rattle.chain_refinement.proofs.Counts.{covers, few}
 
 -- After the `busy` PEs with elements come idle ones in ascending order, each at the end; of the PEs before pe none is left out,
 -- and none from pe on is an idle one.

@@ -1,6 +1,6 @@
 ghost use Rattle.std.specs.Prelude.{◌≤◌, IfOk, MatchOption};
 ghost use Rattle.chain_refinement.specs.Orders.{IsPresentOrder};
-ghost use Rattle.present_order.specs.NoOrders.{HasNoOrder};
+ghost use Rattle.chain_refinement.specs.NoOrders.{HasNoOrder};
 
 use crate::runs::{runs_of, with_idle};
 use chare_index::Limits;

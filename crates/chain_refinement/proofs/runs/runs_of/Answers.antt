@@ -3,11 +3,11 @@ use Rattle.std.proofs.lemmas.Bool.{iff_false}
 use Rattle.std.proofs.lemmas.List.{get_or_default}
 use Rattle.std.specs.List.{Contains}
 use Rattle.chain_refinement.specs.Orders.{place_of}
-use Rattle.present_order.specs.Runs.{IsLast}
-use Rattle.present_order.proofs.Orders.{no_order_past}
-use Rattle.present_order.proofs.Walked.{no_order_twice, runs_push, runs_same}
-use Rattle.present_order.proofs.runs.runs_of.Goals as goal
-use Rattle.present_order.proofs.runs.runs_of.Goals.{then-place-pes-via-then-place-pes, then-place-pes-via-else-place-pes+then-has}
+use Rattle.chain_refinement.specs.Runs.{IsLast}
+use Rattle.chain_refinement.proofs.PresentOrders.{no_order_past}
+use Rattle.chain_refinement.proofs.PresentRuns.{no_order_twice, runs_push, runs_same}
+use Rattle.chain_refinement.proofs.runs.runs_of.Goals as goal
+use Rattle.chain_refinement.proofs.runs.runs_of.Goals.{then-place-pes-via-then-place-pes, then-place-pes-via-else-place-pes+then-has}
 
 pub loop-i-preserved-then-is_last : goal.loop-i-preserved-then-is_last
 loop-i-preserved-then-is_last g c =

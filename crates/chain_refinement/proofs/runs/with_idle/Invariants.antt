@@ -1,6 +1,6 @@
 use Rattle.std.proofs.Common.{length}
-use Rattle.present_order.proofs.Idle.{AreListed}
-use Rattle.present_order.proofs.runs.with_idle.Given as goal
+use Rattle.chain_refinement.proofs.Idle.{AreListed}
+use Rattle.chain_refinement.proofs.runs.with_idle.Given as goal
 
 abbrev pub invariant-loop-pe : goal.invariant-loop-pe
 invariant-loop-pe g l =

@@ -3,8 +3,8 @@ use Rattle.std.proofs.Common.{◌≡◌, ℕ, zero, suc, ◌+◌, ◌-◌, ◌<�
 use Rattle.std.proofs.lemmas.Bool.{cases_lt, cases_order}
 use Rattle.std.proofs.lemmas.List.{ext_get_or}
 use Rattle.chain_refinement.specs.Orders.{place_of, IsPresentOrder}
-use Rattle.present_order.proofs.Counts.{held}
-use Rattle.present_order.proofs.Orders.{block_at, same_block}
+use Rattle.chain_refinement.proofs.Counts.{held}
+use Rattle.chain_refinement.proofs.PresentOrders.{block_at, same_block}
 
 -- what an order says, at its cuts
 cut_ordered : (sizes : List (ℕ × ℕ)) (pes : ℕ) (names present : List ℕ) → IsPresentOrder sizes pes names present → (a b : ℕ) → a ≤ b → b ≤ pes → slice_index present a ≤ slice_index present b
