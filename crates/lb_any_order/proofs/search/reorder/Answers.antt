@@ -1,7 +1,7 @@
 use Rattle.std.proofs.Common.{subst}
 use Rattle.lb_snapshot.specs.Measured.{IsLoads}
 use Rattle.chain_refinement.proofs.Limits.{bottleneck_small}
-use Rattle.any_order_search.proofs.search.reorder.Goals as goal
+use Rattle.lb_any_order.proofs.search.reorder.Goals as goal
 
 pub limit-limit-requires : goal.limit-limit-requires
 limit-limit-requires g c =

@@ -1,7 +1,7 @@
 use Rattle.std.proofs.Common.{◌∙◌, sym, subst, append_assoc, codes}
 use Rattle.std.specs.String.{string_bytes}
-use Rattle.file_faults.specs.Telling.{Tells, fault_line}
-use Rattle.file_faults.proofs.advice.Advice.tell_reason.Goals as goal
+use Rattle.streams.specs.Telling.{Tells, fault_line}
+use Rattle.streams.proofs.advice.Advice.tell_reason.Goals as goal
 
 pub returns : goal.returns
 returns g c =

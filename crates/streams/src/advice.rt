@@ -1,9 +1,9 @@
 ghost use Rattle.std.specs.Prelude.{◌≡◌, ◌++◌, ℕ, List, codes, IfNone, IfSome, IsFalse, IsTrue};
-ghost use Rattle.file_faults.specs.Telling.{Tells, TellsAll, fault_line};
+ghost use Rattle.streams.specs.Telling.{Tells, TellsAll, fault_line};
 
+use crate::output::write_out;
 use std::alloc::Allocator;
 use std::io::{self, Write};
-use streams::write_out;
 
 /// What a program says about a file.
 #[derive(Clone, Copy, Debug)]
