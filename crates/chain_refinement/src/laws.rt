@@ -3,6 +3,7 @@
 ghost use Rattle.std.specs.Prelude.{◌≡◌, ◌<◌, ℕ, ◌+◌, List, length, slice_index, sum_by};
 ghost use Rattle.lb_certificates.specs.Chain.{IsDivision};
 ghost use Rattle.lb_certificates.specs.Naming.{bytes_moved, total};
+ghost use Rattle.chain_refinement.specs.Orders.{IsPresentOrder};
 ghost use Rattle.chain_refinement.specs.Refinement.{AreFewest, AreNearest, AreProved, cuts_cost, held};
 
 /// The bytes that move are what the cuts between blocks cost, except for what no cut changes.
@@ -21,4 +22,11 @@ pub fn fewest_where_proved()
 pub fn one_is_nearest()
     ensures one_is_nearest { (loads : List ℕ) (sizes : List (ℕ × ℕ)) (names present : List ℕ) (limit : ℕ) (cuts others : List ℕ)
         → AreNearest loads sizes names present limit cuts → AreNearest loads sizes names present limit others → cuts ≡ others }
+{}
+
+/// There is one present order of the PEs, with one list of cuts.
+pub fn one_order()
+    ensures one_order { (sizes : List (ℕ × ℕ)) (pes : ℕ) (names present others cuts : List ℕ)
+        → IsPresentOrder sizes pes names present → IsPresentOrder sizes pes others cuts
+        → (names ≡ others) × (present ≡ cuts) }
 {}

@@ -9,8 +9,8 @@
 //!   the status; `write_beside`: the list of events and the trace, where they are asked for and there was a run.
 //! - `one_thread`: the runs on one thread, by the crate `schedule_run`. `traces`: the trace of a run, by `run_trace`. `files`: the
 //!   files of the system.
-//! - `progress_line::Progress`: what is written to the standard error meanwhile; `file_faults::Advice`: what is printed about
-//!   a file with a fault.
+//! - `progress_line::Progress`: what is written to the standard error meanwhile; `streams::Advice`: what is printed about a
+//!   file with a fault.
 #![tactic(auto)]
 
 mod files;
@@ -22,7 +22,6 @@ use crate::one_thread::{run_by_list, run_by_seed, run_by_seeds};
 use crate::traces::{Onlookers, keep_recorded, lose_trace};
 use at_sync::Strategy;
 use chain_refinement::Tolerance;
-use file_faults::Advice;
 use program_words::{BAD_FILE, on_words, refused};
 use progress_line::Progress;
 use rts_run::History;
@@ -34,6 +33,7 @@ use std::process::ExitCode;
 use std::sync::Wait;
 use std::thread::Threads;
 use std::time::Clock;
+use streams::Advice;
 use workload_run::{drive_file, status_beside};
 
 /// The number of idle turns in a row after which a worker gives up.

@@ -3,7 +3,7 @@ use Rattle.std.specs.Prelude.{◌≡◌, ℕ, List, ◌++◌, codes, Bool, Optio
 use Rattle.std.specs.Fmt.{decimal}
 use Rattle.dump_format.specs.declared.error.DumpError.{DumpError}
 use Rattle.dump_format.specs.declared.error.DumpError.TheVariants.{Count, Flag, Floor, Load, Magic, Move, MoveCount, OutOfMemory, Place, Procs, Read, Short, Size, Target, Trailing, Wide, Write}
-use Rattle.file_faults.specs.Telling.{Tells, fault_line}
+use Rattle.streams.specs.Telling.{Tells, fault_line}
 use Rattle.lb_replay.specs.Text.{dump_advice}
 use Rattle.lb_replay.specs.declared.ended.Ended.{Ended}
 use Rattle.lb_replay.specs.declared.ended.Ended.TheVariants.{WriteFailed}

@@ -2,7 +2,7 @@
 
 ghost use Rattle.std.specs.Prelude.{◌≡◌, ℕ, List, None, Some, codes, IfNone, IfSome};
 ghost use Rattle.dump_report.specs.Tellings.{IsTold, advice, fault_said, fault_words, line_about};
-ghost use Rattle.file_faults.specs.Telling.{Tells};
+ghost use Rattle.streams.specs.Telling.{Tells};
 
 use dump_format::DumpError;
 use lb_replay::{Ended, dump_advice};

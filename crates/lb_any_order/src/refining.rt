@@ -7,16 +7,15 @@ ghost use Rattle.lb_refinement.specs.declared.refined.Refined.{Refined};
 ghost use Rattle.lb_any_order.specs.Reorderings.{ArePricesSmallInOrder, HasMoves, HasPlaceBelow, IsFewest, IsLesser, IsReordering, reordering_cuts, reordering_least, reordering_moved, reordering_names};
 
 use crate::reordering::{Fewest, Reordering};
+use crate::search::reorder;
 use any_order::{Reordered, moved_by};
-use any_order_search::reorder;
-use chain_refinement::Tolerance;
+use chain_refinement::{Tolerance, present_order};
 use chare_index::Limits;
 use lb_certificates::Division;
 use lb_refinement::laws::one_refined;
 use lb_refinement::{Refined, refine};
 use lb_snapshot::Snapshot;
 use lb_strategy::moves_of;
-use present_order::present_order;
 use std::alloc::{AllocError, Allocator};
 
 /// Decides where each element of this snapshot runs next, on `pes` PEs, 1 to 256, so that the greatest load of a PE is within a
@@ -25,7 +24,7 @@ use std::alloc::{AllocError, Allocator};
 /// Where the elements of each PE are consecutive and these PEs are all below `pes`, it searches all cuts within the tolerance,
 /// with all names of their blocks, for some that move the fewest bytes. It returns these only with the proof that none move
 /// fewer, which the checker has accepted. Otherwise, and where the search would be too large
-/// ([`TABLE`](any_order_search::TABLE)), it returns the decision of [`refine`]. It never moves more bytes than that.
+/// ([`TABLE`](crate::TABLE)), it returns the decision of [`refine`]. It never moves more bytes than that.
 ///
 /// # Errors
 ///

@@ -9,7 +9,7 @@ use Rattle.chain_refinement.specs.Orders.{IsPresentOrder}
 use Rattle.chain_refinement.specs.Refinement.{AreNearest}
 use Rattle.chain_refinement.specs.Tolerances.{limit_of}
 use Rattle.chain_refinement.proofs.Nearest.{one_is_nearest}
-use Rattle.present_order.proofs.OneOrder.{one_order}
+use Rattle.chain_refinement.proofs.OneOrder.{one_order}
 use Rattle.lb_lists.specs.Claims.{floor_of}
 use Rattle.lb_lists.specs.Places.{ArePlaces}
 use Rattle.lb_lists.specs.Plans.{stops_in}

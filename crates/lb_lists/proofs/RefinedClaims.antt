@@ -15,7 +15,7 @@ use Rattle.chain_refinement.specs.declared.refinement.Refinement.{Refinement}
 use Rattle.chain_refinement.specs.declared.flaw.RefinementFlaw.{RefinementFlaw}
 use Rattle.chain_refinement.specs.declared.flaw.RefinementFlaw.TheVariants.{Least, PeCount, NameCount, NameRange, NameTwice, CutCount, NoDivision, Heavy, HeightCount, HeightStart, Steep, HeightLow}
 use Rattle.chain_refinement.proofs.Bounds.{fewest_from_proved}
-use Rattle.present_order.proofs.OneOrder.{one_order}
+use Rattle.chain_refinement.proofs.OneOrder.{one_order}
 use Rattle.lb_lists.specs.Claims.{right_moved, Claimed, IsFlawTold, IsPlacedRight, IsToldRight}
 use Rattle.lb_lists.specs.RefinedClaims.{claimed_refinement, refinement_of, AreNamesBestBy, AreNamesRight, AreNamesRightBy, IsBestWithin, IsFirstRefinedFlaw, IsNamedSmall, IsNamesFlaw, IsNamesFlawBy, IsRightRefined, IsRightUpToNames, RefinedClaimed}
 use Rattle.lb_lists.specs.declared.refined_checking.RefinedFlaw.{RefinedFlaw}

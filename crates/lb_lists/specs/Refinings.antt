@@ -8,7 +8,7 @@ use Rattle.lb_strategy.specs.Decisions.{ArePricesBounded}
 use Rattle.chain_refinement.specs.Orders.{IsPresentOrder}
 use Rattle.chain_refinement.specs.Refinement.{AreNearest, AreProved, AreWithin}
 use Rattle.chain_refinement.specs.Tolerances.{limit_of}
-use Rattle.present_order.specs.NoOrders.{HasNoOrder}
+use Rattle.chain_refinement.specs.NoOrders.{HasNoOrder}
 use Rattle.lb_lists.specs.Claims.{division_of}
 use Rattle.lb_lists.specs.Runs.{sizes_of, Listed}
 

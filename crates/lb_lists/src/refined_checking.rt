@@ -19,12 +19,14 @@ use crate::refined_claim::RefinedClaim;
 use crate::run::Run;
 use crate::snapshot::snapshot_of;
 use crate::steps::pairs_between;
-use chain_refinement::{Heights, Refinement, RefinementFlaw, Steps, Tolerance, check_refinement};
+use chain_refinement::{
+    Heights, PresentOrder, Refinement, RefinementFlaw, Steps, Tolerance, check_refinement,
+    present_order,
+};
 use chare_index::Limits;
 use lb_certificates::{Cuts, Division, Flaw, Naming, Prices, check_naming};
 use lb_refinement::{greatest_load, moved_by};
 use lb_snapshot::{Sizes, Snapshot};
-use present_order::{PresentOrder, present_order};
 use std::alloc::{AllocError, Allocator};
 
 /// What is wrong with a claim of a decision within a tolerance.

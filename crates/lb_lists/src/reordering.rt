@@ -57,7 +57,7 @@ pub struct ReorderedNumbers {
 
 /// Decides on which of `pes` PEs each element of a run continues, within a tolerance, as [`refine_in_any_order`] does: by cuts and
 /// names that move the fewest bytes of all, with their proof. Where the elements of some PE are not consecutive, the search would
-/// be too large ([`TABLE`](any_order_search::TABLE)) or it finds none with its proof, it decides as
+/// be too large ([`TABLE`](lb_any_order::TABLE)) or it finds none with its proof, it decides as
 /// [`refine_run`](crate::refine_run) does.
 ///
 /// # Errors

@@ -14,7 +14,7 @@ use Rattle.chain_refinement.specs.Refinement.{AreNearest, AreWithin, refined_lim
 use Rattle.chain_refinement.specs.Tolerances.{limit_of}
 use Rattle.chain_refinement.proofs.Nearest.{one_is_nearest}
 use Rattle.chain_refinement.proofs.Orders.{block_around}
-use Rattle.present_order.proofs.OneOrder.{one_order}
+use Rattle.chain_refinement.proofs.OneOrder.{one_order}
 use Rattle.lb_refinement.specs.InOrder.{AreSameInOrder, IsKeptInOrder, IsRefinedInOrder, ordered_bottleneck, ordered_cuts, ordered_least_load, ordered_moved, ordered_names}
 use Rattle.lb_refinement.specs.declared.in_order.KeptInOrder.{KeptInOrder}
 use Rattle.lb_refinement.specs.declared.in_order.RefinedInOrder.{RefinedInOrder}

@@ -10,7 +10,7 @@ use Rattle.chain_refinement.specs.Orders.{IsPresentOrder, StandInOrder}
 use Rattle.chain_refinement.specs.Refinement.{AreWithin, refined_limit}
 use Rattle.chain_refinement.specs.Tolerances.{limit_of}
 use Rattle.chain_refinement.proofs.Orders.{block_around}
-use Rattle.present_order.proofs.OneOrder.{one_order}
+use Rattle.chain_refinement.proofs.OneOrder.{one_order}
 use Rattle.lb_refinement.specs.Refined.{IsKept, IsRefined, least_load, refined_moved}
 use Rattle.lb_refinement.specs.declared.refined.Kept.{Kept}
 use Rattle.lb_refinement.specs.declared.refined.Refined.{Refined}

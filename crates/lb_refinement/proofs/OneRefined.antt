@@ -11,7 +11,7 @@ use Rattle.lb_strategy.proofs.OneDecisions.{IsSame, one_decision}
 use Rattle.chain_refinement.specs.Refinement.{AreNearest, refined_limit}
 use Rattle.chain_refinement.specs.Tolerances.{limit_of}
 use Rattle.chain_refinement.proofs.Nearest.{one_is_nearest}
-use Rattle.present_order.proofs.OneOrder.{one_order}
+use Rattle.chain_refinement.proofs.OneOrder.{one_order}
 use Rattle.lb_refinement.specs.Refined.{AreSame, IsKept, IsPlanned, IsRefined}
 use Rattle.lb_refinement.specs.declared.refined.Kept.{Kept}
 use Rattle.lb_refinement.specs.declared.refined.Refined.{Refined}

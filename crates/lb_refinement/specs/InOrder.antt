@@ -8,7 +8,7 @@ use Rattle.lb_strategy.specs.Decisions.{HasBoundedPrices}
 use Rattle.lb_strategy.specs.Moves.{moves_below}
 use Rattle.chain_refinement.specs.Orders.{IsPresentOrder}
 use Rattle.chain_refinement.specs.Refinement.{AreNearest, IsRefinement, refined_limit}
-use Rattle.present_order.specs.NoOrders.{HasNoOrder}
+use Rattle.chain_refinement.specs.NoOrders.{HasNoOrder}
 use Rattle.lb_refinement.specs.Refined.{IsPlanned}
 use Rattle.lb_refinement.specs.declared.in_order.KeptInOrder.{KeptInOrder}
 use Rattle.lb_refinement.specs.declared.in_order.RefinedInOrder.{RefinedInOrder}

@@ -10,7 +10,7 @@ use Rattle.lb_strategy.specs.Moves.{moves_below}
 use Rattle.lb_strategy.specs.declared.decision.Decision.{Decision}
 use Rattle.chain_refinement.specs.Orders.{IsPresentOrder}
 use Rattle.chain_refinement.specs.Refinement.{AreNearest, IsRefinement, refined_limit}
-use Rattle.present_order.specs.NoOrders.{HasNoOrder}
+use Rattle.chain_refinement.specs.NoOrders.{HasNoOrder}
 use Rattle.lb_refinement.specs.declared.refined.Kept.{Kept}
 use Rattle.lb_refinement.specs.declared.refined.Refined.{Refined}
 use Rattle.lb_refinement.specs.declared.refined.Refined.TheVariants.{Near, Planned}

@@ -15,12 +15,11 @@ use crate::in_order::{KeptInOrder, RefinedInOrder};
 use crate::moved::moved_by;
 use crate::refining::planned;
 use chain_partition::divide;
-use chain_refinement::{Refinement, Tolerance};
+use chain_refinement::{PresentOrder, Refinement, Tolerance, present_order};
 use chare_index::Limits;
 use lb_certificates::Division;
 use lb_snapshot::{Sizes, Snapshot};
 use lb_strategy::moves_of;
-use present_order::{PresentOrder, present_order};
 use refinement_search::refine_in_order;
 use std::alloc::{AllocError, Allocator};
 

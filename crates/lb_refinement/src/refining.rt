@@ -14,12 +14,11 @@ ghost use Rattle.lb_refinement.specs.Refined.{refined_bottleneck, refined_cuts, 
 
 use crate::heaviest::greatest_load;
 use crate::refined::{Kept, Refined};
-use chain_refinement::{Refinement, Tolerance};
+use chain_refinement::{PresentOrder, Refinement, Tolerance, present_order};
 use chare_index::{Gate, Limits};
 use lb_certificates::Division;
 use lb_snapshot::{Sizes, Snapshot};
 use lb_strategy::{Decision, PlanError, moves_of, name_cuts, plan, plan_with};
-use present_order::{PresentOrder, present_order};
 use refinement_search::refine_in_order;
 use std::alloc::{AllocError, Allocator};
 use std::thread::Threads;

@@ -9,7 +9,7 @@
 //! - `lb_replay::Asked::task`: which task that is, if the options can be combined; `sim_command_line::refuse_both`: what is
 //!   printed if they cannot.
 //! - `lb_replay::run`: the task, and its end with the status for that; `lb_replay::dump_advice`: what to do about a fault of the
-//!   dump; `file_faults::Advice`: what is printed about a file with a fault.
+//!   dump; `streams::Advice`: what is printed about a file with a fault.
 #![tactic(auto)]
 
 ghost use Rattle.lb_replay.specs.Requests.{MayRun};
@@ -18,13 +18,13 @@ ghost use Rattle.std.specs.Option.{ForSome};
 
 use chain_refinement::Tolerance;
 use chare_index::Limits;
-use file_faults::Advice;
 use lb_replay::{Asked, Ended, Task, dump_advice, run};
 use program_words::{BAD_FILE, on_words, refused};
 use sim_command_line::{asked, refuse_both};
 use std::fs::File;
 use std::io;
 use std::process::ExitCode;
+use streams::Advice;
 
 /// What to do about a file that cannot be read, and in general about one with a fault.
 const ADVICE: Advice<'static> = Advice {

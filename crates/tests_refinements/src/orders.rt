@@ -4,8 +4,8 @@
 ghost use Rattle.std.specs.Prelude.{◌≤◌};
 
 use crate::fixtures::{assert_for, same, standing};
+use chain_refinement::{PresentOrder, present_order};
 use lb_snapshot::Sizes;
-use present_order::{PresentOrder, present_order};
 use std::alloc::{AllocError, Allocator};
 use std::process::Abort;
 use tests_fixtures::{Outcome, each_refusal};

@@ -3,7 +3,6 @@
 use crate::fixtures::{TURNS, WORKED, WORKED_TEXT, assert_for};
 use at_sync::Strategy;
 use chare_index::Round;
-use file_faults::Advice;
 use pe_worker::Watch;
 use rts_run::History;
 use std::io::{self, Error, ErrorKind};
@@ -11,6 +10,7 @@ use std::process::Abort;
 use std::sync::Wait;
 use std::sync::atomic::{AtomicU64, Ordering};
 use std::thread::Threads;
+use streams::Advice;
 use tests_fixtures::Source;
 use workload::WorkError;
 use workload_run::{Ended, Onlooker, drive_file};

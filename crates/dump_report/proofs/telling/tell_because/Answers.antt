@@ -1,6 +1,6 @@
 use Rattle.std.proofs.Common.{codes, subst, Some}
 use Rattle.std.specs.String.{string_bytes}
-use Rattle.file_faults.specs.Telling.{Tells}
+use Rattle.streams.specs.Telling.{Tells}
 use Rattle.dump_report.specs.Tellings.{advice, fault_said, line_about}
 use Rattle.dump_report.proofs.telling.tell_because.Goals as goal
 

@@ -1,5 +1,5 @@
 use Rattle.std.proofs.Common.{◌∙◌, codes, subst, [], ◌∷◌}
-use Rattle.file_faults.specs.Telling.{Tells}
+use Rattle.streams.specs.Telling.{Tells}
 use Rattle.dump_report.proofs.ToldLines.{line_is}
 use Rattle.dump_report.proofs.telling.tell_line.Goals as goal
 

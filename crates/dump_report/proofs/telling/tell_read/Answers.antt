@@ -1,5 +1,5 @@
 use Rattle.std.proofs.Common.{◌∙◌, subst}
-use Rattle.file_faults.specs.Telling.{Tells}
+use Rattle.streams.specs.Telling.{Tells}
 use Rattle.dump_report.specs.Tellings.{advice, line_about}
 use Rattle.dump_report.proofs.telling.tell_read.Goals as goal
 

@@ -1,6 +1,6 @@
 use Rattle.std.proofs.Common.{rules}
 use Rattle.lb_strategy.proofs.RightDecisions.{place_from_right}
-use Rattle.present_order.specs.NoOrders.{HasNoOrder}
+use Rattle.chain_refinement.specs.NoOrders.{HasNoOrder}
 use Rattle.lb_refinement.specs.declared.in_order.RefinedInOrder.TheVariants.{Near}
 use Rattle.lb_refinement.proofs.InOrderCases.{keeps_order, nearest, places, whole, within}
 use Rattle.lb_refinement.proofs.keeping.refine_keeping_order.Goals as goal

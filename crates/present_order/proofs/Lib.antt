@@ -1,5 +1,0 @@
-pub mod Counts
-pub mod Idle
-pub mod OneOrder
-pub mod Orders
-pub mod Walked

@@ -1,7 +1,0 @@
-use Rattle.std.proofs.Common.{length}
-use Rattle.present_order.proofs.Idle.{AreListed}
-use Rattle.present_order.proofs.runs.with_idle.Given as goal
-
-abbrev pub invariant-loop-pe : goal.invariant-loop-pe
-invariant-loop-pe g l =
-    AreListed l.pairs l.pes (length l.pairs) (length l.fn.runs.names.items) l.pe l.names.items l.starts.items

@@ -1,2 +1,0 @@
-pub mod NoOrders
-pub mod Runs
