@@ -1,7 +1,7 @@
 -- What a strategy decides for the snapshot of a round. Sources: A. Pinar and C. Aykanat, "Fast optimal load balancing
 -- algorithms for 1D partitioning", Journal of Parallel and Distributed Computing 64(8), 2004, for the least division; the
 -- Charm++ manual's RefineLB, for a balance that moves little. That each is exact is this project's choice.
-use Rattle.std.specs.Prelude.{ℕ, ◌+◌, ◌<◌, List, length}
+use Rattle.std.specs.Prelude.{ℕ, ◌<◌, List, length}
 use Rattle.chain_partition.specs.Chosen.{IsChosen}
 use Rattle.lb_certificates.specs.Chain.{IsDivision, IsLeastDivision}
 use Rattle.lb_certificates.specs.Naming.{IsCheapest, IsLeastNaming, IsNaming}
@@ -13,11 +13,6 @@ use Rattle.lb_refinement.specs.declared.refined.Refined.{Refined}
 use Rattle.lb_refinement.specs.declared.refined.Refined.TheVariants.{Near, Planned}
 use Rattle.at_sync.specs.declared.strategy.Strategy.{Strategy}
 use Rattle.at_sync.specs.declared.strategy.Strategy.TheVariants.{Least, Refine}
-
--- a number for each strategy, to compare them by
-abbrev pub strategy_number : Strategy → ℕ
-strategy_number Least = 0
-strategy_number (Refine tolerance) = tolerance + 1
 
 -- A decision is best for these loads and sizes: every part of it is right, its division is the chosen one, and its naming
 -- the first of the cheapest. So no division has a lighter heaviest block, no naming of the blocks moves fewer bytes, and

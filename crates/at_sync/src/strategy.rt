@@ -1,11 +1,10 @@
 //! How the round of a board is decided.
 
-ghost use Rattle.std.specs.Prelude.{◌≡◌, ◌==◌, ◌≤◌, IfOk};
-ghost use Rattle.std.specs.Cmp.{nat_eq_equiv, on_per, partial_equiv_from_equiv};
+ghost use Rattle.std.specs.Prelude.{◌≡◌, ◌≤◌, IfOk};
 ghost use Rattle.std.specs.Option.{option_map_or};
 ghost use Rattle.lb_refinement.specs.declared.refined.Refined.TheVariants.{Planned};
 ghost use Rattle.at_sync.specs.declared.strategy.Strategy.TheVariants.{Least, Refine};
-ghost use Rattle.at_sync.specs.Strategies.{IsBest, IsDecidedBy, PlacesAll, strategy_number};
+ghost use Rattle.at_sync.specs.Strategies.{IsBest, IsDecidedBy, PlacesAll};
 
 use chain_refinement::Tolerance;
 use chare_index::{Gate, Limits};
@@ -16,7 +15,7 @@ use std::alloc::{AllocError, Allocator};
 use std::thread::Threads;
 
 /// How each round of a board is decided.
-#[derive(Clone, Copy, Debug)]
+#[derive(Clone, Copy, Debug, PartialEq, Eq)]
 pub enum Strategy {
     /// As [`plan`](lb_strategy::plan) decides: the greatest load of a PE is the least possible, and of the namings of the
     /// blocks one that moves the fewest bytes is chosen.
@@ -24,26 +23,6 @@ pub enum Strategy {
     /// As [`refine`](lb_refinement::refine) decides: the greatest load of a PE is within this tolerance above the least
     /// possible one, and of the cuts that keep the order of the PEs those that move the fewest bytes are chosen.
     Refine(Tolerance),
-}
-
-impl PartialEq for Strategy {
-    ghost eq = { λ a b. strategy_number a == strategy_number b };
-
-    ghost laws = { on_per strategy_number (partial_equiv_from_equiv nat_eq_equiv) };
-
-    fn eq(&self, other: &Self) -> bool {
-        number_of(*self) == number_of(*other)
-    }
-}
-
-// A number for each strategy, to compare them by.
-fn number_of(strategy: Strategy) -> u32
-    ensures { result ≡ strategy_number strategy }
-{
-    match strategy {
-        Strategy::Least => 0,
-        Strategy::Refine(tolerance) => tolerance.get() + 1,
-    }
 }
 
 impl Strategy {
