@@ -120,23 +120,23 @@ fn next(me: Index, n: u32) -> Index
 }
 
 fn main(rt: HostRuntime) -> ExitCode {
-    let outcome = match ran(&rt, 100, 10) {
+    let outcome = match run_ring(&rt, 100, 10) {
         Ok(outcome) => outcome,
-        Err(error) => return failed(&rt, &error),
+        Err(error) => return report(&rt, &error),
     };
     match outcome.fault() {
-        Some(fault) => failed(&rt, &fault),
-        None => printed(&rt, outcome.account()),
+        Some(fault) => report(&rt, &fault),
+        None => print_account(&rt, outcome.account()),
     }
 }
 
 // Reports why there is no account.
-fn failed<E: Display>(rt: &impl Eprint, error: &E) -> ExitCode {
+fn report<E: Display>(rt: &impl Eprint, error: &E) -> ExitCode {
     let _ = eprintln!(rt; "ring: {error}");
     ExitCode::from(1)
 }
 
-fn printed(rt: &(impl Print + Eprint), account: Account) -> ExitCode {
+fn print_account(rt: &(impl Print + Eprint), account: Account) -> ExitCode {
     let Account {
         posted,
         executed,
@@ -144,12 +144,12 @@ fn printed(rt: &(impl Print + Eprint), account: Account) -> ExitCode {
     } = account;
     match println!(rt; "posted {posted} executed {executed} held {held}") {
         Ok(()) => ExitCode::from(0),
-        Err(error) => failed(rt, &error),
+        Err(error) => report(rt, &error),
     }
 }
 
 // Runs this number of members on two PEs, each of which the token visits this number of times.
-fn ran<R: Threads + Wait + Sync + AllocGlobal>(
+fn run_ring<R: Threads + Wait + Sync + AllocGlobal>(
     rt: &R,
     members: u32,
     visits: u32,

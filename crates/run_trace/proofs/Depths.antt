@@ -31,7 +31,7 @@ work_depth Arrive e = refl
 
 pub shallow : (event : TraceEvent) → depth (event_data event) ≤ max_depth
 shallow (Row pe) = omega arith
-shallow (Slice pe at long work e) = rw (work_depth work e, time_depth long, time_depth at) (omega arith)
+shallow (Slice pe at duration work e) = rw (work_depth work e, time_depth duration, time_depth at) (omega arith)
 shallow (Instant pe at sign) = rw (time_depth at) (omega arith)
 shallow (Decision at r) = rw (time_depth at) (omega arith)
 shallow (Load pe at load) = rw (time_depth at) (omega arith)

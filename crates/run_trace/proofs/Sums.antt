@@ -66,6 +66,6 @@ module _ (loads : List ℕ) (sizes : List (ℕ × ℕ)) (paired : length loads �
 
   -- all loads are added
   pub all_added : (sums : List ℕ) (i pes : ℕ) → AreAdded loads sizes i sums → length loads ≤ i → length sums ≡ pes → sums ≡ map (load_on loads sizes) (range_with_len 0 pes)
-  all_added sums i pes added past long =
-      fill_by_all (load_on loads sizes) sums pes 0 long
-      (λ p below. added p (omega (arith, below, long)) ∙ ap (sum_by (load_at p)) (take_all i (zip loads sizes) (omega (arith, as_long, past))))
+  all_added sums i pes added past duration =
+      fill_by_all (load_on loads sizes) sums pes 0 duration
+      (λ p below. added p (omega (arith, below, duration)) ∙ ap (sum_by (load_at p)) (take_all i (zip loads sizes) (omega (arith, as_long, past))))

@@ -8,22 +8,22 @@ use Rattle.run_trace.specs.declared.event.TraceEvent.TheVariants.{Row, Slice, In
 use Rattle.run_trace.specs.declared.event.Work.TheVariants.{Start, Letter, Resume, Depart, Arrive}
 use Rattle.run_trace.specs.declared.event.Sign.TheVariants.{Report, Resumption, Shelve, Forward}
 use Rattle.run_trace.specs.declared.event.Flow.TheVariants as flow
-use Rattle.run_trace.specs.declared.happening.Deed.{Deed}
-use Rattle.run_trace.specs.declared.happening.Deed.TheVariants.{Started, Executed, Shelved, Forwarded, Arrived, Reported, Departed, Resumed}
+use Rattle.run_trace.specs.declared.happening.Action.{Action}
+use Rattle.run_trace.specs.declared.happening.Action.TheVariants.{Started, Executed, Shelved, Forwarded, Installed, Reported, Departed, Resumed}
 use Rattle.run_trace.specs.declared.happening.What.{What}
 use Rattle.run_trace.specs.declared.happening.What.TheVariants.{Done, Decided}
 use Rattle.run_trace.specs.declared.happening.Happening.{Happening}
 
 -- what a PE did at this time, for this long
-abbrev pub deed_events : ℕ → ℕ → ℕ → Deed → List TraceEvent
-deed_events at long pe (Started e) = Slice pe at long Start e ∷ []
-deed_events at long pe (Executed id e) = Slice pe at long (Letter id.0 id.1) e ∷ Comes pe at (flow.Letter id.0 id.1) ∷ []
-deed_events at long pe (Shelved id) = Instant pe at Shelve ∷ []
-deed_events at long pe (Forwarded id) = Instant pe at Forward ∷ []
-deed_events at long pe (Arrived e) = Slice pe at long Arrive e ∷ Comes pe at (flow.Element e) ∷ []
-deed_events at long pe Reported = Instant pe at Report ∷ []
-deed_events at long pe (Departed e) = Slice pe at long Depart e ∷ Leaves pe at (flow.Element e) ∷ []
-deed_events at long pe (Resumed e r) = Instant pe at Resumption ∷ Slice pe at long (Resume r) e ∷ []
+abbrev pub action_events : ℕ → ℕ → ℕ → Action → List TraceEvent
+action_events at duration pe (Started e) = Slice pe at duration Start e ∷ []
+action_events at duration pe (Executed id e) = Slice pe at duration (Letter id.0 id.1) e ∷ Comes pe at (flow.Letter id.0 id.1) ∷ []
+action_events at duration pe (Shelved id) = Instant pe at Shelve ∷ []
+action_events at duration pe (Forwarded id) = Instant pe at Forward ∷ []
+action_events at duration pe (Installed e) = Slice pe at duration Arrive e ∷ Comes pe at (flow.Element e) ∷ []
+action_events at duration pe Reported = Instant pe at Report ∷ []
+action_events at duration pe (Departed e) = Slice pe at duration Depart e ∷ Leaves pe at (flow.Element e) ∷ []
+action_events at duration pe (Resumed e r) = Instant pe at Resumption ∷ Slice pe at duration (Resume r) e ∷ []
 
 -- an arrow for this letter of a PE
 abbrev pub post_event : ℕ → ℕ → ℕ → TraceEvent
@@ -35,12 +35,12 @@ post_events at pe first end = map (post_event at pe) (range_with_len first (end 
 
 -- what happened at this time, for this long
 abbrev pub what_events : ℕ → ℕ → What → List TraceEvent
-what_events at long (Done pe deed first end) = deed_events at long pe deed ++ post_events at pe first end
-what_events at long (Decided r) = Decision at r ∷ []
+what_events at duration (Done pe action first end) = action_events at duration pe action ++ post_events at pe first end
+what_events at duration (Decided r) = Decision at r ∷ []
 
 -- what happened
 abbrev pub shown : Happening → List TraceEvent
-shown h = what_events h.at h.long h.what
+shown h = what_events h.at h.duration h.what
 
 -- a row for each PE
 abbrev pub rows : ℕ → List TraceEvent
@@ -69,7 +69,7 @@ kept_loads at (Some kept) = load_events at kept.0
 
 -- the loads of the round that was decided
 abbrev pub decided_loads : {A : Type 0} → List (Kept A) → ℕ → What → List TraceEvent
-decided_loads rounds at (Done pe deed first end) = []
+decided_loads rounds at (Done pe action first end) = []
 decided_loads rounds at (Decided r) = kept_loads at (kept_of rounds r)
 
 -- the loads of the round that was decided, if what happened is a decision

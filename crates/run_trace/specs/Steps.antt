@@ -4,8 +4,8 @@ use Rattle.chares.specs.declared.trace_entry.TraceEntry.{TraceEntry}
 use Rattle.chares.specs.declared.trace_entry.TraceEntry.TheVariants as entry
 use Rattle.rts_core.specs.declared.event.Event.{Event}
 use Rattle.rts_core.specs.declared.event.Event.TheVariants as event
-use Rattle.run_trace.specs.declared.happening.Deed.{Deed}
-use Rattle.run_trace.specs.declared.happening.Deed.TheVariants.{Started, Executed, Shelved, Forwarded, Arrived, Reported, Departed, Resumed}
+use Rattle.run_trace.specs.declared.happening.Action.{Action}
+use Rattle.run_trace.specs.declared.happening.Action.TheVariants.{Started, Executed, Shelved, Forwarded, Installed, Reported, Departed, Resumed}
 use Rattle.run_trace.specs.declared.happening.What.{What}
 use Rattle.run_trace.specs.declared.happening.What.TheVariants.{Done, Decided}
 use Rattle.run_trace.specs.declared.happening.Happening.{Happening}
@@ -21,14 +21,14 @@ abbrev pub posts_in : List TraceEntry → ℕ × ℕ
 posts_in entries = posts_from 0 0 entries
 
 -- what a PE did, by the first entry
-abbrev pub deed_in : List TraceEntry → Option Deed
-deed_in (entry.Executed id e ∷ entries) = Some (Executed id e)
-deed_in (entry.Shelved id ∷ entries) = Some (Shelved id)
-deed_in (entry.Forwarded id ∷ entries) = Some (Forwarded id)
-deed_in (entry.Installed e ∷ entries) = Some (Arrived e)
-deed_in (entry.Departed e ∷ entries) = Some (Departed e)
-deed_in (entry.Resumed e r ∷ entries) = Some (Resumed e r)
-deed_in entries = None
+abbrev pub action_in : List TraceEntry → Option Action
+action_in (entry.Executed id e ∷ entries) = Some (Executed id e)
+action_in (entry.Shelved id ∷ entries) = Some (Shelved id)
+action_in (entry.Forwarded id ∷ entries) = Some (Forwarded id)
+action_in (entry.Installed e ∷ entries) = Some (Installed e)
+action_in (entry.Departed e ∷ entries) = Some (Departed e)
+action_in (entry.Resumed e r ∷ entries) = Some (Resumed e r)
+action_in entries = None
 
 -- which round was decided, by the first entry
 abbrev pub decision_in : List TraceEntry → Option What
@@ -36,24 +36,24 @@ decision_in (entry.Decided r ∷ entries) = Some (Decided r)
 decision_in entries = None
 
 -- a PE did this
-abbrev pub done_by : ℕ → ℕ × ℕ → Deed → What
-done_by pe posts deed = Done pe deed posts.0 posts.1
+abbrev pub done_by : ℕ → ℕ × ℕ → Action → What
+done_by pe posts action = Done pe action posts.0 posts.1
 
 -- what happened in an event
 abbrev pub event_what : Event → List TraceEntry → Option What
 event_what event.Decide entries = decision_in entries
 event_what (event.Report p) entries = Some (done_by p (posts_in entries) Reported)
 event_what (event.Start p e) entries = Some (done_by p (posts_in entries) (Started e))
-event_what (event.Look p) entries = option_map (done_by p (posts_in entries)) (deed_in entries)
-event_what (event.Flush p) entries = option_map (done_by p (posts_in entries)) (deed_in entries)
-event_what (event.Deliver p) entries = option_map (done_by p (posts_in entries)) (deed_in entries)
-event_what (event.Act p) entries = option_map (done_by p (posts_in entries)) (deed_in entries)
-event_what (event.Depart p e) entries = option_map (done_by p (posts_in entries)) (deed_in entries)
-event_what (event.Resume p e) entries = option_map (done_by p (posts_in entries)) (deed_in entries)
+event_what (event.Look p) entries = option_map (done_by p (posts_in entries)) (action_in entries)
+event_what (event.Flush p) entries = option_map (done_by p (posts_in entries)) (action_in entries)
+event_what (event.Deliver p) entries = option_map (done_by p (posts_in entries)) (action_in entries)
+event_what (event.Act p) entries = option_map (done_by p (posts_in entries)) (action_in entries)
+event_what (event.Depart p e) entries = option_map (done_by p (posts_in entries)) (action_in entries)
+event_what (event.Resume p e) entries = option_map (done_by p (posts_in entries)) (action_in entries)
 
 -- what happened in an event, with its time
 abbrev pub event_happening : Event → List TraceEntry → ℕ → Option Happening
-event_happening event entries n = option_map (λ what. record { at = min (n * 1000) (2 ^ 64 - 1); long = 1000; what = what }) (event_what event entries)
+event_happening event entries n = option_map (λ what. record { at = min (n * 1000) (2 ^ 64 - 1); duration = 1000; what = what }) (event_what event entries)
 
 -- an event with its trace entries
 abbrev pub Made : Type 0

@@ -44,7 +44,7 @@ pub enum TraceEvent {
     Slice {
         pe: u32,
         at: u64,
-        long: u64,
+        duration: u64,
         work: Work,
         element: u32,
     },

@@ -7,7 +7,7 @@ pub struct Happening {
     /// When it began.
     pub at: u64,
     /// How long it took.
-    pub long: u64,
+    pub duration: u64,
     /// What it was.
     pub what: What,
 }
@@ -17,14 +17,14 @@ pub struct Happening {
 pub enum What {
     /// A PE did this, and meanwhile posted the letters with these numbers: from the first up to, but not including, the
     /// second.
-    Done(Pe, Deed, u32, u32),
+    Done(Pe, Action, u32, u32),
     /// This round was decided.
     Decided(Round),
 }
 
 /// What a PE did.
 #[derive(Clone, Copy, Debug, PartialEq, Eq)]
-pub enum Deed {
+pub enum Action {
     /// The element started.
     Started(Index),
     /// The element executed a letter: the PE that posted it, and its number among those of that PE.
@@ -34,7 +34,7 @@ pub enum Deed {
     /// The letter was sent on.
     Forwarded((Pe, u32)),
     /// The element arrived.
-    Arrived(Index),
+    Installed(Index),
     /// Reports of elements went to the board.
     Reported,
     /// The element left.

@@ -26,7 +26,7 @@ mod value;
 
 pub use error::TraceError;
 pub use event::{Flow, Sign, TraceEvent, Work};
-pub use happening::{Deed, Happening, What};
+pub use happening::{Action, Happening, What};
 pub use recorder::Recorder;
 pub use steps::happening_of;
 pub use text::{event_text, events_text};

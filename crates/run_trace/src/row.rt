@@ -2,7 +2,7 @@
 
 ghost use Rattle.std.specs.Prelude.{◌≡◌, ◌++◌, ◌∷◌, [], true, MatchBool, MatchResult};
 
-use crate::happening::{Deed, Happening, What};
+use crate::happening::{Action, Happening, What};
 use chare_index::{Pe, Round};
 use pe_worker::PeStep;
 use std::alloc::{AllocError, Allocator};
@@ -43,12 +43,12 @@ impl<A: Allocator> Row<A> {
             _ => self.began,
         };
         let end = u32::try_from(posted).unwrap_or(u32::MAX);
-        let what = What::Done(pe, deed_of(step), self.posted, end);
+        let what = What::Done(pe, action_of(step), self.posted, end);
         self.posted = end;
         self.began = now;
         self.note(Happening {
             at,
-            long: now.saturating_sub(at),
+            duration: now.saturating_sub(at),
             what,
         });
     }
@@ -59,7 +59,7 @@ impl<A: Allocator> Row<A> {
         self.began = now;
         self.note(Happening {
             at: now,
-            long: 0,
+            duration: 0,
             what: What::Decided(round),
         });
     }
@@ -96,15 +96,15 @@ impl<A: Allocator> Row<A> {
 }
 
 // What a PE did in a step.
-fn deed_of(step: PeStep) -> Deed {
+fn action_of(step: PeStep) -> Action {
     match step {
-        PeStep::Started(element) => Deed::Started(element),
-        PeStep::Executed(letter, element) => Deed::Executed(letter, element),
-        PeStep::Shelved(letter) => Deed::Shelved(letter),
-        PeStep::Forwarded(letter) => Deed::Forwarded(letter),
-        PeStep::Installed(element) => Deed::Arrived(element),
-        PeStep::Reported => Deed::Reported,
-        PeStep::Departed(element, _) => Deed::Departed(element),
-        PeStep::Resumed(element, round) => Deed::Resumed(element, round),
+        PeStep::Started(element) => Action::Started(element),
+        PeStep::Executed(letter, element) => Action::Executed(letter, element),
+        PeStep::Shelved(letter) => Action::Shelved(letter),
+        PeStep::Forwarded(letter) => Action::Forwarded(letter),
+        PeStep::Installed(element) => Action::Installed(element),
+        PeStep::Reported => Action::Reported,
+        PeStep::Departed(element, _) => Action::Departed(element),
+        PeStep::Resumed(element, round) => Action::Resumed(element, round),
     }
 }

@@ -3,10 +3,10 @@
 ghost use Rattle.std.specs.Prelude.{◌≡◌, ◌++◌, ◌∷◌, [], OnOk};
 ghost use Rattle.std.specs.List.{flat_map};
 ghost use Rattle.run_trace.specs.declared.event.TraceEvent.TheVariants.{Slice, Instant};
-ghost use Rattle.run_trace.specs.Shown.{deed_events, post_events, rows, shown};
+ghost use Rattle.run_trace.specs.Shown.{action_events, post_events, rows, shown};
 
 use crate::event::{Flow, Sign, TraceEvent, Work};
-use crate::happening::{Deed, Happening, What};
+use crate::happening::{Action, Happening, What};
 use chare_index::{Index, Pe};
 use std::alloc::{AllocError, Allocator};
 
@@ -45,8 +45,8 @@ fn push_happening<A: Allocator>(
 {
     let at = happening.at;
     match happening.what {
-        What::Done(pe, deed, first, end) => {
-            push_deed(events, at, happening.long, pe, &deed)?;
+        What::Done(pe, action, first, end) => {
+            push_action(events, at, happening.duration, pe, &action)?;
             push_posts(events, at, pe, first, end)
         }
         What::Decided(round) => push(
@@ -60,41 +60,41 @@ fn push_happening<A: Allocator>(
 }
 
 // Adds what a PE did: a slice, an instant, or both, with the arrow that ends or begins there.
-fn push_deed<A: Allocator>(
+fn push_action<A: Allocator>(
     events: &mut Vec<TraceEvent, A>,
     at: u64,
-    long: u64,
+    duration: u64,
     pe: Pe,
-    deed: &Deed,
+    action: &Action,
 ) -> Result<(), AllocError>
-    ensures shown { OnOk result (events.new.items ≡ events.old.items ++ deed_events at long pe deed.now) }
+    ensures shown { OnOk result (events.new.items ≡ events.old.items ++ action_events at duration pe action.now) }
 {
     let pe = pe.get();
-    match deed {
-        Deed::Started(e) => push_slice(events, at, long, pe, Work::Start, *e),
-        Deed::Executed((from, n), e) => {
+    match action {
+        Action::Started(e) => push_slice(events, at, duration, pe, Work::Start, *e),
+        Action::Executed((from, n), e) => {
             let (from, n) = (from.get(), *n);
-            push_slice(events, at, long, pe, Work::Letter(from, n), *e)?;
+            push_slice(events, at, duration, pe, Work::Letter(from, n), *e)?;
             let flow = Flow::Letter(from, n);
             push(events, TraceEvent::Comes { pe, at, flow })
         }
-        Deed::Arrived(e) => {
-            push_slice(events, at, long, pe, Work::Arrive, *e)?;
+        Action::Installed(e) => {
+            push_slice(events, at, duration, pe, Work::Arrive, *e)?;
             let flow = Flow::Element(e.get());
             push(events, TraceEvent::Comes { pe, at, flow })
         }
-        Deed::Departed(e) => {
-            push_slice(events, at, long, pe, Work::Depart, *e)?;
+        Action::Departed(e) => {
+            push_slice(events, at, duration, pe, Work::Depart, *e)?;
             let flow = Flow::Element(e.get());
             push(events, TraceEvent::Leaves { pe, at, flow })
         }
-        Deed::Resumed(e, round) => {
+        Action::Resumed(e, round) => {
             push_sign(events, at, pe, Sign::Resumption)?;
-            push_slice(events, at, long, pe, Work::Resume(round.get()), *e)
+            push_slice(events, at, duration, pe, Work::Resume(round.get()), *e)
         }
-        Deed::Shelved(_) => push_sign(events, at, pe, Sign::Shelve),
-        Deed::Forwarded(_) => push_sign(events, at, pe, Sign::Forward),
-        Deed::Reported => push_sign(events, at, pe, Sign::Report),
+        Action::Shelved(_) => push_sign(events, at, pe, Sign::Shelve),
+        Action::Forwarded(_) => push_sign(events, at, pe, Sign::Forward),
+        Action::Reported => push_sign(events, at, pe, Sign::Report),
     }
 }
 
@@ -107,12 +107,12 @@ fn push<A: Allocator>(events: &mut Vec<TraceEvent, A>, event: TraceEvent) -> Res
 fn push_slice<A: Allocator>(
     events: &mut Vec<TraceEvent, A>,
     at: u64,
-    long: u64,
+    duration: u64,
     pe: u32,
     work: Work,
     element: Index,
 ) -> Result<(), AllocError>
-    ensures slice { OnOk result (events.new.items ≡ events.old.items ++ Slice pe at long work element ∷ []) }
+    ensures slice { OnOk result (events.new.items ≡ events.old.items ++ Slice pe at duration work element ∷ []) }
 {
     let element = element.get();
     push(
@@ -120,7 +120,7 @@ fn push_slice<A: Allocator>(
         TraceEvent::Slice {
             pe,
             at,
-            long,
+            duration,
             work,
             element,
         },

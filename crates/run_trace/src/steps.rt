@@ -1,14 +1,14 @@
 //! What happened in an event of a world.
 
 ghost use Rattle.std.specs.Prelude.{◌≡◌};
-ghost use Rattle.run_trace.specs.Steps.{decision_in, deed_in, event_happening, event_what, posts_from, posts_in};
+ghost use Rattle.run_trace.specs.Steps.{decision_in, action_in, event_happening, event_what, posts_from, posts_in};
 
-use crate::happening::{Deed, Happening, What};
+use crate::happening::{Action, Happening, What};
 use chares::TraceEntry;
 use rts_core::Event;
 
 /// How long an event takes, in nanoseconds.
-const LONG: u64 = 1_000;
+const EVENT_DURATION: u64 = 1_000;
 
 /// What happened in the event with this number, counted from 0, whose trace entries are these: it began at its number in
 /// microseconds, and took one. Looks, flushes and deliveries are left out.
@@ -17,8 +17,8 @@ pub fn happening_of(event: &Event, entries: &[TraceEntry], number: u64) -> Optio
 {
     let what = what_of(event, entries)?;
     Some(Happening {
-        at: number.saturating_mul(LONG),
-        long: LONG,
+        at: number.saturating_mul(EVENT_DURATION),
+        duration: EVENT_DURATION,
         what,
     })
 }
@@ -31,12 +31,12 @@ fn what_of(event: &Event, entries: &[TraceEntry]) -> Option<What>
         return decision_in(entries);
     };
     let (first, end) = posts_in(entries);
-    let deed = match event {
-        Event::Report(_) => Some(Deed::Reported),
-        Event::Start(_, element) => Some(Deed::Started(*element)),
-        _ => deed_in(entries),
+    let action = match event {
+        Event::Report(_) => Some(Action::Reported),
+        Event::Start(_, element) => Some(Action::Started(*element)),
+        _ => action_in(entries),
     };
-    Some(What::Done(pe, deed?, first, end))
+    Some(What::Done(pe, action?, first, end))
 }
 
 // The decision that the first of these entries reports.
@@ -50,16 +50,16 @@ fn decision_in(entries: &[TraceEntry]) -> Option<What>
 }
 
 // What a PE did, as the first of these entries reports it.
-fn deed_in(entries: &[TraceEntry]) -> Option<Deed>
-    ensures value { result ≡ deed_in entries.now }
+fn action_in(entries: &[TraceEntry]) -> Option<Action>
+    ensures value { result ≡ action_in entries.now }
 {
     match entries.first()? {
-        TraceEntry::Executed(letter, element) => Some(Deed::Executed(*letter, *element)),
-        TraceEntry::Shelved(letter) => Some(Deed::Shelved(*letter)),
-        TraceEntry::Forwarded(letter) => Some(Deed::Forwarded(*letter)),
-        TraceEntry::Installed(element) => Some(Deed::Arrived(*element)),
-        TraceEntry::Departed(element) => Some(Deed::Departed(*element)),
-        TraceEntry::Resumed(element, round) => Some(Deed::Resumed(*element, *round)),
+        TraceEntry::Executed(letter, element) => Some(Action::Executed(*letter, *element)),
+        TraceEntry::Shelved(letter) => Some(Action::Shelved(*letter)),
+        TraceEntry::Forwarded(letter) => Some(Action::Forwarded(*letter)),
+        TraceEntry::Installed(element) => Some(Action::Installed(*element)),
+        TraceEntry::Departed(element) => Some(Action::Departed(*element)),
+        TraceEntry::Resumed(element, round) => Some(Action::Resumed(*element, *round)),
         TraceEntry::Posted(_, _) | TraceEntry::Synced(_, _) | TraceEntry::Decided(_) => None,
     }
 }

@@ -22,10 +22,10 @@ pub(crate) fn event_value(alloc: Global, event: &TraceEvent) -> Result<Value, Al
         TraceEvent::Slice {
             pe,
             at,
-            long,
+            duration,
             work,
             element,
-        } => slice_value(alloc, *pe, *at, *long, work, *element),
+        } => slice_value(alloc, *pe, *at, *duration, work, *element),
         TraceEvent::Instant { pe, at, sign } => instant_value(alloc, *pe, *at, sign),
         TraceEvent::Decision { at, round } => decision_value(alloc, *at, *round),
         TraceEvent::Load { pe, at, load } => load_value(alloc, *pe, *at, *load),
@@ -54,16 +54,16 @@ fn slice_value(
     alloc: Global,
     pe: u32,
     at: u64,
-    long: u64,
+    duration: u64,
     work: &Work,
     element: u32,
 ) -> Result<Value, AllocError>
-    ensures value { IfOk result (λ v. view v ≡ event_data (Slice pe at long work.now element)) }
+    ensures value { IfOk result (λ v. view v ≡ event_data (Slice pe at duration work.now element)) }
 {
     let said = work_value(alloc, work, element)?;
-    let (at, long) = (time_value(at), time_value(long));
+    let (at, duration) = (time_value(at), time_value(duration));
     let (name, kind) = (work_name(work), work_kind(work));
-    json!(in alloc; {"args": said, "cat": kind, "dur": long, "name": name, "ph": "X", "pid": 1u64, "tid": pe, "ts": at})
+    json!(in alloc; {"args": said, "cat": kind, "dur": duration, "name": name, "ph": "X", "pid": 1u64, "tid": pe, "ts": at})
 }
 
 fn work_value(alloc: Global, work: &Work, element: u32) -> Result<Value, AllocError>

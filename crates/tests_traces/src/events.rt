@@ -13,7 +13,7 @@ static ROWS: [(TraceEvent, &str); 8] = [
         TraceEvent::Slice {
             pe: 0,
             at: 4_000,
-            long: 1_500,
+            duration: 1_500,
             work: Work::Letter(2, 7),
             element: 65_535,
         },
@@ -23,7 +23,7 @@ static ROWS: [(TraceEvent, &str); 8] = [
         TraceEvent::Slice {
             pe: 1,
             at: 1_234_567,
-            long: 0,
+            duration: 0,
             work: Work::Resume(9),
             element: 5,
         },

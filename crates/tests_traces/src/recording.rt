@@ -5,7 +5,7 @@ use chare_index::{Index, Pe, Round};
 use lb_refinement::Refined;
 use lb_snapshot::Snapshot;
 use pe_worker::{PeStep, Watch};
-use run_trace::{Deed, Happening, Recorder, Timeline, TraceError, What, write_trace};
+use run_trace::{Action, Happening, Recorder, Timeline, TraceError, What, write_trace};
 use std::alloc::Allocator;
 use std::io::{self, ErrorKind};
 use std::sync::Wait;
@@ -62,8 +62,8 @@ fn recorded<R: Wait, A: Allocator + Copy>(
 }
 
 // What happened at this time, for this long.
-fn happened(at: u64, long: u64, what: What) -> Happening {
-    Happening { at, long, what }
+fn happened(at: u64, duration: u64, what: What) -> Happening {
+    Happening { at, duration, what }
 }
 
 // Whether these are the four happenings of the six calls. Reading 0 of the clock is the begin of the run, 1 and 2 are those of the start,
@@ -72,13 +72,13 @@ fn are_recorded(happenings: &[Happening]) -> bool {
     let (pe, element) = (Pe::new(1).unwrap(), Index::new(4).unwrap());
     let round = Round::new(1).unwrap();
     let wanted = [
-        happened(1_001, 3_003, What::Done(pe, Deed::Started(element), 0, 2)),
-        happened(9_009, 0, What::Done(pe, Deed::Reported, 2, 2)),
+        happened(1_001, 3_003, What::Done(pe, Action::Started(element), 0, 2)),
+        happened(9_009, 0, What::Done(pe, Action::Reported, 2, 2)),
         happened(16_016, 0, What::Decided(round)),
         happened(
             25_025,
             11_011,
-            What::Done(pe, Deed::Resumed(element, round), 2, 3),
+            What::Done(pe, Action::Resumed(element, round), 2, 3),
         ),
     ];
     happenings == wanted.as_slice()
